@@ -1,0 +1,23 @@
+//! The program `uri`: reads texts as URIs or their parts, and prints what they hold.
+#![tactic(auto)]
+
+mod failure;
+mod run;
+mod tail;
+
+pub use run::run;
+use std::process::ExitCode;
+use std::{env, io};
+
+fn main(rt: HostRuntime) -> io::Result<ExitCode> {
+    let mut args = Vec::new(rt.alloc());
+    for arg in env::args(&rt)?.skip(1) {
+        args.push(arg)?;
+    }
+    let mut words = Vec::new(rt.alloc());
+    for arg in &args {
+        words.push(arg.as_str())?;
+    }
+    let status = run(rt.alloc(), &words, &mut rt.stdout(), &mut rt.stderr());
+    Ok(ExitCode::from(status))
+}

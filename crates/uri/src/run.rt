@@ -1,0 +1,34 @@
+//! The commands, by their words.
+
+use crate::failure::Failure;
+use crate::tail::tail;
+use std::alloc::Global;
+use std::io::Write;
+
+/// Runs the command of these words, which come after the program's name, and answers the status:
+/// 0; 1 after a refusal, whose text is then one line of `err`; 2 where no command has these words.
+///
+/// Nothing is written to `out` before all of the command's texts were read.
+pub fn run<O: Write, E: Write>(alloc: Global, words: &[&str], out: &mut O, err: &mut E) -> u8 {
+    match command(alloc, words, out) {
+        Ok(()) => 0,
+        Err(failure) => {
+            // The status tells of a failure that can't be written either.
+            let _ = writeln!(err, "{failure}");
+            failure.status()
+        }
+    }
+}
+
+fn command<O: Write>(alloc: Global, words: &[&str], out: &mut O) -> Result<(), Failure> {
+    match words {
+        [name, text] => match *name {
+            "tail" => tail(alloc, text, out),
+            _ => Err(Failure::Usage),
+        },
+        _ => Err(Failure::Usage),
+    }
+}
+
+#[cfg(test)]
+mod tests;

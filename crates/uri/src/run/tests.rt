@@ -1,0 +1,88 @@
+//! The commands' output and statuses.
+
+use super::run;
+use std::io::Write;
+use std::test::Fail;
+use std::{io, str};
+
+const USAGE: &str = "usage: uri COMMAND TEXT..\n";
+
+// (the words with bars between them, the status, what is printed, what is said of a failure)
+const ROWS: [(&str, u8, &str, &str); 11] = [
+    (
+        "tail|a/%7Eb?q#f",
+        0,
+        "a/%7Eb?q#f\npath=a/%7Eb\nquery=q\nfragment=f\n",
+        "",
+    ),
+    ("tail|", 0, "\npath=\n", ""),
+    ("tail|?#", 0, "?#\npath=\nquery=\nfragment=\n", ""),
+    ("tail|a:b", 0, "a:b\npath=a:b\n", ""),
+    ("tail|/a#b?c", 0, "/a#b?c\npath=/a\nfragment=b?c\n", ""),
+    ("tail|a?b#d#e", 1, "", "invalid fragment character\n"),
+    ("tail|a?[", 1, "", "invalid query character\n"),
+    ("tail|a%2", 1, "", "invalid path percent encoding\n"),
+    ("tail", 2, "", USAGE),
+    ("tail|a|b", 2, "", USAGE),
+    ("head|a", 2, "", USAGE),
+];
+
+#[test]
+fn answers_its_rows(rt: HostRuntime) -> Result<(), Fail> {
+    let alloc = rt.alloc();
+    for (line, status, printed, said) in ROWS {
+        let mut words = Vec::new(alloc);
+        for word in line.split('|') {
+            words.push(word)?;
+        }
+        let (mut out, mut err) = (Vec::new(alloc), Vec::new(alloc));
+        let answer = run(alloc, &words, &mut out, &mut err);
+        assert!(rt; answer == status, "{line} ends with {answer}");
+        assert_eq!(rt; str::from_utf8(&out)?, printed);
+        assert_eq!(rt; str::from_utf8(&err)?, said);
+    }
+    let mut out = Vec::new(alloc);
+    assert_eq!(rt; run(alloc, &[], &mut out, &mut Full { room: 0 }), 2);
+    Ok(())
+}
+
+/// A writer that fails once its room is full.
+#[derive(Drop)]
+struct Full {
+    room: usize,
+}
+
+impl Write for Full {
+    fn write(&mut self, buf: &[u8]) -> io::Result<usize> {
+        if self.room == 0 {
+            return Err(io::Error::from(io::ErrorKind::StorageFull));
+        }
+        let taken = buf.len().min(self.room);
+        self.room -= taken;
+        Ok(taken)
+    }
+
+    fn flush(&mut self) -> io::Result<()> {
+        Ok(())
+    }
+}
+
+#[test]
+fn a_failing_write_ends_with_1(rt: HostRuntime) -> Result<(), Fail> {
+    let alloc = rt.alloc();
+    let text = "a/%7Eb?q#f";
+    for room in 0..42 {
+        let mut err = Vec::new(alloc);
+        let status = run(alloc, &["tail", text], &mut Full { room }, &mut err);
+        assert!(rt;
+            status == 1 && !err.is_empty(),
+            "with room for {room} bytes"
+        );
+    }
+    let mut err = Vec::new(alloc);
+    assert_eq!(rt;
+        run(alloc, &["tail", text], &mut Full { room: 42 }, &mut err),
+        0
+    );
+    Ok(())
+}

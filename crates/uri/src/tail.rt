@@ -1,0 +1,34 @@
+//! `uri tail TEXT`: the parts of a reference behind its authority.
+
+use crate::failure::Failure;
+use std::alloc::Global;
+use std::io::Write;
+use uriparse_path::path::Path;
+use uriparse_text::fragment::Fragment;
+use uriparse_text::query::Query;
+
+/// The text before the first such mark, and what stands behind it if there is one.
+fn cut(text: &str, mark: char) -> (&str, Option<&str>) {
+    match text.split_once(mark) {
+        Some((before, behind)) => (before, Some(behind)),
+        None => (text, None),
+    }
+}
+
+/// Prints the text, its path, and its query and its fragment where it has them, a line each.
+pub fn tail<O: Write>(alloc: Global, text: &str, out: &mut O) -> Result<(), Failure> {
+    let (before, fragment) = cut(text, '#');
+    let (path, query) = cut(before, '?');
+    let path = Path::try_from_str(alloc, path)?;
+    let query = query.map(Query::try_from_str).transpose()?;
+    let fragment = fragment.map(Fragment::try_from_str).transpose()?;
+    writeln!(out, "{text}")?;
+    writeln!(out, "path={path}")?;
+    if let Some(query) = query {
+        writeln!(out, "query={query}")?;
+    }
+    if let Some(fragment) = fragment {
+        writeln!(out, "fragment={fragment}")?;
+    }
+    Ok(())
+}

@@ -1,0 +1,122 @@
+-- The text of a path, and the path that it spells.
+use Rattle.std.proofs.Common.{◌≡◌, ℕ, ◌<◌, Bool, true, false, not, cond, List, [], ◌∷◌, ◌++◌, length, map, flat_map, refl, sym, ap, ◌∙◌, arith}
+use Rattle.std.specs.List.{list_all, slice_split, join_with_byte}
+use Rattle.std.proofs.lemmas.Bool.{not-true, and_parts, and_from, eqb-true}
+use Rattle.uriparse_text.specs.declared.parts.token.Token.TheVariants.{Byte}
+use Rattle.uriparse_text.specs.declared.parts.class.Class.TheVariants.{Segment}
+use Rattle.uriparse_text.specs.declared.parts.canonical.Case.TheVariants.{Kept}
+use Rattle.uriparse_text.specs.Bytes.{slash}
+use Rattle.uriparse_text.specs.Tokens.{is_token, is_well_formed}
+use Rattle.uriparse_text.specs.Canon.{canonical, canonical_tokens}
+use Rattle.uriparse_text.proofs.TokenLemmas.{tokens-spell, tokens-nil, well_formed-append}
+use Rattle.uriparse_text.proofs.CanonLemmas.{canonical_tokens-append, canonical_tokens-empty}
+use Rattle.uriparse_text.proofs.ClassLemmas.{well_formed-in_class, bytes-in_class}
+use Rattle.uriparse_path.specs.Segment.{is_segment}
+use Rattle.uriparse_path.specs.Path.{PathParts, IsListed, root, text, is_slash, is_rooted, unrooted, spelled, hides_root, respelled}
+use Rattle.uriparse_path.proofs.SplitLemmas.{pieces-joined, joined-pieces, joined-behind, LacksSlash}
+use Rattle.uriparse_path.proofs.FaultLemmas.{plain_not_slash, hex_not_slash}
+
+-- ---- the text of the path that a text spells
+
+root-unrooted : (t : List ℕ) → root (is_rooted t) ++ unrooted t ≡ t
+root-unrooted [] = refl
+root-unrooted (b ∷ t) = at_first (is_slash b) refl
+  where
+    at_first : (v : Bool) → is_slash b ≡ v → root v ++ cond v t (b ∷ t) ≡ b ∷ t
+    at_first true e = ap (λ x. x ∷ t) (sym (eqb-true b slash e))
+    at_first false e = refl
+
+-- the path that a text spells prints as that text
+pub text-spelled : (t : List ℕ) → text (spelled t) ≡ t
+text-spelled t = ap (λ u. root (is_rooted t) ++ u) (joined-pieces (unrooted t)) ∙ root-unrooted t
+
+-- ---- the canonical tokens of a path
+
+-- all segments behind slashes are tokens
+pub well_formed-behind : (ss : List (List ℕ)) → list_all is_segment ss ≡ true → is_well_formed (flat_map (λ s. slash ∷ s) ss) ≡ true
+well_formed-behind [] h = ap (list_all is_token) tokens-nil
+well_formed-behind (s ∷ ss) h =
+    let both = and_parts _ _ h in
+    let rest : is_well_formed (s ++ flat_map (λ r. slash ∷ r) ss) ≡ true = well_formed-append s (flat_map (λ r. slash ∷ r) ss) (well_formed-in_class Segment s both.0) (well_formed-behind ss both.1) in
+    ap (list_all is_token) (tokens-spell (Byte slash) (s ++ flat_map (λ r. slash ∷ r) ss) refl) ∙ rest
+
+pub tokens-behind : (ss : List (List ℕ)) → list_all is_segment ss ≡ true → canonical_tokens Kept (flat_map (λ s. slash ∷ s) ss) ≡ flat_map (λ s. Byte slash ∷ canonical_tokens Kept s) ss
+tokens-behind [] h = canonical_tokens-empty Kept [] refl
+tokens-behind (s ∷ ss) h =
+    let both = and_parts _ _ h in
+    ap (map (canonical Kept)) (tokens-spell (Byte slash) (s ++ flat_map (λ r. slash ∷ r) ss) refl)
+    ∙ ap (λ x. Byte slash ∷ x) (canonical_tokens-append Kept s (flat_map (λ r. slash ∷ r) ss) (well_formed-in_class Segment s both.0) ∙ ap (λ x. canonical_tokens Kept s ++ x) (tokens-behind ss both.1))
+
+-- the text of an absolute path is all its segments behind slashes
+text-absolute : (ss : List (List ℕ)) → 0 < length ss → text (record { absolute = true; segments = ss }) ≡ flat_map (λ s. slash ∷ s) ss
+text-absolute [] h = absurd (omega arith)
+text-absolute (s ∷ ss) h = ap (λ x. slash ∷ x) (joined-behind s ss)
+
+-- what the cursor has before it at the start, by the flag
+pub start-absolute : (a : Bool) (ss : List (List ℕ)) → a ≡ true → IsListed ss → canonical_tokens Kept [] ++ flat_map (λ s. Byte slash ∷ canonical_tokens Kept s) ss ≡ canonical_tokens Kept (text (record { absolute = a; segments = ss }))
+start-absolute a ss e is =
+    rw (canonical_tokens-empty Kept [] refl, e) (sym (ap (canonical_tokens Kept) (text-absolute ss is.some) ∙ tokens-behind ss is.each))
+
+pub start-relative : (a : Bool) (ss : List (List ℕ)) (s : List ℕ) (rest : List (List ℕ)) → a ≡ false → ss ≡ s ∷ rest → IsListed ss → canonical_tokens Kept s ++ flat_map (λ s. Byte slash ∷ canonical_tokens Kept s) rest ≡ canonical_tokens Kept (text (record { absolute = a; segments = ss }))
+start-relative a ss s rest e cut is =
+    let both = and_parts _ _ (sym (ap (list_all is_segment) cut) ∙ is.each) in
+    rw (e, cut, joined-behind s rest) (sym (canonical_tokens-append Kept s (flat_map (λ s. slash ∷ s) rest) (well_formed-in_class Segment s both.0) ∙ ap (λ x. canonical_tokens Kept s ++ x) (tokens-behind rest both.1)))
+
+pub well_formed-text : (a : Bool) (ss : List (List ℕ)) → IsListed ss → is_well_formed (text (record { absolute = a; segments = ss })) ≡ true
+well_formed-text true ss is = ap is_well_formed (text-absolute ss is.some) ∙ well_formed-behind ss is.each
+well_formed-text false [] is = absurd (omega (arith, is.some))
+well_formed-text false (s ∷ ss) is =
+    let both = and_parts _ _ is.each in
+    ap is_well_formed (joined-behind s ss) ∙ well_formed-append s (flat_map (λ s. slash ∷ s) ss) (well_formed-in_class Segment s both.0) (well_formed-behind ss both.1)
+
+-- ---- the path that the text of a path spells
+
+lacks_slash : (s : List ℕ) → is_segment s ≡ true → LacksSlash s
+lacks_slash s h =
+    bytes-in_class Segment (λ b. not (is_slash b)) (λ b plain. ap not (plain_not_slash b plain)) refl (λ b digit. ap not (hex_not_slash b digit)) s h
+
+all_lack_slash : (ss : List (List ℕ)) → list_all is_segment ss ≡ true → list_all (λ r. list_all (λ b. not (is_slash b)) r) ss ≡ true
+all_lack_slash [] h = refl
+all_lack_slash (s ∷ ss) h = let both = and_parts _ _ h in and_from _ _ (lacks_slash s both.0) (all_lack_slash ss both.1)
+
+pub pieces-segments : (s : List ℕ) (ss : List (List ℕ)) → list_all is_segment (s ∷ ss) ≡ true → slice_split is_slash (join_with_byte slash (s ∷ ss)) ≡ s ∷ ss
+pieces-segments s ss h = let both = and_parts _ _ h in pieces-joined s ss (lacks_slash s both.0) (all_lack_slash ss both.1)
+
+-- a text that begins with no slash
+spelled-relative : (t : List ℕ) → is_rooted t ≡ false → spelled t ≡ record { absolute = false; segments = slice_split is_slash t }
+spelled-relative [] h = refl
+spelled-relative (b ∷ t) h =
+    ap (λ v. record { absolute = v; segments = slice_split is_slash (cond v t (b ∷ t)) }) h
+
+rooted-relative : (s : List ℕ) (ss : List (List ℕ)) → is_segment s ≡ true → hides_root (s ∷ ss) ≡ false → is_rooted (join_with_byte slash (s ∷ ss)) ≡ false
+rooted-relative [] [] h k = refl
+rooted-relative [] (r ∷ ss) h k = cc
+rooted-relative (b ∷ s) ss h k = ap is_rooted (joined-behind (b ∷ s) ss) ∙ first_byte (lacks_slash (b ∷ s) h)
+  where
+    first_byte : LacksSlash (b ∷ s) → is_slash b ≡ false
+    first_byte lacks = not-true (is_slash b) (and_parts _ _ lacks).0
+
+pub spelled-text : (p : PathParts) → IsListed p.segments → spelled (text p) ≡ respelled p
+spelled-text p is = by_shape p.absolute p.segments is
+  where
+    by_shape : (a : Bool) (ss : List (List ℕ)) → IsListed ss → spelled (text (record { absolute = a; segments = ss })) ≡ respelled (record { absolute = a; segments = ss })
+    by_shape a [] is = absurd (omega (arith, is.some))
+    by_shape true (s ∷ ss) is = ap (λ l. record { absolute = true; segments = l }) (pieces-segments s ss is.each)
+    by_shape false ([] ∷ []) is = refl
+    by_shape false ([] ∷ r ∷ ss) is = ap (λ l. record { absolute = true; segments = l }) (pieces-segments r ss (and_parts _ _ is.each).1)
+    by_shape false ((b ∷ s) ∷ ss) is =
+        spelled-relative (join_with_byte slash ((b ∷ s) ∷ ss)) (rooted-relative (b ∷ s) ss (and_parts _ _ is.each).0 refl)
+        ∙ ap (λ l. record { absolute = false; segments = l }) (pieces-segments (b ∷ s) ss is.each)
+
+pub text-cons : (a : Bool) (ss : List (List ℕ)) (s : List ℕ) (rest : List (List ℕ)) → ss ≡ s ∷ rest → text (record { absolute = a; segments = ss }) ≡ root a ++ (s ++ flat_map (λ r. slash ∷ r) rest)
+text-cons a ss s rest e = ap (λ l. root a ++ join_with_byte slash l) e ∙ ap (λ x. root a ++ x) (joined-behind s rest)
+
+pub listed-respelled : (p : PathParts) → IsListed p.segments → IsListed (respelled p).segments
+listed-respelled p is = by_shape p.absolute p.segments is
+  where
+    by_shape : (a : Bool) (ss : List (List ℕ)) → IsListed ss → IsListed (respelled (record { absolute = a; segments = ss })).segments
+    by_shape true ss is = is
+    by_shape false [] is = is
+    by_shape false ([] ∷ []) is = is
+    by_shape false ([] ∷ r ∷ ss) is = record { some = omega arith; short = let short = is.short in omega arith; each = (and_parts _ _ is.each).1 }
+    by_shape false ((b ∷ s) ∷ ss) is = is

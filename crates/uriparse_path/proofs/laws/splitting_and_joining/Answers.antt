@@ -1,0 +1,6 @@
+use Rattle.uriparse_path.proofs.SplitLemmas.{joined-pieces}
+use Rattle.uriparse_path.proofs.TextLemmas.{pieces-segments}
+use Rattle.uriparse_path.proofs.laws.splitting_and_joining.Goals as goal
+
+pub returns : goal.returns
+returns c = record { joined = joined-pieces; split = pieces-segments }

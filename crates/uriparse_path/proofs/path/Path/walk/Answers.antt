@@ -1,0 +1,17 @@
+use Rattle.std.proofs.Common.{◌≡◌, sym, ap, ◌∙◌, flat_map, rules}
+use Rattle.uriparse_text.specs.declared.parts.canonical.Case.TheVariants.{Kept}
+use Rattle.uriparse_text.specs.Tokens.{spell, is_well_formed}
+use Rattle.uriparse_text.specs.Canon.{canonical_tokens}
+use Rattle.uriparse_text.proofs.CanonLemmas.{spell-canonical}
+use Rattle.uriparse_path.specs.Path.{text}
+use Rattle.uriparse_path.proofs.TextLemmas.{well_formed-text}
+use Rattle.uriparse_path.proofs.path.Path.walk.Goals as goal
+
+pub returns-clause-bytes : goal.returns-clause-bytes
+returns-clause-bytes c =
+    let tokens : c.new.result ≡ canonical_tokens Kept (text c.args.self.now) = search rules in
+    ap (flat_map spell) tokens ∙ spell-canonical Kept (text c.args.self.now)
+
+pub returns-clause-formed : goal.returns-clause-formed
+returns-clause-formed c =
+    ap (λ p. is_well_formed (text p)) (sym c.self.view_is) ∙ well_formed-text c.self.inside.absolute c.self.inside.segments.items c.self.invariant

@@ -1,0 +1,28 @@
+-- What is wrong with a text that is no path: RFC 3986, section 3.3, and the limit of segments.
+use Rattle.std.specs.Prelude.{ℕ, nat_lt, List, [], ◌∷◌, length, take, Option, Some, None, Result, if◌then◌else◌}
+use Rattle.std.specs.Option.{option_or}
+use Rattle.uriparse_text.specs.Readings.{unless_fault}
+use Rattle.uriparse_path.specs.declared.path.error.PathError.{PathError}
+use Rattle.uriparse_path.specs.declared.path.error.PathError.TheVariants.{ExceededMaximumLength}
+use Rattle.uriparse_path.specs.Segment as segment
+use Rattle.uriparse_path.specs.Path.{PathParts, max_segments, pieces, spelled}
+
+-- the fault of the first of these pieces that has one
+abbrev pub first_fault : List (List ℕ) → Option PathError
+first_fault [] = None
+first_fault (s ∷ ss) = option_or (segment.fault s) (first_fault ss)
+
+-- the fault of more pieces than there may be
+abbrev pub length_fault : ℕ → ℕ → Option PathError
+length_fault limit count = if nat_lt limit count then Some ExceededMaximumLength else None
+
+-- The leftmost fault of pieces of which so many may be: that of the first with one, as far as the limit goes. Behind these stands the length's, at the slash that would begin one segment more.
+abbrev pub fault_within : ℕ → List (List ℕ) → Option PathError
+fault_within limit ps = option_or (first_fault (take limit ps)) (length_fault limit (length ps))
+
+unfoldable pub fault : List ℕ → Option PathError
+fault t = fault_within max_segments (pieces t)
+
+-- the path that the text spells, or the leftmost fault
+abbrev pub reading : List ℕ → Result PathParts PathError
+reading t = unless_fault (fault t) (spelled t)

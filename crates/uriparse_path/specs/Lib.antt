@@ -1,0 +1,3 @@
+pub mod Segment
+pub mod Path
+pub mod Faults

@@ -1,0 +1,57 @@
+-- A path, its text, and the path that a text spells: RFC 3986, sections 3.3 and 5.3.
+use Rattle.std.specs.Prelude.{◌≡◌, ℕ, ◌<◌, ◌≤◌, Bool, true, false, ◌==◌, if◌then◌else◌, List, [], ◌∷◌, ◌++◌, length, drop, not, ◌&&◌}
+use Rattle.std.specs.List.{list_all, slice_split, join_with_byte}
+use Rattle.uriparse_text.specs.Bytes.{slash}
+use Rattle.uriparse_path.specs.Segment.{is_segment}
+
+-- whether it begins with a slash, and the segments
+pub record PathParts : Type 0 where
+  pub absolute : Bool
+  pub segments : List (List ℕ)
+
+-- the most segments that a path may have
+unfoldable pub max_segments : ℕ
+max_segments = 65535
+
+-- one segment at least and so many at most, each of a segment's tokens
+pub record IsListed (segments : List (List ℕ)) : Type 0 where
+  pub some : 0 < length segments
+  pub short : length segments ≤ max_segments
+  pub each : list_all is_segment segments ≡ true
+
+abbrev pub root : Bool → List ℕ
+root absolute = if absolute then slash ∷ [] else []
+
+-- a slash where the path is absolute, and then the segments joined by slashes
+abbrev pub text : PathParts → List ℕ
+text p = root p.absolute ++ join_with_byte slash p.segments
+
+abbrev pub is_slash : ℕ → Bool
+is_slash b = b == slash
+
+-- the text begins with a slash
+abbrev pub is_rooted : List ℕ → Bool
+is_rooted [] = false
+is_rooted (b ∷ t) = is_slash b
+
+-- the text without the slash that it begins with
+abbrev pub unrooted : List ℕ → List ℕ
+unrooted [] = []
+unrooted (b ∷ t) = if is_slash b then t else b ∷ t
+
+-- the text split at each slash, but for one that it begins with
+abbrev pub pieces : List ℕ → List (List ℕ)
+pieces t = slice_split is_slash (unrooted t)
+
+-- the path that a text spells
+abbrev pub spelled : List ℕ → PathParts
+spelled t = record { absolute = is_rooted t; segments = pieces t }
+
+-- the list begins with an empty segment and goes on, so that its text begins with a slash
+abbrev pub hides_root : List (List ℕ) → Bool
+hides_root ([] ∷ _ ∷ _) = true
+hides_root _ = false
+
+-- the path that the text of a path spells: the same one, but for a relative one whose text begins with a slash
+abbrev pub respelled : PathParts → PathParts
+respelled p = if not p.absolute && hides_root p.segments then record { absolute = true; segments = drop 1 p.segments } else p

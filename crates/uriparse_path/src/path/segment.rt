@@ -1,0 +1,207 @@
+//! One segment of a path: RFC 3986, section 3.3.
+ghost use Rattle.std.specs.Prelude.{◌≡◌, ◌↔◌, IsTrue, IfOk, Some, bytes_eq, string_bytes, true};
+ghost use Rattle.std.proofs.Common.{rules};
+ghost use Rattle.std.specs.Ordering.{on};
+ghost use Rattle.std.specs.Cmp.Rules.{comparing, hashing};
+ghost use Rattle.uriparse_text.specs.declared.parts.class.Class.TheVariants as class;
+ghost use Rattle.uriparse_text.specs.declared.parts.canonical.Case.TheVariants as case;
+ghost use Rattle.uriparse_text.specs.Canon.{canon, canonical_tokens, fed_spelling, SpellsAlike};
+ghost use Rattle.uriparse_path.specs.Segment as spec;
+
+use super::error::PathError;
+use std::alloc::{AllocError, Global};
+use std::fmt;
+use std::hash::{Hash, Hasher};
+use std::marker::Model;
+use uriparse_text::parts::{Case, Class, Kind, Text, TextWalk};
+
+/// The refusal of a segment whose leftmost fault stands at this byte.
+pub(super) fn fault_at(byte: u8) -> PathError
+    ensures { result ≡ spec.error_of byte }
+{
+    match byte {
+        b'%' => PathError::InvalidPercentEncoding,
+        _ => PathError::InvalidCharacter,
+    }
+}
+
+/// The kind of text that a segment is.
+struct SegmentKind;
+
+impl Kind for SegmentKind {
+    type Error = PathError;
+
+    ghost class = { class.Segment };
+
+    ghost case = { case.Kept };
+
+    ghost error_of = { spec.error_of };
+
+    fn class() -> Class {
+        Class::Segment
+    }
+
+    fn case() -> Case {
+        Case::Kept
+    }
+
+    fn error_of(byte: u8) -> PathError {
+        fault_at(byte)
+    }
+}
+
+/// A segment of a path, without slashes: a text of `pchar`, which may be empty.
+///
+/// It borrows the text that it was read from, or owns its text. Two segments are equal where their
+/// canonical spellings are.
+///
+/// ```
+/// let segment = Segment::try_from_str("%4a")?;
+/// assert!(segment == Segment::try_from_str("J")? && !segment.eq_str("j"));
+/// ```
+#[derive(Drop)]
+pub struct Segment<'s> {
+    text: Text<'s, SegmentKind>,
+}
+
+impl<'s> Model for Segment<'s> {
+    ghost use Rattle.std.specs.Prelude.{ℕ, List};
+
+    ghost Value = { List ℕ };
+
+    ghost view = { λ s. s.text };
+}
+
+impl<'s> Segment<'s> {
+    /// Reads a segment, which borrows the bytes. Takes no memory.
+    ///
+    /// The leftmost fault is answered: [`InvalidPercentEncoding`](PathError::InvalidPercentEncoding)
+    /// at a `%` without two hexadecimal digits behind it, else
+    /// [`InvalidCharacter`](PathError::InvalidCharacter).
+    pub fn try_from_bytes(bytes: &'s [u8]) -> Result<Segment<'s>, PathError>
+        ensures { result ≡ spec.reading bytes.now }
+    {
+        Ok(Segment {
+            text: Text::try_from_bytes(bytes)?,
+        })
+    }
+
+    /// The same for a text.
+    pub fn try_from_str(text: &'s str) -> Result<Segment<'s>, PathError>
+        ensures { result ≡ spec.reading text.now }
+    {
+        Segment::try_from_bytes(text.as_bytes())
+    }
+
+    /// The segment of bytes that are known to be one.
+    pub(super) fn of_checked(bytes: &'s [u8]) -> Segment<'s>
+        requires { spec.IsSegment bytes.now }
+        ensures { result ≡ bytes.now }
+    {
+        Segment {
+            text: Text::of_checked(bytes),
+        }
+    }
+
+    /// The text.
+    pub fn as_str(&self) -> &str
+        ensures value { result.now ≡ self.now }
+        ensures class { spec.IsSegment self.now }
+    {
+        self.text.as_str()
+    }
+
+    /// The text as bytes.
+    pub fn as_bytes(&self) -> &[u8]
+        ensures value { result.now ≡ self.now }
+        ensures class { spec.IsSegment self.now }
+    {
+        self.text.as_bytes()
+    }
+
+    /// The same segment, which borrows this one's text.
+    pub fn as_borrowed(&self) -> Segment<'_>
+        ensures { result ≡ self.now }
+    {
+        Segment {
+            text: self.text.as_borrowed(),
+        }
+    }
+
+    /// The same segment, which owns its text. Borrowed text is copied, which wants memory; where
+    /// there is none, the segment is gone.
+    pub fn into_owned(self, alloc: Global) -> Result<Segment<'static>, AllocError>
+        ensures { IfOk result (λ s. s ≡ self.entry) }
+    {
+        Ok(Segment {
+            text: self.text.into_owned(alloc)?,
+        })
+    }
+
+    /// A copy of the text. Wants memory.
+    pub fn to_string(&self, alloc: Global) -> Result<String, AllocError>
+        ensures { IfOk result (λ s. string_bytes s ≡ self.now) }
+    {
+        self.text.to_string(alloc)
+    }
+
+    /// The cursor at the start of the text.
+    pub(super) fn walk(&self) -> TextWalk<'_>
+        ensures { result ≡ canonical_tokens case.Kept self.now }
+    {
+        self.text.walk()
+    }
+
+    /// Whether the bytes are tokens whose canonical spelling is this segment's. Bytes with a broken
+    /// escape are equal to no segment.
+    pub fn eq_bytes(&self, bytes: &[u8]) -> bool
+        ensures { IsTrue result ↔ SpellsAlike case.Kept bytes.now self.now }
+    {
+        self.text.eq_bytes(bytes)
+    }
+
+    /// The same for a text.
+    pub fn eq_str(&self, text: &str) -> bool
+        ensures { IsTrue result ↔ SpellsAlike case.Kept text.now self.now }
+    {
+        self.text.eq_bytes(text.as_bytes())
+    }
+}
+
+impl<'s> PartialEq for Segment<'s> {
+    ghost eq = { on canon bytes_eq };
+
+    ghost laws = { Prim.search (comparing, rules) };
+
+    fn eq(&self, other: &Segment<'s>) -> bool {
+        self.text == other.text
+    }
+}
+
+impl<'s> Eq for Segment<'s> {
+    ghost laws = { Prim.search (comparing, rules) };
+}
+
+impl<'s> Hash for Segment<'s> {
+    ghost hash_input = { λ s. fed_spelling (canon s) };
+
+    ghost respects_eq = { Prim.search (hashing, rules) };
+
+    fn hash<H: Hasher>(&self, state: &mut H) {
+        self.text.hash(state);
+    }
+}
+
+impl<'s> fmt::Display for Segment<'s> {
+    ghost output = { λ s. Some s };
+
+    fn fmt<W: fmt::Write>(&self, f: &mut fmt::Formatter<W>) -> fmt::Result {
+        fmt::Display::fmt(&self.text, f)
+    }
+}
+
+impl<'s> fmt::Debug for Segment<'s> {
+    fn fmt<W: fmt::Write>(&self, f: &mut fmt::Formatter<W>) -> fmt::Result {
+        f.debug_tuple("Segment").field(&self.as_str()).finish()
+    }
+}

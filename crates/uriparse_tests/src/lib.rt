@@ -1,0 +1,10 @@
+//! Tests of the whole library: vectors from RFC 3986 and worked by hand, texts of refusals, each
+//! public function once, and requests for memory that are refused.
+#![tactic(auto)]
+
+#[cfg(test)]
+mod components;
+#[cfg(test)]
+mod memory;
+#[cfg(test)]
+mod paths;

@@ -1,0 +1,96 @@
+//! Each request for memory refused in turn.
+
+use scarce::{Outcome, starve};
+use std::alloc::{AllocError, Global};
+use std::test::Fail;
+use uriparse_path::path::{Path, PathError, Segment};
+use uriparse_text::fragment::Fragment;
+use uriparse_text::query::Query;
+
+const TEXT: &str = "a%7e/bc%7e/def%7e/ghij%7e/klmno%7e/pqrstu%7e/vwxyz01%7e";
+
+const SEGMENT: &str = "a%7ebc%7edef%7eghij%7eklmno%7epqrstu%7evwxyz01%7e";
+
+/// Whether a copy was refused, or is the text.
+fn copied(answer: Result<String, AllocError>, text: &str) -> Outcome {
+    match answer {
+        Err(_) => Outcome::Refused,
+        Ok(copy) if copy.as_str() == text => Outcome::Right,
+        Ok(_) => Outcome::Wrong,
+    }
+}
+
+fn read_path(alloc: Global) -> Outcome {
+    match Path::try_from_str(alloc, TEXT) {
+        Err(PathError::OutOfMemory) => Outcome::Refused,
+        Ok(path) if path.segments().len() == 7 && path.eq_str(TEXT) => Outcome::Right,
+        _ => Outcome::Wrong,
+    }
+}
+
+fn print_path(alloc: Global) -> Outcome {
+    match Path::try_from_str(alloc, TEXT) {
+        Ok(path) => copied(path.to_string(alloc), TEXT),
+        Err(_) => Outcome::Refused,
+    }
+}
+
+fn copy_segment(alloc: Global) -> Outcome {
+    let Ok(segment) = Segment::try_from_str(SEGMENT) else {
+        return Outcome::Wrong;
+    };
+    match segment.into_owned(alloc) {
+        Ok(owned) => copied(owned.to_string(alloc), SEGMENT),
+        Err(_) => Outcome::Refused,
+    }
+}
+
+fn copy_query(alloc: Global) -> Outcome {
+    let Ok(query) = Query::try_from_str(TEXT) else {
+        return Outcome::Wrong;
+    };
+    match query.into_owned(alloc) {
+        Ok(owned) => copied(owned.to_string(alloc), TEXT),
+        Err(_) => Outcome::Refused,
+    }
+}
+
+fn copy_fragment(alloc: Global) -> Outcome {
+    let Ok(fragment) = Fragment::try_from_str(TEXT) else {
+        return Outcome::Wrong;
+    };
+    match fragment.into_owned(alloc) {
+        Ok(owned) => copied(owned.to_string(alloc), TEXT),
+        Err(_) => Outcome::Refused,
+    }
+}
+
+fn faulty_path(alloc: Global) -> Outcome {
+    match Path::try_from_str(alloc, "a/b c") {
+        Err(PathError::InvalidCharacter) => Outcome::Right,
+        _ => Outcome::Wrong,
+    }
+}
+
+#[test]
+fn want_of_memory_or_the_right_answer(rt: HostRuntime) -> Result<(), Fail> {
+    let alloc = rt.alloc();
+    for (name, least, outcomes) in [
+        ("read_path", 1, starve(alloc, 4096, read_path)?),
+        ("print_path", 2, starve(alloc, 4096, print_path)?),
+        ("copy_segment", 2, starve(alloc, 4096, copy_segment)?),
+        ("copy_query", 2, starve(alloc, 4096, copy_query)?),
+        ("copy_fragment", 2, starve(alloc, 4096, copy_fragment)?),
+        ("faulty_path", 0, starve(alloc, 4096, faulty_path)?),
+    ] {
+        let refused = outcomes.iter().filter(|o| **o == Outcome::Refused).count();
+        assert!(rt; outcomes.iter().all(|o| *o != Outcome::Wrong), "{name}");
+        assert!(rt; refused >= least, "{name} was refused {refused} times");
+        assert!(rt;
+            outcomes.last().is_some_and(|o| *o == Outcome::Right),
+            "{name}"
+        );
+        assert!(rt; refused < outcomes.len(), "{name}");
+    }
+    Ok(())
+}

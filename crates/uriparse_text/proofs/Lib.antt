@@ -1,0 +1,5 @@
+pub mod TokenLemmas
+pub mod FaultLemmas
+pub mod CanonLemmas
+pub mod ClassLemmas
+mod FaultLaws

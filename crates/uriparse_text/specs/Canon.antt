@@ -1,0 +1,53 @@
+-- The canonical spelling of a text: RFC 3986, sections 6.2.2.1 and 6.2.2.2.
+use Rattle.std.specs.Prelude.{◌≡◌, ℕ, true, ◌+◌, ◌*◌, List, [], ◌∷◌, ◌++◌, map, if◌then◌else◌}
+use Rattle.std.specs.List.{flat_map}
+use Rattle.std.specs.Char.{digit_value, to_ascii_lowercase, to_ascii_uppercase}
+use Rattle.std.specs.Hash as fed
+use Rattle.uriparse_text.specs.declared.parts.token.Token.{Token}
+use Rattle.uriparse_text.specs.declared.parts.token.Token.TheVariants.{Byte, Escape}
+use Rattle.uriparse_text.specs.declared.parts.canonical.Case.{Case}
+use Rattle.uriparse_text.specs.declared.parts.canonical.Case.TheVariants.{Kept, Lowered}
+use Rattle.uriparse_text.specs.Bytes.{is_unreserved}
+use Rattle.uriparse_text.specs.Tokens.{tokens, spell, is_well_formed}
+
+-- the byte that an escape with these digits stands for
+abbrev pub escaped_byte : ℕ → ℕ → ℕ
+escaped_byte high low = 16 * digit_value high + digit_value low
+
+-- a letter's case is kept, or it is made lower case
+abbrev pub in_case : Case → ℕ → ℕ
+in_case Kept b = b
+in_case Lowered b = to_ascii_lowercase b
+
+-- An escape of an unreserved byte becomes that byte, another escape gets upper-case digits, and other bytes stay. Letters outside the escapes that are left are put in the case.
+abbrev pub canonical : Case → Token → Token
+canonical case (Byte b) = Byte (in_case case b)
+canonical case (Escape high low) =
+    if is_unreserved (escaped_byte high low)
+    then Byte (in_case case (escaped_byte high low))
+    else Escape (to_ascii_uppercase high) (to_ascii_uppercase low)
+
+-- the tokens of the text, each in canonical form
+abbrev pub canonical_tokens : Case → List ℕ → List Token
+canonical_tokens case text = map (canonical case) (tokens text)
+
+-- the canonical spelling of a text in this case
+unfoldable pub spelling : Case → List ℕ → List ℕ
+spelling case text = flat_map spell (canonical_tokens case text)
+
+-- the canonical spelling
+abbrev pub canon : List ℕ → List ℕ
+canon text = spelling Kept text
+
+-- the canonical spelling in lower case: of schemes and registered names
+abbrev pub canon_low : List ℕ → List ℕ
+canon_low text = spelling Lowered text
+
+-- the bytes are tokens, and their canonical spelling is that of the text
+pub record SpellsAlike (case : Case) (bytes text : List ℕ) : Type 0 where
+  pub formed : is_well_formed bytes ≡ true
+  pub same : spelling case bytes ≡ spelling case text
+
+-- what a hasher is fed for a canonical spelling: its bytes, one by one, and then 0xFF, which no spelling has
+unfoldable pub fed_spelling : List ℕ → List (List ℕ)
+fed_spelling text = flat_map fed.u8 (text ++ 255 ∷ [])

@@ -1,0 +1,52 @@
+-- Which texts are in a class, and the leftmost fault of one that isn't.
+use Rattle.std.specs.Prelude.{◌≡◌, ℕ, Bool, true, not, ◌&&◌, List, ◌∷◌, ◌++◌, Option}
+use Rattle.std.specs.Option.{option_map}
+use Rattle.std.specs.List.{flat_map, list_all, find}
+use Rattle.uriparse_text.specs.declared.parts.token.Token.{Token}
+use Rattle.uriparse_text.specs.declared.parts.token.Token.TheVariants.{Byte, Escape}
+use Rattle.uriparse_text.specs.declared.parts.class.Class.{Class}
+use Rattle.uriparse_text.specs.Bytes.{percent, is_hex}
+use Rattle.uriparse_text.specs.Classes.{is_plain}
+use Rattle.uriparse_text.specs.Tokens.{tokens, spell}
+
+-- the class has the token
+abbrev pub allows : Class → Token → Bool
+allows class (Byte b) = is_plain class b
+allows class (Escape high low) = is_hex high && is_hex low
+
+-- all tokens of the text are in the class
+abbrev pub is_in : Class → List ℕ → Bool
+is_in class text = list_all (allows class) (tokens text)
+
+abbrev pub IsIn : Class → List ℕ → Type 0
+IsIn class text = is_in class text ≡ true
+
+-- the byte at which a token stands
+abbrev pub first_byte : Token → ℕ
+first_byte (Byte b) = b
+first_byte (Escape high low) = percent
+
+-- the byte at which the first token stands that the class lacks: the leftmost fault
+unfoldable pub fault : Class → List ℕ → Option ℕ
+fault class text = option_map first_byte (find (λ t. not (allows class t)) (tokens text))
+
+-- ---- the same in the standard's words
+
+-- the text is a concatenation of tokens of the class
+pub record IsOfClass (class : Class) (text : List ℕ) : Type 0 where
+  pub ts : List Token
+  pub whole : text ≡ flat_map spell ts
+  pub each : list_all (allows class) ts ≡ true
+
+-- no token of the class begins the text
+abbrev pub BeginsWithNone : Class → List ℕ → Type 0
+BeginsWithNone class text =
+    (t : Token) (rest : List ℕ) → allows class t ≡ true → text ≡ spell t ++ rest → ⊥
+
+-- the least place where no token of the class begins, with what stands before it and after it
+pub record HasFaultAt (class : Class) (text : List ℕ) (byte : ℕ) : Type 0 where
+  pub before : List ℕ
+  pub after : List ℕ
+  pub whole : text ≡ before ++ byte ∷ after
+  pub fine : IsOfClass class before
+  pub here : BeginsWithNone class (byte ∷ after)

@@ -1,0 +1,11 @@
+//! What the crates above build their own parts from. Users have no need of it.
+
+mod canonical;
+mod class;
+mod text;
+mod token;
+
+pub use canonical::{Case, TextWalk, Walk, feed_walk, same_spelling, same_walks};
+pub use class::{Class, fault_of, is_unreserved};
+pub use text::{Kind, Text};
+pub use token::{Token, is_escape, split_token};

@@ -1,0 +1,167 @@
+//! Canonical spelling, token by token and with no memory: RFC 3986, sections 6.2.2.1 and 6.2.2.2.
+ghost use Rattle.std.specs.Prelude.{◌≡◌, ◌∷◌, ◌<◌, ◌↔◌, [], List, IsTrue, MatchOption, true, fold, flat_map};
+ghost use Rattle.std.specs.Char.{digit_value};
+ghost use Rattle.std.specs.Hash as fed;
+ghost use Rattle.uriparse_text.specs.Bytes.{is_hex};
+ghost use Rattle.uriparse_text.specs.Tokens.{has_digits, is_well_formed, spell};
+ghost use Rattle.uriparse_text.specs.Canon as spec;
+
+use super::class::is_unreserved;
+use super::token::{Token, split_token};
+use std::hash::Hasher;
+use std::marker::Model;
+
+/// What becomes of the letters in a canonical spelling. The digits of escapes are upper case in both.
+#[derive(Clone, Copy, Debug, PartialEq, Eq)]
+pub enum Case {
+    /// They keep their case.
+    Kept,
+    /// They become lower case, as in schemes and registered names.
+    Lowered,
+}
+
+impl Case {
+    #[inline]
+    fn of(self, b: u8) -> u8
+        ensures { result ≡ spec.in_case self b }
+    {
+        match self {
+            Case::Kept => b,
+            Case::Lowered => b.to_ascii_lowercase(),
+        }
+    }
+}
+
+fn hex_value(digit: u8) -> u8
+    requires { is_hex digit ≡ true }
+    ensures value { result ≡ digit_value digit }
+    ensures small { result < 16 }
+{
+    match digit {
+        b'0'..=b'9' => digit - b'0',
+        b'A'..=b'F' => digit - b'A' + 10,
+        _ => digit - b'a' + 10,
+    }
+}
+
+impl Token {
+    /// The token's canonical form.
+    #[inline]
+    pub fn canonical(self, case: Case) -> Token
+        requires { has_digits self ≡ true }
+        ensures { result ≡ spec.canonical case self }
+    {
+        match self {
+            Token::Byte(b) => Token::Byte(case.of(b)),
+            Token::Escape(high, low) => {
+                let b = 16 * hex_value(high) + hex_value(low);
+                if is_unreserved(b) {
+                    Token::Byte(case.of(b))
+                } else {
+                    Token::Escape(high.to_ascii_uppercase(), low.to_ascii_uppercase())
+                }
+            }
+        }
+    }
+}
+
+/// A cursor over a text that gives its tokens one by one, each in canonical form.
+pub trait Walk {
+    ghost tokens_left: { Self → List Token };
+
+    ghost use Rattle.uriparse_text.specs.declared.parts.token.Token.{Token};
+
+    /// The next token, or none at the end.
+    fn next_token(&mut self) -> Option<Token>
+        ensures { MatchOption result (tokens_left self.old ≡ []) (λ t. tokens_left self.old ≡ t ∷ tokens_left self.new) };
+}
+
+/// The cursor over a text that lies in one piece, seen as the canonical tokens that it has left.
+#[derive(Drop)]
+pub struct TextWalk<'t> {
+    text: &'t [u8],
+    case: Case,
+}
+
+impl<'t> Model for TextWalk<'t> {
+    ghost use Rattle.std.specs.Prelude.{List};
+    ghost use Rattle.uriparse_text.specs.declared.parts.token.Token.{Token};
+
+    ghost Value = { List Token };
+
+    ghost use Rattle.uriparse_text.specs.Canon.{canonical_tokens};
+
+    ghost view = { λ w. canonical_tokens w.case w.text.now };
+}
+
+impl<'t> TextWalk<'t> {
+    /// The cursor at the start of a text.
+    #[inline]
+    pub fn new(case: Case, text: &'t [u8]) -> TextWalk<'t>
+        ensures { result ≡ spec.canonical_tokens case text.now }
+    {
+        TextWalk { text, case }
+    }
+}
+
+impl<'t> Walk for TextWalk<'t> {
+    ghost tokens_left = { λ w. w };
+
+    #[inline]
+    fn next_token(&mut self) -> Option<Token> {
+        let Some((token, rest)) = split_token(self.text) else {
+            return None;
+        };
+        self.text = rest;
+        Some(token.canonical(self.case))
+    }
+}
+
+/// Whether two cursors give the same tokens. They go forward together, to the first difference.
+pub fn same_walks<L: Walk + Drop, R: Walk + Drop>(left: L, right: R) -> bool
+    ensures { IsTrue result ↔ (L.tokens_left left ≡ R.tokens_left right) }
+{
+    let mut left = left;
+    let mut right = right;
+    'tokens: while let Some(x) = left.next_token() {
+        let Some(y) = right.next_token() else {
+            return false;
+        };
+        if x != y {
+            return false;
+        }
+    }
+    right.next_token().is_none()
+}
+
+/// Whether the bytes are tokens whose canonical spelling is that of the text.
+pub fn same_spelling(case: Case, bytes: &[u8], text: &[u8]) -> bool
+    requires { is_well_formed text.now ≡ true }
+    ensures { IsTrue result ↔ spec.SpellsAlike case bytes.now text.now }
+{
+    bytes == text || same_walks(TextWalk::new(case, bytes), TextWalk::new(case, text))
+}
+
+fn feed_token<H: Hasher>(token: Token, state: &mut H)
+    ensures { state.new ≡ fold H.write state.old (flat_map fed.u8 (spell token)) }
+{
+    match token {
+        Token::Byte(b) => state.write_u8(b),
+        Token::Escape(high, low) => {
+            state.write_u8(b'%');
+            state.write_u8(high);
+            state.write_u8(low);
+        }
+    }
+}
+
+/// Feeds the bytes of the tokens that the cursor gives to the hasher, and then 0xFF.
+pub fn feed_walk<T: Walk + Drop, H: Hasher>(walk: T, state: &mut H)
+    ensures { state.new ≡ fold H.write state.old (spec.fed_spelling (flat_map spell (T.tokens_left walk))) }
+{
+    let mut walk = walk;
+    'tokens: while let Some(token) = walk.next_token() {
+        feed_token(token, state);
+    }
+    state.write_u8(0xff);
+}

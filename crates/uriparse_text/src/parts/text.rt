@@ -1,0 +1,181 @@
+//! A text whose tokens are in one class: what user names, segments, queries and the like share.
+ghost use Rattle.std.specs.Prelude.{◌≡◌, ◌↔◌, ℕ, List, IsTrue, IfOk, IsOk, Some, true, bytes_eq, string_bytes, flat_map};
+ghost use Rattle.std.proofs.Common.{rules};
+ghost use Rattle.std.specs.Ordering.{on};
+ghost use Rattle.std.specs.Cmp.Rules.{comparing, hashing};
+ghost use Rattle.uriparse_text.specs.declared.parts.class.Class.{Class};
+ghost use Rattle.uriparse_text.specs.declared.parts.canonical.Case.{Case};
+ghost use Rattle.uriparse_text.specs.Tokens.{spell, is_well_formed};
+ghost use Rattle.uriparse_text.specs.Faults.{IsIn};
+ghost use Rattle.uriparse_text.specs.Canon.{canonical_tokens, spelling, fed_spelling, SpellsAlike};
+ghost use Rattle.uriparse_text.specs.Readings.{reading_in};
+
+use super::canonical::{Case, TextWalk, feed_walk, same_spelling};
+use super::class::{Class, fault_of};
+use std::alloc::{AllocError, Global};
+use std::borrow::CowStr;
+use std::hash::{Hash, Hasher};
+use std::marker::{Model, PhantomData};
+use std::{fmt, str};
+
+/// A kind of text: its class, what its canonical spelling does to letters, and its refusals.
+pub trait Kind {
+    type Error;
+
+    ghost class: { Class };
+
+    ghost case: { Case };
+
+    // The refusal of a text whose leftmost fault stands at this byte.
+    ghost error_of: { ℕ → Self.Error };
+
+    fn class() -> Class
+        ensures { result ≡ class };
+
+    fn case() -> Case
+        ensures { result ≡ case };
+
+    fn error_of(byte: u8) -> Self::Error
+        ensures { result ≡ error_of byte };
+}
+
+/// The text of bytes that are in a class.
+fn text_in(class: Class, bytes: &[u8]) -> &str
+    requires { IsIn class bytes.now }
+    ensures { result.now ≡ bytes.now }
+{
+    unsafe { str::from_utf8_unchecked(bytes) }
+}
+
+/// A text of one kind, seen as its bytes. It borrows them, or owns them.
+#[derive(Drop)]
+pub struct Text<'t, K: Kind> {
+    text: CowStr<'t>,
+    kind: PhantomData<K>,
+}
+
+impl<'t, K: Kind> Model for Text<'t, K> {
+    ghost use Rattle.std.specs.Prelude.{ℕ, List};
+    ghost use Rattle.std.specs.Cow.{cow_str_bytes};
+    ghost use Rattle.uriparse_text.specs.Faults.{IsIn};
+
+    ghost Value = { List ℕ };
+
+    ghost view = { λ t. cow_str_bytes t.text };
+
+    ghost invariant = { λ t. IsIn K.class (cow_str_bytes t.text) };
+}
+
+impl<'t, K: Kind> Text<'t, K> {
+    /// The text of bytes that are known to be in the class. It borrows them.
+    pub fn of_checked(bytes: &'t [u8]) -> Text<'t, K>
+        requires { IsIn K.class bytes.now }
+        ensures { result ≡ bytes.now }
+    {
+        Text {
+            text: CowStr::Borrowed(text_in(K::class(), bytes)),
+            kind: PhantomData,
+        }
+    }
+
+    /// Reads a text of this kind, which borrows the bytes. One walk over them.
+    pub fn try_from_bytes(bytes: &'t [u8]) -> Result<Text<'t, K>, K::Error>
+        ensures { result ≡ reading_in K.class K.error_of bytes.now }
+    {
+        match fault_of(K::class(), bytes) {
+            Some(byte) => Err(K::error_of(byte)),
+            None => Ok(Text::of_checked(bytes)),
+        }
+    }
+
+    /// The text.
+    pub fn as_str(&self) -> &str
+        ensures value { result.now ≡ self.now }
+        ensures class { IsIn K.class self.now }
+    {
+        self.text.as_str()
+    }
+
+    /// The text as bytes.
+    pub fn as_bytes(&self) -> &[u8]
+        ensures value { result.now ≡ self.now }
+        ensures class { IsIn K.class self.now }
+        ensures formed { is_well_formed self.now ≡ true }
+    {
+        self.as_str().as_bytes()
+    }
+
+    /// The same text, which borrows this one.
+    pub fn as_borrowed(&self) -> Text<'_, K>
+        ensures { result ≡ self.now }
+    {
+        Text {
+            text: CowStr::Borrowed(self.text.as_str()),
+            kind: PhantomData,
+        }
+    }
+
+    /// The same text, which owns its bytes.
+    pub fn into_owned(self, alloc: Global) -> Result<Text<'static, K>, AllocError>
+        ensures { IfOk result (λ t. t ≡ self.entry) }
+    {
+        Ok(Text {
+            text: CowStr::Owned(self.text.into_owned(alloc)?),
+            kind: PhantomData,
+        })
+    }
+
+    /// A copy of the text.
+    pub fn to_string(&self, alloc: Global) -> Result<String, AllocError>
+        ensures { IfOk result (λ s. string_bytes s ≡ self.now) }
+    {
+        String::from_str(alloc, self.as_str())
+    }
+
+    /// The cursor at the start of the text.
+    pub fn walk(&self) -> TextWalk<'_>
+        ensures tokens { result ≡ canonical_tokens K.case self.now }
+        ensures bytes { flat_map spell result ≡ spelling K.case self.now }
+    {
+        TextWalk::new(K::case(), self.as_bytes())
+    }
+
+    /// Whether the bytes are tokens whose canonical spelling is this text's.
+    pub fn eq_bytes(&self, bytes: &[u8]) -> bool
+        ensures { IsTrue result ↔ SpellsAlike K.case bytes.now self.now }
+    {
+        same_spelling(K::case(), bytes, self.as_bytes())
+    }
+}
+
+impl<'t, K: Kind> PartialEq for Text<'t, K> {
+    ghost eq = { on (spelling K.case) bytes_eq };
+
+    ghost laws = { Prim.search (comparing, rules) };
+
+    fn eq(&self, other: &Text<'t, K>) -> bool {
+        same_spelling(K::case(), self.as_bytes(), other.as_bytes())
+    }
+}
+
+impl<'t, K: Kind> Eq for Text<'t, K> {
+    ghost laws = { Prim.search (comparing, rules) };
+}
+
+impl<'t, K: Kind> Hash for Text<'t, K> {
+    ghost hash_input = { λ t. fed_spelling (spelling K.case t) };
+
+    ghost respects_eq = { Prim.search (hashing, rules) };
+
+    fn hash<H: Hasher>(&self, state: &mut H) {
+        feed_walk(self.walk(), state);
+    }
+}
+
+impl<'t, K: Kind> fmt::Display for Text<'t, K> {
+    ghost output = { λ t. Some t };
+
+    fn fmt<W: fmt::Write>(&self, f: &mut fmt::Formatter<W>) -> fmt::Result {
+        f.write_str(self.as_str())
+    }
+}
