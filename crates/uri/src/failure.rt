@@ -3,6 +3,7 @@
 use std::io;
 use thiserror::Error;
 use uriparse_path::path::PathError;
+use uriparse_reference::uri_reference::URIReferenceError;
 use uriparse_text::fragment::FragmentError;
 use uriparse_text::query::QueryError;
 
@@ -18,6 +19,8 @@ pub enum Failure {
     Query(#[from] QueryError),
     #[error(transparent)]
     Fragment(#[from] FragmentError),
+    #[error(transparent)]
+    Reference(#[from] URIReferenceError),
     /// A write that failed.
     #[error(transparent)]
     Write(#[from] io::Error),

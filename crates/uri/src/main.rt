@@ -2,6 +2,7 @@
 #![tactic(auto)]
 
 mod failure;
+mod parse;
 mod run;
 mod tail;
 

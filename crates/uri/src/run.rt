@@ -1,6 +1,7 @@
 //! The commands, by their words.
 
 use crate::failure::Failure;
+use crate::parse::parse;
 use crate::tail::tail;
 use std::alloc::Global;
 use std::io::Write;
@@ -23,6 +24,7 @@ pub fn run<O: Write, E: Write>(alloc: Global, words: &[&str], out: &mut O, err: 
 fn command<O: Write>(alloc: Global, words: &[&str], out: &mut O) -> Result<(), Failure> {
     match words {
         [name, text] => match *name {
+            "parse" => parse(alloc, text, out),
             "tail" => tail(alloc, text, out),
             _ => Err(Failure::Usage),
         },

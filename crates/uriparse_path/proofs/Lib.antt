@@ -2,4 +2,4 @@ pub mod SplitLemmas
 pub mod FaultLemmas
 pub mod TextLemmas
 mod CountLemmas
-mod ReadLemmas
+pub mod ReadLemmas

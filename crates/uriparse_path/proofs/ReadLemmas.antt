@@ -1,10 +1,15 @@
 -- From the walk over a text to what reading it answers.
-use Rattle.std.proofs.Common.{◌≡◌, ◌↔◌, ℕ, List, length, Option, Some, None, Ok, Err, refl, sym, ap, subst, ◌∙◌}
+use Rattle.std.proofs.Common.{◌≡◌, ◌↔◌, ℕ, List, [], ◌∷◌, arith, length, Option, Some, None, Ok, Err, refl, sym, ap, subst, ◌∙◌}
 use Rattle.std.specs.Prelude.{IsErr}
 use Rattle.uriparse_text.specs.Readings.{unless_fault}
+use Rattle.uriparse_text.specs.declared.parts.class.Class.TheVariants.{Segment}
+use Rattle.uriparse_text.specs.Bytes.{slash}
+use Rattle.uriparse_text.proofs.FaultLemmas as class_faults
+use Rattle.uriparse_text.proofs.FaultLemmas.{fault-nil}
+use Rattle.std.proofs.lemmas.Bool.{and_from}
 use Rattle.uriparse_path.specs.declared.path.error.PathError.{PathError}
 use Rattle.uriparse_path.specs.declared.path.TheConstants.{MAX_SEGMENTS}
-use Rattle.uriparse_path.specs.Path.{PathParts, IsListed, max_segments, unrooted, pieces, spelled}
+use Rattle.uriparse_path.specs.Path.{PathParts, IsListed, IsPath, max_segments, unrooted, pieces, spelled}
 use Rattle.uriparse_path.specs.Faults.{fault_within, fault, reading}
 use Rattle.uriparse_path.proofs.SplitLemmas.{some_pieces}
 use Rattle.uriparse_path.proofs.FaultLemmas.{within_none}
@@ -54,3 +59,19 @@ pub not_refused : (t : List ℕ) (n : ℕ) → answer MAX_SEGMENTS (unrooted t) 
 not_refused t n h refused =
     let no : IsErr {T = PathParts} {E = PathError} (Ok (spelled t)) = subst (λ r. IsErr r) (accepted t n h) refused in
     cc
+
+-- reading is exact
+pub reading-path : (t : List ℕ) → IsPath t → reading t ≡ Ok (spelled t)
+reading-path t is = ap (λ f. unless_fault f (spelled t)) ((no_fault_iff t).1 is)
+
+pub path_read : (t : List ℕ) (p : PathParts) → reading t ≡ Ok p → IsPath t × (p ≡ spelled t)
+path_read t p h = by_fault (fault t) refl h
+  where
+    by_fault : (f : Option PathError) → fault t ≡ f → unless_fault f (spelled t) ≡ Ok p → IsPath t × (p ≡ spelled t)
+    by_fault None e k = ((no_fault_iff t).0 e, cc)
+    by_fault (Some x) e k = cc
+
+-- a slash alone is a path
+pub slash_path : IsPath (slash ∷ [])
+unfolding max_segments
+slash_path = record { some = omega arith; short = omega arith; each = and_from _ _ ((class_faults.no_fault Segment []).0 (fault-nil Segment)) refl }

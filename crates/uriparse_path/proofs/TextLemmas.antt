@@ -5,14 +5,18 @@ use Rattle.std.proofs.lemmas.Bool.{not-true, and_parts, and_from, eqb-true}
 use Rattle.uriparse_text.specs.declared.parts.token.Token.TheVariants.{Byte}
 use Rattle.uriparse_text.specs.declared.parts.class.Class.TheVariants.{Segment}
 use Rattle.uriparse_text.specs.declared.parts.canonical.Case.TheVariants.{Kept}
-use Rattle.uriparse_text.specs.Bytes.{slash}
+use Rattle.std.specs.Prelude.{◌==◌}
+use Rattle.uriparse_text.specs.Bytes.{slash, percent, is_hex}
+use Rattle.uriparse_text.specs.Classes.{is_plain}
+use Rattle.uriparse_text.specs.Cuts.{lacks}
 use Rattle.uriparse_text.specs.Tokens.{is_token, is_well_formed}
 use Rattle.uriparse_text.specs.Canon.{canonical, canonical_tokens}
 use Rattle.uriparse_text.proofs.TokenLemmas.{tokens-spell, tokens-nil, well_formed-append}
 use Rattle.uriparse_text.proofs.CanonLemmas.{canonical_tokens-append, canonical_tokens-empty}
 use Rattle.uriparse_text.proofs.ClassLemmas.{well_formed-in_class, bytes-in_class}
+use Rattle.uriparse_text.proofs.CutLemmas.{lacks-append, lacks-in_class}
 use Rattle.uriparse_path.specs.Segment.{is_segment}
-use Rattle.uriparse_path.specs.Path.{PathParts, IsListed, root, text, is_slash, is_rooted, unrooted, spelled, hides_root, respelled}
+use Rattle.uriparse_path.specs.Path.{PathParts, IsListed, IsPath, root, text, is_slash, is_rooted, unrooted, pieces, spelled, hides_root, respelled}
 use Rattle.uriparse_path.proofs.SplitLemmas.{pieces-joined, joined-pieces, joined-behind, LacksSlash}
 use Rattle.uriparse_path.proofs.FaultLemmas.{plain_not_slash, hex_not_slash}
 
@@ -120,3 +124,21 @@ listed-respelled p is = by_shape p.absolute p.segments is
     by_shape false ([] ∷ []) is = is
     by_shape false ([] ∷ r ∷ ss) is = record { some = omega arith; short = let short = is.short in omega arith; each = (and_parts _ _ is.each).1 }
     by_shape false ((b ∷ s) ∷ ss) is = is
+
+-- ---- bytes that the text of a path lacks
+
+lacks-behind_slashes : (b : ℕ) → is_plain Segment b ≡ false → (percent == b) ≡ false → is_hex b ≡ false → (slash == b) ≡ false → (ss : List (List ℕ)) → list_all is_segment ss ≡ true → lacks b (flat_map (λ s. slash ∷ s) ss) ≡ true
+lacks-behind_slashes b plain sign digit other [] h = refl
+lacks-behind_slashes b plain sign digit other (s ∷ ss) h =
+    let both = and_parts _ _ h in
+    and_from _ _ (ap not other) (lacks-append b s (flat_map (λ s. slash ∷ s) ss) (lacks-in_class Segment b plain sign digit s both.0) (lacks-behind_slashes b plain sign digit other ss both.1))
+
+pub lacks-path : (b : ℕ) → is_plain Segment b ≡ false → (percent == b) ≡ false → is_hex b ≡ false → (slash == b) ≡ false → (t : List ℕ) → IsPath t → lacks b t ≡ true
+lacks-path b plain sign digit other t is = ap (lacks b) (sym (text-spelled t)) ∙ by_shape (is_rooted t) (pieces t) is
+  where
+    by_shape : (a : Bool) (ss : List (List ℕ)) → IsListed ss → lacks b (text (record { absolute = a; segments = ss })) ≡ true
+    by_shape true ss is = ap (lacks b) (text-absolute ss is.some) ∙ lacks-behind_slashes b plain sign digit other ss is.each
+    by_shape false [] is = absurd (omega (arith, is.some))
+    by_shape false (s ∷ ss) is =
+        let both = and_parts _ _ is.each in
+        ap (lacks b) (joined-behind s ss) ∙ lacks-append b s (flat_map (λ s. slash ∷ s) ss) (lacks-in_class Segment b plain sign digit s both.0) (lacks-behind_slashes b plain sign digit other ss both.1)

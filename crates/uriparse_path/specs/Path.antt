@@ -55,3 +55,15 @@ hides_root _ = false
 -- the path that the text of a path spells: the same one, but for a relative one whose text begins with a slash
 abbrev pub respelled : PathParts → PathParts
 respelled p = if not p.absolute && hides_root p.segments then record { absolute = true; segments = drop 1 p.segments } else p
+
+-- the text is that of a path: it is split into one segment at least and so many at most
+abbrev pub IsPath : List ℕ → Type 0
+IsPath t = IsListed (pieces t)
+
+-- the same path, made absolute
+abbrev pub made_absolute : PathParts → PathParts
+made_absolute p = record p { absolute = true }
+
+-- the text begins with two slashes
+abbrev pub has_two_slashes : List ℕ → Bool
+has_two_slashes t = is_rooted t && is_rooted (unrooted t)

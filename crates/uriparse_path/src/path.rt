@@ -10,7 +10,7 @@ ghost use Rattle.uriparse_text.specs.Bytes.{slash};
 ghost use Rattle.uriparse_text.specs.Tokens.{spell, is_well_formed};
 ghost use Rattle.uriparse_text.specs.Canon.{canon, canonical_tokens, fed_spelling, SpellsAlike};
 ghost use Rattle.uriparse_text.specs.Readings.{IsUnless};
-ghost use Rattle.uriparse_path.specs.Path.{IsListed, text};
+ghost use Rattle.uriparse_path.specs.Path.{IsListed, made_absolute, text};
 ghost use Rattle.uriparse_path.specs.Faults.{reading};
 
 use std::alloc::{AllocError, Global};
@@ -23,7 +23,7 @@ use uriparse_text::parts::{Case, TextWalk, feed_walk, same_walks};
 mod error;
 mod read;
 mod segment;
-mod walk;
+pub(crate) mod walk;
 
 pub use error::PathError;
 use read::{count_segments, split_root, split_segments};
@@ -126,8 +126,18 @@ impl<'p> Path<'p> {
         Ok(text)
     }
 
+    /// The same path, made absolute.
+    pub(crate) fn into_absolute(self) -> Path<'p>
+        ensures { result ≡ made_absolute self.entry }
+    {
+        Path {
+            absolute: true,
+            segments: self.segments,
+        }
+    }
+
     /// The cursor at the start of the path's text.
-    fn walk(&self) -> PathWalk<'_>
+    pub(crate) fn walk(&self) -> PathWalk<'_>
         ensures tokens { result ≡ canonical_tokens case.Kept (text self.now) }
         ensures bytes { flat_map spell result ≡ canon (text self.now) }
         ensures formed { is_well_formed (text self.now) ≡ true }

@@ -5,6 +5,14 @@
 #[cfg(test)]
 mod components;
 #[cfg(test)]
+mod every_byte;
+#[cfg(test)]
 mod memory;
 #[cfg(test)]
 mod paths;
+#[cfg(test)]
+mod references;
+#[cfg(test)]
+mod scheme_rows;
+#[cfg(test)]
+mod schemes;

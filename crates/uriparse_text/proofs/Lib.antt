@@ -3,3 +3,5 @@ pub mod FaultLemmas
 pub mod CanonLemmas
 pub mod ClassLemmas
 mod FaultLaws
+pub mod CutLemmas
+pub mod ReadingLemmas

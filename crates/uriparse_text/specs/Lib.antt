@@ -3,6 +3,7 @@ pub mod Classes
 pub mod Tokens
 pub mod Faults
 pub mod Canon
+pub mod Cuts
 pub mod Readings
 pub mod Query
 pub mod Fragment

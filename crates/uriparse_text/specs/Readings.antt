@@ -16,3 +16,37 @@ reading_in class error_of text = unless_fault (option_map error_of (fault class 
 -- this answer, or this error in its place
 abbrev pub IsUnless : {E A : Type 0} → E → Result A E → Result A E → Type 0
 IsUnless error answer right = (answer ≡ right) ⊎ (answer ≡ Err error)
+
+-- ---- readings one after another
+
+-- the second reading is made where the first has no fault
+infixl 10 ◌>>=◌
+abbrev pub ◌>>=◌ : {E A B : Type 0} → Result A E → (A → Result B E) → Result B E
+(Ok x) >>= f = f x
+(Err e) >>= f = Err e
+
+-- the same reading, its fault told as that of a piece
+abbrev pub of_piece : {E F A : Type 0} → (E → F) → Result A E → Result A F
+of_piece of (Ok x) = Ok x
+of_piece of (Err e) = Err (of e)
+
+-- the fault of a reading
+abbrev pub error_of : {E A : Type 0} → Result A E → Option E
+error_of (Ok x) = None
+error_of (Err e) = Some e
+
+-- what reading a piece gives that may be absent
+abbrev pub some_of : {E A : Type 0} → Result A E → Result (Option A) E
+some_of (Ok x) = Ok (Some x)
+some_of (Err e) = Err e
+
+abbrev pub if_present : {E A : Type 0} → (List ℕ → Result A E) → Option (List ℕ) → Result (Option A) E
+if_present read None = Ok None
+if_present read (Some t) = some_of (read t)
+
+-- the piece and the value are both absent, or the piece stands for the value
+abbrev pub IfPresent : {A : Type 0} → (List ℕ → A → Type 0) → Option (List ℕ) → Option A → Type 0
+IfPresent Spells None None = Unit {0}
+IfPresent Spells None (Some x) = ⊥
+IfPresent Spells (Some t) None = ⊥
+IfPresent Spells (Some t) (Some x) = Spells t x

@@ -8,7 +8,7 @@ use std::{io, str};
 const USAGE: &str = "usage: uri COMMAND TEXT..\n";
 
 // (the words with bars between them, the status, what is printed, what is said of a failure)
-const ROWS: [(&str, u8, &str, &str); 11] = [
+const ROWS: [(&str, u8, &str, &str); 20] = [
     (
         "tail|a/%7Eb?q#f",
         0,
@@ -25,6 +25,35 @@ const ROWS: [(&str, u8, &str, &str); 11] = [
     ("tail", 2, "", USAGE),
     ("tail|a|b", 2, "", USAGE),
     ("head|a", 2, "", USAGE),
+    ("parse|", 0, "\npath=\n", ""),
+    ("parse|//", 0, "///\nhost.name=\npath=/\n", ""),
+    ("parse|HTTP:x", 0, "http:x\nscheme=http\npath=x\n", ""),
+    (
+        "parse|s://H/a?q#f",
+        0,
+        "s://H/a?q#f\nscheme=s\nhost.name=H\npath=/a\nquery=q\nfragment=f\n",
+        "",
+    ),
+    (
+        "parse|s:a?#",
+        0,
+        "s:a?#\nscheme=s\npath=a\nquery=\nfragment=\n",
+        "",
+    ),
+    (
+        "parse|://www.example.com/",
+        1,
+        "",
+        "schemeless path URI reference starts with colon segment\n",
+    ),
+    (
+        "parse|//h:80/",
+        1,
+        "",
+        "invalid host IPv4 or registered name character\n",
+    ),
+    ("parse|a%?x", 1, "", "invalid path percent encoding\n"),
+    ("parse", 2, "", USAGE),
 ];
 
 #[test]

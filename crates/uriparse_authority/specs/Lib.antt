@@ -1,0 +1,3 @@
+pub mod Name
+pub mod Host
+pub mod Authority

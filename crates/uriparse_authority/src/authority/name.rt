@@ -1,0 +1,180 @@
+//! A registered name: RFC 3986, section 3.2.2.
+ghost use Rattle.std.specs.Prelude.{◌≡◌, ◌↔◌, IsTrue, IfOk, Some, bytes_eq, string_bytes, true};
+ghost use Rattle.std.proofs.Common.{rules};
+ghost use Rattle.std.specs.Ordering.{on};
+ghost use Rattle.std.specs.Cmp.Rules.{comparing, hashing};
+ghost use Rattle.uriparse_text.specs.declared.parts.class.Class.TheVariants as class;
+ghost use Rattle.uriparse_text.specs.declared.parts.canonical.Case.TheVariants as case;
+ghost use Rattle.uriparse_text.specs.Canon.{canon_low, fed_spelling, SpellsAlike};
+ghost use Rattle.uriparse_authority.specs.Name as spec;
+
+use super::error::RegisteredNameError;
+use std::alloc::{AllocError, Global};
+use std::fmt;
+use std::hash::{Hash, Hasher};
+use std::marker::Model;
+use uriparse_text::parts::{Case, Class, Kind, Text};
+
+/// The kind of text that a name is.
+struct NameKind;
+
+impl Kind for NameKind {
+    type Error = RegisteredNameError;
+
+    ghost class = { class.Name };
+
+    ghost case = { case.Lowered };
+
+    ghost error_of = { spec.error_of };
+
+    fn class() -> Class {
+        Class::Name
+    }
+
+    fn case() -> Case {
+        Case::Lowered
+    }
+
+    fn error_of(_byte: u8) -> RegisteredNameError {
+        RegisteredNameError
+    }
+}
+
+/// A registered name: a text of unreserved bytes, escapes and sub-delimiters, which may be empty.
+///
+/// It borrows the text that it was read from, or owns its text. Two names are equal where their
+/// canonical spellings are.
+///
+/// ```
+/// let name = RegisteredName::try_from_str("EXAMPLE.com")?;
+/// assert!(name.eq_str("example.com") && name.as_str() == "EXAMPLE.com");
+/// ```
+#[derive(Drop)]
+pub struct RegisteredName<'n> {
+    text: Text<'n, NameKind>,
+}
+
+impl<'n> Model for RegisteredName<'n> {
+    ghost use Rattle.std.specs.Prelude.{ℕ, List};
+
+    ghost Value = { List ℕ };
+
+    ghost view = { λ n. n.text };
+}
+
+impl<'n> RegisteredName<'n> {
+    /// Reads a name, which borrows the bytes. Takes no memory.
+    ///
+    /// A byte that no name has, or a `%` without two hexadecimal digits behind it, is refused.
+    pub fn try_from_bytes(bytes: &'n [u8]) -> Result<RegisteredName<'n>, RegisteredNameError>
+        ensures { result ≡ spec.reading bytes.now }
+    {
+        Ok(RegisteredName {
+            text: Text::try_from_bytes(bytes)?,
+        })
+    }
+
+    /// The same for a text.
+    pub fn try_from_str(text: &'n str) -> Result<RegisteredName<'n>, RegisteredNameError>
+        ensures { result ≡ spec.reading text.now }
+    {
+        RegisteredName::try_from_bytes(text.as_bytes())
+    }
+
+    /// The text.
+    pub fn as_str(&self) -> &str
+        ensures value { result.now ≡ self.now }
+        ensures class { spec.IsName self.now }
+    {
+        self.text.as_str()
+    }
+
+    /// The text as bytes.
+    pub fn as_bytes(&self) -> &[u8]
+        ensures value { result.now ≡ self.now }
+        ensures class { spec.IsName self.now }
+    {
+        self.text.as_bytes()
+    }
+
+    /// The same name, which borrows this one's text.
+    pub fn as_borrowed(&self) -> RegisteredName<'_>
+        ensures { result ≡ self.now }
+    {
+        RegisteredName {
+            text: self.text.as_borrowed(),
+        }
+    }
+
+    /// The same name, which owns its text. Borrowed text is copied, which wants memory; where
+    /// there is none, the name is gone.
+    pub fn into_owned(self, alloc: Global) -> Result<RegisteredName<'static>, AllocError>
+        ensures { IfOk result (λ n. n ≡ self.entry) }
+    {
+        Ok(RegisteredName {
+            text: self.text.into_owned(alloc)?,
+        })
+    }
+
+    /// A copy of the text. Wants memory.
+    pub fn to_string(&self, alloc: Global) -> Result<String, AllocError>
+        ensures { IfOk result (λ s. string_bytes s ≡ self.now) }
+    {
+        self.text.to_string(alloc)
+    }
+
+    /// Whether the bytes are tokens whose canonical spelling is this name's. Bytes with a broken
+    /// escape are equal to no name.
+    pub fn eq_bytes(&self, bytes: &[u8]) -> bool
+        ensures { IsTrue result ↔ SpellsAlike case.Lowered bytes.now self.now }
+    {
+        self.text.eq_bytes(bytes)
+    }
+
+    /// The same for a text.
+    pub fn eq_str(&self, text: &str) -> bool
+        ensures { IsTrue result ↔ SpellsAlike case.Lowered text.now self.now }
+    {
+        self.text.eq_bytes(text.as_bytes())
+    }
+}
+
+impl<'n> PartialEq for RegisteredName<'n> {
+    ghost eq = { on canon_low bytes_eq };
+
+    ghost laws = { Prim.search (comparing, rules) };
+
+    fn eq(&self, other: &RegisteredName<'n>) -> bool {
+        self.text == other.text
+    }
+}
+
+impl<'n> Eq for RegisteredName<'n> {
+    ghost laws = { Prim.search (comparing, rules) };
+}
+
+impl<'n> Hash for RegisteredName<'n> {
+    ghost hash_input = { λ n. fed_spelling (canon_low n) };
+
+    ghost respects_eq = { Prim.search (hashing, rules) };
+
+    fn hash<H: Hasher>(&self, state: &mut H) {
+        self.text.hash(state);
+    }
+}
+
+impl<'n> fmt::Display for RegisteredName<'n> {
+    ghost output = { λ n. Some n };
+
+    fn fmt<W: fmt::Write>(&self, f: &mut fmt::Formatter<W>) -> fmt::Result {
+        fmt::Display::fmt(&self.text, f)
+    }
+}
+
+impl<'n> fmt::Debug for RegisteredName<'n> {
+    fn fmt<W: fmt::Write>(&self, f: &mut fmt::Formatter<W>) -> fmt::Result {
+        f.debug_tuple("RegisteredName")
+            .field(&self.as_str())
+            .finish()
+    }
+}

@@ -1,0 +1,3 @@
+//! What the crates above build on. Users have no need of it.
+
+pub use crate::authority::read::read_authority;

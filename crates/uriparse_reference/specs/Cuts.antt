@@ -1,0 +1,49 @@
+-- How the text of a reference is cut into its pieces: RFC 3986, sections 3 and 4.1.
+use Rattle.std.specs.Prelude.{ℕ, Bool, ◌==◌, ◌||◌, if◌then◌else◌, List, Option, Some, None, drop}
+use Rattle.uriparse_text.specs.Bytes.{slash, colon, question_mark, number_sign}
+use Rattle.uriparse_text.specs.Cuts.{front, rest, before, after, up_to, from_first}
+use Rattle.uriparse_path.specs.Path.{has_two_slashes}
+use Rattle.uriparse_scheme.specs.Scheme.{is_scheme}
+
+-- the text, where it is a scheme
+abbrev pub if_scheme : Option (List ℕ) → Option (List ℕ)
+if_scheme None = None
+if_scheme (Some s) = if is_scheme s then Some s else None
+
+-- The scheme is what stands before the first ":", where that is a scheme.
+abbrev pub scheme_text : List ℕ → Option (List ℕ)
+scheme_text t = if_scheme (front colon t)
+
+-- the one where there is no scheme, the other where there is
+abbrev pub left : Option (List ℕ) → List ℕ → List ℕ → List ℕ
+left None t u = t
+left (Some s) t u = u
+
+abbrev pub after_scheme : List ℕ → List ℕ
+after_scheme t = left (scheme_text t) t (rest colon t)
+
+-- Behind two slashes the authority runs to the first "/", "?", "#" or the end.
+abbrev pub ends_authority : ℕ → Bool
+ends_authority b = b == slash || (b == question_mark || b == number_sign)
+
+abbrev pub cut_authority : List ℕ → Option (List ℕ)
+cut_authority u = if has_two_slashes u then Some (up_to ends_authority (drop 2 u)) else None
+
+abbrev pub authority_text : List ℕ → Option (List ℕ)
+authority_text t = cut_authority (after_scheme t)
+
+abbrev pub cut_left : List ℕ → List ℕ
+cut_left u = if has_two_slashes u then from_first ends_authority (drop 2 u) else u
+
+abbrev pub after_authority : List ℕ → List ℕ
+after_authority t = cut_left (after_scheme t)
+
+-- The fragment is behind the first "#", the query behind the first "?" before that, and the path is left.
+abbrev pub path_text : List ℕ → List ℕ
+path_text t = before question_mark (before number_sign (after_authority t))
+
+abbrev pub query_text : List ℕ → Option (List ℕ)
+query_text t = after question_mark (before number_sign (after_authority t))
+
+abbrev pub fragment_text : List ℕ → Option (List ℕ)
+fragment_text t = after number_sign (after_authority t)

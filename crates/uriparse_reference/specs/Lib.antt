@@ -1,0 +1,3 @@
+pub mod Reference
+pub mod Cuts
+pub mod Reading

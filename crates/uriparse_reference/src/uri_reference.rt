@@ -1,0 +1,187 @@
+//! A URI reference: RFC 3986, section 4.1.
+ghost use Rattle.std.specs.Prelude.{◌≡◌, ◌⊎◌, ℕ, List, IfOk, IfErr, Ok, Err, Some, option_copied, string_bytes};
+ghost use Rattle.uriparse_text.specs.Readings.{IsUnless};
+ghost use Rattle.uriparse_path.specs.declared.path.error.PathError.TheVariants.{OutOfMemory};
+ghost use Rattle.uriparse_reference.specs.declared.uri_reference.error.URIReferenceError.TheVariants as errors;
+ghost use Rattle.std.specs.Option.{option_map};
+ghost use Rattle.uriparse_authority.specs.Authority.{host_of};
+ghost use Rattle.uriparse_reference.specs.Reading.{reading, fault};
+ghost use Rattle.uriparse_reference.specs.Reference.{print};
+
+use std::alloc::{AllocError, Global};
+use std::fmt;
+use std::fmt::Write;
+use std::marker::Model;
+use uriparse_authority::authority::{Authority, Host};
+use uriparse_path::path::Path;
+use uriparse_scheme::scheme::Scheme;
+use uriparse_text::fragment::Fragment;
+use uriparse_text::query::Query;
+
+mod error;
+mod print;
+mod read;
+
+pub use error::URIReferenceError;
+use print::{write_authority, write_behind, write_scheme};
+use read::{cut, path_fits, read_authority_if, read_fragment_if, read_path, read_query_if};
+
+/// A URI reference, seen as its five parts.
+#[derive(Drop)]
+pub struct URIReference<'r> {
+    scheme: Option<Scheme<'r>>,
+    authority: Option<Authority<'r>>,
+    path: Path<'r>,
+    query: Option<Query<'r>>,
+    fragment: Option<Fragment<'r>>,
+}
+
+impl<'r> Model for URIReference<'r> {
+    ghost use Rattle.uriparse_reference.specs.Reference.{Parts, Valid};
+
+    ghost Value = { Parts };
+
+    ghost view = { λ r. record { scheme = r.scheme; authority = r.authority; path = r.path; query = r.query; fragment = r.fragment } };
+
+    ghost invariant = { λ r. Valid (record { scheme = r.scheme; authority = r.authority; path = r.path; query = r.query; fragment = r.fragment }) };
+}
+
+impl<'r> URIReference<'r> {
+    ghost use Rattle.uriparse_reference.specs.Reference.{Parts, Spells, Valid};
+
+    /// Reads a reference, whose parts borrow the bytes. Only the list of segments wants memory.
+    ///
+    /// The first part that has a fault is answered, in the order authority, path, colon rule, query,
+    /// fragment; or, where there is no memory, [`Path`](URIReferenceError::Path) with
+    /// [`OutOfMemory`](uriparse_path::path::PathError::OutOfMemory).
+    pub fn try_from_bytes(
+        alloc: Global,
+        bytes: &'r [u8],
+    ) -> Result<URIReference<'r>, URIReferenceError>
+        // What is read is what the grammar spells.
+        ensures found { IfOk result (λ r. Spells bytes.now r) }
+
+        // What the grammar spells is read, unless memory runs out.
+        ensures only { (p : Parts) → Spells bytes.now p → IsUnless (errors.Path OutOfMemory) result (Ok p) }
+
+        // Else the text's fault is answered.
+        ensures fault { IfErr result (λ e. (fault bytes.now ≡ Some e) ⊎ (e ≡ errors.Path OutOfMemory)) }
+    {
+        Self::read(alloc, bytes)
+    }
+
+    /// The same for a text.
+    pub fn try_from_str(alloc: Global, text: &'r str) -> Result<URIReference<'r>, URIReferenceError>
+        ensures found { IfOk result (λ r. Spells text.now r) }
+        ensures only { (p : Parts) → Spells text.now p → IsUnless (errors.Path OutOfMemory) result (Ok p) }
+        ensures fault { IfErr result (λ e. (fault text.now ≡ Some e) ⊎ (e ≡ errors.Path OutOfMemory)) }
+    {
+        Self::read(alloc, text.as_bytes())
+    }
+
+    /// The scheme, if there is one.
+    pub fn scheme(&self) -> Option<&Scheme<'r>>
+        ensures { option_copied result ≡ self.now.scheme }
+    {
+        self.scheme.as_ref()
+    }
+
+    /// The authority, if there is one.
+    pub fn authority(&self) -> Option<&Authority<'r>>
+        ensures { option_copied result ≡ self.now.authority }
+    {
+        self.authority.as_ref()
+    }
+
+    /// The host, if there is an authority.
+    pub fn host(&self) -> Option<&Host<'r>>
+        ensures { option_copied result ≡ option_map host_of self.now.authority }
+    {
+        match &self.authority {
+            Some(authority) => Some(authority.host()),
+            None => None,
+        }
+    }
+
+    /// The path.
+    pub fn path(&self) -> &Path<'r>
+        ensures path { result.now ≡ self.now.path }
+        ensures valid { Valid self.now }
+    {
+        &self.path
+    }
+
+    /// The query, if there is one.
+    pub fn query(&self) -> Option<&Query<'r>>
+        ensures { option_copied result ≡ self.now.query }
+    {
+        self.query.as_ref()
+    }
+
+    /// The fragment, if there is one.
+    pub fn fragment(&self) -> Option<&Fragment<'r>>
+        ensures { option_copied result ≡ self.now.fragment }
+    {
+        self.fragment.as_ref()
+    }
+
+    /// A copy of the reference's text. Wants memory.
+    pub fn to_string(&self, alloc: Global) -> Result<String, AllocError>
+        ensures { IfOk result (λ s. string_bytes s ≡ print self.now) }
+    {
+        let mut text = String::new(alloc);
+        write!(text, "{self}")?;
+        Ok(text)
+    }
+
+    /// Reads by the cuts of the text.
+    #[tactic(auto, unfolding(crate::specs::Reading::reading))]
+    fn read(alloc: Global, bytes: &'r [u8]) -> Result<URIReference<'r>, URIReferenceError>
+        ensures { IsUnless (errors.Path OutOfMemory) result (reading bytes.now) }
+    {
+        let pieces = cut(bytes);
+        let fits = path_fits(
+            pieces.scheme.is_some(),
+            pieces.authority.is_some(),
+            pieces.path,
+        );
+        let authority = read_authority_if(pieces.authority)?;
+        let path = read_path(alloc, pieces.authority.is_some(), pieces.path)?;
+        if !fits {
+            return Err(URIReferenceError::SchemelessPathStartsWithColonSegment);
+        }
+        let query = read_query_if(pieces.query)?;
+        let fragment = read_fragment_if(pieces.fragment)?;
+        Ok(URIReference {
+            scheme: pieces.scheme,
+            authority,
+            path,
+            query,
+            fragment,
+        })
+    }
+}
+
+impl<'r> fmt::Display for URIReference<'r> {
+    ghost output = { λ r. Some (print r) };
+
+    fn fmt<W: fmt::Write>(&self, f: &mut fmt::Formatter<W>) -> fmt::Result {
+        write_scheme(&self.scheme, f)?;
+        write_authority(&self.authority, f)?;
+        fmt::Display::fmt(&self.path, f)?;
+        write_behind("?", self.query.as_ref().map(Query::as_str), f)?;
+        write_behind("#", self.fragment.as_ref().map(Fragment::as_str), f)
+    }
+}
+
+impl<'r> fmt::Debug for URIReference<'r> {
+    fn fmt<W: fmt::Write>(&self, f: &mut fmt::Formatter<W>) -> fmt::Result {
+        f.debug_struct("URIReference")
+            .field("scheme", &self.scheme)
+            .field("authority", &self.authority)
+            .field("path", &self.path)
+            .field("query", &self.query)
+            .field("fragment", &self.fragment)
+            .finish()
+    }
+}

@@ -1,0 +1,57 @@
+//! The text of a reference: RFC 3986, section 5.3.
+ghost use Rattle.std.specs.Prelude.{◌≡◌, length, slice_index};
+ghost use Rattle.std.specs.Option.{option_copied, option_map};
+ghost use Rattle.std.specs.Fmt.{WritesOnOk};
+ghost use Rattle.uriparse_text.specs.Bytes.{colon};
+ghost use Rattle.uriparse_text.specs.Cuts.{ahead, behind};
+ghost use Rattle.uriparse_authority.specs.Authority as authorities;
+ghost use Rattle.uriparse_scheme.specs.Scheme as schemes;
+ghost use Rattle.uriparse_reference.specs.Reference.{behind_slashes};
+
+use std::fmt;
+use uriparse_authority::authority::Authority;
+use uriparse_scheme::scheme::Scheme;
+
+/// Writes the scheme, if there is one, and its colon.
+pub(super) fn write_scheme<W: fmt::Write>(
+    scheme: &Option<Scheme<'_>>,
+    f: &mut fmt::Formatter<W>,
+) -> fmt::Result
+    ensures { WritesOnOk W.write_str_gives f.old result (ahead colon (option_map schemes.text scheme.now)) f.new }
+{
+    if let Some(scheme) = scheme {
+        fmt::Display::fmt(scheme, f)?;
+        f.write_str(":")?;
+    }
+    Ok(())
+}
+
+/// Writes two slashes and the authority, if there is one.
+pub(super) fn write_authority<W: fmt::Write>(
+    authority: &Option<Authority<'_>>,
+    f: &mut fmt::Formatter<W>,
+) -> fmt::Result
+    ensures { WritesOnOk W.write_str_gives f.old result (behind_slashes (option_map authorities.print authority.now)) f.new }
+{
+    if let Some(authority) = authority {
+        f.write_str("//")?;
+        fmt::Display::fmt(authority, f)?;
+    }
+    Ok(())
+}
+
+/// Writes a mark and the part behind it, if there is one.
+pub(super) fn write_behind<W: fmt::Write>(
+    mark: &str,
+    part: Option<&str>,
+    f: &mut fmt::Formatter<W>,
+) -> fmt::Result
+    requires { length mark.now ≡ 1 }
+    ensures { WritesOnOk W.write_str_gives f.old result (behind (slice_index mark.now 0) (option_copied part.entry)) f.new }
+{
+    if let Some(text) = part {
+        f.write_str(mark)?;
+        f.write_str(text)?;
+    }
+    Ok(())
+}

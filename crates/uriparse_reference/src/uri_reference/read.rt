@@ -1,0 +1,179 @@
+//! How the text of a reference is cut and its pieces are read: RFC 3986, sections 3 and 4.
+ghost use Rattle.std.specs.Prelude.{◌≡◌, ◌||◌, ◌&&◌, not, ℕ, Option, List, drop, position, is_some, true, false, MatchOption};
+ghost use Rattle.std.specs.Option.{option_copied, option_map};
+ghost use Rattle.uriparse_text.specs.Cuts.{up_to, from_first};
+ghost use Rattle.uriparse_text.specs.Query as query;
+ghost use Rattle.uriparse_text.specs.Fragment as fragment;
+ghost use Rattle.uriparse_text.specs.Readings.{if_present, of_piece, IsUnless};
+ghost use Rattle.uriparse_authority.specs.Authority as authority;
+ghost use Rattle.uriparse_path.specs.Path.{has_two_slashes};
+ghost use Rattle.uriparse_scheme.specs.Scheme.{named};
+ghost use Rattle.uriparse_reference.specs.Cuts.{scheme_text, after_scheme, ends_authority, cut_authority, cut_left, authority_text, path_text, query_text, fragment_text};
+ghost use Rattle.uriparse_path.specs.declared.path.error.PathError.TheVariants.{OutOfMemory};
+ghost use Rattle.uriparse_reference.specs.declared.uri_reference.error.URIReferenceError.TheVariants as errors;
+ghost use Rattle.uriparse_reference.specs.Reading.{path_reading};
+ghost use Rattle.uriparse_reference.specs.Reference.{is_noscheme, fits};
+
+use super::error::URIReferenceError;
+use std::alloc::Global;
+use uriparse_authority::authority::Authority;
+use uriparse_authority::parts::read_authority;
+use uriparse_path::parts::into_absolute;
+use uriparse_path::path::Path;
+use uriparse_scheme::scheme::Scheme;
+use uriparse_text::fragment::Fragment;
+use uriparse_text::parts::{behind_mark, split_at_mark};
+use uriparse_text::query::Query;
+
+/// The scheme that the text begins with, and what stands behind its colon; or none, and the text.
+fn split_scheme(text: &[u8]) -> (Option<Scheme<'_>>, &[u8])
+    ensures scheme { result.0 ≡ option_map named (scheme_text text.now) }
+    ensures rest { result.1.now ≡ after_scheme text.now }
+{
+    let (front, rest) = split_at_mark(text, b':');
+    let Some(behind) = behind_mark(rest) else {
+        return (None, text);
+    };
+    match Scheme::try_from_bytes(front) {
+        Ok(scheme) => (Some(scheme), behind),
+        Err(_) => (None, text),
+    }
+}
+
+fn ends_authority_at(b: u8) -> bool
+    ensures { result ≡ ends_authority b }
+{
+    matches!(b, b'/' | b'?' | b'#')
+}
+
+/// Where the first byte stands that ends an authority.
+fn end_of_authority(text: &[u8]) -> Option<usize>
+    ensures { result ≡ position ends_authority text.now }
+{
+    text.iter().position(|b| ends_authority_at(*b))
+}
+
+/// What stands behind the two slashes that a text begins with, if it does.
+fn behind_two_slashes(text: &[u8]) -> Option<&[u8]>
+    ensures { MatchOption result (has_two_slashes text.now ≡ false) (λ r. (has_two_slashes text.now ≡ true) × (r.now ≡ drop 2 text.now)) }
+{
+    match text {
+        [b'/', b'/', behind @ ..] => Some(behind),
+        _ => None,
+    }
+}
+
+/// The authority that the text begins with behind two slashes, and what follows it; or none, and
+/// the text.
+fn split_authority(text: &[u8]) -> (Option<&[u8]>, &[u8])
+    ensures authority { option_copied result.0 ≡ cut_authority text.now }
+    ensures rest { result.1.now ≡ cut_left text.now }
+{
+    let Some(behind) = behind_two_slashes(text) else {
+        return (None, text);
+    };
+    let end = end_of_authority(behind).unwrap_or(behind.len());
+    let (authority, rest) = behind.split_at(end);
+    (Some(authority), rest)
+}
+
+/// The pieces of a text. Only the scheme is read yet, since its text alone tells whether it is one.
+#[derive(Drop)]
+pub(super) struct Pieces<'r> {
+    pub(super) scheme: Option<Scheme<'r>>,
+    pub(super) authority: Option<&'r [u8]>,
+    pub(super) path: &'r [u8],
+    pub(super) query: Option<&'r [u8]>,
+    pub(super) fragment: Option<&'r [u8]>,
+}
+
+/// Cuts a text into its pieces.
+pub(super) fn cut(text: &[u8]) -> Pieces<'_>
+    ensures scheme { result.scheme ≡ option_map named (scheme_text text.now) }
+    ensures authority { option_copied result.authority ≡ authority_text text.now }
+    ensures path { result.path.now ≡ path_text text.now }
+    ensures query { option_copied result.query ≡ query_text text.now }
+    ensures fragment { option_copied result.fragment ≡ fragment_text text.now }
+{
+    let (scheme, rest) = split_scheme(text);
+    let (authority, rest) = split_authority(rest);
+    let (front, fragment) = split_at_mark(rest, b'#');
+    let (path, query) = split_at_mark(front, b'?');
+    Pieces {
+        scheme,
+        authority,
+        path,
+        query: behind_mark(query),
+        fragment: behind_mark(fragment),
+    }
+}
+
+/// Whether no colon stands in the first segment.
+fn lacks_colon_segment(path: &[u8]) -> bool
+    ensures { result ≡ is_noscheme path.now }
+{
+    let (first, _) = split_at_mark(path, b'/');
+    first.iter().all(|b| *b != b':')
+}
+
+/// Whether a path may stand with a scheme, or an authority, or without them.
+pub(super) fn path_fits(has_scheme: bool, has_authority: bool, path: &[u8]) -> bool
+    ensures { (s a : Option (List ℕ)) → is_some s ≡ has_scheme → is_some a ≡ has_authority → result ≡ fits s a path.now }
+{
+    match path {
+        _ if has_authority => matches!(path, [] | [b'/', ..]),
+        [b'/', b'/', ..] => false,
+        [b'/', ..] => true,
+        _ => has_scheme || lacks_colon_segment(path),
+    }
+}
+
+/// Reads the authority, if there is one.
+pub(super) fn read_authority_if(
+    text: Option<&[u8]>,
+) -> Result<Option<Authority<'_>>, URIReferenceError>
+    ensures { result ≡ of_piece errors.Authority (if_present authority.reading (option_copied text.entry)) }
+{
+    match text {
+        Some(text) => Ok(Some(read_authority(text)?)),
+        None => Ok(None),
+    }
+}
+
+/// Reads the path, which is absolute behind an authority.
+pub(super) fn read_path(
+    alloc: Global,
+    has_authority: bool,
+    text: &[u8],
+) -> Result<Path<'_>, URIReferenceError>
+    ensures { (a : Option (List ℕ)) → is_some a ≡ has_authority → IsUnless (errors.Path OutOfMemory) result (of_piece errors.Path (path_reading a text.now)) }
+{
+    let path = Path::try_from_bytes(alloc, text)?;
+    Ok(if has_authority {
+        into_absolute(path)
+    } else {
+        path
+    })
+}
+
+/// Reads the query, if there is one.
+pub(super) fn read_query_if(text: Option<&[u8]>) -> Result<Option<Query<'_>>, URIReferenceError>
+    ensures { result ≡ of_piece errors.Query (if_present query.reading (option_copied text.entry)) }
+{
+    match text {
+        Some(text) => Ok(Some(Query::try_from_bytes(text)?)),
+        None => Ok(None),
+    }
+}
+
+/// Reads the fragment, if there is one.
+pub(super) fn read_fragment_if(
+    text: Option<&[u8]>,
+) -> Result<Option<Fragment<'_>>, URIReferenceError>
+    ensures { result ≡ of_piece errors.Fragment (if_present fragment.reading (option_copied text.entry)) }
+{
+    match text {
+        Some(text) => Ok(Some(Fragment::try_from_bytes(text)?)),
+        None => Ok(None),
+    }
+}

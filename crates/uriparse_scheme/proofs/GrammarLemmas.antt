@@ -1,0 +1,82 @@
+-- What a text that is a scheme is known to be.
+use Rattle.std.proofs.Common.{◌≡◌, ◌↔◌, ℕ, ◌<◌, Bool, true, not, List, [], ◌∷◌, map, IsUtf8, refl, sym, ap, ◌∙◌, arith}
+use Rattle.std.specs.Prelude.{◌==◌, IsTrue, bytes_eq}
+use Rattle.std.specs.Char.{is_ascii_alphabetic, to_ascii_lowercase}
+use Rattle.std.specs.List.{flat_map, list_all}
+use Rattle.std.specs.Str.{IsAscii, str_to_ascii_lowercase}
+use Rattle.std.proofs.lemmas.Bool.{and_from, and_parts}
+use Rattle.std.proofs.lemmas.Bool.Decides.{nat_tests, same_from_decides}
+use Rattle.std.proofs.lemmas.Slice.Eq.{bytes_eq-Decides}
+use Rattle.std.proofs.lemmas.Str.{IsUtf8-from_ascii}
+use Rattle.std.proofs.lemmas.Str.Ascii.{IsAscii-nil, IsAscii-cons}
+use Rattle.uriparse_text.specs.declared.parts.token.Token.TheVariants.{Byte}
+use Rattle.uriparse_text.specs.declared.parts.canonical.Case.TheVariants.{Lowered}
+use Rattle.uriparse_text.specs.Bytes.{percent}
+use Rattle.uriparse_text.specs.Tokens.{tokens, spell, is_token, is_well_formed}
+use Rattle.uriparse_text.specs.Canon.{canonical, canonical_tokens, canon_low, spelling}
+use Rattle.uriparse_text.proofs.TokenLemmas.{tokens-nil, tokens-spell}
+use Rattle.uriparse_text.proofs.CanonLemmas.{spell-canonical}
+use Rattle.uriparse_scheme.specs.Grammar.{is_scheme_byte, is_scheme}
+
+byte_is_ascii : (b : ℕ) → is_scheme_byte b ≡ true → b < 128
+byte_is_ascii b h = grind (arith, nat_tests)
+
+byte_not_percent : (b : ℕ) → is_scheme_byte b ≡ true → not (b == percent) ≡ true
+byte_not_percent b h = grind (arith, nat_tests)
+
+letter_is_byte : (b : ℕ) → is_ascii_alphabetic b ≡ true → is_scheme_byte b ≡ true
+letter_is_byte b h = grind (arith, nat_tests)
+
+-- each byte of a scheme has a place in one
+pub scheme_bytes : (t : List ℕ) → is_scheme t ≡ true → list_all is_scheme_byte t ≡ true
+scheme_bytes [] h = refl
+scheme_bytes (b ∷ t) h =
+    let both = and_parts (is_ascii_alphabetic b) (list_all is_scheme_byte t) h in
+    and_from _ _ (letter_is_byte b both.0) both.1
+
+ascii : (t : List ℕ) → list_all is_scheme_byte t ≡ true → IsAscii t
+ascii [] h = IsAscii-nil
+ascii (b ∷ t) h =
+    let both = and_parts (is_scheme_byte b) (list_all is_scheme_byte t) h in
+    IsAscii-cons b t (byte_is_ascii b both.0) (ascii t both.1)
+
+pub IsUtf8-scheme : (t : List ℕ) → is_scheme t ≡ true → IsUtf8 t
+IsUtf8-scheme t h = IsUtf8-from_ascii t (ascii t (scheme_bytes t h))
+
+-- a scheme has no escapes, so its tokens are its bytes
+single : (t : List ℕ) → list_all is_scheme_byte t ≡ true → tokens t ≡ map Byte t
+single [] h = tokens-nil
+single (b ∷ t) h =
+    let both = and_parts (is_scheme_byte b) (list_all is_scheme_byte t) h in
+    tokens-spell (Byte b) t (byte_not_percent b both.0) ∙ ap (λ ts. Byte b ∷ ts) (single t both.1)
+
+single_formed : (t : List ℕ) → list_all is_scheme_byte t ≡ true → list_all is_token (map Byte t) ≡ true
+single_formed [] h = refl
+single_formed (b ∷ t) h =
+    let both = and_parts (is_scheme_byte b) (list_all is_scheme_byte t) h in
+    and_from _ _ (byte_not_percent b both.0) (single_formed t both.1)
+
+pub well_formed-scheme : (t : List ℕ) → is_scheme t ≡ true → is_well_formed t ≡ true
+well_formed-scheme t h =
+    let each = scheme_bytes t h in ap (list_all is_token) (single t each) ∙ single_formed t each
+
+lowered : (t : List ℕ) → flat_map spell (map (canonical Lowered) (map Byte t)) ≡ str_to_ascii_lowercase t
+lowered [] = refl
+lowered (b ∷ t) = ap (λ u. to_ascii_lowercase b ∷ u) (lowered t)
+
+-- the canonical spelling of a scheme is the scheme in lower case
+pub canon_low_of_scheme : (t : List ℕ) → is_scheme t ≡ true → canon_low t ≡ str_to_ascii_lowercase t
+unfolding spelling
+canon_low_of_scheme t h =
+    ap (λ ts. flat_map spell (map (canonical Lowered) ts)) (single t (scheme_bytes t h)) ∙ lowered t
+
+-- a test of the texts in lower case is one of the canonical spellings
+pub same_from_lowered : (left right : List ℕ) (r : Bool) → is_scheme left ≡ true → is_scheme right ≡ true → (IsTrue r ↔ (str_to_ascii_lowercase left ≡ str_to_ascii_lowercase right)) → r ≡ bytes_eq (canon_low left) (canon_low right)
+same_from_lowered left right r h k iff =
+    let l = canon_low_of_scheme left h in
+    let m = canon_low_of_scheme right k in
+    same_from_decides r (bytes_eq (canon_low left) (canon_low right)) (λ e. l ∙ iff.0 e ∙ sym m, λ e. iff.1 (sym l ∙ e ∙ m)) (bytes_eq-Decides (canon_low left) (canon_low right))
+
+-- what a walk over a text in lower case spells
+pub walked : (text : List ℕ) → flat_map spell (canonical_tokens Lowered text) ≡ canon_low text
+walked text = spell-canonical Lowered text

@@ -1,0 +1,84 @@
+-- Schemes: RFC 3986, section 3.1.
+use Rattle.std.specs.Prelude.{◌≡◌, ℕ, ⊤, true, false, not, List, [], ◌∷◌, ◌++◌, map, Option, Some, None, Result, if◌then◌else◌}
+use Rattle.std.specs.Char.{is_ascii_alphabetic}
+use Rattle.std.specs.List.{list_all}
+use Rattle.std.specs.Str.{str_to_ascii_lowercase}
+use Rattle.uriparse_text.specs.Canon.{canon_low}
+use Rattle.uriparse_text.specs.Readings.{unless_fault}
+use Rattle.uriparse_scheme.specs.declared.scheme.registered.RegisteredScheme.{RegisteredScheme}
+use Rattle.uriparse_scheme.specs.declared.scheme.Scheme.{Scheme}
+use Rattle.uriparse_scheme.specs.declared.scheme.Scheme.TheVariants.{Registered, Unregistered}
+use Rattle.uriparse_scheme.specs.declared.scheme.error.SchemeError.{SchemeError}
+use Rattle.uriparse_scheme.specs.declared.scheme.error.SchemeError.TheVariants.{Empty, StartsWithNonAlphabetic, InvalidCharacter}
+use Rattle.uriparse_scheme.specs.declared.scheme.status.SchemeStatus.{SchemeStatus}
+use Rattle.uriparse_scheme.specs.declared.scheme.status.SchemeStatus.TheVariants as statuses
+use Rattle.uriparse_scheme.specs.SchemeTable.{Row}
+use Rattle.uriparse_scheme.specs.Registered.{registered_named, name_of, status_of}
+pub use Rattle.uriparse_scheme.specs.Grammar.{is_scheme_byte, is_scheme, IsUnregistered}
+
+-- every registered scheme is valid; another has to be a scheme, and no name of the table
+abbrev pub Valid : Scheme → Type 0
+Valid (Registered s) = ⊤
+Valid (Unregistered text) = IsUnregistered text
+
+-- the registered scheme, or else the text
+abbrev pub registered_or : List ℕ → Option RegisteredScheme → Scheme
+registered_or text (Some s) = Registered s
+registered_or text None = Unregistered text
+
+-- the scheme that a text stands for: the registered one with this name in any case, or else one that keeps the spelling
+abbrev pub named : List ℕ → Scheme
+named text = registered_or text (registered_named (str_to_ascii_lowercase text))
+
+-- the text that a scheme prints: its name in lower case, or else its spelling
+abbrev pub text : Scheme → List ℕ
+text (Registered s) = name_of s
+text (Unregistered spelling) = spelling
+
+-- the canonical spelling: letters are lower case
+abbrev pub canonical_text : Scheme → List ℕ
+canonical_text s = canon_low (text s)
+
+abbrev pub status : Scheme → SchemeStatus
+status (Registered s) = status_of s
+status (Unregistered spelling) = statuses.Unregistered
+
+-- the text is a scheme, and stands for this one
+pub record Spells (t : List ℕ) (s : Scheme) : Type 0 where
+  pub grammar : is_scheme t ≡ true
+  pub value : s ≡ named t
+
+-- why a text is no scheme, if it is none
+unfoldable pub fault : List ℕ → Option SchemeError
+fault [] = Some Empty
+fault (b ∷ rest) =
+    if not (is_ascii_alphabetic b) then Some StartsWithNonAlphabetic
+    else if not (list_all is_scheme_byte rest) then Some InvalidCharacter
+    else None
+
+-- the scheme that the text spells, or the fault
+abbrev pub reading : List ℕ → Result Scheme SchemeError
+reading t = unless_fault (fault t) (named t)
+
+-- ---- the faults in plain words
+
+-- the first byte is no letter
+pub record BeginsWithNoLetter (t : List ℕ) : Type 0 where
+  pub first : ℕ
+  pub rest : List ℕ
+  pub whole : t ≡ first ∷ rest
+  pub here : is_ascii_alphabetic first ≡ false
+
+-- the first byte is a letter, and a later one has no place in a scheme
+pub record HasStrayByte (t : List ℕ) : Type 0 where
+  pub first : ℕ
+  pub before : List ℕ
+  pub stray : ℕ
+  pub after : List ℕ
+  pub whole : t ≡ first ∷ before ++ stray ∷ after
+  pub letter : is_ascii_alphabetic first ≡ true
+  pub here : is_scheme_byte stray ≡ false
+
+-- the registered schemes of these rows
+abbrev pub schemes_of : List Row → List Scheme
+schemes_of rows = map (λ (r : Row). Registered r.scheme) rows

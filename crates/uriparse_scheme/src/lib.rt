@@ -1,0 +1,5 @@
+//! The scheme of a URI: RFC 3986, section 3.1, and the table of registered schemes.
+#![tactic(auto)]
+
+pub mod laws;
+pub mod scheme;

@@ -1,0 +1,192 @@
+//! The scheme of a URI or reference: RFC 3986, section 3.1.
+ghost use Rattle.std.specs.Prelude.{◌≡◌, ◌↔◌, IsTrue, IfOk, Some, true, bytes_eq, string_bytes};
+ghost use Rattle.std.proofs.Common.{rules};
+ghost use Rattle.std.specs.Ordering.{on};
+ghost use Rattle.std.specs.Str.{str_to_ascii_lowercase};
+ghost use Rattle.std.specs.Cmp.Rules.{comparing, hashing};
+ghost use Rattle.uriparse_text.specs.Canon.{fed_spelling};
+ghost use Rattle.uriparse_scheme.specs.Scheme as spec;
+
+use std::alloc::{AllocError, Global};
+use std::fmt;
+use std::hash::{Hash, Hasher};
+
+mod constants;
+mod error;
+mod find;
+mod lookup;
+mod microsoft;
+mod microsoft_constants;
+mod read;
+mod registered;
+mod rows;
+mod spelling;
+mod status;
+mod table;
+mod unregistered;
+mod variants;
+
+pub use error::{SchemeError, UnregisteredSchemeError};
+use lookup::scheme_named;
+pub use microsoft::MicrosoftScheme;
+use read::fault_of;
+pub use registered::RegisteredScheme;
+use spelling::{feed_lowered, same_lowered};
+pub use status::SchemeStatus;
+pub use unregistered::UnregisteredScheme;
+
+/// The scheme of a URI or reference, without its `:`: a registered one, or another by its text.
+///
+/// A registered scheme is read in any case, takes no memory, and prints in lower case; each has a
+/// constant. Another keeps its spelling, which it borrows from the text that it was read from, or
+/// owns. Two schemes are equal where their texts differ at most in the case of letters.
+///
+/// ```
+/// let scheme = Scheme::try_from_str("HTTP")?;
+/// assert!(scheme == Scheme::HTTP);
+/// assert_eq!(scheme.as_str(), "http");
+/// assert!(scheme.status().is_permanent());
+/// ```
+#[derive(Drop)]
+pub enum Scheme<'s> {
+    /// One that the table has.
+    Registered(RegisteredScheme),
+    /// One that it doesn't have.
+    Unregistered(UnregisteredScheme<'s>),
+}
+
+impl<'s> Scheme<'s> {
+    /// Reads a scheme. Where it isn't registered it borrows the bytes. Takes no memory.
+    pub fn try_from_bytes(bytes: &'s [u8]) -> Result<Scheme<'s>, SchemeError>
+        ensures { result ≡ spec.reading bytes.now }
+    {
+        if let Some(error) = fault_of(bytes) {
+            return Err(error);
+        }
+        match scheme_named(bytes) {
+            Some(scheme) => Ok(scheme),
+            None => Ok(Scheme::Unregistered(UnregisteredScheme::of_checked(bytes))),
+        }
+    }
+
+    /// Reads a scheme. Where it isn't registered it borrows the text. Takes no memory.
+    pub fn try_from_str(text: &'s str) -> Result<Scheme<'s>, SchemeError>
+        ensures { result ≡ spec.reading text.now }
+    {
+        Scheme::try_from_bytes(text.as_bytes())
+    }
+
+    /// What the registry says of the scheme.
+    pub fn status(&self) -> SchemeStatus
+        ensures { result ≡ spec.status self.now }
+    {
+        match self {
+            Scheme::Registered(scheme) => scheme.status(),
+            Scheme::Unregistered(_) => SchemeStatus::Unregistered,
+        }
+    }
+
+    /// The text, in lower case where the scheme is registered.
+    pub fn as_str(&self) -> &str
+        ensures value { result.now ≡ spec.text self.now }
+        ensures valid { spec.Valid self.now }
+        ensures grammar { spec.is_scheme (spec.text self.now) ≡ true }
+    {
+        match self {
+            Scheme::Registered(scheme) => scheme.name(),
+            Scheme::Unregistered(scheme) => scheme.as_str(),
+        }
+    }
+
+    /// The text as bytes.
+    pub fn as_bytes(&self) -> &[u8]
+        ensures value { result.now ≡ spec.text self.now }
+        ensures valid { spec.Valid self.now }
+        ensures grammar { spec.is_scheme (spec.text self.now) ≡ true }
+    {
+        self.as_str().as_bytes()
+    }
+
+    /// The same scheme, which borrows this one's text.
+    pub fn as_borrowed(&self) -> Scheme<'_>
+        ensures { result ≡ self.now }
+    {
+        match self {
+            Scheme::Registered(scheme) => Scheme::Registered(*scheme),
+            Scheme::Unregistered(scheme) => Scheme::Unregistered(scheme.as_borrowed()),
+        }
+    }
+
+    /// The same scheme, which owns its text. Borrowed text is copied, which wants memory; where
+    /// there is none, the scheme is gone.
+    pub fn into_owned(self, alloc: Global) -> Result<Scheme<'static>, AllocError>
+        ensures { IfOk result (λ s. s ≡ self.entry) }
+    {
+        match self {
+            Scheme::Registered(scheme) => Ok(Scheme::Registered(scheme)),
+            Scheme::Unregistered(scheme) => Ok(Scheme::Unregistered(scheme.into_owned(alloc)?)),
+        }
+    }
+
+    /// A copy of the text. Wants memory.
+    pub fn to_string(&self, alloc: Global) -> Result<String, AllocError>
+        ensures { IfOk result (λ s. string_bytes s ≡ spec.text self.now) }
+    {
+        String::from_str(alloc, self.as_str())
+    }
+
+    /// Whether the bytes are this scheme in any case. Escapes are not read.
+    pub fn eq_bytes(&self, bytes: &[u8]) -> bool
+        ensures { IsTrue result ↔ (str_to_ascii_lowercase bytes.now ≡ str_to_ascii_lowercase (spec.text self.now)) }
+    {
+        bytes.eq_ignore_ascii_case(self.as_bytes())
+    }
+
+    /// The same for a text.
+    pub fn eq_str(&self, text: &str) -> bool
+        ensures { IsTrue result ↔ (str_to_ascii_lowercase text.now ≡ str_to_ascii_lowercase (spec.text self.now)) }
+    {
+        self.eq_bytes(text.as_bytes())
+    }
+}
+
+impl<'s> PartialEq for Scheme<'s> {
+    ghost eq = { on spec.canonical_text bytes_eq };
+
+    ghost laws = { Prim.search (comparing, rules) };
+
+    fn eq(&self, other: &Scheme<'s>) -> bool {
+        match (self, other) {
+            (Scheme::Registered(left), Scheme::Registered(right)) => left == right,
+            _ => same_lowered(self.as_bytes(), other.as_bytes()),
+        }
+    }
+}
+
+impl<'s> Eq for Scheme<'s> {
+    ghost laws = { Prim.search (comparing, rules) };
+}
+
+impl<'s> Hash for Scheme<'s> {
+    ghost hash_input = { λ s. fed_spelling (spec.canonical_text s) };
+
+    ghost respects_eq = { Prim.search (hashing, rules) };
+
+    fn hash<H: Hasher>(&self, state: &mut H) {
+        feed_lowered(self.as_bytes(), state);
+    }
+}
+
+impl<'s> fmt::Display for Scheme<'s> {
+    ghost output = { λ s. Some (spec.text s) };
+
+    fn fmt<W: fmt::Write>(&self, f: &mut fmt::Formatter<W>) -> fmt::Result {
+        f.write_str(self.as_str())
+    }
+}
+
+impl<'s> fmt::Debug for Scheme<'s> {
+    fn fmt<W: fmt::Write>(&self, f: &mut fmt::Formatter<W>) -> fmt::Result {
+        f.debug_tuple("Scheme").field(&self.as_str()).finish()
+    }
+}

@@ -1,0 +1,25 @@
+//! Comparing and hashing schemes by their canonical spelling, with no memory: RFC 3986, section
+//! 6.2.2.1.
+ghost use Rattle.std.specs.Prelude.{◌≡◌, true, fold, bytes_eq};
+ghost use Rattle.uriparse_text.specs.Canon.{canon_low, fed_spelling};
+ghost use Rattle.uriparse_scheme.specs.Grammar.{is_scheme};
+
+use std::hash::Hasher;
+use uriparse_text::parts::{Case, TextWalk, feed_walk};
+
+/// Whether two schemes differ at most in the case of letters.
+pub(super) fn same_lowered(left: &[u8], right: &[u8]) -> bool
+    requires left { is_scheme left.now ≡ true }
+    requires right { is_scheme right.now ≡ true }
+    ensures { result ≡ bytes_eq (canon_low left.now) (canon_low right.now) }
+{
+    left.eq_ignore_ascii_case(right)
+}
+
+/// Feeds a scheme in lower case to the hasher, byte by byte, and then 0xFF.
+#[tactic(auto, using(crate::proofs::GrammarLemmas::walked))]
+pub(super) fn feed_lowered<H: Hasher>(bytes: &[u8], state: &mut H)
+    ensures { state.new ≡ fold H.write state.old (fed_spelling (canon_low bytes.now)) }
+{
+    feed_walk(TextWalk::new(Case::Lowered, bytes), state);
+}

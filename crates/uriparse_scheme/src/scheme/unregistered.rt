@@ -1,0 +1,171 @@
+//! A scheme that the table doesn't have: RFC 3986, section 3.1.
+ghost use Rattle.std.specs.Prelude.{◌≡◌, ◌↔◌, IsTrue, IfOk, Some, true, bytes_eq, string_bytes};
+ghost use Rattle.std.proofs.Common.{rules};
+ghost use Rattle.std.specs.Ordering.{on};
+ghost use Rattle.std.specs.Str.{str_to_ascii_lowercase};
+ghost use Rattle.std.specs.Cmp.Rules.{comparing, hashing};
+ghost use Rattle.uriparse_text.specs.Canon.{canon_low, fed_spelling};
+ghost use Rattle.uriparse_scheme.specs.Grammar as grammar;
+ghost use Rattle.uriparse_scheme.specs.Unregistered.{reading};
+
+use super::error::UnregisteredSchemeError;
+use super::lookup::is_registered;
+use super::read::is_scheme;
+use super::spelling::{feed_lowered, same_lowered};
+use std::alloc::{AllocError, Global};
+use std::borrow::CowStr;
+use std::hash::{Hash, Hasher};
+use std::marker::Model;
+use std::{fmt, str};
+
+/// A scheme that isn't registered: a letter, and then letters, digits, `+`, `-` and `.`, which in
+/// no case is the name of a registered scheme.
+///
+/// It borrows the text that it was read from, or owns its text, and keeps its spelling. Two of them
+/// are equal where they differ at most in the case of letters.
+#[derive(Drop)]
+pub struct UnregisteredScheme<'s> {
+    text: CowStr<'s>,
+}
+
+impl<'s> Model for UnregisteredScheme<'s> {
+    ghost use Rattle.std.specs.Prelude.{ℕ, List};
+    ghost use Rattle.std.specs.Cow.{cow_str_bytes};
+    ghost use Rattle.uriparse_scheme.specs.Grammar.{IsUnregistered};
+
+    ghost Value = { List ℕ };
+
+    ghost view = { λ s. cow_str_bytes s.text };
+
+    ghost invariant = { λ s. IsUnregistered (cow_str_bytes s.text) };
+}
+
+impl<'s> UnregisteredScheme<'s> {
+    /// Reads an unregistered scheme. It borrows the bytes, and takes no memory. All that is no
+    /// scheme is refused, and the name of each registered scheme in any case.
+    pub fn try_from_bytes(
+        bytes: &'s [u8],
+    ) -> Result<UnregisteredScheme<'s>, UnregisteredSchemeError>
+        ensures { result ≡ reading bytes.now }
+    {
+        if !is_scheme(bytes) || is_registered(bytes) {
+            return Err(UnregisteredSchemeError);
+        }
+        Ok(UnregisteredScheme::of_checked(bytes))
+    }
+
+    /// Reads an unregistered scheme. It borrows the text, and takes no memory.
+    pub fn try_from_str(text: &'s str) -> Result<UnregisteredScheme<'s>, UnregisteredSchemeError>
+        ensures { result ≡ reading text.now }
+    {
+        UnregisteredScheme::try_from_bytes(text.as_bytes())
+    }
+
+    /// The scheme of bytes that are known to be one. It borrows them.
+    pub(super) fn of_checked(bytes: &'s [u8]) -> UnregisteredScheme<'s>
+        requires { grammar.IsUnregistered bytes.now }
+        ensures { result ≡ bytes.now }
+    {
+        UnregisteredScheme {
+            text: CowStr::Borrowed(unsafe { str::from_utf8_unchecked(bytes) }),
+        }
+    }
+
+    /// The text.
+    pub fn as_str(&self) -> &str
+        ensures value { result.now ≡ self.now }
+        ensures valid { grammar.IsUnregistered self.now }
+        ensures grammar { grammar.is_scheme self.now ≡ true }
+    {
+        self.text.as_str()
+    }
+
+    /// The text as bytes.
+    pub fn as_bytes(&self) -> &[u8]
+        ensures value { result.now ≡ self.now }
+        ensures valid { grammar.IsUnregistered self.now }
+        ensures grammar { grammar.is_scheme self.now ≡ true }
+    {
+        self.as_str().as_bytes()
+    }
+
+    /// The same scheme, which borrows this one's text.
+    pub fn as_borrowed(&self) -> UnregisteredScheme<'_>
+        ensures { result ≡ self.now }
+    {
+        UnregisteredScheme {
+            text: CowStr::Borrowed(self.text.as_str()),
+        }
+    }
+
+    /// The same scheme, which owns its text. Borrowed text is copied, which wants memory; where
+    /// there is none, the scheme is gone.
+    pub fn into_owned(self, alloc: Global) -> Result<UnregisteredScheme<'static>, AllocError>
+        ensures { IfOk result (λ s. s ≡ self.entry) }
+    {
+        Ok(UnregisteredScheme {
+            text: CowStr::Owned(self.text.into_owned(alloc)?),
+        })
+    }
+
+    /// A copy of the text. Wants memory.
+    pub fn to_string(&self, alloc: Global) -> Result<String, AllocError>
+        ensures { IfOk result (λ s. string_bytes s ≡ self.now) }
+    {
+        String::from_str(alloc, self.as_str())
+    }
+
+    /// Whether the bytes are this scheme in any case. Escapes are not read.
+    pub fn eq_bytes(&self, bytes: &[u8]) -> bool
+        ensures { IsTrue result ↔ (str_to_ascii_lowercase bytes.now ≡ str_to_ascii_lowercase self.now) }
+    {
+        bytes.eq_ignore_ascii_case(self.as_bytes())
+    }
+
+    /// The same for a text.
+    pub fn eq_str(&self, text: &str) -> bool
+        ensures { IsTrue result ↔ (str_to_ascii_lowercase text.now ≡ str_to_ascii_lowercase self.now) }
+    {
+        self.eq_bytes(text.as_bytes())
+    }
+}
+
+impl<'s> PartialEq for UnregisteredScheme<'s> {
+    ghost eq = { on canon_low bytes_eq };
+
+    ghost laws = { Prim.search (comparing, rules) };
+
+    fn eq(&self, other: &UnregisteredScheme<'s>) -> bool {
+        same_lowered(self.as_bytes(), other.as_bytes())
+    }
+}
+
+impl<'s> Eq for UnregisteredScheme<'s> {
+    ghost laws = { Prim.search (comparing, rules) };
+}
+
+impl<'s> Hash for UnregisteredScheme<'s> {
+    ghost hash_input = { λ s. fed_spelling (canon_low s) };
+
+    ghost respects_eq = { Prim.search (hashing, rules) };
+
+    fn hash<H: Hasher>(&self, state: &mut H) {
+        feed_lowered(self.as_bytes(), state);
+    }
+}
+
+impl<'s> fmt::Display for UnregisteredScheme<'s> {
+    ghost output = { λ s. Some s };
+
+    fn fmt<W: fmt::Write>(&self, f: &mut fmt::Formatter<W>) -> fmt::Result {
+        f.write_str(self.as_str())
+    }
+}
+
+impl<'s> fmt::Debug for UnregisteredScheme<'s> {
+    fn fmt<W: fmt::Write>(&self, f: &mut fmt::Formatter<W>) -> fmt::Result {
+        f.debug_tuple("UnregisteredScheme")
+            .field(&self.as_str())
+            .finish()
+    }
+}

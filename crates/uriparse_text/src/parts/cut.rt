@@ -1,0 +1,31 @@
+//! Cuts of a text at marks.
+ghost use Rattle.std.specs.Prelude.{◌≡◌, ◌==◌, position};
+ghost use Rattle.std.specs.Option.{option_copied};
+ghost use Rattle.uriparse_text.specs.Cuts.{up_to, from_first, part};
+
+fn place(text: &[u8], mark: u8) -> Option<usize>
+    ensures { result ≡ position (λ b. b == mark) text.now }
+{
+    text.iter().position(|b| *b == mark)
+}
+
+/// The text up to the first such mark, and the rest, which begins with it.
+#[inline]
+pub fn split_at_mark(text: &[u8], mark: u8) -> (&[u8], &[u8])
+    ensures front { result.0.now ≡ up_to (λ b. b == mark) text.now }
+    ensures rest { result.1.now ≡ from_first (λ b. b == mark) text.now }
+{
+    let place = place(text, mark).unwrap_or(text.len());
+    text.split_at(place)
+}
+
+/// What stands behind the mark that a rest begins with, if there is one.
+#[inline]
+pub fn behind_mark(rest: &[u8]) -> Option<&[u8]>
+    ensures { option_copied result ≡ part rest.now }
+{
+    match rest {
+        [] => None,
+        [_, behind @ ..] => Some(behind),
+    }
+}
