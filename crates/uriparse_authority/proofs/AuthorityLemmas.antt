@@ -2,12 +2,15 @@
 use Rattle.std.proofs.Common.{◌≡◌, true, ℕ, List, Option, Some, None, Ok, Err, refl, ap, ◌∙◌}
 use Rattle.std.specs.Prelude.{is_none, cond}
 use Rattle.uriparse_text.specs.declared.parts.class.Class.TheVariants as class
+use Rattle.uriparse_text.specs.declared.parts.canonical.Case.TheVariants.{Lowered}
 use Rattle.uriparse_text.specs.Bytes.{slash, question_mark, number_sign, is_unreserved, is_sub_delim}
 use Rattle.uriparse_text.specs.Classes.{is_plain}
 use Rattle.uriparse_text.specs.Faults.{fault}
+use Rattle.uriparse_text.specs.Canon.{canon_low}
 use Rattle.uriparse_text.specs.Cuts.{lacks}
 use Rattle.uriparse_text.specs.Readings.{of_piece}
 use Rattle.uriparse_text.proofs.FaultLemmas.{no_fault}
+use Rattle.uriparse_text.proofs.ClassLemmas.{IsIn-spelling}
 use Rattle.uriparse_text.proofs.CutLemmas.{lacks-in_class}
 use Rattle.uriparse_text.proofs.ReadingLemmas.{IsExact, bind_ok, piece_found}
 use Rattle.uriparse_authority.specs.Name.{IsName}
@@ -16,7 +19,7 @@ use Rattle.uriparse_authority.specs.declared.authority.host.Host.TheVariants.{Re
 use Rattle.uriparse_authority.specs.declared.authority.error.HostError.TheVariants.{InvalidIPv4OrRegisteredNameCharacter}
 use Rattle.uriparse_authority.specs.declared.authority.error.AuthorityError.TheVariants as errors
 use Rattle.uriparse_authority.specs.Host as host
-use Rattle.uriparse_authority.specs.Authority.{AuthorityParts, Spells, Valid, ReadsBack, print, reading}
+use Rattle.uriparse_authority.specs.Authority.{AuthorityParts, Spells, Valid, ReadsBack, print, cprint, kind, reading}
 
 -- ---- hosts
 
@@ -35,10 +38,6 @@ host_exact = record { again = host_again; found = host_found }
 
 pub host_valid : (t : List ℕ) (h : Host) → host.Spells t h → host.Valid h
 host_valid t (RegisteredName n) is = rw is.0 is.1
-
--- a host's text has no byte that a name lacks
-host_lacks : (b : ℕ) → ((t : List ℕ) → IsName t → lacks b t ≡ true) → (t : List ℕ) (h : Host) → host.Spells t h → lacks b t ≡ true
-host_lacks b f t (RegisteredName n) is = f t is.1
 
 -- ---- authorities
 
@@ -62,19 +61,46 @@ valid a p is = record { is_host = host_valid a p.host is.is_host }
 pub back : (p : AuthorityParts) → Valid p → ReadsBack p → Spells (print p) p
 back p v r = record { is_host = r }
 
--- no delimiter that ends an authority stands in one
+-- ---- no delimiter that ends an authority stands in one
 
-pub lacks_slash : (a : List ℕ) (p : AuthorityParts) → Spells a p → lacks slash a ≡ true
-unfolding is_plain is_unreserved is_sub_delim
-lacks_slash a p is = host_lacks slash (λ t h. lacks-in_class class.Name slash refl refl refl t h) a p.host is.is_host
+pub record LacksEnds (t : List ℕ) : Type 0 where
+  pub slash : lacks slash t ≡ true
+  pub question_mark : lacks question_mark t ≡ true
+  pub number_sign : lacks number_sign t ≡ true
 
-pub lacks_question_mark : (a : List ℕ) (p : AuthorityParts) → Spells a p → lacks question_mark a ≡ true
+name_lacks : (t : List ℕ) → IsName t → LacksEnds t
 unfolding is_plain is_unreserved is_sub_delim
-lacks_question_mark a p is = host_lacks question_mark (λ t h. lacks-in_class class.Name question_mark refl refl refl t h) a p.host is.is_host
+name_lacks t is = record {
+  slash = lacks-in_class class.Name slash refl refl refl t is;
+  question_mark = lacks-in_class class.Name question_mark refl refl refl t is;
+  number_sign = lacks-in_class class.Name number_sign refl refl refl t is;
+}
 
-pub lacks_number_sign : (a : List ℕ) (p : AuthorityParts) → Spells a p → lacks number_sign a ≡ true
-unfolding is_plain is_unreserved is_sub_delim
-lacks_number_sign a p is = host_lacks number_sign (λ t h. lacks-in_class class.Name number_sign refl refl refl t h) a p.host is.is_host
+host_lacks : (t : List ℕ) (h : Host) → host.Spells t h → LacksEnds t
+host_lacks t (RegisteredName n) is = name_lacks t is.1
+
+host_print_lacks : (h : Host) → host.Valid h → LacksEnds (host.text h)
+host_print_lacks (RegisteredName n) is = name_lacks n is
+
+host_cprint_lacks : (h : Host) → host.Valid h → LacksEnds (host.canonical_text h)
+host_cprint_lacks (RegisteredName n) is = name_lacks (canon_low n) (IsIn-spelling class.Name Lowered n is)
+
+pub spelled_lacks : (a : List ℕ) (p : AuthorityParts) → Spells a p → LacksEnds a
+spelled_lacks a p is = host_lacks a p.host is.is_host
+
+pub print_lacks : (p : AuthorityParts) → Valid p → LacksEnds (print p)
+print_lacks p v = host_print_lacks p.host v.is_host
+
+pub cprint_lacks : (p : AuthorityParts) → Valid p → LacksEnds (cprint p)
+cprint_lacks p v = host_cprint_lacks p.host v.is_host
+
+-- ---- authorities that print alike
+
+pub alike : (p q : AuthorityParts) → Valid p → Valid q → print p ≡ print q → kind p ≡ kind q → cprint p ≡ cprint q
+alike p q v w e k = by_hosts p.host q.host e
+  where
+    by_hosts : (g h : Host) → host.text g ≡ host.text h → host.canonical_text g ≡ host.canonical_text h
+    by_hosts (RegisteredName m) (RegisteredName n) e = ap canon_low e
 
 -- every host is a name, whose text stands for it
 pub reads_back : (p : AuthorityParts) → Valid p → ReadsBack p

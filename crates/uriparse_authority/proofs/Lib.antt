@@ -1,1 +1,3 @@
+pub mod UserLemmas
+pub mod PortLemmas
 pub mod AuthorityLemmas

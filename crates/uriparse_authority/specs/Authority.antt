@@ -1,5 +1,6 @@
 -- Authorities: RFC 3986, section 3.2. Today the whole text of an authority is its host.
-use Rattle.std.specs.Prelude.{ℕ, List, Option, Result, Ok}
+use Rattle.std.specs.Prelude.{ℕ, List, ◌∷◌, Option, Result, Ok}
+use Rattle.std.specs.Hash.{HashWrites}
 use Rattle.uriparse_text.specs.Readings.{◌>>=◌, of_piece, error_of}
 use Rattle.uriparse_authority.specs.Host as host
 use Rattle.uriparse_authority.specs.declared.authority.host.Host.{Host}
@@ -33,6 +34,14 @@ cprint p = host.canonical_text p.host
 
 abbrev pub kind : AuthorityParts → host.Kind
 kind p = host.kind p.host
+
+-- what authorities are compared by: the kind of the host, and then the canonical spelling
+abbrev pub key : AuthorityParts → List ℕ
+key p = host.kind_code (kind p) ∷ cprint p
+
+-- what a hasher is fed for the authority with this key
+abbrev pub fed : List ℕ → HashWrites
+fed k = host.fed k
 
 -- what reading a text gives: the parts, or the fault of the first piece that has one
 unfoldable pub reading : List ℕ → Result AuthorityParts AuthorityError

@@ -1,3 +1,6 @@
 pub mod Name
+pub mod Username
+pub mod Password
+pub mod Port
 pub mod Host
 pub mod Authority

@@ -1,21 +1,36 @@
 //! An authority: RFC 3986, section 3.2.
-ghost use Rattle.std.specs.Prelude.{◌≡◌, Some};
+ghost use Rattle.std.specs.Prelude.{◌≡◌, Some, bytes_eq};
+ghost use Rattle.std.proofs.Common.{rules};
+ghost use Rattle.std.specs.Ordering.{on};
+ghost use Rattle.std.specs.Cmp.Rules.{comparing, hashing};
 ghost use Rattle.uriparse_authority.specs.Authority as authority;
 ghost use Rattle.uriparse_authority.specs.Host as spec;
 
 use std::fmt;
+use std::hash::{Hash, Hasher};
 use std::marker::Model;
 
 mod error;
 mod host;
 mod name;
+mod password;
+mod port;
 pub(crate) mod read;
+mod username;
 
-pub use error::{AuthorityError, HostError, RegisteredNameError};
+pub use error::{
+    AuthorityError, HostError, PasswordError, PortError, RegisteredNameError, UsernameError,
+};
 pub use host::Host;
 pub use name::RegisteredName;
+pub use password::Password;
+pub use port::parse_port;
+pub use username::Username;
 
 /// The authority of a reference, without its `//`. Today its whole text is its host.
+///
+/// Two authorities are equal where their hosts are of one kind and their canonical spellings
+/// agree.
 #[derive(Drop)]
 pub struct Authority<'a> {
     host: Host<'a>,
@@ -42,12 +57,41 @@ impl<'a> Authority<'a> {
         Authority { host }
     }
 
+    /// How many bytes the authority's text has at most.
+    pub(crate) fn most_bytes(&self) -> usize {
+        self.host.most_bytes()
+    }
+
     /// The host.
     pub fn host(&self) -> &Host<'a>
         ensures value { result.now ≡ self.now.host }
         ensures valid { Valid self.now }
     {
         &self.host
+    }
+}
+
+impl<'a> PartialEq for Authority<'a> {
+    ghost eq = { on authority.key bytes_eq };
+
+    ghost laws = { Prim.search (comparing, rules) };
+
+    fn eq(&self, other: &Authority<'a>) -> bool {
+        self.host == other.host
+    }
+}
+
+impl<'a> Eq for Authority<'a> {
+    ghost laws = { Prim.search (comparing, rules) };
+}
+
+impl<'a> Hash for Authority<'a> {
+    ghost hash_input = { λ a. authority.fed (authority.key a) };
+
+    ghost respects_eq = { Prim.search (hashing, rules) };
+
+    fn hash<H: Hasher>(&self, state: &mut H) {
+        self.host.hash(state);
     }
 }
 

@@ -23,7 +23,7 @@ use uriparse_text::parts::{Case, TextWalk, feed_walk, same_walks};
 mod error;
 mod read;
 mod segment;
-pub(crate) mod walk;
+mod walk;
 
 pub use error::PathError;
 use read::{count_segments, split_root, split_segments};
@@ -109,7 +109,7 @@ impl<'p> Path<'p> {
     }
 
     /// How many bytes the path's text has at most.
-    fn most_bytes(&self) -> usize {
+    pub(crate) fn most_bytes(&self) -> usize {
         let mut len = 0usize;
         for segment in &self.segments {
             len = len.saturating_add(1).saturating_add(segment.as_str().len());
@@ -137,7 +137,7 @@ impl<'p> Path<'p> {
     }
 
     /// The cursor at the start of the path's text.
-    pub(crate) fn walk(&self) -> PathWalk<'_>
+    fn walk(&self) -> PathWalk<'_>
         ensures tokens { result ≡ canonical_tokens case.Kept (text self.now) }
         ensures bytes { flat_map spell result ≡ canon (text self.now) }
         ensures formed { is_well_formed (text self.now) ≡ true }

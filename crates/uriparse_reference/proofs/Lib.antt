@@ -1,1 +1,2 @@
 pub mod ReferenceLemmas
+pub mod SameLemmas

@@ -23,6 +23,7 @@ use Rattle.uriparse_path.proofs.ReadLemmas.{reading-path, path_read, slash_path}
 use Rattle.uriparse_authority.specs.Authority as authority
 use Rattle.uriparse_authority.specs.Authority.{AuthorityParts}
 use Rattle.uriparse_authority.proofs.AuthorityLemmas as authorities
+use Rattle.uriparse_authority.proofs.AuthorityLemmas.{LacksEnds}
 use Rattle.uriparse_scheme.specs.declared.scheme.Scheme.{Scheme}
 use Rattle.uriparse_scheme.specs.declared.scheme.error.SchemeError.{SchemeError}
 use Rattle.uriparse_scheme.specs.Scheme as scheme
@@ -31,7 +32,7 @@ use Rattle.uriparse_scheme.proofs.GrammarLemmas as grammar
 use Rattle.uriparse_path.specs.declared.path.error.PathError.TheVariants.{OutOfMemory}
 use Rattle.uriparse_reference.specs.declared.uri_reference.error.URIReferenceError.{URIReferenceError}
 use Rattle.uriparse_reference.specs.declared.uri_reference.error.URIReferenceError.TheVariants as errors
-use Rattle.uriparse_reference.specs.Reference.{Parts, behind_slashes, joined, is_abempty, is_noscheme, fits, path_of, Spells, Valid, ReadsBack, Same, print, cprint, kind}
+use Rattle.uriparse_reference.specs.Reference.{Parts, behind_slashes, joined, is_abempty, is_noscheme, fits, path_of, Spells, Valid, ReadsBack, Same, print}
 use Rattle.uriparse_reference.specs.Cuts.{if_scheme, scheme_text, left, after_scheme, ends_authority, cut_authority, authority_text, cut_left, after_authority, path_text, query_text, fragment_text}
 use Rattle.uriparse_reference.specs.Reading.{path_reading, colon_rule, reading, fault}
 
@@ -180,6 +181,40 @@ tail_of h q f i k =
     let e : before number_sign (h ++ tail q f) ≡ h ++ behind question_mark q = ap (before number_sign) w ∙ before_of number_sign (h ++ behind question_mark q) f refl l in
     (ap (before question_mark) e ∙ before_of question_mark h q refl c, ap (after question_mark) e ∙ after_of question_mark h q refl c, ap (after number_sign) w ∙ after_of number_sign (h ++ behind question_mark q) f refl l)
 
+-- ---- a text that is joined from such pieces is cut into them
+
+pub record ArePieces (s a : Option (List ℕ)) (h : List ℕ) (q : Option (List ℕ)) : Type 0 where
+  pub is_scheme : IfSome s (λ t. scheme.is_scheme t ≡ true)
+  pub is_authority : IfSome a LacksEnds
+  pub is_path : IsPath h
+  pub fit : fits s a h ≡ true
+  pub is_query : IfSome q IsQuery
+
+pub record IsCutInto (t : List ℕ) (s a : Option (List ℕ)) (h : List ℕ) (q f : Option (List ℕ)) : Type 0 where
+  pub scheme : scheme_text t ≡ s
+  pub authority : authority_text t ≡ a
+  pub path : path_text t ≡ h
+  pub query : query_text t ≡ q
+  pub fragment : fragment_text t ≡ f
+
+ends_none_of : (a : Option (List ℕ)) → IfSome a LacksEnds → IfSome a (λ t. none_pass ends_authority t ≡ true)
+ends_none_of None l = tt
+ends_none_of (Some t) l = ends_none t l.slash l.question_mark l.number_sign
+
+pub cut_again : (t : List ℕ) (s a : Option (List ℕ)) (h : List ℕ) (q f : Option (List ℕ)) → ArePieces s a h q → t ≡ joined s a h q f → IsCutInto t s a h q f
+cut_again t s a h q f are whole =
+    let b = scheme_of s a h q f are.is_scheme are.fit in
+    let c = authority_of s a h q f (ends_none_of a are.is_authority) are.fit in
+    let d = tail_of h q f are.is_path are.is_query in
+    let left_over : after_authority t ≡ h ++ tail q f = ap after_authority whole ∙ ap cut_left b.1 ∙ c.1 in
+    record {
+      scheme = ap scheme_text whole ∙ b.0;
+      authority = ap authority_text whole ∙ ap cut_authority b.1 ∙ c.0;
+      path = ap (λ u. before question_mark (before number_sign u)) left_over ∙ d.0;
+      query = ap (λ u. after question_mark (before number_sign u)) left_over ∙ d.1;
+      fragment = ap (λ u. after number_sign u) left_over ∙ d.2;
+    }
+
 -- ---- what is spelled so is read so
 
 schemes_are : (o : Option (List ℕ)) (s : Option Scheme) → IfPresent scheme.Spells o s → (IfSome o (λ t. scheme.is_scheme t ≡ true)) × (option_map scheme.named o ≡ s)
@@ -188,30 +223,35 @@ schemes_are None (Some s) h = absurd h
 schemes_are (Some t) None h = absurd h
 schemes_are (Some t) (Some s) h = (h.grammar, ap Some (sym h.value))
 
-authorities_end : (o : Option (List ℕ)) (a : Option AuthorityParts) → IfPresent authority.Spells o a → IfSome o (λ t. none_pass ends_authority t ≡ true)
+authorities_end : (o : Option (List ℕ)) (a : Option AuthorityParts) → IfPresent authority.Spells o a → IfSome o LacksEnds
 authorities_end None a h = tt
 authorities_end (Some t) None h = absurd h
-authorities_end (Some t) (Some p) h = ends_none t (authorities.lacks_slash t p h) (authorities.lacks_question_mark t p h) (authorities.lacks_number_sign t p h)
+authorities_end (Some t) (Some p) h = authorities.spelled_lacks t p h
+
+pub spelled_pieces : (t : List ℕ) (p : Parts) (s : Spells t p) → ArePieces s.scheme_text s.authority_text s.path_text p.query
+spelled_pieces t p s = record {
+  is_scheme = (schemes_are s.scheme_text p.scheme s.is_scheme).0;
+  is_authority = authorities_end s.authority_text p.authority s.is_authority;
+  is_path = s.is_path;
+  fit = s.fit;
+  is_query = s.is_query;
+}
 
 pub again : (t : List ℕ) (p : Parts) → Spells t p → reading t ≡ Ok p
 unfolding reading
 again t p s =
-    let i = schemes_are s.scheme_text p.scheme s.is_scheme in
-    let b = scheme_of s.scheme_text s.authority_text s.path_text p.query p.fragment i.0 s.fit in
-    let c = authority_of s.scheme_text s.authority_text s.path_text p.query p.fragment (authorities_end s.authority_text p.authority s.is_authority) s.fit in
-    let d = tail_of s.path_text p.query p.fragment s.is_path s.is_query in
-    let sc : scheme_text t ≡ s.scheme_text = ap scheme_text s.whole ∙ b.0 in
-    let au : authority_text t ≡ s.authority_text = ap authority_text s.whole ∙ ap cut_authority b.1 ∙ c.0 in
-    let aa : after_authority t ≡ s.path_text ++ tail p.query p.fragment = ap after_authority s.whole ∙ ap cut_left b.1 ∙ c.1 in
-    let pa : path_text t ≡ s.path_text = ap (λ u. before question_mark (before number_sign u)) aa ∙ d.0 in
-    let qu : query_text t ≡ p.query = ap (λ u. after question_mark (before number_sign u)) aa ∙ d.1 in
-    let fr : fragment_text t ≡ p.fragment = ap (λ u. after number_sign u) aa ∙ d.2 in
+    let cut = cut_again t s.scheme_text s.authority_text s.path_text p.query p.fragment (spelled_pieces t p s) s.whole in
+    let sc = cut.scheme in
+    let au = cut.authority in
+    let pa = cut.path in
+    let qu = cut.query in
+    let fr = cut.fragment in
     let x : if_present authority.reading (authority_text t) ≡ Ok p.authority = ap (if_present authority.reading) au ∙ present_again authority.Spells authority.reading authorities.exact s.authority_text p.authority s.is_authority in
     let y : path_reading (authority_text t) (path_text t) ≡ Ok p.path = ap (λ u. path_reading u (path_text t)) au ∙ ap (path_reading s.authority_text) pa ∙ ap (λ r. r >>= λ _. Ok (path_of s.authority_text s.path_text)) (reading-path s.path_text s.is_path) ∙ ap Ok (sym s.path) in
     let z : fits (scheme_text t) (authority_text t) (path_text t) ≡ true = ap (λ u. fits u (authority_text t) (path_text t)) sc ∙ ap (λ u. fits s.scheme_text u (path_text t)) au ∙ ap (fits s.scheme_text s.authority_text) pa ∙ s.fit in
     let v : if_present query.reading (query_text t) ≡ Ok p.query = ap (if_present query.reading) qu ∙ texts_again Query query.error_of p.query s.is_query in
     let w : if_present fragment.reading (fragment_text t) ≡ Ok p.fragment = ap (if_present fragment.reading) fr ∙ texts_again Query fragment.error_of p.fragment s.is_fragment in
-    let n : option_map scheme.named (scheme_text t) ≡ p.scheme = ap (option_map scheme.named) sc ∙ i.1 in
+    let n : option_map scheme.named (scheme_text t) ≡ p.scheme = ap (option_map scheme.named) sc ∙ (schemes_are s.scheme_text p.scheme s.is_scheme).1 in
     rw (x, y, z, v, w, n) refl
 
 pub one_reading : (t : List ℕ) (p q : Parts) → Spells t p → Spells t q → p ≡ q
@@ -376,21 +416,6 @@ valid t p s =
 
 pub back_same : (p : Parts) → Valid p → ReadsBack p → (q : Parts) × Spells (print p) q × Same p q
 back_same p v r = (p, back p v r, record { spelling = refl; kinds = refl })
-
--- ---- references that print alike
-
--- every host's text stands for it today
-reads_back : (p : Parts) → Valid p → ReadsBack p
-reads_back p v = by_authority p.authority v.is_authority
-  where
-    by_authority : (a : Option AuthorityParts) → IfSome a authority.Valid → IfSome a authority.ReadsBack
-    by_authority None h = tt
-    by_authority (Some a) h = authorities.reads_back a h
-
-pub alike : (p q : Parts) → Valid p → Valid q → print p ≡ print q → kind p ≡ kind q → Same p q
-alike p q v w e k =
-    let same : p ≡ q = one_reading (print p) p q (back p v (reads_back p v)) (subst (λ t. Spells t q) (sym e) (back q w (reads_back q w))) in
-    record { spelling = ap cprint same; kinds = k }
 
 -- ---- what the pieces' readings make
 

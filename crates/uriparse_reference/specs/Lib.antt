@@ -1,3 +1,4 @@
 pub mod Reference
 pub mod Cuts
+pub mod Key
 pub mod Reading

@@ -2,6 +2,7 @@
 //! the law.
 ghost use Rattle.std.specs.Prelude.{◌≡◌, ◌↔◌, ℕ, List, None, Ok};
 ghost use Rattle.uriparse_reference.specs.Reference.{Parts, Spells, Valid, ReadsBack, Same, print, kind};
+ghost use Rattle.uriparse_reference.specs.Key.{key};
 ghost use Rattle.uriparse_reference.specs.Reading.{reading, fault};
 
 /// A text spells at most one reference; reading gives it exactly where there is one, and else a
@@ -19,4 +20,10 @@ pub fn one_reading()
 pub fn reading_back()
     ensures back { (p : Parts) → Valid p → ReadsBack p → (q : Parts) × Spells (print p) q × Same p q }
     ensures alike { (p q : Parts) → Valid p → Valid q → print p ≡ print q → kind p ≡ kind q → Same p q }
+{}
+
+/// Two references have one key exactly where they are the same: where their canonical texts agree,
+/// and they have no host or hosts of one kind.
+pub fn one_key()
+    ensures { (p q : Parts) → (key p ≡ key q) ↔ Same p q }
 {}

@@ -1,18 +1,25 @@
 //! A URI reference: RFC 3986, section 4.1.
-ghost use Rattle.std.specs.Prelude.{◌≡◌, ◌⊎◌, ℕ, List, IfOk, IfErr, Ok, Err, Some, option_copied, string_bytes};
+ghost use Rattle.std.specs.Prelude.{◌≡◌, ◌⊎◌, ℕ, List, IfOk, IfErr, Ok, Err, Some, bytes_eq, option_copied, string_bytes};
+ghost use Rattle.std.proofs.Common.{rules};
+ghost use Rattle.std.specs.Ordering.{on};
+ghost use Rattle.std.specs.Cmp.Rules.{comparing, hashing};
 ghost use Rattle.uriparse_text.specs.Readings.{IsUnless};
 ghost use Rattle.uriparse_path.specs.declared.path.error.PathError.TheVariants.{OutOfMemory};
 ghost use Rattle.uriparse_reference.specs.declared.uri_reference.error.URIReferenceError.TheVariants as errors;
 ghost use Rattle.std.specs.Option.{option_map};
 ghost use Rattle.uriparse_authority.specs.Authority.{host_of};
+ghost use Rattle.uriparse_reference.specs.Key.{each_alike, fed, key};
 ghost use Rattle.uriparse_reference.specs.Reading.{reading, fault};
 ghost use Rattle.uriparse_reference.specs.Reference.{print};
 
 use std::alloc::{AllocError, Global};
 use std::fmt;
 use std::fmt::Write;
+use std::hash::{Hash, Hasher};
 use std::marker::Model;
 use uriparse_authority::authority::{Authority, Host};
+use uriparse_authority::parts::most_authority_bytes;
+use uriparse_path::parts::most_path_bytes;
 use uriparse_path::path::Path;
 use uriparse_scheme::scheme::Scheme;
 use uriparse_text::fragment::Fragment;
@@ -27,6 +34,9 @@ use print::{write_authority, write_behind, write_scheme};
 use read::{cut, path_fits, read_authority_if, read_fragment_if, read_path, read_query_if};
 
 /// A URI reference, seen as its five parts.
+///
+/// Two references are equal where their hosts, if they have any, are of one kind and the canonical
+/// spellings of their texts agree. Dot segments count.
 #[derive(Drop)]
 pub struct URIReference<'r> {
     scheme: Option<Scheme<'r>>,
@@ -125,13 +135,42 @@ impl<'r> URIReference<'r> {
         self.fragment.as_ref()
     }
 
-    /// A copy of the reference's text. Wants memory.
+    /// How many bytes the reference's text has at most.
+    fn most_bytes(&self) -> usize {
+        let scheme = self.scheme.as_ref().map_or(0, |s| s.as_str().len());
+        let authority = self.authority.as_ref().map_or(0, most_authority_bytes);
+        let query = self.query.as_ref().map_or(0, |q| q.as_str().len());
+        let fragment = self.fragment.as_ref().map_or(0, |f| f.as_str().len());
+        [
+            scheme,
+            authority,
+            most_path_bytes(&self.path),
+            query,
+            fragment,
+        ]
+        .iter()
+        .fold(5usize, |sum, part| sum.saturating_add(*part))
+    }
+
+    /// A copy of the reference's text, whose room is asked for once.
     pub fn to_string(&self, alloc: Global) -> Result<String, AllocError>
         ensures { IfOk result (λ s. string_bytes s ≡ print self.now) }
     {
-        let mut text = String::new(alloc);
+        let mut text = String::with_capacity(alloc, self.most_bytes())?;
         write!(text, "{self}")?;
         Ok(text)
+    }
+
+    /// Whether each part is spelled like the other's.
+    fn is_each_alike(&self, other: &URIReference<'r>) -> bool
+        ensures test { result ≡ each_alike self.now other.now }
+        ensures valid { Valid self.now × Valid other.now }
+    {
+        self.scheme == other.scheme
+            && self.authority == other.authority
+            && self.path == other.path
+            && self.query == other.query
+            && self.fragment == other.fragment
     }
 
     /// Reads by the cuts of the text.
@@ -159,6 +198,34 @@ impl<'r> URIReference<'r> {
             query,
             fragment,
         })
+    }
+}
+
+impl<'r> PartialEq for URIReference<'r> {
+    ghost eq = { on key bytes_eq };
+
+    ghost laws = { Prim.search (comparing, rules) };
+
+    fn eq(&self, other: &URIReference<'r>) -> bool {
+        self.is_each_alike(other)
+    }
+}
+
+impl<'r> Eq for URIReference<'r> {
+    ghost laws = { Prim.search (comparing, rules) };
+}
+
+impl<'r> Hash for URIReference<'r> {
+    ghost hash_input = { λ r. fed (key r) };
+
+    ghost respects_eq = { Prim.search (hashing, rules) };
+
+    fn hash<H: Hasher>(&self, state: &mut H) {
+        self.scheme.hash(state);
+        self.authority.hash(state);
+        self.path.hash(state);
+        self.query.hash(state);
+        self.fragment.hash(state);
     }
 }
 

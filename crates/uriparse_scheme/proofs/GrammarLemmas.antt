@@ -70,6 +70,29 @@ unfolding spelling
 canon_low_of_scheme t h =
     ap (λ ts. flat_map spell (map (canonical Lowered) ts)) (single t (scheme_bytes t h)) ∙ lowered t
 
+-- ---- in lower case it is a scheme
+
+letter-lowered : (b : ℕ) → is_ascii_alphabetic b ≡ true → is_ascii_alphabetic (to_ascii_lowercase b) ≡ true
+letter-lowered b h = grind (arith, nat_tests)
+
+byte-lowered : (b : ℕ) → is_scheme_byte b ≡ true → is_scheme_byte (to_ascii_lowercase b) ≡ true
+byte-lowered b h = grind (arith, nat_tests)
+
+bytes-lowered : (t : List ℕ) → list_all is_scheme_byte t ≡ true → list_all is_scheme_byte (str_to_ascii_lowercase t) ≡ true
+bytes-lowered [] h = refl
+bytes-lowered (b ∷ t) h =
+    let both = and_parts (is_scheme_byte b) (list_all is_scheme_byte t) h in
+    and_from _ _ (byte-lowered b both.0) (bytes-lowered t both.1)
+
+is_scheme-lowered : (t : List ℕ) → is_scheme t ≡ true → is_scheme (str_to_ascii_lowercase t) ≡ true
+is_scheme-lowered [] h = h
+is_scheme-lowered (b ∷ t) h =
+    let both = and_parts (is_ascii_alphabetic b) (list_all is_scheme_byte t) h in
+    and_from _ _ (letter-lowered b both.0) (bytes-lowered t both.1)
+
+pub is_scheme-canon_low : (t : List ℕ) → is_scheme t ≡ true → is_scheme (canon_low t) ≡ true
+is_scheme-canon_low t h = ap is_scheme (canon_low_of_scheme t h) ∙ is_scheme-lowered t h
+
 -- a test of the texts in lower case is one of the canonical spellings
 pub same_from_lowered : (left right : List ℕ) (r : Bool) → is_scheme left ≡ true → is_scheme right ≡ true → (IsTrue r ↔ (str_to_ascii_lowercase left ≡ str_to_ascii_lowercase right)) → r ≡ bytes_eq (canon_low left) (canon_low right)
 same_from_lowered left right r h k iff =

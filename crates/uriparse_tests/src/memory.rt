@@ -4,10 +4,14 @@ use scarce::{Outcome, starve};
 use std::alloc::{AllocError, Global};
 use std::test::Fail;
 use uriparse_path::path::{Path, PathError, Segment};
+use uriparse_reference::uri_reference::{URIReference, URIReferenceError};
+use uriparse_scheme::scheme::Scheme;
 use uriparse_text::fragment::Fragment;
 use uriparse_text::query::Query;
 
 const TEXT: &str = "a%7e/bc%7e/def%7e/ghij%7e/klmno%7e/pqrstu%7e/vwxyz01%7e";
+
+const REFERENCE: &str = "s://host%7e/a%7e/bc%7e/def%7e/ghij%7e/klmno%7e?pqrstu%7e#vwxyz01%7e";
 
 const SEGMENT: &str = "a%7ebc%7edef%7eghij%7eklmno%7epqrstu%7evwxyz01%7e";
 
@@ -65,6 +69,25 @@ fn copy_fragment(alloc: Global) -> Outcome {
     }
 }
 
+fn copy_scheme(alloc: Global) -> Outcome {
+    let text = "scheme+that.is-not+registered";
+    let Ok(scheme) = Scheme::try_from_str(text) else {
+        return Outcome::Wrong;
+    };
+    match scheme.into_owned(alloc) {
+        Ok(owned) => copied(owned.to_string(alloc), text),
+        Err(_) => Outcome::Refused,
+    }
+}
+
+fn print_reference(alloc: Global) -> Outcome {
+    match URIReference::try_from_str(alloc, REFERENCE) {
+        Ok(reference) => copied(reference.to_string(alloc), REFERENCE),
+        Err(URIReferenceError::Path(PathError::OutOfMemory)) => Outcome::Refused,
+        Err(_) => Outcome::Wrong,
+    }
+}
+
 fn faulty_path(alloc: Global) -> Outcome {
     match Path::try_from_str(alloc, "a/b c") {
         Err(PathError::InvalidCharacter) => Outcome::Right,
@@ -81,6 +104,8 @@ fn want_of_memory_or_the_right_answer(rt: HostRuntime) -> Result<(), Fail> {
         ("copy_segment", 2, starve(alloc, 4096, copy_segment)?),
         ("copy_query", 2, starve(alloc, 4096, copy_query)?),
         ("copy_fragment", 2, starve(alloc, 4096, copy_fragment)?),
+        ("copy_scheme", 2, starve(alloc, 4096, copy_scheme)?),
+        ("print_reference", 2, starve(alloc, 4096, print_reference)?),
         ("faulty_path", 0, starve(alloc, 4096, faulty_path)?),
     ] {
         let refused = outcomes.iter().filter(|o| **o == Outcome::Refused).count();

@@ -1,6 +1,7 @@
 //! References.
 
 use std::alloc::Global;
+use std::hash::{DefaultHasher, Hash, Hasher};
 use std::test::Fail;
 use uriparse_authority::authority::{AuthorityError, Host, HostError};
 use uriparse_path::path::PathError;
@@ -133,6 +134,43 @@ fn refuses_by_the_first_fault(rt: HostRuntime) -> Result<(), Fail> {
         let why = URIReference::try_from_str(alloc, text).err();
         let Some(why) = why else { continue };
         assert_eq!(rt; format!(in alloc; "{why}")?.as_str(), said);
+    }
+    Ok(())
+}
+
+fn hash_of(reference: &URIReference<'_>) -> u64 {
+    let mut state = DefaultHasher::new();
+    reference.hash(&mut state);
+    state.finish()
+}
+
+// (one text, another, whether they are one reference)
+const PAIRS: [(&str, &str, bool); 12] = [
+    ("HTTP://H/%7e", "http://h/~", true),
+    ("s:%41", "S:A", true),
+    ("//H", "//h/", true),
+    ("//%4A", "//j", true),
+    ("?%2f", "?%2F", true),
+    ("a/./b", "a/b", false),
+    ("/a", "a", false),
+    ("a?", "a", false),
+    ("a?b", "a#b", false),
+    ("//", "/", false),
+    ("s:J", "s:j", false),
+    ("#%2F", "#/", false),
+];
+
+#[test]
+fn equal_by_canonical_texts(rt: HostRuntime) -> Result<(), Fail> {
+    let alloc = rt.alloc();
+    for (left, right, same) in PAIRS {
+        let a = URIReference::try_from_str(alloc, left)?;
+        let b = URIReference::try_from_str(alloc, right)?;
+        assert!(rt; (a == b) == same, "{left} and {right}");
+        assert!(rt;
+            (hash_of(&a) == hash_of(&b)) == same,
+            "hashes of {left} and {right}"
+        );
     }
     Ok(())
 }

@@ -71,3 +71,12 @@ no_fault class text = (
   λ h. all_found (allows class) (tokens text) h,
   λ h. ap (option_map first_byte) (none_found (allows class) (tokens text) h),
 )
+
+plain_bytes : (class : Class) (text : List ℕ) → list_all (is_plain class) text ≡ true → fault class text ≡ None
+plain_bytes class [] h = fault-nil class
+plain_bytes class (b ∷ text) h =
+    let both = and_parts _ _ h in fault-plain class b text both.0 ∙ plain_bytes class text both.1
+
+-- a text of bytes that stand for themselves is in the class
+pub IsIn-plain : (class : Class) (text : List ℕ) → list_all (is_plain class) text ≡ true → IsIn class text
+IsIn-plain class text h = (no_fault class text).0 (plain_bytes class text h)

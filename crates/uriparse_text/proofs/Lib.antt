@@ -5,3 +5,8 @@ pub mod ClassLemmas
 mod FaultLaws
 pub mod CutLemmas
 pub mod ReadingLemmas
+mod AddressGrammar
+mod AddressPrinted
+pub mod AddressLemmas
+pub mod AddressBytes
+pub mod AddressCanon

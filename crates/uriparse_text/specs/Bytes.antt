@@ -12,6 +12,10 @@ number_sign = 35
 abbrev pub percent : ℕ
 percent = 37
 
+-- `.`
+abbrev pub dot : ℕ
+dot = 46
+
 -- `/`
 abbrev pub slash : ℕ
 slash = 47
@@ -27,6 +31,14 @@ question_mark = 63
 -- `@`
 abbrev pub at_sign : ℕ
 at_sign = 64
+
+-- `[`
+abbrev pub left_bracket : ℕ
+left_bracket = 91
+
+-- `]`
+abbrev pub right_bracket : ℕ
+right_bracket = 93
 
 -- the byte is one of these
 abbrev pub is_among : List ℕ → ℕ → Bool

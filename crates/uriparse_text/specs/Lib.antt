@@ -7,3 +7,5 @@ pub mod Cuts
 pub mod Readings
 pub mod Query
 pub mod Fragment
+pub mod Address
+pub mod IpAddr

@@ -1,12 +1,17 @@
 //! Laws of the definitions that contracts cite. Each function has nothing to do: its contract is
 //! the law.
-ghost use Rattle.std.specs.Prelude.{◌≡◌, ◌↔◌, ◌++◌, ℕ, List, Some, None, true, flat_map};
+ghost use Rattle.std.specs.Prelude.{◌≡◌, ◌↔◌, ◌∷◌, ◌++◌, ℕ, List, [], Some, None, true, false, flat_map};
+ghost use Rattle.std.specs.List.{list_all};
 ghost use Rattle.uriparse_text.specs.declared.parts.token.Token.{Token};
 ghost use Rattle.uriparse_text.specs.declared.parts.class.Class.{Class};
+ghost use Rattle.uriparse_text.specs.declared.parts.class.Class.TheVariants as class;
 ghost use Rattle.uriparse_text.specs.declared.parts.canonical.Case.{Case};
+ghost use Rattle.uriparse_text.specs.Bytes.{left_bracket, right_bracket};
 ghost use Rattle.uriparse_text.specs.Tokens.{is_well_formed, spell, IsConcatenation};
 ghost use Rattle.uriparse_text.specs.Faults.{fault, IsIn, IsOfClass, HasFaultAt};
 ghost use Rattle.uriparse_text.specs.Canon.{canonical, spelling};
+ghost use Rattle.uriparse_text.specs.Cuts.{lacks};
+ghost use Rattle.uriparse_text.specs.Address.{IsOctets, IsSegments, SpellsIpv4, SpellsIpv6, ipv4_text, ipv6_text, ipv4_reading, ipv6_reading, IsPrintedIpv6, is_ipv4_byte, is_ipv6_byte};
 
 /// A text has no fault exactly where it is a concatenation of tokens of the class; else its fault
 /// stands at the least place where no such token begins.
@@ -29,4 +34,49 @@ pub fn one_canonical_spelling()
     ensures border { (case : Case) (front rest : List ℕ) → is_well_formed front ≡ true → spelling case (front ++ rest) ≡ spelling case front ++ spelling case rest }
     ensures twice { (case : Case) (text : List ℕ) → is_well_formed text ≡ true → spelling case (spelling case text) ≡ spelling case text }
     ensures class { (class : Class) (case : Case) (text : List ℕ) → IsIn class text → IsIn class (spelling case text) }
+{}
+
+/// The reading of a text is the address that it spells by the grammar, if it spells one.
+pub fn exact_address_readings()
+    ensures ipv4 { (text a : List ℕ) → (ipv4_reading text ≡ Some a) ↔ SpellsIpv4 text a }
+    ensures ipv6 { (text a : List ℕ) → (ipv6_reading text ≡ Some a) ↔ SpellsIpv6 text a }
+{}
+
+/// No text spells two addresses, of one kind or of both.
+pub fn one_address()
+    ensures ipv4 { (text a b : List ℕ) → SpellsIpv4 text a → SpellsIpv4 text b → a ≡ b }
+    ensures ipv6 { (text a b : List ℕ) → SpellsIpv6 text a → SpellsIpv6 text b → a ≡ b }
+    ensures kinds { (text a b : List ℕ) → SpellsIpv4 text a → ¬ (SpellsIpv6 text b) }
+{}
+
+/// The bytes that the spellings of addresses are made of. So they lack every other byte, and an
+/// IPv4 address is spelled as a registered name too.
+pub fn spelled_bytes()
+    ensures ipv4 { (text a : List ℕ) → SpellsIpv4 text a → list_all is_ipv4_byte text ≡ true }
+    ensures ipv6 { (text a : List ℕ) → SpellsIpv6 text a → list_all is_ipv6_byte text ≡ true }
+    ensures ipv4_lacks { (text a : List ℕ) → SpellsIpv4 text a → (b : ℕ) → is_ipv4_byte b ≡ false → lacks b text ≡ true }
+    ensures ipv6_lacks { (text a : List ℕ) → SpellsIpv6 text a → (b : ℕ) → is_ipv6_byte b ≡ false → lacks b text ≡ true }
+    ensures name { (text a : List ℕ) → SpellsIpv4 text a → IsIn class.Name text }
+{}
+
+/// The printed text of an address is one of its spellings, of an IPv6 address the one that RFC 5952
+/// recommends.
+pub fn printed_spells()
+    ensures ipv4 { (a : List ℕ) → IsOctets a → SpellsIpv4 (ipv4_text a) a }
+    ensures ipv6 { (a : List ℕ) → IsSegments a → SpellsIpv6 (ipv6_text a) a }
+    ensures form { (a : List ℕ) → IsPrintedIpv6 a (ipv6_text a) }
+{}
+
+/// Addresses that are printed alike are equal, and of one kind.
+pub fn one_printed_text()
+    ensures ipv4 { (a b : List ℕ) → IsOctets a → IsOctets b → ipv4_text a ≡ ipv4_text b → a ≡ b }
+    ensures ipv6 { (a b : List ℕ) → IsSegments a → IsSegments b → ipv6_text a ≡ ipv6_text b → a ≡ b }
+    ensures kinds { (a b : List ℕ) → IsOctets a → IsSegments b → ¬ (ipv4_text a ≡ ipv6_text b) }
+{}
+
+/// The printed text of an address is its own canonical spelling, and so it is between brackets.
+pub fn printed_is_canonical()
+    ensures ipv4 { (case : Case) (a : List ℕ) → IsOctets a → spelling case (ipv4_text a) ≡ ipv4_text a }
+    ensures ipv6 { (case : Case) (a : List ℕ) → IsSegments a → spelling case (ipv6_text a) ≡ ipv6_text a }
+    ensures bracketed { (case : Case) (a : List ℕ) → IsSegments a → spelling case (left_bracket ∷ ipv6_text a ++ right_bracket ∷ []) ≡ left_bracket ∷ ipv6_text a ++ right_bracket ∷ [] }
 {}

@@ -1,0 +1,72 @@
+-- Reading a user name or a password is exact; which bytes they lack; and their canonical spellings.
+use Rattle.std.proofs.Common.{◌≡◌, ℕ, Bool, true, false, List, arith}
+use Rattle.std.specs.Prelude.{◌==◌, codes}
+use Rattle.std.proofs.lemmas.Bool.Decides.{nat_tests}
+use Rattle.uriparse_text.specs.declared.parts.class.Class.{Class}
+use Rattle.uriparse_text.specs.declared.parts.class.Class.TheVariants as class
+use Rattle.uriparse_text.specs.declared.parts.canonical.Case.TheVariants.{Kept}
+use Rattle.uriparse_text.specs.Bytes.{colon, percent, is_among, is_hex, is_unreserved, is_sub_delim}
+use Rattle.uriparse_text.specs.Classes.{is_plain}
+use Rattle.uriparse_text.specs.Faults.{IsIn}
+use Rattle.uriparse_text.specs.Canon.{canon}
+use Rattle.uriparse_text.specs.Cuts.{lacks}
+use Rattle.uriparse_text.specs.Readings.{reading_in}
+use Rattle.uriparse_text.proofs.ClassLemmas.{IsIn-spelling}
+use Rattle.uriparse_text.proofs.CutLemmas.{lacks-in_class}
+use Rattle.uriparse_text.proofs.ReadingLemmas.{IsExact, exact_in}
+use Rattle.uriparse_authority.specs.Username as username
+use Rattle.uriparse_authority.specs.Password as password
+
+-- ---- the readings are exact
+
+exact_pairs : {E : Type 0} (class : Class) (error : ℕ → E) → IsExact (λ t x. (x ≡ t) × IsIn class t) (reading_in class error)
+exact_pairs class error =
+    let exact = exact_in class error in
+    record {
+      again = λ t x is. exact.again t x (record { same = is.0; fine = is.1 });
+      found = λ t x h. let is = exact.found t x h in (is.same, is.fine);
+    }
+
+pub username_exact : IsExact username.Spells username.reading
+username_exact = exact_pairs class.Name username.error_of
+
+pub password_exact : IsExact password.Spells password.reading
+password_exact = exact_pairs class.UserInfo password.error_of
+
+-- ---- the bytes that they lack
+
+-- gen-delims = ":" / "/" / "?" / "#" / "[" / "]" / "@"
+abbrev pub is_gen_delim : ℕ → Bool
+is_gen_delim b = is_among (codes ":/?#[]@") b
+
+gen_delim_not_percent : (b : ℕ) → is_gen_delim b ≡ true → (percent == b) ≡ false
+gen_delim_not_percent b h = grind (arith, nat_tests)
+
+gen_delim_not_hex : (b : ℕ) → is_gen_delim b ≡ true → is_hex b ≡ false
+gen_delim_not_hex b h = grind (arith, nat_tests)
+
+gen_delim_not_name : (b : ℕ) → is_gen_delim b ≡ true → is_plain class.Name b ≡ false
+unfolding is_plain is_unreserved is_sub_delim
+gen_delim_not_name b h = grind (arith, nat_tests)
+
+gen_delim_not_user_info : (b : ℕ) → is_gen_delim b ≡ true → (b == colon) ≡ false → is_plain class.UserInfo b ≡ false
+unfolding is_plain is_unreserved is_sub_delim
+gen_delim_not_user_info b h other = grind (arith, nat_tests)
+
+-- a user name has none of the standard's general delimiters
+pub username_lacks : (b : ℕ) → is_gen_delim b ≡ true → (t : List ℕ) → username.IsUsername t → lacks b t ≡ true
+username_lacks b h t is =
+    lacks-in_class class.Name b (gen_delim_not_name b h) (gen_delim_not_percent b h) (gen_delim_not_hex b h) t is
+
+-- and a password none but the colon
+pub password_lacks : (b : ℕ) → is_gen_delim b ≡ true → (b == colon) ≡ false → (t : List ℕ) → password.IsPassword t → lacks b t ≡ true
+password_lacks b h other t is =
+    lacks-in_class class.UserInfo b (gen_delim_not_user_info b h other) (gen_delim_not_percent b h) (gen_delim_not_hex b h) t is
+
+-- ---- canonical spellings
+
+pub IsUsername-canon : (t : List ℕ) → username.IsUsername t → username.IsUsername (canon t)
+IsUsername-canon t is = IsIn-spelling class.Name Kept t is
+
+pub IsPassword-canon : (t : List ℕ) → password.IsPassword t → password.IsPassword (canon t)
+IsPassword-canon t is = IsIn-spelling class.UserInfo Kept t is

@@ -1,0 +1,296 @@
+-- Which references are the same, by their pieces.
+use Rattle.std.proofs.Common.{◌≡◌, ◌↔◌, ℕ, Bool, true, false, ◌&&◌, ◌||◌, List, [], ◌∷◌, ◌++◌, fold, map, Option, Some, None, refl, sym, ap, ◌∙◌, subst, arith}
+use Rattle.std.specs.Prelude.{not, ◌==◌, IfSome, IsTrue, bytes_eq, cond}
+use Rattle.std.specs.Ordering.{on}
+use Rattle.std.specs.Option.{option_map, option_eq}
+use Rattle.std.specs.List.{flat_map, list_all}
+use Rattle.std.specs.Hash.{HashWrites, option}
+use Rattle.std.specs.Char.{to_ascii_uppercase}
+use Rattle.std.proofs.lemmas.Bool.{and_parts, and_from}
+use Rattle.std.proofs.lemmas.Bool.Decides.{nat_tests, same_from_decides}
+use Rattle.std.proofs.lemmas.Slice.Eq.{bytes_eq-Decides}
+use Rattle.std.proofs.lemmas.Grind.{fold-append}
+use Rattle.uriparse_text.specs.declared.parts.token.Token.{Token}
+use Rattle.uriparse_text.specs.declared.parts.token.Token.TheVariants.{Byte, Escape}
+use Rattle.uriparse_text.specs.declared.parts.class.Class.TheVariants.{Query}
+use Rattle.uriparse_text.specs.declared.parts.canonical.Case.TheVariants.{Kept}
+use Rattle.uriparse_text.specs.Bytes.{colon, is_hex, is_unreserved}
+use Rattle.uriparse_text.specs.Cuts.{lacks, up_to}
+use Rattle.uriparse_text.specs.Tokens.{tokens, spell, has_digits}
+use Rattle.uriparse_text.specs.Canon.{canonical, escaped_byte, canon, fed_spelling}
+use Rattle.uriparse_text.specs.Query.{IsQuery}
+use Rattle.uriparse_text.proofs.TokenLemmas.{spell-tokens, digits-tokens}
+use Rattle.uriparse_text.proofs.CanonLemmas.{by_escaped, spell-canonical, upper_digit}
+use Rattle.uriparse_text.proofs.ClassLemmas.{IsIn-spelling}
+use Rattle.uriparse_path.specs.Path.{PathParts, IsPath, is_slash, is_rooted, has_two_slashes}
+use Rattle.uriparse_path.specs.Path as path
+use Rattle.uriparse_path.proofs.CanonicalLemmas.{is_path-canon, is_rooted-canon, has_two_slashes-canon}
+use Rattle.uriparse_authority.specs.Authority as authority
+use Rattle.uriparse_authority.specs.Authority.{AuthorityParts}
+use Rattle.uriparse_authority.specs.Host as host
+use Rattle.uriparse_authority.proofs.AuthorityLemmas as authorities
+use Rattle.uriparse_authority.proofs.AuthorityLemmas.{LacksEnds}
+use Rattle.uriparse_scheme.specs.declared.scheme.Scheme.{Scheme}
+use Rattle.uriparse_scheme.specs.Scheme as scheme
+use Rattle.uriparse_scheme.proofs.SchemeLemmas as schemes
+use Rattle.uriparse_scheme.proofs.GrammarLemmas.{is_scheme-canon_low}
+use Rattle.uriparse_reference.specs.Reference.{Parts, is_abempty, is_noscheme, fits, Valid, Same, scheme_part, authority_part, print, cprint, kind}
+use Rattle.uriparse_reference.specs.Cuts.{scheme_text, authority_text, path_text, query_text, fragment_text}
+use Rattle.uriparse_reference.specs.Key.{kind_code, key, fed_pieces, fed, each_alike}
+use Rattle.uriparse_reference.proofs.ReferenceLemmas.{IsCutInto, cut_again}
+
+-- ---- a path's canonical spelling stands where the path may stand
+
+plain_ends : (b : ℕ) → is_unreserved b ≡ true → (is_slash b ≡ false) × ((b == colon) ≡ false)
+unfolding is_unreserved
+plain_ends b h = (grind (arith, nat_tests), grind (arith, nat_tests))
+
+digit_ends : (b : ℕ) → is_hex b ≡ true → (is_slash b ≡ false) × ((b == colon) ≡ false)
+digit_ends b h = (grind (arith, nat_tests), grind (arith, nat_tests))
+
+-- an escape has neither a colon nor a slash, as it stands and in its canonical form
+past_escape : (high low : ℕ) (rest : List ℕ) → is_hex high ≡ true → is_hex low ≡ true → is_noscheme (spell (Escape high low) ++ rest) ≡ is_noscheme rest
+past_escape high low rest h l =
+    let x = digit_ends high h in
+    let y = digit_ends low l in
+    rw (x.0, x.1, y.0, y.1) refl
+
+past_plain : (b : ℕ) (rest : List ℕ) → is_unreserved b ≡ true → is_noscheme (b ∷ rest) ≡ is_noscheme rest
+past_plain b rest h = let x = plain_ends b h in rw (x.0, x.1) refl
+
+past_byte : (b : ℕ) (u v : List ℕ) → is_noscheme u ≡ is_noscheme v → is_noscheme (b ∷ u) ≡ is_noscheme (b ∷ v)
+past_byte b u v e = elim (is_slash b) as (λ w. lacks colon (cond w [] (b ∷ up_to is_slash u)) ≡ lacks colon (cond w [] (b ∷ up_to is_slash v))) [ true ↦ refl | false ↦ ap (λ w. not (b == colon) && w) e ]
+
+noscheme-tokens : (ts : List Token) → list_all has_digits ts ≡ true → is_noscheme (flat_map spell (map (canonical Kept) ts)) ≡ is_noscheme (flat_map spell ts)
+noscheme-tokens [] h = refl
+noscheme-tokens (Byte b ∷ ts) h = past_byte b (flat_map spell (map (canonical Kept) ts)) (flat_map spell ts) (noscheme-tokens ts h)
+noscheme-tokens (Escape high low ∷ ts) h =
+    let both = and_parts _ _ h in
+    let digits = and_parts _ _ both.0 in
+    by_escaped Kept high low (λ t. is_noscheme (spell t ++ flat_map spell (map (canonical Kept) ts)) ≡ is_noscheme (flat_map spell (map (canonical Kept) ts)))
+    (λ e. past_plain (escaped_byte high low) (flat_map spell (map (canonical Kept) ts)) e)
+    (λ e. past_escape (to_ascii_uppercase high) (to_ascii_uppercase low) (flat_map spell (map (canonical Kept) ts)) (upper_digit high digits.0) (upper_digit low digits.1))
+    ∙ noscheme-tokens ts both.1
+    ∙ sym (past_escape high low (flat_map spell ts) digits.0 digits.1)
+
+noscheme-canon : (h : List ℕ) → is_noscheme (canon h) ≡ is_noscheme h
+noscheme-canon h = ap is_noscheme (sym (spell-canonical Kept h)) ∙ noscheme-tokens (tokens h) (digits-tokens h) ∙ ap is_noscheme (spell-tokens h)
+
+abbrev is_empty : List ℕ → Bool
+is_empty [] = true
+is_empty (b ∷ t) = false
+
+abempty-by : (h : List ℕ) → is_abempty h ≡ (is_empty h || is_rooted h)
+abempty-by [] = refl
+abempty-by (b ∷ t) = refl
+
+empty-token : (t : Token) (u : List ℕ) → is_empty (spell t ++ u) ≡ false
+empty-token (Byte b) u = refl
+empty-token (Escape high low) u = refl
+
+empty-tokens : (ts : List Token) → is_empty (flat_map spell (map (canonical Kept) ts)) ≡ is_empty (flat_map spell ts)
+empty-tokens [] = refl
+empty-tokens (t ∷ ts) = empty-token (canonical Kept t) (flat_map spell (map (canonical Kept) ts)) ∙ sym (empty-token t (flat_map spell ts))
+
+abempty-canon : (h : List ℕ) → is_abempty (canon h) ≡ is_abempty h
+abempty-canon h =
+    let e : is_empty (canon h) ≡ is_empty h = ap is_empty (sym (spell-canonical Kept h)) ∙ empty-tokens (tokens h) ∙ ap is_empty (spell-tokens h) in
+    abempty-by (canon h) ∙ ap (λ v. v || is_rooted (canon h)) e ∙ ap (λ v. is_empty h || v) (is_rooted-canon h) ∙ sym (abempty-by h)
+
+-- only whether scheme and authority are present counts
+fits-canon : {S A : Type 0} (f g : S → List ℕ) (k l : A → List ℕ) (s : Option S) (a : Option A) (h : List ℕ) → fits (option_map f s) (option_map k a) (canon h) ≡ fits (option_map g s) (option_map l a) h
+fits-canon f g k l None (Some a) h = abempty-canon h
+fits-canon f g k l (Some s) (Some a) h = abempty-canon h
+fits-canon f g k l (Some s) None h = ap not (has_two_slashes-canon h)
+fits-canon f g k l None None h = rw (has_two_slashes-canon h, is_rooted-canon h, noscheme-canon h) refl
+
+-- ---- the printed and the canonical text are cut into the parts' own texts
+
+scheme_is : (s : Option Scheme) → IfSome s scheme.Valid → IfSome (option_map scheme.text s) (λ t. scheme.is_scheme t ≡ true)
+scheme_is None v = tt
+scheme_is (Some s) v = schemes.is_scheme-text s v
+
+scheme_canonical : (s : Option Scheme) → IfSome s scheme.Valid → IfSome (option_map scheme.canonical_text s) (λ t. scheme.is_scheme t ≡ true)
+scheme_canonical None v = tt
+scheme_canonical (Some s) v = is_scheme-canon_low (scheme.text s) (schemes.is_scheme-text s v)
+
+authority_lacks : (a : Option AuthorityParts) → IfSome a authority.Valid → IfSome (option_map authority.print a) LacksEnds
+authority_lacks None v = tt
+authority_lacks (Some a) v = authorities.print_lacks a v
+
+authority_canonical : (a : Option AuthorityParts) → IfSome a authority.Valid → IfSome (option_map authority.cprint a) LacksEnds
+authority_canonical None v = tt
+authority_canonical (Some a) v = authorities.cprint_lacks a v
+
+query_canonical : (q : Option (List ℕ)) → IfSome q IsQuery → IfSome (option_map canon q) IsQuery
+query_canonical None v = tt
+query_canonical (Some q) v = IsIn-spelling Query Kept q v
+
+pub print_cut : (p : Parts) → Valid p → IsCutInto (print p) (scheme_part p) (authority_part p) (path.text p.path) p.query p.fragment
+print_cut p v = cut_again (print p) (scheme_part p) (authority_part p) (path.text p.path) p.query p.fragment (record {
+  is_scheme = scheme_is p.scheme v.is_scheme;
+  is_authority = authority_lacks p.authority v.is_authority;
+  is_path = v.is_path;
+  fit = v.fit;
+  is_query = v.is_query;
+}) refl
+
+pub cprint_cut : (p : Parts) → Valid p → IsCutInto (cprint p) (option_map scheme.canonical_text p.scheme) (option_map authority.cprint p.authority) (canon (path.text p.path)) (option_map canon p.query) (option_map canon p.fragment)
+cprint_cut p v = cut_again (cprint p) (option_map scheme.canonical_text p.scheme) (option_map authority.cprint p.authority) (canon (path.text p.path)) (option_map canon p.query) (option_map canon p.fragment) (record {
+  is_scheme = scheme_canonical p.scheme v.is_scheme;
+  is_authority = authority_canonical p.authority v.is_authority;
+  is_path = is_path-canon (path.text p.path) v.is_path;
+  fit = fits-canon scheme.canonical_text scheme.text authority.cprint authority.print p.scheme p.authority (path.text p.path) ∙ v.fit;
+  is_query = query_canonical p.query v.is_query;
+}) refl
+
+-- ---- references that print alike
+
+same_scheme : (s r : Option Scheme) → IfSome s scheme.Valid → IfSome r scheme.Valid → option_map scheme.text s ≡ option_map scheme.text r → s ≡ r
+same_scheme None None v w e = refl
+same_scheme None (Some r) v w e = absurd (cc)
+same_scheme (Some s) None v w e = absurd (cc)
+same_scheme (Some s) (Some r) v w e =
+    let texts : scheme.text s ≡ scheme.text r = cc in
+    ap Some (schemes.one_scheme (scheme.text s) s r (schemes.spells_back s v) (subst (λ t. scheme.Spells t r) (sym texts) (schemes.spells_back r w)))
+
+same_authority : (a b : Option AuthorityParts) → IfSome a authority.Valid → IfSome b authority.Valid → option_map authority.print a ≡ option_map authority.print b → option_map authority.kind a ≡ option_map authority.kind b → option_map authority.cprint a ≡ option_map authority.cprint b
+same_authority None None v w e k = refl
+same_authority None (Some b) v w e k = absurd (cc)
+same_authority (Some a) None v w e k = absurd (cc)
+same_authority (Some a) (Some b) v w e k =
+    let texts : authority.print a ≡ authority.print b = cc in
+    let kinds : authority.kind a ≡ authority.kind b = cc in
+    ap Some (authorities.alike a b v w texts kinds)
+
+pub alike : (p q : Parts) → Valid p → Valid q → print p ≡ print q → kind p ≡ kind q → Same p q
+alike p q v w e k =
+    let x = print_cut p v in
+    let y = print_cut q w in
+    let s : scheme_part p ≡ scheme_part q = sym x.scheme ∙ ap scheme_text e ∙ y.scheme in
+    let a : authority_part p ≡ authority_part q = sym x.authority ∙ ap authority_text e ∙ y.authority in
+    let h : path.text p.path ≡ path.text q.path = sym x.path ∙ ap path_text e ∙ y.path in
+    let r : p.query ≡ q.query = sym x.query ∙ ap query_text e ∙ y.query in
+    let f : p.fragment ≡ q.fragment = sym x.fragment ∙ ap fragment_text e ∙ y.fragment in
+    record { spelling = rw (same_scheme p.scheme q.scheme v.is_scheme w.is_scheme s, same_authority p.authority q.authority v.is_authority w.is_authority a k, h, r, f) refl; kinds = k }
+
+-- ---- one key, and the test of the parts one by one
+
+code_kind : (k l : host.Kind) → host.kind_code k ≡ host.kind_code l → k ≡ l
+code_kind host.Name host.Name e = refl
+
+same_kind : (k l : Option host.Kind) → kind_code k ≡ kind_code l → k ≡ l
+same_kind None None e = refl
+same_kind None (Some host.Name) e = absurd (cc)
+same_kind (Some host.Name) None e = absurd (cc)
+same_kind (Some k) (Some l) e = ap Some (code_kind k l e)
+
+pub same_key : (p q : Parts) → (key p ≡ key q) ↔ Same p q
+same_key p q = (
+  (λ e. let codes : kind_code (kind p) ≡ kind_code (kind q) = cc in
+      let texts : cprint p ≡ cprint q = cc in
+      record { spelling = texts; kinds = same_kind (kind p) (kind q) codes }),
+  (λ s. rw (s.spelling, s.kinds) refl),
+)
+
+-- a part is in both or in neither, and has one text
+same_option : {A : Type 0} (f : A → List ℕ) (x y : Option A) → IsTrue (option_eq (on f bytes_eq) x y) ↔ (option_map f x ≡ option_map f y)
+same_option f None None = ((λ e. refl), (λ e. refl))
+same_option f None (Some y) = ((λ e. absurd (cc)), (λ e. absurd (cc)))
+same_option f (Some x) None = ((λ e. absurd (cc)), (λ e. absurd (cc)))
+same_option f (Some x) (Some y) =
+    let test = bytes_eq-Decides (f x) (f y) in
+    ((λ e. ap Some (test.0 e)), (λ e. let texts : f x ≡ f y = cc in test.1 texts))
+
+authority_keys : (a b : Option AuthorityParts) → (option_map authority.key a ≡ option_map authority.key b) ↔ ((option_map authority.cprint a ≡ option_map authority.cprint b) × (kind_code (option_map authority.kind a) ≡ kind_code (option_map authority.kind b)))
+authority_keys None None = ((λ e. (refl, refl)), (λ e. refl))
+authority_keys None (Some b) = ((λ e. absurd (cc)), (λ e. let no = e.0 in absurd (cc)))
+authority_keys (Some a) None = ((λ e. absurd (cc)), (λ e. let no = e.0 in absurd (cc)))
+authority_keys (Some a) (Some b) = (
+  (λ e. let codes : host.kind_code (authority.kind a) ≡ host.kind_code (authority.kind b) = cc in
+      let texts : authority.cprint a ≡ authority.cprint b = cc in
+      (ap Some texts, codes)),
+  (λ e. let shown = e.0 in let texts : authority.cprint a ≡ authority.cprint b = cc in rw (texts, e.1) refl),
+)
+
+to_key : (p q : Parts) → IsTrue (each_alike p q) → key p ≡ key q
+to_key p q e =
+    let x = and_parts _ _ e in
+    let y = and_parts _ _ x.1 in
+    let z = and_parts _ _ y.1 in
+    let w = and_parts _ _ z.1 in
+    let s = (same_option scheme.canonical_text p.scheme q.scheme).0 x.0 in
+    let a = (authority_keys p.authority q.authority).0 ((same_option authority.key p.authority q.authority).0 y.0) in
+    let h = (bytes_eq-Decides (canon (path.text p.path)) (canon (path.text q.path))).0 z.0 in
+    let r = (same_option canon p.query q.query).0 w.0 in
+    let f = (same_option canon p.fragment q.fragment).0 w.1 in
+    rw (a.1, s, a.0, h, r, f) refl
+
+from_key : (p q : Parts) → Valid p → Valid q → key p ≡ key q → IsTrue (each_alike p q)
+from_key p q v w e =
+    let codes : kind_code (kind p) ≡ kind_code (kind q) = cc in
+    let texts : cprint p ≡ cprint q = cc in
+    let x = cprint_cut p v in
+    let y = cprint_cut q w in
+    let a : option_map authority.cprint p.authority ≡ option_map authority.cprint q.authority = sym x.authority ∙ ap authority_text texts ∙ y.authority in
+    and_from _ _ ((same_option scheme.canonical_text p.scheme q.scheme).1 (sym x.scheme ∙ ap scheme_text texts ∙ y.scheme))
+    (and_from _ _ ((same_option authority.key p.authority q.authority).1 ((authority_keys p.authority q.authority).1 (a, codes)))
+    (and_from _ _ ((bytes_eq-Decides (canon (path.text p.path)) (canon (path.text q.path))).1 (sym x.path ∙ ap path_text texts ∙ y.path))
+    (and_from _ _ ((same_option canon p.query q.query).1 (sym x.query ∙ ap query_text texts ∙ y.query))
+    ((same_option canon p.fragment q.fragment).1 (sym x.fragment ∙ ap fragment_text texts ∙ y.fragment)))))
+
+pub tested : (p q : Parts) → Valid p → Valid q → each_alike p q ≡ bytes_eq (key p) (key q)
+tested p q v w = same_from_decides (each_alike p q) (bytes_eq (key p) (key q)) (to_key p q, from_key p q v w) (bytes_eq-Decides (key p) (key q))
+
+-- ---- what a hasher is fed, part by part
+
+fed_option : {A : Type 0} (f : A → List ℕ) (g : List ℕ → HashWrites) (x : Option A) → option g (option_map f x) ≡ option (λ y. g (f y)) x
+fed_option f g None = refl
+fed_option f g (Some x) = refl
+
+fed_authority : (a : Option AuthorityParts) → option (λ t. authority.fed (kind_code (option_map authority.kind a) ∷ t)) (option_map authority.cprint a) ≡ option (λ b. authority.fed (authority.key b)) a
+fed_authority None = refl
+fed_authority (Some a) = refl
+
+fed_cut : (code : ℕ) (t : List ℕ) (s a : Option (List ℕ)) (h : List ℕ) (q f : Option (List ℕ)) → IsCutInto t s a h q f → fed (code ∷ t) ≡ fed_pieces code s a h q f
+fed_cut code t s a h q f cut =
+    ap (λ x. fed_pieces code x (authority_text t) (path_text t) (query_text t) (fragment_text t)) cut.scheme
+    ∙ ap (λ x. fed_pieces code s x (path_text t) (query_text t) (fragment_text t)) cut.authority
+    ∙ ap (λ x. fed_pieces code s a x (query_text t) (fragment_text t)) cut.path
+    ∙ ap (λ x. fed_pieces code s a h x (fragment_text t)) cut.query
+    ∙ ap (λ x. fed_pieces code s a h q x) cut.fragment
+
+pub fed_parts : (p : Parts) → Valid p → fed (key p)
+    ≡ option (λ s. fed_spelling (scheme.canonical_text s)) p.scheme
+    ++ (option (λ a. authority.fed (authority.key a)) p.authority
+    ++ (fed_spelling (canon (path.text p.path))
+    ++ (option (λ q. fed_spelling (canon q)) p.query
+    ++ option (λ f. fed_spelling (canon f)) p.fragment)))
+fed_parts p v =
+    fed_cut (kind_code (kind p)) (cprint p) (option_map scheme.canonical_text p.scheme) (option_map authority.cprint p.authority) (canon (path.text p.path)) (option_map canon p.query) (option_map canon p.fragment) (cprint_cut p v)
+    ∙ rw (fed_option scheme.canonical_text fed_spelling p.scheme, fed_authority p.authority, fed_option canon fed_spelling p.query, fed_option canon fed_spelling p.fragment) refl
+
+-- five lists of writes, one after another
+fed_in_turn : {S : Type 0} (write : S → List ℕ → S) (s : S) (a b c d e : HashWrites) → fold write (fold write (fold write (fold write (fold write s a) b) c) d) e ≡ fold write s (a ++ (b ++ (c ++ (d ++ e))))
+fed_in_turn write s a b c d e =
+    sym (fold-append write s a (b ++ (c ++ (d ++ e)))
+    ∙ fold-append write (fold write s a) b (c ++ (d ++ e))
+    ∙ fold-append write (fold write (fold write s a) b) c (d ++ e)
+    ∙ fold-append write (fold write (fold write (fold write s a) b) c) d e)
+
+-- the parts are fed one after another
+pub fed_by_turns : {S : Type 0} (write : S → List ℕ → S) (s₀ s₁ s₂ s₃ s₄ s₅ : S) (p : Parts) → Valid p
+    → s₁ ≡ fold write s₀ (option (λ s. fed_spelling (scheme.canonical_text s)) p.scheme)
+    → s₂ ≡ fold write s₁ (option (λ a. authority.fed (authority.key a)) p.authority)
+    → s₃ ≡ fold write s₂ (fed_spelling (canon (path.text p.path)))
+    → s₄ ≡ fold write s₃ (option (λ q. fed_spelling (canon q)) p.query)
+    → s₅ ≡ fold write s₄ (option (λ f. fed_spelling (canon f)) p.fragment)
+    → s₅ ≡ fold write s₀ (fed (key p))
+fed_by_turns write s₀ s₁ s₂ s₃ s₄ s₅ p v a b c d e =
+    rw (e, d, c, b, a) (fed_in_turn write s₀
+    (option (λ s. fed_spelling (scheme.canonical_text s)) p.scheme)
+    (option (λ x. authority.fed (authority.key x)) p.authority)
+    (fed_spelling (canon (path.text p.path)))
+    (option (λ q. fed_spelling (canon q)) p.query)
+    (option (λ f. fed_spelling (canon f)) p.fragment)
+    ∙ sym (ap (fold write s₀) (fed_parts p v)))

@@ -1,0 +1,44 @@
+-- What references are compared and hashed by.
+use Rattle.std.specs.Prelude.{ℕ, Bool, ◌&&◌, List, [], ◌∷◌, ◌++◌, Option, Some, None, bytes_eq}
+use Rattle.std.specs.Option.{option_eq}
+use Rattle.std.specs.Ordering.{on}
+use Rattle.std.specs.Hash.{HashWrites, option}
+use Rattle.uriparse_text.specs.Canon.{canon, fed_spelling}
+use Rattle.uriparse_path.specs.Path as path
+use Rattle.uriparse_authority.specs.Authority as authority
+use Rattle.uriparse_authority.specs.Host as host
+use Rattle.uriparse_scheme.specs.Scheme as scheme
+use Rattle.uriparse_reference.specs.Reference.{Parts, cprint, kind}
+use Rattle.uriparse_reference.specs.Cuts.{scheme_text, authority_text, path_text, query_text, fragment_text}
+
+-- a number for the kind of the host, and another where there is none
+abbrev pub kind_code : Option host.Kind → ℕ
+kind_code None = 0
+kind_code (Some k) = host.kind_code k
+
+-- the kind of the host, and then the canonical text: references are the same exactly where they have one key
+abbrev pub key : Parts → List ℕ
+key p = kind_code (kind p) ∷ cprint p
+
+-- what a hasher is fed for these pieces of a canonical text, with the code of the host's kind
+abbrev pub fed_pieces : ℕ → Option (List ℕ) → Option (List ℕ) → List ℕ → Option (List ℕ) → Option (List ℕ) → HashWrites
+fed_pieces code s a h q f =
+    option fed_spelling s
+    ++ (option (λ t. authority.fed (code ∷ t)) a
+    ++ (fed_spelling h
+    ++ (option fed_spelling q
+    ++ option fed_spelling f)))
+
+-- what a hasher is fed for the reference with this key: the pieces into which the canonical text is cut
+abbrev pub fed : List ℕ → HashWrites
+fed [] = []
+fed (code ∷ t) = fed_pieces code (scheme_text t) (authority_text t) (path_text t) (query_text t) (fragment_text t)
+
+-- whether each part is spelled like the other's, and the hosts are of one kind
+abbrev pub each_alike : Parts → Parts → Bool
+each_alike p q =
+    option_eq (on scheme.canonical_text bytes_eq) p.scheme q.scheme
+    && (option_eq (on authority.key bytes_eq) p.authority q.authority
+    && (bytes_eq (canon (path.text p.path)) (canon (path.text q.path))
+    && (option_eq (on canon bytes_eq) p.query q.query
+    && option_eq (on canon bytes_eq) p.fragment q.fragment)))

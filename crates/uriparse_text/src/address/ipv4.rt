@@ -1,0 +1,73 @@
+//! IPv4 addresses: `IPv4address` of RFC 3986, section 3.2.2.
+ghost use Rattle.std.specs.Prelude.{◌≡◌, ℕ, List, [], ◌∷◌, Some, IfSome};
+ghost use Rattle.uriparse_text.specs.Address.{IsOctets, SpellsIpv4, ipv4_text, ipv4_reading};
+
+use std::marker::Model;
+use std::{fmt, net};
+
+/// An IPv4 address: four octets.
+///
+/// It is read from four decimal numbers of at most 255, with no leading zeros and with dots between
+/// them, and printed as that text. No other text spells it. It holds no text, and takes no memory.
+///
+/// ```
+/// let address = Ipv4Addr::parse_bytes(b"127.0.0.1");
+/// assert!(address == Some(Ipv4Addr::new(127, 0, 0, 1)));
+/// assert!(Ipv4Addr::parse_bytes(b"127.0.0.01").is_none());
+/// ```
+#[derive(Clone, Copy, Debug, PartialEq, Eq, Hash)]
+pub struct Ipv4Addr {
+    octets: [u8; 4],
+}
+
+impl Model for Ipv4Addr {
+    ghost Value = { List ℕ };
+
+    ghost view = { λ a. a.octets };
+
+    ghost invariant = { λ a. IsOctets a.octets };
+
+    ghost inverse = { λ octets. record { octets = octets } };
+}
+
+impl Ipv4Addr {
+    /// The address `a.b.c.d`.
+    pub fn new(a: u8, b: u8, c: u8, d: u8) -> Ipv4Addr
+        ensures { result ≡ a ∷ b ∷ c ∷ d ∷ [] }
+    {
+        Ipv4Addr {
+            octets: [a, b, c, d],
+        }
+    }
+
+    /// The four octets, as they stand in the text from left to right.
+    pub fn octets(&self) -> [u8; 4]
+        ensures value { result ≡ self.now }
+        ensures octets { IsOctets self.now }
+    {
+        self.octets
+    }
+
+    /// The address that the bytes spell, all of them, or `None` where they spell none. Takes no
+    /// memory.
+    pub fn parse_bytes(bytes: &[u8]) -> Option<Ipv4Addr>
+        ensures value { result ≡ ipv4_reading bytes.now }
+        ensures found { IfSome result (SpellsIpv4 bytes.now) }
+        ensures only { (a : List ℕ) → SpellsIpv4 bytes.now a → result ≡ Some a }
+    {
+        match net::Ipv4Addr::parse_ascii(bytes) {
+            Ok(address) => Some(Ipv4Addr {
+                octets: address.octets(),
+            }),
+            Err(_) => None,
+        }
+    }
+}
+
+impl fmt::Display for Ipv4Addr {
+    ghost output = { λ a. Some (ipv4_text a) };
+
+    fn fmt<W: fmt::Write>(&self, f: &mut fmt::Formatter<W>) -> fmt::Result {
+        fmt::Display::fmt(&net::Ipv4Addr::from_octets(self.octets), f)
+    }
+}
