@@ -3,6 +3,7 @@
 
 mod failure;
 mod parse;
+mod part;
 mod run;
 mod tail;
 

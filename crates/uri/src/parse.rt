@@ -1,27 +1,39 @@
 //! `uri parse TEXT`: the parts of a reference.
 
 use crate::failure::Failure;
+use crate::part::print_part;
 use std::alloc::Global;
 use std::io::Write;
-use uriparse_authority::authority::Host;
+use uriparse_authority::authority::{Authority, Host};
 use uriparse_reference::uri_reference::URIReference;
 
 /// Prints the reference, its path, and its other parts where it has them, a line each.
 pub fn parse<O: Write>(alloc: Global, text: &str, out: &mut O) -> Result<(), Failure> {
     let reference = URIReference::try_from_str(alloc, text)?;
     writeln!(out, "{reference}")?;
-    if let Some(scheme) = reference.scheme() {
-        writeln!(out, "scheme={scheme}")?;
+    print_part("scheme", reference.scheme(), out)?;
+    if let Some(authority) = reference.authority() {
+        print_authority(authority, out)?;
     }
-    if let Some(Host::RegisteredName(name)) = reference.host() {
-        writeln!(out, "host.name={name}")?;
+    print_part("path", Some(reference.path()), out)?;
+    print_part("query", reference.query(), out)?;
+    print_part("fragment", reference.fragment(), out)
+}
+
+/// Prints the host, and the authority's other parts where it has them, a line each.
+fn print_authority<O: Write>(authority: &Authority<'_>, out: &mut O) -> Result<(), Failure> {
+    print_part("username", authority.username(), out)?;
+    print_part("password", authority.password(), out)?;
+    let host = authority.host();
+    print_part(host_name(host), Some(host), out)?;
+    print_part("port", authority.port().as_ref(), out)
+}
+
+/// What a line calls a host of this kind.
+fn host_name(host: &Host<'_>) -> &'static str {
+    match host {
+        Host::IPv4Address(_) => "host.ipv4",
+        Host::IPv6Address(_) => "host.ipv6",
+        Host::RegisteredName(_) => "host.name",
     }
-    writeln!(out, "path={}", reference.path())?;
-    if let Some(query) = reference.query() {
-        writeln!(out, "query={query}")?;
-    }
-    if let Some(fragment) = reference.fragment() {
-        writeln!(out, "fragment={fragment}")?;
-    }
-    Ok(())
 }

@@ -1,6 +1,7 @@
 //! `uri tail TEXT`: the parts of a reference behind its authority.
 
 use crate::failure::Failure;
+use crate::part::print_part;
 use std::alloc::Global;
 use std::io::Write;
 use uriparse_path::path::Path;
@@ -23,12 +24,7 @@ pub fn tail<O: Write>(alloc: Global, text: &str, out: &mut O) -> Result<(), Fail
     let query = query.map(Query::try_from_str).transpose()?;
     let fragment = fragment.map(Fragment::try_from_str).transpose()?;
     writeln!(out, "{text}")?;
-    writeln!(out, "path={path}")?;
-    if let Some(query) = query {
-        writeln!(out, "query={query}")?;
-    }
-    if let Some(fragment) = fragment {
-        writeln!(out, "fragment={fragment}")?;
-    }
-    Ok(())
+    print_part("path", Some(&path), out)?;
+    print_part("query", query.as_ref(), out)?;
+    print_part("fragment", fragment.as_ref(), out)
 }

@@ -1,3 +1,5 @@
 pub mod UserLemmas
 pub mod PortLemmas
+pub mod HostLemmas
+pub mod CutLemmas
 pub mod AuthorityLemmas

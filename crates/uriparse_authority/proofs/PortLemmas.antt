@@ -1,9 +1,9 @@
 -- Reading a port is exact, and a printed port reads back.
-use Rattle.std.proofs.Common.{◌≡◌, ℕ, ◌+◌, ◌-◌, ◌*◌, ◌<◌, ◌≤◌, Bool, true, false, not, ◌&&◌, cond, List, [], ◌∷◌, length, get_or, drop, drop-cons, add-one, Option, Some, None, Ok, refl, sym, ap, ◌∙◌, arith}
+use Rattle.std.proofs.Common.{◌≡◌, ◌⊎◌, ◌↔◌, ℕ, ◌+◌, ◌-◌, ◌*◌, ◌<◌, ◌≤◌, Bool, true, false, not, ◌&&◌, cond, List, [], ◌∷◌, ◌++◌, length, get_or, drop, drop-cons, add-one, Option, Some, None, Ok, refl, sym, ap, ◌∙◌, subst, inl, inr, arith}
 use Rattle.std.specs.Prelude.{nat_le, decimal}
 use Rattle.std.specs.Char.{digit_value, is_digit, is_ascii_digit}
 use Rattle.std.specs.Str.Parse.{digits_value, digits_value_after, AllDigits}
-use Rattle.std.proofs.lemmas.Bool.{and_from, and_parts}
+use Rattle.std.proofs.lemmas.Bool.{and_from, and_parts, cases_lt}
 use Rattle.std.proofs.lemmas.Bool.Decides.{nat_tests}
 use Rattle.std.proofs.lemmas.Fmt.{decimal_is_IsNumeral, decimal_injective}
 use Rattle.uriparse_text.specs.Cuts.{lacks, up_to, from_first}
@@ -12,13 +12,16 @@ use Rattle.uriparse_text.proofs.CutLemmas.{lacks_by}
 use Rattle.uriparse_text.proofs.ReadingLemmas.{IsExact}
 use Rattle.uriparse_authority.specs.declared.authority.error.PortError.{PortError}
 use Rattle.uriparse_authority.specs.declared.authority.error.PortError.TheVariants.{InvalidCharacter, Overflow}
-use Rattle.uriparse_authority.specs.Port.{largest, IsPort, are_digits, value_of, Spells, is_other, other_fault, reading}
+use Rattle.uriparse_authority.specs.Port.{largest, IsPort, are_digits, value_of, Spells, HasOther, Passes, is_other, other_fault, fault, reading}
 
 small_test : (n : ℕ) → n ≤ largest → nat_le n largest ≡ true
 small_test n h = grind (arith, nat_tests)
 
 large_test : (n : ℕ) → largest < n → nat_le n largest ≡ false
 large_test n h = grind (arith, nat_tests)
+
+small_or_large : (n : ℕ) → (n ≤ largest) ⊎ (largest < n)
+small_or_large n = elim (cases_lt largest n) [ inl large ↦ inr large | inr small ↦ inl small ]
 
 test_small : (n : ℕ) → nat_le n largest ≡ true → n ≤ largest
 test_small n h = grind (arith, nat_tests)
@@ -47,6 +50,91 @@ pub fault_after-large : (n : ℕ) (t : List ℕ) → largest < n → fault_after
 fault_after-large n t h =
     let g = grows (up_to is_other t) n in
     rw (large_test (digits_value_after 10 n (up_to is_other t)) (omega (arith, g, h))) refl
+
+-- ---- where the fault stands
+
+-- what is read behind a front of digits, and what they write with a digit more
+behind_digits : (n : ℕ) (front left : List ℕ) → are_digits front ≡ true → fault_after n (front ++ left) ≡ fault_after (digits_value_after 10 n front) left
+behind_digits n [] left h = refl
+behind_digits n (b ∷ front) left h =
+    let both = and_parts (is_digit b 10) (are_digits front) h in
+    fault_after-digit n b (front ++ left) both.0 ∙ behind_digits (n * 10 + digit_value b) front left both.1
+
+digit_more : (n : ℕ) (front : List ℕ) (b : ℕ) → digits_value_after 10 n (front ++ b ∷ []) ≡ digits_value_after 10 n front * 10 + digit_value b
+digit_more n [] b = refl
+digit_more n (c ∷ front) b = digit_more (n * 10 + digit_value c) front b
+
+-- a faulty text behind the digits of n: digits, and then the byte at fault
+record IsAt (n : ℕ) (t : List ℕ) (AtFault : ℕ → ℕ → Type 0) : Type 0 where
+  pub front : List ℕ
+  pub byte : ℕ
+  pub left : List ℕ
+  pub whole : t ≡ front ++ byte ∷ left
+  pub digits : are_digits front ≡ true
+  pub in_range : digits_value_after 10 n front ≤ largest
+  pub at_fault : AtFault (digits_value_after 10 n front) byte
+
+abbrev IsOther : ℕ → ℕ → Type 0
+IsOther n b = is_digit b 10 ≡ false
+
+abbrev IsBeyond : ℕ → ℕ → Type 0
+IsBeyond n b = (is_digit b 10 ≡ true) × (largest < n * 10 + digit_value b)
+
+one_more : (n b : ℕ) (t : List ℕ) (AtFault : ℕ → ℕ → Type 0) → is_digit b 10 ≡ true → IsAt (n * 10 + digit_value b) t AtFault → IsAt n (b ∷ t) AtFault
+one_more n b t AtFault digit is = record { front = b ∷ is.front; byte = is.byte; left = is.left; whole = ap (λ u. b ∷ u) is.whole; digits = and_from _ _ digit is.digits; in_range = is.in_range; at_fault = is.at_fault }
+
+-- the fault, and where it stands
+abbrev IsFound : ℕ → List ℕ → Option PortError → Type 0
+IsFound n t None = Unit {0}
+IsFound n t (Some InvalidCharacter) = IsAt n t IsOther
+IsFound n t (Some Overflow) = IsAt n t IsBeyond
+
+found_more : (n b : ℕ) (t : List ℕ) (o : Option PortError) → is_digit b 10 ≡ true → IsFound (n * 10 + digit_value b) t o → IsFound n (b ∷ t) o
+found_more n b t None digit is = tt
+found_more n b t (Some InvalidCharacter) digit is = one_more n b t IsOther digit is
+found_more n b t (Some Overflow) digit is = one_more n b t IsBeyond digit is
+
+fault_found : (n : ℕ) (t : List ℕ) → n ≤ largest → IsFound n t (fault_after n t)
+fault_found n [] h = subst (IsFound n []) (sym (fault_after-nil n h)) tt
+fault_found n (b ∷ t) h = at_byte (is_digit b 10) refl (small_or_large (n * 10 + digit_value b)) (fault_found (n * 10 + digit_value b) t)
+  where
+    at_byte : (v : Bool) → is_digit b 10 ≡ v → (n * 10 + digit_value b ≤ largest) ⊎ (largest < n * 10 + digit_value b) → (n * 10 + digit_value b ≤ largest → IsFound (n * 10 + digit_value b) t (fault_after (n * 10 + digit_value b) t)) → IsFound n (b ∷ t) (fault_after n (b ∷ t))
+    at_byte false e size found = subst (IsFound n (b ∷ t)) (sym (fault_after-other n b t h e)) (record { front = []; byte = b; left = t; whole = refl; digits = refl; in_range = h; at_fault = e })
+    at_byte true e (inl small) found = subst (IsFound n (b ∷ t)) (sym (fault_after-digit n b t e)) (found_more n b t (fault_after (n * 10 + digit_value b) t) e (found small))
+    at_byte true e (inr large) found =
+        subst (IsFound n (b ∷ t)) (sym (fault_after-digit n b t e ∙ fault_after-large (n * 10 + digit_value b) t large))
+        (record { front = []; byte = b; left = t; whole = refl; digits = refl; in_range = h; at_fault = (e, large) })
+
+other_there : (t : List ℕ) → IsAt 0 t IsOther → fault_after 0 t ≡ Some InvalidCharacter
+other_there t is =
+    ap (fault_after 0) is.whole ∙ behind_digits 0 is.front (is.byte ∷ is.left) is.digits
+    ∙ fault_after-other (digits_value_after 10 0 is.front) is.byte is.left is.in_range is.at_fault
+
+beyond_there : (t : List ℕ) → IsAt 0 t IsBeyond → fault_after 0 t ≡ Some Overflow
+beyond_there t is =
+    let at_fault = is.at_fault in
+    ap (fault_after 0) is.whole ∙ behind_digits 0 is.front (is.byte ∷ is.left) is.digits
+    ∙ fault_after-digit (digits_value_after 10 0 is.front) is.byte is.left at_fault.0
+    ∙ fault_after-large (digits_value_after 10 0 is.front * 10 + digit_value is.byte) is.left at_fault.1
+
+-- a byte that is no digit is at fault where the digits before it write a port
+pub other_exactly : (t : List ℕ) → (fault t ≡ Some InvalidCharacter) ↔ HasOther t
+other_exactly t = (
+  (λ e. let is : IsAt 0 t IsOther = subst (IsFound 0 t) e (fault_found 0 t (omega arith)) in
+      record { front = is.front; byte = is.byte; left = is.left; whole = is.whole; digits = is.digits; in_range = is.in_range; other = is.at_fault }),
+  (λ is. other_there t (record { front = is.front; byte = is.byte; left = is.left; whole = is.whole; digits = is.digits; in_range = is.in_range; at_fault = is.other })),
+)
+
+-- and a digit where the digits before it write one, and with it write none
+pub passes_exactly : (t : List ℕ) → (fault t ≡ Some Overflow) ↔ Passes t
+passes_exactly t = (
+  (λ e. let is : IsAt 0 t IsBeyond = subst (IsFound 0 t) e (fault_found 0 t (omega arith)) in
+      let at_fault = is.at_fault in
+      record { front = is.front; byte = is.byte; left = is.left; whole = is.whole; digits = is.digits; in_range = is.in_range; digit = at_fault.0; beyond = subst (λ k. largest < k) (sym (digit_more 0 is.front is.byte)) at_fault.1 }),
+  (λ is. beyond_there t (record { front = is.front; byte = is.byte; left = is.left; whole = is.whole; digits = is.digits; in_range = is.in_range; at_fault = (is.digit, subst (λ k. largest < k) (digit_more 0 is.front is.byte) is.beyond) })),
+)
+
+-- ---- the fault, met byte by byte
 
 decimal_digit : (b : ℕ) → is_ascii_digit b ≡ true → is_digit b 10 ≡ true
 decimal_digit b h = grind (arith, nat_tests)

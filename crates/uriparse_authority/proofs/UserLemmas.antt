@@ -1,37 +1,17 @@
--- Reading a user name or a password is exact; which bytes they lack; and their canonical spellings.
+-- Which bytes user names and passwords lack, and their canonical spellings.
 use Rattle.std.proofs.Common.{◌≡◌, ℕ, Bool, true, false, List, arith}
 use Rattle.std.specs.Prelude.{◌==◌, codes}
 use Rattle.std.proofs.lemmas.Bool.Decides.{nat_tests}
-use Rattle.uriparse_text.specs.declared.parts.class.Class.{Class}
 use Rattle.uriparse_text.specs.declared.parts.class.Class.TheVariants as class
 use Rattle.uriparse_text.specs.declared.parts.canonical.Case.TheVariants.{Kept}
 use Rattle.uriparse_text.specs.Bytes.{colon, percent, is_among, is_hex, is_unreserved, is_sub_delim}
 use Rattle.uriparse_text.specs.Classes.{is_plain}
-use Rattle.uriparse_text.specs.Faults.{IsIn}
 use Rattle.uriparse_text.specs.Canon.{canon}
 use Rattle.uriparse_text.specs.Cuts.{lacks}
-use Rattle.uriparse_text.specs.Readings.{reading_in}
 use Rattle.uriparse_text.proofs.ClassLemmas.{IsIn-spelling}
 use Rattle.uriparse_text.proofs.CutLemmas.{lacks-in_class}
-use Rattle.uriparse_text.proofs.ReadingLemmas.{IsExact, exact_in}
 use Rattle.uriparse_authority.specs.Username as username
 use Rattle.uriparse_authority.specs.Password as password
-
--- ---- the readings are exact
-
-exact_pairs : {E : Type 0} (class : Class) (error : ℕ → E) → IsExact (λ t x. (x ≡ t) × IsIn class t) (reading_in class error)
-exact_pairs class error =
-    let exact = exact_in class error in
-    record {
-      again = λ t x is. exact.again t x (record { same = is.0; fine = is.1 });
-      found = λ t x h. let is = exact.found t x h in (is.same, is.fine);
-    }
-
-pub username_exact : IsExact username.Spells username.reading
-username_exact = exact_pairs class.Name username.error_of
-
-pub password_exact : IsExact password.Spells password.reading
-password_exact = exact_pairs class.UserInfo password.error_of
 
 -- ---- the bytes that they lack
 

@@ -1,54 +1,146 @@
--- Hosts: RFC 3986, section 3.2.2. Today every host is a registered name.
-use Rattle.std.specs.Prelude.{◌≡◌, ℕ, List, [], ◌∷◌, ◌++◌, Result, Ok, Err, is_none, if◌then◌else◌}
-use Rattle.std.specs.Hash.{HashWrites, u8}
+-- Hosts: RFC 3986, section 3.2.2.
+use Rattle.std.specs.Prelude.{◌≡◌, ℕ, Bool, false, ◌==◌, ◌&&◌, ◌||◌, List, [], ◌∷◌, ◌++◌, Option, Some, None, Result, Ok, Err, is_none, unwrap_or, codes, if◌then◌else◌}
+use Rattle.std.specs.Option.{option_map, ok_or}
+use Rattle.std.specs.List.{list_all}
+use Rattle.std.specs.Hash.{HashWrites, slice, u8, u16}
 use Rattle.uriparse_text.specs.declared.parts.class.Class.TheVariants as class
+use Rattle.uriparse_text.specs.Bytes.{left_bracket, right_bracket, colon, is_among, is_hex, is_unreserved, is_sub_delim}
 use Rattle.uriparse_text.specs.Faults.{fault}
 use Rattle.uriparse_text.specs.Canon.{canon_low, fed_spelling}
+use Rattle.uriparse_text.specs.Address.{IsOctets, IsSegments, SpellsIpv4, SpellsIpv6, is_ipv6_byte, ipv4_reading, ipv6_reading, ipv4_text, ipv6_text}
+use Rattle.uriparse_text.specs.declared.address.IpAddr.{IpAddr}
+use Rattle.uriparse_text.specs.declared.address.IpAddr.TheVariants as ip
 use Rattle.uriparse_authority.specs.Name.{IsName}
 use Rattle.uriparse_authority.specs.declared.authority.host.Host.{Host}
-use Rattle.uriparse_authority.specs.declared.authority.host.Host.TheVariants.{RegisteredName}
+use Rattle.uriparse_authority.specs.declared.authority.host.Host.TheVariants.{IPv4Address, IPv6Address, RegisteredName}
 use Rattle.uriparse_authority.specs.declared.authority.error.HostError.{HostError}
-use Rattle.uriparse_authority.specs.declared.authority.error.HostError.TheVariants.{InvalidIPv4OrRegisteredNameCharacter}
+use Rattle.uriparse_authority.specs.declared.authority.error.HostError.TheVariants.{AddressMechanismNotSupported, InvalidIPv4OrRegisteredNameCharacter, InvalidIPv6Character, InvalidIPv6Format, InvalidIPvFutureCharacter}
 
 -- what tells hosts apart besides their texts
 pub data Kind : Type 0 where
+  V4 : Kind
+  V6 : Kind
   Name : Kind
 
 abbrev pub kind : Host → Kind
+kind (IPv4Address a) = V4
+kind (IPv6Address a) = V6
 kind (RegisteredName n) = Name
+
+-- the host at an address of either kind
+abbrev pub host_at : IpAddr → Host
+host_at (ip.V4 a) = IPv4Address a
+host_at (ip.V6 a) = IPv6Address a
 
 -- a number for each kind
 abbrev pub kind_code : Kind → ℕ
+kind_code V4 = 4
+kind_code V6 = 6
 kind_code Name = 1
 
--- the text stands for the host
+-- "[" text "]"
+abbrev pub bracketed : List ℕ → List ℕ
+bracketed t = left_bracket ∷ (t ++ right_bracket ∷ [])
+
+-- The text stands for the host. A text of the class of names stands for the IPv4 address that it spells, or else for a name; an IPv6 spelling in brackets stands for its address.
 abbrev pub Spells : List ℕ → Host → Type 0
-Spells t (RegisteredName n) = (n ≡ t) × IsName t
+Spells t (IPv4Address a) = SpellsIpv4 t a
+Spells t (IPv6Address a) = (inner : List ℕ) × (t ≡ bracketed inner) × SpellsIpv6 inner a
+Spells t (RegisteredName n) = (n ≡ t) × IsName t × ((a : List ℕ) → SpellsIpv4 t a → ⊥)
 
 -- the text of a host
 abbrev pub text : Host → List ℕ
+text (IPv4Address a) = ipv4_text a
+text (IPv6Address a) = bracketed (ipv6_text a)
 text (RegisteredName n) = n
 
 -- its text in canonical spelling
 abbrev pub canonical_text : Host → List ℕ
+canonical_text (IPv4Address a) = ipv4_text a
+canonical_text (IPv6Address a) = bracketed (ipv6_text a)
 canonical_text (RegisteredName n) = canon_low n
+
+abbrev pub Valid : Host → Type 0
+Valid (IPv4Address a) = IsOctets a
+Valid (IPv6Address a) = IsSegments a
+Valid (RegisteredName n) = IsName n
+
+-- Its text stands for it. So it is but for a name whose text spells an IPv4 address.
+abbrev pub ReadsBack : Host → Type 0
+ReadsBack h = Spells (text h) h
+
+-- a name whose text spells an IPv4 address
+abbrev pub IsHiddenAddress : Host → Type 0
+IsHiddenAddress (IPv4Address a) = ⊥
+IsHiddenAddress (IPv6Address a) = ⊥
+IsHiddenAddress (RegisteredName n) = (a : List ℕ) × SpellsIpv4 n a
+
+-- ---- reading
+
+-- the text before a last closing bracket, where the text ends with one
+abbrev pub closed : List ℕ → Option (List ℕ)
+closed [] = None
+closed (b ∷ []) = if b == right_bracket then Some [] else None
+closed (b ∷ c ∷ t) = option_map (λ u. b ∷ u) (closed (c ∷ t))
+
+-- what stands in brackets, where the text begins and ends with them
+abbrev pub in_brackets : List ℕ → Option (List ℕ)
+in_brackets [] = None
+in_brackets (b ∷ t) = if b == left_bracket then closed t else None
+
+-- "v" and a hexadecimal digit, as IPvFuture begins
+abbrev pub begins_future : List ℕ → Bool
+begins_future (v ∷ d ∷ t) = is_among (codes "vV") v && is_hex d
+begins_future _ = false
+
+-- the byte may stand in IPvFuture: unreserved / sub-delims / ":"
+abbrev pub is_future_byte : ℕ → Bool
+is_future_byte b = is_unreserved b || is_sub_delim b || b == colon
+
+-- IPvFuture is refused, by its bytes or else by name
+abbrev pub future_error : List ℕ → HostError
+future_error t = if list_all is_future_byte t then AddressMechanismNotSupported else InvalidIPvFutureCharacter
+
+-- what reading the text between brackets gives
+abbrev pub literal_reading : List ℕ → Result Host HostError
+literal_reading t =
+    if begins_future t then Err (future_error t)
+    else if list_all is_ipv6_byte t then ok_or (option_map IPv6Address (ipv6_reading t)) InvalidIPv6Format
+    else Err InvalidIPv6Character
+
+-- the IPv4 address, or else the name
+abbrev pub address_or_name : List ℕ → Option (List ℕ) → Host
+address_or_name t (Some a) = IPv4Address a
+address_or_name t None = RegisteredName t
+
+-- what reading a text without brackets gives
+abbrev pub name_reading : List ℕ → Result Host HostError
+name_reading t =
+    if is_none (fault class.Name t) then Ok (address_or_name t (ipv4_reading t))
+    else Err InvalidIPv4OrRegisteredNameCharacter
+
+abbrev pub bracket_reading : Option (List ℕ) → List ℕ → Result Host HostError
+bracket_reading (Some inner) t = literal_reading inner
+bracket_reading None t = name_reading t
+
+-- what reading a text as a host gives
+abbrev pub reading : List ℕ → Result Host HostError
+reading t = bracket_reading (in_brackets t) t
+
+-- ---- comparing
 
 -- what hosts are compared by: the kind, and then the canonical spelling
 abbrev pub key : Host → List ℕ
 key h = kind_code (kind h) ∷ canonical_text h
 
+-- what a hasher is fed for a canonical spelling of this kind: an address as its numbers, a name as its bytes
+abbrev pub fed_text : ℕ → List ℕ → HashWrites
+fed_text code t =
+    if code == 4 then slice u8 (unwrap_or (ipv4_reading t) [])
+    else if code == 6 then slice u16 (unwrap_or (ipv6_reading (unwrap_or (in_brackets t) [])) [])
+    else fed_spelling t
+
 -- what a hasher is fed for the host with this key
 abbrev pub fed : List ℕ → HashWrites
 fed [] = []
-fed (code ∷ t) = u8 code ++ fed_spelling t
-
-abbrev pub Valid : Host → Type 0
-Valid (RegisteredName n) = IsName n
-
--- its text stands for it
-abbrev pub ReadsBack : Host → Type 0
-ReadsBack h = Spells (text h) h
-
--- what reading a text as a host gives
-abbrev pub reading : List ℕ → Result Host HostError
-reading t = if is_none (fault class.Name t) then Ok (RegisteredName t) else Err InvalidIPv4OrRegisteredNameCharacter
+fed (code ∷ t) = u8 code ++ fed_text code t

@@ -1,5 +1,5 @@
 -- Passwords: RFC 3986, section 3.2.1.
-use Rattle.std.specs.Prelude.{◌≡◌, ℕ, ◌==◌, if◌then◌else◌, List, Result}
+use Rattle.std.specs.Prelude.{ℕ, ◌==◌, if◌then◌else◌, List, Result}
 use Rattle.uriparse_text.specs.declared.parts.class.Class.TheVariants as class
 use Rattle.uriparse_text.specs.Bytes.{percent}
 use Rattle.uriparse_text.specs.Faults.{IsIn}
@@ -10,10 +10,6 @@ use Rattle.uriparse_authority.specs.declared.authority.error.PasswordError.TheVa
 -- what userinfo = *( unreserved / pct-encoded / sub-delims / ":" ) may have behind its first colon
 abbrev pub IsPassword : List ℕ → Type 0
 IsPassword t = IsIn class.UserInfo t
-
--- the text stands for the password
-abbrev pub Spells : List ℕ → List ℕ → Type 0
-Spells t password = (password ≡ t) × IsPassword t
 
 -- the error of a fault at this byte
 abbrev pub error_of : ℕ → PasswordError

@@ -1,5 +1,5 @@
 -- Ports: RFC 3986, section 3.2.3.
-use Rattle.std.specs.Prelude.{◌≡◌, ℕ, ◌≤◌, Bool, true, not, nat_le, if◌then◌else◌, List, [], ◌∷◌, Option, Some, None, Result, decimal}
+use Rattle.std.specs.Prelude.{◌≡◌, ℕ, ◌≤◌, ◌<◌, Bool, true, false, not, nat_le, if◌then◌else◌, List, [], ◌∷◌, ◌++◌, Option, Some, None, Result, decimal}
 use Rattle.std.specs.Char.{is_digit}
 use Rattle.std.specs.List.{list_all}
 use Rattle.std.specs.Str.Parse.{digits_value}
@@ -44,6 +44,27 @@ is_other b = not (is_digit b 10)
 abbrev pub other_fault : List ℕ → Option PortError
 other_fault [] = None
 other_fault (_ ∷ _) = Some InvalidCharacter
+
+-- Digits that write a port, and then a byte that is no digit.
+pub record HasOther (t : List ℕ) : Type 0 where
+  pub front : List ℕ
+  pub byte : ℕ
+  pub left : List ℕ
+  pub whole : t ≡ front ++ byte ∷ left
+  pub digits : are_digits front ≡ true
+  pub in_range : IsPort (digits_value 10 front)
+  pub other : is_digit byte 10 ≡ false
+
+-- Digits that write a port, and then a digit with which they no longer do.
+pub record Passes (t : List ℕ) : Type 0 where
+  pub front : List ℕ
+  pub byte : ℕ
+  pub left : List ℕ
+  pub whole : t ≡ front ++ byte ∷ left
+  pub digits : are_digits front ≡ true
+  pub in_range : IsPort (digits_value 10 front)
+  pub digit : is_digit byte 10 ≡ true
+  pub beyond : largest < digits_value 10 (front ++ byte ∷ [])
 
 -- The leftmost fault of the text. Cut it at the first byte that is no digit: the fault is that byte's, unless the digits before it write too large a number. One of those digits is then the first to do so, since more digits never write less.
 abbrev pub fault : List ℕ → Option PortError

@@ -1,5 +1,5 @@
 -- User names: RFC 3986, section 3.2.1.
-use Rattle.std.specs.Prelude.{◌≡◌, ℕ, ◌==◌, if◌then◌else◌, List, Result}
+use Rattle.std.specs.Prelude.{ℕ, ◌==◌, if◌then◌else◌, List, Result}
 use Rattle.uriparse_text.specs.declared.parts.class.Class.TheVariants as class
 use Rattle.uriparse_text.specs.Bytes.{percent, colon}
 use Rattle.uriparse_text.specs.Faults.{IsIn}
@@ -10,10 +10,6 @@ use Rattle.uriparse_authority.specs.declared.authority.error.UsernameError.TheVa
 -- what userinfo = *( unreserved / pct-encoded / sub-delims / ":" ) may have before its first colon
 abbrev pub IsUsername : List ℕ → Type 0
 IsUsername t = IsIn class.Name t
-
--- the text stands for the user name
-abbrev pub Spells : List ℕ → List ℕ → Type 0
-Spells t username = (username ≡ t) × IsUsername t
 
 -- the error of a fault at this byte
 abbrev pub error_of : ℕ → UsernameError

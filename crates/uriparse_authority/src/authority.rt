@@ -1,20 +1,24 @@
 //! An authority: RFC 3986, section 3.2.
-ghost use Rattle.std.specs.Prelude.{◌≡◌, Some, bytes_eq};
+ghost use Rattle.std.specs.Prelude.{◌≡◌, ℕ, IfOk, List, Ok, Option, Some, bytes_eq, is_some, string_bytes};
+ghost use Rattle.std.specs.Option.{option_copied};
 ghost use Rattle.std.proofs.Common.{rules};
 ghost use Rattle.std.specs.Ordering.{on};
 ghost use Rattle.std.specs.Cmp.Rules.{comparing, hashing};
-ghost use Rattle.uriparse_authority.specs.Authority as authority;
-ghost use Rattle.uriparse_authority.specs.Host as spec;
+ghost use Rattle.uriparse_authority.specs.Authority as spec;
 
+use std::alloc::{AllocError, Global};
 use std::fmt;
+use std::fmt::Write;
 use std::hash::{Hash, Hasher};
 use std::marker::Model;
 
+mod edit;
 mod error;
 mod host;
 mod name;
 mod password;
 mod port;
+mod print;
 pub(crate) mod read;
 mod username;
 
@@ -25,15 +29,29 @@ pub use host::Host;
 pub use name::RegisteredName;
 pub use password::Password;
 pub use port::parse_port;
+use print::{write_port, write_user};
+use read::read_whole;
+pub use uriparse_text::address::{IpAddr, Ipv4Addr, Ipv6Addr};
 pub use username::Username;
 
-/// The authority of a reference, without its `//`. Today its whole text is its host.
+/// The authority of a reference, without its `//`: a user name and a password if there are any, the
+/// host, and a port if there is one. RFC 3986, section 3.2.
 ///
-/// Two authorities are equal where their hosts are of one kind and their canonical spellings
-/// agree.
+/// A password stands only with a user name, which may be empty. The parts borrow the text that they
+/// were read from, or own their texts. Two authorities are equal where their hosts are of one kind
+/// and their canonical spellings agree.
+///
+/// ```
+/// let authority = Authority::try_from_str("user:@EXAMPLE.com:0080")?;
+/// assert!(authority.has_password() && authority.port() == Some(80));
+/// assert_eq!(authority.to_string(alloc)?, "user:@EXAMPLE.com:80");
+/// ```
 #[derive(Drop)]
 pub struct Authority<'a> {
+    username: Option<Username<'a>>,
+    password: Option<Password<'a>>,
     host: Host<'a>,
+    port: Option<u16>,
 }
 
 impl<'a> Model for Authority<'a> {
@@ -41,25 +59,86 @@ impl<'a> Model for Authority<'a> {
 
     ghost Value = { AuthorityParts };
 
-    ghost view = { λ a. record { host = a.host } };
+    ghost view = { λ a. record { username = a.username; password = a.password; host = a.host; port = a.port } };
 
-    ghost invariant = { λ a. Valid (record { host = a.host }) };
+    ghost invariant = { λ a. Valid (record { username = a.username; password = a.password; host = a.host; port = a.port }) };
 }
 
 impl<'a> Authority<'a> {
     ghost use Rattle.uriparse_authority.specs.Authority.{Valid};
 
-    /// The authority of a host.
-    pub(super) fn of_host(host: Host<'a>) -> Authority<'a>
-        requires { spec.Valid host }
-        ensures { result.host ≡ host.entry }
+    /// Reads an authority, whose parts borrow the bytes. Takes no memory.
+    ///
+    /// The first `@` ends the user information, whose first `:` starts the password; the last `:`
+    /// behind the `@` and behind any `]` starts the port. The first part that has a fault answers, in
+    /// the order [`Username`](AuthorityError::Username), [`Password`](AuthorityError::Password),
+    /// [`Host`](AuthorityError::Host), [`Port`](AuthorityError::Port). A `/`, `?` or `#` ends the
+    /// authority: behind one without fault it is answered as
+    /// [`PortError::InvalidCharacter`] where there is a port (an empty one is none), else as
+    /// [`HostError::InvalidIPv6Character`] behind an IPv6 address, else as
+    /// [`HostError::InvalidIPv4OrRegisteredNameCharacter`].
+    pub fn try_from_bytes(bytes: &'a [u8]) -> Result<Authority<'a>, AuthorityError>
+        ensures { result ≡ spec.whole_reading bytes.now }
     {
-        Authority { host }
+        read_whole(bytes)
     }
 
-    /// How many bytes the authority's text has at most.
-    pub(crate) fn most_bytes(&self) -> usize {
-        self.host.most_bytes()
+    /// The same for a text.
+    pub fn try_from_str(text: &'a str) -> Result<Authority<'a>, AuthorityError>
+        ensures { result ≡ spec.whole_reading text.now }
+    {
+        Authority::try_from_bytes(text.as_bytes())
+    }
+
+    /// The authority of these parts. It is never refused: a password without a user name brings an
+    /// empty one.
+    pub fn from_parts(
+        username: Option<Username<'a>>,
+        password: Option<Password<'a>>,
+        host: Host<'a>,
+        port: Option<u16>,
+    ) -> Result<Authority<'a>, AuthorityError>
+        ensures { result ≡ Ok (spec.of_parts username.entry password.entry host.entry port) }
+    {
+        host.assert_valid();
+        let username = with_empty(username, password.is_some());
+        Ok(Authority {
+            username,
+            password,
+            host,
+            port,
+        })
+    }
+
+    /// The user name, the password, the host and the port.
+    pub fn into_parts(
+        self,
+    ) -> (
+        Option<Username<'a>>,
+        Option<Password<'a>>,
+        Host<'a>,
+        Option<u16>,
+    )
+        ensures username { result.0 ≡ self.entry.username }
+        ensures password { result.1 ≡ self.entry.password }
+        ensures host { result.2 ≡ self.entry.host }
+        ensures port { result.3 ≡ self.entry.port }
+    {
+        (self.username, self.password, self.host, self.port)
+    }
+
+    /// The user name, if there is one.
+    pub fn username(&self) -> Option<&Username<'a>>
+        ensures { option_copied result ≡ self.now.username }
+    {
+        self.username.as_ref()
+    }
+
+    /// The password, if there is one.
+    pub fn password(&self) -> Option<&Password<'a>>
+        ensures { option_copied result ≡ self.now.password }
+    {
+        self.password.as_ref()
     }
 
     /// The host.
@@ -69,15 +148,128 @@ impl<'a> Authority<'a> {
     {
         &self.host
     }
+
+    /// The port, if there is one.
+    pub fn port(&self) -> Option<u16>
+        ensures { result ≡ self.now.port }
+    {
+        self.port
+    }
+
+    /// Whether there is a user name.
+    pub fn has_username(&self) -> bool
+        ensures { result ≡ is_some self.now.username }
+    {
+        self.username.is_some()
+    }
+
+    /// Whether there is a password.
+    pub fn has_password(&self) -> bool
+        ensures { result ≡ is_some self.now.password }
+    {
+        self.password.is_some()
+    }
+
+    /// Whether there is a port.
+    pub fn has_port(&self) -> bool
+        ensures { result ≡ is_some self.now.port }
+    {
+        self.port.is_some()
+    }
+
+    /// The same authority, which borrows this one's texts.
+    pub fn as_borrowed(&self) -> Authority<'_>
+        ensures { result ≡ self.now }
+    {
+        Authority {
+            username: match &self.username {
+                Some(username) => Some(username.as_borrowed()),
+                None => None,
+            },
+            password: match &self.password {
+                Some(password) => Some(password.as_borrowed()),
+                None => None,
+            },
+            host: self.host.as_borrowed(),
+            port: self.port,
+        }
+    }
+
+    /// The same authority, which owns its texts. Borrowed texts are copied, which wants memory; where
+    /// there is none, the authority is gone.
+    pub fn into_owned(self, alloc: Global) -> Result<Authority<'static>, AllocError>
+        ensures { IfOk result (λ a. a ≡ self.entry) }
+    {
+        let Authority {
+            username,
+            password,
+            host,
+            port,
+        } = self;
+        let username = match username {
+            Some(username) => Some(username.into_owned(alloc)?),
+            None => None,
+        };
+        let password = match password {
+            Some(password) => Some(password.into_owned(alloc)?),
+            None => None,
+        };
+        Ok(Authority {
+            username,
+            password,
+            host: host.into_owned(alloc)?,
+            port,
+        })
+    }
+
+    /// How many bytes the authority's text has at most: those of its parts, two colons, an `@` and the
+    /// five digits of a port.
+    pub(crate) fn most_bytes(&self) -> usize {
+        let username = self.username.as_ref().map_or(0, |u| u.as_str().len());
+        let password = self.password.as_ref().map_or(0, |p| p.as_str().len());
+        [username, password, self.host.most_bytes()]
+            .iter()
+            .fold(8usize, |sum, part| sum.saturating_add(*part))
+    }
+
+    /// A copy of the authority's text, which wants memory.
+    pub fn to_string(&self, alloc: Global) -> Result<String, AllocError>
+        ensures { IfOk result (λ s. string_bytes s ≡ spec.print self.now) }
+    {
+        let mut text = String::with_capacity(alloc, self.most_bytes())?;
+        write!(text, "{self}")?;
+        Ok(text)
+    }
+
+    /// Whether each part is spelled like the other's.
+    fn is_each_alike(&self, other: &Authority<'a>) -> bool
+        ensures test { result ≡ spec.each_alike self.now other.now }
+        ensures valid { Valid self.now × Valid other.now }
+    {
+        self.username == other.username
+            && self.password == other.password
+            && self.host == other.host
+            && self.port == other.port
+    }
+}
+
+/// The user name, or an empty one where there is none and a password needs it.
+fn with_empty(username: Option<Username<'_>>, has_password: bool) -> Option<Username<'_>>
+    ensures { (w : Option (List ℕ)) → is_some w ≡ has_password → result ≡ spec.with_empty username.entry w }
+{
+    match username {
+        None if has_password => Some(Username::empty()),
+        username => username,
+    }
 }
 
 impl<'a> PartialEq for Authority<'a> {
-    ghost eq = { on authority.key bytes_eq };
+    ghost eq = { on spec.key bytes_eq };
 
     ghost laws = { Prim.search (comparing, rules) };
 
     fn eq(&self, other: &Authority<'a>) -> bool {
-        self.host == other.host
+        self.is_each_alike(other)
     }
 }
 
@@ -86,27 +278,35 @@ impl<'a> Eq for Authority<'a> {
 }
 
 impl<'a> Hash for Authority<'a> {
-    ghost hash_input = { λ a. authority.fed (authority.key a) };
+    ghost hash_input = { λ a. spec.fed (spec.key a) };
 
     ghost respects_eq = { Prim.search (hashing, rules) };
 
     fn hash<H: Hasher>(&self, state: &mut H) {
+        self.username.hash(state);
+        self.password.hash(state);
         self.host.hash(state);
+        self.port.hash(state);
     }
 }
 
 impl<'a> fmt::Display for Authority<'a> {
-    ghost output = { λ a. Some (authority.print a) };
+    ghost output = { λ a. Some (spec.print a) };
 
     fn fmt<W: fmt::Write>(&self, f: &mut fmt::Formatter<W>) -> fmt::Result {
-        fmt::Display::fmt(&self.host, f)
+        write_user(&self.username, &self.password, f)?;
+        fmt::Display::fmt(&self.host, f)?;
+        write_port(self.port, f)
     }
 }
 
 impl<'a> fmt::Debug for Authority<'a> {
     fn fmt<W: fmt::Write>(&self, f: &mut fmt::Formatter<W>) -> fmt::Result {
         f.debug_struct("Authority")
+            .field("username", &self.username)
+            .field("password", &self.password)
             .field("host", &self.host)
+            .field("port", &self.port)
             .finish()
     }
 }

@@ -2,4 +2,5 @@
 #![tactic(auto)]
 
 pub mod authority;
+pub mod laws;
 pub mod parts;

@@ -21,7 +21,7 @@ use Rattle.uriparse_path.specs.Faults as path_faults
 use Rattle.uriparse_path.proofs.TextLemmas.{text-spelled, lacks-path}
 use Rattle.uriparse_path.proofs.ReadLemmas.{reading-path, path_read, slash_path}
 use Rattle.uriparse_authority.specs.Authority as authority
-use Rattle.uriparse_authority.specs.Authority.{AuthorityParts}
+use Rattle.uriparse_authority.specs.Authority.{AuthorityParts, ends_authority}
 use Rattle.uriparse_authority.proofs.AuthorityLemmas as authorities
 use Rattle.uriparse_authority.proofs.AuthorityLemmas.{LacksEnds}
 use Rattle.uriparse_scheme.specs.declared.scheme.Scheme.{Scheme}
@@ -33,7 +33,7 @@ use Rattle.uriparse_path.specs.declared.path.error.PathError.TheVariants.{OutOfM
 use Rattle.uriparse_reference.specs.declared.uri_reference.error.URIReferenceError.{URIReferenceError}
 use Rattle.uriparse_reference.specs.declared.uri_reference.error.URIReferenceError.TheVariants as errors
 use Rattle.uriparse_reference.specs.Reference.{Parts, behind_slashes, joined, is_abempty, is_noscheme, fits, path_of, Spells, Valid, ReadsBack, Same, print}
-use Rattle.uriparse_reference.specs.Cuts.{if_scheme, scheme_text, left, after_scheme, ends_authority, cut_authority, authority_text, cut_left, after_authority, path_text, query_text, fragment_text}
+use Rattle.uriparse_reference.specs.Cuts.{if_scheme, scheme_text, left, after_scheme, cut_authority, authority_text, cut_left, after_authority, path_text, query_text, fragment_text}
 use Rattle.uriparse_reference.specs.Reading.{path_reading, colon_rule, reading, fault}
 
 head_is : (a b : Bool) → (a && b) ≡ true → a ≡ true
@@ -109,15 +109,6 @@ scheme_of (Some s) a h q f i k =
     (e, ap (λ o. left o ((s ++ colon ∷ []) ++ u) (rest colon ((s ++ colon ∷ []) ++ u))) e ∙ w.1)
 
 -- ---- the authority
-
-ends_none : (t : List ℕ) → lacks slash t ≡ true → lacks question_mark t ≡ true → lacks number_sign t ≡ true → none_pass ends_authority t ≡ true
-ends_none [] h k l = refl
-ends_none (b ∷ t) h k l = both_are _ _ (at_byte (b == slash) (b == question_mark) (b == number_sign) (head_is (not (b == slash)) _ h) (head_is (not (b == question_mark)) _ k) (head_is (not (b == number_sign)) _ l)) (ends_none t (tail_is (not (b == slash)) _ h) (tail_is (not (b == question_mark)) _ k) (tail_is (not (b == number_sign)) _ l))
-  where
-    at_byte : (u v w : Bool) → not u ≡ true → not v ≡ true → not w ≡ true → not (u || (v || w)) ≡ true
-    at_byte true v w h k l = absurd (false≢true h)
-    at_byte false true w h k l = absurd (false≢true k)
-    at_byte false false w h k l = l
 
 two_append : (h u : List ℕ) → is_rooted u ≡ false → has_two_slashes (h ++ u) ≡ has_two_slashes h
 two_append [] u e = rw e refl
@@ -197,14 +188,10 @@ pub record IsCutInto (t : List ℕ) (s a : Option (List ℕ)) (h : List ℕ) (q 
   pub query : query_text t ≡ q
   pub fragment : fragment_text t ≡ f
 
-ends_none_of : (a : Option (List ℕ)) → IfSome a LacksEnds → IfSome a (λ t. none_pass ends_authority t ≡ true)
-ends_none_of None l = tt
-ends_none_of (Some t) l = ends_none t l.slash l.question_mark l.number_sign
-
 pub cut_again : (t : List ℕ) (s a : Option (List ℕ)) (h : List ℕ) (q f : Option (List ℕ)) → ArePieces s a h q → t ≡ joined s a h q f → IsCutInto t s a h q f
 cut_again t s a h q f are whole =
     let b = scheme_of s a h q f are.is_scheme are.fit in
-    let c = authority_of s a h q f (ends_none_of a are.is_authority) are.fit in
+    let c = authority_of s a h q f are.is_authority are.fit in
     let d = tail_of h q f are.is_path are.is_query in
     let left_over : after_authority t ≡ h ++ tail q f = ap after_authority whole ∙ ap cut_left b.1 ∙ c.1 in
     record {

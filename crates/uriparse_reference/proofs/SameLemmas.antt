@@ -1,8 +1,7 @@
 -- Which references are the same, by their pieces.
 use Rattle.std.proofs.Common.{◌≡◌, ◌↔◌, ℕ, Bool, true, false, ◌&&◌, ◌||◌, List, [], ◌∷◌, ◌++◌, fold, map, Option, Some, None, refl, sym, ap, ◌∙◌, subst, arith}
 use Rattle.std.specs.Prelude.{not, ◌==◌, IfSome, IsTrue, bytes_eq, cond}
-use Rattle.std.specs.Ordering.{on}
-use Rattle.std.specs.Option.{option_map, option_eq}
+use Rattle.std.specs.Option.{option_map}
 use Rattle.std.specs.List.{flat_map, list_all}
 use Rattle.std.specs.Hash.{HashWrites, option}
 use Rattle.std.specs.Char.{to_ascii_uppercase}
@@ -19,6 +18,7 @@ use Rattle.uriparse_text.specs.Cuts.{lacks, up_to}
 use Rattle.uriparse_text.specs.Tokens.{tokens, spell, has_digits}
 use Rattle.uriparse_text.specs.Canon.{canonical, escaped_byte, canon, fed_spelling}
 use Rattle.uriparse_text.specs.Query.{IsQuery}
+use Rattle.uriparse_text.proofs.OptionLemmas.{same_option, fed_option}
 use Rattle.uriparse_text.proofs.TokenLemmas.{spell-tokens, digits-tokens}
 use Rattle.uriparse_text.proofs.CanonLemmas.{by_escaped, spell-canonical, upper_digit}
 use Rattle.uriparse_text.proofs.ClassLemmas.{IsIn-spelling}
@@ -29,6 +29,7 @@ use Rattle.uriparse_authority.specs.Authority as authority
 use Rattle.uriparse_authority.specs.Authority.{AuthorityParts}
 use Rattle.uriparse_authority.specs.Host as host
 use Rattle.uriparse_authority.proofs.AuthorityLemmas as authorities
+use Rattle.uriparse_authority.proofs.HostLemmas.{code_kind}
 use Rattle.uriparse_authority.proofs.AuthorityLemmas.{LacksEnds}
 use Rattle.uriparse_scheme.specs.declared.scheme.Scheme.{Scheme}
 use Rattle.uriparse_scheme.specs.Scheme as scheme
@@ -176,13 +177,15 @@ alike p q v w e k =
 
 -- ---- one key, and the test of the parts one by one
 
-code_kind : (k l : host.Kind) → host.kind_code k ≡ host.kind_code l → k ≡ l
-code_kind host.Name host.Name e = refl
+some_code : (k : host.Kind) → 0 ≡ host.kind_code k → ⊥
+some_code host.V4 e = cc
+some_code host.V6 e = cc
+some_code host.Name e = cc
 
 same_kind : (k l : Option host.Kind) → kind_code k ≡ kind_code l → k ≡ l
 same_kind None None e = refl
-same_kind None (Some host.Name) e = absurd (cc)
-same_kind (Some host.Name) None e = absurd (cc)
+same_kind None (Some l) e = absurd (some_code l e)
+same_kind (Some k) None e = absurd (some_code k (sym e))
 same_kind (Some k) (Some l) e = ap Some (code_kind k l e)
 
 pub same_key : (p q : Parts) → (key p ≡ key q) ↔ Same p q
@@ -192,15 +195,6 @@ same_key p q = (
       record { spelling = texts; kinds = same_kind (kind p) (kind q) codes }),
   (λ s. rw (s.spelling, s.kinds) refl),
 )
-
--- a part is in both or in neither, and has one text
-same_option : {A : Type 0} (f : A → List ℕ) (x y : Option A) → IsTrue (option_eq (on f bytes_eq) x y) ↔ (option_map f x ≡ option_map f y)
-same_option f None None = ((λ e. refl), (λ e. refl))
-same_option f None (Some y) = ((λ e. absurd (cc)), (λ e. absurd (cc)))
-same_option f (Some x) None = ((λ e. absurd (cc)), (λ e. absurd (cc)))
-same_option f (Some x) (Some y) =
-    let test = bytes_eq-Decides (f x) (f y) in
-    ((λ e. ap Some (test.0 e)), (λ e. let texts : f x ≡ f y = cc in test.1 texts))
 
 authority_keys : (a b : Option AuthorityParts) → (option_map authority.key a ≡ option_map authority.key b) ↔ ((option_map authority.cprint a ≡ option_map authority.cprint b) × (kind_code (option_map authority.kind a) ≡ kind_code (option_map authority.kind b)))
 authority_keys None None = ((λ e. (refl, refl)), (λ e. refl))
@@ -243,10 +237,6 @@ pub tested : (p q : Parts) → Valid p → Valid q → each_alike p q ≡ bytes_
 tested p q v w = same_from_decides (each_alike p q) (bytes_eq (key p) (key q)) (to_key p q, from_key p q v w) (bytes_eq-Decides (key p) (key q))
 
 -- ---- what a hasher is fed, part by part
-
-fed_option : {A : Type 0} (f : A → List ℕ) (g : List ℕ → HashWrites) (x : Option A) → option g (option_map f x) ≡ option (λ y. g (f y)) x
-fed_option f g None = refl
-fed_option f g (Some x) = refl
 
 fed_authority : (a : Option AuthorityParts) → option (λ t. authority.fed (kind_code (option_map authority.kind a) ∷ t)) (option_map authority.cprint a) ≡ option (λ b. authority.fed (authority.key b)) a
 fed_authority None = refl

@@ -1,8 +1,9 @@
 -- How the text of a reference is cut into its pieces: RFC 3986, sections 3 and 4.1.
-use Rattle.std.specs.Prelude.{ℕ, Bool, ◌==◌, ◌||◌, if◌then◌else◌, List, Option, Some, None, drop}
-use Rattle.uriparse_text.specs.Bytes.{slash, colon, question_mark, number_sign}
+use Rattle.std.specs.Prelude.{ℕ, if◌then◌else◌, List, Option, Some, None, drop}
+use Rattle.uriparse_text.specs.Bytes.{colon, question_mark, number_sign}
 use Rattle.uriparse_text.specs.Cuts.{front, rest, before, after, up_to, from_first}
 use Rattle.uriparse_path.specs.Path.{has_two_slashes}
+use Rattle.uriparse_authority.specs.Authority.{ends_authority}
 use Rattle.uriparse_scheme.specs.Scheme.{is_scheme}
 
 -- the text, where it is a scheme
@@ -23,9 +24,6 @@ abbrev pub after_scheme : List ℕ → List ℕ
 after_scheme t = left (scheme_text t) t (rest colon t)
 
 -- Behind two slashes the authority runs to the first "/", "?", "#" or the end.
-abbrev pub ends_authority : ℕ → Bool
-ends_authority b = b == slash || (b == question_mark || b == number_sign)
-
 abbrev pub cut_authority : List ℕ → Option (List ℕ)
 cut_authority u = if has_two_slashes u then Some (up_to ends_authority (drop 2 u)) else None
 

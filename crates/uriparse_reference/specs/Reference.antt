@@ -1,6 +1,6 @@
 -- A reference, the texts that spell it, and its text: RFC 3986, sections 3, 3.3, 4.1, 4.2 and 5.3.
 use Rattle.std.specs.Prelude.{◌≡◌, ℕ, Bool, true, not, ◌&&◌, ◌||◌, List, [], ◌∷◌, ◌++◌, Option, Some, None, IfSome}
-use Rattle.std.specs.Option.{option_map}
+use Rattle.std.specs.Option.{option_map, option_and_then}
 use Rattle.uriparse_text.specs.Bytes.{slash, colon, question_mark, number_sign}
 use Rattle.uriparse_text.specs.Canon.{canon}
 use Rattle.uriparse_text.specs.Cuts.{lacks, behind, ahead, up_to}
@@ -10,6 +10,7 @@ use Rattle.uriparse_text.specs.Fragment.{IsFragment}
 use Rattle.uriparse_path.specs.Path as path
 use Rattle.uriparse_authority.specs.Authority as authority
 use Rattle.uriparse_authority.specs.Host as host
+use Rattle.uriparse_authority.specs.declared.authority.host.Host.{Host}
 use Rattle.uriparse_scheme.specs.declared.scheme.Scheme.{Scheme}
 use Rattle.uriparse_scheme.specs.Scheme as scheme
 
@@ -20,6 +21,19 @@ pub record Parts : Type 0 where
   pub path : path.PathParts
   pub query : Option (List ℕ)
   pub fragment : Option (List ℕ)
+
+-- the parts of the authority, where there is one
+abbrev pub username_of : Parts → Option (List ℕ)
+username_of p = option_and_then (λ (a : authority.AuthorityParts). a.username) p.authority
+
+abbrev pub password_of : Parts → Option (List ℕ)
+password_of p = option_and_then (λ (a : authority.AuthorityParts). a.password) p.authority
+
+abbrev pub host_of : Parts → Option Host
+host_of p = option_map (λ (a : authority.AuthorityParts). a.host) p.authority
+
+abbrev pub port_of : Parts → Option ℕ
+port_of p = option_and_then (λ (a : authority.AuthorityParts). a.port) p.authority
 
 -- [ "//" a ]
 abbrev pub behind_slashes : Option (List ℕ) → List ℕ

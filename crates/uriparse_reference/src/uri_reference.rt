@@ -1,23 +1,21 @@
 //! A URI reference: RFC 3986, section 4.1.
-ghost use Rattle.std.specs.Prelude.{◌≡◌, ◌⊎◌, ℕ, List, IfOk, IfErr, Ok, Err, Some, bytes_eq, option_copied, string_bytes};
+ghost use Rattle.std.specs.Prelude.{◌≡◌, ◌⊎◌, ℕ, List, IfOk, IfErr, Ok, Err, Some, bytes_eq, is_some, option_copied, string_bytes};
 ghost use Rattle.std.proofs.Common.{rules};
 ghost use Rattle.std.specs.Ordering.{on};
 ghost use Rattle.std.specs.Cmp.Rules.{comparing, hashing};
 ghost use Rattle.uriparse_text.specs.Readings.{IsUnless};
 ghost use Rattle.uriparse_path.specs.declared.path.error.PathError.TheVariants.{OutOfMemory};
 ghost use Rattle.uriparse_reference.specs.declared.uri_reference.error.URIReferenceError.TheVariants as errors;
-ghost use Rattle.std.specs.Option.{option_map};
-ghost use Rattle.uriparse_authority.specs.Authority.{host_of};
 ghost use Rattle.uriparse_reference.specs.Key.{each_alike, fed, key};
 ghost use Rattle.uriparse_reference.specs.Reading.{reading, fault};
-ghost use Rattle.uriparse_reference.specs.Reference.{print};
+ghost use Rattle.uriparse_reference.specs.Reference.{host_of, password_of, port_of, print, username_of};
 
 use std::alloc::{AllocError, Global};
 use std::fmt;
 use std::fmt::Write;
 use std::hash::{Hash, Hasher};
 use std::marker::Model;
-use uriparse_authority::authority::{Authority, Host};
+use uriparse_authority::authority::{Authority, Host, Password, Username};
 use uriparse_authority::parts::most_authority_bytes;
 use uriparse_path::parts::most_path_bytes;
 use uriparse_path::path::Path;
@@ -103,14 +101,65 @@ impl<'r> URIReference<'r> {
         self.authority.as_ref()
     }
 
+    /// The user name, if there is one.
+    pub fn username(&self) -> Option<&Username<'r>>
+        ensures { option_copied result ≡ username_of self.now }
+    {
+        match &self.authority {
+            Some(authority) => authority.username(),
+            None => None,
+        }
+    }
+
+    /// The password, if there is one.
+    pub fn password(&self) -> Option<&Password<'r>>
+        ensures { option_copied result ≡ password_of self.now }
+    {
+        match &self.authority {
+            Some(authority) => authority.password(),
+            None => None,
+        }
+    }
+
     /// The host, if there is an authority.
     pub fn host(&self) -> Option<&Host<'r>>
-        ensures { option_copied result ≡ option_map host_of self.now.authority }
+        ensures { option_copied result ≡ host_of self.now }
     {
         match &self.authority {
             Some(authority) => Some(authority.host()),
             None => None,
         }
+    }
+
+    /// The port, if there is one.
+    pub fn port(&self) -> Option<u16>
+        ensures { result ≡ port_of self.now }
+    {
+        match &self.authority {
+            Some(authority) => authority.port(),
+            None => None,
+        }
+    }
+
+    /// Whether there is a user name.
+    pub fn has_username(&self) -> bool
+        ensures { result ≡ is_some (username_of self.now) }
+    {
+        self.username().is_some()
+    }
+
+    /// Whether there is a password.
+    pub fn has_password(&self) -> bool
+        ensures { result ≡ is_some (password_of self.now) }
+    {
+        self.password().is_some()
+    }
+
+    /// Whether there is a port.
+    pub fn has_port(&self) -> bool
+        ensures { result ≡ is_some (port_of self.now) }
+    {
+        self.port().is_some()
     }
 
     /// The path.
@@ -152,7 +201,7 @@ impl<'r> URIReference<'r> {
         .fold(5usize, |sum, part| sum.saturating_add(*part))
     }
 
-    /// A copy of the reference's text, whose room is asked for once.
+    /// A copy of the reference's text, which wants memory.
     pub fn to_string(&self, alloc: Global) -> Result<String, AllocError>
         ensures { IfOk result (λ s. string_bytes s ≡ print self.now) }
     {

@@ -3,6 +3,8 @@
 #![tactic(auto)]
 
 #[cfg(test)]
+mod authorities;
+#[cfg(test)]
 mod components;
 #[cfg(test)]
 mod every_byte;

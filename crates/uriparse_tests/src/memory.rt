@@ -3,6 +3,7 @@
 use scarce::{Outcome, starve};
 use std::alloc::{AllocError, Global};
 use std::test::Fail;
+use uriparse_authority::authority::{Authority, Host, Password, RegisteredName, Username};
 use uriparse_path::path::{Path, PathError, Segment};
 use uriparse_reference::uri_reference::{URIReference, URIReferenceError};
 use uriparse_scheme::scheme::Scheme;
@@ -12,6 +13,8 @@ use uriparse_text::query::Query;
 const TEXT: &str = "a%7e/bc%7e/def%7e/ghij%7e/klmno%7e/pqrstu%7e/vwxyz01%7e";
 
 const REFERENCE: &str = "s://host%7e/a%7e/bc%7e/def%7e/ghij%7e/klmno%7e?pqrstu%7e#vwxyz01%7e";
+
+const AUTHORITY: &str = "user%7e:pass:word%7e@host%7e.example.com:65535";
 
 const SEGMENT: &str = "a%7ebc%7edef%7eghij%7eklmno%7epqrstu%7evwxyz01%7e";
 
@@ -80,6 +83,56 @@ fn copy_scheme(alloc: Global) -> Outcome {
     }
 }
 
+fn copy_username(alloc: Global) -> Outcome {
+    let Ok(username) = Username::try_from_str(SEGMENT) else {
+        return Outcome::Wrong;
+    };
+    match username.into_owned(alloc) {
+        Ok(owned) => copied(owned.to_string(alloc), SEGMENT),
+        Err(_) => Outcome::Refused,
+    }
+}
+
+fn copy_password(alloc: Global) -> Outcome {
+    let Ok(password) = Password::try_from_str(SEGMENT) else {
+        return Outcome::Wrong;
+    };
+    match password.into_owned(alloc) {
+        Ok(owned) => copied(owned.to_string(alloc), SEGMENT),
+        Err(_) => Outcome::Refused,
+    }
+}
+
+fn copy_name(alloc: Global) -> Outcome {
+    let Ok(name) = RegisteredName::try_from_str(SEGMENT) else {
+        return Outcome::Wrong;
+    };
+    match name.into_owned(alloc) {
+        Ok(owned) => copied(owned.to_string(alloc), SEGMENT),
+        Err(_) => Outcome::Refused,
+    }
+}
+
+fn copy_host(alloc: Global) -> Outcome {
+    let Ok(host) = Host::try_from_str(SEGMENT) else {
+        return Outcome::Wrong;
+    };
+    match host.into_owned(alloc) {
+        Ok(owned) => copied(owned.to_string(alloc), SEGMENT),
+        Err(_) => Outcome::Refused,
+    }
+}
+
+fn copy_authority(alloc: Global) -> Outcome {
+    let Ok(authority) = Authority::try_from_str(AUTHORITY) else {
+        return Outcome::Wrong;
+    };
+    match authority.into_owned(alloc) {
+        Ok(owned) => copied(owned.to_string(alloc), AUTHORITY),
+        Err(_) => Outcome::Refused,
+    }
+}
+
 fn print_reference(alloc: Global) -> Outcome {
     match URIReference::try_from_str(alloc, REFERENCE) {
         Ok(reference) => copied(reference.to_string(alloc), REFERENCE),
@@ -92,6 +145,22 @@ fn faulty_path(alloc: Global) -> Outcome {
     match Path::try_from_str(alloc, "a/b c") {
         Err(PathError::InvalidCharacter) => Outcome::Right,
         _ => Outcome::Wrong,
+    }
+}
+
+/// What is wrong with these outcomes, of which at least so many are to be refusals.
+fn complaint(outcomes: &[Outcome], least: usize) -> &'static str {
+    let refused = outcomes.iter().filter(|o| **o == Outcome::Refused).count();
+    if outcomes.iter().any(|o| *o == Outcome::Wrong) {
+        return "a wrong answer";
+    }
+    if refused < least || refused >= outcomes.len() {
+        return "too few or too many refusals";
+    }
+    if outcomes.last().is_some_and(|o| *o == Outcome::Right) {
+        ""
+    } else {
+        "no right answer at the end"
     }
 }
 
@@ -108,14 +177,30 @@ fn want_of_memory_or_the_right_answer(rt: HostRuntime) -> Result<(), Fail> {
         ("print_reference", 2, starve(alloc, 4096, print_reference)?),
         ("faulty_path", 0, starve(alloc, 4096, faulty_path)?),
     ] {
-        let refused = outcomes.iter().filter(|o| **o == Outcome::Refused).count();
-        assert!(rt; outcomes.iter().all(|o| *o != Outcome::Wrong), "{name}");
-        assert!(rt; refused >= least, "{name} was refused {refused} times");
         assert!(rt;
-            outcomes.last().is_some_and(|o| *o == Outcome::Right),
-            "{name}"
+            complaint(&outcomes, least).is_empty(),
+            "{name}: {}",
+            complaint(&outcomes, least)
         );
-        assert!(rt; refused < outcomes.len(), "{name}");
+    }
+    Ok(())
+}
+
+#[test]
+fn want_of_memory_for_authorities(rt: HostRuntime) -> Result<(), Fail> {
+    let alloc = rt.alloc();
+    for (name, least, outcomes) in [
+        ("copy_username", 2, starve(alloc, 4096, copy_username)?),
+        ("copy_password", 2, starve(alloc, 4096, copy_password)?),
+        ("copy_name", 2, starve(alloc, 4096, copy_name)?),
+        ("copy_host", 2, starve(alloc, 4096, copy_host)?),
+        ("copy_authority", 4, starve(alloc, 4096, copy_authority)?),
+    ] {
+        assert!(rt;
+            complaint(&outcomes, least).is_empty(),
+            "{name}: {}",
+            complaint(&outcomes, least)
+        );
     }
     Ok(())
 }

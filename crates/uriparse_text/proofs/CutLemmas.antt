@@ -1,8 +1,8 @@
 -- Cuts of a text undo its putting together.
 use Rattle.std.proofs.Common.{◌≡◌, ℕ, Bool, true, false, cond, List, [], ◌∷◌, ◌++◌, Option, Some, None, refl, sym, ap, ◌∙◌, append-nil, append_assoc, ◌+◌, take, drop, length, inl, inr, arith}
-use Rattle.std.specs.Prelude.{not, ◌==◌, IfSome, unwrap_or, position}
+use Rattle.std.specs.Prelude.{not, ◌==◌, ◌||◌, IfSome, unwrap_or, position}
 use Rattle.std.specs.Option.{option_map}
-use Rattle.std.specs.List.{list_all, position_or_len}
+use Rattle.std.specs.List.{list_all, list_any, position_or_len}
 use Rattle.std.proofs.Math.Numerals.{one-add}
 use Rattle.std.proofs.lemmas.List.Sums.{prefix_len-le-length}
 use Rattle.std.proofs.lemmas.Bool.{not-true, not_from_false, false≢true, and_parts, and_from, eqb-true, cases_lt, lt-ltb, le-ltb}
@@ -11,7 +11,7 @@ use Rattle.uriparse_text.specs.declared.parts.class.Class.{Class}
 use Rattle.uriparse_text.specs.Bytes.{percent, is_hex}
 use Rattle.uriparse_text.specs.Classes.{is_plain}
 use Rattle.uriparse_text.specs.Faults.{IsIn}
-use Rattle.uriparse_text.specs.Cuts.{lacks, none_pass, behind, ahead, up_to, from_first, part, before, after, front, rest}
+use Rattle.uriparse_text.specs.Cuts.{lacks, none_pass, behind, ahead, up_to, from_first, from_last, up_to_last, part, before, after, front, rest}
 use Rattle.uriparse_text.proofs.ClassLemmas.{bytes-in_class}
 
 -- ---- bytes that a text lacks
@@ -122,3 +122,50 @@ place_or_length p t =
       | inl below ↦ rw (lt-ltb _ _ below) refl
       | inr past ↦ rw (le-ltb _ _ past) (omega arith)
     ]
+
+-- ---- the last byte that passes
+
+any-none : (p : ℕ → Bool) (t : List ℕ) → none_pass p t ≡ true → list_any p t ≡ false
+any-none p [] h = refl
+any-none p (b ∷ t) h = let both = and_parts _ _ h in rw (not-true (p b) both.0, any-none p t both.1) refl
+
+any-some : (p : ℕ → Bool) (t : List ℕ) (mark : ℕ) (u : List ℕ) → p mark ≡ true → list_any p (t ++ mark ∷ u) ≡ true
+any-some p [] mark u h = rw h refl
+any-some p (b ∷ t) mark u h = elim (p b) as (λ v. (v || list_any p (t ++ mark ∷ u)) ≡ true) [ true ↦ refl | false ↦ any-some p t mark u h ]
+
+pub from_last-none : (p : ℕ → Bool) (t : List ℕ) → none_pass p t ≡ true → from_last p t ≡ []
+from_last-none p [] h = refl
+from_last-none p (b ∷ t) h = let both = and_parts _ _ h in rw (any-none p t both.1, not-true (p b) both.0) refl
+
+pub from_last-of : (p : ℕ → Bool) (t : List ℕ) (mark : ℕ) (u : List ℕ) → p mark ≡ true → none_pass p u ≡ true → from_last p (t ++ mark ∷ u) ≡ mark ∷ u
+from_last-of p [] mark u h k = rw (any-none p u k, h) refl
+from_last-of p (b ∷ t) mark u h k = rw (any-some p t mark u h) (from_last-of p t mark u h k)
+
+pub up_to_last-of : (p : ℕ → Bool) (t : List ℕ) (mark : ℕ) (u : List ℕ) → p mark ≡ true → none_pass p u ≡ true → up_to_last p (t ++ mark ∷ u) ≡ t
+up_to_last-of p [] mark u h k = rw (any-none p u k, h) refl
+up_to_last-of p (b ∷ t) mark u h k = rw (any-some p t mark u h) (ap (λ l. b ∷ l) (up_to_last-of p t mark u h k))
+
+pub last-whole : (p : ℕ → Bool) (t : List ℕ) → up_to_last p t ++ from_last p t ≡ t
+last-whole p [] = refl
+last-whole p (b ∷ t) = at_rest (list_any p t) (p b) (last-whole p t)
+  where
+    at_rest : (v w : Bool) → up_to_last p t ++ from_last p t ≡ t → cond v (b ∷ up_to_last p t) (cond w [] (b ∷ t)) ++ cond v (from_last p t) (cond w (b ∷ t) []) ≡ b ∷ t
+    at_rest true w h = ap (λ l. b ∷ l) h
+    at_rest false true h = refl
+    at_rest false false h = append-nil (b ∷ t)
+
+neither : (v w : Bool) → not v ≡ true → not w ≡ true → not (v || w) ≡ true
+neither true w h k = absurd (false≢true h)
+neither false w h k = k
+
+-- no byte of the text passes either of two tests
+pub none_of_either : (p q : ℕ → Bool) (t : List ℕ) → none_pass p t ≡ true → none_pass q t ≡ true → none_pass (λ b. p b || q b) t ≡ true
+none_of_either p q [] h k = refl
+none_of_either p q (b ∷ t) h k =
+    let l = and_parts (not (p b)) (none_pass p t) h in
+    let r = and_parts (not (q b)) (none_pass q t) k in
+    and_from _ _ (neither (p b) (q b) l.0 r.0) (none_of_either p q t l.1 r.1)
+
+-- no byte of the text is either of two
+pub none_of_two : (x y : ℕ) (t : List ℕ) → lacks x t ≡ true → lacks y t ≡ true → none_pass (λ b. b == x || b == y) t ≡ true
+none_of_two x y t h k = none_of_either (λ b. b == x) (λ b. b == y) t h k

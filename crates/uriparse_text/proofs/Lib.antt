@@ -4,9 +4,11 @@ pub mod CanonLemmas
 pub mod ClassLemmas
 mod FaultLaws
 pub mod CutLemmas
+pub mod OptionLemmas
 pub mod ReadingLemmas
 mod AddressGrammar
 mod AddressPrinted
 pub mod AddressLemmas
 pub mod AddressBytes
+pub mod AddressFit
 pub mod AddressCanon

@@ -1,7 +1,7 @@
 -- How a text is put together from pieces and marks, and how it is cut at marks.
 use Rattle.std.specs.Prelude.{ℕ, Bool, ◌==◌, not, if◌then◌else◌, List, [], ◌∷◌, ◌++◌, Option, Some, None, unwrap_or}
 use Rattle.std.specs.Option.{option_map}
-use Rattle.std.specs.List.{list_all}
+use Rattle.std.specs.List.{list_all, list_any}
 
 -- no byte of the text is this one
 abbrev pub lacks : ℕ → List ℕ → Bool
@@ -34,6 +34,16 @@ up_to p (b ∷ t) = if p b then [] else b ∷ up_to p t
 abbrev pub from_first : (ℕ → Bool) → List ℕ → List ℕ
 from_first p [] = []
 from_first p (b ∷ t) = if p b then b ∷ t else from_first p t
+
+-- the last byte that passes, and what stands behind it, or nothing
+abbrev pub from_last : (ℕ → Bool) → List ℕ → List ℕ
+from_last p [] = []
+from_last p (b ∷ t) = if list_any p t then from_last p t else if p b then b ∷ t else []
+
+-- what stands before the last byte that passes, or all where none does
+abbrev pub up_to_last : (ℕ → Bool) → List ℕ → List ℕ
+up_to_last p [] = []
+up_to_last p (b ∷ t) = if list_any p t then b ∷ up_to_last p t else if p b then [] else b ∷ t
 
 -- what stands behind the first byte of a rest, if it has one
 abbrev pub part : List ℕ → Option (List ℕ)

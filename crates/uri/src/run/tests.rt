@@ -8,7 +8,7 @@ use std::{io, str};
 const USAGE: &str = "usage: uri COMMAND TEXT..\n";
 
 // (the words with bars between them, the status, what is printed, what is said of a failure)
-const ROWS: [(&str, u8, &str, &str); 20] = [
+const ROWS: [(&str, u8, &str, &str); 23] = [
     (
         "tail|a/%7Eb?q#f",
         0,
@@ -47,11 +47,25 @@ const ROWS: [(&str, u8, &str, &str); 20] = [
         "schemeless path URI reference starts with colon segment\n",
     ),
     (
-        "parse|//h:80/",
-        1,
+        "parse|//u@[::1]:8/x#",
+        0,
+        "//u@[::1]:8/x#\nusername=u\nhost.ipv6=[::1]\nport=8\npath=/x\nfragment=\n",
         "",
-        "invalid host IPv4 or registered name character\n",
     ),
+    (
+        "parse|//1.2.3.4",
+        0,
+        "//1.2.3.4/\nhost.ipv4=1.2.3.4\npath=/\n",
+        "",
+    ),
+    (
+        "parse|HTTP://User:@EXAMPLE.com:0080/%7Ea",
+        0,
+        "http://User:@EXAMPLE.com:80/%7Ea\nscheme=http\nusername=User\npassword=\n\
+         host.name=EXAMPLE.com\nport=80\npath=/%7Ea\n",
+        "",
+    ),
+    ("parse|//h:65536", 1, "", "port overflow\n"),
     ("parse|a%?x", 1, "", "invalid path percent encoding\n"),
     ("parse", 2, "", USAGE),
 ];

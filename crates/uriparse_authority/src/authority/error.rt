@@ -1,4 +1,6 @@
 //! Why an authority or a part of it is refused.
+ghost use Rattle.std.specs.Prelude.{◌≡◌};
+ghost use Rattle.uriparse_authority.specs.declared.authority.error.AuthorityError.TheVariants as errors;
 
 use thiserror::Error;
 
@@ -10,9 +12,25 @@ pub struct RegisteredNameError;
 /// Why a text is no host.
 #[derive(Clone, Debug, Drop, PartialEq, Eq, Hash, Error)]
 pub enum HostError {
-    /// A byte that no name has, or a broken escape.
+    /// Between brackets stand `v` or `V`, a hexadecimal digit, and only bytes that an address of a
+    /// later version (`IPvFuture`) may have. None is read.
+    #[error("host address mechanism not supported")]
+    AddressMechanismNotSupported,
+    /// A byte that no name has, or a broken escape; or, where an authority is read by itself, a byte
+    /// behind the IPv4 address or name that ends it.
     #[error("invalid host IPv4 or registered name character")]
     InvalidIPv4OrRegisteredNameCharacter,
+    /// Between brackets stands a byte that no IPv6 address has; or, where an authority is read by
+    /// itself, a byte behind the IPv6 address that ends it.
+    #[error("invalid host IPv6 character")]
+    InvalidIPv6Character,
+    /// Between brackets stand bytes of an IPv6 address, but none of its forms.
+    #[error("invalid host IPv6 format")]
+    InvalidIPv6Format,
+    /// Between brackets stand `v` or `V` and a hexadecimal digit, and a byte that no address of a
+    /// later version has.
+    #[error("invalid host IPvFuture character")]
+    InvalidIPvFutureCharacter,
 }
 
 /// Why a text is no user name. The leftmost fault answers.
@@ -43,7 +61,8 @@ pub enum PasswordError {
 /// Why a text is no port. The leftmost fault answers.
 #[derive(Clone, Debug, Drop, PartialEq, Eq, Hash, Error)]
 pub enum PortError {
-    /// A byte that is no decimal digit.
+    /// A byte that is no decimal digit; or, where an authority is read by itself, a byte behind the
+    /// port that ends it.
     #[error("invalid port character")]
     InvalidCharacter,
     /// The digit with which the number passes 65535.
@@ -51,9 +70,48 @@ pub enum PortError {
     Overflow,
 }
 
-/// Why a text is no authority. The first of its parts that has a fault answers.
+/// Why a text is no authority. The first of its parts that has a fault answers, in the order user
+/// name, password, host, port.
 #[derive(Clone, Debug, Drop, PartialEq, Eq, Hash, Error)]
 pub enum AuthorityError {
     #[error(transparent)]
     Host(HostError),
+    #[error(transparent)]
+    Password(PasswordError),
+    #[error(transparent)]
+    Port(PortError),
+    #[error(transparent)]
+    Username(UsernameError),
+}
+
+impl From<HostError> for AuthorityError {
+    ghost from_gives = { λ x e. e ≡ errors.Host x };
+
+    fn from(error: HostError) -> AuthorityError {
+        AuthorityError::Host(error)
+    }
+}
+
+impl From<PasswordError> for AuthorityError {
+    ghost from_gives = { λ x e. e ≡ errors.Password x };
+
+    fn from(error: PasswordError) -> AuthorityError {
+        AuthorityError::Password(error)
+    }
+}
+
+impl From<PortError> for AuthorityError {
+    ghost from_gives = { λ x e. e ≡ errors.Port x };
+
+    fn from(error: PortError) -> AuthorityError {
+        AuthorityError::Port(error)
+    }
+}
+
+impl From<UsernameError> for AuthorityError {
+    ghost from_gives = { λ x e. e ≡ errors.Username x };
+
+    fn from(error: UsernameError) -> AuthorityError {
+        AuthorityError::Username(error)
+    }
 }

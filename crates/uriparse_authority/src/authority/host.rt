@@ -1,28 +1,179 @@
-//! A host: RFC 3986, section 3.2.2. Today every host is a registered name.
-ghost use Rattle.std.specs.Prelude.{Some, bytes_eq};
+//! A host: RFC 3986, section 3.2.2.
+ghost use Rattle.std.specs.Prelude.{◌≡◌, ◌↔◌, IsTrue, IfOk, Some, bytes_eq, string_bytes};
 ghost use Rattle.std.proofs.Common.{rules};
 ghost use Rattle.std.specs.Ordering.{on};
 ghost use Rattle.std.specs.Cmp.Rules.{comparing, hashing};
 ghost use Rattle.uriparse_authority.specs.Host as spec;
 
+use super::error::HostError;
 use super::name::RegisteredName;
+use super::read::read_host;
+use std::alloc::{AllocError, Global};
 use std::fmt;
+use std::fmt::Write;
 use std::hash::{Hash, Hasher};
+use uriparse_text::address::{IpAddr, Ipv4Addr, Ipv6Addr};
 
-/// The host of an authority.
+/// The host of an authority: an IPv4 address, an IPv6 address, which stands in brackets, or a
+/// registered name.
 ///
-/// Two hosts are equal where they are of one kind and their canonical spellings agree.
+/// RFC 3986, section 3.2.2. Addresses are held by value. A name borrows the text that it was read
+/// from, or owns its text. Two hosts are equal where they are of one kind and their canonical spellings agree, so the name
+/// `%31.2.3.4` isn't the address `1.2.3.4`.
+///
+/// ```
+/// let host = Host::try_from_str("[::FFFF:1.2.3.4]")?;
+/// assert!(host.is_ipv6_address());
+/// assert_eq!(host.to_string(alloc)?, "[::ffff:1.2.3.4]");
+/// ```
 #[derive(Drop)]
 pub enum Host<'h> {
+    /// An IPv4 address.
+    IPv4Address(Ipv4Addr),
+    /// An IPv6 address.
+    IPv6Address(Ipv6Addr),
     /// A name, which may be empty.
     RegisteredName(RegisteredName<'h>),
 }
 
+/// The most bytes that the text of an address has: eight groups of four digits, seven colons and two
+/// brackets.
+const ADDRESS_BYTES: usize = 41;
+
 impl<'h> Host<'h> {
+    /// Reads a host. A name borrows the bytes. Takes no memory.
+    ///
+    /// A text in brackets is an IPv6 address; any other is the IPv4 address that it spells, or else a
+    /// name. Between brackets,
+    /// [`AddressMechanismNotSupported`](HostError::AddressMechanismNotSupported) is answered for `v` or
+    /// `V`, a hexadecimal digit and then only bytes that an address of a later version may have,
+    /// [`InvalidIPvFutureCharacter`](HostError::InvalidIPvFutureCharacter) for the same with another
+    /// byte; else [`InvalidIPv6Character`](HostError::InvalidIPv6Character) for a byte that no IPv6
+    /// address has, and [`InvalidIPv6Format`](HostError::InvalidIPv6Format) for no form of one.
+    /// Without brackets,
+    /// [`InvalidIPv4OrRegisteredNameCharacter`](HostError::InvalidIPv4OrRegisteredNameCharacter) is
+    /// answered for a byte that no name has and for a broken escape.
+    pub fn try_from_bytes(bytes: &'h [u8]) -> Result<Host<'h>, HostError>
+        ensures { result ≡ spec.reading bytes.now }
+    {
+        read_host(bytes)
+    }
+
+    /// The same for a text.
+    pub fn try_from_str(text: &'h str) -> Result<Host<'h>, HostError>
+        ensures { result ≡ spec.reading text.now }
+    {
+        Host::try_from_bytes(text.as_bytes())
+    }
+
+    /// Whether the host is an IPv4 address.
+    pub fn is_ipv4_address(&self) -> bool
+        ensures { IsTrue result ↔ (spec.kind self.now ≡ spec.V4) }
+    {
+        matches!(self, Host::IPv4Address(_))
+    }
+
+    /// Whether the host is an IPv6 address.
+    pub fn is_ipv6_address(&self) -> bool
+        ensures { IsTrue result ↔ (spec.kind self.now ≡ spec.V6) }
+    {
+        matches!(self, Host::IPv6Address(_))
+    }
+
+    /// Whether the host is a registered name.
+    pub fn is_registered_name(&self) -> bool
+        ensures { IsTrue result ↔ (spec.kind self.now ≡ spec.Name) }
+    {
+        matches!(self, Host::RegisteredName(_))
+    }
+
+    /// The same host, which borrows this one's text.
+    pub fn as_borrowed(&self) -> Host<'_>
+        ensures { result ≡ self.now }
+    {
+        match self {
+            Host::IPv4Address(address) => Host::IPv4Address(*address),
+            Host::IPv6Address(address) => Host::IPv6Address(*address),
+            Host::RegisteredName(name) => Host::RegisteredName(name.as_borrowed()),
+        }
+    }
+
+    /// The same host, which owns its text. A name's borrowed text is copied, which wants memory;
+    /// where there is none, the host is gone.
+    pub fn into_owned(self, alloc: Global) -> Result<Host<'static>, AllocError>
+        ensures { IfOk result (λ h. h ≡ self.entry) }
+    {
+        match self {
+            Host::IPv4Address(address) => Ok(Host::IPv4Address(address)),
+            Host::IPv6Address(address) => Ok(Host::IPv6Address(address)),
+            Host::RegisteredName(name) => Ok(Host::RegisteredName(name.into_owned(alloc)?)),
+        }
+    }
+
+    /// A host of each kind is valid by its type. This does nothing but to say so.
+    pub(super) fn assert_valid(&self)
+        ensures { spec.Valid self.now }
+    {
+        match self {
+            Host::IPv4Address(address) => {
+                let _octets = address.octets();
+            }
+            Host::IPv6Address(address) => {
+                let _segments = address.segments();
+            }
+            Host::RegisteredName(name) => {
+                let _text = name.as_str();
+            }
+        }
+    }
+
     /// How many bytes the host's text has at most.
     pub(super) fn most_bytes(&self) -> usize {
         match self {
+            Host::IPv4Address(_) | Host::IPv6Address(_) => ADDRESS_BYTES,
             Host::RegisteredName(name) => name.as_str().len(),
+        }
+    }
+
+    /// A copy of the host's text, which wants memory.
+    pub fn to_string(&self, alloc: Global) -> Result<String, AllocError>
+        ensures { IfOk result (λ s. string_bytes s ≡ spec.text self.now) }
+    {
+        let mut text = String::with_capacity(alloc, self.most_bytes())?;
+        write!(text, "{self}")?;
+        Ok(text)
+    }
+}
+
+impl<'h> From<Ipv4Addr> for Host<'h> {
+    ghost use Rattle.uriparse_authority.specs.declared.authority.host.Host.TheVariants.{IPv4Address};
+
+    ghost from_gives = { λ a h. h ≡ IPv4Address a };
+
+    fn from(address: Ipv4Addr) -> Host<'h> {
+        Host::IPv4Address(address)
+    }
+}
+
+impl<'h> From<Ipv6Addr> for Host<'h> {
+    ghost use Rattle.uriparse_authority.specs.declared.authority.host.Host.TheVariants.{IPv6Address};
+
+    ghost from_gives = { λ a h. h ≡ IPv6Address a };
+
+    fn from(address: Ipv6Addr) -> Host<'h> {
+        Host::IPv6Address(address)
+    }
+}
+
+impl<'h> From<IpAddr> for Host<'h> {
+    ghost use Rattle.uriparse_authority.specs.Host.{host_at};
+
+    ghost from_gives = { λ a h. h ≡ host_at a };
+
+    fn from(address: IpAddr) -> Host<'h> {
+        match address {
+            IpAddr::V4(address) => Host::IPv4Address(address),
+            IpAddr::V6(address) => Host::IPv6Address(address),
         }
     }
 }
@@ -34,7 +185,12 @@ impl<'h> PartialEq for Host<'h> {
 
     fn eq(&self, other: &Host<'h>) -> bool {
         match (self, other) {
+            (Host::IPv4Address(left), Host::IPv4Address(right)) => left.octets() == right.octets(),
+            (Host::IPv6Address(left), Host::IPv6Address(right)) => {
+                left.segments() == right.segments()
+            }
             (Host::RegisteredName(left), Host::RegisteredName(right)) => left == right,
+            _ => false,
         }
     }
 }
@@ -50,6 +206,14 @@ impl<'h> Hash for Host<'h> {
 
     fn hash<H: Hasher>(&self, state: &mut H) {
         match self {
+            Host::IPv4Address(address) => {
+                state.write_u8(4);
+                address.octets().hash(state);
+            }
+            Host::IPv6Address(address) => {
+                state.write_u8(6);
+                address.segments().hash(state);
+            }
             Host::RegisteredName(name) => {
                 state.write_u8(1);
                 name.hash(state);
@@ -63,6 +227,12 @@ impl<'h> fmt::Display for Host<'h> {
 
     fn fmt<W: fmt::Write>(&self, f: &mut fmt::Formatter<W>) -> fmt::Result {
         match self {
+            Host::IPv4Address(address) => fmt::Display::fmt(address, f),
+            Host::IPv6Address(address) => {
+                f.write_str("[")?;
+                fmt::Display::fmt(address, f)?;
+                f.write_str("]")
+            }
             Host::RegisteredName(name) => fmt::Display::fmt(name, f),
         }
     }
@@ -71,6 +241,8 @@ impl<'h> fmt::Display for Host<'h> {
 impl<'h> fmt::Debug for Host<'h> {
     fn fmt<W: fmt::Write>(&self, f: &mut fmt::Formatter<W>) -> fmt::Result {
         match self {
+            Host::IPv4Address(address) => f.debug_tuple("IPv4Address").field(address).finish(),
+            Host::IPv6Address(address) => f.debug_tuple("IPv6Address").field(address).finish(),
             Host::RegisteredName(name) => fmt::Debug::fmt(name, f),
         }
     }

@@ -6,6 +6,7 @@ ghost use Rattle.std.specs.Cmp.Rules.{comparing, hashing};
 ghost use Rattle.uriparse_text.specs.declared.parts.class.Class.TheVariants as class;
 ghost use Rattle.uriparse_text.specs.declared.parts.canonical.Case.TheVariants as case;
 ghost use Rattle.uriparse_text.specs.Canon.{canon_low, fed_spelling, SpellsAlike};
+ghost use Rattle.uriparse_text.specs.Readings.{reading_in};
 ghost use Rattle.uriparse_authority.specs.Name as spec;
 
 use super::error::RegisteredNameError;
@@ -13,6 +14,7 @@ use std::alloc::{AllocError, Global};
 use std::fmt;
 use std::hash::{Hash, Hasher};
 use std::marker::Model;
+use uriparse_text::address::Ipv4Addr;
 use uriparse_text::parts::{Case, Class, Kind, Text};
 
 /// The kind of text that a name is.
@@ -41,6 +43,7 @@ impl Kind for NameKind {
 }
 
 /// A registered name: a text of unreserved bytes, escapes and sub-delimiters, which may be empty.
+/// RFC 3986, section 3.2.2. No reader takes the text of an IPv4 address for one.
 ///
 /// It borrows the text that it was read from, or owns its text. Two names are equal where their
 /// canonical spellings are.
@@ -65,9 +68,20 @@ impl<'n> Model for RegisteredName<'n> {
 impl<'n> RegisteredName<'n> {
     /// Reads a name, which borrows the bytes. Takes no memory.
     ///
-    /// A byte that no name has, or a `%` without two hexadecimal digits behind it, is refused.
+    /// A byte that no name has, or a `%` without two hexadecimal digits behind it, is refused, and so
+    /// is a text that spells an IPv4 address.
     pub fn try_from_bytes(bytes: &'n [u8]) -> Result<RegisteredName<'n>, RegisteredNameError>
         ensures { result ≡ spec.reading bytes.now }
+    {
+        if Ipv4Addr::parse_bytes(bytes).is_some() {
+            return Err(RegisteredNameError);
+        }
+        RegisteredName::of_class(bytes)
+    }
+
+    /// Reads a name of bytes that are known to spell no address.
+    pub(super) fn of_class(bytes: &'n [u8]) -> Result<RegisteredName<'n>, RegisteredNameError>
+        ensures { result ≡ reading_in class.Name spec.error_of bytes.now }
     {
         Ok(RegisteredName {
             text: Text::try_from_bytes(bytes)?,

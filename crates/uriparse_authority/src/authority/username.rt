@@ -1,5 +1,5 @@
 //! The user name of an authority: RFC 3986, section 3.2.1.
-ghost use Rattle.std.specs.Prelude.{◌≡◌, ◌↔◌, IsTrue, IfOk, Some, bytes_eq, string_bytes, true};
+ghost use Rattle.std.specs.Prelude.{[], ◌≡◌, ◌↔◌, IsTrue, IfOk, Some, bytes_eq, string_bytes, true};
 ghost use Rattle.std.proofs.Common.{rules};
 ghost use Rattle.std.specs.Ordering.{on};
 ghost use Rattle.std.specs.Cmp.Rules.{comparing, hashing};
@@ -91,6 +91,15 @@ impl<'u> Username<'u> {
         ensures { result ≡ spec.reading text.now }
     {
         Username::try_from_bytes(text.as_bytes())
+    }
+
+    /// The empty user name.
+    pub(super) fn empty() -> Username<'u>
+        ensures { result ≡ [] }
+    {
+        Username {
+            text: Text::of_checked(b""),
+        }
     }
 
     /// The text.

@@ -1,14 +1,13 @@
 //! How the text of a reference is cut and its pieces are read: RFC 3986, sections 3 and 4.
-ghost use Rattle.std.specs.Prelude.{◌≡◌, ◌||◌, ◌&&◌, not, ℕ, Option, List, drop, position, is_some, true, false, MatchOption};
+ghost use Rattle.std.specs.Prelude.{◌≡◌, ◌||◌, ◌&&◌, not, ℕ, Option, List, drop, is_some, true, false, MatchOption};
 ghost use Rattle.std.specs.Option.{option_copied, option_map};
-ghost use Rattle.uriparse_text.specs.Cuts.{up_to, from_first};
 ghost use Rattle.uriparse_text.specs.Query as query;
 ghost use Rattle.uriparse_text.specs.Fragment as fragment;
 ghost use Rattle.uriparse_text.specs.Readings.{if_present, of_piece, IsUnless};
 ghost use Rattle.uriparse_authority.specs.Authority as authority;
 ghost use Rattle.uriparse_path.specs.Path.{has_two_slashes};
 ghost use Rattle.uriparse_scheme.specs.Scheme.{named};
-ghost use Rattle.uriparse_reference.specs.Cuts.{scheme_text, after_scheme, ends_authority, cut_authority, cut_left, authority_text, path_text, query_text, fragment_text};
+ghost use Rattle.uriparse_reference.specs.Cuts.{scheme_text, after_scheme, cut_authority, cut_left, authority_text, path_text, query_text, fragment_text};
 ghost use Rattle.uriparse_path.specs.declared.path.error.PathError.TheVariants.{OutOfMemory};
 ghost use Rattle.uriparse_reference.specs.declared.uri_reference.error.URIReferenceError.TheVariants as errors;
 ghost use Rattle.uriparse_reference.specs.Reading.{path_reading};
@@ -17,7 +16,7 @@ ghost use Rattle.uriparse_reference.specs.Reference.{is_noscheme, fits};
 use super::error::URIReferenceError;
 use std::alloc::Global;
 use uriparse_authority::authority::Authority;
-use uriparse_authority::parts::read_authority;
+use uriparse_authority::parts::{read_authority, split_rest};
 use uriparse_path::parts::into_absolute;
 use uriparse_path::path::Path;
 use uriparse_scheme::scheme::Scheme;
@@ -40,19 +39,6 @@ fn split_scheme(text: &[u8]) -> (Option<Scheme<'_>>, &[u8])
     }
 }
 
-fn ends_authority_at(b: u8) -> bool
-    ensures { result ≡ ends_authority b }
-{
-    matches!(b, b'/' | b'?' | b'#')
-}
-
-/// Where the first byte stands that ends an authority.
-fn end_of_authority(text: &[u8]) -> Option<usize>
-    ensures { result ≡ position ends_authority text.now }
-{
-    text.iter().position(|b| ends_authority_at(*b))
-}
-
 /// What stands behind the two slashes that a text begins with, if it does.
 fn behind_two_slashes(text: &[u8]) -> Option<&[u8]>
     ensures { MatchOption result (has_two_slashes text.now ≡ false) (λ r. (has_two_slashes text.now ≡ true) × (r.now ≡ drop 2 text.now)) }
@@ -72,8 +58,7 @@ fn split_authority(text: &[u8]) -> (Option<&[u8]>, &[u8])
     let Some(behind) = behind_two_slashes(text) else {
         return (None, text);
     };
-    let end = end_of_authority(behind).unwrap_or(behind.len());
-    let (authority, rest) = behind.split_at(end);
+    let (authority, rest) = split_rest(behind);
     (Some(authority), rest)
 }
 

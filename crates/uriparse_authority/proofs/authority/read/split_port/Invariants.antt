@@ -1,0 +1,16 @@
+use Rattle.std.proofs.Common.{◌≡◌, ℕ, true, List, ◌++◌, length}
+use Rattle.uriparse_text.specs.Cuts.{none_pass}
+use Rattle.uriparse_authority.specs.Authority.{ends_host}
+use Rattle.uriparse_authority.proofs.authority.read.split_port.Given as goal
+
+-- what stands behind the front has neither a colon nor a bracket
+pub record IsBehind (text front : List ℕ) : Type 0 where
+  pub behind : List ℕ
+  pub whole : text ≡ front ++ behind
+  pub plain : none_pass ends_host behind ≡ true
+
+abbrev pub invariant-loop-last : goal.invariant-loop-last
+invariant-loop-last l = IsBehind l.text l.front
+
+abbrev pub decreases-loop-last : goal.decreases-loop-last
+decreases-loop-last l = length l.front

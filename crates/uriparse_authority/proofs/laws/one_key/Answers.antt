@@ -1,0 +1,6 @@
+use Rattle.uriparse_authority.proofs.HostLemmas.{same_host}
+use Rattle.uriparse_authority.proofs.AuthorityLemmas.{same_key}
+use Rattle.uriparse_authority.proofs.laws.one_key.Goals as goal
+
+pub returns : goal.returns
+returns c = record { hosts = same_host; authorities = same_key }
