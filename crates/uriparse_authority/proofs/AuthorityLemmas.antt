@@ -22,7 +22,7 @@ use Rattle.uriparse_authority.specs.Username as username
 use Rattle.uriparse_authority.specs.Password as password
 use Rattle.uriparse_authority.specs.Host as host
 use Rattle.uriparse_authority.specs.Port as port
-use Rattle.uriparse_authority.specs.Authority.{AuthorityParts, user, joined, IsPaired, Spells, Valid, ReadsBack, print, cprint, kind, front_text, right_text, name_in, password_in, username_text, password_text, ends_host, colon_part, cut_port, cut_host, host_text, port_text, reading, ends_authority, rest_error, unless_rest, whole_reading, key, each_alike, fed_pieces, fed}
+use Rattle.uriparse_authority.specs.Authority.{AuthorityParts, user, joined, IsPaired, Spells, Valid, ReadsBack, print, canonical_text, kind, front_text, right_text, name_in, password_in, username_text, password_text, ends_host, colon_part, cut_port, cut_host, host_text, port_text, reading, ends_authority, rest_error, unless_rest, whole_reading, key, each_alike, fed_pieces, fed}
 use Rattle.uriparse_authority.proofs.UserLemmas.{is_gen_delim, username_lacks, password_lacks, IsUsername-canon, IsPassword-canon}
 use Rattle.uriparse_authority.proofs.PortLemmas.{port_exact, port_printed, port_lacks, decimal_lacks, decimal_of_one_port}
 use Rattle.uriparse_authority.proofs.HostLemmas.{host_exact, host_valid, IsHostText, spelled_host, printed_host, canonical_host, host_text_lacks, no_port, host_alike, code_kind}
@@ -152,14 +152,14 @@ spelled_lacks a p s = subst LacksEnds (sym s.whole) (joined_lacks p.username p.p
 pub print_lacks : (p : AuthorityParts) → Valid p → LacksEnds (print p)
 print_lacks p v = joined_lacks p.username p.password (host.text p.host) (option_map port.text p.port) (printed_pieces p v)
 
-pub cprint_lacks : (p : AuthorityParts) → Valid p → LacksEnds (cprint p)
-cprint_lacks p v = joined_lacks (option_map canon p.username) (option_map canon p.password) (host.canonical_text p.host) (option_map port.text p.port) (canonical_pieces p v)
+pub canonical_lacks : (p : AuthorityParts) → Valid p → LacksEnds (canonical_text p)
+canonical_lacks p v = joined_lacks (option_map canon p.username) (option_map canon p.password) (host.canonical_text p.host) (option_map port.text p.port) (canonical_pieces p v)
 
-print_cut : (p : AuthorityParts) → Valid p → IsCutInto (print p) p.username p.password (host.text p.host) (option_map port.text p.port)
+pub print_cut : (p : AuthorityParts) → Valid p → IsCutInto (print p) p.username p.password (host.text p.host) (option_map port.text p.port)
 print_cut p v = cut_again (print p) p.username p.password (host.text p.host) (option_map port.text p.port) (printed_pieces p v) refl
 
-cprint_cut : (p : AuthorityParts) → Valid p → IsCutInto (cprint p) (option_map canon p.username) (option_map canon p.password) (host.canonical_text p.host) (option_map port.text p.port)
-cprint_cut p v = cut_again (cprint p) (option_map canon p.username) (option_map canon p.password) (host.canonical_text p.host) (option_map port.text p.port) (canonical_pieces p v) refl
+canonical_cut : (p : AuthorityParts) → Valid p → IsCutInto (canonical_text p) (option_map canon p.username) (option_map canon p.password) (host.canonical_text p.host) (option_map port.text p.port)
+canonical_cut p v = cut_again (canonical_text p) (option_map canon p.username) (option_map canon p.password) (host.canonical_text p.host) (option_map port.text p.port) (canonical_pieces p v) refl
 
 -- ---- what is spelled so is read so
 
@@ -198,7 +198,7 @@ right_is t = by_last (from_last ends_host t) (last-whole ends_host t)
         at_byte true e = ap (λ x. up_to_last ends_host t ++ x ∷ r) (sym (eqb-true b colon e)) ∙ h
         at_byte false e = append-nil t
 
-whole_is : (a : List ℕ) → a ≡ joined (username_text a) (password_text a) (host_text a) (port_text a)
+pub whole_is : (a : List ℕ) → a ≡ joined (username_text a) (password_text a) (host_text a) (port_text a)
 whole_is a =
     sym (front_rest at_sign a)
     ∙ ap (λ o. ahead at_sign o ++ right_text a) (sym (user_is (front_text a)))
@@ -286,13 +286,13 @@ back p v r = record { host_text = host.text p.host; port_text = option_map port.
 
 -- ---- authorities that print alike
 
-one_port : (m n : Option ℕ) → IfSome m port.IsPort → IfSome n port.IsPort → option_map port.text m ≡ option_map port.text n → m ≡ n
+pub one_port : (m n : Option ℕ) → IfSome m port.IsPort → IfSome n port.IsPort → option_map port.text m ≡ option_map port.text n → m ≡ n
 one_port None None v w e = refl
 one_port None (Some n) v w e = absurd (cc)
 one_port (Some m) None v w e = absurd (cc)
 one_port (Some m) (Some n) v w e = let texts : port.text m ≡ port.text n = cc in ap Some (decimal_of_one_port m n v w texts)
 
-pub alike : (p q : AuthorityParts) → Valid p → Valid q → print p ≡ print q → kind p ≡ kind q → cprint p ≡ cprint q
+pub alike : (p q : AuthorityParts) → Valid p → Valid q → print p ≡ print q → kind p ≡ kind q → canonical_text p ≡ canonical_text q
 alike p q v w e k =
     let x = print_cut p v in
     let y = print_cut q w in
@@ -329,9 +329,9 @@ to_key p q e =
 from_key : (p q : AuthorityParts) → Valid p → Valid q → key p ≡ key q → IsTrue (each_alike p q)
 from_key p q v w e =
     let codes : host.kind_code (kind p) ≡ host.kind_code (kind q) = cc in
-    let texts : cprint p ≡ cprint q = cc in
-    let x = cprint_cut p v in
-    let y = cprint_cut q w in
+    let texts : canonical_text p ≡ canonical_text q = cc in
+    let x = canonical_cut p v in
+    let y = canonical_cut q w in
     let g : host.canonical_text p.host ≡ host.canonical_text q.host = sym x.host ∙ ap host_text texts ∙ y.host in
     and_from _ _ ((same_option canon p.username q.username).1 (sym x.username ∙ ap username_text texts ∙ y.username))
     (and_from _ _ ((same_option canon p.password q.password).1 (sym x.password ∙ ap password_text texts ∙ y.password))
@@ -359,7 +359,7 @@ fed_parts : (p : AuthorityParts) → Valid p → fed (key p)
     ++ (host.fed (host.key p.host)
     ++ option u16 p.port))
 fed_parts p v =
-    fed_cut (host.kind_code (kind p)) (cprint p) (option_map canon p.username) (option_map canon p.password) (host.canonical_text p.host) (option_map port.text p.port) (cprint_cut p v)
+    fed_cut (host.kind_code (kind p)) (canonical_text p) (option_map canon p.username) (option_map canon p.password) (host.canonical_text p.host) (option_map port.text p.port) (canonical_cut p v)
     ∙ rw (fed_option canon fed_spelling p.username, fed_option canon fed_spelling p.password, port_value p.port v.is_port) refl
 
 -- the parts are fed one after another
@@ -389,8 +389,8 @@ none_exactly a = (
   (λ w. ap error_of (again a w.0 w.1)),
 )
 
-pub same_key : (p q : AuthorityParts) → (key p ≡ key q) ↔ ((cprint p ≡ cprint q) × (kind p ≡ kind q))
+pub same_key : (p q : AuthorityParts) → (key p ≡ key q) ↔ ((canonical_text p ≡ canonical_text q) × (kind p ≡ kind q))
 same_key p q = (
-  (λ e. let codes : host.kind_code (kind p) ≡ host.kind_code (kind q) = cc in let texts : cprint p ≡ cprint q = cc in (texts, code_kind (kind p) (kind q) codes)),
+  (λ e. let codes : host.kind_code (kind p) ≡ host.kind_code (kind q) = cc in let texts : canonical_text p ≡ canonical_text q = cc in (texts, code_kind (kind p) (kind q) codes)),
   (λ s. rw (s.0, s.1) refl),
 )

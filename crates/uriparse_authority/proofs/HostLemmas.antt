@@ -22,6 +22,7 @@ use Rattle.uriparse_text.proofs.ReadingLemmas.{IsExact, exact_in}
 use Rattle.uriparse_text.proofs.AddressLemmas.{ipv4_reading-spelled, ipv4_reading-found, ipv6_reading-spelled, ipv6_reading-found, SpellsIpv4-ipv4_text, SpellsIpv6-ipv6_text, ipv4_reading-ipv4_text, ipv6_reading-ipv6_text, ipv4_text-injective, ipv6_text-injective}
 use Rattle.uriparse_text.proofs.AddressBytes.{SpellsIpv6-bytes, IsIn-SpellsIpv4}
 use Rattle.uriparse_text.proofs.AddressFit.{IsSegments-SpellsIpv6}
+use Rattle.uriparse_text.proofs.OctetLemmas.{IsOctets-SpellsIpv4}
 use Rattle.uriparse_authority.specs.Name.{IsName}
 use Rattle.uriparse_authority.specs.Name as name
 use Rattle.uriparse_authority.specs.declared.authority.host.Host.{Host}
@@ -159,7 +160,7 @@ pub names_exactly : (t n : List ℕ) → (name.reading t ≡ Ok n) ↔ Spells t 
 names_exactly t n = (names_found t n, names_again t n)
 
 pub host_valid : (t : List ℕ) (h : Host) → Spells t h → Valid h
-host_valid t (IPv4Address a) s = s.is_octets
+host_valid t (IPv4Address a) s = IsOctets-SpellsIpv4 t a s
 host_valid t (IPv6Address a) s = IsSegments-SpellsIpv6 s.0 a s.2
 host_valid t (RegisteredName n) s = subst (λ x. IsName x) (sym s.0) s.1
 
@@ -205,9 +206,19 @@ host_back (IPv4Address a) v plain = SpellsIpv4-ipv4_text a v
 host_back (IPv6Address a) v plain = (ipv6_text a, refl, SpellsIpv6-ipv6_text a v)
 host_back (RegisteredName n) v plain = (refl, v, λ a s. plain (a, s))
 
+-- the text of a host that a text spells stands for it
+pub spelled_back : (t : List ℕ) (h : Host) → Spells t h → ReadsBack h
+spelled_back t (IPv4Address a) s = SpellsIpv4-ipv4_text a (IsOctets-SpellsIpv4 t a s)
+spelled_back t (IPv6Address a) s = (ipv6_text a, refl, SpellsIpv6-ipv6_text a (IsSegments-SpellsIpv6 s.0 a s.2))
+spelled_back t (RegisteredName n) s = subst (λ x. Spells x (RegisteredName n)) (sym s.0) s
+
+-- a name's text isn't in brackets
+pub unbracketed : (t u : List ℕ) → IsName t → t ≡ bracketed u → ⊥
+unbracketed t u is e = let o : None ≡ Some u = sym (name_no_brackets t is) ∙ (brackets_exactly t u).1 e in cc
+
 -- ---- hosts that print alike
 
-bracketed-injective : (t u : List ℕ) → bracketed t ≡ bracketed u → t ≡ u
+pub bracketed-injective : (t u : List ℕ) → bracketed t ≡ bracketed u → t ≡ u
 bracketed-injective t u e = let o : Some t ≡ Some u = sym (closed-bracket t) ∙ ap in_brackets e ∙ closed-bracket u in cc
 
 -- hosts of one kind with one text have one canonical text

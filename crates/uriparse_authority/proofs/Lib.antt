@@ -3,3 +3,6 @@ pub mod PortLemmas
 pub mod HostLemmas
 pub mod CutLemmas
 pub mod AuthorityLemmas
+pub mod NormalLemmas
+pub mod PrintedLemmas
+pub mod PieceLemmas

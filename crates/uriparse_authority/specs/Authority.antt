@@ -24,17 +24,17 @@ pub record AuthorityParts : Type 0 where
   pub host : Host
   pub port : Option ℕ
 
--- userinfo = u [ ":" w ]
+-- userinfo = username [ ":" password ]
 abbrev pub user : Option (List ℕ) → Option (List ℕ) → Option (List ℕ)
-user u w = option_map (λ t. t ++ behind colon w) u
+user username password = option_map (λ t. t ++ behind colon password) username
 
--- [ userinfo "@" ] g [ ":" n ]
+-- [ userinfo "@" ] host [ ":" port ]
 abbrev pub joined : Option (List ℕ) → Option (List ℕ) → List ℕ → Option (List ℕ) → List ℕ
-joined u w g n = ahead at_sign (user u w) ++ (g ++ behind colon n)
+joined username password host port = ahead at_sign (user username password) ++ (host ++ behind colon port)
 
 -- a password stands only with a user name
 abbrev pub IsPaired : Option (List ℕ) → Option (List ℕ) → Type 0
-IsPaired u w = IfSome w (λ _. IsSome u)
+IsPaired username password = IfSome password (λ _. IsSome username)
 
 -- The text is made of these pieces, and each stands for its part. An empty port is none.
 pub record Spells (a : List ℕ) (p : AuthorityParts) : Type 0 where
@@ -64,8 +64,8 @@ abbrev pub print : AuthorityParts → List ℕ
 print p = joined p.username p.password (host.text p.host) (option_map port.text p.port)
 
 -- its text with each part in canonical spelling
-abbrev pub cprint : AuthorityParts → List ℕ
-cprint p = joined (option_map canon p.username) (option_map canon p.password) (host.canonical_text p.host) (option_map port.text p.port)
+abbrev pub canonical_text : AuthorityParts → List ℕ
+canonical_text p = joined (option_map canon p.username) (option_map canon p.password) (host.canonical_text p.host) (option_map port.text p.port)
 
 abbrev pub kind : AuthorityParts → host.Kind
 kind p = host.kind p.host
@@ -153,7 +153,7 @@ whole_reading t = reading (up_to ends_authority t) >>= unless_rest (from_first e
 
 -- what authorities are compared by: the kind of the host, and then the canonical spelling
 abbrev pub key : AuthorityParts → List ℕ
-key p = host.kind_code (kind p) ∷ cprint p
+key p = host.kind_code (kind p) ∷ canonical_text p
 
 -- whether each part is spelled like the other's, and the hosts are of one kind
 abbrev pub each_alike : AuthorityParts → AuthorityParts → Bool

@@ -1,5 +1,5 @@
 -- Hosts: RFC 3986, section 3.2.2.
-use Rattle.std.specs.Prelude.{◌≡◌, ℕ, Bool, false, ◌==◌, ◌&&◌, ◌||◌, List, [], ◌∷◌, ◌++◌, Option, Some, None, Result, Ok, Err, is_none, unwrap_or, codes, if◌then◌else◌}
+use Rattle.std.specs.Prelude.{◌≡◌, ◌⊎◌, ℕ, Bool, false, ◌==◌, ◌&&◌, ◌||◌, List, [], ◌∷◌, ◌++◌, Option, Some, None, Result, Ok, Err, is_none, unwrap_or, codes, if◌then◌else◌}
 use Rattle.std.specs.Option.{option_map, ok_or}
 use Rattle.std.specs.List.{list_all}
 use Rattle.std.specs.Hash.{HashWrites, slice, u8, u16}
@@ -74,6 +74,18 @@ abbrev pub IsHiddenAddress : Host → Type 0
 IsHiddenAddress (IPv4Address a) = ⊥
 IsHiddenAddress (IPv6Address a) = ⊥
 IsHiddenAddress (RegisteredName n) = (a : List ℕ) × SpellsIpv4 n a
+
+-- the one host holds as a name what the other holds as an IPv4 address
+abbrev pub HoldsAsName : Host → Host → Type 0
+HoldsAsName (RegisteredName n) (IPv4Address a) = SpellsIpv4 n a
+HoldsAsName (RegisteredName n) (IPv6Address a) = ⊥
+HoldsAsName (RegisteredName n) (RegisteredName m) = ⊥
+HoldsAsName (IPv4Address a) h = ⊥
+HoldsAsName (IPv6Address a) h = ⊥
+
+-- one of the two holds as a name what the other holds as an IPv4 address
+abbrev pub OneHidesAddress : Host → Host → Type 0
+OneHidesAddress g h = HoldsAsName g h ⊎ HoldsAsName h g
 
 -- ---- reading
 

@@ -4,3 +4,4 @@ pub mod Password
 pub mod Port
 pub mod Host
 pub mod Authority
+pub mod Normal

@@ -33,6 +33,7 @@ use print::{write_port, write_user};
 use read::read_whole;
 pub use uriparse_text::address::{IpAddr, Ipv4Addr, Ipv6Addr};
 pub use username::Username;
+use username::empty_username;
 
 /// The authority of a reference, without its `//`: a user name and a password if there are any, the
 /// host, and a port if there is one. RFC 3986, section 3.2.
@@ -258,7 +259,7 @@ fn with_empty(username: Option<Username<'_>>, has_password: bool) -> Option<User
     ensures { (w : Option (List ℕ)) → is_some w ≡ has_password → result ≡ spec.with_empty username.entry w }
 {
     match username {
-        None if has_password => Some(Username::empty()),
+        None if has_password => Some(empty_username()),
         username => username,
     }
 }
@@ -292,6 +293,9 @@ impl<'a> Hash for Authority<'a> {
 
 impl<'a> fmt::Display for Authority<'a> {
     ghost output = { λ a. Some (spec.print a) };
+
+    // No option of the formatter changes it.
+    ghost styled_output = { λ a _. Some (spec.print a) };
 
     fn fmt<W: fmt::Write>(&self, f: &mut fmt::Formatter<W>) -> fmt::Result {
         write_user(&self.username, &self.password, f)?;

@@ -1,13 +1,22 @@
 //! Laws of the definitions that contracts cite. Each function has nothing to do: its contract is
 //! the law.
-ghost use Rattle.std.specs.Prelude.{◌≡◌, ◌↔◌, ◌∷◌, ◌++◌, true, ℕ, List, Err, None, Ok, Option, Some, decimal};
+ghost use Rattle.std.specs.Prelude.{◌≡◌, ◌↔◌, ◌⊎◌, ◌∷◌, ◌++◌, true, ℕ, codes, IfSome, List, [], Err, None, Ok, Option, Some, decimal};
+ghost use Rattle.uriparse_text.specs.Bytes.{at_sign, colon};
+ghost use Rattle.uriparse_text.specs.Cuts.{lacks, none_pass};
+ghost use Rattle.uriparse_authority.specs.declared.authority.error.AuthorityError.{AuthorityError};
 ghost use Rattle.uriparse_authority.specs.declared.authority.error.PortError.TheVariants.{InvalidCharacter, Overflow};
 ghost use Rattle.uriparse_authority.specs.declared.authority.host.Host.{Host};
-ghost use Rattle.uriparse_authority.specs.declared.authority.host.Host.TheVariants.{RegisteredName};
+ghost use Rattle.uriparse_authority.specs.declared.authority.host.Host.TheVariants.{IPv4Address, IPv6Address, RegisteredName};
+ghost use Rattle.uriparse_authority.specs.declared.authority.error.AuthorityError.TheVariants as errors;
+ghost use Rattle.uriparse_authority.specs.declared.authority.error.HostError.TheVariants as host_errors;
+ghost use Rattle.uriparse_authority.specs.declared.authority.error.PasswordError.TheVariants as password_errors;
+ghost use Rattle.uriparse_authority.specs.declared.authority.error.UsernameError.TheVariants as username_errors;
+ghost use Rattle.uriparse_authority.specs.Username as username;
 ghost use Rattle.uriparse_authority.specs.Name as name;
 ghost use Rattle.uriparse_authority.specs.Host as host;
 ghost use Rattle.uriparse_authority.specs.Port as port;
-ghost use Rattle.uriparse_authority.specs.Authority.{AuthorityParts, Spells, Valid, ReadsBack, cprint, ends_authority, fault, key, kind, print, reading, rest_error, whole_reading};
+ghost use Rattle.uriparse_authority.specs.Normal.{canonical_host, canonical_authority};
+ghost use Rattle.uriparse_authority.specs.Authority.{AuthorityParts, Spells, Valid, ReadsBack, canonical_text, ends_authority, fault, host_text, joined, key, kind, password_text, port_text, print, reading, rest_error, username_text, whole_reading};
 
 /// Reading gives exactly what a text spells: a host, a name by itself, a port, an authority, and an
 /// authority that is the whole text. A text spells one authority at most, and has a fault exactly
@@ -24,29 +33,88 @@ pub fn one_reading()
 {}
 
 /// Which fault answers. What stands in brackets is read as an address; a port's fault is a byte that
-/// is no digit, or the digit with which the number passes the largest, whichever comes first; and
-/// behind a faultless authority the byte that ends it answers.
+/// is no digit, or the digit with which the number passes the largest, whichever comes first. The
+/// fault of an authority answers whatever stands behind the byte that ends it; behind a faultless one
+/// that byte answers.
 pub fn first_fault()
     ensures brackets { (t inner : List ℕ) → (host.in_brackets t ≡ Some inner) ↔ (t ≡ host.bracketed inner) }
     ensures other { (t : List ℕ) → (port.fault t ≡ Some InvalidCharacter) ↔ port.HasOther t }
     ensures passes { (t : List ℕ) → (port.fault t ≡ Some Overflow) ↔ port.Passes t }
+    ensures front { (a : List ℕ) (b : ℕ) (u : List ℕ) (e : AuthorityError) → none_pass ends_authority a ≡ true → ends_authority b ≡ true → fault a ≡ Some e → whole_reading (a ++ b ∷ u) ≡ Err e }
     ensures rest { (a : List ℕ) (b : ℕ) (u : List ℕ) (p : AuthorityParts) → Spells a p → ends_authority b ≡ true → whole_reading (a ++ b ∷ u) ≡ Err (rest_error p.port (kind p)) }
 {}
 
-/// The text of a valid host stands for it, unless it is a name that hides an IPv4 address; where it
-/// does, so does the text of an authority with this host. A port is read back from its decimal text.
-/// Two valid authorities that print alike have one canonical text, unless their hosts differ in
-/// kind.
+/// Every text is its pieces put together; the user name lacks the marks that end it, the password the
+/// `@` that ends it.
+pub fn one_cut()
+    ensures whole { (a : List ℕ) → a ≡ joined (username_text a) (password_text a) (host_text a) (port_text a) }
+    ensures username_at { (a : List ℕ) → IfSome (username_text a) (λ t. lacks at_sign t ≡ true) }
+    ensures username_colon { (a : List ℕ) → IfSome (username_text a) (λ t. lacks colon t ≡ true) }
+    ensures password_at { (a : List ℕ) → IfSome (password_text a) (λ t. lacks at_sign t ≡ true) }
+{}
+
+/// What a text spells reads back: its own printed text spells it. So does that of each valid host and
+/// authority, unless the host is a name that hides an IPv4 address. A port is read back from its
+/// decimal text. Two valid authorities that print alike are one, unless one holds as a name what the
+/// other holds as an IPv4 address.
 pub fn reading_back()
+    ensures host_spelled { (t : List ℕ) (h : Host) → host.Spells t h → host.ReadsBack h }
     ensures host { (h : Host) → host.Valid h → (host.IsHiddenAddress h → ⊥) → host.ReadsBack h }
     ensures port { (n : ℕ) → port.IsPort n → port.Spells (decimal n) (Some n) }
+    ensures spelled { (a : List ℕ) (p : AuthorityParts) → Spells a p → ReadsBack p }
     ensures back { (p : AuthorityParts) → Valid p → ReadsBack p → Spells (print p) p }
-    ensures alike { (p q : AuthorityParts) → Valid p → Valid q → print p ≡ print q → kind p ≡ kind q → cprint p ≡ cprint q }
+    ensures plain { (p : AuthorityParts) → Valid p → (host.IsHiddenAddress p.host → ⊥) → Spells (print p) p }
+    ensures hosts { (g h : Host) → host.Valid g → host.Valid h → host.text g ≡ host.text h → (g ≡ h) ⊎ host.OneHidesAddress g h }
+    ensures one { (p q : AuthorityParts) → Valid p → Valid q → print p ≡ print q → (p ≡ q) ⊎ host.OneHidesAddress p.host q.host }
 {}
 
 /// Two hosts, or two authorities, have one key exactly where their canonical texts agree and their
 /// hosts are of one kind.
 pub fn one_key()
     ensures hosts { (g h : Host) → (host.key g ≡ host.key h) ↔ ((host.canonical_text g ≡ host.canonical_text h) × (host.kind g ≡ host.kind h)) }
-    ensures authorities { (p q : AuthorityParts) → (key p ≡ key q) ↔ ((cprint p ≡ cprint q) × (kind p ≡ kind q)) }
+    ensures authorities { (p q : AuthorityParts) → (key p ≡ key q) ↔ ((canonical_text p ≡ canonical_text q) × (kind p ≡ kind q)) }
+{}
+
+/// The normal form of a valid host or authority is valid and its own normal form, has the canonical
+/// text, and keeps the host's kind. An authority that prints as its normal form is that form.
+pub fn one_normal_form()
+    ensures host_valid { (h : Host) → host.Valid h → host.Valid (canonical_host h) }
+    ensures host_twice { (h : Host) → host.Valid h → canonical_host (canonical_host h) ≡ canonical_host h }
+    ensures host_text { (h : Host) → host.text (canonical_host h) ≡ host.canonical_text h }
+    ensures host_kind { (h : Host) → host.kind (canonical_host h) ≡ host.kind h }
+    ensures valid { (p : AuthorityParts) → Valid p → Valid (canonical_authority p) }
+    ensures twice { (p : AuthorityParts) → Valid p → canonical_authority (canonical_authority p) ≡ canonical_authority p }
+    ensures text { (p : AuthorityParts) → print (canonical_authority p) ≡ canonical_text p }
+    ensures kinds { (p : AuthorityParts) → kind (canonical_authority p) ≡ kind p }
+    ensures kept { (p : AuthorityParts) → Valid p → print (canonical_authority p) ≡ print p → canonical_authority p ≡ p }
+{}
+
+/// Worked examples: hosts, ports, user names and whole authorities, and what reading them answers.
+pub fn examples()
+    ensures address { host.reading (codes "1.2.3.4") ≡ Ok (IPv4Address (1 ∷ 2 ∷ 3 ∷ 4 ∷ [])) }
+    ensures leading_zero { host.reading (codes "01.2.3.4") ≡ Ok (RegisteredName (codes "01.2.3.4")) }
+    ensures large_octet { host.reading (codes "256.1.1.1") ≡ Ok (RegisteredName (codes "256.1.1.1")) }
+    ensures no_name { name.reading (codes "1.2.3.4") ≡ Err (record {}) }
+    ensures empty_brackets { host.reading (codes "[]") ≡ Err host_errors.InvalidIPv6Format }
+    ensures nine_groups { host.reading (codes "[1:2:3:4:5:6:7:8::]") ≡ Err host_errors.InvalidIPv6Format }
+    ensures no_group { host.reading (codes "[::g]") ≡ Err host_errors.InvalidIPv6Character }
+    ensures no_version { host.reading (codes "[v]") ≡ Err host_errors.InvalidIPv6Character }
+    ensures later_version { host.reading (codes "[v1.x]") ≡ Err host_errors.AddressMechanismNotSupported }
+    ensures later_version_escape { host.reading (codes "[v1.%41]") ≡ Err host_errors.InvalidIPvFutureCharacter }
+    ensures open_bracket { host.reading (codes "[::1") ≡ Err host_errors.InvalidIPv4OrRegisteredNameCharacter }
+    ensures no_port { port.reading (codes "") ≡ Ok None }
+    ensures zeros { port.reading (codes "0080") ≡ Ok (Some 80) }
+    ensures largest { port.reading (codes "65535") ≡ Ok (Some 65535) }
+    ensures overflow { port.reading (codes "65536") ≡ Err Overflow }
+    ensures byte_first { port.reading (codes "6553x") ≡ Err InvalidCharacter }
+    ensures overflow_first { port.reading (codes "99999x") ≡ Err Overflow }
+    ensures username_colon { username.reading (codes "a:%") ≡ Err username_errors.ContainsColon }
+    ensures username_escape { username.reading (codes "%:") ≡ Err username_errors.InvalidPercentEncoding }
+    ensures first_at { fault (codes "a@b@c") ≡ Some (errors.Host host_errors.InvalidIPv4OrRegisteredNameCharacter) }
+    ensures first_part { fault (codes "a b@h:99999") ≡ Some (errors.Username username_errors.InvalidCharacter) }
+    ensures password_escape { fault (codes "u:%zz@h") ≡ Some (errors.Password password_errors.InvalidPercentEncoding) }
+    ensures behind_port { whole_reading (codes "h:80/x") ≡ Err (errors.Port InvalidCharacter) }
+    ensures behind_address { whole_reading (codes "[::1]/") ≡ Err (errors.Host host_errors.InvalidIPv6Character) }
+    ensures behind_name { whole_reading (codes "h?") ≡ Err (errors.Host host_errors.InvalidIPv4OrRegisteredNameCharacter) }
+    ensures last_colon { reading (codes "u:p:w@[::1]:8") ≡ Ok (record { username = Some (codes "u"); password = Some (codes "p:w"); host = IPv6Address (0 ∷ 0 ∷ 0 ∷ 0 ∷ 0 ∷ 0 ∷ 0 ∷ 1 ∷ []); port = Some 8 }) }
 {}

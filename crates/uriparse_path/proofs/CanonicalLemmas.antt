@@ -14,10 +14,11 @@ use Rattle.uriparse_text.proofs.TokenLemmas.{tokens-nil, spell-tokens}
 use Rattle.uriparse_text.proofs.CanonLemmas.{by_escaped, spell-canonical, spelling-append}
 use Rattle.uriparse_text.proofs.ClassLemmas.{well_formed-in_class, IsIn-spelling}
 use Rattle.uriparse_path.specs.Segment.{is_segment}
-use Rattle.uriparse_path.specs.Path.{PathParts, IsListed, IsPath, root, text, is_slash, is_rooted, pieces, spelled, has_two_slashes}
+use Rattle.uriparse_path.specs.Path.{PathParts, IsListed, IsPath, root, text, is_slash, is_rooted, pieces, spelled, has_two_slashes, IsCounted}
+use Rattle.uriparse_path.specs.Normal.{canonical_path}
 use Rattle.uriparse_path.proofs.TextLemmas.{spelled-text, listed-respelled, text-spelled, text-cons}
 
-canon-nil : canon [] ≡ []
+pub canon-nil : canon [] ≡ []
 unfolding spelling
 canon-nil = ap (λ ts. flat_map spell (map (canonical Kept) ts)) tokens-nil
 
@@ -36,10 +37,6 @@ canon-behind (s ∷ ss) h =
     canon-slash (s ++ flat_map (λ r. slash ∷ r) ss)
     ∙ ap (λ u. slash ∷ u) (spelling-append Kept s (flat_map (λ r. slash ∷ r) ss) (well_formed-in_class Segment s both.0) ∙ ap (λ u. canon s ++ u) (canon-behind ss both.1))
 
--- the same path with each segment in canonical spelling
-abbrev pub canonical_path : PathParts → PathParts
-canonical_path p = record { absolute = p.absolute; segments = map canon p.segments }
-
 pub canon-text : (p : PathParts) → IsListed p.segments → canon (text p) ≡ text (canonical_path p)
 canon-text p is = by_shape p.absolute p.segments is
   where
@@ -52,13 +49,16 @@ canon-text p is = by_shape p.absolute p.segments is
         ∙ ap (λ u. root a ++ u) (spelling-append Kept s (flat_map (λ r. slash ∷ r) ss) (well_formed-in_class Segment s both.0) ∙ ap (λ u. canon s ++ u) (canon-behind ss both.1))
         ∙ sym (text-cons a (map canon (s ∷ ss)) (canon s) (map canon ss) refl)
 
-each-canon : (ss : List (List ℕ)) → list_all is_segment ss ≡ true → list_all is_segment (map canon ss) ≡ true
+pub each-canon : (ss : List (List ℕ)) → list_all is_segment ss ≡ true → list_all is_segment (map canon ss) ≡ true
 each-canon [] h = refl
 each-canon (s ∷ ss) h = let both = and_parts _ _ h in and_from _ _ (IsIn-spelling Segment Kept s both.0) (each-canon ss both.1)
 
-length-canon : (ss : List (List ℕ)) → length (map canon ss) ≡ length ss
+pub length-canon : (ss : List (List ℕ)) → length (map canon ss) ≡ length ss
 length-canon [] = refl
 length-canon (s ∷ ss) = ap suc (length-canon ss)
+
+pub counted-canonical : (ss : List (List ℕ)) → IsCounted ss → IsCounted (map canon ss)
+counted-canonical ss is = record { some = rw (length-canon ss) is.some; short = rw (length-canon ss) is.short }
 
 pub listed-canonical : (ss : List (List ℕ)) → IsListed ss → IsListed (map canon ss)
 listed-canonical ss is = record { some = rw (length-canon ss) is.some; short = rw (length-canon ss) is.short; each = each-canon ss is.each }

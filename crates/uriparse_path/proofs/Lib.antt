@@ -2,5 +2,20 @@ pub mod SplitLemmas
 pub mod FaultLemmas
 pub mod TextLemmas
 pub mod CanonicalLemmas
+pub mod DotLemmas
+pub mod StepLemmas
+pub mod ReplayLemmas
+pub mod ReduceLemmas
+pub mod RelativeLemmas
+pub mod LengthLemmas
+pub mod NormalLemmas
+pub mod CommuteLemmas
+pub mod PlaceLemmas
+pub mod MergeLemmas
+mod PassLemmas
+mod PutLemmas
+mod CopyLemmas
 mod CountLemmas
+mod EditLemmas
+mod ElementLemmas
 pub mod ReadLemmas

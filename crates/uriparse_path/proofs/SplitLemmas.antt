@@ -5,6 +5,7 @@ use Rattle.std.proofs.lemmas.Bool.{not-true, and_parts}
 use Rattle.std.proofs.lemmas.List.Splits.{slice_split-cons_yes, slice_split-cons_no, join_with_byte-slice_split}
 use Rattle.uriparse_text.specs.Bytes.{slash}
 use Rattle.uriparse_path.specs.Path.{is_slash}
+use Rattle.uriparse_path.specs.Dots.{LacksSlash}
 
 -- a text's first piece, and the others
 pub record IsCut (t : List ℕ) : Type 0 where
@@ -34,9 +35,6 @@ pieces-byte b t e is = slice_split-cons_no is_slash b t e ∙ ap (onto_first b) 
 -- a slash ends the first piece
 pub pieces-slash : (b : ℕ) (t : List ℕ) → is_slash b ≡ true → slice_split is_slash (b ∷ t) ≡ [] ∷ slice_split is_slash t
 pieces-slash b t e = slice_split-cons_yes is_slash b t e
-
-abbrev pub LacksSlash : List ℕ → Type 0
-LacksSlash s = list_all (λ b. not (is_slash b)) s ≡ true
 
 pub pieces-piece : (s : List ℕ) → LacksSlash s → slice_split is_slash s ≡ s ∷ []
 pieces-piece [] h = refl

@@ -1,5 +1,5 @@
 -- The text of a path, and the path that it spells.
-use Rattle.std.proofs.Common.{◌≡◌, ℕ, ◌<◌, Bool, true, false, not, cond, List, [], ◌∷◌, ◌++◌, length, map, flat_map, refl, sym, ap, ◌∙◌, arith}
+use Rattle.std.proofs.Common.{◌≡◌, ℕ, ◌<◌, Bool, true, false, not, cond, List, [], ◌∷◌, ◌++◌, length, map, flat_map, refl, sym, ap, ◌∙◌, arith, drop, ◌&&◌}
 use Rattle.std.specs.List.{list_all, slice_split, join_with_byte}
 use Rattle.std.proofs.lemmas.Bool.{not-true, and_parts, and_from, eqb-true}
 use Rattle.uriparse_text.specs.declared.parts.token.Token.TheVariants.{Byte}
@@ -16,9 +16,18 @@ use Rattle.uriparse_text.proofs.CanonLemmas.{canonical_tokens-append, canonical_
 use Rattle.uriparse_text.proofs.ClassLemmas.{well_formed-in_class, bytes-in_class}
 use Rattle.uriparse_text.proofs.CutLemmas.{lacks-append, lacks-in_class}
 use Rattle.uriparse_path.specs.Segment.{is_segment}
-use Rattle.uriparse_path.specs.Path.{PathParts, IsListed, IsPath, root, text, is_slash, is_rooted, unrooted, pieces, spelled, hides_root, respelled}
-use Rattle.uriparse_path.proofs.SplitLemmas.{pieces-joined, joined-pieces, joined-behind, LacksSlash}
+use Rattle.uriparse_path.specs.Path.{PathParts, IsListed, IsCounted, IsPath, root, text, is_slash, is_rooted, unrooted, pieces, spelled, hides_root, respelled}
+use Rattle.uriparse_path.specs.Dots.{LacksSlash}
+use Rattle.uriparse_path.proofs.SplitLemmas.{pieces-joined, joined-pieces, joined-behind}
 use Rattle.uriparse_path.proofs.FaultLemmas.{plain_not_slash, hex_not_slash}
+
+-- so many segments, each of which is one
+pub is_listed : (ss : List (List ℕ)) → IsCounted ss → list_all is_segment ss ≡ true → IsListed ss
+is_listed ss is each = record { some = is.some; short = is.short; each = each }
+
+-- so many segments
+pub counted : (ss : List (List ℕ)) → IsListed ss → IsCounted ss
+counted ss is = record { some = is.some; short = is.short }
 
 -- ---- the text of the path that a text spells
 
@@ -52,7 +61,7 @@ tokens-behind (s ∷ ss) h =
     ∙ ap (λ x. Byte slash ∷ x) (canonical_tokens-append Kept s (flat_map (λ r. slash ∷ r) ss) (well_formed-in_class Segment s both.0) ∙ ap (λ x. canonical_tokens Kept s ++ x) (tokens-behind ss both.1))
 
 -- the text of an absolute path is all its segments behind slashes
-text-absolute : (ss : List (List ℕ)) → 0 < length ss → text (record { absolute = true; segments = ss }) ≡ flat_map (λ s. slash ∷ s) ss
+pub text-absolute : (ss : List (List ℕ)) → 0 < length ss → text (record { absolute = true; segments = ss }) ≡ flat_map (λ s. slash ∷ s) ss
 text-absolute [] h = absurd (omega arith)
 text-absolute (s ∷ ss) h = ap (λ x. slash ∷ x) (joined-behind s ss)
 
@@ -75,11 +84,11 @@ well_formed-text false (s ∷ ss) is =
 
 -- ---- the path that the text of a path spells
 
-lacks_slash : (s : List ℕ) → is_segment s ≡ true → LacksSlash s
+pub lacks_slash : (s : List ℕ) → is_segment s ≡ true → LacksSlash s
 lacks_slash s h =
     bytes-in_class Segment (λ b. not (is_slash b)) (λ b plain. ap not (plain_not_slash b plain)) refl (λ b digit. ap not (hex_not_slash b digit)) s h
 
-all_lack_slash : (ss : List (List ℕ)) → list_all is_segment ss ≡ true → list_all (λ r. list_all (λ b. not (is_slash b)) r) ss ≡ true
+pub all_lack_slash : (ss : List (List ℕ)) → list_all is_segment ss ≡ true → list_all (λ r. list_all (λ b. not (is_slash b)) r) ss ≡ true
 all_lack_slash [] h = refl
 all_lack_slash (s ∷ ss) h = let both = and_parts _ _ h in and_from _ _ (lacks_slash s both.0) (all_lack_slash ss both.1)
 
@@ -92,7 +101,7 @@ spelled-relative [] h = refl
 spelled-relative (b ∷ t) h =
     ap (λ v. record { absolute = v; segments = slice_split is_slash (cond v t (b ∷ t)) }) h
 
-rooted-relative : (s : List ℕ) (ss : List (List ℕ)) → is_segment s ≡ true → hides_root (s ∷ ss) ≡ false → is_rooted (join_with_byte slash (s ∷ ss)) ≡ false
+pub rooted-relative : (s : List ℕ) (ss : List (List ℕ)) → is_segment s ≡ true → hides_root (s ∷ ss) ≡ false → is_rooted (join_with_byte slash (s ∷ ss)) ≡ false
 rooted-relative [] [] h k = refl
 rooted-relative [] (r ∷ ss) h k = cc
 rooted-relative (b ∷ s) ss h k = ap is_rooted (joined-behind (b ∷ s) ss) ∙ first_byte (lacks_slash (b ∷ s) h)
@@ -114,6 +123,21 @@ spelled-text p is = by_shape p.absolute p.segments is
 
 pub text-cons : (a : Bool) (ss : List (List ℕ)) (s : List ℕ) (rest : List (List ℕ)) → ss ≡ s ∷ rest → text (record { absolute = a; segments = ss }) ≡ root a ++ (s ++ flat_map (λ r. slash ∷ r) rest)
 text-cons a ss s rest e = ap (λ l. root a ++ join_with_byte slash l) e ∙ ap (λ x. root a ++ x) (joined-behind s rest)
+
+pub respelled_shown : (p : PathParts) → hides_root p.segments ≡ false → respelled p ≡ p
+respelled_shown p h = by_flag p.absolute
+  where
+    by_flag : (a : Bool) → cond (not a && hides_root p.segments) (record { absolute = true; segments = drop 1 p.segments }) p ≡ p
+    by_flag true = refl
+    by_flag false = ap (λ v. cond v (record { absolute = true; segments = drop 1 p.segments }) p) h
+
+pub respelled_absolute : (p : PathParts) → p.absolute ≡ true → respelled p ≡ p
+respelled_absolute p h = ap (λ a. cond (not a && hides_root p.segments) (record { absolute = true; segments = drop 1 p.segments }) p) h
+
+pub respelled_hidden : (p : PathParts) → hides_root p.segments ≡ true → p.absolute ≡ false → respelled p ≡ record { absolute = true; segments = drop 1 p.segments }
+respelled_hidden p h a =
+    ap (λ v. cond (not v && hides_root p.segments) (record { absolute = true; segments = drop 1 p.segments }) p) a
+    ∙ ap (λ v. cond v (record { absolute = true; segments = drop 1 p.segments }) p) h
 
 pub listed-respelled : (p : PathParts) → IsListed p.segments → IsListed (respelled p).segments
 listed-respelled p is = by_shape p.absolute p.segments is

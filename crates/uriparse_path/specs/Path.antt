@@ -1,13 +1,16 @@
 -- A path, its text, and the path that a text spells: RFC 3986, sections 3.3 and 5.3.
 use Rattle.std.specs.Prelude.{◌≡◌, ℕ, ◌<◌, ◌≤◌, Bool, true, false, ◌==◌, if◌then◌else◌, List, [], ◌∷◌, ◌++◌, length, drop, not, ◌&&◌}
-use Rattle.std.specs.List.{list_all, slice_split, join_with_byte}
+use Rattle.std.specs.List.{list_all, slice_split, join_with_byte, refill}
 use Rattle.uriparse_text.specs.Bytes.{slash}
 use Rattle.uriparse_path.specs.Segment.{is_segment}
 
--- whether it begins with a slash, and the segments
-pub record PathParts : Type 0 where
+-- whether it begins with a slash, and the segments, of any kind
+pub record PartsOf (X : Type 0) : Type 0 where
   pub absolute : Bool
-  pub segments : List (List ℕ)
+  pub segments : List X
+
+abbrev pub PathParts : Type 0
+PathParts = PartsOf (List ℕ)
 
 -- the most segments that a path may have
 unfoldable pub max_segments : ℕ
@@ -18,6 +21,11 @@ pub record IsListed (segments : List (List ℕ)) : Type 0 where
   pub some : 0 < length segments
   pub short : length segments ≤ max_segments
   pub each : list_all is_segment segments ≡ true
+
+-- one segment at least and so many at most
+pub record IsCounted {X : Type 0} (segments : List X) : Type 0 where
+  pub some : 0 < length segments
+  pub short : length segments ≤ max_segments
 
 abbrev pub root : Bool → List ℕ
 root absolute = if absolute then slash ∷ [] else []
@@ -63,6 +71,10 @@ IsPath t = IsListed (pieces t)
 -- the same path, made absolute
 abbrev pub made_absolute : PathParts → PathParts
 made_absolute p = record p { absolute = true }
+
+-- the same path with these segments, of which there are as many as before
+abbrev pub with_segments : {X : Type 0} → PartsOf X → List X → PartsOf X
+with_segments p ss = record p { segments = refill (length p.segments) p.segments ss }
 
 -- the text begins with two slashes
 abbrev pub has_two_slashes : List ℕ → Bool

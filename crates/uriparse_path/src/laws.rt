@@ -1,11 +1,18 @@
 //! Laws of the definitions that contracts cite. Each function has nothing to do: its contract is
 //! the law.
-ghost use Rattle.std.specs.Prelude.{◌≡◌, ◌↔◌, ◌∷◌, ℕ, List, None, true};
+ghost use Rattle.std.specs.Prelude.{◌≡◌, ◌≤◌, ◌↔◌, ◌∷◌, ℕ, List, Bool, None, Ok, Err, codes, length, map, true, false};
 ghost use Rattle.std.specs.List.{list_all, slice_split, join_with_byte};
 ghost use Rattle.uriparse_text.specs.Bytes.{slash};
+ghost use Rattle.uriparse_text.specs.Canon.{canon};
 ghost use Rattle.uriparse_path.specs.Segment.{is_segment};
-ghost use Rattle.uriparse_path.specs.Path.{PathParts, IsListed, max_segments, is_slash, pieces, text, spelled, respelled};
+ghost use Rattle.uriparse_path.specs.Path.{PathParts, IsListed, IsPath, max_segments, is_slash, is_rooted, pieces, text, spelled, respelled};
 ghost use Rattle.uriparse_path.specs.Faults.{fault};
+ghost use Rattle.uriparse_path.specs.Dots.{has_dot_segment, Step, Undots, rooted_after, replayed, undot, without_dots};
+ghost use Rattle.uriparse_path.specs.Relative.{is_first, has_colon, Leads, IsIrreducible, IsRelNormal, reduced, relative_normal};
+ghost use Rattle.uriparse_path.specs.Edits.{cleared, popped, pushed, pushing};
+ghost use Rattle.uriparse_path.specs.Segment as segment;
+ghost use Rattle.uriparse_path.specs.declared.path.error.PathError.TheVariants as errors;
+ghost use Rattle.uriparse_path.specs.Normal.{canonical_path, pnormal, climbs_first, is_normal};
 
 use crate::path::MAX_SEGMENTS;
 
@@ -33,4 +40,133 @@ pub fn reading_back()
     ensures text { (t : List ℕ) → text (spelled t) ≡ t }
     ensures path { (p : PathParts) → IsListed p.segments → spelled (text p) ≡ respelled p }
     ensures listed { (p : PathParts) → IsListed p.segments → IsListed (respelled p).segments }
+{}
+
+/// The steps that remove dot segments leave no choice, and lead from each text to one text. From
+/// the text of a path they lead to that of its replayed segments; a text without dot segments stays.
+pub fn one_text_without_dots()
+    ensures step { (i o j p k q : List ℕ) → Step i o j p → Step i o k q → (j ≡ k) × (p ≡ q) }
+    ensures text { (t u : List ℕ) → Undots t u ↔ (u ≡ undot t) }
+    ensures path { (p : PathParts) → IsListed p.segments → undot (text p) ≡ text (replayed p) }
+    ensures kept { (p : PathParts) → IsListed p.segments → has_dot_segment p.segments ≡ false → undot (text p) ≡ text p }
+    ensures root { (out ss : List (List ℕ)) → rooted_after true out ss ≡ true }
+{}
+
+/// Canonical spelling may come before or after: it changes neither which text is left without dot
+/// segments, but for its spelling, nor a normal form.
+pub fn spelling_before_or_after()
+    ensures dots { (t : List ℕ) → IsPath t → undot (canon t) ≡ canon (undot t) }
+    ensures normal { (p : PathParts) (r : Bool) → IsListed p.segments → pnormal (canonical_path p) r ≡ pnormal p r }
+{}
+
+/// A path without its dot segments is one, has none, and is no longer.
+pub fn without_dot_segments()
+    ensures listed { (p : PathParts) → IsListed p.segments → IsListed (without_dots p).segments }
+    ensures none { (p : PathParts) → IsListed p.segments → has_dot_segment (without_dots p).segments ≡ false }
+    ensures no_longer { (p : PathParts) → IsListed p.segments → length (without_dots p).segments ≤ length p.segments }
+{}
+
+/// Deletions lead from each list of segments to one irreducible list, which begins with double dot
+/// segments and has no other dot segment. So each list has one relative normal form.
+pub fn one_relative_normal_form()
+    ensures list { (l m : List (List ℕ)) → (Leads m l × IsIrreducible m) ↔ (m ≡ reduced l) }
+    ensures irreducible { (l : List (List ℕ)) → IsIrreducible l ↔ (climbs_first l ≡ true) }
+    ensures normal { (l n : List (List ℕ)) → IsRelNormal l n ↔ (n ≡ relative_normal l) }
+{}
+
+/// The normal form of a path is one, no longer, and its own normal form. A path has the text of its
+/// normal form exactly where it is normal, and then it is that form.
+pub fn one_normal_form()
+    ensures listed { (p : PathParts) (r : Bool) → IsListed p.segments → IsListed (pnormal p r).segments }
+    ensures no_longer { (p : PathParts) (r : Bool) → IsListed p.segments → length (pnormal p r).segments ≤ length p.segments }
+    ensures twice { (p : PathParts) (r : Bool) → IsListed p.segments → pnormal (pnormal p r) r ≡ pnormal p r }
+    ensures text { (p : PathParts) (r : Bool) → IsListed p.segments → (is_normal p r ≡ true) ↔ (text (pnormal p r) ≡ text p) }
+    ensures kept { (p : PathParts) (r : Bool) → IsListed p.segments → is_normal p r ≡ true → pnormal p r ≡ p }
+{}
+
+/// The normal form of the path that a text spells is one that its own text spells, and that of an
+/// absolute path is absolute. In a reference without a scheme it begins with a slash exactly where
+/// the path does, and its first segment has no colon where that of the path has none.
+pub fn normal_form_in_place()
+    ensures spelled { (p : PathParts) (r : Bool) → IsListed p.segments → spelled (text p) ≡ p → spelled (text (pnormal p r)) ≡ pnormal p r }
+    ensures absolute { (p : PathParts) (r : Bool) → IsListed p.segments → p.absolute ≡ true → (pnormal p r).absolute ≡ true }
+    ensures rooted { (p : PathParts) (r : Bool) → IsListed p.segments → is_rooted (text p) ≡ true → is_rooted (text (pnormal p r)) ≡ true }
+    ensures rootless { (p : PathParts) → IsListed p.segments → is_rooted (text p) ≡ false → is_rooted (text (pnormal p true)) ≡ false }
+    ensures colon { (p : PathParts) → is_rooted (text p) ≡ false → is_first has_colon p.segments ≡ false → is_first has_colon (pnormal p true).segments ≡ false }
+{}
+
+/// Texts, and what is left of them without dot segments. Dots may be escaped.
+#[tactic(auto, unfolding(crate::specs::Dots::undot, crate::specs::Dots::is_single_dot, crate::specs::Dots::is_double_dot, crate::specs::Relative::relative_normal, uriparse_text::specs::Canon::spelling, uriparse_text::specs::Tokens::tokens, uriparse_text::specs::Bytes::is_unreserved))]
+pub fn examples_without_dot_segments()
+    ensures two_levels { undot (codes "/a/b/c/./../../g") ≡ codes "/a/g" }
+    ensures past_the_start { undot (codes "a/../..") ≡ codes "/" }
+    ensures escaped_at_the_end { undot (codes "/a/b/%2E%2e") ≡ codes "/a/" }
+    ensures in_the_middle { undot (codes "mid/content=5/../6") ≡ codes "mid/6" }
+    ensures empty_segment { undot (codes "a/..//b") ≡ codes "//b" }
+    ensures plain_at_the_end { undot (codes "/a/b/..") ≡ codes "/a/" }
+    ensures escaped_in_front { undot (codes "%2e%2E/x") ≡ codes "x" }
+    ensures above_the_root { undot (codes "/..//x") ≡ codes "//x" }
+    ensures first_of_two { undot (codes "a/../b") ≡ codes "/b" }
+{}
+
+/// Texts of paths, and those of their normal forms in a reference without a scheme.
+#[tactic(auto, unfolding(crate::specs::Dots::undot, crate::specs::Dots::is_single_dot, crate::specs::Dots::is_double_dot, crate::specs::Relative::relative_normal, uriparse_text::specs::Canon::spelling, uriparse_text::specs::Tokens::tokens, uriparse_text::specs::Bytes::is_unreserved))]
+pub fn examples_of_relative_normal_forms()
+    ensures single { text (pnormal (spelled (codes ".")) true) ≡ codes "" }
+    ensures double { text (pnormal (spelled (codes "..")) true) ≡ codes ".." }
+    ensures double_slash { text (pnormal (spelled (codes "../")) true) ≡ codes "../" }
+    ensures rooted_double { text (pnormal (spelled (codes "/..")) true) ≡ codes "/" }
+    ensures one_up { text (pnormal (spelled (codes "a/..")) true) ≡ codes "" }
+    ensures two_up { text (pnormal (spelled (codes "a/../..")) true) ≡ codes ".." }
+    ensures colon_behind_double { text (pnormal (spelled (codes "./../a:b")) true) ≡ codes "../a:b" }
+    ensures colon_in_front { text (pnormal (spelled (codes "a/.././a:b")) true) ≡ codes "./a:b" }
+    ensures up_and_slash { text (pnormal (spelled (codes "../a/../")) true) ≡ codes "../" }
+    ensures rooted_single_and_double { text (pnormal (spelled (codes "/a/b/./..")) true) ≡ codes "/a/" }
+    ensures colon_guarded { text (pnormal (spelled (codes "x/../c:d")) true) ≡ codes "./c:d" }
+    ensures empty_guarded { text (pnormal (spelled (codes ".//x")) true) ≡ codes ".//x" }
+    ensures slash_behind_dots { text (pnormal (spelled (codes "a/b/..")) true) ≡ codes "a/" }
+    ensures no_slash_behind_double { text (pnormal (spelled (codes "../a/../..")) true) ≡ codes "../.." }
+    ensures guard_is_no_colon { text (pnormal (spelled (codes "./a:b/../c:d")) true) ≡ codes "./c:d" }
+    ensures escaped_single { text (pnormal (spelled (codes "%2e/c:d")) true) ≡ codes "./c:d" }
+    ensures single_at_both_ends { text (pnormal (spelled (codes ".//.")) true) ≡ codes ".//" }
+    ensures old_colon { text (pnormal (spelled (codes "c:d/.")) true) ≡ codes "c:d/" }
+    ensures old_colon_again { text (pnormal (spelled (codes "a:b/../c:d")) true) ≡ codes "c:d" }
+    ensures spelled { text (pnormal (spelled (codes "this/is/a/t%65st/path/%ff")) true) ≡ codes "this/is/a/test/path/%FF" }
+    ensures empty_and_double { text (pnormal (spelled (codes "a//..")) true) ≡ codes "a/" }
+    ensures comes_to_begin_empty { text (pnormal (spelled (codes "x/..//y")) true) ≡ codes ".//y" }
+    ensures climbs { text (pnormal (spelled (codes "a/../../b")) true) ≡ codes "../b" }
+    ensures escaped_double { text (pnormal (spelled (codes "%2E%2e/a")) true) ≡ codes "../a" }
+    ensures plain_kept { text (pnormal (spelled (codes "../.")) true) ≡ codes ".." }
+{}
+
+/// Texts of paths, and those of their normal forms elsewhere.
+#[tactic(auto, unfolding(crate::specs::Dots::undot, crate::specs::Dots::is_single_dot, crate::specs::Dots::is_double_dot, crate::specs::Relative::relative_normal, uriparse_text::specs::Canon::spelling, uriparse_text::specs::Tokens::tokens, uriparse_text::specs::Bytes::is_unreserved))]
+pub fn examples_of_other_normal_forms()
+    ensures single { text (pnormal (spelled (codes ".")) false) ≡ codes "" }
+    ensures double { text (pnormal (spelled (codes "..")) false) ≡ codes "" }
+    ensures double_slash { text (pnormal (spelled (codes "../")) false) ≡ codes "" }
+    ensures rooted_double { text (pnormal (spelled (codes "/..")) false) ≡ codes "/" }
+    ensures one_up { text (pnormal (spelled (codes "a/..")) false) ≡ codes "/" }
+    ensures two_up { text (pnormal (spelled (codes "a/../..")) false) ≡ codes "/" }
+    ensures colon_behind_double { text (pnormal (spelled (codes "./../a:b")) false) ≡ codes "a:b" }
+    ensures colon_in_front { text (pnormal (spelled (codes "a/.././a:b")) false) ≡ codes "/a:b" }
+    ensures up_and_slash { text (pnormal (spelled (codes "../a/../")) false) ≡ codes "/" }
+    ensures rooted_single_and_double { text (pnormal (spelled (codes "/a/b/./..")) false) ≡ codes "/a/" }
+    ensures empty_guarded { text (pnormal (spelled (codes ".//x")) false) ≡ codes "/x" }
+    ensures spelled { text (pnormal (spelled (codes "this/is/a/t%65st/path/%ff")) false) ≡ codes "this/is/a/test/path/%FF" }
+    ensures rooted_empty { text (pnormal (spelled (codes "/a/..//b")) false) ≡ codes "//b" }
+    ensures colon_popped { text (pnormal (spelled (codes "a:b/../c")) false) ≡ codes "/c" }
+{}
+
+/// What edits make of paths.
+#[tactic(auto, unfolding(crate::specs::Dots::undot, crate::specs::Dots::is_single_dot, crate::specs::Dots::is_double_dot, crate::specs::Relative::relative_normal, uriparse_text::specs::Canon::spelling, uriparse_text::specs::Tokens::tokens, uriparse_text::specs::Bytes::is_unreserved, crate::specs::Path::max_segments, uriparse_text::specs::Faults::fault, uriparse_text::specs::Classes::is_plain, uriparse_text::specs::Bytes::is_sub_delim))]
+pub fn examples_of_edits()
+    ensures last_of_two { text (popped (spelled (codes "a/b"))) ≡ codes "a" }
+    ensures only_one { text (popped (spelled (codes "/a"))) ≡ codes "/" }
+    ensures all { text (cleared (spelled (codes "/a/b"))) ≡ codes "/" }
+    ensures in_place { text (pushed (spelled (codes "")) (codes "x")) ≡ codes "x" }
+    ensures empty_and_another { text (pushed (pushed (spelled (codes "")) (codes "")) (codes "x")) ≡ codes "//x" }
+    ensures escaped { pushing (spelled (codes "a")) (segment.reading (codes "%7e")) ≡ Ok (spelled (codes "a/%7e")) }
+    ensures slash { pushing (spelled (codes "a")) (segment.reading (codes "a/b")) ≡ Err errors.InvalidCharacter }
+    ensures broken_escape { pushing (spelled (codes "a")) (segment.reading (codes "%4")) ≡ Err errors.InvalidPercentEncoding }
 {}

@@ -1,17 +1,21 @@
 //! A path: RFC 3986, section 3.3.
-ghost use Rattle.std.specs.Prelude.{◌≡◌, ◌↔◌, ◌∷◌, IsTrue, IfOk, IsErr, Some, true, not, bytes_eq, string_bytes};
+ghost use Rattle.std.specs.Prelude.{◌≡◌, ◌↔◌, ◌∷◌, IsTrue, IfOk, OnOk, OnErr, IsOk, IsErr, Some, true, false, not, map, filter, bytes_eq, string_bytes};
 ghost use Rattle.std.proofs.Common.{rules};
 ghost use Rattle.std.specs.Ordering.{on};
 ghost use Rattle.std.specs.Cmp.Rules.{comparing, hashing};
-ghost use Rattle.std.specs.Fmt.{WritesOnOk};
+ghost use Rattle.std.specs.Fmt.{WritesOnOk, WritesStyledOnOk};
 ghost use Rattle.std.specs.List.{flat_map};
 ghost use Rattle.uriparse_text.specs.declared.parts.canonical.Case.TheVariants as case;
-ghost use Rattle.uriparse_text.specs.Bytes.{slash};
+ghost use Rattle.uriparse_text.specs.Bytes.{colon, slash};
+ghost use Rattle.uriparse_text.specs.Cuts.{lacks, up_to};
 ghost use Rattle.uriparse_text.specs.Tokens.{spell, is_well_formed};
 ghost use Rattle.uriparse_text.specs.Canon.{canon, canonical_tokens, fed_spelling, SpellsAlike};
 ghost use Rattle.uriparse_text.specs.Readings.{IsUnless};
-ghost use Rattle.uriparse_path.specs.Path.{IsListed, made_absolute, text};
+ghost use Rattle.uriparse_path.specs.Path.{IsListed, has_two_slashes, hides_root, is_rooted, is_slash, made_absolute, spelled, text};
 ghost use Rattle.uriparse_path.specs.Faults.{reading};
+ghost use Rattle.uriparse_path.specs.Dots.{without_dots};
+ghost use Rattle.uriparse_path.specs.Relative.{ended, reduced};
+ghost use Rattle.uriparse_path.specs.Normal.{canonical_path, is_canonical, pnormal, stays_relative};
 
 use std::alloc::{AllocError, Global};
 use std::fmt;
@@ -20,18 +24,35 @@ use std::hash::{Hash, Hasher};
 use std::marker::Model;
 use uriparse_text::parts::{Case, TextWalk, feed_walk, same_walks};
 
+mod copy;
+mod dots;
+mod edit;
 mod error;
+mod normal;
 mod read;
 mod segment;
 mod walk;
 
+use dots::{has_dot_segment, remove_dots};
 pub use error::PathError;
+use normal::{
+    begins_twice, canonical_copies, has_first_colon, hides_root, is_normal, make_relative,
+    put_copies,
+};
 use read::{count_segments, split_root, split_segments};
 pub use segment::Segment;
+use segment::each_is_segment;
 use walk::PathWalk;
 
 /// The most segments that a path may have.
 pub const MAX_SEGMENTS: usize = 65535;
+
+/// What a [`Path`] is made of, for segments of any type. Users name it by [`Path`] alone.
+#[derive(Drop)]
+pub struct PathOf<S> {
+    absolute: bool,
+    segments: Vec<S>,
+}
 
 /// A path: whether it begins with a slash, and its segments, of which there is at least one.
 ///
@@ -42,23 +63,27 @@ pub const MAX_SEGMENTS: usize = 65535;
 /// let path = Path::try_from_str(alloc, "/a/%7Eb")?;
 /// assert!(path.is_absolute() && path.segments().len() == 2 && path.eq_str("/a/~b"));
 /// ```
-#[derive(Drop)]
-pub struct Path<'p> {
-    absolute: bool,
-    segments: Vec<Segment<'p>>,
-}
+pub type Path<'p> = PathOf<Segment<'p>>;
 
-impl<'p> Model for Path<'p> {
-    ghost use Rattle.uriparse_path.specs.Path.{PathParts, IsListed};
+impl<S> Model for PathOf<S> {
+    ghost use Rattle.uriparse_path.specs.Path.{PartsOf, IsCounted};
 
-    ghost Value = { PathParts };
+    ghost Value = { PartsOf S };
 
     ghost view = { λ p. record { absolute = p.absolute; segments = p.segments.items } };
 
-    ghost invariant = { λ p. IsListed p.segments.items };
+    ghost invariant = { λ p. IsCounted p.segments.items };
 }
 
 impl<'p> Path<'p> {
+    /// The path of this flag and these segments.
+    pub(crate) fn of(absolute: bool, segments: Vec<Segment<'p>>) -> Path<'p>
+        requires { IsListed segments.items }
+        ensures { result ≡ record { absolute = absolute; segments = segments.entry.items } }
+    {
+        Path { absolute, segments }
+    }
+
     /// Reads a path, whose segments borrow the bytes.
     ///
     /// The leftmost fault is answered: [`InvalidPercentEncoding`](PathError::InvalidPercentEncoding)
@@ -91,6 +116,7 @@ impl<'p> Path<'p> {
         ensures value { result.now ≡ self.now.segments }
         ensures listed { IsListed self.now.segments }
     {
+        each_is_segment(&self.segments);
         self.segments.as_slice()
     }
 
@@ -106,6 +132,87 @@ impl<'p> Path<'p> {
         ensures { result ≡ not self.now.absolute }
     {
         !self.absolute
+    }
+
+    /// Removes the dot segments as RFC 3986, section 5.2.4, rewrites the path's text; dots may be
+    /// escaped. So `/a/b/..` becomes `/a/`, `a/..//b` becomes `//b`. A path without dot segments is
+    /// kept as it is. Takes no memory.
+    pub fn remove_dot_segments(&mut self)
+        ensures { self.new ≡ without_dots self.old }
+    {
+        if !has_dot_segment(self.segments()) {
+            return;
+        }
+        self.absolute = remove_dots(self.absolute, &mut self.segments);
+        self.respell();
+    }
+
+    /// Whether the path's text begins with a slash.
+    fn is_rooted(&self) -> bool
+        ensures { result ≡ is_rooted (text self.now) }
+    {
+        self.is_absolute() || hides_root(self.segments())
+    }
+
+    /// Whether the path is normalised as one that a base comes before.
+    fn stays_relative(&self, as_reference: bool) -> bool
+        ensures { result ≡ stays_relative self.now as_reference }
+    {
+        as_reference && !self.is_rooted()
+    }
+
+    /// Whether normalising the path would keep its text, where it may be the path of a reference
+    /// without a scheme or not. Then it keeps the path, part for part. Takes no memory.
+    pub fn is_normalized(&self, as_reference: bool) -> bool
+        ensures text { IsTrue result ↔ (text (pnormal self.now as_reference) ≡ text self.now) }
+        ensures form { IsTrue result → pnormal self.now as_reference ≡ self.now }
+    {
+        is_normal(self.stays_relative(as_reference), self.segments())
+    }
+
+    /// Puts canonical copies in the place of the segments that aren't canonical.
+    fn put_canonical(&mut self, copies: Vec<Segment<'p>>)
+        requires { copies.items ≡ map canon (filter (λ s. not (is_canonical s)) self.old.segments) }
+        ensures { self.new ≡ canonical_path self.old }
+    {
+        put_copies(&mut self.segments, copies);
+    }
+
+    /// Brings a path whose text begins with no slash into its relative normal form, but for the
+    /// spelling of its segments.
+    fn shape_relative(&mut self)
+        requires relative { self.old.absolute ≡ false }
+        requires shown { hides_root self.old.segments ≡ false }
+        ensures { self.new ≡ record { absolute = false; segments = ended self.old.segments (reduced self.old.segments) } }
+    {
+        make_relative(&mut self.segments);
+    }
+
+    /// Brings the path into its normal form. Each segment gets its canonical spelling. Where the
+    /// path may be that of a reference without a scheme and its text begins with no slash, a single
+    /// dot segment goes, and a segment with the double dot segment behind it; a `.` stands in front
+    /// where the first segment would else be taken for a scheme or a root. Dot segments of other
+    /// paths are removed as by [`remove_dot_segments`](Path::remove_dot_segments).
+    ///
+    /// Memory is wanted for the segments that aren't canonical, and before anything is put in place;
+    /// where there is none, the path is kept.
+    pub fn normalize(&mut self, alloc: Global, as_reference: bool) -> Result<(), AllocError>
+        ensures ok { OnOk result (self.new ≡ pnormal self.old as_reference) }
+        ensures err { OnErr result (self.new ≡ self.old) }
+        ensures takes_no_memory { text (pnormal self.old as_reference) ≡ text self.old → IsOk result }
+    {
+        if self.is_normalized(as_reference) {
+            return Ok(());
+        }
+        let stays_relative = self.stays_relative(as_reference);
+        let copies = canonical_copies(alloc, self.segments())?;
+        self.put_canonical(copies);
+        if stays_relative {
+            self.shape_relative();
+        } else {
+            self.remove_dot_segments();
+        }
+        Ok(())
     }
 
     /// How many bytes the path's text has at most.
@@ -126,6 +233,35 @@ impl<'p> Path<'p> {
         Ok(text)
     }
 
+    /// Whether the path's text begins with two slashes.
+    pub(crate) fn has_two_slashes(&self) -> bool
+        ensures answer { result ≡ has_two_slashes (text self.now) }
+        ensures listed { IsListed self.now.segments }
+    {
+        begins_twice(self.is_absolute(), self.segments())
+    }
+
+    /// Whether no colon stands before the first slash of the path's text.
+    pub(crate) fn lacks_colon_segment(&self) -> bool
+        ensures { result ≡ lacks colon (up_to is_slash (text self.now)) }
+    {
+        self.is_rooted() || !has_first_colon(self.segments())
+    }
+
+    /// Makes it the path that its text spells. Takes no memory.
+    pub(crate) fn respell(&mut self)
+        ensures { self.new ≡ spelled (text self.old) }
+    {
+        if !hides_root(self.segments()) {
+            return;
+        }
+        if self.is_absolute() {
+            return;
+        }
+        let _ = self.segments.remove(0);
+        self.absolute = true;
+    }
+
     /// The same path, made absolute.
     pub(crate) fn into_absolute(self) -> Path<'p>
         ensures { result ≡ made_absolute self.entry }
@@ -142,7 +278,7 @@ impl<'p> Path<'p> {
         ensures bytes { flat_map spell result ≡ canon (text self.now) }
         ensures formed { is_well_formed (text self.now) ≡ true }
     {
-        PathWalk::new(self.absolute, &self.segments)
+        PathWalk::new(self.absolute, self.segments())
     }
 
     /// Whether the bytes are tokens whose canonical spelling is that of the path's text.
@@ -189,7 +325,8 @@ fn write_behind_slashes<W: fmt::Write>(
     segments: &[Segment<'_>],
     f: &mut fmt::Formatter<W>,
 ) -> fmt::Result
-    ensures { WritesOnOk W.write_str_gives f.old result (flat_map (λ s. slash ∷ s) segments.now) f.new }
+    ensures writes { WritesOnOk W.write_str_gives f.old result (flat_map (λ s. slash ∷ s) segments.now) f.new }
+    ensures styled { WritesStyledOnOk W.write_str_gives f.old result (flat_map (λ s. slash ∷ s) segments.now) f.new }
 {
     for segment in segments {
         f.write_str("/")?;
@@ -200,6 +337,9 @@ fn write_behind_slashes<W: fmt::Write>(
 
 impl<'p> fmt::Display for Path<'p> {
     ghost output = { λ p. Some (text p) };
+
+    // No option of the formatter changes it.
+    ghost styled_output = { λ p _. Some (text p) };
 
     fn fmt<W: fmt::Write>(&self, f: &mut fmt::Formatter<W>) -> fmt::Result {
         f.write_str(if self.absolute { "/" } else { "" })?;

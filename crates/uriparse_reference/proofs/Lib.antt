@@ -1,2 +1,14 @@
+pub mod CutLemmas
 pub mod ReferenceLemmas
+pub mod ValidLemmas
 pub mod SameLemmas
+pub mod EditLemmas
+pub mod PartLemmas
+pub mod PlaceLemmas
+pub mod NormalLemmas
+pub mod TargetLemmas
+pub mod AlikeLemmas
+pub mod CommutationLemmas
+pub mod RunLemmas
+pub mod PrintedLemmas
+pub mod PieceLemmas

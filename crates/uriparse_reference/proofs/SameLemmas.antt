@@ -1,6 +1,6 @@
 -- Which references are the same, by their pieces.
 use Rattle.std.proofs.Common.{◌≡◌, ◌↔◌, ℕ, Bool, true, false, ◌&&◌, ◌||◌, List, [], ◌∷◌, ◌++◌, fold, map, Option, Some, None, refl, sym, ap, ◌∙◌, subst, arith}
-use Rattle.std.specs.Prelude.{not, ◌==◌, IfSome, IsTrue, bytes_eq, cond}
+use Rattle.std.specs.Prelude.{not, ◌==◌, IfSome, IsTrue, bytes_eq, cond, is_some}
 use Rattle.std.specs.Option.{option_map}
 use Rattle.std.specs.List.{flat_map, list_all}
 use Rattle.std.specs.Hash.{HashWrites, option}
@@ -35,10 +35,11 @@ use Rattle.uriparse_scheme.specs.declared.scheme.Scheme.{Scheme}
 use Rattle.uriparse_scheme.specs.Scheme as scheme
 use Rattle.uriparse_scheme.proofs.SchemeLemmas as schemes
 use Rattle.uriparse_scheme.proofs.GrammarLemmas.{is_scheme-canon_low}
-use Rattle.uriparse_reference.specs.Reference.{Parts, is_abempty, is_noscheme, fits, Valid, Same, scheme_part, authority_part, print, cprint, kind}
+use Rattle.uriparse_reference.specs.Reference.{Parts, is_abempty, is_noscheme, path_refusal, Valid, Same, scheme_part, authority_part, print, canonical_text, kind}
 use Rattle.uriparse_reference.specs.Cuts.{scheme_text, authority_text, path_text, query_text, fragment_text}
 use Rattle.uriparse_reference.specs.Key.{kind_code, key, fed_pieces, fed, each_alike}
-use Rattle.uriparse_reference.proofs.ReferenceLemmas.{IsCutInto, cut_again}
+use Rattle.uriparse_reference.proofs.CutLemmas.{IsCutInto, cut_again}
+use Rattle.uriparse_reference.proofs.ValidLemmas.{valid_placed, mapped, present}
 
 -- ---- a path's canonical spelling stands where the path may stand
 
@@ -98,12 +99,9 @@ abempty-canon h =
     let e : is_empty (canon h) ≡ is_empty h = ap is_empty (sym (spell-canonical Kept h)) ∙ empty-tokens (tokens h) ∙ ap is_empty (spell-tokens h) in
     abempty-by (canon h) ∙ ap (λ v. v || is_rooted (canon h)) e ∙ ap (λ v. is_empty h || v) (is_rooted-canon h) ∙ sym (abempty-by h)
 
--- only whether scheme and authority are present counts
-fits-canon : {S A : Type 0} (f g : S → List ℕ) (k l : A → List ℕ) (s : Option S) (a : Option A) (h : List ℕ) → fits (option_map f s) (option_map k a) (canon h) ≡ fits (option_map g s) (option_map l a) h
-fits-canon f g k l None (Some a) h = abempty-canon h
-fits-canon f g k l (Some s) (Some a) h = abempty-canon h
-fits-canon f g k l (Some s) None h = ap not (has_two_slashes-canon h)
-fits-canon f g k l None None h = rw (has_two_slashes-canon h, is_rooted-canon h, noscheme-canon h) refl
+refusal-canon : (v w : Bool) (h : List ℕ) → path_refusal v w (canon h) ≡ path_refusal v w h
+refusal-canon v true h = refl
+refusal-canon v false h = rw (has_two_slashes-canon h, noscheme-canon h) refl
 
 -- ---- the printed and the canonical text are cut into the parts' own texts
 
@@ -119,9 +117,9 @@ authority_lacks : (a : Option AuthorityParts) → IfSome a authority.Valid → I
 authority_lacks None v = tt
 authority_lacks (Some a) v = authorities.print_lacks a v
 
-authority_canonical : (a : Option AuthorityParts) → IfSome a authority.Valid → IfSome (option_map authority.cprint a) LacksEnds
+authority_canonical : (a : Option AuthorityParts) → IfSome a authority.Valid → IfSome (option_map authority.canonical_text a) LacksEnds
 authority_canonical None v = tt
-authority_canonical (Some a) v = authorities.cprint_lacks a v
+authority_canonical (Some a) v = authorities.canonical_lacks a v
 
 query_canonical : (q : Option (List ℕ)) → IfSome q IsQuery → IfSome (option_map canon q) IsQuery
 query_canonical None v = tt
@@ -131,23 +129,25 @@ pub print_cut : (p : Parts) → Valid p → IsCutInto (print p) (scheme_part p) 
 print_cut p v = cut_again (print p) (scheme_part p) (authority_part p) (path.text p.path) p.query p.fragment (record {
   is_scheme = scheme_is p.scheme v.is_scheme;
   is_authority = authority_lacks p.authority v.is_authority;
-  is_path = v.is_path;
-  fit = v.fit;
+  is_path = (valid_placed p v).is_path;
+  abempty = present authority.print p.authority (valid_placed p v).abempty;
+  fit = rw (mapped scheme.text p.scheme, mapped authority.print p.authority) v.fit;
   is_query = v.is_query;
 }) refl
 
-pub cprint_cut : (p : Parts) → Valid p → IsCutInto (cprint p) (option_map scheme.canonical_text p.scheme) (option_map authority.cprint p.authority) (canon (path.text p.path)) (option_map canon p.query) (option_map canon p.fragment)
-cprint_cut p v = cut_again (cprint p) (option_map scheme.canonical_text p.scheme) (option_map authority.cprint p.authority) (canon (path.text p.path)) (option_map canon p.query) (option_map canon p.fragment) (record {
+pub canonical_cut : (p : Parts) → Valid p → IsCutInto (canonical_text p) (option_map scheme.canonical_text p.scheme) (option_map authority.canonical_text p.authority) (canon (path.text p.path)) (option_map canon p.query) (option_map canon p.fragment)
+canonical_cut p v = cut_again (canonical_text p) (option_map scheme.canonical_text p.scheme) (option_map authority.canonical_text p.authority) (canon (path.text p.path)) (option_map canon p.query) (option_map canon p.fragment) (record {
   is_scheme = scheme_canonical p.scheme v.is_scheme;
   is_authority = authority_canonical p.authority v.is_authority;
-  is_path = is_path-canon (path.text p.path) v.is_path;
-  fit = fits-canon scheme.canonical_text scheme.text authority.cprint authority.print p.scheme p.authority (path.text p.path) ∙ v.fit;
+  is_path = is_path-canon (path.text p.path) (valid_placed p v).is_path;
+  abempty = present authority.canonical_text p.authority (λ there. abempty-canon (path.text p.path) ∙ (valid_placed p v).abempty there);
+  fit = rw (mapped scheme.canonical_text p.scheme, mapped authority.canonical_text p.authority) (refusal-canon (is_some p.scheme) (is_some p.authority) (path.text p.path) ∙ v.fit);
   is_query = query_canonical p.query v.is_query;
 }) refl
 
 -- ---- references that print alike
 
-same_scheme : (s r : Option Scheme) → IfSome s scheme.Valid → IfSome r scheme.Valid → option_map scheme.text s ≡ option_map scheme.text r → s ≡ r
+pub same_scheme : (s r : Option Scheme) → IfSome s scheme.Valid → IfSome r scheme.Valid → option_map scheme.text s ≡ option_map scheme.text r → s ≡ r
 same_scheme None None v w e = refl
 same_scheme None (Some r) v w e = absurd (cc)
 same_scheme (Some s) None v w e = absurd (cc)
@@ -155,7 +155,7 @@ same_scheme (Some s) (Some r) v w e =
     let texts : scheme.text s ≡ scheme.text r = cc in
     ap Some (schemes.one_scheme (scheme.text s) s r (schemes.spells_back s v) (subst (λ t. scheme.Spells t r) (sym texts) (schemes.spells_back r w)))
 
-same_authority : (a b : Option AuthorityParts) → IfSome a authority.Valid → IfSome b authority.Valid → option_map authority.print a ≡ option_map authority.print b → option_map authority.kind a ≡ option_map authority.kind b → option_map authority.cprint a ≡ option_map authority.cprint b
+same_authority : (a b : Option AuthorityParts) → IfSome a authority.Valid → IfSome b authority.Valid → option_map authority.print a ≡ option_map authority.print b → option_map authority.kind a ≡ option_map authority.kind b → option_map authority.canonical_text a ≡ option_map authority.canonical_text b
 same_authority None None v w e k = refl
 same_authority None (Some b) v w e k = absurd (cc)
 same_authority (Some a) None v w e k = absurd (cc)
@@ -191,20 +191,20 @@ same_kind (Some k) (Some l) e = ap Some (code_kind k l e)
 pub same_key : (p q : Parts) → (key p ≡ key q) ↔ Same p q
 same_key p q = (
   (λ e. let codes : kind_code (kind p) ≡ kind_code (kind q) = cc in
-      let texts : cprint p ≡ cprint q = cc in
+      let texts : canonical_text p ≡ canonical_text q = cc in
       record { spelling = texts; kinds = same_kind (kind p) (kind q) codes }),
   (λ s. rw (s.spelling, s.kinds) refl),
 )
 
-authority_keys : (a b : Option AuthorityParts) → (option_map authority.key a ≡ option_map authority.key b) ↔ ((option_map authority.cprint a ≡ option_map authority.cprint b) × (kind_code (option_map authority.kind a) ≡ kind_code (option_map authority.kind b)))
+authority_keys : (a b : Option AuthorityParts) → (option_map authority.key a ≡ option_map authority.key b) ↔ ((option_map authority.canonical_text a ≡ option_map authority.canonical_text b) × (kind_code (option_map authority.kind a) ≡ kind_code (option_map authority.kind b)))
 authority_keys None None = ((λ e. (refl, refl)), (λ e. refl))
 authority_keys None (Some b) = ((λ e. absurd (cc)), (λ e. let no = e.0 in absurd (cc)))
 authority_keys (Some a) None = ((λ e. absurd (cc)), (λ e. let no = e.0 in absurd (cc)))
 authority_keys (Some a) (Some b) = (
   (λ e. let codes : host.kind_code (authority.kind a) ≡ host.kind_code (authority.kind b) = cc in
-      let texts : authority.cprint a ≡ authority.cprint b = cc in
+      let texts : authority.canonical_text a ≡ authority.canonical_text b = cc in
       (ap Some texts, codes)),
-  (λ e. let shown = e.0 in let texts : authority.cprint a ≡ authority.cprint b = cc in rw (texts, e.1) refl),
+  (λ e. let shown = e.0 in let texts : authority.canonical_text a ≡ authority.canonical_text b = cc in rw (texts, e.1) refl),
 )
 
 to_key : (p q : Parts) → IsTrue (each_alike p q) → key p ≡ key q
@@ -223,10 +223,10 @@ to_key p q e =
 from_key : (p q : Parts) → Valid p → Valid q → key p ≡ key q → IsTrue (each_alike p q)
 from_key p q v w e =
     let codes : kind_code (kind p) ≡ kind_code (kind q) = cc in
-    let texts : cprint p ≡ cprint q = cc in
-    let x = cprint_cut p v in
-    let y = cprint_cut q w in
-    let a : option_map authority.cprint p.authority ≡ option_map authority.cprint q.authority = sym x.authority ∙ ap authority_text texts ∙ y.authority in
+    let texts : canonical_text p ≡ canonical_text q = cc in
+    let x = canonical_cut p v in
+    let y = canonical_cut q w in
+    let a : option_map authority.canonical_text p.authority ≡ option_map authority.canonical_text q.authority = sym x.authority ∙ ap authority_text texts ∙ y.authority in
     and_from _ _ ((same_option scheme.canonical_text p.scheme q.scheme).1 (sym x.scheme ∙ ap scheme_text texts ∙ y.scheme))
     (and_from _ _ ((same_option authority.key p.authority q.authority).1 ((authority_keys p.authority q.authority).1 (a, codes)))
     (and_from _ _ ((bytes_eq-Decides (canon (path.text p.path)) (canon (path.text q.path))).1 (sym x.path ∙ ap path_text texts ∙ y.path))
@@ -238,7 +238,7 @@ tested p q v w = same_from_decides (each_alike p q) (bytes_eq (key p) (key q)) (
 
 -- ---- what a hasher is fed, part by part
 
-fed_authority : (a : Option AuthorityParts) → option (λ t. authority.fed (kind_code (option_map authority.kind a) ∷ t)) (option_map authority.cprint a) ≡ option (λ b. authority.fed (authority.key b)) a
+fed_authority : (a : Option AuthorityParts) → option (λ t. authority.fed (kind_code (option_map authority.kind a) ∷ t)) (option_map authority.canonical_text a) ≡ option (λ b. authority.fed (authority.key b)) a
 fed_authority None = refl
 fed_authority (Some a) = refl
 
@@ -257,7 +257,7 @@ pub fed_parts : (p : Parts) → Valid p → fed (key p)
     ++ (option (λ q. fed_spelling (canon q)) p.query
     ++ option (λ f. fed_spelling (canon f)) p.fragment)))
 fed_parts p v =
-    fed_cut (kind_code (kind p)) (cprint p) (option_map scheme.canonical_text p.scheme) (option_map authority.cprint p.authority) (canon (path.text p.path)) (option_map canon p.query) (option_map canon p.fragment) (cprint_cut p v)
+    fed_cut (kind_code (kind p)) (canonical_text p) (option_map scheme.canonical_text p.scheme) (option_map authority.canonical_text p.authority) (canon (path.text p.path)) (option_map canon p.query) (option_map canon p.fragment) (canonical_cut p v)
     ∙ rw (fed_option scheme.canonical_text fed_spelling p.scheme, fed_authority p.authority, fed_option canon fed_spelling p.query, fed_option canon fed_spelling p.fragment) refl
 
 -- five lists of writes, one after another

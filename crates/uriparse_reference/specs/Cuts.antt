@@ -1,5 +1,5 @@
 -- How the text of a reference is cut into its pieces: RFC 3986, sections 3 and 4.1.
-use Rattle.std.specs.Prelude.{ℕ, if◌then◌else◌, List, Option, Some, None, drop}
+use Rattle.std.specs.Prelude.{ℕ, Bool, ◌==◌, ◌||◌, if◌then◌else◌, List, Option, Some, None, drop}
 use Rattle.uriparse_text.specs.Bytes.{colon, question_mark, number_sign}
 use Rattle.uriparse_text.specs.Cuts.{front, rest, before, after, up_to, from_first}
 use Rattle.uriparse_path.specs.Path.{has_two_slashes}
@@ -14,6 +14,10 @@ if_scheme (Some s) = if is_scheme s then Some s else None
 -- The scheme is what stands before the first ":", where that is a scheme.
 abbrev pub scheme_text : List ℕ → Option (List ℕ)
 scheme_text t = if_scheme (front colon t)
+
+-- A ":" ends a scheme, and behind a "/", "?" or "#" none ends.
+abbrev pub ends_scheme : ℕ → Bool
+ends_scheme b = b == colon || ends_authority b
 
 -- the one where there is no scheme, the other where there is
 abbrev pub left : Option (List ℕ) → List ℕ → List ℕ → List ℕ

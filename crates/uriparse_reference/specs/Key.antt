@@ -8,7 +8,7 @@ use Rattle.uriparse_path.specs.Path as path
 use Rattle.uriparse_authority.specs.Authority as authority
 use Rattle.uriparse_authority.specs.Host as host
 use Rattle.uriparse_scheme.specs.Scheme as scheme
-use Rattle.uriparse_reference.specs.Reference.{Parts, cprint, kind}
+use Rattle.uriparse_reference.specs.Reference.{Parts, canonical_text, kind}
 use Rattle.uriparse_reference.specs.Cuts.{scheme_text, authority_text, path_text, query_text, fragment_text}
 
 -- a number for the kind of the host, and another where there is none
@@ -18,7 +18,7 @@ kind_code (Some k) = host.kind_code k
 
 -- the kind of the host, and then the canonical text: references are the same exactly where they have one key
 abbrev pub key : Parts → List ℕ
-key p = kind_code (kind p) ∷ cprint p
+key p = kind_code (kind p) ∷ canonical_text p
 
 -- what a hasher is fed for these pieces of a canonical text, with the code of the host's kind
 abbrev pub fed_pieces : ℕ → Option (List ℕ) → Option (List ℕ) → List ℕ → Option (List ℕ) → Option (List ℕ) → HashWrites

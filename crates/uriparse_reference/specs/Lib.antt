@@ -1,4 +1,8 @@
 pub mod Reference
 pub mod Cuts
+pub mod Edits
 pub mod Key
 pub mod Reading
+pub mod Normal
+pub mod Target
+pub mod Examples

@@ -1,6 +1,6 @@
 -- A reference, the texts that spell it, and its text: RFC 3986, sections 3, 3.3, 4.1, 4.2 and 5.3.
-use Rattle.std.specs.Prelude.{◌≡◌, ℕ, Bool, true, not, ◌&&◌, ◌||◌, List, [], ◌∷◌, ◌++◌, Option, Some, None, IfSome}
-use Rattle.std.specs.Option.{option_map, option_and_then}
+use Rattle.std.specs.Prelude.{◌≡◌, ℕ, Bool, true, false, not, ◌&&◌, ◌||◌, if◌then◌else◌, List, [], ◌∷◌, ◌++◌, Option, Some, None, IfSome, is_some}
+use Rattle.std.specs.Option.{option_map, option_and_then, IsSomeAnd}
 use Rattle.uriparse_text.specs.Bytes.{slash, colon, question_mark, number_sign}
 use Rattle.uriparse_text.specs.Canon.{canon}
 use Rattle.uriparse_text.specs.Cuts.{lacks, behind, ahead, up_to}
@@ -8,11 +8,14 @@ use Rattle.uriparse_text.specs.Readings.{IfPresent}
 use Rattle.uriparse_text.specs.Query.{IsQuery}
 use Rattle.uriparse_text.specs.Fragment.{IsFragment}
 use Rattle.uriparse_path.specs.Path as path
+use Rattle.uriparse_path.specs.Path.{has_two_slashes}
 use Rattle.uriparse_authority.specs.Authority as authority
 use Rattle.uriparse_authority.specs.Host as host
 use Rattle.uriparse_authority.specs.declared.authority.host.Host.{Host}
 use Rattle.uriparse_scheme.specs.declared.scheme.Scheme.{Scheme}
 use Rattle.uriparse_scheme.specs.Scheme as scheme
+use Rattle.uriparse_reference.specs.declared.uri_reference.error.URIReferenceError.{URIReferenceError}
+use Rattle.uriparse_reference.specs.declared.uri_reference.error.URIReferenceError.TheVariants as errors
 
 -- the five parts, without where they lie in memory
 pub record Parts : Type 0 where
@@ -35,34 +38,38 @@ host_of p = option_map (λ (a : authority.AuthorityParts). a.host) p.authority
 abbrev pub port_of : Parts → Option ℕ
 port_of p = option_and_then (λ (a : authority.AuthorityParts). a.port) p.authority
 
--- [ "//" a ]
+-- [ "//" authority ]
 abbrev pub behind_slashes : Option (List ℕ) → List ℕ
 behind_slashes None = []
 behind_slashes (Some a) = slash ∷ slash ∷ a
 
--- [ s ":" ] [ "//" a ] h [ "?" q ] [ "#" f ]
+-- [ scheme ":" ] [ "//" authority ] path [ "?" query ] [ "#" fragment ]
 abbrev pub joined : Option (List ℕ) → Option (List ℕ) → List ℕ → Option (List ℕ) → Option (List ℕ) → List ℕ
-joined s a h q f = ahead colon s ++ (behind_slashes a ++ (h ++ (behind question_mark q ++ behind number_sign f)))
+joined scheme authority path query fragment =
+    ahead colon scheme ++ (behind_slashes authority ++ (path ++ (behind question_mark query ++ behind number_sign fragment)))
 
--- the text is empty or begins with a slash
+-- path-abempty: the text is empty or begins with a slash
 abbrev pub is_abempty : List ℕ → Bool
 is_abempty [] = true
 is_abempty (b ∷ t) = path.is_slash b
 
--- no colon stands in the first segment
+-- path-noscheme, or path-absolute: no colon stands in the first segment. Nothing stands before a slash that begins the text.
 abbrev pub is_noscheme : List ℕ → Bool
 is_noscheme h = lacks colon (up_to path.is_slash h)
 
--- Whether a path may stand behind these. With an authority it is empty or begins with a slash; without one it doesn't begin with two; and without a scheme too, its first segment has no colon, unless it begins with a slash.
-abbrev pub fits : Option (List ℕ) → Option (List ℕ) → List ℕ → Bool
-fits s (Some a) h = is_abempty h
-fits (Some s) None h = not (path.has_two_slashes h)
-fits None None h = not (path.has_two_slashes h) && (path.is_rooted h || is_noscheme h)
+-- Why a path with this text may not stand in a reference that has a scheme or not, and an authority or not: without an authority it begins
+-- with two slashes, or without a scheme too it is no path-noscheme. Behind an authority each path can be made path-abempty, by a slash in front.
+abbrev pub path_refusal : Bool → Bool → List ℕ → Option URIReferenceError
+path_refusal has_scheme true path = None
+path_refusal has_scheme false path =
+    if has_two_slashes path then Some errors.AbsolutePathStartsWithTwoSlashes
+    else if has_scheme || is_noscheme path then None
+    else Some errors.SchemelessPathStartsWithColonSegment
 
 -- the path that its text stands for: behind an authority it is absolute
-abbrev pub path_of : Option (List ℕ) → List ℕ → path.PathParts
-path_of (Some a) h = path.made_absolute (path.spelled h)
-path_of None h = path.spelled h
+abbrev pub path_of : Bool → List ℕ → path.PathParts
+path_of true h = path.made_absolute (path.spelled h)
+path_of false h = path.spelled h
 
 -- The text is made of these pieces, and each stands for its part.
 pub record Spells (t : List ℕ) (p : Parts) : Type 0 where
@@ -73,10 +80,11 @@ pub record Spells (t : List ℕ) (p : Parts) : Type 0 where
   pub is_scheme : IfPresent scheme.Spells scheme_text p.scheme
   pub is_authority : IfPresent authority.Spells authority_text p.authority
   pub is_path : path.IsPath path_text
-  pub fit : fits scheme_text authority_text path_text ≡ true
+  pub abempty : IfSome authority_text (λ _. is_abempty path_text ≡ true)
+  pub fit : path_refusal (is_some scheme_text) (is_some authority_text) path_text ≡ None
   pub is_query : IfSome p.query IsQuery
   pub is_fragment : IfSome p.fragment IsFragment
-  pub path : p.path ≡ path_of authority_text path_text
+  pub path : p.path ≡ path_of (is_some authority_text) path_text
 
 -- the texts of the scheme and the authority that a reference has
 abbrev pub scheme_part : Parts → Option (List ℕ)
@@ -85,27 +93,42 @@ scheme_part p = option_map scheme.text p.scheme
 abbrev pub authority_part : Parts → Option (List ℕ)
 authority_part p = option_map authority.print p.authority
 
--- Each part is of its class, and the path is one that its text stands for where it stands.
+-- a relative path that begins with an empty segment and goes on: its text begins with a slash all the same
+abbrev pub hides_root : path.PathParts → Bool
+hides_root h = not h.absolute && path.hides_root h.segments
+
+-- Each part is of its class. Behind an authority the path is absolute; it hides no slash, and may stand where it does.
 pub record Valid (p : Parts) : Type 0 where
   pub is_scheme : IfSome p.scheme scheme.Valid
   pub is_authority : IfSome p.authority authority.Valid
-  pub is_path : path.IsPath (path.text p.path)
-  pub fit : fits (scheme_part p) (authority_part p) (path.text p.path) ≡ true
+  pub is_path : path.IsListed p.path.segments
+  pub absolute : IfSome p.authority (λ _. p.path.absolute ≡ true)
+  pub plain : hides_root p.path ≡ false
+  pub fit : path_refusal (is_some p.scheme) (is_some p.authority) (path.text p.path) ≡ None
   pub is_query : IfSome p.query IsQuery
   pub is_fragment : IfSome p.fragment IsFragment
-  pub path : p.path ≡ path_of (authority_part p) (path.text p.path)
 
 -- the printed text of its authority, if it has one, stands for it
 abbrev pub ReadsBack : Parts → Type 0
 ReadsBack p = IfSome p.authority authority.ReadsBack
+
+-- its host is a name whose text spells an IPv4 address
+abbrev pub HidesAddress : Parts → Type 0
+HidesAddress p = IsSomeAnd (host_of p) host.IsHiddenAddress
+
+-- both have hosts, and one of these holds as a name what the other holds as an IPv4 address
+abbrev pub OneHidesAddress : Parts → Parts → Type 0
+OneHidesAddress p q = IsSomeAnd (host_of p) (λ g. IsSomeAnd (host_of q) (λ h. host.OneHidesAddress g h))
 
 -- the text of a reference
 abbrev pub print : Parts → List ℕ
 print p = joined (scheme_part p) (authority_part p) (path.text p.path) p.query p.fragment
 
 -- its text with each part in canonical spelling
-abbrev pub cprint : Parts → List ℕ
-cprint p = joined (option_map scheme.canonical_text p.scheme) (option_map authority.cprint p.authority) (canon (path.text p.path)) (option_map canon p.query) (option_map canon p.fragment)
+abbrev pub canonical_text : Parts → List ℕ
+canonical_text p =
+    joined (option_map scheme.canonical_text p.scheme) (option_map authority.canonical_text p.authority) (canon (path.text p.path))
+    (option_map canon p.query) (option_map canon p.fragment)
 
 -- the kind of its host, if it has one
 abbrev pub kind : Parts → Option host.Kind
@@ -113,5 +136,5 @@ kind p = option_map authority.kind p.authority
 
 -- one canonical text, and no host or hosts of one kind
 pub record Same (p q : Parts) : Type 0 where
-  pub spelling : cprint p ≡ cprint q
+  pub spelling : canonical_text p ≡ canonical_text q
   pub kinds : kind p ≡ kind q

@@ -7,7 +7,7 @@ ghost use Rattle.uriparse_text.specs.Readings.{IsUnless};
 ghost use Rattle.uriparse_path.specs.declared.path.error.PathError.TheVariants.{OutOfMemory};
 ghost use Rattle.uriparse_reference.specs.declared.uri_reference.error.URIReferenceError.TheVariants as errors;
 ghost use Rattle.uriparse_reference.specs.Key.{each_alike, fed, key};
-ghost use Rattle.uriparse_reference.specs.Reading.{reading, fault};
+ghost use Rattle.uriparse_reference.specs.Reading.{reading, fault, early_fault};
 ghost use Rattle.uriparse_reference.specs.Reference.{host_of, password_of, port_of, print, username_of};
 
 use std::alloc::{AllocError, Global};
@@ -23,13 +23,15 @@ use uriparse_scheme::scheme::Scheme;
 use uriparse_text::fragment::Fragment;
 use uriparse_text::query::Query;
 
+mod edit;
 mod error;
 mod print;
 mod read;
 
+pub use edit::Edit;
 pub use error::URIReferenceError;
 use print::{write_authority, write_behind, write_scheme};
-use read::{cut, path_fits, read_authority_if, read_fragment_if, read_path, read_query_if};
+use read::{check_path, cut, read_authority_if, read_fragment_if, read_path, read_query_if};
 
 /// A URI reference, seen as its five parts.
 ///
@@ -56,12 +58,14 @@ impl<'r> Model for URIReference<'r> {
 
 impl<'r> URIReference<'r> {
     ghost use Rattle.uriparse_reference.specs.Reference.{Parts, Spells, Valid};
+    ghost use Rattle.uriparse_reference.specs.declared.uri_reference.error.URIReferenceError.{URIReferenceError};
 
     /// Reads a reference, whose parts borrow the bytes. Only the list of segments wants memory.
     ///
     /// The first part that has a fault is answered, in the order authority, path, colon rule, query,
-    /// fragment; or, where there is no memory, [`Path`](URIReferenceError::Path) with
-    /// [`OutOfMemory`](uriparse_path::path::PathError::OutOfMemory).
+    /// fragment. Where authority and path have none, and there is no memory for the list,
+    /// [`Path`](URIReferenceError::Path) with
+    /// [`OutOfMemory`](uriparse_path::path::PathError::OutOfMemory) is.
     pub fn try_from_bytes(
         alloc: Global,
         bytes: &'r [u8],
@@ -74,6 +78,9 @@ impl<'r> URIReference<'r> {
 
         // Else the text's fault is answered.
         ensures fault { IfErr result (λ e. (fault bytes.now ≡ Some e) ⊎ (e ≡ errors.Path OutOfMemory)) }
+
+        // A fault of the authority or the path is answered whatever memory there is.
+        ensures early { (e : URIReferenceError) → early_fault bytes.now ≡ Some e → result ≡ Err e }
     {
         Self::read(alloc, bytes)
     }
@@ -83,6 +90,7 @@ impl<'r> URIReference<'r> {
         ensures found { IfOk result (λ r. Spells text.now r) }
         ensures only { (p : Parts) → Spells text.now p → IsUnless (errors.Path OutOfMemory) result (Ok p) }
         ensures fault { IfErr result (λ e. (fault text.now ≡ Some e) ⊎ (e ≡ errors.Path OutOfMemory)) }
+        ensures early { (e : URIReferenceError) → early_fault text.now ≡ Some e → result ≡ Err e }
     {
         Self::read(alloc, text.as_bytes())
     }
@@ -225,19 +233,15 @@ impl<'r> URIReference<'r> {
     /// Reads by the cuts of the text.
     #[tactic(auto, unfolding(crate::specs::Reading::reading))]
     fn read(alloc: Global, bytes: &'r [u8]) -> Result<URIReference<'r>, URIReferenceError>
-        ensures { IsUnless (errors.Path OutOfMemory) result (reading bytes.now) }
+        ensures answer { IsUnless (errors.Path OutOfMemory) result (reading bytes.now) }
+        ensures early { (e : URIReferenceError) → early_fault bytes.now ≡ Some e → result ≡ Err e }
     {
         let pieces = cut(bytes);
-        let fits = path_fits(
-            pieces.scheme.is_some(),
-            pieces.authority.is_some(),
-            pieces.path,
-        );
+        let has_scheme = pieces.scheme.is_some();
+        let has_authority = pieces.authority.is_some();
         let authority = read_authority_if(pieces.authority)?;
-        let path = read_path(alloc, pieces.authority.is_some(), pieces.path)?;
-        if !fits {
-            return Err(URIReferenceError::SchemelessPathStartsWithColonSegment);
-        }
+        let path = read_path(alloc, has_authority, pieces.path)?;
+        check_path(has_scheme, has_authority, pieces.path)?;
         let query = read_query_if(pieces.query)?;
         let fragment = read_fragment_if(pieces.fragment)?;
         Ok(URIReference {
@@ -280,6 +284,9 @@ impl<'r> Hash for URIReference<'r> {
 
 impl<'r> fmt::Display for URIReference<'r> {
     ghost output = { λ r. Some (print r) };
+
+    // No option of the formatter changes it.
+    ghost styled_output = { λ r _. Some (print r) };
 
     fn fmt<W: fmt::Write>(&self, f: &mut fmt::Formatter<W>) -> fmt::Result {
         write_scheme(&self.scheme, f)?;

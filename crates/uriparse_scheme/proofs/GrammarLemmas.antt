@@ -94,11 +94,13 @@ pub is_scheme-canon_low : (t : List ℕ) → is_scheme t ≡ true → is_scheme 
 is_scheme-canon_low t h = ap is_scheme (canon_low_of_scheme t h) ∙ is_scheme-lowered t h
 
 -- a test of the texts in lower case is one of the canonical spellings
-pub same_from_lowered : (left right : List ℕ) (r : Bool) → is_scheme left ≡ true → is_scheme right ≡ true → (IsTrue r ↔ (str_to_ascii_lowercase left ≡ str_to_ascii_lowercase right)) → r ≡ bytes_eq (canon_low left) (canon_low right)
+pub same_from_lowered : (left right : List ℕ) (r : Bool) → is_scheme left ≡ true → is_scheme right ≡ true →
+    (IsTrue r ↔ (str_to_ascii_lowercase left ≡ str_to_ascii_lowercase right)) → r ≡ bytes_eq (canon_low left) (canon_low right)
 same_from_lowered left right r h k iff =
     let l = canon_low_of_scheme left h in
     let m = canon_low_of_scheme right k in
-    same_from_decides r (bytes_eq (canon_low left) (canon_low right)) (λ e. l ∙ iff.0 e ∙ sym m, λ e. iff.1 (sym l ∙ e ∙ m)) (bytes_eq-Decides (canon_low left) (canon_low right))
+    same_from_decides r (bytes_eq (canon_low left) (canon_low right)) (λ e. l ∙ iff.0 e ∙ sym m, λ e. iff.1 (sym l ∙ e ∙ m))
+    (bytes_eq-Decides (canon_low left) (canon_low right))
 
 -- what a walk over a text in lower case spells
 pub walked : (text : List ℕ) → flat_map spell (canonical_tokens Lowered text) ≡ canon_low text

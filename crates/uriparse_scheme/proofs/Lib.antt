@@ -1,6 +1,5 @@
 pub mod GrammarLemmas
-pub mod Parts
 pub mod Sorted
-pub mod RowLemmas
 pub mod TableLemmas
 pub mod SchemeLemmas
+pub mod NormalLemmas

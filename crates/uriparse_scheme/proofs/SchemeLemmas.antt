@@ -1,7 +1,31 @@
 -- Reading a scheme, and why a text is none.
-use Rattle.std.proofs.Common.{◌≡◌, ◌↔◌, ℕ, Bool, true, false, not, cond, ◌&&◌, List, [], ◌∷◌, ◌++◌, Option, Some, None, Result, Ok, Err, refl, sym, ap, ◌∙◌, subst}
+use Rattle.std.proofs.Common.{
+  ◌≡◌,
+  ◌↔◌,
+  ℕ,
+  Bool,
+  true,
+  false,
+  not,
+  cond,
+  ◌&&◌,
+  List,
+  [],
+  ◌∷◌,
+  ◌++◌,
+  Option,
+  Some,
+  None,
+  Result,
+  Ok,
+  Err,
+  refl,
+  sym,
+  ap,
+  ◌∙◌,
+  subst,
+}
 use Rattle.std.specs.Prelude.{is_some}
-use Rattle.std.specs.Option.{option_map}
 use Rattle.std.specs.Char.{is_ascii_alphabetic}
 use Rattle.std.specs.List.{list_all}
 use Rattle.std.specs.Str.{str_to_ascii_lowercase}
@@ -18,11 +42,12 @@ use Rattle.uriparse_scheme.specs.Grammar.{is_scheme_byte, is_scheme, IsUnregiste
 use Rattle.uriparse_scheme.specs.Scheme.{Valid, registered_or, named, text, canonical_text, Spells, fault, reading, BeginsWithNoLetter, HasStrayByte}
 use Rattle.uriparse_text.specs.Canon.{canon_low}
 use Rattle.uriparse_scheme.proofs.GrammarLemmas.{canon_low_of_scheme}
-use Rattle.uriparse_scheme.proofs.TableLemmas.{name_is_scheme, named-name, named_iff, canon_low-name}
+use Rattle.uriparse_scheme.proofs.TableLemmas.{name_is_scheme, named-name, named_iff, canonical_name}
 
 -- ---- no fault
 
-no_faults : (v w : Bool) → (cond {A = Option SchemeError} (not v) (Some StartsWithNonAlphabetic) (cond (not w) (Some InvalidCharacter) None) ≡ None) ↔ ((v && w) ≡ true)
+no_faults : (v w : Bool) → (cond {A = Option SchemeError} (not v) (Some StartsWithNonAlphabetic) (cond (not w)
+    (Some InvalidCharacter) None) ≡ None) ↔ ((v && w) ≡ true)
 no_faults true true = (λ _. refl, λ _. refl)
 no_faults true false = (λ h. cc, λ h. cc)
 no_faults false w = (λ h. cc, λ h. cc)
@@ -43,8 +68,9 @@ valid_or t None e h = record { scheme = h; nameless = e }
 pub valid_spelled : (t : List ℕ) (s : Scheme) → Spells t s → Valid s
 valid_spelled t s spells = subst Valid (sym spells.value) (valid_or t (registered_named (str_to_ascii_lowercase t)) refl spells.grammar)
 
-canonical_or : (t : List ℕ) (o : Option RegisteredScheme) → registered_named (str_to_ascii_lowercase t) ≡ o → is_scheme t ≡ true → canonical_text (registered_or t o) ≡ canon_low t
-canonical_or t (Some s) e h = canon_low-name s ∙ sym ((named_iff t s).0 e) ∙ sym (canon_low_of_scheme t h)
+canonical_or : (t : List ℕ) (o : Option RegisteredScheme) → registered_named (str_to_ascii_lowercase t) ≡ o → is_scheme t ≡ true →
+    canonical_text (registered_or t o) ≡ canon_low t
+canonical_or t (Some s) e h = canonical_name s ∙ sym ((named_iff t s).0 e) ∙ sym (canon_low_of_scheme t h)
 canonical_or t None e h = refl
 
 -- a scheme has the canonical spelling of each text that spells it
@@ -76,12 +102,8 @@ reads t s = (
 -- ---- unregistered schemes
 
 -- no fault, and no name of the table
-pub unregistered_from : (t : List ℕ) → fault t ≡ None → option_map Registered (registered_named (str_to_ascii_lowercase t)) ≡ None → IsUnregistered t
-unregistered_from t none lacks = record { scheme = (no_fault t).0 none; nameless = nameless (registered_named (str_to_ascii_lowercase t)) lacks }
-  where
-    nameless : (o : Option RegisteredScheme) → option_map {U = Scheme} Registered o ≡ None → o ≡ None
-    nameless None h = refl
-    nameless (Some s) h = cc
+pub unregistered_from : (t : List ℕ) → fault t ≡ None → registered_named (str_to_ascii_lowercase t) ≡ None → IsUnregistered t
+unregistered_from t none lacks = record { scheme = (no_fault t).0 none; nameless = lacks }
 
 refused : (v w : Bool) (t : List ℕ) → (cond {A = Result (List ℕ) UnregisteredSchemeError} (v && w) (Ok t) (Err (record {})) ≡ Ok t) ↔ ((v ≡ true) × (w ≡ true))
 refused true true t = (λ _. (refl, refl), λ _. refl)
@@ -118,7 +140,8 @@ no_letter : (b : ℕ) (rest : List ℕ) → is_ascii_alphabetic b ≡ false → 
 unfolding fault
 no_letter b rest h = rw h refl
 
-first_is : (v w : Bool) → cond {A = Option SchemeError} (not v) (Some StartsWithNonAlphabetic) (cond (not w) (Some InvalidCharacter) None) ≡ Some StartsWithNonAlphabetic → v ≡ false
+first_is : (v w : Bool) → cond {A = Option SchemeError} (not v) (Some StartsWithNonAlphabetic) (cond (not w)
+    (Some InvalidCharacter) None) ≡ Some StartsWithNonAlphabetic → v ≡ false
 first_is true true h = cc
 first_is true false h = cc
 first_is false w h = refl
@@ -143,8 +166,16 @@ strays : (t : List ℕ) → list_all is_scheme_byte t ≡ false → StraysIn t
 strays [] h = cc
 strays (b ∷ t) h = at_byte (is_scheme_byte b) refl h (strays t)
   where
-    at_byte : (v : Bool) → is_scheme_byte b ≡ v → (v && list_all is_scheme_byte t) ≡ false → (list_all is_scheme_byte t ≡ false → StraysIn t) → StraysIn (b ∷ t)
-    at_byte true e k further = let r = further k in record { before = b ∷ r.before; stray = r.stray; after = r.after; whole = ap (λ u. b ∷ u) r.whole; here = r.here }
+    at_byte : (v : Bool) → is_scheme_byte b ≡ v → (v && list_all is_scheme_byte t) ≡ false → (list_all is_scheme_byte t ≡ false → StraysIn t) →
+        StraysIn (b ∷ t)
+    at_byte true e k further = let r = further k in record {
+      before = b ∷ r.before;
+      stray = r.stray;
+      after = r.after;
+      whole =
+          ap (λ u. b ∷ u) r.whole;
+      here = r.here;
+    }
     at_byte false e k further = record { before = []; stray = b; after = t; whole = refl; here = e }
 
 not_each : (before : List ℕ) (stray : ℕ) (after : List ℕ) → is_scheme_byte stray ≡ false → list_all is_scheme_byte (before ++ stray ∷ after) ≡ false
@@ -159,7 +190,8 @@ later : (b : ℕ) (rest : List ℕ) → is_ascii_alphabetic b ≡ true → list_
 unfolding fault
 later b rest letter stray = rw (letter, stray) refl
 
-later_is : (v w : Bool) → cond {A = Option SchemeError} (not v) (Some StartsWithNonAlphabetic) (cond (not w) (Some InvalidCharacter) None) ≡ Some InvalidCharacter → (v ≡ true) × (w ≡ false)
+later_is : (v w : Bool) → cond {A = Option SchemeError} (not v) (Some StartsWithNonAlphabetic) (cond (not w)
+    (Some InvalidCharacter) None) ≡ Some InvalidCharacter → (v ≡ true) × (w ≡ false)
 later_is true true h = cc
 later_is true false h = (refl, refl)
 later_is false w h = cc

@@ -1,6 +1,6 @@
 pub mod SchemeTable
-pub mod Rows
 pub mod Registered
 pub mod Grammar
 pub mod Scheme
 pub mod Unregistered
+pub mod Normal

@@ -1,5 +1,5 @@
 -- Schemes: RFC 3986, section 3.1.
-use Rattle.std.specs.Prelude.{◌≡◌, ℕ, ⊤, true, false, not, List, [], ◌∷◌, ◌++◌, map, Option, Some, None, Result, if◌then◌else◌}
+use Rattle.std.specs.Prelude.{◌≡◌, ℕ, ⊤, true, false, not, List, [], ◌∷◌, ◌++◌, Option, Some, None, Result, if◌then◌else◌}
 use Rattle.std.specs.Char.{is_ascii_alphabetic}
 use Rattle.std.specs.List.{list_all}
 use Rattle.std.specs.Str.{str_to_ascii_lowercase}
@@ -12,7 +12,6 @@ use Rattle.uriparse_scheme.specs.declared.scheme.error.SchemeError.{SchemeError}
 use Rattle.uriparse_scheme.specs.declared.scheme.error.SchemeError.TheVariants.{Empty, StartsWithNonAlphabetic, InvalidCharacter}
 use Rattle.uriparse_scheme.specs.declared.scheme.status.SchemeStatus.{SchemeStatus}
 use Rattle.uriparse_scheme.specs.declared.scheme.status.SchemeStatus.TheVariants as statuses
-use Rattle.uriparse_scheme.specs.SchemeTable.{Row}
 use Rattle.uriparse_scheme.specs.Registered.{registered_named, name_of, status_of}
 pub use Rattle.uriparse_scheme.specs.Grammar.{is_scheme_byte, is_scheme, IsUnregistered}
 
@@ -78,7 +77,3 @@ pub record HasStrayByte (t : List ℕ) : Type 0 where
   pub whole : t ≡ first ∷ before ++ stray ∷ after
   pub letter : is_ascii_alphabetic first ≡ true
   pub here : is_scheme_byte stray ≡ false
-
--- the registered schemes of these rows
-abbrev pub schemes_of : List Row → List Scheme
-schemes_of rows = map (λ (r : Row). Registered r.scheme) rows

@@ -1,356 +1,374 @@
--- The registered schemes of RFC 3986, section 3.1: name, variant and status of each, in the order of their names.
-use Rattle.std.specs.Prelude.{ℕ, List, [], ◌∷◌, ◌++◌, codes}
+-- The registered schemes of RFC 3986, section 3.1: the name and the status of each, and their order.
+use Rattle.std.specs.Prelude.{ℕ, List, [], ◌∷◌, codes}
 use Rattle.uriparse_scheme.specs.declared.scheme.registered.RegisteredScheme.{RegisteredScheme}
-use Rattle.uriparse_scheme.specs.declared.scheme.registered.RegisteredScheme.TheVariants.{AAA, AAAS, About, ACAP, ACCT, ACR, AdiumXtra, AFP, AFS, AIM, AMSS, Android, AppData, APT, Attachment, AW, Barion, BeShare, Bitcoin, BitcoinCash, Blob, Bolo, BrowserExt, Calculator, CallTo, CAP, Cast, Casts, Chrome, ChromeExtension, CID, CoAP, CoAPTCP, CoAPWS, CoAPS, CoAPSTCP, CoAPSWS, ComEventBriteAttendee, Content, Conti, CRID, CVS, DAB, Data, DAV, Diaspora, DICT, DID, DIS, DLNAPlayContainer, DLNAPlaySingle, DNS, DNTP, DPP, DRM, Drop, DTN, DVB, ED2K, ELSI, Example, FaceTime, Fax, Feed, FeedReady, File, FileSystem, Finger, Fish, FM, FTP, FuchsiaPkg, Geo, GG, Git, GizmoProject, Go, Gopher, Graph, GTalk, H323, HAM, HCAP, HCP, HTTP, HTTPS, HXXP, HXXPS, HydraZone, IAX, ICAP, Icon, IM, IMAP, Info, IoTDisc, IPN, IPP, IPPS, IRC, IRC6, IRCS, IRIS, IRISBEEP, IRISLWZ, IRISXPC, IRISXPCS, IsoStore, ITMS, Jabber, JAR, JMS, KeyParc, LastFM, LDAP, LDAPS, LoRaWAN, LVLT, Magnet, MailServer, MailTo, Maps, Market, Message, MicrosoftWindowsCamera, MicrosoftWindowsCameraMultiPicker, MicrosoftWindowsCameraPicker, MID, MMS, Modem, MongoDB, Moz, MSNIM, MSRP, MSRPS, MSS, MTQP, Mumble, MUpdate, MVN, News, NFS, NI, NIH, NNTP, Notes, OCF, OID, OneNote, OneNoteCMD, OpaqueLockToken, OpenPGP4FPR, Pack, Palm, Paparazzi, PKCS11, Platform, POP, Pres, Prospero, Proxy, PSYC, PWID, QB, Query, Redis, RedisS, Reload, Res, Resource, RMI, RSync, RTMFP, RTMP, RTSP, RTSPS, RTSPU, SecondLife, Service, Session, SFTP, SGN, SHTTP, Sieve, SimpleLedger, SIP, SIPS, Skype, SMB, SMS, SMTP, SNews, SNMP, SOAPBEEP, SOAPBEEPS, Soldat, SPIFFE, Spotify, SSH, Steam, STUN, STUNS, Submit, SVN, Tag, TeamSpeak, Tel, TeliaEID, Telnet, TFTP, Things, ThisMessage, TIP, TN3270, Tool, TURN, TURNS, TV, UDP, Unreal, URN, UT2004, VEvent, VEMMI, Ventrilo, Videotex, ViewSource, VNC, WAIS, Webcal, WPID, WS, WSS, WTAI, WYCIWYG, XCON, XCONUserID, Xfire, XMLRPCBEEP, XMLRPCBEEPS, XMPP, XRI, YMSGR, Z3950, Z3950R, Z3950S, Microsoft}
-use Rattle.uriparse_scheme.specs.declared.scheme.microsoft.MicrosoftScheme.TheVariants.{MSAccess, MSBrowserExtension, MSCalculator, MSDriveTo, MSEnrollment, MSExcel, MSEyeControlSpeech, MSGameBarServices, MSGamingOverlay, MSGetOffice, MSHelp, MSInfoPath, MSInputApp, MSLockScreenComponentConfig, MSMediaStreamID, MSMixedRealityCapture, MSOfficeApp, MSPeople, MSPowerPoint, MSProject, MSPublisher, MSRestoreTabCompanion, MSScreenClip, MSScreenSketch, MSSearch, MSSearchRepair, MSSecondaryScreenController, MSSeocndaryScreenSetup, MSSettings, MSSettingsAirplaneMode, MSSettingsBluetooth, MSSettingsCamera, MSSettingsCellular, MSSettingsCloudStorage, MSSettingsConnectableDevices, MSSettingsDisplaysTopology, MSSettingsEmailAndAccounts, MSSettingsLanguage, MSSettingsLocation, MSSettingsLock, MSSettingsNFCTransactions, MSSettingsNotifications, MSSettingsPower, MSSettingsPrivacy, MSSettingsProximity, MSSettingsScreenRotation, MSSettingsWiFi, MSSettingsWorkplace, MSSPD, MSSTTOverlay, MSTransitTo, MSUserActivitySet, MSVirtualTouchPad, MSVisio, MSWalkTo, MSWhiteboard, MSWhiteboardCMD, MSWord}
+use Rattle.uriparse_scheme.specs.declared.scheme.registered.RegisteredScheme.TheVariants as scheme
+use Rattle.uriparse_scheme.specs.declared.scheme.microsoft.MicrosoftScheme.TheVariants as microsoft
 use Rattle.uriparse_scheme.specs.declared.scheme.status.SchemeStatus.{SchemeStatus}
 use Rattle.uriparse_scheme.specs.declared.scheme.status.SchemeStatus.TheVariants.{Historical, Permanent, Provisional}
 
 pub record Row : Type 0 where
   pub name : List ℕ
-  pub scheme : RegisteredScheme
   pub status : SchemeStatus
 
 -- a row
-abbrev pub row : List ℕ → RegisteredScheme → SchemeStatus → Row
-row name scheme status = record { name = name; scheme = scheme; status = status }
+abbrev pub row : List ℕ → SchemeStatus → Row
+row name status = record { name = name; status = status }
 
--- rows 0 to 37
-unfoldable pub rows_from_0 : List Row
-rows_from_0 =
-    row (codes "aaa") AAA Permanent ∷
-    row (codes "aaas") AAAS Permanent ∷
-    row (codes "about") About Permanent ∷
-    row (codes "acap") ACAP Permanent ∷
-    row (codes "acat") ACCT Permanent ∷
-    row (codes "acr") ACR Provisional ∷
-    row (codes "adiumxtra") AdiumXtra Provisional ∷
-    row (codes "afp") AFP Provisional ∷
-    row (codes "afs") AFS Provisional ∷
-    row (codes "aim") AIM Provisional ∷
-    row (codes "amss") AMSS Provisional ∷
-    row (codes "android") Android Provisional ∷
-    row (codes "appdata") AppData Provisional ∷
-    row (codes "apt") APT Provisional ∷
-    row (codes "attachment") Attachment Provisional ∷
-    row (codes "aw") AW Provisional ∷
-    row (codes "barion") Barion Provisional ∷
-    row (codes "beshare") BeShare Provisional ∷
-    row (codes "bitcoin") Bitcoin Provisional ∷
-    row (codes "bitcoincash") BitcoinCash Provisional ∷
-    row (codes "blob") Blob Provisional ∷
-    row (codes "bolo") Bolo Provisional ∷
-    row (codes "browserext") BrowserExt Provisional ∷
-    row (codes "calculator") Calculator Provisional ∷
-    row (codes "callto") CallTo Provisional ∷
-    row (codes "cap") CAP Permanent ∷
-    row (codes "cast") Cast Provisional ∷
-    row (codes "casts") Casts Provisional ∷
-    row (codes "chrome") Chrome Provisional ∷
-    row (codes "chrome-extension") ChromeExtension Provisional ∷
-    row (codes "cid") CID Permanent ∷
-    row (codes "coap") CoAP Permanent ∷
-    row (codes "coap+tcp") CoAPTCP Permanent ∷
-    row (codes "coap+ws") CoAPWS Permanent ∷
-    row (codes "coaps") CoAPS Permanent ∷
-    row (codes "coaps+tcp") CoAPSTCP Permanent ∷
-    row (codes "coaps+ws") CoAPSWS Permanent ∷
-    row (codes "com-eventbrite-attendee") ComEventBriteAttendee Provisional ∷ []
+-- the row of a registered scheme
+unfoldable pub row_of : RegisteredScheme → Row
+row_of scheme.AAA = row (codes "aaa") Permanent
+row_of scheme.AAAS = row (codes "aaas") Permanent
+row_of scheme.About = row (codes "about") Permanent
+row_of scheme.ACAP = row (codes "acap") Permanent
+row_of scheme.ACCT = row (codes "acat") Permanent
+row_of scheme.ACR = row (codes "acr") Provisional
+row_of scheme.AdiumXtra = row (codes "adiumxtra") Provisional
+row_of scheme.AFP = row (codes "afp") Provisional
+row_of scheme.AFS = row (codes "afs") Provisional
+row_of scheme.AIM = row (codes "aim") Provisional
+row_of scheme.AMSS = row (codes "amss") Provisional
+row_of scheme.Android = row (codes "android") Provisional
+row_of scheme.AppData = row (codes "appdata") Provisional
+row_of scheme.APT = row (codes "apt") Provisional
+row_of scheme.Attachment = row (codes "attachment") Provisional
+row_of scheme.AW = row (codes "aw") Provisional
+row_of scheme.Barion = row (codes "barion") Provisional
+row_of scheme.BeShare = row (codes "beshare") Provisional
+row_of scheme.Bitcoin = row (codes "bitcoin") Provisional
+row_of scheme.BitcoinCash = row (codes "bitcoincash") Provisional
+row_of scheme.Blob = row (codes "blob") Provisional
+row_of scheme.Bolo = row (codes "bolo") Provisional
+row_of scheme.BrowserExt = row (codes "browserext") Provisional
+row_of scheme.Calculator = row (codes "calculator") Provisional
+row_of scheme.CallTo = row (codes "callto") Provisional
+row_of scheme.CAP = row (codes "cap") Permanent
+row_of scheme.Cast = row (codes "cast") Provisional
+row_of scheme.Casts = row (codes "casts") Provisional
+row_of scheme.Chrome = row (codes "chrome") Provisional
+row_of scheme.ChromeExtension = row (codes "chrome-extension") Provisional
+row_of scheme.CID = row (codes "cid") Permanent
+row_of scheme.CoAP = row (codes "coap") Permanent
+row_of scheme.CoAPTCP = row (codes "coap+tcp") Permanent
+row_of scheme.CoAPWS = row (codes "coap+ws") Permanent
+row_of scheme.CoAPS = row (codes "coaps") Permanent
+row_of scheme.CoAPSTCP = row (codes "coaps+tcp") Permanent
+row_of scheme.CoAPSWS = row (codes "coaps+ws") Permanent
+row_of scheme.ComEventBriteAttendee = row (codes "com-eventbrite-attendee") Provisional
+row_of scheme.Content = row (codes "content") Provisional
+row_of scheme.Conti = row (codes "conti") Provisional
+row_of scheme.CRID = row (codes "crid") Permanent
+row_of scheme.CVS = row (codes "cvs") Provisional
+row_of scheme.DAB = row (codes "dab") Provisional
+row_of scheme.Data = row (codes "data") Permanent
+row_of scheme.DAV = row (codes "dav") Permanent
+row_of scheme.Diaspora = row (codes "diaspora") Provisional
+row_of scheme.DICT = row (codes "dict") Permanent
+row_of scheme.DID = row (codes "did") Provisional
+row_of scheme.DIS = row (codes "dis") Provisional
+row_of scheme.DLNAPlayContainer = row (codes "dlna-playcontainer") Provisional
+row_of scheme.DLNAPlaySingle = row (codes "dlna-playsingle") Provisional
+row_of scheme.DNS = row (codes "dns") Permanent
+row_of scheme.DNTP = row (codes "dntp") Provisional
+row_of scheme.DPP = row (codes "dpp") Provisional
+row_of scheme.DRM = row (codes "drm") Provisional
+row_of scheme.Drop = row (codes "drop") Provisional
+row_of scheme.DTN = row (codes "dtn") Provisional
+row_of scheme.DVB = row (codes "dvb") Provisional
+row_of scheme.ED2K = row (codes "ed2k") Provisional
+row_of scheme.ELSI = row (codes "elsi") Provisional
+row_of scheme.Example = row (codes "example") Permanent
+row_of scheme.FaceTime = row (codes "facetime") Provisional
+row_of scheme.Fax = row (codes "fax") Historical
+row_of scheme.Feed = row (codes "feed") Provisional
+row_of scheme.FeedReady = row (codes "feedready") Provisional
+row_of scheme.File = row (codes "file") Permanent
+row_of scheme.FileSystem = row (codes "filesystem") Historical
+row_of scheme.Finger = row (codes "finger") Provisional
+row_of scheme.Fish = row (codes "fish") Provisional
+row_of scheme.FM = row (codes "fm") Provisional
+row_of scheme.FTP = row (codes "ftp") Permanent
+row_of scheme.FuchsiaPkg = row (codes "fuchsia-pkg") Provisional
+row_of scheme.Geo = row (codes "geo") Permanent
+row_of scheme.GG = row (codes "gg") Provisional
+row_of scheme.Git = row (codes "git") Provisional
+row_of scheme.GizmoProject = row (codes "gizmoproject") Provisional
+row_of scheme.Go = row (codes "go") Permanent
+row_of scheme.Gopher = row (codes "gopher") Permanent
+row_of scheme.Graph = row (codes "graph") Provisional
+row_of scheme.GTalk = row (codes "gtalk") Provisional
+row_of scheme.H323 = row (codes "h323") Permanent
+row_of scheme.HAM = row (codes "ham") Provisional
+row_of scheme.HCAP = row (codes "hcap") Provisional
+row_of scheme.HCP = row (codes "hcp") Provisional
+row_of scheme.HTTP = row (codes "http") Permanent
+row_of scheme.HTTPS = row (codes "https") Permanent
+row_of scheme.HXXP = row (codes "hxxp") Provisional
+row_of scheme.HXXPS = row (codes "hxxps") Provisional
+row_of scheme.HydraZone = row (codes "hydrazone") Provisional
+row_of scheme.IAX = row (codes "iax") Permanent
+row_of scheme.ICAP = row (codes "icap") Permanent
+row_of scheme.Icon = row (codes "icon") Provisional
+row_of scheme.IM = row (codes "im") Permanent
+row_of scheme.IMAP = row (codes "imap") Permanent
+row_of scheme.Info = row (codes "info") Permanent
+row_of scheme.IoTDisc = row (codes "iotdisc") Provisional
+row_of scheme.IPN = row (codes "ipn") Provisional
+row_of scheme.IPP = row (codes "ipp") Permanent
+row_of scheme.IPPS = row (codes "ipps") Permanent
+row_of scheme.IRC = row (codes "irc") Provisional
+row_of scheme.IRC6 = row (codes "irc6") Provisional
+row_of scheme.IRCS = row (codes "ircs") Provisional
+row_of scheme.IRIS = row (codes "iris") Permanent
+row_of scheme.IRISBEEP = row (codes "iris.beep") Permanent
+row_of scheme.IRISLWZ = row (codes "iris.lwz") Permanent
+row_of scheme.IRISXPC = row (codes "iris.xpc") Permanent
+row_of scheme.IRISXPCS = row (codes "iris.xpcs") Permanent
+row_of scheme.IsoStore = row (codes "isostore") Provisional
+row_of scheme.ITMS = row (codes "itms") Provisional
+row_of scheme.Jabber = row (codes "jabber") Permanent
+row_of scheme.JAR = row (codes "jar") Provisional
+row_of scheme.JMS = row (codes "jms") Provisional
+row_of scheme.KeyParc = row (codes "keyparc") Provisional
+row_of scheme.LastFM = row (codes "lastfm") Provisional
+row_of scheme.LDAP = row (codes "ldap") Permanent
+row_of scheme.LDAPS = row (codes "ldaps") Provisional
+row_of scheme.LoRaWAN = row (codes "lorawan") Provisional
+row_of scheme.LVLT = row (codes "lvlt") Provisional
+row_of scheme.Magnet = row (codes "magnet") Provisional
+row_of scheme.MailServer = row (codes "mailserver") Historical
+row_of scheme.MailTo = row (codes "mailto") Permanent
+row_of scheme.Maps = row (codes "maps") Provisional
+row_of scheme.Market = row (codes "market") Provisional
+row_of scheme.Message = row (codes "message") Provisional
+row_of scheme.MicrosoftWindowsCamera = row (codes "microsoft.windows.camera") Provisional
+row_of scheme.MicrosoftWindowsCameraMultiPicker = row (codes "microsoft.windows.camera.multipicker") Provisional
+row_of scheme.MicrosoftWindowsCameraPicker = row (codes "microsoft.windows.camera.picker") Provisional
+row_of scheme.MID = row (codes "mid") Permanent
+row_of scheme.MMS = row (codes "mms") Provisional
+row_of scheme.Modem = row (codes "modem") Historical
+row_of scheme.MongoDB = row (codes "mongodb") Provisional
+row_of scheme.Moz = row (codes "moz") Provisional
+row_of (scheme.Microsoft microsoft.MSAccess) = row (codes "ms-access") Provisional
+row_of (scheme.Microsoft microsoft.MSBrowserExtension) = row (codes "ms-browser-extension") Provisional
+row_of (scheme.Microsoft microsoft.MSCalculator) = row (codes "ms-calculator") Provisional
+row_of (scheme.Microsoft microsoft.MSDriveTo) = row (codes "ms-drive-to") Provisional
+row_of (scheme.Microsoft microsoft.MSEnrollment) = row (codes "ms-enrollment") Provisional
+row_of (scheme.Microsoft microsoft.MSExcel) = row (codes "ms-excel") Provisional
+row_of (scheme.Microsoft microsoft.MSEyeControlSpeech) = row (codes "ms-eyecontrolspeech") Provisional
+row_of (scheme.Microsoft microsoft.MSGameBarServices) = row (codes "ms-gamebaresrvices") Provisional
+row_of (scheme.Microsoft microsoft.MSGamingOverlay) = row (codes "ms-gamingoverlay") Provisional
+row_of (scheme.Microsoft microsoft.MSGetOffice) = row (codes "ms-getoffice") Provisional
+row_of (scheme.Microsoft microsoft.MSHelp) = row (codes "ms-help") Provisional
+row_of (scheme.Microsoft microsoft.MSInfoPath) = row (codes "ms-infopath") Provisional
+row_of (scheme.Microsoft microsoft.MSInputApp) = row (codes "ms-inputapp") Provisional
+row_of (scheme.Microsoft microsoft.MSLockScreenComponentConfig) = row (codes "ms-lockscreencomponent-config") Provisional
+row_of (scheme.Microsoft microsoft.MSMediaStreamID) = row (codes "ms-media-stream-id") Provisional
+row_of (scheme.Microsoft microsoft.MSMixedRealityCapture) = row (codes "ms-mixedrealitycapture") Provisional
+row_of (scheme.Microsoft microsoft.MSOfficeApp) = row (codes "ms-officeapp") Provisional
+row_of (scheme.Microsoft microsoft.MSPeople) = row (codes "ms-people") Provisional
+row_of (scheme.Microsoft microsoft.MSPowerPoint) = row (codes "ms-powerpoint") Provisional
+row_of (scheme.Microsoft microsoft.MSProject) = row (codes "ms-project") Provisional
+row_of (scheme.Microsoft microsoft.MSPublisher) = row (codes "ms-publisher") Provisional
+row_of (scheme.Microsoft microsoft.MSRestoreTabCompanion) = row (codes "ms-restoretabcompanion") Provisional
+row_of (scheme.Microsoft microsoft.MSScreenClip) = row (codes "ms-screenclip") Provisional
+row_of (scheme.Microsoft microsoft.MSScreenSketch) = row (codes "ms-screensketch") Provisional
+row_of (scheme.Microsoft microsoft.MSSearch) = row (codes "ms-search") Provisional
+row_of (scheme.Microsoft microsoft.MSSearchRepair) = row (codes "ms-search-repair") Provisional
+row_of (scheme.Microsoft microsoft.MSSecondaryScreenController) = row (codes "ms-secondary-screen-controller") Provisional
+row_of (scheme.Microsoft microsoft.MSSeocndaryScreenSetup) = row (codes "ms-secondary-screen-setup") Provisional
+row_of (scheme.Microsoft microsoft.MSSettings) = row (codes "ms-settings") Provisional
+row_of (scheme.Microsoft microsoft.MSSettingsAirplaneMode) = row (codes "ms-settings-airplanemode") Provisional
+row_of (scheme.Microsoft microsoft.MSSettingsBluetooth) = row (codes "ms-settings-bluetooth") Provisional
+row_of (scheme.Microsoft microsoft.MSSettingsCamera) = row (codes "ms-settings-camera") Provisional
+row_of (scheme.Microsoft microsoft.MSSettingsCellular) = row (codes "ms-settings-cellular") Provisional
+row_of (scheme.Microsoft microsoft.MSSettingsCloudStorage) = row (codes "ms-settings-cloudstorage") Provisional
+row_of (scheme.Microsoft microsoft.MSSettingsConnectableDevices) = row (codes "ms-settings-connectabledevices") Provisional
+row_of (scheme.Microsoft microsoft.MSSettingsDisplaysTopology) = row (codes "ms-settings-displays-topology") Provisional
+row_of (scheme.Microsoft microsoft.MSSettingsEmailAndAccounts) = row (codes "ms-settings-emailandaccounts") Provisional
+row_of (scheme.Microsoft microsoft.MSSettingsLanguage) = row (codes "ms-settings-language") Provisional
+row_of (scheme.Microsoft microsoft.MSSettingsLocation) = row (codes "ms-settings-location") Provisional
+row_of (scheme.Microsoft microsoft.MSSettingsLock) = row (codes "ms-settings-lock") Provisional
+row_of (scheme.Microsoft microsoft.MSSettingsNFCTransactions) = row (codes "ms-settings-nfctransactions") Provisional
+row_of (scheme.Microsoft microsoft.MSSettingsNotifications) = row (codes "ms-settings-notifications") Provisional
+row_of (scheme.Microsoft microsoft.MSSettingsPower) = row (codes "ms-settings-power") Provisional
+row_of (scheme.Microsoft microsoft.MSSettingsPrivacy) = row (codes "ms-settings-privacy") Provisional
+row_of (scheme.Microsoft microsoft.MSSettingsProximity) = row (codes "ms-settings-proximity") Provisional
+row_of (scheme.Microsoft microsoft.MSSettingsScreenRotation) = row (codes "ms-settings-screenrotation") Provisional
+row_of (scheme.Microsoft microsoft.MSSettingsWiFi) = row (codes "ms-settings-wifi") Provisional
+row_of (scheme.Microsoft microsoft.MSSettingsWorkplace) = row (codes "ms-settings-workplace") Provisional
+row_of (scheme.Microsoft microsoft.MSSPD) = row (codes "ms-spd") Provisional
+row_of (scheme.Microsoft microsoft.MSSTTOverlay) = row (codes "ms-sttoverlay") Provisional
+row_of (scheme.Microsoft microsoft.MSTransitTo) = row (codes "ms-transit-to") Provisional
+row_of (scheme.Microsoft microsoft.MSUserActivitySet) = row (codes "ms-useractivityset") Provisional
+row_of (scheme.Microsoft microsoft.MSVirtualTouchPad) = row (codes "ms-virtualtouchpad") Provisional
+row_of (scheme.Microsoft microsoft.MSVisio) = row (codes "ms-visio") Provisional
+row_of (scheme.Microsoft microsoft.MSWalkTo) = row (codes "ms-walk-to") Provisional
+row_of (scheme.Microsoft microsoft.MSWhiteboard) = row (codes "ms-whiteboard") Provisional
+row_of (scheme.Microsoft microsoft.MSWhiteboardCMD) = row (codes "ms-whiteboard-cmd") Provisional
+row_of (scheme.Microsoft microsoft.MSWord) = row (codes "ms-word") Provisional
+row_of scheme.MSNIM = row (codes "msnim") Provisional
+row_of scheme.MSRP = row (codes "msrp") Permanent
+row_of scheme.MSRPS = row (codes "msrps") Permanent
+row_of scheme.MSS = row (codes "mss") Provisional
+row_of scheme.MTQP = row (codes "mtqp") Permanent
+row_of scheme.Mumble = row (codes "mumble") Provisional
+row_of scheme.MUpdate = row (codes "mupdate") Permanent
+row_of scheme.MVN = row (codes "mvn") Provisional
+row_of scheme.News = row (codes "news") Permanent
+row_of scheme.NFS = row (codes "nfs") Permanent
+row_of scheme.NI = row (codes "ni") Permanent
+row_of scheme.NIH = row (codes "nih") Permanent
+row_of scheme.NNTP = row (codes "nntp") Permanent
+row_of scheme.Notes = row (codes "notes") Provisional
+row_of scheme.OCF = row (codes "ocf") Provisional
+row_of scheme.OID = row (codes "oid") Provisional
+row_of scheme.OneNote = row (codes "onenote") Provisional
+row_of scheme.OneNoteCMD = row (codes "onenote-cmd") Provisional
+row_of scheme.OpaqueLockToken = row (codes "opaquelocktoken") Permanent
+row_of scheme.OpenPGP4FPR = row (codes "openpgp4fpr") Provisional
+row_of scheme.Pack = row (codes "pack") Historical
+row_of scheme.Palm = row (codes "palm") Provisional
+row_of scheme.Paparazzi = row (codes "paparazzi") Provisional
+row_of scheme.PKCS11 = row (codes "pkcs11") Permanent
+row_of scheme.Platform = row (codes "platform") Provisional
+row_of scheme.POP = row (codes "pop") Permanent
+row_of scheme.Pres = row (codes "pres") Permanent
+row_of scheme.Prospero = row (codes "prospero") Historical
+row_of scheme.Proxy = row (codes "proxy") Provisional
+row_of scheme.PSYC = row (codes "psyc") Provisional
+row_of scheme.PWID = row (codes "pwid") Provisional
+row_of scheme.QB = row (codes "qb") Provisional
+row_of scheme.Query = row (codes "query") Provisional
+row_of scheme.Redis = row (codes "redis") Provisional
+row_of scheme.RedisS = row (codes "rediss") Provisional
+row_of scheme.Reload = row (codes "reload") Permanent
+row_of scheme.Res = row (codes "res") Provisional
+row_of scheme.Resource = row (codes "resource") Provisional
+row_of scheme.RMI = row (codes "rmi") Provisional
+row_of scheme.RSync = row (codes "rsync") Provisional
+row_of scheme.RTMFP = row (codes "rtmfp") Provisional
+row_of scheme.RTMP = row (codes "rtmp") Provisional
+row_of scheme.RTSP = row (codes "rtsp") Permanent
+row_of scheme.RTSPS = row (codes "rtsps") Permanent
+row_of scheme.RTSPU = row (codes "rtspu") Permanent
+row_of scheme.SecondLife = row (codes "secondlife") Provisional
+row_of scheme.Service = row (codes "service") Permanent
+row_of scheme.Session = row (codes "session") Permanent
+row_of scheme.SFTP = row (codes "sftp") Provisional
+row_of scheme.SGN = row (codes "sgn") Provisional
+row_of scheme.SHTTP = row (codes "shttp") Permanent
+row_of scheme.Sieve = row (codes "sieve") Permanent
+row_of scheme.SimpleLedger = row (codes "simpleledger") Provisional
+row_of scheme.SIP = row (codes "sip") Permanent
+row_of scheme.SIPS = row (codes "sips") Permanent
+row_of scheme.Skype = row (codes "skype") Provisional
+row_of scheme.SMB = row (codes "smb") Provisional
+row_of scheme.SMS = row (codes "sms") Permanent
+row_of scheme.SMTP = row (codes "smtp") Provisional
+row_of scheme.SNews = row (codes "snews") Historical
+row_of scheme.SNMP = row (codes "snmp") Permanent
+row_of scheme.SOAPBEEP = row (codes "soap.beep") Permanent
+row_of scheme.SOAPBEEPS = row (codes "soap.beeps") Permanent
+row_of scheme.Soldat = row (codes "soldat") Provisional
+row_of scheme.SPIFFE = row (codes "spiffe") Provisional
+row_of scheme.Spotify = row (codes "spotify") Provisional
+row_of scheme.SSH = row (codes "ssh") Provisional
+row_of scheme.Steam = row (codes "steam") Provisional
+row_of scheme.STUN = row (codes "stun") Permanent
+row_of scheme.STUNS = row (codes "stuns") Permanent
+row_of scheme.Submit = row (codes "submit") Provisional
+row_of scheme.SVN = row (codes "svn") Provisional
+row_of scheme.Tag = row (codes "tag") Permanent
+row_of scheme.TeamSpeak = row (codes "teamspeak") Provisional
+row_of scheme.Tel = row (codes "tel") Permanent
+row_of scheme.TeliaEID = row (codes "teliaeid") Provisional
+row_of scheme.Telnet = row (codes "telnet") Permanent
+row_of scheme.TFTP = row (codes "tftp") Permanent
+row_of scheme.Things = row (codes "things") Provisional
+row_of scheme.ThisMessage = row (codes "thismessage") Permanent
+row_of scheme.TIP = row (codes "tip") Permanent
+row_of scheme.TN3270 = row (codes "tn3270") Permanent
+row_of scheme.Tool = row (codes "tool") Provisional
+row_of scheme.TURN = row (codes "turn") Permanent
+row_of scheme.TURNS = row (codes "turns") Permanent
+row_of scheme.TV = row (codes "tv") Permanent
+row_of scheme.UDP = row (codes "udp") Provisional
+row_of scheme.Unreal = row (codes "unreal") Provisional
+row_of scheme.URN = row (codes "urn") Permanent
+row_of scheme.UT2004 = row (codes "ut2004") Provisional
+row_of scheme.VEvent = row (codes "v-event") Provisional
+row_of scheme.VEMMI = row (codes "vemmi") Permanent
+row_of scheme.Ventrilo = row (codes "ventrilo") Provisional
+row_of scheme.Videotex = row (codes "videotex") Historical
+row_of scheme.ViewSource = row (codes "view-source") Provisional
+row_of scheme.VNC = row (codes "vnc") Permanent
+row_of scheme.WAIS = row (codes "wais") Historical
+row_of scheme.Webcal = row (codes "webcal") Provisional
+row_of scheme.WPID = row (codes "wpid") Historical
+row_of scheme.WS = row (codes "ws") Permanent
+row_of scheme.WSS = row (codes "wss") Permanent
+row_of scheme.WTAI = row (codes "wtai") Provisional
+row_of scheme.WYCIWYG = row (codes "wyciwyg") Provisional
+row_of scheme.XCON = row (codes "xcon") Permanent
+row_of scheme.XCONUserID = row (codes "xcon-userid") Permanent
+row_of scheme.Xfire = row (codes "xfire") Provisional
+row_of scheme.XMLRPCBEEP = row (codes "xmlrpc.beep") Permanent
+row_of scheme.XMLRPCBEEPS = row (codes "xmlrpc.beeps") Permanent
+row_of scheme.XMPP = row (codes "xmpp") Permanent
+row_of scheme.XRI = row (codes "xri") Provisional
+row_of scheme.YMSGR = row (codes "ymsgr") Provisional
+row_of scheme.Z3950 = row (codes "z39.50") Historical
+row_of scheme.Z3950R = row (codes "z39.50r") Permanent
+row_of scheme.Z3950S = row (codes "z39.50s") Permanent
 
--- rows 38 to 75
-unfoldable pub rows_from_38 : List Row
-rows_from_38 =
-    row (codes "content") Content Provisional ∷
-    row (codes "conti") Conti Provisional ∷
-    row (codes "crid") CRID Permanent ∷
-    row (codes "cvs") CVS Provisional ∷
-    row (codes "dab") DAB Provisional ∷
-    row (codes "data") Data Permanent ∷
-    row (codes "dav") DAV Permanent ∷
-    row (codes "diaspora") Diaspora Provisional ∷
-    row (codes "dict") DICT Permanent ∷
-    row (codes "did") DID Provisional ∷
-    row (codes "dis") DIS Provisional ∷
-    row (codes "dlna-playcontainer") DLNAPlayContainer Provisional ∷
-    row (codes "dlna-playsingle") DLNAPlaySingle Provisional ∷
-    row (codes "dns") DNS Permanent ∷
-    row (codes "dntp") DNTP Provisional ∷
-    row (codes "dpp") DPP Provisional ∷
-    row (codes "drm") DRM Provisional ∷
-    row (codes "drop") Drop Provisional ∷
-    row (codes "dtn") DTN Provisional ∷
-    row (codes "dvb") DVB Provisional ∷
-    row (codes "ed2k") ED2K Provisional ∷
-    row (codes "elsi") ELSI Provisional ∷
-    row (codes "example") Example Permanent ∷
-    row (codes "facetime") FaceTime Provisional ∷
-    row (codes "fax") Fax Historical ∷
-    row (codes "feed") Feed Provisional ∷
-    row (codes "feedready") FeedReady Provisional ∷
-    row (codes "file") File Permanent ∷
-    row (codes "filesystem") FileSystem Historical ∷
-    row (codes "finger") Finger Provisional ∷
-    row (codes "fish") Fish Provisional ∷
-    row (codes "fm") FM Provisional ∷
-    row (codes "ftp") FTP Permanent ∷
-    row (codes "fuchsia-pkg") FuchsiaPkg Provisional ∷
-    row (codes "geo") Geo Permanent ∷
-    row (codes "gg") GG Provisional ∷
-    row (codes "git") Git Provisional ∷
-    row (codes "gizmoproject") GizmoProject Provisional ∷ []
-
--- rows 76 to 113
-unfoldable pub rows_from_76 : List Row
-rows_from_76 =
-    row (codes "go") Go Permanent ∷
-    row (codes "gopher") Gopher Permanent ∷
-    row (codes "graph") Graph Provisional ∷
-    row (codes "gtalk") GTalk Provisional ∷
-    row (codes "h323") H323 Permanent ∷
-    row (codes "ham") HAM Provisional ∷
-    row (codes "hcap") HCAP Provisional ∷
-    row (codes "hcp") HCP Provisional ∷
-    row (codes "http") HTTP Permanent ∷
-    row (codes "https") HTTPS Permanent ∷
-    row (codes "hxxp") HXXP Provisional ∷
-    row (codes "hxxps") HXXPS Provisional ∷
-    row (codes "hydrazone") HydraZone Provisional ∷
-    row (codes "iax") IAX Permanent ∷
-    row (codes "icap") ICAP Permanent ∷
-    row (codes "icon") Icon Provisional ∷
-    row (codes "im") IM Permanent ∷
-    row (codes "imap") IMAP Permanent ∷
-    row (codes "info") Info Permanent ∷
-    row (codes "iotdisc") IoTDisc Provisional ∷
-    row (codes "ipn") IPN Provisional ∷
-    row (codes "ipp") IPP Permanent ∷
-    row (codes "ipps") IPPS Permanent ∷
-    row (codes "irc") IRC Provisional ∷
-    row (codes "irc6") IRC6 Provisional ∷
-    row (codes "ircs") IRCS Provisional ∷
-    row (codes "iris") IRIS Permanent ∷
-    row (codes "iris.beep") IRISBEEP Permanent ∷
-    row (codes "iris.lwz") IRISLWZ Permanent ∷
-    row (codes "iris.xpc") IRISXPC Permanent ∷
-    row (codes "iris.xpcs") IRISXPCS Permanent ∷
-    row (codes "isostore") IsoStore Provisional ∷
-    row (codes "itms") ITMS Provisional ∷
-    row (codes "jabber") Jabber Permanent ∷
-    row (codes "jar") JAR Provisional ∷
-    row (codes "jms") JMS Provisional ∷
-    row (codes "keyparc") KeyParc Provisional ∷
-    row (codes "lastfm") LastFM Provisional ∷ []
-
--- rows 114 to 151
-unfoldable pub rows_from_114 : List Row
-rows_from_114 =
-    row (codes "ldap") LDAP Permanent ∷
-    row (codes "ldaps") LDAPS Provisional ∷
-    row (codes "lorawan") LoRaWAN Provisional ∷
-    row (codes "lvlt") LVLT Provisional ∷
-    row (codes "magnet") Magnet Provisional ∷
-    row (codes "mailserver") MailServer Historical ∷
-    row (codes "mailto") MailTo Permanent ∷
-    row (codes "maps") Maps Provisional ∷
-    row (codes "market") Market Provisional ∷
-    row (codes "message") Message Provisional ∷
-    row (codes "microsoft.windows.camera") MicrosoftWindowsCamera Provisional ∷
-    row (codes "microsoft.windows.camera.multipicker") MicrosoftWindowsCameraMultiPicker Provisional ∷
-    row (codes "microsoft.windows.camera.picker") MicrosoftWindowsCameraPicker Provisional ∷
-    row (codes "mid") MID Permanent ∷
-    row (codes "mms") MMS Provisional ∷
-    row (codes "modem") Modem Historical ∷
-    row (codes "mongodb") MongoDB Provisional ∷
-    row (codes "moz") Moz Provisional ∷
-    row (codes "ms-access") (Microsoft MSAccess) Provisional ∷
-    row (codes "ms-browser-extension") (Microsoft MSBrowserExtension) Provisional ∷
-    row (codes "ms-calculator") (Microsoft MSCalculator) Provisional ∷
-    row (codes "ms-drive-to") (Microsoft MSDriveTo) Provisional ∷
-    row (codes "ms-enrollment") (Microsoft MSEnrollment) Provisional ∷
-    row (codes "ms-excel") (Microsoft MSExcel) Provisional ∷
-    row (codes "ms-eyecontrolspeech") (Microsoft MSEyeControlSpeech) Provisional ∷
-    row (codes "ms-gamebaresrvices") (Microsoft MSGameBarServices) Provisional ∷
-    row (codes "ms-gamingoverlay") (Microsoft MSGamingOverlay) Provisional ∷
-    row (codes "ms-getoffice") (Microsoft MSGetOffice) Provisional ∷
-    row (codes "ms-help") (Microsoft MSHelp) Provisional ∷
-    row (codes "ms-infopath") (Microsoft MSInfoPath) Provisional ∷
-    row (codes "ms-inputapp") (Microsoft MSInputApp) Provisional ∷
-    row (codes "ms-lockscreencomponent-config") (Microsoft MSLockScreenComponentConfig) Provisional ∷
-    row (codes "ms-media-stream-id") (Microsoft MSMediaStreamID) Provisional ∷
-    row (codes "ms-mixedrealitycapture") (Microsoft MSMixedRealityCapture) Provisional ∷
-    row (codes "ms-officeapp") (Microsoft MSOfficeApp) Provisional ∷
-    row (codes "ms-people") (Microsoft MSPeople) Provisional ∷
-    row (codes "ms-powerpoint") (Microsoft MSPowerPoint) Provisional ∷
-    row (codes "ms-project") (Microsoft MSProject) Provisional ∷ []
-
--- rows 152 to 189
-unfoldable pub rows_from_152 : List Row
-rows_from_152 =
-    row (codes "ms-publisher") (Microsoft MSPublisher) Provisional ∷
-    row (codes "ms-restoretabcompanion") (Microsoft MSRestoreTabCompanion) Provisional ∷
-    row (codes "ms-screenclip") (Microsoft MSScreenClip) Provisional ∷
-    row (codes "ms-screensketch") (Microsoft MSScreenSketch) Provisional ∷
-    row (codes "ms-search") (Microsoft MSSearch) Provisional ∷
-    row (codes "ms-search-repair") (Microsoft MSSearchRepair) Provisional ∷
-    row (codes "ms-secondary-screen-controller") (Microsoft MSSecondaryScreenController) Provisional ∷
-    row (codes "ms-secondary-screen-setup") (Microsoft MSSeocndaryScreenSetup) Provisional ∷
-    row (codes "ms-settings") (Microsoft MSSettings) Provisional ∷
-    row (codes "ms-settings-airplanemode") (Microsoft MSSettingsAirplaneMode) Provisional ∷
-    row (codes "ms-settings-bluetooth") (Microsoft MSSettingsBluetooth) Provisional ∷
-    row (codes "ms-settings-camera") (Microsoft MSSettingsCamera) Provisional ∷
-    row (codes "ms-settings-cellular") (Microsoft MSSettingsCellular) Provisional ∷
-    row (codes "ms-settings-cloudstorage") (Microsoft MSSettingsCloudStorage) Provisional ∷
-    row (codes "ms-settings-connectabledevices") (Microsoft MSSettingsConnectableDevices) Provisional ∷
-    row (codes "ms-settings-displays-topology") (Microsoft MSSettingsDisplaysTopology) Provisional ∷
-    row (codes "ms-settings-emailandaccounts") (Microsoft MSSettingsEmailAndAccounts) Provisional ∷
-    row (codes "ms-settings-language") (Microsoft MSSettingsLanguage) Provisional ∷
-    row (codes "ms-settings-location") (Microsoft MSSettingsLocation) Provisional ∷
-    row (codes "ms-settings-lock") (Microsoft MSSettingsLock) Provisional ∷
-    row (codes "ms-settings-nfctransactions") (Microsoft MSSettingsNFCTransactions) Provisional ∷
-    row (codes "ms-settings-notifications") (Microsoft MSSettingsNotifications) Provisional ∷
-    row (codes "ms-settings-power") (Microsoft MSSettingsPower) Provisional ∷
-    row (codes "ms-settings-privacy") (Microsoft MSSettingsPrivacy) Provisional ∷
-    row (codes "ms-settings-proximity") (Microsoft MSSettingsProximity) Provisional ∷
-    row (codes "ms-settings-screenrotation") (Microsoft MSSettingsScreenRotation) Provisional ∷
-    row (codes "ms-settings-wifi") (Microsoft MSSettingsWiFi) Provisional ∷
-    row (codes "ms-settings-workplace") (Microsoft MSSettingsWorkplace) Provisional ∷
-    row (codes "ms-spd") (Microsoft MSSPD) Provisional ∷
-    row (codes "ms-sttoverlay") (Microsoft MSSTTOverlay) Provisional ∷
-    row (codes "ms-transit-to") (Microsoft MSTransitTo) Provisional ∷
-    row (codes "ms-useractivityset") (Microsoft MSUserActivitySet) Provisional ∷
-    row (codes "ms-virtualtouchpad") (Microsoft MSVirtualTouchPad) Provisional ∷
-    row (codes "ms-visio") (Microsoft MSVisio) Provisional ∷
-    row (codes "ms-walk-to") (Microsoft MSWalkTo) Provisional ∷
-    row (codes "ms-whiteboard") (Microsoft MSWhiteboard) Provisional ∷
-    row (codes "ms-whiteboard-cmd") (Microsoft MSWhiteboardCMD) Provisional ∷
-    row (codes "ms-word") (Microsoft MSWord) Provisional ∷ []
-
--- rows 190 to 227
-unfoldable pub rows_from_190 : List Row
-rows_from_190 =
-    row (codes "msnim") MSNIM Provisional ∷
-    row (codes "msrp") MSRP Permanent ∷
-    row (codes "msrps") MSRPS Permanent ∷
-    row (codes "mss") MSS Provisional ∷
-    row (codes "mtqp") MTQP Permanent ∷
-    row (codes "mumble") Mumble Provisional ∷
-    row (codes "mupdate") MUpdate Permanent ∷
-    row (codes "mvn") MVN Provisional ∷
-    row (codes "news") News Permanent ∷
-    row (codes "nfs") NFS Permanent ∷
-    row (codes "ni") NI Permanent ∷
-    row (codes "nih") NIH Permanent ∷
-    row (codes "nntp") NNTP Permanent ∷
-    row (codes "notes") Notes Provisional ∷
-    row (codes "ocf") OCF Provisional ∷
-    row (codes "oid") OID Provisional ∷
-    row (codes "onenote") OneNote Provisional ∷
-    row (codes "onenote-cmd") OneNoteCMD Provisional ∷
-    row (codes "opaquelocktoken") OpaqueLockToken Permanent ∷
-    row (codes "openpgp4fpr") OpenPGP4FPR Provisional ∷
-    row (codes "pack") Pack Historical ∷
-    row (codes "palm") Palm Provisional ∷
-    row (codes "paparazzi") Paparazzi Provisional ∷
-    row (codes "pkcs11") PKCS11 Permanent ∷
-    row (codes "platform") Platform Provisional ∷
-    row (codes "pop") POP Permanent ∷
-    row (codes "pres") Pres Permanent ∷
-    row (codes "prospero") Prospero Historical ∷
-    row (codes "proxy") Proxy Provisional ∷
-    row (codes "psyc") PSYC Provisional ∷
-    row (codes "pwid") PWID Provisional ∷
-    row (codes "qb") QB Provisional ∷
-    row (codes "query") Query Provisional ∷
-    row (codes "redis") Redis Provisional ∷
-    row (codes "rediss") RedisS Provisional ∷
-    row (codes "reload") Reload Permanent ∷
-    row (codes "res") Res Provisional ∷
-    row (codes "resource") Resource Provisional ∷ []
-
--- rows 228 to 265
-unfoldable pub rows_from_228 : List Row
-rows_from_228 =
-    row (codes "rmi") RMI Provisional ∷
-    row (codes "rsync") RSync Provisional ∷
-    row (codes "rtmfp") RTMFP Provisional ∷
-    row (codes "rtmp") RTMP Provisional ∷
-    row (codes "rtsp") RTSP Permanent ∷
-    row (codes "rtsps") RTSPS Permanent ∷
-    row (codes "rtspu") RTSPU Permanent ∷
-    row (codes "secondlife") SecondLife Provisional ∷
-    row (codes "service") Service Permanent ∷
-    row (codes "session") Session Permanent ∷
-    row (codes "sftp") SFTP Provisional ∷
-    row (codes "sgn") SGN Provisional ∷
-    row (codes "shttp") SHTTP Permanent ∷
-    row (codes "sieve") Sieve Permanent ∷
-    row (codes "simpleledger") SimpleLedger Provisional ∷
-    row (codes "sip") SIP Permanent ∷
-    row (codes "sips") SIPS Permanent ∷
-    row (codes "skype") Skype Provisional ∷
-    row (codes "smb") SMB Provisional ∷
-    row (codes "sms") SMS Permanent ∷
-    row (codes "smtp") SMTP Provisional ∷
-    row (codes "snews") SNews Historical ∷
-    row (codes "snmp") SNMP Permanent ∷
-    row (codes "soap.beep") SOAPBEEP Permanent ∷
-    row (codes "soap.beeps") SOAPBEEPS Permanent ∷
-    row (codes "soldat") Soldat Provisional ∷
-    row (codes "spiffe") SPIFFE Provisional ∷
-    row (codes "spotify") Spotify Provisional ∷
-    row (codes "ssh") SSH Provisional ∷
-    row (codes "steam") Steam Provisional ∷
-    row (codes "stun") STUN Permanent ∷
-    row (codes "stuns") STUNS Permanent ∷
-    row (codes "submit") Submit Provisional ∷
-    row (codes "svn") SVN Provisional ∷
-    row (codes "tag") Tag Permanent ∷
-    row (codes "teamspeak") TeamSpeak Provisional ∷
-    row (codes "tel") Tel Permanent ∷
-    row (codes "teliaeid") TeliaEID Provisional ∷ []
-
--- rows 266 to 303
-unfoldable pub rows_from_266 : List Row
-rows_from_266 =
-    row (codes "telnet") Telnet Permanent ∷
-    row (codes "tftp") TFTP Permanent ∷
-    row (codes "things") Things Provisional ∷
-    row (codes "thismessage") ThisMessage Permanent ∷
-    row (codes "tip") TIP Permanent ∷
-    row (codes "tn3270") TN3270 Permanent ∷
-    row (codes "tool") Tool Provisional ∷
-    row (codes "turn") TURN Permanent ∷
-    row (codes "turns") TURNS Permanent ∷
-    row (codes "tv") TV Permanent ∷
-    row (codes "udp") UDP Provisional ∷
-    row (codes "unreal") Unreal Provisional ∷
-    row (codes "urn") URN Permanent ∷
-    row (codes "ut2004") UT2004 Provisional ∷
-    row (codes "v-event") VEvent Provisional ∷
-    row (codes "vemmi") VEMMI Permanent ∷
-    row (codes "ventrilo") Ventrilo Provisional ∷
-    row (codes "videotex") Videotex Historical ∷
-    row (codes "view-source") ViewSource Provisional ∷
-    row (codes "vnc") VNC Permanent ∷
-    row (codes "wais") WAIS Historical ∷
-    row (codes "webcal") Webcal Provisional ∷
-    row (codes "wpid") WPID Historical ∷
-    row (codes "ws") WS Permanent ∷
-    row (codes "wss") WSS Permanent ∷
-    row (codes "wtai") WTAI Provisional ∷
-    row (codes "wyciwyg") WYCIWYG Provisional ∷
-    row (codes "xcon") XCON Permanent ∷
-    row (codes "xcon-userid") XCONUserID Permanent ∷
-    row (codes "xfire") Xfire Provisional ∷
-    row (codes "xmlrpc.beep") XMLRPCBEEP Permanent ∷
-    row (codes "xmlrpc.beeps") XMLRPCBEEPS Permanent ∷
-    row (codes "xmpp") XMPP Permanent ∷
-    row (codes "xri") XRI Provisional ∷
-    row (codes "ymsgr") YMSGR Provisional ∷
-    row (codes "z39.50") Z3950 Historical ∷
-    row (codes "z39.50r") Z3950R Permanent ∷
-    row (codes "z39.50s") Z3950S Permanent ∷ []
-
--- the table
-unfoldable pub scheme_table : List Row
-scheme_table = rows_from_0 ++ (rows_from_38 ++ (rows_from_76 ++ (rows_from_114 ++ (rows_from_152 ++ (rows_from_190 ++ (rows_from_228 ++ (rows_from_266)))))))
+-- the registered schemes, in the order of their names
+unfoldable pub variants : List RegisteredScheme
+variants =
+    scheme.AAA ∷ scheme.AAAS ∷ scheme.About ∷ scheme.ACAP ∷ scheme.ACCT ∷ scheme.ACR ∷ scheme.AdiumXtra ∷ scheme.AFP ∷ scheme.AFS ∷ scheme.AIM ∷
+    scheme.AMSS ∷ scheme.Android ∷ scheme.AppData ∷ scheme.APT ∷ scheme.Attachment ∷ scheme.AW ∷ scheme.Barion ∷ scheme.BeShare ∷ scheme.Bitcoin ∷
+    scheme.BitcoinCash ∷ scheme.Blob ∷ scheme.Bolo ∷ scheme.BrowserExt ∷ scheme.Calculator ∷ scheme.CallTo ∷ scheme.CAP ∷ scheme.Cast ∷ scheme.Casts ∷
+    scheme.Chrome ∷ scheme.ChromeExtension ∷ scheme.CID ∷ scheme.CoAP ∷ scheme.CoAPTCP ∷ scheme.CoAPWS ∷ scheme.CoAPS ∷ scheme.CoAPSTCP ∷
+    scheme.CoAPSWS ∷ scheme.ComEventBriteAttendee ∷ scheme.Content ∷ scheme.Conti ∷ scheme.CRID ∷ scheme.CVS ∷ scheme.DAB ∷ scheme.Data ∷ scheme.DAV ∷
+    scheme.Diaspora ∷ scheme.DICT ∷ scheme.DID ∷ scheme.DIS ∷ scheme.DLNAPlayContainer ∷ scheme.DLNAPlaySingle ∷ scheme.DNS ∷ scheme.DNTP ∷
+    scheme.DPP ∷ scheme.DRM ∷ scheme.Drop ∷ scheme.DTN ∷ scheme.DVB ∷ scheme.ED2K ∷ scheme.ELSI ∷ scheme.Example ∷ scheme.FaceTime ∷ scheme.Fax ∷
+    scheme.Feed ∷ scheme.FeedReady ∷ scheme.File ∷ scheme.FileSystem ∷ scheme.Finger ∷ scheme.Fish ∷ scheme.FM ∷ scheme.FTP ∷ scheme.FuchsiaPkg ∷
+    scheme.Geo ∷ scheme.GG ∷ scheme.Git ∷ scheme.GizmoProject ∷ scheme.Go ∷ scheme.Gopher ∷ scheme.Graph ∷ scheme.GTalk ∷ scheme.H323 ∷ scheme.HAM ∷
+    scheme.HCAP ∷ scheme.HCP ∷ scheme.HTTP ∷ scheme.HTTPS ∷ scheme.HXXP ∷ scheme.HXXPS ∷ scheme.HydraZone ∷ scheme.IAX ∷ scheme.ICAP ∷ scheme.Icon ∷
+    scheme.IM ∷ scheme.IMAP ∷ scheme.Info ∷ scheme.IoTDisc ∷ scheme.IPN ∷ scheme.IPP ∷ scheme.IPPS ∷ scheme.IRC ∷ scheme.IRC6 ∷ scheme.IRCS ∷
+    scheme.IRIS ∷ scheme.IRISBEEP ∷ scheme.IRISLWZ ∷ scheme.IRISXPC ∷ scheme.IRISXPCS ∷ scheme.IsoStore ∷ scheme.ITMS ∷ scheme.Jabber ∷ scheme.JAR ∷
+    scheme.JMS ∷ scheme.KeyParc ∷ scheme.LastFM ∷ scheme.LDAP ∷ scheme.LDAPS ∷ scheme.LoRaWAN ∷ scheme.LVLT ∷ scheme.Magnet ∷ scheme.MailServer ∷
+    scheme.MailTo ∷ scheme.Maps ∷ scheme.Market ∷ scheme.Message ∷ scheme.MicrosoftWindowsCamera ∷ scheme.MicrosoftWindowsCameraMultiPicker ∷
+    scheme.MicrosoftWindowsCameraPicker ∷ scheme.MID ∷ scheme.MMS ∷ scheme.Modem ∷ scheme.MongoDB ∷ scheme.Moz ∷ scheme.Microsoft microsoft.MSAccess ∷
+    scheme.Microsoft microsoft.MSBrowserExtension ∷ scheme.Microsoft microsoft.MSCalculator ∷ scheme.Microsoft microsoft.MSDriveTo ∷
+    scheme.Microsoft microsoft.MSEnrollment ∷ scheme.Microsoft microsoft.MSExcel ∷ scheme.Microsoft microsoft.MSEyeControlSpeech ∷
+    scheme.Microsoft microsoft.MSGameBarServices ∷ scheme.Microsoft microsoft.MSGamingOverlay ∷ scheme.Microsoft microsoft.MSGetOffice ∷
+    scheme.Microsoft microsoft.MSHelp ∷ scheme.Microsoft microsoft.MSInfoPath ∷ scheme.Microsoft microsoft.MSInputApp ∷
+    scheme.Microsoft microsoft.MSLockScreenComponentConfig ∷ scheme.Microsoft microsoft.MSMediaStreamID ∷
+    scheme.Microsoft microsoft.MSMixedRealityCapture ∷ scheme.Microsoft microsoft.MSOfficeApp ∷ scheme.Microsoft microsoft.MSPeople ∷
+    scheme.Microsoft microsoft.MSPowerPoint ∷ scheme.Microsoft microsoft.MSProject ∷ scheme.Microsoft microsoft.MSPublisher ∷
+    scheme.Microsoft microsoft.MSRestoreTabCompanion ∷ scheme.Microsoft microsoft.MSScreenClip ∷ scheme.Microsoft microsoft.MSScreenSketch ∷
+    scheme.Microsoft microsoft.MSSearch ∷ scheme.Microsoft microsoft.MSSearchRepair ∷ scheme.Microsoft microsoft.MSSecondaryScreenController ∷
+    scheme.Microsoft microsoft.MSSeocndaryScreenSetup ∷ scheme.Microsoft microsoft.MSSettings ∷ scheme.Microsoft microsoft.MSSettingsAirplaneMode ∷
+    scheme.Microsoft microsoft.MSSettingsBluetooth ∷ scheme.Microsoft microsoft.MSSettingsCamera ∷ scheme.Microsoft microsoft.MSSettingsCellular ∷
+    scheme.Microsoft microsoft.MSSettingsCloudStorage ∷ scheme.Microsoft microsoft.MSSettingsConnectableDevices ∷
+    scheme.Microsoft microsoft.MSSettingsDisplaysTopology ∷ scheme.Microsoft microsoft.MSSettingsEmailAndAccounts ∷
+    scheme.Microsoft microsoft.MSSettingsLanguage ∷ scheme.Microsoft microsoft.MSSettingsLocation ∷ scheme.Microsoft microsoft.MSSettingsLock ∷
+    scheme.Microsoft microsoft.MSSettingsNFCTransactions ∷ scheme.Microsoft microsoft.MSSettingsNotifications ∷
+    scheme.Microsoft microsoft.MSSettingsPower ∷ scheme.Microsoft microsoft.MSSettingsPrivacy ∷ scheme.Microsoft microsoft.MSSettingsProximity ∷
+    scheme.Microsoft microsoft.MSSettingsScreenRotation ∷ scheme.Microsoft microsoft.MSSettingsWiFi ∷ scheme.Microsoft microsoft.MSSettingsWorkplace ∷
+    scheme.Microsoft microsoft.MSSPD ∷ scheme.Microsoft microsoft.MSSTTOverlay ∷ scheme.Microsoft microsoft.MSTransitTo ∷
+    scheme.Microsoft microsoft.MSUserActivitySet ∷ scheme.Microsoft microsoft.MSVirtualTouchPad ∷ scheme.Microsoft microsoft.MSVisio ∷
+    scheme.Microsoft microsoft.MSWalkTo ∷ scheme.Microsoft microsoft.MSWhiteboard ∷ scheme.Microsoft microsoft.MSWhiteboardCMD ∷
+    scheme.Microsoft microsoft.MSWord ∷ scheme.MSNIM ∷ scheme.MSRP ∷ scheme.MSRPS ∷ scheme.MSS ∷ scheme.MTQP ∷ scheme.Mumble ∷ scheme.MUpdate ∷
+    scheme.MVN ∷ scheme.News ∷ scheme.NFS ∷ scheme.NI ∷ scheme.NIH ∷ scheme.NNTP ∷ scheme.Notes ∷ scheme.OCF ∷ scheme.OID ∷ scheme.OneNote ∷
+    scheme.OneNoteCMD ∷ scheme.OpaqueLockToken ∷ scheme.OpenPGP4FPR ∷ scheme.Pack ∷ scheme.Palm ∷ scheme.Paparazzi ∷ scheme.PKCS11 ∷ scheme.Platform ∷
+    scheme.POP ∷ scheme.Pres ∷ scheme.Prospero ∷ scheme.Proxy ∷ scheme.PSYC ∷ scheme.PWID ∷ scheme.QB ∷ scheme.Query ∷ scheme.Redis ∷ scheme.RedisS ∷
+    scheme.Reload ∷ scheme.Res ∷ scheme.Resource ∷ scheme.RMI ∷ scheme.RSync ∷ scheme.RTMFP ∷ scheme.RTMP ∷ scheme.RTSP ∷ scheme.RTSPS ∷ scheme.RTSPU ∷
+    scheme.SecondLife ∷ scheme.Service ∷ scheme.Session ∷ scheme.SFTP ∷ scheme.SGN ∷ scheme.SHTTP ∷ scheme.Sieve ∷ scheme.SimpleLedger ∷ scheme.SIP ∷
+    scheme.SIPS ∷ scheme.Skype ∷ scheme.SMB ∷ scheme.SMS ∷ scheme.SMTP ∷ scheme.SNews ∷ scheme.SNMP ∷ scheme.SOAPBEEP ∷ scheme.SOAPBEEPS ∷
+    scheme.Soldat ∷ scheme.SPIFFE ∷ scheme.Spotify ∷ scheme.SSH ∷ scheme.Steam ∷ scheme.STUN ∷ scheme.STUNS ∷ scheme.Submit ∷ scheme.SVN ∷ scheme.Tag ∷
+    scheme.TeamSpeak ∷ scheme.Tel ∷ scheme.TeliaEID ∷ scheme.Telnet ∷ scheme.TFTP ∷ scheme.Things ∷ scheme.ThisMessage ∷ scheme.TIP ∷ scheme.TN3270 ∷
+    scheme.Tool ∷ scheme.TURN ∷ scheme.TURNS ∷ scheme.TV ∷ scheme.UDP ∷ scheme.Unreal ∷ scheme.URN ∷ scheme.UT2004 ∷ scheme.VEvent ∷ scheme.VEMMI ∷
+    scheme.Ventrilo ∷ scheme.Videotex ∷ scheme.ViewSource ∷ scheme.VNC ∷ scheme.WAIS ∷ scheme.Webcal ∷ scheme.WPID ∷ scheme.WS ∷ scheme.WSS ∷
+    scheme.WTAI ∷ scheme.WYCIWYG ∷ scheme.XCON ∷ scheme.XCONUserID ∷ scheme.Xfire ∷ scheme.XMLRPCBEEP ∷ scheme.XMLRPCBEEPS ∷ scheme.XMPP ∷ scheme.XRI ∷
+    scheme.YMSGR ∷ scheme.Z3950 ∷ scheme.Z3950R ∷ scheme.Z3950S ∷ []

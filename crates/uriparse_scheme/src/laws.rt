@@ -1,6 +1,6 @@
 //! Laws of the definitions that contracts cite. Each function has nothing to do: its contract is
 //! the law.
-ghost use Rattle.std.specs.Prelude.{◌≡◌, ◌↔◌, ℕ, List, [], map, Some, None, Ok, true, slice_get};
+ghost use Rattle.std.specs.Prelude.{◌≡◌, ◌↔◌, ℕ, List, [], map, Some, None, Ok, Err, true, codes, slice_get};
 ghost use Rattle.std.specs.Cmp.Lexicographic.{slice_cmp};
 ghost use Rattle.std.specs.Ordering.{nat_cmp};
 ghost use Rattle.std.specs.Str.{str_to_ascii_lowercase};
@@ -8,15 +8,19 @@ ghost use Rattle.std.specs.List.Sorted.{IsStrictlySortedBy};
 ghost use Rattle.uriparse_text.specs.Tokens.{is_well_formed};
 ghost use Rattle.uriparse_text.specs.Canon.{canon_low};
 ghost use Rattle.uriparse_scheme.specs.declared.scheme.registered.RegisteredScheme.{RegisteredScheme};
+ghost use Rattle.uriparse_scheme.specs.declared.scheme.registered.RegisteredScheme.TheVariants.{AAA, ACCT, HTTP, MicrosoftWindowsCameraMultiPicker, Microsoft, Z3950, Z3950S};
+ghost use Rattle.uriparse_scheme.specs.declared.scheme.microsoft.MicrosoftScheme.TheVariants.{MSGameBarServices, MSWord};
+ghost use Rattle.uriparse_scheme.specs.declared.scheme.status.SchemeStatus.TheVariants as statuses;
 ghost use Rattle.uriparse_scheme.specs.declared.scheme.Scheme.{Scheme};
+ghost use Rattle.uriparse_scheme.specs.declared.scheme.Scheme.TheVariants.{Registered, Unregistered};
 ghost use Rattle.uriparse_scheme.specs.declared.scheme.error.SchemeError.TheVariants.{Empty, StartsWithNonAlphabetic, InvalidCharacter};
 ghost use Rattle.uriparse_scheme.specs.declared.scheme.error.UnregisteredSchemeError.{UnregisteredSchemeError};
-ghost use Rattle.uriparse_scheme.specs.SchemeTable.{Row, row, scheme_table};
-ghost use Rattle.uriparse_scheme.specs.Rows.{row_of};
-ghost use Rattle.uriparse_scheme.specs.Registered.{names, variants, registered_named, name_of, status_of};
+ghost use Rattle.uriparse_scheme.specs.SchemeTable.{variants};
+ghost use Rattle.uriparse_scheme.specs.Registered.{names, registered_named, name_of};
 ghost use Rattle.uriparse_scheme.specs.Grammar.{is_scheme, IsUnregistered};
-ghost use Rattle.uriparse_scheme.specs.Scheme.{BeginsWithNoLetter, HasStrayByte, Spells, Valid, canonical_text, fault, reading, text};
+ghost use Rattle.uriparse_scheme.specs.Scheme.{BeginsWithNoLetter, HasStrayByte, Spells, Valid, canonical_text, fault, reading, status, text};
 ghost use Rattle.uriparse_scheme.specs.Unregistered as unregistered;
+ghost use Rattle.uriparse_scheme.specs.Normal.{canonical_scheme};
 
 /// Reading gives exactly what a text spells, which is one scheme at most and a valid one. The text
 /// of a valid scheme spells it.
@@ -50,14 +54,47 @@ pub fn canonical_is_lower_case()
 {}
 
 /// The names of the table rise, so no two rows have one name, and are schemes in lower case. Each
-/// registered scheme has a row of its own, with its name and its status, and its name, in any case,
-/// names it.
+/// registered scheme stands in it, once, and its name, in any case, names it and no other.
 pub fn table_is_one_to_one()
     ensures sorted { IsStrictlySortedBy (slice_cmp nat_cmp) names }
     ensures lowered { map str_to_ascii_lowercase names ≡ names }
-    ensures own_row { (s : RegisteredScheme) → slice_get scheme_table (row_of s) ≡ Some (row (name_of s) s (status_of s)) }
-    ensures own_variant { (k : ℕ) (r : Row) → slice_get scheme_table k ≡ Some r → row_of r.scheme ≡ k }
+    ensures listed { (s : RegisteredScheme) → (k : ℕ) × (slice_get variants k ≡ Some s) }
+    ensures once { (j k : ℕ) (s : RegisteredScheme) → slice_get variants j ≡ Some s → slice_get variants k ≡ Some s → j ≡ k }
     ensures distinct { (r s : RegisteredScheme) → name_of r ≡ name_of s → r ≡ s }
     ensures grammar { (s : RegisteredScheme) → is_scheme (name_of s) ≡ true }
     ensures named { (t : List ℕ) (s : RegisteredScheme) → (registered_named (str_to_ascii_lowercase t) ≡ Some s) ↔ (str_to_ascii_lowercase t ≡ name_of s) }
+{}
+
+/// The normal form of a valid scheme is valid and its own normal form, and has the canonical text. A
+/// scheme with the text of its normal form is that form.
+pub fn one_normal_form()
+    ensures valid { (s : Scheme) → Valid s → Valid (canonical_scheme s) }
+    ensures twice { (s : Scheme) → Valid s → canonical_scheme (canonical_scheme s) ≡ canonical_scheme s }
+    ensures text { (s : Scheme) → text (canonical_scheme s) ≡ canonical_text s }
+    ensures kept { (s : Scheme) → text (canonical_scheme s) ≡ text s → canonical_scheme s ≡ s }
+{}
+
+/// Texts, and what they are read as, print and become.
+pub fn examples()
+    ensures any_case { reading (codes "hTTp") ≡ Ok (Registered HTTP) }
+    ensures acat { reading (codes "acat") ≡ Ok (Registered ACCT) }
+    ensures acct { reading (codes "acct") ≡ Ok (Unregistered (codes "acct")) }
+    ensures first_row { reading (codes "aaa") ≡ Ok (Registered AAA) }
+    ensures last_row { reading (codes "Z39.50S") ≡ Ok (Registered Z3950S) }
+    ensures shorter { reading (codes "z39.5") ≡ Ok (Unregistered (codes "z39.5")) }
+    ensures longest { reading (codes "microsoft.windows.camera.multipicker") ≡ Ok (Registered MicrosoftWindowsCameraMultiPicker) }
+    ensures longer { reading (codes "microsoft.windows.camera.multipickers") ≡ Ok (Unregistered (codes "microsoft.windows.camera.multipickers")) }
+    ensures kept { reading (codes "a+-.9Z") ≡ Ok (Unregistered (codes "a+-.9Z")) }
+    ensures nothing { reading (codes "") ≡ Err Empty }
+    ensures digit { reading (codes "1a:") ≡ Err StartsWithNonAlphabetic }
+    ensures colon { reading (codes "a:") ≡ Err InvalidCharacter }
+    ensures underscore { reading (codes "http_") ≡ Err InvalidCharacter }
+    ensures taken { unregistered.reading (codes "Http") ≡ Err (record {}) }
+    ensures free { unregistered.reading (codes "httq") ≡ Ok (codes "httq") }
+    ensures printed { text (Registered (Microsoft MSGameBarServices)) ≡ codes "ms-gamebaresrvices" }
+    ensures normal { canonical_scheme (Unregistered (codes "SCHEME")) ≡ Unregistered (codes "scheme") }
+    ensures permanent { status (Registered HTTP) ≡ statuses.Permanent }
+    ensures provisional { status (Registered (Microsoft MSWord)) ≡ statuses.Provisional }
+    ensures historical { status (Registered Z3950) ≡ statuses.Historical }
+    ensures unregistered { status (Unregistered (codes "scheme")) ≡ statuses.Unregistered }
 {}

@@ -1,11 +1,12 @@
 //! The scheme of a URI or reference: RFC 3986, section 3.1.
-ghost use Rattle.std.specs.Prelude.{◌≡◌, ◌↔◌, IsTrue, IfOk, Some, true, bytes_eq, string_bytes};
+ghost use Rattle.std.specs.Prelude.{◌≡◌, ◌↔◌, IsTrue, IfOk, OnOk, OnErr, IsOk, Some, true, bytes_eq, string_bytes};
 ghost use Rattle.std.proofs.Common.{rules};
 ghost use Rattle.std.specs.Ordering.{on};
 ghost use Rattle.std.specs.Str.{str_to_ascii_lowercase};
 ghost use Rattle.std.specs.Cmp.Rules.{comparing, hashing};
 ghost use Rattle.uriparse_text.specs.Canon.{fed_spelling};
 ghost use Rattle.uriparse_scheme.specs.Scheme as spec;
+ghost use Rattle.uriparse_scheme.specs.Normal.{canonical_scheme};
 
 use std::alloc::{AllocError, Global};
 use std::fmt;
@@ -16,7 +17,6 @@ mod error;
 mod find;
 mod lookup;
 mod microsoft;
-mod microsoft_constants;
 mod read;
 mod registered;
 mod rows;
@@ -24,10 +24,9 @@ mod spelling;
 mod status;
 mod table;
 mod unregistered;
-mod variants;
 
 pub use error::{SchemeError, UnregisteredSchemeError};
-use lookup::scheme_named;
+use find::registered_named;
 pub use microsoft::MicrosoftScheme;
 use read::fault_of;
 pub use registered::RegisteredScheme;
@@ -35,11 +34,13 @@ use spelling::{feed_lowered, same_lowered};
 pub use status::SchemeStatus;
 pub use unregistered::UnregisteredScheme;
 
-/// The scheme of a URI or reference, without its `:`: a registered one, or another by its text.
+/// The scheme of a URI or reference, without its `:`: RFC 3986, section 3.1.
 ///
-/// A registered scheme is read in any case, takes no memory, and prints in lower case; each has a
-/// constant. Another keeps its spelling, which it borrows from the text that it was read from, or
-/// owns. Two schemes are equal where their texts differ at most in the case of letters.
+/// Its text is a letter, and then letters, digits, `+`, `-` and `.`. A registered scheme is read in
+/// any case, takes no memory, and prints in lower case; each has a constant. Another keeps its
+/// spelling, which it borrows from the text that it was read from, or owns. Two schemes are equal
+/// where their texts differ at most in the case of letters, and equal ones feed a hasher the same
+/// bytes: section 6.2.2.1.
 ///
 /// ```
 /// let scheme = Scheme::try_from_str("HTTP")?;
@@ -49,34 +50,38 @@ pub use unregistered::UnregisteredScheme;
 /// ```
 #[derive(Drop)]
 pub enum Scheme<'s> {
-    /// One that the table has.
+    /// One that the table of registered schemes has.
     Registered(RegisteredScheme),
-    /// One that it doesn't have.
+    /// One that it doesn't have, by its text.
     Unregistered(UnregisteredScheme<'s>),
 }
 
 impl<'s> Scheme<'s> {
-    /// Reads a scheme. Where it isn't registered it borrows the bytes. Takes no memory.
+    /// Reads a scheme: RFC 3986, section 3.1. Where it isn't registered it borrows the bytes. Takes no
+    /// memory.
+    ///
+    /// What is empty, what begins with no letter, and what has a byte without a place in a scheme,
+    /// such as a `:`, is refused with the [`SchemeError`] of the leftmost fault.
     pub fn try_from_bytes(bytes: &'s [u8]) -> Result<Scheme<'s>, SchemeError>
         ensures { result ≡ spec.reading bytes.now }
     {
         if let Some(error) = fault_of(bytes) {
             return Err(error);
         }
-        match scheme_named(bytes) {
-            Some(scheme) => Ok(scheme),
+        match registered_named(bytes) {
+            Some(scheme) => Ok(Scheme::Registered(scheme)),
             None => Ok(Scheme::Unregistered(UnregisteredScheme::of_checked(bytes))),
         }
     }
 
-    /// Reads a scheme. Where it isn't registered it borrows the text. Takes no memory.
+    /// The same from a text.
     pub fn try_from_str(text: &'s str) -> Result<Scheme<'s>, SchemeError>
         ensures { result ≡ spec.reading text.now }
     {
         Scheme::try_from_bytes(text.as_bytes())
     }
 
-    /// What the registry says of the scheme.
+    /// What the registry says of the scheme. Takes no memory.
     pub fn status(&self) -> SchemeStatus
         ensures { result ≡ spec.status self.now }
     {
@@ -86,7 +91,7 @@ impl<'s> Scheme<'s> {
         }
     }
 
-    /// The text, in lower case where the scheme is registered.
+    /// The text, in lower case where the scheme is registered. Takes no memory.
     pub fn as_str(&self) -> &str
         ensures value { result.now ≡ spec.text self.now }
         ensures valid { spec.Valid self.now }
@@ -98,7 +103,7 @@ impl<'s> Scheme<'s> {
         }
     }
 
-    /// The text as bytes.
+    /// The text as bytes. Takes no memory.
     pub fn as_bytes(&self) -> &[u8]
         ensures value { result.now ≡ spec.text self.now }
         ensures valid { spec.Valid self.now }
@@ -107,7 +112,7 @@ impl<'s> Scheme<'s> {
         self.as_str().as_bytes()
     }
 
-    /// The same scheme, which borrows this one's text.
+    /// The same scheme, which borrows this one's text. Takes no memory.
     pub fn as_borrowed(&self) -> Scheme<'_>
         ensures { result ≡ self.now }
     {
@@ -135,7 +140,33 @@ impl<'s> Scheme<'s> {
         String::from_str(alloc, self.as_str())
     }
 
-    /// Whether the bytes are this scheme in any case. Escapes are not read.
+    /// Whether the text is its canonical spelling, which is the text in lower case: RFC 3986, section
+    /// 6.2.2.1. A registered scheme's always is. Takes no memory.
+    pub fn is_normalized(&self) -> bool
+        ensures { IsTrue result ↔ (spec.canonical_text self.now ≡ spec.text self.now) }
+    {
+        match self {
+            Scheme::Registered(_) => true,
+            Scheme::Unregistered(scheme) => scheme.is_normalized(),
+        }
+    }
+
+    /// Puts the text in lower case: RFC 3986, section 6.2.2.1. Wants memory only where that changes
+    /// it, which it never does to a registered scheme; where there is none, the scheme is unchanged.
+    /// A second call changes nothing.
+    pub fn normalize(&mut self, alloc: Global) -> Result<(), AllocError>
+        ensures ok { OnOk result (self.new ≡ canonical_scheme self.old) }
+        ensures err { OnErr result (self.new ≡ self.old) }
+        ensures takes_no_memory { spec.canonical_text self.old ≡ spec.text self.old → IsOk result }
+    {
+        match self {
+            Scheme::Registered(_) => Ok(()),
+            Scheme::Unregistered(scheme) => scheme.normalize(alloc),
+        }
+    }
+
+    /// Whether the bytes are this scheme in any case. Escapes are not read: a scheme has none. Takes
+    /// no memory.
     pub fn eq_bytes(&self, bytes: &[u8]) -> bool
         ensures { IsTrue result ↔ (str_to_ascii_lowercase bytes.now ≡ str_to_ascii_lowercase (spec.text self.now)) }
     {
@@ -179,6 +210,9 @@ impl<'s> Hash for Scheme<'s> {
 
 impl<'s> fmt::Display for Scheme<'s> {
     ghost output = { λ s. Some (spec.text s) };
+
+    // No option of the formatter changes it.
+    ghost styled_output = { λ s _. Some (spec.text s) };
 
     fn fmt<W: fmt::Write>(&self, f: &mut fmt::Formatter<W>) -> fmt::Result {
         f.write_str(self.as_str())

@@ -1,180 +1,158 @@
 //! Segments, queries and fragments.
 
-use std::hash::{DefaultHasher, Hash, Hasher};
-use std::test::Fail;
-use uriparse_path::path::{PathError, Segment};
-use uriparse_text::fragment::{Fragment, FragmentError};
-use uriparse_text::query::{Query, QueryError};
+use crate::answer::{Answer, said, word};
+use crate::component::{compared, normal, read};
+use std::alloc::Global;
+use uriparse_path::path::Segment;
+use uriparse_text::fragment::Fragment;
+use uriparse_text::query::Query;
 
-fn segment(text: &str) -> Result<Segment<'_>, Fail> {
-    Ok(Segment::try_from_str(text)?)
+fn segments(alloc: Global, left: &str, right: &str) -> Answer {
+    let a = Segment::try_from_bytes(left.as_bytes());
+    compared(alloc, a, Segment::try_from_str(right), right)
 }
 
-fn hash_of(text: &str) -> Result<u64, Fail> {
-    let mut state = DefaultHasher::new();
-    segment(text)?.hash(&mut state);
-    Ok(state.finish())
+fn queries(alloc: Global, left: &str, right: &str) -> Answer {
+    let a = Query::try_from_bytes(left.as_bytes());
+    compared(alloc, a, Query::try_from_str(right), right)
 }
 
-// (one spelling, another, whether they are one segment)
-const PAIRS: [(&str, &str, bool); 10] = [
-    ("%4a", "%4A", true),
-    ("%4A", "J", true),
-    ("%7e", "~", true),
-    ("%2f", "%2F", true),
-    ("", "", true),
-    ("J", "K", false),
-    ("J", "j", false),
-    ("abc", "%41bc", false),
-    ("%2F", "%2E", false),
-    ("ab", "abc", false),
-];
+fn fragments(alloc: Global, left: &str, right: &str) -> Answer {
+    let a = Fragment::try_from_bytes(left.as_bytes());
+    compared(alloc, a, Fragment::try_from_str(right), right)
+}
 
-#[test]
-fn segments_are_equal_by_canonical_spelling(rt: HostRuntime) -> Result<(), Fail> {
-    for (a, b, same) in PAIRS {
-        let (left, right) = (segment(a)?, segment(b)?);
-        assert!(rt; (left == right) == same, "{a} and {b}");
-        assert!(rt; left.eq_str(b) == same, "{a} and the text {b}");
-        assert!(rt;
-            (hash_of(a)? == hash_of(b)?) == same,
-            "hashes of {a} and {b}"
-        );
+/// Which dot segment this is, by the three tests.
+fn dots_of(segment: &Segment<'_>) -> &'static str {
+    let single = segment.is_single_dot_segment();
+    let double = segment.is_double_dot_segment();
+    match (single, double, segment.is_dot_segment()) {
+        (false, false, false) => "none",
+        (true, false, true) => "single",
+        (false, true, true) => "double",
+        _ => "several",
     }
-    for (text, bytes) in [("%25", "%%325"), ("%2F", "/"), ("a", "a%"), ("a", "a%4")] {
-        assert!(rt; !segment(text)?.eq_str(bytes), "{text} and {bytes}");
+}
+
+fn dots(alloc: Global, text: &str) -> Answer {
+    match Segment::try_from_str(text) {
+        Ok(segment) => said(alloc, dots_of(&segment)),
+        Err(_) => said(alloc, "no segment"),
     }
-    assert!(rt; segment("%25")?.eq_bytes(b"%25"));
-    Ok(())
 }
 
-// (text, whether it is a segment, whether it is a query and a fragment)
-const ACCEPTED: [(&str, bool, bool); 5] = [
-    ("", true, true),
-    ("azAZ09-._~!$&'()*+,;=:@", true, true),
-    ("%00%fF%Aa", true, true),
-    ("a/b", false, true),
-    ("?", false, true),
-];
-
-#[test]
-fn reads_what_the_grammar_gives(rt: HostRuntime) -> Result<(), Fail> {
-    for (text, is_segment, is_query) in ACCEPTED {
-        assert!(rt;
-            Segment::try_from_str(text).is_ok() == is_segment,
-            "segment {text}"
-        );
-        assert!(rt;
-            Query::try_from_str(text).is_ok() == is_query,
-            "query {text}"
-        );
-        assert!(rt;
-            Fragment::try_from_str(text).is_ok() == is_query,
-            "fragment {text}"
-        );
+/// The answer to a question about these parts.
+pub fn answer(alloc: Global, asked: &str) -> Answer {
+    let (command, rest) = word(asked);
+    let (text, rest) = word(rest);
+    let (other, _) = word(rest);
+    match command {
+        "segment" => read(alloc, Segment::try_from_str(text)),
+        "segments" => segments(alloc, text, other),
+        "empty-segment" => Segment::empty().to_string(alloc),
+        "dots" => dots(alloc, text),
+        "normal-segment" => normal(alloc, Segment::try_from_str(text)),
+        "normal-query" => normal(alloc, Query::try_from_str(text)),
+        "normal-fragment" => normal(alloc, Fragment::try_from_str(text)),
+        "query" => read(alloc, Query::try_from_str(text)),
+        "queries" => queries(alloc, text, other),
+        "fragment" => read(alloc, Fragment::try_from_str(text)),
+        "fragments" => fragments(alloc, text, other),
+        _ => said(alloc, "no such command"),
     }
-    Ok(())
 }
 
-// (text, whether its leftmost fault is a broken escape)
-const REFUSED: [(&str, bool); 9] = [
-    (" ", false),
-    ("a#", false),
-    ("%4", true),
-    ("%", true),
-    ("%zz b", true),
-    (" %", false),
-    ("%41%4g%", true),
-    ("%4a[%", false),
-    ("\u{e9}", false),
-];
-
-#[test]
-fn answers_the_leftmost_fault(rt: HostRuntime) -> Result<(), Fail> {
-    let alloc = rt.alloc();
-    for (text, broken) in REFUSED {
-        let (segment, query, fragment) = if broken {
-            (
-                PathError::InvalidPercentEncoding,
-                QueryError::InvalidPercentEncoding,
-                FragmentError::InvalidPercentEncoding,
-            )
-        } else {
-            (
-                PathError::InvalidCharacter,
-                QueryError::InvalidCharacter,
-                FragmentError::InvalidCharacter,
-            )
-        };
-        assert!(rt;
-            Segment::try_from_str(text).is_err_and(|e| e == segment),
-            "segment {text}"
-        );
-        assert!(rt;
-            Query::try_from_str(text).is_err_and(|e| e == query),
-            "query {text}"
-        );
-        assert!(rt;
-            Fragment::try_from_str(text).is_err_and(|e| e == fragment),
-            "fragment {text}"
-        );
-    }
-    for (text, refusal) in [
-        ("invalid query character", QueryError::InvalidCharacter),
-        (
-            "invalid query percent encoding",
-            QueryError::InvalidPercentEncoding.clone()?,
-        ),
-    ] {
-        assert_eq!(rt; format!(in alloc; "{refusal}")?.as_str(), text);
-    }
-    for (text, refusal) in [
-        (
-            "invalid fragment character",
-            FragmentError::InvalidCharacter,
-        ),
-        (
-            "invalid fragment percent encoding",
-            FragmentError::InvalidPercentEncoding.clone()?,
-        ),
-    ] {
-        assert_eq!(rt; format!(in alloc; "{refusal}")?.as_str(), text);
-    }
-    Ok(())
-}
-
-const TEXT: &str = "k=%7e&%c3";
-
-#[test]
-fn a_query_gives_its_text_back(rt: HostRuntime) -> Result<(), Fail> {
-    let query = Query::try_from_bytes(TEXT.as_bytes())?;
-    assert!(rt; query.as_str() == TEXT && query.as_bytes() == TEXT.as_bytes());
-    let query = query.as_borrowed().into_owned(rt.alloc())?;
-    assert!(rt; query.eq_bytes(b"k=~&%C3") && query.eq_str("k=~&%C3") && !query.eq_str("k"));
-    assert_eq!(rt; format!(in rt.alloc(); "{query}")?.as_str(), TEXT);
-    assert_eq!(rt; query.to_string(rt.alloc())?.as_str(), TEXT);
-    Ok(())
-}
-
-#[test]
-fn a_fragment_gives_its_text_back(rt: HostRuntime) -> Result<(), Fail> {
-    let fragment = Fragment::try_from_bytes(TEXT.as_bytes())?;
-    assert!(rt; fragment.as_str() == TEXT && fragment.as_bytes() == TEXT.as_bytes());
-    let fragment = fragment.as_borrowed().into_owned(rt.alloc())?;
-    assert!(rt;
-        fragment.eq_bytes(b"k=~&%C3") && fragment.eq_str("k=~&%C3") && !fragment.eq_str("k")
-    );
-    assert_eq!(rt; format!(in rt.alloc(); "{fragment}")?.as_str(), TEXT);
-    assert_eq!(rt; fragment.to_string(rt.alloc())?.as_str(), TEXT);
-    Ok(())
-}
-
-#[test]
-fn a_segment_gives_its_text_back(rt: HostRuntime) -> Result<(), Fail> {
-    let part = Segment::try_from_bytes(TEXT.as_bytes())?;
-    assert!(rt; part.as_str() == TEXT && part.as_bytes() == TEXT.as_bytes());
-    let part = part.as_borrowed().into_owned(rt.alloc())?;
-    assert_eq!(rt; format!(in rt.alloc(); "{part}")?.as_str(), TEXT);
-    assert_eq!(rt; part.to_string(rt.alloc())?.as_str(), TEXT);
-    Ok(())
-}
+pub const ROWS: &str = "\
+segments %4a %4A -> equal
+segments %4A J -> equal
+segments %4a J -> equal
+segments %7e ~ -> equal
+segments %2f %2F -> equal
+segments '' '' -> equal
+segments %25 %25 -> equal
+segments J K -> different
+segments J j -> different
+segments abc %41bc -> different
+segments %2F %2E -> different
+segments ab abc -> different
+segments %25 %%325 -> different
+segments %2F / -> different
+segments a a% -> different
+segments a a%4 -> different
+segment '' -> ''
+query '' -> ''
+fragment '' -> ''
+segment azAZ09-._~!$&'()*+,;=:@ -> azAZ09-._~!$&'()*+,;=:@
+query azAZ09-._~!$&'()*+,;=:@ -> azAZ09-._~!$&'()*+,;=:@
+fragment azAZ09-._~!$&'()*+,;=:@ -> azAZ09-._~!$&'()*+,;=:@
+segment %00%fF%Aa -> %00%fF%Aa
+query %00%fF%Aa -> %00%fF%Aa
+fragment %00%fF%Aa -> %00%fF%Aa
+segment k=%7e&%c3 -> k=%7e&%c3
+query k=%7e&%c3 -> k=%7e&%c3
+fragment k=%7e&%c3 -> k=%7e&%c3
+segment a/b -> invalid path character
+query a/b -> a/b
+fragment a/b -> a/b
+segment ? -> invalid path character
+query ? -> ?
+fragment ? -> ?
+segment ' ' -> invalid path character
+query ' ' -> invalid query character
+fragment ' ' -> invalid fragment character
+segment a# -> invalid path character
+query a# -> invalid query character
+fragment a# -> invalid fragment character
+segment %4 -> invalid path percent encoding
+query %4 -> invalid query percent encoding
+fragment %4 -> invalid fragment percent encoding
+segment % -> invalid path percent encoding
+query % -> invalid query percent encoding
+fragment % -> invalid fragment percent encoding
+segment '%zz b' -> invalid path percent encoding
+query '%zz b' -> invalid query percent encoding
+fragment '%zz b' -> invalid fragment percent encoding
+segment ' %' -> invalid path character
+query ' %' -> invalid query character
+fragment ' %' -> invalid fragment character
+segment %41%4g% -> invalid path percent encoding
+query %41%4g% -> invalid query percent encoding
+fragment %41%4g% -> invalid fragment percent encoding
+segment %4a[% -> invalid path character
+query %4a[% -> invalid query character
+fragment %4a[% -> invalid fragment character
+segment é -> invalid path character
+query é -> invalid query character
+fragment é -> invalid fragment character
+segment a%7ebc%7edef%7eghij%7eklmno%7epqrstu%7evwxyz01%7e -> a%7ebc%7edef%7eghij%7eklmno%7epqrstu%7evwxyz01%7e
+query a%7e/bc%7e/def%7e/ghij%7e/klmno%7e/pqrstu%7e/vwxyz01%7e -> a%7e/bc%7e/def%7e/ghij%7e/klmno%7e/pqrstu%7e/vwxyz01%7e
+fragment a%7e/bc%7e/def%7e/ghij%7e/klmno%7e/pqrstu%7e/vwxyz01%7e -> a%7e/bc%7e/def%7e/ghij%7e/klmno%7e/pqrstu%7e/vwxyz01%7e
+queries k=%7e&%c3 k=~&%C3 -> equal
+queries k=%7e&%c3 k -> different
+queries ?%2f ?%2F -> equal
+queries %2F / -> different
+queries %25 %%325 -> different
+fragments k=%7e&%c3 k=~&%C3 -> equal
+fragments k=%7e&%c3 k -> different
+fragments ?%2f ?%2F -> equal
+fragments %2F / -> different
+fragments %25 %%325 -> different
+empty-segment -> ''
+dots '' -> none
+dots . -> single
+dots %2e -> single
+dots .. -> double
+dots .%2E -> double
+dots %2e%2e -> double
+dots ... -> none
+dots a -> none
+dots %2f -> none
+dots ..a -> none
+normal-segment %7e%c3 -> ~%C3
+normal-segment ~%C3 -> normal
+normal-segment %c3%a9%4A%2f -> %C3%A9J%2F
+normal-segment '' -> normal
+normal-query %7e/?%c3%A9 -> ~/?%C3%A9
+normal-query a/?~ -> normal
+normal-fragment %c3%A9 -> %C3%A9
+normal-fragment aB -> normal";

@@ -1,10 +1,13 @@
 //! A reference with each of its bytes replaced by each of the 256 values, against a slow reading
 //! that goes by the classes of bytes as they are spelled out here.
 
-use crate::references::{parts_of, port_text, show};
-use std::alloc::Global;
+use crate::answer::printed;
+use crate::component::Component;
+use crate::references::compared;
+use std::alloc::{AllocError, Global};
 use std::test::Fail;
-use uriparse_reference::uri_reference::URIReference;
+use uriparse_authority::authority::{Authority, Host};
+use uriparse_reference::uri_reference::{URIReference, URIReferenceError};
 
 fn is_alphanumeric(b: u8) -> bool {
     matches!(b, b'a'..=b'z' | b'A'..=b'Z' | b'0'..=b'9')
@@ -49,18 +52,18 @@ fn fault(text: &[u8], more: &[u8]) -> Option<u8> {
 }
 
 /// The pieces of a text.
-#[derive(Drop)]
+#[derive(Clone, Copy)]
 struct Pieces<'t> {
     scheme: Option<&'t [u8]>,
-    authority: Option<Authority<'t>>,
+    authority: Option<AuthorityPieces<'t>>,
     path: &'t [u8],
     query: Option<&'t [u8]>,
     fragment: Option<&'t [u8]>,
 }
 
 /// The pieces of an authority. The port is the text behind its colon.
-#[derive(Drop)]
-struct Authority<'t> {
+#[derive(Clone, Copy)]
+struct AuthorityPieces<'t> {
     username: Option<&'t [u8]>,
     password: Option<&'t [u8]>,
     host: &'t [u8],
@@ -78,7 +81,7 @@ fn cut_port(text: &[u8]) -> (&[u8], Option<&[u8]>) {
     }
 }
 
-fn cut_authority(text: &[u8]) -> Authority<'_> {
+fn cut_authority(text: &[u8]) -> AuthorityPieces<'_> {
     let (front, rest) = cut(text, b"@");
     let (user, right) = match rest {
         [b'@', behind @ ..] => (Some(front), behind),
@@ -92,7 +95,7 @@ fn cut_authority(text: &[u8]) -> Authority<'_> {
         None => (None, None),
     };
     let (host, port) = cut_port(right);
-    Authority {
+    AuthorityPieces {
         username,
         password,
         host,
@@ -143,7 +146,7 @@ fn port_number(digits: &[u8]) -> Result<Option<u16>, &'static str> {
 
 /// What is said of the authority's first faulty part. No host of the texts that are tried has
 /// three points, or both brackets, so each is to be a name.
-fn authority_refusal(pieces: &Authority<'_>) -> Option<&'static str> {
+fn authority_refusal(pieces: &AuthorityPieces<'_>) -> Option<&'static str> {
     match fault(pieces.username.unwrap_or(&[]), b"") {
         Some(b'%') => return Some("invalid username percent encoding"),
         Some(_) => return Some("invalid username character"),
@@ -192,99 +195,83 @@ fn refusal(pieces: &Pieces<'_>) -> Option<&'static str> {
     tail_refusal(pieces)
 }
 
-fn copy(alloc: Global, text: &[u8]) -> Result<Vec<u8>, Fail> {
-    let mut copied = Vec::new(alloc);
-    copied.extend_from_slice(text)?;
-    Ok(copied)
-}
-
-/// Adds the parts of an authority, which has no fault.
-fn show_authority(alloc: Global, text: &mut Vec<u8>, found: &Authority<'_>) -> Result<(), Fail> {
-    show(text, found.username)?;
-    show(text, found.password)?;
-    let mut host = copy(alloc, b"n=")?;
-    host.extend_from_slice(found.host)?;
-    show(text, Some(host.as_slice()))?;
-    let digits = found.port.unwrap_or(&[]);
-    let number = port_number(digits).unwrap_or(None);
-    match port_text(alloc, number)? {
-        Some(port) => show(text, Some(port.as_bytes())),
-        None => show(text, None),
+/// The text of a part.
+fn bytes_of<T: Component>(part: Option<&T>) -> Option<&[u8]> {
+    match part {
+        Some(part) => Some(part.texts().1),
+        None => None,
     }
 }
 
-/// The parts of the pieces, which have no fault.
-fn slow_parts(alloc: Global, found: &Pieces<'_>) -> Result<Vec<u8>, Fail> {
-    let mut text = Vec::new(alloc);
-    show(&mut text, found.scheme)?;
-    match &found.authority {
-        Some(authority) => show_authority(alloc, &mut text, authority)?,
-        None => text.extend_from_slice(b"^^^^")?,
-    }
-    let rooted = found.authority.is_some() && found.path.is_empty();
-    show(&mut text, Some(if rooted { b"/" } else { found.path }))?;
-    show(&mut text, found.query)?;
-    show(&mut text, found.fragment)?;
-    Ok(text)
+/// Whether the authority is of these pieces, which have no fault.
+fn is_authority(authority: &Authority<'_>, pieces: &AuthorityPieces<'_>) -> bool {
+    let Host::RegisteredName(name) = authority.host() else {
+        return false;
+    };
+    name.as_bytes() == pieces.host
+        && bytes_of(authority.username()) == pieces.username
+        && bytes_of(authority.password()) == pieces.password
+        && port_number(pieces.port.unwrap_or(&[])) == Ok(authority.port())
 }
 
-/// The parts of the text, or why there are none.
-fn slow(alloc: Global, text: &[u8]) -> Result<Vec<u8>, Fail> {
-    let found = cut_up(text);
-    match refusal(&found) {
-        Some(said) => copy(alloc, said.as_bytes()),
-        None => slow_parts(alloc, &found),
+fn has_authority(reference: &URIReference<'_>, pieces: &Pieces<'_>) -> bool {
+    match (reference.authority(), &pieces.authority) {
+        (Some(authority), Some(pieces)) => is_authority(authority, pieces),
+        (None, None) => true,
+        _ => false,
     }
 }
 
-/// The same from the library.
-fn quick(alloc: Global, text: &[u8]) -> Result<Vec<u8>, Fail> {
+/// Whether the reference is of these pieces, which have no fault, with this text of its path.
+fn is_reference(reference: &URIReference<'_>, path: &[u8], pieces: &Pieces<'_>) -> bool {
+    let rooted = pieces.authority.is_some() && pieces.path.is_empty();
+    path == (if rooted { b"/" } else { pieces.path })
+        && bytes_of(reference.scheme()) == pieces.scheme
+        && bytes_of(reference.query()) == pieces.query
+        && bytes_of(reference.fragment()) == pieces.fragment
+        && has_authority(reference, pieces)
+}
+
+/// Whether the reference is of these pieces, and what it prints is read as an equal one.
+fn holds(
+    alloc: Global,
+    reference: &URIReference<'_>,
+    pieces: &Pieces<'_>,
+) -> Result<bool, AllocError> {
+    let path = reference.path().to_string(alloc)?;
+    let printed = reference.to_string(alloc)?;
+    let again = compared(alloc, reference, printed.as_str())?;
+    Ok(
+        refusal(pieces).is_none()
+            && is_reference(reference, path.as_bytes(), pieces)
+            && again.as_str() == "equal",
+    )
+}
+
+/// Whether this is what is said of the pieces' first fault.
+fn is_said(alloc: Global, why: URIReferenceError, pieces: &Pieces<'_>) -> Result<bool, AllocError> {
+    let said = printed(alloc, why)?;
+    Ok(refusal(pieces) == Some(said.as_str()))
+}
+
+/// Whether the library reads the text as the slow reading, and what it prints as the same.
+fn is_right(alloc: Global, text: &[u8]) -> Result<bool, AllocError> {
     match URIReference::try_from_bytes(alloc, text) {
-        Ok(reference) => parts_of(alloc, &reference),
-        Err(why) => copy(alloc, format!(in alloc; "{why}")?.as_bytes()),
-    }
-}
-
-/// What the reference of the text prints, if the text isn't refused.
-fn printed(alloc: Global, text: &[u8]) -> Result<Option<String>, Fail> {
-    match URIReference::try_from_bytes(alloc, text) {
-        Ok(reference) => Ok(Some(reference.to_string(alloc)?)),
-        Err(_) => Ok(None),
-    }
-}
-
-/// Whether both texts are read as one reference.
-fn are_one<'t>(alloc: Global, left: &'t [u8], right: &'t [u8]) -> Result<bool, Fail> {
-    let left = URIReference::try_from_bytes(alloc, left)?;
-    let right = URIReference::try_from_bytes(alloc, right)?;
-    Ok(left == right)
-}
-
-/// Whether the text is refused, or what its reference prints is read as an equal one.
-fn reads_back(alloc: Global, text: &[u8]) -> Result<bool, Fail> {
-    match printed(alloc, text)? {
-        Some(printed) => are_one(alloc, text, printed.as_bytes()),
-        None => Ok(true),
+        Ok(reference) => holds(alloc, &reference, &cut_up(text)),
+        Err(why) => is_said(alloc, why, &cut_up(text)),
     }
 }
 
 #[test]
 fn reads_as_the_slow_reading(rt: HostRuntime) -> Result<(), Fail> {
-    let alloc = rt.alloc();
     for at in 0..17 {
         for value in 0..=255u8 {
             let mut text = *b"s://u:p@h:1/a?q#f";
             if let Some(byte) = text.get_mut(at) {
                 *byte = value;
             }
-            assert!(rt;
-                quick(alloc, &text)? == slow(alloc, &text)?,
-                "byte {at} replaced by {value}"
-            );
-            assert!(rt;
-                reads_back(alloc, &text)?,
-                "byte {at} replaced by {value}, and printed"
-            );
+            let right = is_right(rt.alloc(), &text)?;
+            assert!(rt; right, "byte {at} replaced by {value}");
         }
     }
     Ok(())

@@ -3,18 +3,39 @@
 #![tactic(auto)]
 
 #[cfg(test)]
+mod answer;
+#[cfg(test)]
 mod authorities;
 #[cfg(test)]
+mod component;
+#[cfg(test)]
 mod components;
+pub mod constants;
 #[cfg(test)]
 mod every_byte;
 #[cfg(test)]
+mod hashing;
+#[cfg(test)]
+mod hosts;
+#[cfg(test)]
+mod limits;
+#[cfg(test)]
 mod memory;
+#[cfg(test)]
+mod path_edits;
 #[cfg(test)]
 mod paths;
 #[cfg(test)]
+mod reference_edits;
+#[cfg(test)]
 mod references;
+#[cfg(test)]
+mod refusals;
+#[cfg(test)]
+mod rows;
 #[cfg(test)]
 mod scheme_rows;
 #[cfg(test)]
 mod schemes;
+#[cfg(test)]
+mod users;

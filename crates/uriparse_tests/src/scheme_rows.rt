@@ -1,337 +1,663 @@
 //! Every registered scheme, written down apart from the library's own table.
 
-use std::test::Fail;
-use uriparse_scheme::scheme::SchemeStatus::{Historical, Permanent, Provisional};
+use crate::schemes::status_name;
 use uriparse_scheme::scheme::{
-    MicrosoftScheme as Microsoft, RegisteredScheme as Registered, Scheme, SchemeStatus,
+    MicrosoftScheme as Microsoft, RegisteredScheme as Registered, Scheme,
 };
 
-/// The variant, the name in upper case and the status.
-type Row = (Registered, &'static str, SchemeStatus);
-
+/// The variants, in the order of the rows.
 #[rattlefmt::skip]
-const ROWS: [Row; 304] = [
-    (Registered::AAA, "AAA", Permanent),
-    (Registered::AAAS, "AAAS", Permanent),
-    (Registered::About, "ABOUT", Permanent),
-    (Registered::ACAP, "ACAP", Permanent),
-    (Registered::ACCT, "ACAT", Permanent),
-    (Registered::CAP, "CAP", Permanent),
-    (Registered::CID, "CID", Permanent),
-    (Registered::CoAP, "COAP", Permanent),
-    (Registered::CoAPTCP, "COAP+TCP", Permanent),
-    (Registered::CoAPWS, "COAP+WS", Permanent),
-    (Registered::CoAPS, "COAPS", Permanent),
-    (Registered::CoAPSTCP, "COAPS+TCP", Permanent),
-    (Registered::CoAPSWS, "COAPS+WS", Permanent),
-    (Registered::CRID, "CRID", Permanent),
-    (Registered::Data, "DATA", Permanent),
-    (Registered::DAV, "DAV", Permanent),
-    (Registered::DICT, "DICT", Permanent),
-    (Registered::DNS, "DNS", Permanent),
-    (Registered::Example, "EXAMPLE", Permanent),
-    (Registered::File, "FILE", Permanent),
-    (Registered::FTP, "FTP", Permanent),
-    (Registered::Geo, "GEO", Permanent),
-    (Registered::Go, "GO", Permanent),
-    (Registered::Gopher, "GOPHER", Permanent),
-    (Registered::H323, "H323", Permanent),
-    (Registered::HTTP, "HTTP", Permanent),
-    (Registered::HTTPS, "HTTPS", Permanent),
-    (Registered::IAX, "IAX", Permanent),
-    (Registered::ICAP, "ICAP", Permanent),
-    (Registered::IM, "IM", Permanent),
-    (Registered::IMAP, "IMAP", Permanent),
-    (Registered::Info, "INFO", Permanent),
-    (Registered::IPP, "IPP", Permanent),
-    (Registered::IPPS, "IPPS", Permanent),
-    (Registered::IRIS, "IRIS", Permanent),
-    (Registered::IRISBEEP, "IRIS.BEEP", Permanent),
-    (Registered::IRISLWZ, "IRIS.LWZ", Permanent),
-    (Registered::IRISXPC, "IRIS.XPC", Permanent),
-    (Registered::IRISXPCS, "IRIS.XPCS", Permanent),
-    (Registered::Jabber, "JABBER", Permanent),
-    (Registered::LDAP, "LDAP", Permanent),
-    (Registered::MailTo, "MAILTO", Permanent),
-    (Registered::MID, "MID", Permanent),
-    (Registered::MSRP, "MSRP", Permanent),
-    (Registered::MSRPS, "MSRPS", Permanent),
-    (Registered::MTQP, "MTQP", Permanent),
-    (Registered::MUpdate, "MUPDATE", Permanent),
-    (Registered::News, "NEWS", Permanent),
-    (Registered::NFS, "NFS", Permanent),
-    (Registered::NI, "NI", Permanent),
-    (Registered::NIH, "NIH", Permanent),
-    (Registered::NNTP, "NNTP", Permanent),
-    (Registered::OpaqueLockToken, "OPAQUELOCKTOKEN", Permanent),
-    (Registered::PKCS11, "PKCS11", Permanent),
-    (Registered::POP, "POP", Permanent),
-    (Registered::Pres, "PRES", Permanent),
-    (Registered::Reload, "RELOAD", Permanent),
-    (Registered::RTSP, "RTSP", Permanent),
-    (Registered::RTSPS, "RTSPS", Permanent),
-    (Registered::RTSPU, "RTSPU", Permanent),
-    (Registered::Service, "SERVICE", Permanent),
-    (Registered::Session, "SESSION", Permanent),
-    (Registered::SHTTP, "SHTTP", Permanent),
-    (Registered::Sieve, "SIEVE", Permanent),
-    (Registered::SIP, "SIP", Permanent),
-    (Registered::SIPS, "SIPS", Permanent),
-    (Registered::SMS, "SMS", Permanent),
-    (Registered::SNMP, "SNMP", Permanent),
-    (Registered::SOAPBEEP, "SOAP.BEEP", Permanent),
-    (Registered::SOAPBEEPS, "SOAP.BEEPS", Permanent),
-    (Registered::STUN, "STUN", Permanent),
-    (Registered::STUNS, "STUNS", Permanent),
-    (Registered::Tag, "TAG", Permanent),
-    (Registered::Tel, "TEL", Permanent),
-    (Registered::Telnet, "TELNET", Permanent),
-    (Registered::TFTP, "TFTP", Permanent),
-    (Registered::ThisMessage, "THISMESSAGE", Permanent),
-    (Registered::TIP, "TIP", Permanent),
-    (Registered::TN3270, "TN3270", Permanent),
-    (Registered::TURN, "TURN", Permanent),
-    (Registered::TURNS, "TURNS", Permanent),
-    (Registered::TV, "TV", Permanent),
-    (Registered::URN, "URN", Permanent),
-    (Registered::VEMMI, "VEMMI", Permanent),
-    (Registered::VNC, "VNC", Permanent),
-    (Registered::WS, "WS", Permanent),
-    (Registered::WSS, "WSS", Permanent),
-    (Registered::XCON, "XCON", Permanent),
-    (Registered::XCONUserID, "XCON-USERID", Permanent),
-    (Registered::XMLRPCBEEP, "XMLRPC.BEEP", Permanent),
-    (Registered::XMLRPCBEEPS, "XMLRPC.BEEPS", Permanent),
-    (Registered::XMPP, "XMPP", Permanent),
-    (Registered::Z3950R, "Z39.50R", Permanent),
-    (Registered::Z3950S, "Z39.50S", Permanent),
-    (Registered::Fax, "FAX", Historical),
-    (Registered::FileSystem, "FILESYSTEM", Historical),
-    (Registered::MailServer, "MAILSERVER", Historical),
-    (Registered::Modem, "MODEM", Historical),
-    (Registered::Pack, "PACK", Historical),
-    (Registered::Prospero, "PROSPERO", Historical),
-    (Registered::SNews, "SNEWS", Historical),
-    (Registered::Videotex, "VIDEOTEX", Historical),
-    (Registered::WAIS, "WAIS", Historical),
-    (Registered::WPID, "WPID", Historical),
-    (Registered::Z3950, "Z39.50", Historical),
-    (Registered::ACR, "ACR", Provisional),
-    (Registered::AdiumXtra, "ADIUMXTRA", Provisional),
-    (Registered::AFP, "AFP", Provisional),
-    (Registered::AFS, "AFS", Provisional),
-    (Registered::AIM, "AIM", Provisional),
-    (Registered::AMSS, "AMSS", Provisional),
-    (Registered::Android, "ANDROID", Provisional),
-    (Registered::AppData, "APPDATA", Provisional),
-    (Registered::APT, "APT", Provisional),
-    (Registered::Attachment, "ATTACHMENT", Provisional),
-    (Registered::AW, "AW", Provisional),
-    (Registered::Barion, "BARION", Provisional),
-    (Registered::BeShare, "BESHARE", Provisional),
-    (Registered::Bitcoin, "BITCOIN", Provisional),
-    (Registered::BitcoinCash, "BITCOINCASH", Provisional),
-    (Registered::Blob, "BLOB", Provisional),
-    (Registered::Bolo, "BOLO", Provisional),
-    (Registered::BrowserExt, "BROWSEREXT", Provisional),
-    (Registered::Calculator, "CALCULATOR", Provisional),
-    (Registered::CallTo, "CALLTO", Provisional),
-    (Registered::Cast, "CAST", Provisional),
-    (Registered::Casts, "CASTS", Provisional),
-    (Registered::Chrome, "CHROME", Provisional),
-    (Registered::ChromeExtension, "CHROME-EXTENSION", Provisional),
-    (Registered::ComEventBriteAttendee, "COM-EVENTBRITE-ATTENDEE", Provisional),
-    (Registered::Content, "CONTENT", Provisional),
-    (Registered::Conti, "CONTI", Provisional),
-    (Registered::CVS, "CVS", Provisional),
-    (Registered::DAB, "DAB", Provisional),
-    (Registered::Diaspora, "DIASPORA", Provisional),
-    (Registered::DID, "DID", Provisional),
-    (Registered::DIS, "DIS", Provisional),
-    (Registered::DLNAPlayContainer, "DLNA-PLAYCONTAINER", Provisional),
-    (Registered::DLNAPlaySingle, "DLNA-PLAYSINGLE", Provisional),
-    (Registered::DNTP, "DNTP", Provisional),
-    (Registered::DPP, "DPP", Provisional),
-    (Registered::DRM, "DRM", Provisional),
-    (Registered::Drop, "DROP", Provisional),
-    (Registered::DTN, "DTN", Provisional),
-    (Registered::DVB, "DVB", Provisional),
-    (Registered::ED2K, "ED2K", Provisional),
-    (Registered::ELSI, "ELSI", Provisional),
-    (Registered::FaceTime, "FACETIME", Provisional),
-    (Registered::Feed, "FEED", Provisional),
-    (Registered::FeedReady, "FEEDREADY", Provisional),
-    (Registered::Finger, "FINGER", Provisional),
-    (Registered::Fish, "FISH", Provisional),
-    (Registered::FM, "FM", Provisional),
-    (Registered::FuchsiaPkg, "FUCHSIA-PKG", Provisional),
-    (Registered::GG, "GG", Provisional),
-    (Registered::Git, "GIT", Provisional),
-    (Registered::GizmoProject, "GIZMOPROJECT", Provisional),
-    (Registered::Graph, "GRAPH", Provisional),
-    (Registered::GTalk, "GTALK", Provisional),
-    (Registered::HAM, "HAM", Provisional),
-    (Registered::HCAP, "HCAP", Provisional),
-    (Registered::HCP, "HCP", Provisional),
-    (Registered::HXXP, "HXXP", Provisional),
-    (Registered::HXXPS, "HXXPS", Provisional),
-    (Registered::HydraZone, "HYDRAZONE", Provisional),
-    (Registered::Icon, "ICON", Provisional),
-    (Registered::IoTDisc, "IOTDISC", Provisional),
-    (Registered::IPN, "IPN", Provisional),
-    (Registered::IRC, "IRC", Provisional),
-    (Registered::IRC6, "IRC6", Provisional),
-    (Registered::IRCS, "IRCS", Provisional),
-    (Registered::IsoStore, "ISOSTORE", Provisional),
-    (Registered::ITMS, "ITMS", Provisional),
-    (Registered::JAR, "JAR", Provisional),
-    (Registered::JMS, "JMS", Provisional),
-    (Registered::KeyParc, "KEYPARC", Provisional),
-    (Registered::LastFM, "LASTFM", Provisional),
-    (Registered::LDAPS, "LDAPS", Provisional),
-    (Registered::LoRaWAN, "LORAWAN", Provisional),
-    (Registered::LVLT, "LVLT", Provisional),
-    (Registered::Magnet, "MAGNET", Provisional),
-    (Registered::Maps, "MAPS", Provisional),
-    (Registered::Market, "MARKET", Provisional),
-    (Registered::Message, "MESSAGE", Provisional),
-    (Registered::MicrosoftWindowsCamera, "MICROSOFT.WINDOWS.CAMERA", Provisional),
-    (Registered::MicrosoftWindowsCameraMultiPicker, "MICROSOFT.WINDOWS.CAMERA.MULTIPICKER", Provisional),
-    (Registered::MicrosoftWindowsCameraPicker, "MICROSOFT.WINDOWS.CAMERA.PICKER", Provisional),
-    (Registered::MMS, "MMS", Provisional),
-    (Registered::MongoDB, "MONGODB", Provisional),
-    (Registered::Moz, "MOZ", Provisional),
-    (Registered::MSS, "MSS", Provisional),
-    (Registered::MSNIM, "MSNIM", Provisional),
-    (Registered::Mumble, "MUMBLE", Provisional),
-    (Registered::MVN, "MVN", Provisional),
-    (Registered::Notes, "NOTES", Provisional),
-    (Registered::OCF, "OCF", Provisional),
-    (Registered::OID, "OID", Provisional),
-    (Registered::OneNote, "ONENOTE", Provisional),
-    (Registered::OneNoteCMD, "ONENOTE-CMD", Provisional),
-    (Registered::OpenPGP4FPR, "OPENPGP4FPR", Provisional),
-    (Registered::Palm, "PALM", Provisional),
-    (Registered::Paparazzi, "PAPARAZZI", Provisional),
-    (Registered::Platform, "PLATFORM", Provisional),
-    (Registered::Proxy, "PROXY", Provisional),
-    (Registered::PWID, "PWID", Provisional),
-    (Registered::PSYC, "PSYC", Provisional),
-    (Registered::QB, "QB", Provisional),
-    (Registered::Query, "QUERY", Provisional),
-    (Registered::Redis, "REDIS", Provisional),
-    (Registered::RedisS, "REDISS", Provisional),
-    (Registered::Res, "RES", Provisional),
-    (Registered::Resource, "RESOURCE", Provisional),
-    (Registered::RMI, "RMI", Provisional),
-    (Registered::RSync, "RSYNC", Provisional),
-    (Registered::RTMFP, "RTMFP", Provisional),
-    (Registered::RTMP, "RTMP", Provisional),
-    (Registered::SecondLife, "SECONDLIFE", Provisional),
-    (Registered::SFTP, "SFTP", Provisional),
-    (Registered::SGN, "SGN", Provisional),
-    (Registered::SimpleLedger, "SIMPLELEDGER", Provisional),
-    (Registered::Skype, "SKYPE", Provisional),
-    (Registered::SMB, "SMB", Provisional),
-    (Registered::SMTP, "SMTP", Provisional),
-    (Registered::Soldat, "SOLDAT", Provisional),
-    (Registered::SPIFFE, "SPIFFE", Provisional),
-    (Registered::Spotify, "SPOTIFY", Provisional),
-    (Registered::SSH, "SSH", Provisional),
-    (Registered::Steam, "STEAM", Provisional),
-    (Registered::Submit, "SUBMIT", Provisional),
-    (Registered::SVN, "SVN", Provisional),
-    (Registered::TeamSpeak, "TEAMSPEAK", Provisional),
-    (Registered::TeliaEID, "TELIAEID", Provisional),
-    (Registered::Things, "THINGS", Provisional),
-    (Registered::Tool, "TOOL", Provisional),
-    (Registered::UDP, "UDP", Provisional),
-    (Registered::Unreal, "UNREAL", Provisional),
-    (Registered::UT2004, "UT2004", Provisional),
-    (Registered::VEvent, "V-EVENT", Provisional),
-    (Registered::Ventrilo, "VENTRILO", Provisional),
-    (Registered::ViewSource, "VIEW-SOURCE", Provisional),
-    (Registered::Webcal, "WEBCAL", Provisional),
-    (Registered::WTAI, "WTAI", Provisional),
-    (Registered::WYCIWYG, "WYCIWYG", Provisional),
-    (Registered::Xfire, "XFIRE", Provisional),
-    (Registered::XRI, "XRI", Provisional),
-    (Registered::YMSGR, "YMSGR", Provisional),
-    (Registered::Microsoft(Microsoft::MSAccess), "MS-ACCESS", Provisional),
-    (Registered::Microsoft(Microsoft::MSBrowserExtension), "MS-BROWSER-EXTENSION", Provisional),
-    (Registered::Microsoft(Microsoft::MSCalculator), "MS-CALCULATOR", Provisional),
-    (Registered::Microsoft(Microsoft::MSDriveTo), "MS-DRIVE-TO", Provisional),
-    (Registered::Microsoft(Microsoft::MSEnrollment), "MS-ENROLLMENT", Provisional),
-    (Registered::Microsoft(Microsoft::MSExcel), "MS-EXCEL", Provisional),
-    (Registered::Microsoft(Microsoft::MSEyeControlSpeech), "MS-EYECONTROLSPEECH", Provisional),
-    (Registered::Microsoft(Microsoft::MSGameBarServices), "MS-GAMEBARESRVICES", Provisional),
-    (Registered::Microsoft(Microsoft::MSGamingOverlay), "MS-GAMINGOVERLAY", Provisional),
-    (Registered::Microsoft(Microsoft::MSGetOffice), "MS-GETOFFICE", Provisional),
-    (Registered::Microsoft(Microsoft::MSHelp), "MS-HELP", Provisional),
-    (Registered::Microsoft(Microsoft::MSInfoPath), "MS-INFOPATH", Provisional),
-    (Registered::Microsoft(Microsoft::MSInputApp), "MS-INPUTAPP", Provisional),
-    (Registered::Microsoft(Microsoft::MSLockScreenComponentConfig), "MS-LOCKSCREENCOMPONENT-CONFIG", Provisional),
-    (Registered::Microsoft(Microsoft::MSMediaStreamID), "MS-MEDIA-STREAM-ID", Provisional),
-    (Registered::Microsoft(Microsoft::MSMixedRealityCapture), "MS-MIXEDREALITYCAPTURE", Provisional),
-    (Registered::Microsoft(Microsoft::MSOfficeApp), "MS-OFFICEAPP", Provisional),
-    (Registered::Microsoft(Microsoft::MSPeople), "MS-PEOPLE", Provisional),
-    (Registered::Microsoft(Microsoft::MSProject), "MS-PROJECT", Provisional),
-    (Registered::Microsoft(Microsoft::MSPowerPoint), "MS-POWERPOINT", Provisional),
-    (Registered::Microsoft(Microsoft::MSPublisher), "MS-PUBLISHER", Provisional),
-    (Registered::Microsoft(Microsoft::MSRestoreTabCompanion), "MS-RESTORETABCOMPANION", Provisional),
-    (Registered::Microsoft(Microsoft::MSScreenClip), "MS-SCREENCLIP", Provisional),
-    (Registered::Microsoft(Microsoft::MSScreenSketch), "MS-SCREENSKETCH", Provisional),
-    (Registered::Microsoft(Microsoft::MSSearch), "MS-SEARCH", Provisional),
-    (Registered::Microsoft(Microsoft::MSSearchRepair), "MS-SEARCH-REPAIR", Provisional),
-    (Registered::Microsoft(Microsoft::MSSecondaryScreenController), "MS-SECONDARY-SCREEN-CONTROLLER", Provisional),
-    (Registered::Microsoft(Microsoft::MSSeocndaryScreenSetup), "MS-SECONDARY-SCREEN-SETUP", Provisional),
-    (Registered::Microsoft(Microsoft::MSSettings), "MS-SETTINGS", Provisional),
-    (Registered::Microsoft(Microsoft::MSSettingsAirplaneMode), "MS-SETTINGS-AIRPLANEMODE", Provisional),
-    (Registered::Microsoft(Microsoft::MSSettingsBluetooth), "MS-SETTINGS-BLUETOOTH", Provisional),
-    (Registered::Microsoft(Microsoft::MSSettingsCamera), "MS-SETTINGS-CAMERA", Provisional),
-    (Registered::Microsoft(Microsoft::MSSettingsCellular), "MS-SETTINGS-CELLULAR", Provisional),
-    (Registered::Microsoft(Microsoft::MSSettingsCloudStorage), "MS-SETTINGS-CLOUDSTORAGE", Provisional),
-    (Registered::Microsoft(Microsoft::MSSettingsConnectableDevices), "MS-SETTINGS-CONNECTABLEDEVICES", Provisional),
-    (Registered::Microsoft(Microsoft::MSSettingsDisplaysTopology), "MS-SETTINGS-DISPLAYS-TOPOLOGY", Provisional),
-    (Registered::Microsoft(Microsoft::MSSettingsEmailAndAccounts), "MS-SETTINGS-EMAILANDACCOUNTS", Provisional),
-    (Registered::Microsoft(Microsoft::MSSettingsLanguage), "MS-SETTINGS-LANGUAGE", Provisional),
-    (Registered::Microsoft(Microsoft::MSSettingsLocation), "MS-SETTINGS-LOCATION", Provisional),
-    (Registered::Microsoft(Microsoft::MSSettingsLock), "MS-SETTINGS-LOCK", Provisional),
-    (Registered::Microsoft(Microsoft::MSSettingsNFCTransactions), "MS-SETTINGS-NFCTRANSACTIONS", Provisional),
-    (Registered::Microsoft(Microsoft::MSSettingsNotifications), "MS-SETTINGS-NOTIFICATIONS", Provisional),
-    (Registered::Microsoft(Microsoft::MSSettingsPower), "MS-SETTINGS-POWER", Provisional),
-    (Registered::Microsoft(Microsoft::MSSettingsPrivacy), "MS-SETTINGS-PRIVACY", Provisional),
-    (Registered::Microsoft(Microsoft::MSSettingsProximity), "MS-SETTINGS-PROXIMITY", Provisional),
-    (Registered::Microsoft(Microsoft::MSSettingsScreenRotation), "MS-SETTINGS-SCREENROTATION", Provisional),
-    (Registered::Microsoft(Microsoft::MSSettingsWiFi), "MS-SETTINGS-WIFI", Provisional),
-    (Registered::Microsoft(Microsoft::MSSettingsWorkplace), "MS-SETTINGS-WORKPLACE", Provisional),
-    (Registered::Microsoft(Microsoft::MSSPD), "MS-SPD", Provisional),
-    (Registered::Microsoft(Microsoft::MSSTTOverlay), "MS-STTOVERLAY", Provisional),
-    (Registered::Microsoft(Microsoft::MSTransitTo), "MS-TRANSIT-TO", Provisional),
-    (Registered::Microsoft(Microsoft::MSUserActivitySet), "MS-USERACTIVITYSET", Provisional),
-    (Registered::Microsoft(Microsoft::MSVirtualTouchPad), "MS-VIRTUALTOUCHPAD", Provisional),
-    (Registered::Microsoft(Microsoft::MSVisio), "MS-VISIO", Provisional),
-    (Registered::Microsoft(Microsoft::MSWalkTo), "MS-WALK-TO", Provisional),
-    (Registered::Microsoft(Microsoft::MSWhiteboard), "MS-WHITEBOARD", Provisional),
-    (Registered::Microsoft(Microsoft::MSWhiteboardCMD), "MS-WHITEBOARD-CMD", Provisional),
-    (Registered::Microsoft(Microsoft::MSWord), "MS-WORD", Provisional),
+static VARIANTS: [Registered; 304] = [
+    Registered::AAA,
+    Registered::AAAS,
+    Registered::About,
+    Registered::ACAP,
+    Registered::ACCT,
+    Registered::CAP,
+    Registered::CID,
+    Registered::CoAP,
+    Registered::CoAPTCP,
+    Registered::CoAPWS,
+    Registered::CoAPS,
+    Registered::CoAPSTCP,
+    Registered::CoAPSWS,
+    Registered::CRID,
+    Registered::Data,
+    Registered::DAV,
+    Registered::DICT,
+    Registered::DNS,
+    Registered::Example,
+    Registered::File,
+    Registered::FTP,
+    Registered::Geo,
+    Registered::Go,
+    Registered::Gopher,
+    Registered::H323,
+    Registered::HTTP,
+    Registered::HTTPS,
+    Registered::IAX,
+    Registered::ICAP,
+    Registered::IM,
+    Registered::IMAP,
+    Registered::Info,
+    Registered::IPP,
+    Registered::IPPS,
+    Registered::IRIS,
+    Registered::IRISBEEP,
+    Registered::IRISLWZ,
+    Registered::IRISXPC,
+    Registered::IRISXPCS,
+    Registered::Jabber,
+    Registered::LDAP,
+    Registered::MailTo,
+    Registered::MID,
+    Registered::MSRP,
+    Registered::MSRPS,
+    Registered::MTQP,
+    Registered::MUpdate,
+    Registered::News,
+    Registered::NFS,
+    Registered::NI,
+    Registered::NIH,
+    Registered::NNTP,
+    Registered::OpaqueLockToken,
+    Registered::PKCS11,
+    Registered::POP,
+    Registered::Pres,
+    Registered::Reload,
+    Registered::RTSP,
+    Registered::RTSPS,
+    Registered::RTSPU,
+    Registered::Service,
+    Registered::Session,
+    Registered::SHTTP,
+    Registered::Sieve,
+    Registered::SIP,
+    Registered::SIPS,
+    Registered::SMS,
+    Registered::SNMP,
+    Registered::SOAPBEEP,
+    Registered::SOAPBEEPS,
+    Registered::STUN,
+    Registered::STUNS,
+    Registered::Tag,
+    Registered::Tel,
+    Registered::Telnet,
+    Registered::TFTP,
+    Registered::ThisMessage,
+    Registered::TIP,
+    Registered::TN3270,
+    Registered::TURN,
+    Registered::TURNS,
+    Registered::TV,
+    Registered::URN,
+    Registered::VEMMI,
+    Registered::VNC,
+    Registered::WS,
+    Registered::WSS,
+    Registered::XCON,
+    Registered::XCONUserID,
+    Registered::XMLRPCBEEP,
+    Registered::XMLRPCBEEPS,
+    Registered::XMPP,
+    Registered::Z3950R,
+    Registered::Z3950S,
+    Registered::Fax,
+    Registered::FileSystem,
+    Registered::MailServer,
+    Registered::Modem,
+    Registered::Pack,
+    Registered::Prospero,
+    Registered::SNews,
+    Registered::Videotex,
+    Registered::WAIS,
+    Registered::WPID,
+    Registered::Z3950,
+    Registered::ACR,
+    Registered::AdiumXtra,
+    Registered::AFP,
+    Registered::AFS,
+    Registered::AIM,
+    Registered::AMSS,
+    Registered::Android,
+    Registered::AppData,
+    Registered::APT,
+    Registered::Attachment,
+    Registered::AW,
+    Registered::Barion,
+    Registered::BeShare,
+    Registered::Bitcoin,
+    Registered::BitcoinCash,
+    Registered::Blob,
+    Registered::Bolo,
+    Registered::BrowserExt,
+    Registered::Calculator,
+    Registered::CallTo,
+    Registered::Cast,
+    Registered::Casts,
+    Registered::Chrome,
+    Registered::ChromeExtension,
+    Registered::ComEventBriteAttendee,
+    Registered::Content,
+    Registered::Conti,
+    Registered::CVS,
+    Registered::DAB,
+    Registered::Diaspora,
+    Registered::DID,
+    Registered::DIS,
+    Registered::DLNAPlayContainer,
+    Registered::DLNAPlaySingle,
+    Registered::DNTP,
+    Registered::DPP,
+    Registered::DRM,
+    Registered::Drop,
+    Registered::DTN,
+    Registered::DVB,
+    Registered::ED2K,
+    Registered::ELSI,
+    Registered::FaceTime,
+    Registered::Feed,
+    Registered::FeedReady,
+    Registered::Finger,
+    Registered::Fish,
+    Registered::FM,
+    Registered::FuchsiaPkg,
+    Registered::GG,
+    Registered::Git,
+    Registered::GizmoProject,
+    Registered::Graph,
+    Registered::GTalk,
+    Registered::HAM,
+    Registered::HCAP,
+    Registered::HCP,
+    Registered::HXXP,
+    Registered::HXXPS,
+    Registered::HydraZone,
+    Registered::Icon,
+    Registered::IoTDisc,
+    Registered::IPN,
+    Registered::IRC,
+    Registered::IRC6,
+    Registered::IRCS,
+    Registered::IsoStore,
+    Registered::ITMS,
+    Registered::JAR,
+    Registered::JMS,
+    Registered::KeyParc,
+    Registered::LastFM,
+    Registered::LDAPS,
+    Registered::LoRaWAN,
+    Registered::LVLT,
+    Registered::Magnet,
+    Registered::Maps,
+    Registered::Market,
+    Registered::Message,
+    Registered::MicrosoftWindowsCamera,
+    Registered::MicrosoftWindowsCameraMultiPicker,
+    Registered::MicrosoftWindowsCameraPicker,
+    Registered::MMS,
+    Registered::MongoDB,
+    Registered::Moz,
+    Registered::MSS,
+    Registered::MSNIM,
+    Registered::Mumble,
+    Registered::MVN,
+    Registered::Notes,
+    Registered::OCF,
+    Registered::OID,
+    Registered::OneNote,
+    Registered::OneNoteCMD,
+    Registered::OpenPGP4FPR,
+    Registered::Palm,
+    Registered::Paparazzi,
+    Registered::Platform,
+    Registered::Proxy,
+    Registered::PWID,
+    Registered::PSYC,
+    Registered::QB,
+    Registered::Query,
+    Registered::Redis,
+    Registered::RedisS,
+    Registered::Res,
+    Registered::Resource,
+    Registered::RMI,
+    Registered::RSync,
+    Registered::RTMFP,
+    Registered::RTMP,
+    Registered::SecondLife,
+    Registered::SFTP,
+    Registered::SGN,
+    Registered::SimpleLedger,
+    Registered::Skype,
+    Registered::SMB,
+    Registered::SMTP,
+    Registered::Soldat,
+    Registered::SPIFFE,
+    Registered::Spotify,
+    Registered::SSH,
+    Registered::Steam,
+    Registered::Submit,
+    Registered::SVN,
+    Registered::TeamSpeak,
+    Registered::TeliaEID,
+    Registered::Things,
+    Registered::Tool,
+    Registered::UDP,
+    Registered::Unreal,
+    Registered::UT2004,
+    Registered::VEvent,
+    Registered::Ventrilo,
+    Registered::ViewSource,
+    Registered::Webcal,
+    Registered::WTAI,
+    Registered::WYCIWYG,
+    Registered::Xfire,
+    Registered::XRI,
+    Registered::YMSGR,
+    Registered::Microsoft(Microsoft::MSAccess),
+    Registered::Microsoft(Microsoft::MSBrowserExtension),
+    Registered::Microsoft(Microsoft::MSCalculator),
+    Registered::Microsoft(Microsoft::MSDriveTo),
+    Registered::Microsoft(Microsoft::MSEnrollment),
+    Registered::Microsoft(Microsoft::MSExcel),
+    Registered::Microsoft(Microsoft::MSEyeControlSpeech),
+    Registered::Microsoft(Microsoft::MSGameBarServices),
+    Registered::Microsoft(Microsoft::MSGamingOverlay),
+    Registered::Microsoft(Microsoft::MSGetOffice),
+    Registered::Microsoft(Microsoft::MSHelp),
+    Registered::Microsoft(Microsoft::MSInfoPath),
+    Registered::Microsoft(Microsoft::MSInputApp),
+    Registered::Microsoft(Microsoft::MSLockScreenComponentConfig),
+    Registered::Microsoft(Microsoft::MSMediaStreamID),
+    Registered::Microsoft(Microsoft::MSMixedRealityCapture),
+    Registered::Microsoft(Microsoft::MSOfficeApp),
+    Registered::Microsoft(Microsoft::MSPeople),
+    Registered::Microsoft(Microsoft::MSProject),
+    Registered::Microsoft(Microsoft::MSPowerPoint),
+    Registered::Microsoft(Microsoft::MSPublisher),
+    Registered::Microsoft(Microsoft::MSRestoreTabCompanion),
+    Registered::Microsoft(Microsoft::MSScreenClip),
+    Registered::Microsoft(Microsoft::MSScreenSketch),
+    Registered::Microsoft(Microsoft::MSSearch),
+    Registered::Microsoft(Microsoft::MSSearchRepair),
+    Registered::Microsoft(Microsoft::MSSecondaryScreenController),
+    Registered::Microsoft(Microsoft::MSSeocndaryScreenSetup),
+    Registered::Microsoft(Microsoft::MSSettings),
+    Registered::Microsoft(Microsoft::MSSettingsAirplaneMode),
+    Registered::Microsoft(Microsoft::MSSettingsBluetooth),
+    Registered::Microsoft(Microsoft::MSSettingsCamera),
+    Registered::Microsoft(Microsoft::MSSettingsCellular),
+    Registered::Microsoft(Microsoft::MSSettingsCloudStorage),
+    Registered::Microsoft(Microsoft::MSSettingsConnectableDevices),
+    Registered::Microsoft(Microsoft::MSSettingsDisplaysTopology),
+    Registered::Microsoft(Microsoft::MSSettingsEmailAndAccounts),
+    Registered::Microsoft(Microsoft::MSSettingsLanguage),
+    Registered::Microsoft(Microsoft::MSSettingsLocation),
+    Registered::Microsoft(Microsoft::MSSettingsLock),
+    Registered::Microsoft(Microsoft::MSSettingsNFCTransactions),
+    Registered::Microsoft(Microsoft::MSSettingsNotifications),
+    Registered::Microsoft(Microsoft::MSSettingsPower),
+    Registered::Microsoft(Microsoft::MSSettingsPrivacy),
+    Registered::Microsoft(Microsoft::MSSettingsProximity),
+    Registered::Microsoft(Microsoft::MSSettingsScreenRotation),
+    Registered::Microsoft(Microsoft::MSSettingsWiFi),
+    Registered::Microsoft(Microsoft::MSSettingsWorkplace),
+    Registered::Microsoft(Microsoft::MSSPD),
+    Registered::Microsoft(Microsoft::MSSTTOverlay),
+    Registered::Microsoft(Microsoft::MSTransitTo),
+    Registered::Microsoft(Microsoft::MSUserActivitySet),
+    Registered::Microsoft(Microsoft::MSVirtualTouchPad),
+    Registered::Microsoft(Microsoft::MSVisio),
+    Registered::Microsoft(Microsoft::MSWalkTo),
+    Registered::Microsoft(Microsoft::MSWhiteboard),
+    Registered::Microsoft(Microsoft::MSWhiteboardCMD),
+    Registered::Microsoft(Microsoft::MSWord),
 ];
 
 /// Whether the name is read as the variant, which has the status and prints in lower case.
-fn is_right(row: &Row) -> bool {
-    let (variant, name, status) = row;
-    let scheme = Scheme::Registered(*variant);
+fn is_right(variant: Registered, name: &str, status: &str) -> bool {
+    let scheme = Scheme::Registered(variant);
     let text = scheme.as_str();
-    scheme.status() == *status
+    status_name(scheme.status()) == status
         && text.eq_ignore_ascii_case(name)
         && text.bytes().all(|b| !b.is_ascii_uppercase())
         && Scheme::try_from_str(name).is_ok_and(|read| read == scheme)
 }
 
-#[test]
-fn every_name_is_read(rt: HostRuntime) -> Result<(), Fail> {
-    for row in &ROWS {
-        assert!(rt; is_right(row), "{}", row.1);
+/// The first row that isn't its variant's.
+fn wrong_row() -> Option<&'static str> {
+    let mut rows = ROWS.lines();
+    for variant in &VARIANTS {
+        let row = rows.next()?;
+        let (name, status) = row.split_once(' ')?;
+        if !is_right(*variant, name, status) {
+            return Some(row);
+        }
     }
-    Ok(())
+    rows.next()
 }
+
+#[test]
+fn every_name_is_read(rt: HostRuntime) {
+    assert_eq!(rt; wrong_row().unwrap_or(""), "");
+    assert_eq!(rt; ROWS.lines().count(), 304);
+}
+
+/// Whether the name is read as this constant.
+fn is_named(constant: Scheme<'_>, name: &str) -> bool {
+    Scheme::try_from_str(name).is_ok_and(|read| read == constant)
+}
+
+#[test]
+fn names_find_their_constants(rt: HostRuntime) {
+    assert!(rt; is_named(Scheme::ACCT, "ACAT") && !is_named(Scheme::ACCT, "acct"));
+    assert!(rt; is_named(Scheme::Z3950, "Z39.50") && is_named(Scheme::HTTP, "http"));
+    assert!(rt; is_named(Scheme::MSGameBarServices, "MS-GAMEBARESRVICES"));
+}
+
+/// The name in upper case, and the status.
+const ROWS: &str = "\
+AAA permanent
+AAAS permanent
+ABOUT permanent
+ACAP permanent
+ACAT permanent
+CAP permanent
+CID permanent
+COAP permanent
+COAP+TCP permanent
+COAP+WS permanent
+COAPS permanent
+COAPS+TCP permanent
+COAPS+WS permanent
+CRID permanent
+DATA permanent
+DAV permanent
+DICT permanent
+DNS permanent
+EXAMPLE permanent
+FILE permanent
+FTP permanent
+GEO permanent
+GO permanent
+GOPHER permanent
+H323 permanent
+HTTP permanent
+HTTPS permanent
+IAX permanent
+ICAP permanent
+IM permanent
+IMAP permanent
+INFO permanent
+IPP permanent
+IPPS permanent
+IRIS permanent
+IRIS.BEEP permanent
+IRIS.LWZ permanent
+IRIS.XPC permanent
+IRIS.XPCS permanent
+JABBER permanent
+LDAP permanent
+MAILTO permanent
+MID permanent
+MSRP permanent
+MSRPS permanent
+MTQP permanent
+MUPDATE permanent
+NEWS permanent
+NFS permanent
+NI permanent
+NIH permanent
+NNTP permanent
+OPAQUELOCKTOKEN permanent
+PKCS11 permanent
+POP permanent
+PRES permanent
+RELOAD permanent
+RTSP permanent
+RTSPS permanent
+RTSPU permanent
+SERVICE permanent
+SESSION permanent
+SHTTP permanent
+SIEVE permanent
+SIP permanent
+SIPS permanent
+SMS permanent
+SNMP permanent
+SOAP.BEEP permanent
+SOAP.BEEPS permanent
+STUN permanent
+STUNS permanent
+TAG permanent
+TEL permanent
+TELNET permanent
+TFTP permanent
+THISMESSAGE permanent
+TIP permanent
+TN3270 permanent
+TURN permanent
+TURNS permanent
+TV permanent
+URN permanent
+VEMMI permanent
+VNC permanent
+WS permanent
+WSS permanent
+XCON permanent
+XCON-USERID permanent
+XMLRPC.BEEP permanent
+XMLRPC.BEEPS permanent
+XMPP permanent
+Z39.50R permanent
+Z39.50S permanent
+FAX historical
+FILESYSTEM historical
+MAILSERVER historical
+MODEM historical
+PACK historical
+PROSPERO historical
+SNEWS historical
+VIDEOTEX historical
+WAIS historical
+WPID historical
+Z39.50 historical
+ACR provisional
+ADIUMXTRA provisional
+AFP provisional
+AFS provisional
+AIM provisional
+AMSS provisional
+ANDROID provisional
+APPDATA provisional
+APT provisional
+ATTACHMENT provisional
+AW provisional
+BARION provisional
+BESHARE provisional
+BITCOIN provisional
+BITCOINCASH provisional
+BLOB provisional
+BOLO provisional
+BROWSEREXT provisional
+CALCULATOR provisional
+CALLTO provisional
+CAST provisional
+CASTS provisional
+CHROME provisional
+CHROME-EXTENSION provisional
+COM-EVENTBRITE-ATTENDEE provisional
+CONTENT provisional
+CONTI provisional
+CVS provisional
+DAB provisional
+DIASPORA provisional
+DID provisional
+DIS provisional
+DLNA-PLAYCONTAINER provisional
+DLNA-PLAYSINGLE provisional
+DNTP provisional
+DPP provisional
+DRM provisional
+DROP provisional
+DTN provisional
+DVB provisional
+ED2K provisional
+ELSI provisional
+FACETIME provisional
+FEED provisional
+FEEDREADY provisional
+FINGER provisional
+FISH provisional
+FM provisional
+FUCHSIA-PKG provisional
+GG provisional
+GIT provisional
+GIZMOPROJECT provisional
+GRAPH provisional
+GTALK provisional
+HAM provisional
+HCAP provisional
+HCP provisional
+HXXP provisional
+HXXPS provisional
+HYDRAZONE provisional
+ICON provisional
+IOTDISC provisional
+IPN provisional
+IRC provisional
+IRC6 provisional
+IRCS provisional
+ISOSTORE provisional
+ITMS provisional
+JAR provisional
+JMS provisional
+KEYPARC provisional
+LASTFM provisional
+LDAPS provisional
+LORAWAN provisional
+LVLT provisional
+MAGNET provisional
+MAPS provisional
+MARKET provisional
+MESSAGE provisional
+MICROSOFT.WINDOWS.CAMERA provisional
+MICROSOFT.WINDOWS.CAMERA.MULTIPICKER provisional
+MICROSOFT.WINDOWS.CAMERA.PICKER provisional
+MMS provisional
+MONGODB provisional
+MOZ provisional
+MSS provisional
+MSNIM provisional
+MUMBLE provisional
+MVN provisional
+NOTES provisional
+OCF provisional
+OID provisional
+ONENOTE provisional
+ONENOTE-CMD provisional
+OPENPGP4FPR provisional
+PALM provisional
+PAPARAZZI provisional
+PLATFORM provisional
+PROXY provisional
+PWID provisional
+PSYC provisional
+QB provisional
+QUERY provisional
+REDIS provisional
+REDISS provisional
+RES provisional
+RESOURCE provisional
+RMI provisional
+RSYNC provisional
+RTMFP provisional
+RTMP provisional
+SECONDLIFE provisional
+SFTP provisional
+SGN provisional
+SIMPLELEDGER provisional
+SKYPE provisional
+SMB provisional
+SMTP provisional
+SOLDAT provisional
+SPIFFE provisional
+SPOTIFY provisional
+SSH provisional
+STEAM provisional
+SUBMIT provisional
+SVN provisional
+TEAMSPEAK provisional
+TELIAEID provisional
+THINGS provisional
+TOOL provisional
+UDP provisional
+UNREAL provisional
+UT2004 provisional
+V-EVENT provisional
+VENTRILO provisional
+VIEW-SOURCE provisional
+WEBCAL provisional
+WTAI provisional
+WYCIWYG provisional
+XFIRE provisional
+XRI provisional
+YMSGR provisional
+MS-ACCESS provisional
+MS-BROWSER-EXTENSION provisional
+MS-CALCULATOR provisional
+MS-DRIVE-TO provisional
+MS-ENROLLMENT provisional
+MS-EXCEL provisional
+MS-EYECONTROLSPEECH provisional
+MS-GAMEBARESRVICES provisional
+MS-GAMINGOVERLAY provisional
+MS-GETOFFICE provisional
+MS-HELP provisional
+MS-INFOPATH provisional
+MS-INPUTAPP provisional
+MS-LOCKSCREENCOMPONENT-CONFIG provisional
+MS-MEDIA-STREAM-ID provisional
+MS-MIXEDREALITYCAPTURE provisional
+MS-OFFICEAPP provisional
+MS-PEOPLE provisional
+MS-PROJECT provisional
+MS-POWERPOINT provisional
+MS-PUBLISHER provisional
+MS-RESTORETABCOMPANION provisional
+MS-SCREENCLIP provisional
+MS-SCREENSKETCH provisional
+MS-SEARCH provisional
+MS-SEARCH-REPAIR provisional
+MS-SECONDARY-SCREEN-CONTROLLER provisional
+MS-SECONDARY-SCREEN-SETUP provisional
+MS-SETTINGS provisional
+MS-SETTINGS-AIRPLANEMODE provisional
+MS-SETTINGS-BLUETOOTH provisional
+MS-SETTINGS-CAMERA provisional
+MS-SETTINGS-CELLULAR provisional
+MS-SETTINGS-CLOUDSTORAGE provisional
+MS-SETTINGS-CONNECTABLEDEVICES provisional
+MS-SETTINGS-DISPLAYS-TOPOLOGY provisional
+MS-SETTINGS-EMAILANDACCOUNTS provisional
+MS-SETTINGS-LANGUAGE provisional
+MS-SETTINGS-LOCATION provisional
+MS-SETTINGS-LOCK provisional
+MS-SETTINGS-NFCTRANSACTIONS provisional
+MS-SETTINGS-NOTIFICATIONS provisional
+MS-SETTINGS-POWER provisional
+MS-SETTINGS-PRIVACY provisional
+MS-SETTINGS-PROXIMITY provisional
+MS-SETTINGS-SCREENROTATION provisional
+MS-SETTINGS-WIFI provisional
+MS-SETTINGS-WORKPLACE provisional
+MS-SPD provisional
+MS-STTOVERLAY provisional
+MS-TRANSIT-TO provisional
+MS-USERACTIVITYSET provisional
+MS-VIRTUALTOUCHPAD provisional
+MS-VISIO provisional
+MS-WALK-TO provisional
+MS-WHITEBOARD provisional
+MS-WHITEBOARD-CMD provisional
+MS-WORD provisional";

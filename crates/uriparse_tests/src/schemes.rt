@@ -1,198 +1,125 @@
 //! Schemes.
 
-use std::hash::{DefaultHasher, Hash, Hasher};
-use std::test::Fail;
-use uriparse_scheme::scheme::{
-    Scheme, SchemeError, SchemeStatus, UnregisteredScheme, UnregisteredSchemeError,
-};
+use crate::answer::{Answer, printed, said, word};
+use crate::component::{compared, normal, read};
+use std::alloc::Global;
+use uriparse_scheme::scheme::{Scheme, SchemeStatus, UnregisteredScheme};
 
-// (text, what it is read as, whether that is registered)
-const READ: [(&str, &str, SchemeStatus); 9] = [
-    ("ACAT", "acat", SchemeStatus::Permanent),
-    ("acct", "acct", SchemeStatus::Unregistered),
-    ("Z39.50", "z39.50", SchemeStatus::Historical),
-    ("z39.50r", "z39.50r", SchemeStatus::Permanent),
-    (
-        "MS-GAMEBARESRVICES",
-        "ms-gamebaresrvices",
-        SchemeStatus::Provisional,
-    ),
-    (
-        "microsoft.windows.camera.multipicker",
-        "microsoft.windows.camera.multipicker",
-        SchemeStatus::Provisional,
-    ),
-    (
-        "microsoft.windows.camera.multipickers",
-        "microsoft.windows.camera.multipickers",
-        SchemeStatus::Unregistered,
-    ),
-    ("SCHEME", "SCHEME", SchemeStatus::Unregistered),
-    ("a+-.9Z", "a+-.9Z", SchemeStatus::Unregistered),
-];
+fn schemes(alloc: Global, left: &str, right: &str) -> Answer {
+    let a = Scheme::try_from_bytes(left.as_bytes());
+    compared(alloc, a, Scheme::try_from_str(right), right)
+}
 
-#[test]
-fn reads_schemes(rt: HostRuntime) -> Result<(), Fail> {
-    for (text, printed, status) in READ {
-        let scheme = Scheme::try_from_bytes(text.as_bytes())?;
-        assert_eq!(rt; scheme.as_str(), printed);
-        assert!(rt; scheme.status() == status, "{text}");
+fn unregistered_schemes(alloc: Global, left: &str, right: &str) -> Answer {
+    let a = UnregisteredScheme::try_from_bytes(left.as_bytes());
+    compared(alloc, a, UnregisteredScheme::try_from_str(right), right)
+}
+
+/// The status, where its four tests agree.
+pub fn status_name(status: SchemeStatus) -> &'static str {
+    let register = (status.is_historical(), status.is_permanent());
+    let others = (status.is_provisional(), status.is_unregistered());
+    match (status, register, others) {
+        (SchemeStatus::Historical, (true, false), (false, false)) => "historical",
+        (SchemeStatus::Permanent, (false, true), (false, false)) => "permanent",
+        (SchemeStatus::Provisional, (false, false), (true, false)) => "provisional",
+        (SchemeStatus::Unregistered, (false, false), (false, true)) => "unregistered",
+        _ => "several",
     }
-    Ok(())
 }
 
-#[test]
-fn names_find_their_constants(rt: HostRuntime) -> Result<(), Fail> {
-    assert!(rt; Scheme::try_from_str("ACAT")? == Scheme::ACCT);
-    assert!(rt; Scheme::try_from_str("Z39.50")? == Scheme::Z3950);
-    assert!(rt; Scheme::try_from_str("MS-GAMEBARESRVICES")? == Scheme::MSGameBarServices);
-    assert!(rt; Scheme::try_from_str("acct")? != Scheme::ACCT);
-    Ok(())
-}
-
-// (text, why it is refused)
-const REFUSED: [(&str, SchemeError); 8] = [
-    ("", SchemeError::Empty),
-    ("1", SchemeError::StartsWithNonAlphabetic),
-    (":", SchemeError::StartsWithNonAlphabetic),
-    ("+a", SchemeError::StartsWithNonAlphabetic),
-    ("a:", SchemeError::InvalidCharacter),
-    ("a%41", SchemeError::InvalidCharacter),
-    ("http_", SchemeError::InvalidCharacter),
-    ("a\u{e9}", SchemeError::InvalidCharacter),
-];
-
-#[test]
-fn refuses_what_is_no_scheme(rt: HostRuntime) -> Result<(), Fail> {
-    for (text, refusal) in &REFUSED {
-        assert!(rt;
-            Scheme::try_from_str(text).is_err_and(|e| e == *refusal),
-            "{text}"
-        );
-        assert!(rt; UnregisteredScheme::try_from_str(text).is_err(), "{text}");
+fn status(alloc: Global, text: &str) -> Answer {
+    match Scheme::try_from_str(text) {
+        Ok(scheme) => said(alloc, status_name(scheme.status())),
+        Err(why) => printed(alloc, why),
     }
-    Ok(())
 }
 
-#[test]
-fn refuses_registered_names(rt: HostRuntime) -> Result<(), Fail> {
-    for text in ["HTTP", "http", "Acat", "ms-word", "z39.50s"] {
-        assert!(rt;
-            UnregisteredScheme::try_from_bytes(text.as_bytes()).is_err(),
-            "{text}"
-        );
+/// The answer to a question about schemes.
+pub fn answer(alloc: Global, asked: &str) -> Answer {
+    let (command, rest) = word(asked);
+    let (text, rest) = word(rest);
+    let (other, _) = word(rest);
+    match command {
+        "scheme" => read(alloc, Scheme::try_from_str(text)),
+        "schemes" => schemes(alloc, text, other),
+        "status" => status(alloc, text),
+        "unregistered" => read(alloc, UnregisteredScheme::try_from_str(text)),
+        "normal-scheme" => normal(alloc, Scheme::try_from_str(text)),
+        "normal-unregistered" => normal(alloc, UnregisteredScheme::try_from_str(text)),
+        "unregistered-schemes" => unregistered_schemes(alloc, text, other),
+        _ => said(alloc, "no such command"),
     }
-    for text in ["acct", "httpx", "a"] {
-        assert_eq!(rt;
-            UnregisteredScheme::try_from_bytes(text.as_bytes())?.as_str(),
-            text
-        );
-    }
-    Ok(())
 }
 
-fn hash_of(text: &str) -> Result<u64, Fail> {
-    let mut state = DefaultHasher::new();
-    Scheme::try_from_str(text)?.hash(&mut state);
-    Ok(state.finish())
-}
-
-// (one text, another, whether they are one scheme)
-const PAIRS: [(&str, &str, bool); 6] = [
-    ("SCHEME", "scheme", true),
-    ("Http", "hTTP", true),
-    ("scheme", "schema", false),
-    ("http", "https", false),
-    ("http", "httpx", false),
-    ("a-b", "a.b", false),
-];
-
-#[test]
-fn equal_without_regard_to_case(rt: HostRuntime) -> Result<(), Fail> {
-    for (a, b, same) in PAIRS {
-        let (left, right) = (Scheme::try_from_str(a)?, Scheme::try_from_str(b)?);
-        assert!(rt; (left == right) == same, "{a} and {b}");
-        assert!(rt;
-            left.eq_str(b) == same && left.eq_bytes(b.as_bytes()) == same,
-            "{a} and the text {b}"
-        );
-        assert!(rt;
-            (hash_of(a)? == hash_of(b)?) == same,
-            "hashes of {a} and {b}"
-        );
-    }
-    Ok(())
-}
-
-#[test]
-fn reads_no_escapes(rt: HostRuntime) -> Result<(), Fail> {
-    assert!(rt; !Scheme::HTTP.eq_str("%68ttp"));
-    let other = UnregisteredScheme::try_from_str("other")?;
-    assert!(rt; !other.eq_str("%6Fther") && other.eq_str("OTHER") && other.eq_bytes(b"Other"));
-    Ok(())
-}
-
-#[test]
-fn a_scheme_gives_its_text_back(rt: HostRuntime) -> Result<(), Fail> {
-    let alloc = rt.alloc();
-    for (text, printed) in [("HTTP", "http"), ("Own", "Own")] {
-        let scheme = Scheme::try_from_str(text)?;
-        let scheme = scheme.as_borrowed().into_owned(alloc)?;
-        assert!(rt; scheme.as_bytes() == printed.as_bytes());
-        assert_eq!(rt; format!(in alloc; "{scheme}")?.as_str(), printed);
-        assert_eq!(rt; scheme.to_string(alloc)?.as_str(), printed);
-    }
-    Ok(())
-}
-
-#[test]
-fn an_unregistered_scheme_gives_its_text_back(rt: HostRuntime) -> Result<(), Fail> {
-    let alloc = rt.alloc();
-    let scheme = UnregisteredScheme::try_from_str("Own")?;
-    let scheme = scheme.as_borrowed().into_owned(alloc)?;
-    assert!(rt; scheme.as_bytes() == b"Own".as_slice());
-    assert!(rt; scheme == UnregisteredScheme::try_from_str("oWN")?);
-    assert_eq!(rt; format!(in alloc; "{scheme}")?.as_str(), "Own");
-    assert_eq!(rt; scheme.to_string(alloc)?.as_str(), "Own");
-    Ok(())
-}
-
-#[test]
-fn refusals_have_texts(rt: HostRuntime) -> Result<(), Fail> {
-    let alloc = rt.alloc();
-    for (text, refusal) in [
-        ("scheme is empty", SchemeError::Empty),
-        (
-            "scheme starts with non-alphabetic character",
-            SchemeError::StartsWithNonAlphabetic,
-        ),
-        (
-            "invalid scheme character",
-            SchemeError::InvalidCharacter.clone()?,
-        ),
-    ] {
-        assert_eq!(rt; format!(in alloc; "{refusal}")?.as_str(), text);
-    }
-    let refusal = UnregisteredSchemeError.clone()?;
-    assert_eq!(rt;
-        format!(in alloc; "{refusal}")?.as_str(),
-        "invalid unregistered scheme"
-    );
-    Ok(())
-}
-
-#[test]
-fn a_status_is_one_of_four(rt: HostRuntime) -> Result<(), Fail> {
-    for status in [
-        SchemeStatus::Historical,
-        SchemeStatus::Permanent,
-        SchemeStatus::Provisional,
-        SchemeStatus::Unregistered,
-    ] {
-        assert!(rt; status.is_historical() == (status == SchemeStatus::Historical));
-        assert!(rt; status.is_permanent() == (status == SchemeStatus::Permanent));
-        assert!(rt; status.is_provisional() == (status == SchemeStatus::Provisional));
-        assert!(rt; status.is_unregistered() == (status == SchemeStatus::Unregistered));
-    }
-    Ok(())
-}
+pub const ROWS: &str = "\
+normal-scheme SCHEME -> scheme
+normal-scheme HTTP -> normal
+normal-scheme a+b -> normal
+normal-unregistered SCHEME+x -> scheme+x
+normal-unregistered scheme -> normal
+scheme ACAT -> acat
+status ACAT -> permanent
+scheme acct -> acct
+status acct -> unregistered
+scheme Z39.50 -> z39.50
+status Z39.50 -> historical
+scheme z39.50r -> z39.50r
+status z39.50r -> permanent
+scheme MS-GAMEBARESRVICES -> ms-gamebaresrvices
+status MS-GAMEBARESRVICES -> provisional
+scheme microsoft.windows.camera.multipicker -> microsoft.windows.camera.multipicker
+status microsoft.windows.camera.multipicker -> provisional
+scheme microsoft.windows.camera.multipickers -> microsoft.windows.camera.multipickers
+status microsoft.windows.camera.multipickers -> unregistered
+scheme SCHEME -> SCHEME
+status SCHEME -> unregistered
+scheme a+-.9Z -> a+-.9Z
+status a+-.9Z -> unregistered
+scheme HTTP -> http
+status HTTP -> permanent
+scheme Own -> Own
+status Own -> unregistered
+scheme scheme+that.is-not+registered -> scheme+that.is-not+registered
+status scheme+that.is-not+registered -> unregistered
+scheme '' -> scheme is empty
+unregistered '' -> invalid unregistered scheme
+scheme 1 -> scheme starts with non-alphabetic character
+unregistered 1 -> invalid unregistered scheme
+scheme : -> scheme starts with non-alphabetic character
+unregistered : -> invalid unregistered scheme
+scheme +a -> scheme starts with non-alphabetic character
+unregistered +a -> invalid unregistered scheme
+scheme a: -> invalid scheme character
+unregistered a: -> invalid unregistered scheme
+scheme a%41 -> invalid scheme character
+unregistered a%41 -> invalid unregistered scheme
+scheme http_ -> invalid scheme character
+unregistered http_ -> invalid unregistered scheme
+scheme aé -> invalid scheme character
+unregistered aé -> invalid unregistered scheme
+unregistered HTTP -> invalid unregistered scheme
+unregistered http -> invalid unregistered scheme
+unregistered Acat -> invalid unregistered scheme
+unregistered ms-word -> invalid unregistered scheme
+unregistered z39.50s -> invalid unregistered scheme
+unregistered acct -> acct
+unregistered httpx -> httpx
+unregistered a -> a
+unregistered Own -> Own
+unregistered scheme+that.is-not+registered -> scheme+that.is-not+registered
+schemes SCHEME scheme -> equal
+schemes Http hTTP -> equal
+schemes scheme schema -> different
+schemes http https -> different
+schemes http httpx -> different
+schemes a-b a.b -> different
+schemes http %68ttp -> different
+schemes other %6Fther -> different
+schemes Own oWN -> equal
+schemes acct ACAT -> different
+unregistered-schemes other %6Fther -> different
+unregistered-schemes other OTHER -> equal
+unregistered-schemes other Other -> equal
+unregistered-schemes Own oWN -> equal
+unregistered-schemes scheme schema -> different";

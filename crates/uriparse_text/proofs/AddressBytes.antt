@@ -13,6 +13,7 @@ use Rattle.uriparse_text.specs.Classes.{is_plain}
 use Rattle.uriparse_text.specs.Cuts.{lacks}
 use Rattle.uriparse_text.specs.Faults.{IsIn}
 use Rattle.uriparse_text.specs.Address.{is_ipv4_byte, is_ipv6_byte, SpellsIpv4, AreH16Colons, IsLs32, EndsInLs32, IsHead, IsTail, SpellsIpv6}
+use Rattle.uriparse_text.proofs.OctetLemmas.{IsOctets-SpellsIpv4, printed_alone}
 use Rattle.uriparse_text.proofs.FaultLemmas.{IsIn-plain}
 use Rattle.uriparse_text.proofs.CutLemmas.{lacks_by, weaker}
 
@@ -24,8 +25,8 @@ both : (p : ℕ → Bool) (xs ys : List ℕ) → Pass p xs → Pass p ys → Pas
 both p xs ys h k = record { all = rw (list_all-append p xs ys, h.all, k.all) }
 
 dotted : (p : ℕ → Bool) (text octets : List ℕ) → ((b : ℕ) → IsDigitOrDot b → p b ≡ true) → SpellsIpv4 text octets → Pass p text
-dotted p text octets weaker h = rw h.dotted (record {
-  all = list_all-from_AllPass p _ (All-weaker IsDigitOrDot (λ b. p b ≡ true) weaker _ (All-ipv4_text octets h.is_octets.fit));
+dotted p text octets weaker h = rw (printed_alone text octets h) (record {
+  all = list_all-from_AllPass p _ (All-weaker IsDigitOrDot (λ b. p b ≡ true) weaker _ (All-ipv4_text octets (IsOctets-SpellsIpv4 text octets h).fit));
 })
 
 pub SpellsIpv4-bytes : (text octets : List ℕ) → SpellsIpv4 text octets → list_all is_ipv4_byte text ≡ true

@@ -8,7 +8,9 @@ use Rattle.std.proofs.NetLemmas.Ipv4.{read_ipv4_complete, read_ipv4_sound}
 use Rattle.std.proofs.NetLemmas.Ipv6.{read_ipv6_complete, read_ipv6_sound, EndsGroups-nil, IsDotted-not_colon_hex}
 use Rattle.std.proofs.NetLemmas.Texts.{IsColonHex-ipv6_text}
 use Rattle.uriparse_text.specs.Address.{IsOctets, IsSegments, ipv4_text, ipv6_text, SpellsIpv4, SpellsIpv6, ipv4_reading, ipv6_reading}
-use Rattle.uriparse_text.proofs.AddressGrammar.{spells_from_dotted, dotted_from_spells, spells_from_colon_hex, colon_hex_from_spells}
+use Rattle.uriparse_text.proofs.AddressGrammar.{spells_from_colon_hex, colon_hex_from_spells}
+use Rattle.uriparse_text.proofs.OctetLemmas.{spells_from_dotted, dotted_from_spells}
+pub use Rattle.uriparse_text.proofs.OctetLemmas.{SpellsIpv4-ipv4_text}
 
 -- ---- exact readings
 
@@ -75,9 +77,6 @@ SpellsIpv4-not_ipv6 text a b h k =
     IsDotted-not_colon_hex text a b (dotted_from_spells text a h) (colon_hex_from_spells text b k)
 
 -- ---- printed texts
-
-pub SpellsIpv4-ipv4_text : (a : List ℕ) → IsOctets a → SpellsIpv4 (ipv4_text a) a
-SpellsIpv4-ipv4_text a h = record { is_octets = h; dotted = refl }
 
 pub SpellsIpv6-ipv6_text : (a : List ℕ) → IsSegments a → SpellsIpv6 (ipv6_text a) a
 SpellsIpv6-ipv6_text a h = spells_from_colon_hex (ipv6_text a) a (IsColonHex-ipv6_text a h.eight h.fit)

@@ -4,7 +4,7 @@ use Rattle.std.specs.Prelude.{◌==◌, IsTrue, bytes_eq}
 use Rattle.std.specs.List.{flat_map, list_all}
 use Rattle.std.specs.Char.{digit_value, to_ascii_uppercase}
 use Rattle.std.specs.Hash as fed
-use Rattle.std.proofs.lemmas.Bool.{cond-false, cond_both, and_from, and_parts}
+use Rattle.std.proofs.lemmas.Bool.{false≢true, cond-false, cond_both, and_from, and_parts}
 use Rattle.std.proofs.lemmas.Bool.Decides.{nat_tests, same_from_decides}
 use Rattle.std.proofs.lemmas.Slice.Eq.{bytes_eq-Decides}
 use Rattle.std.proofs.lemmas.List.{map-append}
@@ -159,3 +159,47 @@ pub same_from_tokens : (case : Case) (left right : List ℕ) (r : Bool) → is_w
 same_from_tokens case left right r h k iff =
     let alike = same_tokens case left right k in
     same_from_decides r (bytes_eq (spelling case left) (spelling case right)) (λ e. (alike.0 (iff.0 e)).same, λ e. iff.1 (alike.1 (record { formed = h; same = e }))) (bytes_eq-Decides (spelling case left) (spelling case right))
+
+-- ---- which texts are canonical
+
+pub spelling-nil : (case : Case) → spelling case [] ≡ []
+unfolding spelling
+spelling-nil case = ap (λ ts. flat_map spell (map (canonical case) ts)) tokens-nil
+
+pub spelling-cons : (case : Case) (rest after : List ℕ) (t : Token) → tokens rest ≡ t ∷ tokens after → spelling case rest ≡ spell (canonical case t) ++ spelling case after
+unfolding spelling
+spelling-cons case rest after t e = ap (λ ts. flat_map spell (map (canonical case) ts)) e
+
+cancel : (t : Token) (x y : List ℕ) → spell t ++ x ≡ spell t ++ y → x ≡ y
+cancel (Byte b) x y h = cc
+cancel (Escape high low) x y h = cc
+
+-- a canonical token more
+pub canonical_more : (case : Case) (rest after : List ℕ) (t : Token) → tokens rest ≡ t ∷ tokens after → rest ≡ spell t ++ after → canonical case t ≡ t → (spelling case after ≡ after) ↔ (spelling case rest ≡ rest)
+canonical_more case rest after t e f g =
+    let spelled : spelling case rest ≡ spell t ++ spelling case after = spelling-cons case rest after t e ∙ ap (λ u. spell u ++ spelling case after) g in (
+      λ h. spelled ∙ ap (λ u. spell t ++ u) h ∙ sym f,
+      λ h. cancel t (spelling case after) after (sym spelled ∙ h ∙ f),
+    )
+
+not_percent : (case : Case) (b : ℕ) → is_unreserved b ≡ true → in_case case b ≡ percent → ⊥
+not_percent case b h e =
+    let no : not (in_case case b == percent) ≡ true = ap not (in_case_percent case b) ∙ unreserved_not_percent b h in
+    false≢true (sym (ap (λ c. not (c == percent)) e) ∙ no)
+
+token_differs : (case : Case) (t : Token) (x y : List ℕ) → (canonical case t ≡ t → ⊥) → spell (canonical case t) ++ x ≡ spell t ++ y → ⊥
+token_differs case (Byte b) x y n h = n (let same : in_case case b ≡ b = cc in ap Byte same)
+token_differs case (Escape high low) x y n h =
+    by_escaped case high low (λ u. (u ≡ Escape high low → ⊥) → spell u ++ x ≡ percent ∷ high ∷ low ∷ y → ⊥)
+    (λ e m k. let same : in_case case (escaped_byte high low) ≡ percent = cc in not_percent case (escaped_byte high low) e same)
+    (λ e m k. let first : to_ascii_uppercase high ≡ high = cc in let second : to_ascii_uppercase low ≡ low = cc in m (rw (first, second) refl))
+    n h
+
+-- a token that isn't
+pub canonical_never : (case : Case) (rest after : List ℕ) (t : Token) → tokens rest ≡ t ∷ tokens after → rest ≡ spell t ++ after → (canonical case t ≡ t → ⊥) → spelling case rest ≡ rest → ⊥
+canonical_never case rest after t e f n h = token_differs case t (spelling case after) after n (sym (spelling-cons case rest after t e) ∙ h ∙ f)
+
+-- the end of a text that is spelled token by token
+pub spelled_more : (case : Case) (done rest after : List ℕ) (t : Token) (whole : List ℕ) → tokens rest ≡ t ∷ tokens after → done ++ spelling case rest ≡ whole → (done ++ spell (canonical case t)) ++ spelling case after ≡ whole
+spelled_more case done rest after t whole e h =
+    append_assoc done (spell (canonical case t)) (spelling case after) ∙ ap (λ u. done ++ u) (sym (spelling-cons case rest after t e)) ∙ h

@@ -43,6 +43,13 @@ pub lacks-in_class : (class : Class) (b : ℕ) → is_plain class b ≡ false �
 lacks-in_class class b plain sign digit t h =
     bytes-in_class class (λ c. not (c == b)) (λ c e. other_byte (is_plain class) b c plain e) (not_from_false _ sign) (λ c e. other_byte is_hex b c digit e) t h
 
+-- both parts of a text that lacks a byte lack it
+pub lacks-left : (b : ℕ) (t u : List ℕ) → lacks b (t ++ u) ≡ true → lacks b t ≡ true
+lacks-left b t u h = (and_parts (lacks b t) (lacks b u) (sym (list_all-append (λ c. not (c == b)) t u) ∙ h)).0
+
+pub lacks-right : (b : ℕ) (t u : List ℕ) → lacks b (t ++ u) ≡ true → lacks b u ≡ true
+lacks-right b t u h = (and_parts (lacks b t) (lacks b u) (sym (list_all-append (λ c. not (c == b)) t u) ∙ h)).1
+
 -- ---- cuts at the first byte that passes
 
 pub up_to-append : (p : ℕ → Bool) (t u : List ℕ) → none_pass p t ≡ true → up_to p (t ++ u) ≡ t ++ up_to p u
@@ -56,6 +63,23 @@ from_first-append p [] u h = refl
 from_first-append p (b ∷ t) u h =
     let both = and_parts _ _ h in
     rw (not-true (p b) both.0) (from_first-append p t u both.1)
+
+-- no byte before the first that passes does, and the rest begins with one that does
+pub up_to-none : (p : ℕ → Bool) (t : List ℕ) → none_pass p (up_to p t) ≡ true
+up_to-none p [] = refl
+up_to-none p (b ∷ t) = at_byte (p b) refl (up_to-none p t)
+  where
+    at_byte : (v : Bool) → p b ≡ v → none_pass p (up_to p t) ≡ true → none_pass p (cond v [] (b ∷ up_to p t)) ≡ true
+    at_byte true e h = refl
+    at_byte false e h = and_from _ _ (ap not e) h
+
+pub from_first-head : (p : ℕ → Bool) (t : List ℕ) (m : ℕ) (r : List ℕ) → from_first p t ≡ m ∷ r → p m ≡ true
+from_first-head p [] m r h = cc
+from_first-head p (b ∷ t) m r h = at_byte (p b) refl (from_first-head p t m r) h
+  where
+    at_byte : (v : Bool) → p b ≡ v → (from_first p t ≡ m ∷ r → p m ≡ true) → cond v (b ∷ t) (from_first p t) ≡ m ∷ r → p m ≡ true
+    at_byte true e f k = let same : b ≡ m = cc in ap p (sym same) ∙ e
+    at_byte false e f k = f k
 
 -- the two parts are the whole
 pub cut-whole : (p : ℕ → Bool) (t : List ℕ) → up_to p t ++ from_first p t ≡ t
@@ -75,6 +99,20 @@ rest_is mark (b ∷ t) = by_test (b == mark) refl (rest_is mark t)
 -- t = before [ mark after ]
 pub before_after : (mark : ℕ) (t : List ℕ) → before mark t ++ behind mark (after mark t) ≡ t
 before_after mark t = ap (λ u. before mark t ++ u) (sym (rest_is mark t)) ∙ cut-whole (λ b. b == mark) t
+
+-- the pieces before and behind a mark lack what the text lacks, and the one before it lacks the mark
+pub lacks-before : (b mark : ℕ) (t : List ℕ) → lacks b t ≡ true → lacks b (before mark t) ≡ true
+lacks-before b mark t h = lacks-left b (before mark t) (behind mark (after mark t)) (ap (lacks b) (before_after mark t) ∙ h)
+
+pub lacks-after : (b mark : ℕ) (t : List ℕ) → lacks b t ≡ true → IfSome (after mark t) (λ u. lacks b u ≡ true)
+lacks-after b mark t h = by_after (after mark t) (lacks-right b (before mark t) (behind mark (after mark t)) (ap (lacks b) (before_after mark t) ∙ h))
+  where
+    by_after : (o : Option (List ℕ)) → lacks b (behind mark o) ≡ true → IfSome o (λ u. lacks b u ≡ true)
+    by_after None k = tt
+    by_after (Some u) k = (and_parts (not (mark == b)) (lacks b u) k).1
+
+pub before-lacks : (mark : ℕ) (t : List ℕ) → lacks mark (before mark t) ≡ true
+before-lacks mark t = up_to-none (λ b. b == mark) t
 
 -- t = [ front mark ] rest
 pub front_rest : (mark : ℕ) (t : List ℕ) → ahead mark (front mark t) ++ rest mark t ≡ t

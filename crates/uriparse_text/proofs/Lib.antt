@@ -6,9 +6,11 @@ mod FaultLaws
 pub mod CutLemmas
 pub mod OptionLemmas
 pub mod ReadingLemmas
+pub mod OctetLemmas
 mod AddressGrammar
 mod AddressPrinted
 pub mod AddressLemmas
 pub mod AddressBytes
 pub mod AddressFit
 pub mod AddressCanon
+pub mod RunLemmas

@@ -3,7 +3,7 @@
 use Rattle.std.specs.Prelude.{◌≡◌, ℕ, ◌+◌, ◌-◌, ◌^◌, ◌<◌, ◌≤◌, ◌⊎◌, Bool, ◌||◌, ◌==◌, List, [], ◌∷◌, ◌++◌, Option, length, take, drop, slice_index, replicate, codes}
 use Rattle.std.specs.Char.{is_ascii_digit}
 use Rattle.std.specs.Net.Addr.{segments_of, octets_of, IsIpv4Mapped}
-use Rattle.std.specs.Net.Grammar.{IsGroup}
+use Rattle.std.specs.Net.Grammar.{IsGroup, IsNumber}
 use Rattle.std.specs.Net.Reader.{read_ipv4, read_ipv6, whole_value}
 use Rattle.std.specs.Net.Text as net
 use Rattle.uriparse_text.specs.Bytes.{is_hex, dot, colon}
@@ -36,11 +36,32 @@ ipv6_text segments = net.ipv6_text segments
 
 -- ---- the grammar
 
--- IPv4address = dec-octet "." dec-octet "." dec-octet "." dec-octet. A dec-octet has no leading zeros, so each
--- address has one such text.
+-- dec-octet: digits that write a number up to 255, the first of several no zero
+pub record IsDecOctet (text : List ℕ) (n : ℕ) : Type 0 where
+  pub number : IsNumber 10 text n
+  pub alone : slice_index text 0 ≡ 48 → length text ≡ 1
+  pub fits : n ≤ 255
+
+-- four texts with dots between them
+abbrev pub with_dots : List ℕ → List ℕ → List ℕ → List ℕ → List ℕ
+with_dots first second third fourth = first ++ codes "." ++ second ++ codes "." ++ third ++ codes "." ++ fourth
+
+-- IPv4address = dec-octet "." dec-octet "." dec-octet "." dec-octet
 pub record SpellsIpv4 (text octets : List ℕ) : Type 0 where
-  pub is_octets : IsOctets octets
-  pub dotted : text ≡ ipv4_text octets
+  pub first : List ℕ
+  pub second : List ℕ
+  pub third : List ℕ
+  pub fourth : List ℕ
+  pub a : ℕ
+  pub b : ℕ
+  pub c : ℕ
+  pub d : ℕ
+  pub whole : text ≡ with_dots first second third fourth
+  pub is_first : IsDecOctet first a
+  pub is_second : IsDecOctet second b
+  pub is_third : IsDecOctet third c
+  pub is_fourth : IsDecOctet fourth d
+  pub value : octets ≡ a ∷ b ∷ c ∷ d ∷ []
 
 -- h16 = 1*4HEXDIG, which writes n in hexadecimal
 abbrev pub IsH16 : List ℕ → ℕ → Type 0

@@ -1,5 +1,5 @@
 -- The canonical spelling of a text: RFC 3986, sections 6.2.2.1 and 6.2.2.2.
-use Rattle.std.specs.Prelude.{◌≡◌, ℕ, true, ◌+◌, ◌*◌, List, [], ◌∷◌, ◌++◌, map, if◌then◌else◌}
+use Rattle.std.specs.Prelude.{◌≡◌, ℕ, Bool, true, ◌==◌, ◌||◌, not, ◌+◌, ◌*◌, List, [], ◌∷◌, ◌++◌, map, if◌then◌else◌}
 use Rattle.std.specs.List.{flat_map}
 use Rattle.std.specs.Char.{digit_value, to_ascii_lowercase, to_ascii_uppercase}
 use Rattle.std.specs.Hash as fed
@@ -7,7 +7,7 @@ use Rattle.uriparse_text.specs.declared.parts.token.Token.{Token}
 use Rattle.uriparse_text.specs.declared.parts.token.Token.TheVariants.{Byte, Escape}
 use Rattle.uriparse_text.specs.declared.parts.canonical.Case.{Case}
 use Rattle.uriparse_text.specs.declared.parts.canonical.Case.TheVariants.{Kept, Lowered}
-use Rattle.uriparse_text.specs.Bytes.{is_unreserved}
+use Rattle.uriparse_text.specs.Bytes.{is_unreserved, percent}
 use Rattle.uriparse_text.specs.Tokens.{tokens, spell, is_well_formed}
 
 -- the byte that an escape with these digits stands for
@@ -26,6 +26,10 @@ canonical case (Escape high low) =
     if is_unreserved (escaped_byte high low)
     then Byte (in_case case (escaped_byte high low))
     else Escape (to_ascii_uppercase high) (to_ascii_uppercase low)
+
+-- the byte begins an escape, or another one stands for it in a canonical spelling
+abbrev pub may_change : Case → ℕ → Bool
+may_change case b = b == percent || not (in_case case b == b)
 
 -- the tokens of the text, each in canonical form
 abbrev pub canonical_tokens : Case → List ℕ → List Token

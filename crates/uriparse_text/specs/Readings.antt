@@ -1,5 +1,5 @@
 -- What a reader of one text answers.
-use Rattle.std.specs.Prelude.{◌≡◌, ◌⊎◌, ℕ, List, Option, Some, None, Result, Ok, Err}
+use Rattle.std.specs.Prelude.{◌≡◌, ◌⊎◌, ℕ, List, Option, Some, None, Result, Ok, Err, MatchResult}
 use Rattle.std.specs.Option.{option_map}
 use Rattle.uriparse_text.specs.declared.parts.class.Class.{Class}
 use Rattle.uriparse_text.specs.Faults.{fault}
@@ -16,6 +16,16 @@ reading_in class error_of text = unless_fault (option_map error_of (fault class 
 -- this answer, or this error in its place
 abbrev pub IsUnless : {E A : Type 0} → E → Result A E → Result A E → Type 0
 IsUnless error answer right = (answer ≡ right) ⊎ (answer ≡ Err error)
+
+-- ---- what a call that changes a value answers
+
+-- it is Ok and the value is the new one, or it is the refusal and the value is the old one
+abbrev pub Settles : {A E : Type 0} → A → A → Result (Unit {0}) E → Result A E → Type 0
+Settles old new result right = MatchResult result (λ _. right ≡ Ok new) (λ e. (right ≡ Err e) × (new ≡ old))
+
+-- the same, or it is this error in its place and the value is the old one
+abbrev pub SettlesUnless : {A E : Type 0} → E → A → A → Result (Unit {0}) E → Result A E → Type 0
+SettlesUnless error old new result right = Settles old new result right ⊎ ((result ≡ Err error) × (new ≡ old))
 
 -- ---- readings one after another
 

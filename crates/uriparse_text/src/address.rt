@@ -32,6 +32,9 @@ impl fmt::Display for IpAddr {
 
     ghost output = { λ a. Some (ip_text a) };
 
+    // No option of the formatter changes it.
+    ghost styled_output = { λ a _. Some (ip_text a) };
+
     fn fmt<W: fmt::Write>(&self, f: &mut fmt::Formatter<W>) -> fmt::Result {
         match self {
             IpAddr::V4(address) => fmt::Display::fmt(address, f),

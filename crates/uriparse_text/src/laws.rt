@@ -1,11 +1,12 @@
 //! Laws of the definitions that contracts cite. Each function has nothing to do: its contract is
 //! the law.
-ghost use Rattle.std.specs.Prelude.{◌≡◌, ◌↔◌, ◌∷◌, ◌++◌, ℕ, List, [], Some, None, true, false, flat_map};
+ghost use Rattle.std.specs.Prelude.{◌≡◌, ◌↔◌, ◌∷◌, ◌++◌, ℕ, List, [], Some, None, true, false, flat_map, codes};
 ghost use Rattle.std.specs.List.{list_all};
 ghost use Rattle.uriparse_text.specs.declared.parts.token.Token.{Token};
 ghost use Rattle.uriparse_text.specs.declared.parts.class.Class.{Class};
 ghost use Rattle.uriparse_text.specs.declared.parts.class.Class.TheVariants as class;
 ghost use Rattle.uriparse_text.specs.declared.parts.canonical.Case.{Case};
+ghost use Rattle.uriparse_text.specs.declared.parts.canonical.Case.TheVariants as case;
 ghost use Rattle.uriparse_text.specs.Bytes.{left_bracket, right_bracket};
 ghost use Rattle.uriparse_text.specs.Tokens.{is_well_formed, spell, IsConcatenation};
 ghost use Rattle.uriparse_text.specs.Faults.{fault, IsIn, IsOfClass, HasFaultAt};
@@ -59,10 +60,11 @@ pub fn spelled_bytes()
     ensures name { (text a : List ℕ) → SpellsIpv4 text a → IsIn class.Name text }
 {}
 
-/// The printed text of an address is one of its spellings, of an IPv6 address the one that RFC 5952
-/// recommends.
+/// The printed text of an address is one of its spellings, of an IPv4 address the only one, of an IPv6
+/// address the one that RFC 5952 recommends.
 pub fn printed_spells()
     ensures ipv4 { (a : List ℕ) → IsOctets a → SpellsIpv4 (ipv4_text a) a }
+    ensures ipv4_alone { (text a : List ℕ) → SpellsIpv4 text a → IsOctets a × (text ≡ ipv4_text a) }
     ensures ipv6 { (a : List ℕ) → IsSegments a → SpellsIpv6 (ipv6_text a) a }
     ensures form { (a : List ℕ) → IsPrintedIpv6 a (ipv6_text a) }
 {}
@@ -79,4 +81,36 @@ pub fn printed_is_canonical()
     ensures ipv4 { (case : Case) (a : List ℕ) → IsOctets a → spelling case (ipv4_text a) ≡ ipv4_text a }
     ensures ipv6 { (case : Case) (a : List ℕ) → IsSegments a → spelling case (ipv6_text a) ≡ ipv6_text a }
     ensures bracketed { (case : Case) (a : List ℕ) → IsSegments a → spelling case (left_bracket ∷ ipv6_text a ++ right_bracket ∷ []) ≡ left_bracket ∷ ipv6_text a ++ right_bracket ∷ [] }
+{}
+
+/// Texts of addresses, and what they are read as.
+#[tactic(auto, unfolding(crate::specs::Address::ipv4_reading, crate::specs::Address::ipv6_reading, std::specs::Net::Reader::read_ipv4, std::specs::Net::Reader::read_ipv6, std::specs::Net::Reader::read_octet, std::specs::Net::Reader::read_number, std::specs::Net::Reader::read_segment, std::specs::Net::Reader::read_segments))]
+pub fn examples_of_addresses()
+    ensures ipv4 { ipv4_reading (codes "1.2.3.255") ≡ Some (1 ∷ 2 ∷ 3 ∷ 255 ∷ []) }
+    ensures large_octet { ipv4_reading (codes "1.2.3.256") ≡ None }
+    ensures leading_zero { ipv4_reading (codes "01.2.3.4") ≡ None }
+    ensures three_octets { ipv4_reading (codes "1.2.3") ≡ None }
+    ensures ipv6 { ipv6_reading (codes "1::2:1.2.3.4") ≡ Some (1 ∷ 0 ∷ 0 ∷ 0 ∷ 0 ∷ 2 ∷ 258 ∷ 772 ∷ []) }
+    ensures no_group { ipv6_reading (codes "1:2:3:4:5:6:7::") ≡ Some (1 ∷ 2 ∷ 3 ∷ 4 ∷ 5 ∷ 6 ∷ 7 ∷ 0 ∷ []) }
+    ensures all_groups_left_out { ipv6_reading (codes "::") ≡ Some (0 ∷ 0 ∷ 0 ∷ 0 ∷ 0 ∷ 0 ∷ 0 ∷ 0 ∷ []) }
+    ensures two_gaps { ipv6_reading (codes "1::2::3") ≡ None }
+    ensures nine_groups { ipv6_reading (codes "1:2:3:4:5:6:7:8::") ≡ None }
+    ensures five_digits { ipv6_reading (codes "12345::") ≡ None }
+    ensures seven_groups { ipv6_reading (codes "1:2:3:4:5:6:7") ≡ None }
+    ensures dotted_in_front { ipv6_reading (codes "1.2.3.4::") ≡ None }
+    ensures dotted_leading_zero { ipv6_reading (codes "::01.2.3.4") ≡ None }
+    ensures one_colon_in_front { ipv6_reading (codes ":1::2") ≡ None }
+{}
+
+/// Texts, and their canonical spellings or faults.
+#[tactic(auto, unfolding(crate::specs::Canon::spelling, crate::specs::Tokens::tokens, crate::specs::Faults::fault, crate::specs::Classes::is_plain, crate::specs::Bytes::is_unreserved, crate::specs::Bytes::is_sub_delim))]
+pub fn examples_of_texts()
+    ensures kept { spelling case.Kept (codes "%4a%2fK%7e") ≡ codes "J%2FK~" }
+    ensures lowered { spelling case.Lowered (codes "%4a%2fK%7e") ≡ codes "j%2Fk~" }
+    ensures no_fault { fault class.Query (codes "azAZ09-._~!$&'()*+,;=:@/?%00") ≡ None }
+    ensures broken_escape { fault class.Query (codes "%41%4g ") ≡ Some 37 }
+    ensures hash { fault class.Query (codes "a#%") ≡ Some 35 }
+    ensures slash { fault class.Segment (codes "a/b") ≡ Some 47 }
+    ensures at_sign { fault class.UserInfo (codes "a:@") ≡ Some 64 }
+    ensures colon { fault class.Name (codes "a:") ≡ Some 58 }
 {}

@@ -3,11 +3,15 @@
 mod canonical;
 mod class;
 mod cut;
+mod print;
 mod text;
 mod token;
 
-pub use canonical::{Case, TextWalk, Walk, feed_walk, same_spelling, same_walks};
+pub use canonical::{
+    Case, TextWalk, Walk, canonical_bytes, feed_walk, is_canonical, same_spelling, same_walks,
+};
 pub use class::{Class, fault_of, is_unreserved};
 pub use cut::{behind_mark, split_at_mark};
+pub use print::write_short;
 pub use text::{Kind, Text};
 pub use token::{Token, is_escape, split_token};

@@ -2,6 +2,7 @@
 ghost use Rattle.std.specs.Prelude.{◌≡◌, Ok};
 ghost use Rattle.uriparse_authority.specs.Authority as spec;
 
+use super::username::empty_username;
 use super::{Authority, AuthorityError, Host, Ipv4Addr, Password, Username, with_empty};
 use std::mem;
 
@@ -70,7 +71,7 @@ impl<'a> Authority<'a> {
         ensures answer { result ≡ Ok tt }
         ensures value { (username : _) × F.post make self.old.username username × (self.new ≡ spec.with_username self.old username) }
     {
-        let old = mem::replace(&mut self.username, Some(Username::empty()));
+        let old = mem::replace(&mut self.username, Some(empty_username()));
         self.set_username(make(old))
     }
 

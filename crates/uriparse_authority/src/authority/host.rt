@@ -225,6 +225,9 @@ impl<'h> Hash for Host<'h> {
 impl<'h> fmt::Display for Host<'h> {
     ghost output = { λ h. Some (spec.text h) };
 
+    // No option of the formatter changes it.
+    ghost styled_output = { λ h _. Some (spec.text h) };
+
     fn fmt<W: fmt::Write>(&self, f: &mut fmt::Formatter<W>) -> fmt::Result {
         match self {
             Host::IPv4Address(address) => fmt::Display::fmt(address, f),
@@ -233,7 +236,7 @@ impl<'h> fmt::Display for Host<'h> {
                 fmt::Display::fmt(address, f)?;
                 f.write_str("]")
             }
-            Host::RegisteredName(name) => fmt::Display::fmt(name, f),
+            Host::RegisteredName(name) => f.write_str(name.as_str()),
         }
     }
 }

@@ -1,5 +1,5 @@
 //! A registered name: RFC 3986, section 3.2.2.
-ghost use Rattle.std.specs.Prelude.{◌≡◌, ◌↔◌, IsTrue, IfOk, Some, bytes_eq, string_bytes, true};
+ghost use Rattle.std.specs.Prelude.{◌≡◌, ◌↔◌, IsTrue, IsOk, IfOk, OnOk, OnErr, Some, bytes_eq, string_bytes, true};
 ghost use Rattle.std.proofs.Common.{rules};
 ghost use Rattle.std.specs.Ordering.{on};
 ghost use Rattle.std.specs.Cmp.Rules.{comparing, hashing};
@@ -28,6 +28,10 @@ impl Kind for NameKind {
     ghost case = { case.Lowered };
 
     ghost error_of = { spec.error_of };
+
+    fn name() -> &'static str {
+        "RegisteredName"
+    }
 
     fn class() -> Class {
         Class::Name
@@ -137,6 +141,24 @@ impl<'n> RegisteredName<'n> {
         self.text.to_string(alloc)
     }
 
+    /// Whether the name is its own canonical spelling, in which letters are lower case. Takes no memory.
+    pub fn is_normalized(&self) -> bool
+        ensures { IsTrue result ↔ (canon_low self.now ≡ self.now) }
+    {
+        self.text.is_normalized()
+    }
+
+    /// Puts the canonical spelling in the name's place; it is its own canonical spelling. It stays a
+    /// name, also where it spells an IPv4 address then. Memory is wanted only where they differ; where
+    /// there is none, the name is kept.
+    pub fn normalize(&mut self, alloc: Global) -> Result<(), AllocError>
+        ensures ok { OnOk result (self.new ≡ canon_low self.old) }
+        ensures err { OnErr result (self.new ≡ self.old) }
+        ensures takes_no_memory { canon_low self.old ≡ self.old → IsOk result }
+    {
+        self.text.normalize(alloc)
+    }
+
     /// Whether the bytes are tokens whose canonical spelling is this name's. Bytes with a broken
     /// escape are equal to no name.
     pub fn eq_bytes(&self, bytes: &[u8]) -> bool
@@ -179,6 +201,9 @@ impl<'n> Hash for RegisteredName<'n> {
 
 impl<'n> fmt::Display for RegisteredName<'n> {
     ghost output = { λ n. Some n };
+
+    // No option of the formatter changes it.
+    ghost styled_output = { λ n _. Some n };
 
     fn fmt<W: fmt::Write>(&self, f: &mut fmt::Formatter<W>) -> fmt::Result {
         fmt::Display::fmt(&self.text, f)

@@ -1,6 +1,6 @@
 //! The text of an authority: RFC 3986, sections 3.2 and 5.3.
 ghost use Rattle.std.specs.Option.{option_map};
-ghost use Rattle.std.specs.Fmt.{WritesOnOk};
+ghost use Rattle.std.specs.Fmt.{WritesOnOk, WritesStyledOnOk};
 ghost use Rattle.uriparse_text.specs.Bytes.{at_sign, colon};
 ghost use Rattle.uriparse_text.specs.Cuts.{ahead, behind};
 ghost use Rattle.uriparse_authority.specs.Authority.{user};
@@ -8,17 +8,19 @@ ghost use Rattle.uriparse_authority.specs.Port as ports;
 
 use super::{Password, Username};
 use std::fmt;
+use uriparse_text::parts::write_short;
 
 /// Writes a colon and the password behind it, if there is one.
 fn write_password<W: fmt::Write>(
     password: &Option<Password<'_>>,
     f: &mut fmt::Formatter<W>,
 ) -> fmt::Result
-    ensures { WritesOnOk W.write_str_gives f.old result (behind colon password.now) f.new }
+    ensures writes { WritesOnOk W.write_str_gives f.old result (behind colon password.now) f.new }
+    ensures styled { WritesStyledOnOk W.write_str_gives f.old result (behind colon password.now) f.new }
 {
     if let Some(password) = password {
         f.write_str(":")?;
-        fmt::Display::fmt(password, f)?;
+        f.write_str(password.as_str())?;
     }
     Ok(())
 }
@@ -29,10 +31,11 @@ pub(super) fn write_user<W: fmt::Write>(
     password: &Option<Password<'_>>,
     f: &mut fmt::Formatter<W>,
 ) -> fmt::Result
-    ensures { WritesOnOk W.write_str_gives f.old result (ahead at_sign (user username.now password.now)) f.new }
+    ensures writes { WritesOnOk W.write_str_gives f.old result (ahead at_sign (user username.now password.now)) f.new }
+    ensures styled { WritesStyledOnOk W.write_str_gives f.old result (ahead at_sign (user username.now password.now)) f.new }
 {
     if let Some(username) = username {
-        fmt::Display::fmt(username, f)?;
+        f.write_str(username.as_str())?;
         write_password(password, f)?;
         f.write_str("@")?;
     }
@@ -41,11 +44,12 @@ pub(super) fn write_user<W: fmt::Write>(
 
 /// Writes a colon and the port behind it, if there is one.
 pub(super) fn write_port<W: fmt::Write>(port: Option<u16>, f: &mut fmt::Formatter<W>) -> fmt::Result
-    ensures { WritesOnOk W.write_str_gives f.old result (behind colon (option_map ports.text port)) f.new }
+    ensures writes { WritesOnOk W.write_str_gives f.old result (behind colon (option_map ports.text port)) f.new }
+    ensures styled { WritesStyledOnOk W.write_str_gives f.old result (behind colon (option_map ports.text port)) f.new }
 {
     if let Some(port) = port {
         f.write_str(":")?;
-        fmt::Display::fmt(&port, f)?;
+        write_short(port, f)?;
     }
     Ok(())
 }

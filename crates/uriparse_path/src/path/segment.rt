@@ -1,12 +1,16 @@
 //! One segment of a path: RFC 3986, section 3.3.
-ghost use Rattle.std.specs.Prelude.{◌≡◌, ◌↔◌, IsTrue, IfOk, Some, bytes_eq, string_bytes, true};
+ghost use Rattle.std.specs.Prelude.{◌≡◌, ◌↔◌, ◌∷◌, [], IsTrue, IsOk, IfOk, OnOk, OnErr, Some, bytes_eq, string_bytes, true};
 ghost use Rattle.std.proofs.Common.{rules};
+ghost use Rattle.std.specs.List.{list_all};
 ghost use Rattle.std.specs.Ordering.{on};
 ghost use Rattle.std.specs.Cmp.Rules.{comparing, hashing};
 ghost use Rattle.uriparse_text.specs.declared.parts.class.Class.TheVariants as class;
 ghost use Rattle.uriparse_text.specs.declared.parts.canonical.Case.TheVariants as case;
+ghost use Rattle.uriparse_text.specs.Bytes.{dot};
 ghost use Rattle.uriparse_text.specs.Canon.{canon, canonical_tokens, fed_spelling, SpellsAlike};
 ghost use Rattle.uriparse_path.specs.Segment as spec;
+ghost use Rattle.uriparse_path.specs.Dots as dots;
+ghost use Rattle.uriparse_path.specs.Relative as relative;
 
 use super::error::PathError;
 use std::alloc::{AllocError, Global};
@@ -25,6 +29,12 @@ pub(super) fn fault_at(byte: u8) -> PathError
     }
 }
 
+/// Each of the segments is one, by its own invariant. Does nothing.
+#[inline]
+pub(super) fn each_is_segment(segments: &[Segment<'_>])
+    ensures { list_all spec.is_segment segments.now ≡ true }
+{}
+
 /// The kind of text that a segment is.
 struct SegmentKind;
 
@@ -36,6 +46,10 @@ impl Kind for SegmentKind {
     ghost case = { case.Kept };
 
     ghost error_of = { spec.error_of };
+
+    fn name() -> &'static str {
+        "Segment"
+    }
 
     fn class() -> Class {
         Class::Segment
@@ -103,6 +117,20 @@ impl<'s> Segment<'s> {
         }
     }
 
+    /// The empty segment.
+    pub fn empty() -> Segment<'static>
+        ensures { result ≡ [] }
+    {
+        Segment::of_checked(b"")
+    }
+
+    /// The segment `.`.
+    pub(super) fn single_dot() -> Segment<'static>
+        ensures { result ≡ dot ∷ [] }
+    {
+        Segment::of_checked(b".")
+    }
+
     /// The text.
     pub fn as_str(&self) -> &str
         ensures value { result.now ≡ self.now }
@@ -143,6 +171,76 @@ impl<'s> Segment<'s> {
         ensures { IfOk result (λ s. string_bytes s ≡ self.now) }
     {
         self.text.to_string(alloc)
+    }
+
+    /// Whether the segment may be one of dots: it begins with a dot or an escape.
+    fn may_be_dots(&self) -> bool
+        ensures { dots.is_dot_segment self.now ≡ true → IsTrue result }
+    {
+        match self.as_bytes().first() {
+            Some(&b) => b == b'.' || b == b'%',
+            None => false,
+        }
+    }
+
+    /// Whether the segment is `.`, where the dot may be escaped. Takes no memory.
+    pub fn is_single_dot_segment(&self) -> bool
+        ensures { result ≡ dots.is_single_dot self.now }
+    {
+        if !self.may_be_dots() {
+            return false;
+        }
+        self.eq_bytes(b".")
+    }
+
+    /// Whether the segment is `..`, where each dot may be escaped. Takes no memory.
+    pub fn is_double_dot_segment(&self) -> bool
+        ensures { result ≡ dots.is_double_dot self.now }
+    {
+        if !self.may_be_dots() {
+            return false;
+        }
+        self.eq_bytes(b"..")
+    }
+
+    /// Whether the segment is `.` or `..`, where each dot may be escaped.
+    pub fn is_dot_segment(&self) -> bool
+        ensures { result ≡ dots.is_dot_segment self.now }
+    {
+        self.is_single_dot_segment() || self.is_double_dot_segment()
+    }
+
+    /// Whether a colon stands in the segment.
+    pub(super) fn has_colon(&self) -> bool
+        ensures { result ≡ relative.has_colon self.now }
+    {
+        self.as_bytes().contains(&b':')
+    }
+
+    /// Whether the segment is its own canonical spelling.
+    pub fn is_normalized(&self) -> bool
+        ensures { IsTrue result ↔ (canon self.now ≡ self.now) }
+    {
+        self.text.is_normalized()
+    }
+
+    /// A segment that owns the canonical spelling of this one.
+    pub(super) fn to_normalized(&self, alloc: Global) -> Result<Segment<'static>, AllocError>
+        ensures { IfOk result (λ s. s ≡ canon self.now) }
+    {
+        Ok(Segment {
+            text: self.text.to_normalized(alloc)?,
+        })
+    }
+
+    /// Puts the canonical spelling in the segment's place. Takes memory only where they differ;
+    /// where there is none, the segment is kept.
+    pub fn normalize(&mut self, alloc: Global) -> Result<(), AllocError>
+        ensures ok { OnOk result (self.new ≡ canon self.old) }
+        ensures err { OnErr result (self.new ≡ self.old) }
+        ensures takes_no_memory { canon self.old ≡ self.old → IsOk result }
+    {
+        self.text.normalize(alloc)
     }
 
     /// The cursor at the start of the text.
@@ -194,6 +292,9 @@ impl<'s> Hash for Segment<'s> {
 
 impl<'s> fmt::Display for Segment<'s> {
     ghost output = { λ s. Some s };
+
+    // No option of the formatter changes it.
+    ghost styled_output = { λ s _. Some s };
 
     fn fmt<W: fmt::Write>(&self, f: &mut fmt::Formatter<W>) -> fmt::Result {
         fmt::Display::fmt(&self.text, f)

@@ -65,3 +65,11 @@ impl From<FragmentError> for URIReferenceError {
         URIReferenceError::Fragment(error)
     }
 }
+
+impl From<SchemeError> for URIReferenceError {
+    ghost from_gives = { λ x e. e ≡ errors.Scheme x };
+
+    fn from(error: SchemeError) -> URIReferenceError {
+        URIReferenceError::Scheme(error)
+    }
+}

@@ -1,7 +1,7 @@
 //! The text of a reference: RFC 3986, section 5.3.
 ghost use Rattle.std.specs.Prelude.{◌≡◌, length, slice_index};
 ghost use Rattle.std.specs.Option.{option_copied, option_map};
-ghost use Rattle.std.specs.Fmt.{WritesOnOk};
+ghost use Rattle.std.specs.Fmt.{WritesOnOk, WritesStyledOnOk};
 ghost use Rattle.uriparse_text.specs.Bytes.{colon};
 ghost use Rattle.uriparse_text.specs.Cuts.{ahead, behind};
 ghost use Rattle.uriparse_authority.specs.Authority as authorities;
@@ -17,10 +17,11 @@ pub(super) fn write_scheme<W: fmt::Write>(
     scheme: &Option<Scheme<'_>>,
     f: &mut fmt::Formatter<W>,
 ) -> fmt::Result
-    ensures { WritesOnOk W.write_str_gives f.old result (ahead colon (option_map schemes.text scheme.now)) f.new }
+    ensures writes { WritesOnOk W.write_str_gives f.old result (ahead colon (option_map schemes.text scheme.now)) f.new }
+    ensures styled { WritesStyledOnOk W.write_str_gives f.old result (ahead colon (option_map schemes.text scheme.now)) f.new }
 {
     if let Some(scheme) = scheme {
-        fmt::Display::fmt(scheme, f)?;
+        f.write_str(scheme.as_str())?;
         f.write_str(":")?;
     }
     Ok(())
@@ -31,7 +32,8 @@ pub(super) fn write_authority<W: fmt::Write>(
     authority: &Option<Authority<'_>>,
     f: &mut fmt::Formatter<W>,
 ) -> fmt::Result
-    ensures { WritesOnOk W.write_str_gives f.old result (behind_slashes (option_map authorities.print authority.now)) f.new }
+    ensures writes { WritesOnOk W.write_str_gives f.old result (behind_slashes (option_map authorities.print authority.now)) f.new }
+    ensures styled { WritesStyledOnOk W.write_str_gives f.old result (behind_slashes (option_map authorities.print authority.now)) f.new }
 {
     if let Some(authority) = authority {
         f.write_str("//")?;
@@ -47,7 +49,8 @@ pub(super) fn write_behind<W: fmt::Write>(
     f: &mut fmt::Formatter<W>,
 ) -> fmt::Result
     requires { length mark.now ≡ 1 }
-    ensures { WritesOnOk W.write_str_gives f.old result (behind (slice_index mark.now 0) (option_copied part.entry)) f.new }
+    ensures writes { WritesOnOk W.write_str_gives f.old result (behind (slice_index mark.now 0) (option_copied part.entry)) f.new }
+    ensures styled { WritesStyledOnOk W.write_str_gives f.old result (behind (slice_index mark.now 0) (option_copied part.entry)) f.new }
 {
     if let Some(text) = part {
         f.write_str(mark)?;

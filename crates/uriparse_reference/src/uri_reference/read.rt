@@ -1,17 +1,20 @@
 //! How the text of a reference is cut and its pieces are read: RFC 3986, sections 3 and 4.
-ghost use Rattle.std.specs.Prelude.{◌≡◌, ◌||◌, ◌&&◌, not, ℕ, Option, List, drop, is_some, true, false, MatchOption};
+ghost use Rattle.std.specs.Prelude.{◌≡◌, IsErr, position, ◌||◌, ◌&&◌, not, ℕ, Option, List, drop, is_some, true, false, MatchOption};
 ghost use Rattle.std.specs.Option.{option_copied, option_map};
 ghost use Rattle.uriparse_text.specs.Query as query;
 ghost use Rattle.uriparse_text.specs.Fragment as fragment;
-ghost use Rattle.uriparse_text.specs.Readings.{if_present, of_piece, IsUnless};
+ghost use Rattle.uriparse_text.specs.Readings.{if_present, of_piece, unless_fault, IsUnless};
 ghost use Rattle.uriparse_authority.specs.Authority as authority;
+ghost use Rattle.uriparse_authority.specs.Authority.{colon_part};
+ghost use Rattle.uriparse_text.specs.Cuts.{up_to, from_first};
+ghost use Rattle.uriparse_path.specs.Faults as paths;
 ghost use Rattle.uriparse_path.specs.Path.{has_two_slashes};
 ghost use Rattle.uriparse_scheme.specs.Scheme.{named};
-ghost use Rattle.uriparse_reference.specs.Cuts.{scheme_text, after_scheme, cut_authority, cut_left, authority_text, path_text, query_text, fragment_text};
+ghost use Rattle.uriparse_reference.specs.Cuts.{ends_scheme, scheme_text, after_scheme, cut_authority, cut_left, authority_text, path_text, query_text, fragment_text};
 ghost use Rattle.uriparse_path.specs.declared.path.error.PathError.TheVariants.{OutOfMemory};
 ghost use Rattle.uriparse_reference.specs.declared.uri_reference.error.URIReferenceError.TheVariants as errors;
 ghost use Rattle.uriparse_reference.specs.Reading.{path_reading};
-ghost use Rattle.uriparse_reference.specs.Reference.{is_noscheme, fits};
+ghost use Rattle.uriparse_reference.specs.Reference.{is_noscheme, path_refusal};
 
 use super::error::URIReferenceError;
 use std::alloc::Global;
@@ -24,13 +27,45 @@ use uriparse_text::fragment::Fragment;
 use uriparse_text::parts::{behind_mark, split_at_mark};
 use uriparse_text::query::Query;
 
+/// A `:` ends a scheme, and behind a `/`, `?` or `#` none ends.
+fn ends_scheme(b: u8) -> bool
+    ensures { result ≡ ends_scheme b }
+{
+    matches!(b, b':' | b'/' | b'?' | b'#')
+}
+
+/// Where the first byte stands that ends a scheme, or behind which none ends.
+fn end_of_scheme(text: &[u8]) -> Option<usize>
+    ensures { result ≡ position ends_scheme text.now }
+{
+    text.iter().position(|b| ends_scheme(*b))
+}
+
+/// The text before that byte, and the rest, which begins with it.
+fn split_front(text: &[u8]) -> (&[u8], &[u8])
+    ensures front { result.0.now ≡ up_to ends_scheme text.now }
+    ensures rest { result.1.now ≡ from_first ends_scheme text.now }
+{
+    text.split_at(end_of_scheme(text).unwrap_or(text.len()))
+}
+
+/// What stands behind the colon that a rest begins with, if it does.
+fn behind_colon(rest: &[u8]) -> Option<&[u8]>
+    ensures { option_copied result ≡ colon_part rest.now }
+{
+    match rest {
+        [b':', behind @ ..] => Some(behind),
+        _ => None,
+    }
+}
+
 /// The scheme that the text begins with, and what stands behind its colon; or none, and the text.
 fn split_scheme(text: &[u8]) -> (Option<Scheme<'_>>, &[u8])
     ensures scheme { result.0 ≡ option_map named (scheme_text text.now) }
     ensures rest { result.1.now ≡ after_scheme text.now }
 {
-    let (front, rest) = split_at_mark(text, b':');
-    let Some(behind) = behind_mark(rest) else {
+    let (front, rest) = split_front(text);
+    let Some(behind) = behind_colon(rest) else {
         return (None, text);
     };
     match Scheme::try_from_bytes(front) {
@@ -101,15 +136,19 @@ fn lacks_colon_segment(path: &[u8]) -> bool
     first.iter().all(|b| *b != b':')
 }
 
-/// Whether a path may stand with a scheme, or an authority, or without them.
-pub(super) fn path_fits(has_scheme: bool, has_authority: bool, path: &[u8]) -> bool
-    ensures { (s a : Option (List ℕ)) → is_some s ≡ has_scheme → is_some a ≡ has_authority → result ≡ fits s a path.now }
+/// Refuses a path that may not stand with a scheme or without one, and behind an authority or not.
+pub(super) fn check_path(
+    has_scheme: bool,
+    has_authority: bool,
+    path: &[u8],
+) -> Result<(), URIReferenceError>
+    ensures { result ≡ unless_fault (path_refusal has_scheme has_authority path.now) tt }
 {
     match path {
-        _ if has_authority => matches!(path, [] | [b'/', ..]),
-        [b'/', b'/', ..] => false,
-        [b'/', ..] => true,
-        _ => has_scheme || lacks_colon_segment(path),
+        _ if has_authority => Ok(()),
+        [b'/', b'/', ..] => Err(URIReferenceError::AbsolutePathStartsWithTwoSlashes),
+        _ if has_scheme || lacks_colon_segment(path) => Ok(()),
+        _ => Err(URIReferenceError::SchemelessPathStartsWithColonSegment),
     }
 }
 
@@ -131,7 +170,8 @@ pub(super) fn read_path(
     has_authority: bool,
     text: &[u8],
 ) -> Result<Path<'_>, URIReferenceError>
-    ensures { (a : Option (List ℕ)) → is_some a ≡ has_authority → IsUnless (errors.Path OutOfMemory) result (of_piece errors.Path (path_reading a text.now)) }
+    ensures answer { IsUnless (errors.Path OutOfMemory) result (of_piece errors.Path (path_reading has_authority text.now)) }
+    ensures fault { IsErr (paths.reading text.now) → result ≡ of_piece errors.Path (path_reading has_authority text.now) }
 {
     let path = Path::try_from_bytes(alloc, text)?;
     Ok(if has_authority {

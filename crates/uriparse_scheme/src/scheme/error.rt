@@ -2,7 +2,7 @@
 
 use thiserror::Error;
 
-/// Why a text is no scheme. The leftmost fault answers.
+/// Why a text is no scheme: RFC 3986, section 3.1. The leftmost fault answers.
 #[derive(Clone, Debug, Drop, PartialEq, Eq, Hash, Error)]
 pub enum SchemeError {
     /// There is nothing to read.
@@ -11,7 +11,7 @@ pub enum SchemeError {
     /// The first byte is no letter.
     #[error("scheme starts with non-alphabetic character")]
     StartsWithNonAlphabetic,
-    /// A later byte is no letter, no digit, and none of `+`, `-` and `.`.
+    /// A later byte is no letter, no digit, and none of `+`, `-` and `.`; a `:` too.
     #[error("invalid scheme character")]
     InvalidCharacter,
 }

@@ -1,30 +1,21 @@
 //! Looking a name up in the table, with no memory.
-ghost use Rattle.std.specs.Prelude.{◌≡◌, length, map};
+ghost use Rattle.std.specs.Prelude.{◌≡◌, slice_get};
+ghost use Rattle.std.specs.Option.{option_and_then};
 ghost use Rattle.std.specs.Cmp.Lexicographic.{slice_cmp};
 ghost use Rattle.std.specs.Ordering.{nat_cmp};
 ghost use Rattle.std.specs.Str.{str_to_ascii_lowercase};
-ghost use Rattle.std.specs.List.Sorted.{IsStrictlySortedBy};
+ghost use Rattle.uriparse_scheme.specs.SchemeTable.{variants};
 ghost use Rattle.uriparse_scheme.specs.Registered as spec;
 
-use super::status::SchemeStatus;
-use super::table::{NAMES, STATUSES};
+use super::registered::RegisteredScheme;
+use super::table::SCHEMES;
 use std::cmp::Ordering;
 
-/// The names of the registered schemes, in the order of their bytes, each once.
-pub(super) fn all_names() -> &'static [&'static str]
-    ensures names { map (λ n. n.now) result.now ≡ spec.names }
-    ensures sorted { IsStrictlySortedBy (slice_cmp nat_cmp) spec.names }
-    ensures length { length result.now ≡ 304 }
+/// The registered schemes, in the order of their names.
+fn all_schemes() -> &'static [RegisteredScheme]
+    ensures { result.now ≡ variants }
 {
-    &NAMES
-}
-
-/// The statuses of the registered schemes, in the same order.
-pub(super) fn all_statuses() -> &'static [SchemeStatus]
-    ensures statuses { result.now ≡ spec.statuses }
-    ensures length { length result.now ≡ 304 }
-{
-    &STATUSES
+    &SCHEMES
 }
 
 /// How the name compares with the text in lower case.
@@ -51,15 +42,22 @@ fn compare_lowered(name: &[u8], text: &[u8]) -> Ordering
     }
 }
 
-/// The row of the scheme with this name, in any case.
-pub(super) fn find_row(text: &[u8]) -> Option<usize>
-    ensures { result ≡ spec.row_named (str_to_ascii_lowercase text.now) }
+/// Where the registered scheme with this name stands, in any case.
+fn row_named(text: &[u8]) -> Option<usize>
+    ensures { option_and_then (slice_get variants) result ≡ spec.registered_named (str_to_ascii_lowercase text.now) }
 {
-    all_names()
+    all_schemes()
         .binary_search_by(
-            |name| -> Ordering
-                ensures { result ≡ slice_cmp nat_cmp name.now.now (str_to_ascii_lowercase text.entry.now) }
-            { compare_lowered(name.as_bytes(), text) },
+            |scheme| -> Ordering
+                ensures { result ≡ slice_cmp nat_cmp (spec.name_of scheme.now) (str_to_ascii_lowercase text.entry.now) }
+            { compare_lowered(scheme.name().as_bytes(), text) },
         )
         .ok()
+}
+
+/// The registered scheme with this name, in any case.
+pub(super) fn registered_named(text: &[u8]) -> Option<RegisteredScheme>
+    ensures { result ≡ spec.registered_named (str_to_ascii_lowercase text.now) }
+{
+    all_schemes().get(row_named(text)?).copied()
 }

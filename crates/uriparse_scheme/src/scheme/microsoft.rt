@@ -3,7 +3,7 @@
 /// A registered scheme whose name begins with `ms-`.
 ///
 /// It stands in [`RegisteredScheme`](super::RegisteredScheme), since one enum has room for 256
-/// variants only.
+/// variants only. It is copied freely and takes no memory.
 #[derive(Clone, Copy)]
 pub enum MicrosoftScheme {
     /// `ms-access`

@@ -2,9 +2,10 @@
 
 use super::microsoft::MicrosoftScheme;
 
-/// A registered scheme: a row of the table of names and statuses.
+/// A registered scheme: RFC 3986, section 3.1, and the registry that it speaks of.
 ///
-/// [`Scheme`](super::Scheme) has a constant for each of them. Two are equal where they are one row.
+/// It is copied freely and takes no memory. [`Scheme`](super::Scheme) has a constant for each of
+/// them. Two are equal where they have one name.
 #[derive(Clone, Copy)]
 pub enum RegisteredScheme {
     /// `aaa`

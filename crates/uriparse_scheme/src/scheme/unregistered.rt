@@ -1,5 +1,5 @@
 //! A scheme that the table doesn't have: RFC 3986, section 3.1.
-ghost use Rattle.std.specs.Prelude.{◌≡◌, ◌↔◌, IsTrue, IfOk, Some, true, bytes_eq, string_bytes};
+ghost use Rattle.std.specs.Prelude.{◌≡◌, ◌↔◌, IsTrue, IfOk, OnOk, OnErr, IsOk, Some, true, bytes_eq, string_bytes};
 ghost use Rattle.std.proofs.Common.{rules};
 ghost use Rattle.std.specs.Ordering.{on};
 ghost use Rattle.std.specs.Str.{str_to_ascii_lowercase};
@@ -9,7 +9,7 @@ ghost use Rattle.uriparse_scheme.specs.Grammar as grammar;
 ghost use Rattle.uriparse_scheme.specs.Unregistered.{reading};
 
 use super::error::UnregisteredSchemeError;
-use super::lookup::is_registered;
+use super::find::registered_named;
 use super::read::is_scheme;
 use super::spelling::{feed_lowered, same_lowered};
 use std::alloc::{AllocError, Global};
@@ -17,12 +17,14 @@ use std::borrow::CowStr;
 use std::hash::{Hash, Hasher};
 use std::marker::Model;
 use std::{fmt, str};
+use uriparse_text::parts::{Case, canonical_bytes, is_canonical};
 
 /// A scheme that isn't registered: a letter, and then letters, digits, `+`, `-` and `.`, which in
-/// no case is the name of a registered scheme.
+/// no case is the name of a registered scheme. RFC 3986, section 3.1.
 ///
-/// It borrows the text that it was read from, or owns its text, and keeps its spelling. Two of them
-/// are equal where they differ at most in the case of letters.
+/// It borrows the text that it was read from, or owns its text, and keeps its spelling until it is
+/// normalized. Two of them are equal where they differ at most in the case of letters, and equal
+/// ones feed a hasher the same bytes: section 6.2.2.1.
 #[derive(Drop)]
 pub struct UnregisteredScheme<'s> {
     text: CowStr<'s>,
@@ -41,20 +43,21 @@ impl<'s> Model for UnregisteredScheme<'s> {
 }
 
 impl<'s> UnregisteredScheme<'s> {
-    /// Reads an unregistered scheme. It borrows the bytes, and takes no memory. All that is no
-    /// scheme is refused, and the name of each registered scheme in any case.
+    /// Reads an unregistered scheme, which borrows the bytes. Takes no memory.
+    ///
+    /// All that is no scheme is refused, and the name of each registered scheme in any case.
     pub fn try_from_bytes(
         bytes: &'s [u8],
     ) -> Result<UnregisteredScheme<'s>, UnregisteredSchemeError>
         ensures { result ≡ reading bytes.now }
     {
-        if !is_scheme(bytes) || is_registered(bytes) {
+        if !is_scheme(bytes) || registered_named(bytes).is_some() {
             return Err(UnregisteredSchemeError);
         }
         Ok(UnregisteredScheme::of_checked(bytes))
     }
 
-    /// Reads an unregistered scheme. It borrows the text, and takes no memory.
+    /// The same from a text.
     pub fn try_from_str(text: &'s str) -> Result<UnregisteredScheme<'s>, UnregisteredSchemeError>
         ensures { result ≡ reading text.now }
     {
@@ -71,7 +74,7 @@ impl<'s> UnregisteredScheme<'s> {
         }
     }
 
-    /// The text.
+    /// The text, as it was spelled. Takes no memory.
     pub fn as_str(&self) -> &str
         ensures value { result.now ≡ self.now }
         ensures valid { grammar.IsUnregistered self.now }
@@ -80,7 +83,7 @@ impl<'s> UnregisteredScheme<'s> {
         self.text.as_str()
     }
 
-    /// The text as bytes.
+    /// The text as bytes. Takes no memory.
     pub fn as_bytes(&self) -> &[u8]
         ensures value { result.now ≡ self.now }
         ensures valid { grammar.IsUnregistered self.now }
@@ -89,7 +92,7 @@ impl<'s> UnregisteredScheme<'s> {
         self.as_str().as_bytes()
     }
 
-    /// The same scheme, which borrows this one's text.
+    /// The same scheme, which borrows this one's text. Takes no memory.
     pub fn as_borrowed(&self) -> UnregisteredScheme<'_>
         ensures { result ≡ self.now }
     {
@@ -115,7 +118,40 @@ impl<'s> UnregisteredScheme<'s> {
         String::from_str(alloc, self.as_str())
     }
 
-    /// Whether the bytes are this scheme in any case. Escapes are not read.
+    /// Whether the text is its canonical spelling, which is the text in lower case: RFC 3986, section
+    /// 6.2.2.1. Takes no memory.
+    pub fn is_normalized(&self) -> bool
+        ensures { IsTrue result ↔ (canon_low self.now ≡ self.now) }
+    {
+        is_canonical(Case::Lowered, self.as_bytes())
+    }
+
+    /// Puts the text in lower case: RFC 3986, section 6.2.2.1. Wants memory only where that changes
+    /// it; where there is none, the scheme is unchanged. A second call changes nothing.
+    pub fn normalize(&mut self, alloc: Global) -> Result<(), AllocError>
+        ensures ok { OnOk result (self.new ≡ canon_low self.old) }
+        ensures err { OnErr result (self.new ≡ self.old) }
+        ensures takes_no_memory { canon_low self.old ≡ self.old → IsOk result }
+    {
+        if self.is_normalized() {
+            return Ok(());
+        }
+        *self = self.to_normalized(alloc)?;
+        Ok(())
+    }
+
+    /// A scheme that owns the canonical spelling of this one.
+    fn to_normalized(&self, alloc: Global) -> Result<UnregisteredScheme<'static>, AllocError>
+        ensures { IfOk result (λ s. s ≡ canon_low self.now) }
+    {
+        let bytes = canonical_bytes(alloc, Case::Lowered, self.as_bytes())?;
+        Ok(UnregisteredScheme {
+            text: CowStr::Owned(unsafe { String::from_utf8_unchecked(bytes) }),
+        })
+    }
+
+    /// Whether the bytes are this scheme in any case. Escapes are not read: a scheme has none. Takes
+    /// no memory.
     pub fn eq_bytes(&self, bytes: &[u8]) -> bool
         ensures { IsTrue result ↔ (str_to_ascii_lowercase bytes.now ≡ str_to_ascii_lowercase self.now) }
     {
@@ -156,6 +192,9 @@ impl<'s> Hash for UnregisteredScheme<'s> {
 
 impl<'s> fmt::Display for UnregisteredScheme<'s> {
     ghost output = { λ s. Some s };
+
+    // No option of the formatter changes it.
+    ghost styled_output = { λ s _. Some s };
 
     fn fmt<W: fmt::Write>(&self, f: &mut fmt::Formatter<W>) -> fmt::Result {
         f.write_str(self.as_str())

@@ -2,6 +2,7 @@
 ghost use Rattle.std.specs.Prelude.{◌≡◌, ℕ, List, [], ◌∷◌, Some, IfSome};
 ghost use Rattle.uriparse_text.specs.Address.{IsOctets, SpellsIpv4, ipv4_text, ipv4_reading};
 
+use crate::parts::write_short;
 use std::marker::Model;
 use std::{fmt, net};
 
@@ -67,7 +68,10 @@ impl Ipv4Addr {
 impl fmt::Display for Ipv4Addr {
     ghost output = { λ a. Some (ipv4_text a) };
 
+    // No option of the formatter changes it.
+    ghost styled_output = { λ a _. Some (ipv4_text a) };
+
     fn fmt<W: fmt::Write>(&self, f: &mut fmt::Formatter<W>) -> fmt::Result {
-        fmt::Display::fmt(&net::Ipv4Addr::from_octets(self.octets), f)
+        write_short(net::Ipv4Addr::from_octets(self.octets), f)
     }
 }

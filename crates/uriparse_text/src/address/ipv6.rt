@@ -2,6 +2,7 @@
 ghost use Rattle.std.specs.Prelude.{◌≡◌, ℕ, List, [], ◌∷◌, Some, IfSome};
 ghost use Rattle.uriparse_text.specs.Address.{IsSegments, SpellsIpv6, ipv6_text, ipv6_reading};
 
+use crate::parts::write_short;
 use std::marker::Model;
 use std::{fmt, net};
 
@@ -75,7 +76,10 @@ impl Ipv6Addr {
 impl fmt::Display for Ipv6Addr {
     ghost output = { λ a. Some (ipv6_text a) };
 
+    // No option of the formatter changes it.
+    ghost styled_output = { λ a _. Some (ipv6_text a) };
+
     fn fmt<W: fmt::Write>(&self, f: &mut fmt::Formatter<W>) -> fmt::Result {
-        fmt::Display::fmt(&net::Ipv6Addr::from_segments(self.segments), f)
+        write_short(net::Ipv6Addr::from_segments(self.segments), f)
     }
 }

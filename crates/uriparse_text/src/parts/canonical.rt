@@ -1,5 +1,5 @@
 //! Canonical spelling, token by token and with no memory: RFC 3986, sections 6.2.2.1 and 6.2.2.2.
-ghost use Rattle.std.specs.Prelude.{◌≡◌, ◌∷◌, ◌<◌, ◌↔◌, [], List, IsTrue, MatchOption, true, fold, flat_map};
+ghost use Rattle.std.specs.Prelude.{◌≡◌, ◌∷◌, ◌++◌, ◌<◌, ◌↔◌, [], List, IsTrue, IfOk, OnOk, MatchOption, true, fold, flat_map, position};
 ghost use Rattle.std.specs.Char.{digit_value};
 ghost use Rattle.std.specs.Hash as fed;
 ghost use Rattle.uriparse_text.specs.Bytes.{is_hex};
@@ -8,6 +8,7 @@ ghost use Rattle.uriparse_text.specs.Canon as spec;
 
 use super::class::is_unreserved;
 use super::token::{Token, split_token};
+use std::alloc::{AllocError, Global};
 use std::hash::Hasher;
 use std::marker::Model;
 
@@ -164,4 +165,59 @@ pub fn feed_walk<T: Walk + Drop, H: Hasher>(walk: T, state: &mut H)
         feed_token(token, state);
     }
     state.write_u8(0xff);
+}
+
+/// Whether the text is its own canonical spelling. It is walked to the first token that isn't.
+pub fn is_canonical(case: Case, text: &[u8]) -> bool
+    ensures { IsTrue result ↔ (spec.spelling case text.now ≡ text.now) }
+{
+    let mut rest = text;
+    'tokens: while let Some((token, after)) = split_token(rest) {
+        if token.canonical(case) != token {
+            return false;
+        }
+        rest = after;
+    }
+    true
+}
+
+/// The place of the first byte that may not stay as it is in a canonical spelling.
+fn first_change(case: Case, text: &[u8]) -> Option<usize>
+    ensures { result ≡ position (spec.may_change case) text.now }
+{
+    text.iter().position(|b| *b == b'%' || case.of(*b) != *b)
+}
+
+/// The longest run in front whose bytes stay as they are in the canonical spelling, and the rest.
+fn split_run(case: Case, text: &[u8]) -> (&[u8], &[u8])
+    ensures whole { text.now ≡ result.0.now ++ result.1.now }
+    ensures spelled { spec.spelling case text.now ≡ result.0.now ++ spec.spelling case result.1.now }
+{
+    let place = first_change(case, text).unwrap_or(text.len());
+    text.split_at(place)
+}
+
+fn push_token(bytes: &mut Vec<u8>, token: Token) -> Result<(), AllocError>
+    ensures { OnOk result (bytes.new.items ≡ bytes.old.items ++ spell token) }
+{
+    match token {
+        Token::Byte(b) => bytes.extend_from_slice(&[b]),
+        Token::Escape(high, low) => bytes.extend_from_slice(&[b'%', high, low]),
+    }
+}
+
+/// The canonical spelling of a text, whose room is asked for once. Runs that stay as they are, are
+/// copied whole.
+pub fn canonical_bytes(alloc: Global, case: Case, text: &[u8]) -> Result<Vec<u8>, AllocError>
+    ensures { IfOk result (λ v. v.items ≡ spec.spelling case text.now) }
+{
+    let mut bytes = Vec::with_capacity(alloc, text.len())?;
+    let mut rest = text;
+    'tokens: while let Some((token, after)) = split_token(rest) {
+        push_token(&mut bytes, token.canonical(case))?;
+        let (run, later) = split_run(case, after);
+        bytes.extend_from_slice(run)?;
+        rest = later;
+    }
+    Ok(bytes)
 }

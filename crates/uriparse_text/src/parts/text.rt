@@ -1,5 +1,5 @@
 //! A text whose tokens are in one class: what user names, segments, queries and the like share.
-ghost use Rattle.std.specs.Prelude.{◌≡◌, ◌↔◌, ℕ, List, IsTrue, IfOk, IsOk, Some, true, bytes_eq, string_bytes, flat_map};
+ghost use Rattle.std.specs.Prelude.{◌≡◌, ◌↔◌, ℕ, List, IsTrue, IfOk, OnOk, OnErr, IsOk, Some, true, bytes_eq, string_bytes, flat_map};
 ghost use Rattle.std.proofs.Common.{rules};
 ghost use Rattle.std.specs.Ordering.{on};
 ghost use Rattle.std.specs.Cmp.Rules.{comparing, hashing};
@@ -10,7 +10,7 @@ ghost use Rattle.uriparse_text.specs.Faults.{IsIn};
 ghost use Rattle.uriparse_text.specs.Canon.{canonical_tokens, spelling, fed_spelling, SpellsAlike};
 ghost use Rattle.uriparse_text.specs.Readings.{reading_in};
 
-use super::canonical::{Case, TextWalk, feed_walk, same_spelling};
+use super::canonical::{Case, TextWalk, canonical_bytes, feed_walk, is_canonical, same_spelling};
 use super::class::{Class, fault_of};
 use std::alloc::{AllocError, Global};
 use std::borrow::CowStr;
@@ -18,7 +18,8 @@ use std::hash::{Hash, Hasher};
 use std::marker::{Model, PhantomData};
 use std::{fmt, str};
 
-/// A kind of text: its class, what its canonical spelling does to letters, and its refusals.
+/// A kind of text: its name, its class, what its canonical spelling does to letters, and its
+/// refusals.
 pub trait Kind {
     type Error;
 
@@ -28,6 +29,9 @@ pub trait Kind {
 
     // The refusal of a text whose leftmost fault stands at this byte.
     ghost error_of: { ℕ → Self.Error };
+
+    /// What `Debug` calls a text of this kind.
+    fn name() -> &'static str;
 
     fn class() -> Class
         ensures { result ≡ class };
@@ -47,7 +51,13 @@ fn text_in(class: Class, bytes: &[u8]) -> &str
     unsafe { str::from_utf8_unchecked(bytes) }
 }
 
-/// A text of one kind, seen as its bytes. It borrows them, or owns them.
+/// A text of one kind, whose tokens are all of the kind's class: what a query, a fragment, a user
+/// name, a password, a segment and a registered name are. RFC 3986, section 2.
+///
+/// It borrows the bytes that it was read from, which can't end before it, or owns its text. It is
+/// seen as its bytes. Two texts of a kind are equal where their canonical spellings are, in which an
+/// escaped unreserved byte stands for itself and other escapes have upper-case digits (sections
+/// 6.2.2.1 and 6.2.2.2); equal texts feed a Hasher the same bytes.
 #[derive(Drop)]
 pub struct Text<'t, K: Kind> {
     text: CowStr<'t>,
@@ -78,7 +88,10 @@ impl<'t, K: Kind> Text<'t, K> {
         }
     }
 
-    /// Reads a text of this kind, which borrows the bytes. One walk over them.
+    /// Reads a text of this kind, which borrows the bytes. Takes no memory, and walks them once.
+    ///
+    /// The leftmost fault is refused, as the kind's error names it: a `%` without two hexadecimal
+    /// digits behind it, or a byte that the class hasn't.
     pub fn try_from_bytes(bytes: &'t [u8]) -> Result<Text<'t, K>, K::Error>
         ensures { result ≡ reading_in K.class K.error_of bytes.now }
     {
@@ -86,6 +99,13 @@ impl<'t, K: Kind> Text<'t, K> {
             Some(byte) => Err(K::error_of(byte)),
             None => Ok(Text::of_checked(bytes)),
         }
+    }
+
+    /// The same for a text.
+    pub fn try_from_str(text: &'t str) -> Result<Text<'t, K>, K::Error>
+        ensures { result ≡ reading_in K.class K.error_of text.now }
+    {
+        Text::try_from_bytes(text.as_bytes())
     }
 
     /// The text.
@@ -115,7 +135,8 @@ impl<'t, K: Kind> Text<'t, K> {
         }
     }
 
-    /// The same text, which owns its bytes.
+    /// The same text, which owns its bytes. Borrowed bytes are copied, which wants memory; where there
+    /// is none, the text is gone.
     pub fn into_owned(self, alloc: Global) -> Result<Text<'static, K>, AllocError>
         ensures { IfOk result (λ t. t ≡ self.entry) }
     {
@@ -125,11 +146,43 @@ impl<'t, K: Kind> Text<'t, K> {
         })
     }
 
-    /// A copy of the text.
+    /// A copy of the text. Wants memory.
     pub fn to_string(&self, alloc: Global) -> Result<String, AllocError>
         ensures { IfOk result (λ s. string_bytes s ≡ self.now) }
     {
         String::from_str(alloc, self.as_str())
+    }
+
+    /// Whether the text is its own canonical spelling. Takes no memory.
+    pub fn is_normalized(&self) -> bool
+        ensures { IsTrue result ↔ (spelling K.case self.now ≡ self.now) }
+    {
+        is_canonical(K::case(), self.as_bytes())
+    }
+
+    /// A text that owns the canonical spelling of this one. Wants memory.
+    pub fn to_normalized(&self, alloc: Global) -> Result<Text<'static, K>, AllocError>
+        ensures { IfOk result (λ t. t ≡ spelling K.case self.now) }
+    {
+        let bytes = canonical_bytes(alloc, K::case(), self.as_bytes())?;
+        Ok(Text {
+            text: CowStr::Owned(unsafe { String::from_utf8_unchecked(bytes) }),
+            kind: PhantomData,
+        })
+    }
+
+    /// Puts the canonical spelling in the text's place; it is its own canonical spelling. Memory is
+    /// wanted only where they differ, room for the text once; where there is none, the text is kept.
+    pub fn normalize(&mut self, alloc: Global) -> Result<(), AllocError>
+        ensures ok { OnOk result (self.new ≡ spelling K.case self.old) }
+        ensures err { OnErr result (self.new ≡ self.old) }
+        ensures takes_no_memory { spelling K.case self.old ≡ self.old → IsOk result }
+    {
+        if self.is_normalized() {
+            return Ok(());
+        }
+        *self = self.to_normalized(alloc)?;
+        Ok(())
     }
 
     /// The cursor at the start of the text.
@@ -140,11 +193,19 @@ impl<'t, K: Kind> Text<'t, K> {
         TextWalk::new(K::case(), self.as_bytes())
     }
 
-    /// Whether the bytes are tokens whose canonical spelling is this text's.
+    /// Whether the bytes are tokens whose canonical spelling is this text's. Bytes with a broken escape
+    /// are equal to no text. Takes no memory.
     pub fn eq_bytes(&self, bytes: &[u8]) -> bool
         ensures { IsTrue result ↔ SpellsAlike K.case bytes.now self.now }
     {
         same_spelling(K::case(), bytes, self.as_bytes())
+    }
+
+    /// The same for a text.
+    pub fn eq_str(&self, text: &str) -> bool
+        ensures { IsTrue result ↔ SpellsAlike K.case text.now self.now }
+    {
+        self.eq_bytes(text.as_bytes())
     }
 }
 
@@ -175,7 +236,16 @@ impl<'t, K: Kind> Hash for Text<'t, K> {
 impl<'t, K: Kind> fmt::Display for Text<'t, K> {
     ghost output = { λ t. Some t };
 
+    // No option of the formatter changes it.
+    ghost styled_output = { λ t _. Some t };
+
     fn fmt<W: fmt::Write>(&self, f: &mut fmt::Formatter<W>) -> fmt::Result {
         f.write_str(self.as_str())
+    }
+}
+
+impl<'t, K: Kind> fmt::Debug for Text<'t, K> {
+    fn fmt<W: fmt::Write>(&self, f: &mut fmt::Formatter<W>) -> fmt::Result {
+        f.debug_tuple(K::name()).field(&self.as_str()).finish()
     }
 }

@@ -1,7 +1,8 @@
 use Rattle.uriparse_authority.proofs.HostLemmas.{brackets_exactly}
 use Rattle.uriparse_authority.proofs.PortLemmas.{other_exactly, passes_exactly}
 use Rattle.uriparse_authority.proofs.AuthorityLemmas.{rest_answers}
+use Rattle.uriparse_authority.proofs.PieceLemmas.{front_answers}
 use Rattle.uriparse_authority.proofs.laws.first_fault.Goals as goal
 
 pub returns : goal.returns
-returns c = record { brackets = brackets_exactly; other = other_exactly; passes = passes_exactly; rest = rest_answers }
+returns c = record { brackets = brackets_exactly; other = other_exactly; passes = passes_exactly; front = front_answers; rest = rest_answers }

@@ -1,7 +1,17 @@
-use Rattle.uriparse_authority.proofs.HostLemmas.{host_back}
+use Rattle.uriparse_authority.proofs.HostLemmas.{host_back, spelled_back}
 use Rattle.uriparse_authority.proofs.PortLemmas.{port_printed}
-use Rattle.uriparse_authority.proofs.AuthorityLemmas.{back, alike}
+use Rattle.uriparse_authority.proofs.AuthorityLemmas.{back}
+use Rattle.uriparse_authority.proofs.PrintedLemmas.{spelled_reads_back, plain_back, hosts_apart, printed_apart}
 use Rattle.uriparse_authority.proofs.laws.reading_back.Goals as goal
 
 pub returns : goal.returns
-returns c = record { host = host_back; port = port_printed; back = back; alike = alike }
+returns c = record {
+  host_spelled = spelled_back;
+  host = host_back;
+  port = port_printed;
+  spelled = spelled_reads_back;
+  back = back;
+  plain = plain_back;
+  hosts = hosts_apart;
+  one = printed_apart;
+}

@@ -1,4 +1,5 @@
-use Rattle.uriparse_reference.proofs.ReferenceLemmas.{one_reading, again, found, none_exactly, valid}
+use Rattle.uriparse_reference.proofs.ReferenceLemmas.{one_reading, again, found, none_exactly}
+use Rattle.uriparse_reference.proofs.ValidLemmas.{valid}
 use Rattle.uriparse_reference.proofs.laws.one_reading.Goals as goal
 
 pub returns : goal.returns

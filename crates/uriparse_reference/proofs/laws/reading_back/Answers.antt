@@ -1,6 +1,6 @@
-use Rattle.uriparse_reference.proofs.ReferenceLemmas.{back_same}
-use Rattle.uriparse_reference.proofs.SameLemmas.{alike}
+use Rattle.uriparse_reference.proofs.ValidLemmas.{back}
+use Rattle.uriparse_reference.proofs.PrintedLemmas.{spelled_reads_back, plain_back, printed_apart}
 use Rattle.uriparse_reference.proofs.laws.reading_back.Goals as goal
 
 pub returns : goal.returns
-returns c = record { back = back_same; alike = alike }
+returns c = record { spelled = spelled_reads_back; back = back; plain = plain_back; one = printed_apart }

@@ -1,5 +1,5 @@
-use Rattle.uriparse_scheme.proofs.Sorted.{names_sorted}
-use Rattle.uriparse_scheme.proofs.TableLemmas.{lowered_names, own_row, own_variant, same_name, name_is_scheme, named_iff}
+use Rattle.uriparse_scheme.proofs.Sorted.{names_sorted, lowered_names}
+use Rattle.uriparse_scheme.proofs.TableLemmas.{listed, listed_once, same_name, name_is_scheme, named_iff}
 use Rattle.uriparse_scheme.proofs.laws.table_is_one_to_one.Goals as goal
 
 pub returns-clause-sorted : goal.returns-clause-sorted
@@ -8,11 +8,11 @@ returns-clause-sorted c = names_sorted
 pub returns-clause-lowered : goal.returns-clause-lowered
 returns-clause-lowered c = lowered_names
 
-pub returns-clause-own_row : goal.returns-clause-own_row
-returns-clause-own_row c = own_row
+pub returns-clause-listed : goal.returns-clause-listed
+returns-clause-listed c = listed
 
-pub returns-clause-own_variant : goal.returns-clause-own_variant
-returns-clause-own_variant c = own_variant
+pub returns-clause-once : goal.returns-clause-once
+returns-clause-once c = listed_once
 
 pub returns-clause-distinct : goal.returns-clause-distinct
 returns-clause-distinct c = same_name

@@ -19,7 +19,8 @@ split_segments-requires c =
 pub invariant_of-result : goal.invariant_of-result
 invariant_of-result c =
     let counted : answer MAX_SEGMENTS (unrooted c.args.bytes.now) ≡ Ok c.in_ok-count.count = search rules in
-    rw (c.in_ok-segments.ensures, c.split_root-absolute.ensures.rest) (listed c.args.bytes.now c.in_ok-count.count counted)
+    let is = listed c.args.bytes.now c.in_ok-count.count counted in
+    rw (c.in_ok-segments.ensures, c.split_root-absolute.ensures.rest) (record { some = is.some; short = is.short })
 
 pub returns-clause-answer : goal.returns-clause-answer
 returns-clause-answer c =

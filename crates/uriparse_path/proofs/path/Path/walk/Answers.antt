@@ -13,5 +13,4 @@ returns-clause-bytes c =
     ap (flat_map spell) tokens ∙ spell-canonical Kept (text c.args.self.now)
 
 pub returns-clause-formed : goal.returns-clause-formed
-returns-clause-formed c =
-    ap (λ p. is_well_formed (text p)) (sym c.self.view_is) ∙ well_formed-text c.self.inside.absolute c.self.inside.segments.items c.self.invariant
+returns-clause-formed c = well_formed-text c.args.self.now.absolute c.args.self.now.segments c.segments.ensures.listed

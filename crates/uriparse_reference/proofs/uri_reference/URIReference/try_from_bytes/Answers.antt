@@ -3,5 +3,5 @@ use Rattle.uriparse_reference.proofs.uri_reference.URIReference.try_from_bytes.G
 
 pub returns : goal.returns
 returns c =
-    let all = found_only c.args.bytes.now c.read.result c.read.ensures in
-    record { found = all.0; only = all.1; fault = all.2 }
+    let all = found_only c.args.bytes.now c.read.result c.read.ensures.answer in
+    record { found = all.0; only = all.1; fault = all.2; early = c.read.ensures.early }

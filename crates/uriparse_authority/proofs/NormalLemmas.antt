@@ -1,0 +1,119 @@
+-- Hosts and authorities in canonical spelling.
+use Rattle.std.proofs.Common.{◌≡◌, ℕ, List, Option, Some, None, refl, sym, ap, ◌∙◌}
+use Rattle.std.specs.Prelude.{IfSome}
+use Rattle.std.specs.Option.{option_map}
+use Rattle.uriparse_text.specs.declared.parts.class.Class.{Class}
+use Rattle.uriparse_text.specs.declared.parts.class.Class.TheVariants.{Name, UserInfo}
+use Rattle.uriparse_text.specs.declared.parts.canonical.Case.TheVariants.{Kept, Lowered}
+use Rattle.uriparse_text.specs.Faults.{IsIn}
+use Rattle.uriparse_text.specs.Canon.{canon}
+use Rattle.uriparse_text.proofs.CanonLemmas.{spelling-spelling}
+use Rattle.uriparse_text.proofs.ClassLemmas.{well_formed-in_class, IsIn-spelling}
+use Rattle.uriparse_authority.specs.Authority.{AuthorityParts, IsPaired, Valid, joined, print, canonical_text, kind, username_text, password_text, host_text, port_text}
+use Rattle.uriparse_authority.specs.Host as host
+use Rattle.uriparse_authority.specs.Port as port
+use Rattle.uriparse_authority.specs.Normal.{canonical_host, canonical_authority}
+use Rattle.uriparse_authority.proofs.AuthorityLemmas.{print_cut, one_port}
+use Rattle.uriparse_authority.proofs.HostLemmas.{bracketed-injective}
+use Rattle.uriparse_text.proofs.AddressLemmas.{ipv4_text-injective, ipv6_text-injective}
+use Rattle.uriparse_text.specs.Address.{ipv6_text}
+use Rattle.uriparse_authority.specs.declared.authority.host.Host.{Host}
+use Rattle.uriparse_authority.specs.declared.authority.host.Host.TheVariants.{IPv4Address, IPv6Address, RegisteredName}
+
+-- ---- texts that may be absent
+
+pub text_valid : (class : Class) (o : Option (List ℕ)) → IfSome o (λ t. IsIn class t) → IfSome (option_map canon o) (λ t. IsIn class t)
+text_valid class None h = tt
+text_valid class (Some t) h = IsIn-spelling class Kept t h
+
+pub text_twice : (class : Class) (o : Option (List ℕ)) → IfSome o (λ t. IsIn class t) → option_map canon (option_map canon o) ≡ option_map canon o
+text_twice class None h = refl
+text_twice class (Some t) h = ap Some (spelling-spelling Kept t (well_formed-in_class class t h))
+
+-- ---- hosts
+
+pub host_text-canonical : (h : Host) → host.text (canonical_host h) ≡ host.canonical_text h
+host_text-canonical (IPv4Address a) = refl
+host_text-canonical (IPv6Address a) = refl
+host_text-canonical (RegisteredName n) = refl
+
+pub host_kind-canonical : (h : Host) → host.kind (canonical_host h) ≡ host.kind h
+host_kind-canonical (IPv4Address a) = refl
+host_kind-canonical (IPv6Address a) = refl
+host_kind-canonical (RegisteredName n) = refl
+
+pub host_valid_canonical : (h : Host) → host.Valid h → host.Valid (canonical_host h)
+host_valid_canonical (IPv4Address a) v = v
+host_valid_canonical (IPv6Address a) v = v
+host_valid_canonical (RegisteredName n) v = IsIn-spelling Name Lowered n v
+
+pub host_twice : (h : Host) → host.Valid h → canonical_host (canonical_host h) ≡ canonical_host h
+host_twice (IPv4Address a) v = refl
+host_twice (IPv6Address a) v = refl
+host_twice (RegisteredName n) v = ap RegisteredName (spelling-spelling Lowered n (well_formed-in_class Name n v))
+
+-- ---- authorities
+
+paired : (u w : Option (List ℕ)) → IsPaired u w → IsPaired (option_map canon u) (option_map canon w)
+paired u None h = tt
+paired (Some u) (Some w) h = refl
+paired None (Some w) h = h
+
+pub print-canonical : (a : AuthorityParts) → print (canonical_authority a) ≡ canonical_text a
+print-canonical a = ap (λ g. joined (option_map canon a.username) (option_map canon a.password) g (option_map port.text a.port)) (host_text-canonical a.host)
+
+pub kind-canonical : (a : AuthorityParts) → kind (canonical_authority a) ≡ kind a
+kind-canonical a = host_kind-canonical a.host
+
+pub valid_canonical : (a : AuthorityParts) → Valid a → Valid (canonical_authority a)
+valid_canonical a v = record { is_username = text_valid Name a.username v.is_username; is_password = text_valid UserInfo a.password v.is_password; paired = paired a.username a.password v.paired; is_host = host_valid_canonical a.host v.is_host; is_port = v.is_port }
+
+pub canonical_twice : (a : AuthorityParts) → Valid a → canonical_authority (canonical_authority a) ≡ canonical_authority a
+canonical_twice a v =
+    ap (λ u. record { username = u; password = option_map canon (option_map canon a.password); host = canonical_host (canonical_host a.host); port = a.port }) (text_twice Name a.username v.is_username)
+    ∙ ap (λ w. record { username = option_map canon a.username; password = w; host = canonical_host (canonical_host a.host); port = a.port }) (text_twice UserInfo a.password v.is_password)
+    ∙ ap (λ h. record { username = option_map canon a.username; password = option_map canon a.password; host = h; port = a.port }) (host_twice a.host v.is_host)
+
+host_kept : (h : Host) → host.text (canonical_host h) ≡ host.text h → canonical_host h ≡ h
+host_kept (IPv4Address a) e = refl
+host_kept (IPv6Address a) e = refl
+host_kept (RegisteredName n) e = ap RegisteredName e
+
+-- an authority that prints as its normal form is that form
+pub canonical_kept : (a : AuthorityParts) → Valid a → print (canonical_authority a) ≡ print a → canonical_authority a ≡ a
+canonical_kept a v e =
+    let x = print_cut (canonical_authority a) (valid_canonical a v) in
+    let y = print_cut a v in
+    let u : option_map canon a.username ≡ a.username = sym x.username ∙ ap username_text e ∙ y.username in
+    let w : option_map canon a.password ≡ a.password = sym x.password ∙ ap password_text e ∙ y.password in
+    let h : canonical_host a.host ≡ a.host = host_kept a.host (sym x.host ∙ ap host_text e ∙ y.host) in
+    ap (λ t. record { username = t; password = option_map canon a.password; host = canonical_host a.host; port = a.port }) u
+    ∙ ap (λ t. record { username = a.username; password = t; host = canonical_host a.host; port = a.port }) w
+    ∙ ap (λ t. record { username = a.username; password = a.password; host = t; port = a.port }) h
+
+-- ---- valid hosts, and authorities, that print alike
+
+pub host_same : (g h : Host) → host.Valid g → host.Valid h → host.text g ≡ host.text h → host.kind g ≡ host.kind h → g ≡ h
+host_same (IPv4Address a) (IPv4Address b) v w e k = ap IPv4Address (ipv4_text-injective a b v w e)
+host_same (IPv6Address a) (IPv6Address b) v w e k = ap IPv6Address (ipv6_text-injective a b v w (bracketed-injective (ipv6_text a) (ipv6_text b) e))
+host_same (RegisteredName m) (RegisteredName n) v w e k = ap RegisteredName e
+host_same (IPv4Address a) (IPv6Address b) v w e k = absurd (cc)
+host_same (IPv4Address a) (RegisteredName n) v w e k = absurd (cc)
+host_same (IPv6Address a) (IPv4Address b) v w e k = absurd (cc)
+host_same (IPv6Address a) (RegisteredName n) v w e k = absurd (cc)
+host_same (RegisteredName m) (IPv4Address b) v w e k = absurd (cc)
+host_same (RegisteredName m) (IPv6Address b) v w e k = absurd (cc)
+
+pub one_printed : (p q : AuthorityParts) → Valid p → Valid q → print p ≡ print q → kind p ≡ kind q → p ≡ q
+one_printed p q v w e k =
+    let x = print_cut p v in
+    let y = print_cut q w in
+    let g : host.text p.host ≡ host.text q.host = sym x.host ∙ ap host_text e ∙ y.host in
+    let n : option_map port.text p.port ≡ option_map port.text q.port = sym x.port ∙ ap port_text e ∙ y.port in
+    ap (λ t. build t p.password p.host p.port) (sym x.username ∙ ap username_text e ∙ y.username)
+    ∙ ap (λ t. build q.username t p.host p.port) (sym x.password ∙ ap password_text e ∙ y.password)
+    ∙ ap (λ t. build q.username q.password t p.port) (host_same p.host q.host v.is_host w.is_host g k)
+    ∙ ap (λ t. build q.username q.password q.host t) (one_port p.port q.port v.is_port w.is_port n)
+  where
+    build : Option (List ℕ) → Option (List ℕ) → Host → Option ℕ → AuthorityParts
+    build u w h n = record { username = u; password = w; host = h; port = n }

@@ -1,0 +1,16 @@
+-- Normal forms of hosts and authorities: RFC 3986, sections 3.2 and 6.2.2.
+use Rattle.std.specs.Option.{option_map}
+use Rattle.uriparse_text.specs.Canon.{canon, canon_low}
+use Rattle.uriparse_authority.specs.Authority.{AuthorityParts}
+use Rattle.uriparse_authority.specs.declared.authority.host.Host.{Host}
+use Rattle.uriparse_authority.specs.declared.authority.host.Host.TheVariants.{IPv4Address, IPv6Address, RegisteredName}
+
+-- the same host in canonical spelling; a name stays one, even where its text becomes that of an address
+abbrev pub canonical_host : Host → Host
+canonical_host (IPv4Address a) = IPv4Address a
+canonical_host (IPv6Address a) = IPv6Address a
+canonical_host (RegisteredName n) = RegisteredName (canon_low n)
+
+-- the same authority, each part in canonical spelling
+abbrev pub canonical_authority : AuthorityParts → AuthorityParts
+canonical_authority p = record { username = option_map canon p.username; password = option_map canon p.password; host = canonical_host p.host; port = p.port }

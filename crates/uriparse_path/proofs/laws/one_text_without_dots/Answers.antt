@@ -1,0 +1,7 @@
+use Rattle.uriparse_path.proofs.StepLemmas.{one_step}
+use Rattle.uriparse_path.proofs.ReplayLemmas.{undots_iff, once_rooted}
+use Rattle.uriparse_path.proofs.NormalLemmas.{undot_path, undot_kept}
+use Rattle.uriparse_path.proofs.laws.one_text_without_dots.Goals as goal
+
+pub returns : goal.returns
+returns c = record { step = one_step; text = undots_iff; path = undot_path; kept = undot_kept; root = once_rooted }

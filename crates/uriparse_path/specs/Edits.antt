@@ -1,0 +1,33 @@
+-- What the edits of a path make of it.
+use Rattle.std.specs.Prelude.{ℕ, nat_lt, if◌then◌else◌, List, [], ◌∷◌, ◌++◌, length, Result, Ok, Err}
+use Rattle.uriparse_text.specs.Readings.{◌>>=◌}
+use Rattle.uriparse_text.specs.Bytes.{dot}
+use Rattle.uriparse_path.specs.declared.path.error.PathError.{PathError}
+use Rattle.uriparse_path.specs.declared.path.error.PathError.TheVariants.{ExceededMaximumLength}
+use Rattle.uriparse_path.specs.Path.{PathParts, max_segments}
+use Rattle.uriparse_path.specs.Dots.{all_but_last}
+use Rattle.uriparse_path.specs.Relative.{filled}
+
+-- the segment put at the end; one that isn't empty takes the place of the only segment, where that is empty
+abbrev pub with_last : List (List ℕ) → List ℕ → List (List ℕ)
+with_last ([] ∷ []) (b ∷ s) = (b ∷ s) ∷ []
+with_last ss s = ss ++ s ∷ []
+
+abbrev pub pushed : PathParts → List ℕ → PathParts
+pushed p s = record p { segments = with_last p.segments s }
+
+-- the path with what was read put at its end, or why it isn't: it has as many segments as it may have, or what was to be read is no segment
+abbrev pub pushing : PathParts → Result (List ℕ) PathError → Result PathParts PathError
+pushing p read = if nat_lt (length p.segments) max_segments then read >>= (λ s. Ok (pushed p s)) else Err ExceededMaximumLength
+
+-- the last segment taken away; the only one leaves an empty one
+abbrev pub popped : PathParts → PathParts
+popped p = record p { segments = filled (all_but_last p.segments) }
+
+-- one empty segment in the place of all
+abbrev pub cleared : PathParts → PathParts
+cleared p = record p { segments = [] ∷ [] }
+
+-- a "." in front of the segments
+abbrev pub dotted : PathParts → PathParts
+dotted p = record p { segments = (dot ∷ []) ∷ p.segments }

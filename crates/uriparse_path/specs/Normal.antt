@@ -1,0 +1,43 @@
+-- Normal forms of paths: RFC 3986, section 6.2.2.
+use Rattle.std.specs.Prelude.{ℕ, Bool, true, false, ◌&&◌, ◌||◌, not, if◌then◌else◌, List, [], ◌∷◌, map, bytes_eq}
+use Rattle.std.specs.List.{list_all}
+use Rattle.uriparse_text.specs.Canon.{canon}
+use Rattle.uriparse_path.specs.Path.{PathParts, text, is_rooted, spelled}
+use Rattle.uriparse_path.specs.Dots.{is_single_dot, is_double_dot, has_dot_segment, undot}
+use Rattle.uriparse_path.specs.Relative.{needs_guard, relative_normal}
+
+-- the same path with each segment in canonical spelling
+abbrev pub canonical_path : PathParts → PathParts
+canonical_path p = record { absolute = p.absolute; segments = map canon p.segments }
+
+-- the path is normalised as one that a base comes before
+abbrev pub stays_relative : PathParts → Bool → Bool
+stays_relative p as_reference = as_reference && not (is_rooted (text p))
+
+-- The normal form of a path, which may be that of a reference without a scheme. Else its dot segments are removed; a path that has none keeps its list.
+abbrev pub pnormal : PathParts → Bool → PathParts
+pnormal p as_reference =
+    if stays_relative p as_reference then record { absolute = false; segments = relative_normal p.segments }
+    else if has_dot_segment p.segments then spelled (canon (undot (text p)))
+    else canonical_path p
+
+-- ---- which paths are left as they are
+
+abbrev pub is_canonical : List ℕ → Bool
+is_canonical s = bytes_eq (canon s) s
+
+-- ".." first, as often as it may be, and then no dot segment
+abbrev pub climbs_first : List (List ℕ) → Bool
+climbs_first [] = true
+climbs_first (s ∷ ss) = if is_double_dot s then climbs_first ss else not (has_dot_segment (s ∷ ss))
+
+-- a "." stands in front, and is needed there
+abbrev pub is_guarded : List (List ℕ) → Bool
+is_guarded [] = false
+is_guarded (s ∷ ss) = is_single_dot s && climbs_first ss && needs_guard (s ∷ ss) ss
+
+-- the normal form of the path has its text
+abbrev pub is_normal : PathParts → Bool → Bool
+is_normal p as_reference =
+    list_all is_canonical p.segments
+    && (if stays_relative p as_reference then climbs_first p.segments || is_guarded p.segments else not (has_dot_segment p.segments))

@@ -1,0 +1,57 @@
+//! Copies of a path, whose lists want memory.
+ghost use Rattle.std.specs.Prelude.{◌≡◌, IfOk};
+
+use super::{Path, Segment};
+use std::alloc::{AllocError, Global};
+
+/// The same segments, which borrow the texts of these.
+fn borrowed_segments<'s>(
+    alloc: Global,
+    segments: &'s [Segment<'_>],
+) -> Result<Vec<Segment<'s>>, AllocError>
+    ensures { IfOk result (λ v. v.items ≡ segments.now) }
+{
+    let mut borrowed = Vec::with_capacity(alloc, segments.len())?;
+    for segment in segments {
+        borrowed.push(segment.as_borrowed())?;
+    }
+    Ok(borrowed)
+}
+
+/// The same segments, which own their texts.
+fn owned_segments(
+    alloc: Global,
+    segments: Vec<Segment<'_>>,
+) -> Result<Vec<Segment<'static>>, AllocError>
+    ensures { IfOk result (λ v. v.items ≡ segments.entry.items) }
+{
+    let mut owned = Vec::with_capacity(alloc, segments.len())?;
+    for segment in segments {
+        owned.push(segment.into_owned(alloc)?)?;
+    }
+    Ok(owned)
+}
+
+impl<'p> Path<'p> {
+    /// The same path, whose segments borrow the texts of this one's. Memory is wanted once, for the
+    /// list.
+    pub fn to_borrowed(&self, alloc: Global) -> Result<Path<'_>, AllocError>
+        ensures { IfOk result (λ p. p ≡ self.now) }
+    {
+        Ok(Path {
+            absolute: self.absolute,
+            segments: borrowed_segments(alloc, &self.segments)?,
+        })
+    }
+
+    /// The same path, whose segments own their texts. Memory is wanted for the list and for each
+    /// borrowed text; where there is none, the path is gone.
+    pub fn into_owned(self, alloc: Global) -> Result<Path<'static>, AllocError>
+        ensures { IfOk result (λ p. p ≡ self.entry) }
+    {
+        Ok(Path {
+            absolute: self.absolute,
+            segments: owned_segments(alloc, self.segments)?,
+        })
+    }
+}

@@ -1,0 +1,129 @@
+//! What changes a path, segment by segment: RFC 3986, section 3.3.
+ghost use Rattle.std.specs.Prelude.{◌≡◌, ◌<◌, ◌∷◌, ◌++◌, [], IfErr, OnOk, OnErr, MatchResult, if◌then◌else◌, length, vec_len};
+ghost use Rattle.std.specs.Borrow.{sem};
+ghost use Rattle.uriparse_text.specs.Readings.{SettlesUnless};
+ghost use Rattle.uriparse_path.specs.declared.path.error.PathError.TheVariants as errors;
+ghost use Rattle.uriparse_path.specs.Segment as segment;
+ghost use Rattle.uriparse_path.specs.Path.{max_segments};
+ghost use Rattle.uriparse_path.specs.Edits as spec;
+ghost use Rattle.uriparse_path.specs.Dots.{all_but_last};
+ghost use Rattle.uriparse_path.specs.Relative.{filled};
+
+use super::{MAX_SEGMENTS, Path, PathError, PathOf, Segment};
+use std::alloc::{AllocError, Global};
+
+/// Whether the segment takes the place of the only one, as that is empty and it isn't.
+fn takes_the_place(segments: &[Segment<'_>], segment: &Segment<'_>) -> bool
+    ensures { spec.with_last segments.now segment.now ≡ (if result then segment.now ∷ [] else segments.now ++ segment.now ∷ []) }
+{
+    match segments {
+        [only] => only.as_bytes().is_empty() && !segment.as_bytes().is_empty(),
+        _ => false,
+    }
+}
+
+/// Puts the segment at the end of the list, or in the place of the only, empty one.
+fn put_last<'p>(segments: &mut Vec<Segment<'p>>, segment: Segment<'p>) -> Result<(), PathError>
+    requires { 0 < vec_len segments.old }
+    ensures { MatchResult result (λ _. segments.new.items ≡ spec.with_last segments.old.items segment.entry) (λ e. (e ≡ errors.OutOfMemory) × (segments.new.items ≡ segments.old.items)) }
+{
+    if takes_the_place(segments, &segment) {
+        segments[0] = segment;
+        return Ok(());
+    }
+    segments.push(segment)?;
+    Ok(())
+}
+
+/// Takes the last segment away; the only one leaves an empty one.
+fn take_last(segments: &mut Vec<Segment<'_>>)
+    requires { 0 < vec_len segments.old }
+    ensures { segments.new.items ≡ filled (all_but_last segments.old.items) }
+{
+    if segments.len() == 1 {
+        segments[0] = Segment::empty();
+        return;
+    }
+    let _ = segments.pop();
+}
+
+impl<'p> Path<'p> {
+    /// Puts the segment at the end. One that isn't empty takes the place of the only segment, where
+    /// that is empty: so `a` pushed on the empty path makes `a`, and not `/a`.
+    ///
+    /// [`ExceededMaximumLength`](PathError::ExceededMaximumLength) is answered where the path has
+    /// [`MAX_SEGMENTS`] already, and else [`OutOfMemory`](PathError::OutOfMemory) where the list can't
+    /// grow; it grows by doubling. After a refusal the path is as it was.
+    pub fn push(&mut self, _alloc: Global, segment: Segment<'p>) -> Result<(), PathError>
+        ensures answer { SettlesUnless errors.OutOfMemory self.old self.new result (spec.pushing self.old (Ok segment.entry)) }
+        ensures fault { IfErr (spec.pushing self.old (Ok segment.entry)) (λ e. result ≡ Err e) }
+    {
+        if self.segments.len() >= MAX_SEGMENTS {
+            return Err(PathError::ExceededMaximumLength);
+        }
+        put_last(&mut self.segments, segment)
+    }
+
+    /// Reads a segment, which borrows the bytes, and puts it at the end as [`push`](Path::push) does.
+    ///
+    /// [`ExceededMaximumLength`](PathError::ExceededMaximumLength) is answered where the path has
+    /// [`MAX_SEGMENTS`] already; else the leftmost fault of the bytes, as by
+    /// [`Segment::try_from_bytes`], to which a slash is one; else
+    /// [`OutOfMemory`](PathError::OutOfMemory). After a refusal the path is as it was.
+    pub fn push_bytes(&mut self, alloc: Global, bytes: &'p [u8]) -> Result<(), PathError>
+        ensures answer { SettlesUnless errors.OutOfMemory self.old self.new result (spec.pushing self.old (segment.reading bytes.now)) }
+        ensures fault { IfErr (spec.pushing self.old (segment.reading bytes.now)) (λ e. result ≡ Err e) }
+    {
+        if self.segments.len() >= MAX_SEGMENTS {
+            return Err(PathError::ExceededMaximumLength);
+        }
+        self.push(alloc, Segment::try_from_bytes(bytes)?)
+    }
+
+    /// Puts a segment `.` in front.
+    pub(crate) fn put_dot(&mut self) -> Result<(), AllocError>
+        requires { length self.old.segments < max_segments }
+        ensures ok { OnOk result (self.new ≡ spec.dotted self.old) }
+        ensures err { OnErr result (self.new ≡ self.old) }
+    {
+        self.segments.insert(0, Segment::single_dot())?;
+        Ok(())
+    }
+
+    /// Takes the last segment away; the only one leaves an empty one. The path stays absolute or
+    /// relative. Takes no memory.
+    pub fn pop(&mut self)
+        ensures { self.new ≡ spec.popped self.old }
+    {
+        take_last(&mut self.segments);
+    }
+
+    /// Takes all segments away and leaves an empty one. The path stays absolute or relative. Takes no
+    /// memory.
+    pub fn clear(&mut self)
+        ensures { self.new ≡ spec.cleared self.old }
+    {
+        self.segments.truncate(1);
+        self.segments[0] = Segment::empty();
+    }
+
+    /// Makes the path absolute or relative, with the segments as they are. Takes no memory.
+    pub fn set_absolute(&mut self, absolute: bool)
+        ensures { self.new ≡ record self.old { absolute = absolute } }
+    {
+        self.absolute = absolute;
+    }
+}
+
+impl<S> PathOf<S> {
+    ghost use Rattle.uriparse_path.specs.Lends.{lends_segments};
+
+    /// The segments in order, for writing: what is written are the new segments, and nothing else
+    /// changes. Their number stays. Takes no memory.
+    pub fn segments_mut(&mut self) -> &mut [S]
+        ensures* lends { sem 𝓛 (lends_segments S.row self.entry result) }
+        ensures value { result.now ≡ self.old.segments }
+    {
+        self.segments.as_mut_slice()
+    }
+}

@@ -1,0 +1,149 @@
+-- What an edit makes is valid.
+use Rattle.std.proofs.Common.{◌≡◌, ℕ, ◌+◌, suc, arith, Bool, true, false, cond, List, [], ◌∷◌, length, Option, Some, None, refl, sym, ap, ◌∙◌, subst, ◌||◌}
+use Rattle.std.specs.Prelude.{IfSome, is_some, Result, Ok, Err}
+use Rattle.uriparse_text.specs.Readings.{unless_fault}
+use Rattle.uriparse_text.specs.Query.{IsQuery}
+use Rattle.uriparse_text.specs.Fragment.{IsFragment}
+use Rattle.uriparse_path.specs.Path as path
+use Rattle.uriparse_path.specs.Path.{PathParts, IsListed, has_two_slashes}
+use Rattle.uriparse_path.proofs.TextLemmas.{spelled-text, listed-respelled}
+use Rattle.uriparse_authority.specs.Authority as authority
+use Rattle.uriparse_authority.specs.Authority.{AuthorityParts}
+use Rattle.uriparse_scheme.specs.declared.scheme.Scheme.{Scheme}
+use Rattle.uriparse_scheme.specs.Scheme as scheme
+use Rattle.uriparse_reference.specs.declared.uri_reference.error.URIReferenceError.{URIReferenceError}
+use Rattle.uriparse_reference.specs.declared.uri_reference.error.URIReferenceError.TheVariants as errors
+use Rattle.uriparse_reference.specs.Reference.{Parts, Valid, path_refusal, is_noscheme}
+use Rattle.uriparse_reference.specs.declared.uri_reference.edit.Edit.{Edit}
+use Rattle.uriparse_reference.specs.declared.uri_reference.edit.Edit.TheVariants as edits
+use Rattle.uriparse_reference.specs.Edits.{placed, refusal, of_parts, edited, replaced, Run, ends, stops, goes}
+use Rattle.uriparse_reference.proofs.ValidLemmas.{HasPlace, placed_text, same_path}
+use Rattle.uriparse_reference.proofs.ReferenceLemmas.{accepted}
+
+-- a placed path obeys the rules of a valid reference's path
+pub has_place : (v w : Bool) (h : PathParts) → IsListed h.segments → path_refusal v w (path.text h) ≡ None → HasPlace v w (placed w h)
+has_place v true h i k = record { is_path = i; absolute = λ _. refl; plain = refl; fit = refl }
+has_place v false h i k = placed_text v false (path.text h) (subst (λ q. IsListed q.segments) (sym (spelled-text h i)) (listed-respelled h i)) k
+
+pub if_there : {A : Type 0} {Q : Type 0} (a : Option A) → (is_some a ≡ true → Q) → IfSome a (λ _. Q)
+if_there None h = tt
+if_there (Some a) h = h refl
+
+-- parts that aren't refused make a valid reference
+pub valid_parts : (p : Parts) → IfSome p.scheme scheme.Valid → IfSome p.authority authority.Valid → IsListed p.path.segments → IfSome p.query IsQuery → IfSome p.fragment IsFragment → refusal p ≡ None → Valid (record p { path = placed (is_some p.authority) p.path })
+valid_parts p s a i q f k =
+    let z = has_place (is_some p.scheme) (is_some p.authority) p.path i k in
+    record { is_scheme = s; is_authority = a; is_path = z.is_path; absolute = if_there p.authority z.absolute; plain = z.plain; fit = z.fit; is_query = q; is_fragment = f }
+
+-- a path that may stand anywhere may stand behind a scheme
+with_scheme : (v w : Bool) (h : List ℕ) → path_refusal v w h ≡ None → path_refusal true w h ≡ None
+with_scheme v true h k = refl
+with_scheme v false h k = by_slashes (has_two_slashes h) k
+  where
+    by_slashes : (b : Bool) → cond b (Some errors.AbsolutePathStartsWithTwoSlashes) (cond (v || is_noscheme h) None (Some errors.SchemelessPathStartsWithColonSegment)) ≡ None → cond b (Some errors.AbsolutePathStartsWithTwoSlashes) None ≡ None
+    by_slashes true k = cc
+    by_slashes false k = refl
+
+pub valid_scheme : (p : Parts) (s : Scheme) → Valid p → scheme.Valid s → Valid (record p { scheme = Some s })
+valid_scheme p s v i = record { is_scheme = i; is_authority = v.is_authority; is_path = v.is_path; absolute = v.absolute; plain = v.plain; fit = with_scheme (is_some p.scheme) (is_some p.authority) (path.text p.path) v.fit; is_query = v.is_query; is_fragment = v.is_fragment }
+
+pub valid_no_scheme : (p : Parts) → Valid p → path_refusal false (is_some p.authority) (path.text p.path) ≡ None → Valid (record p { scheme = None })
+valid_no_scheme p v k = record { is_scheme = tt; is_authority = v.is_authority; is_path = v.is_path; absolute = v.absolute; plain = v.plain; fit = k; is_query = v.is_query; is_fragment = v.is_fragment }
+
+pub valid_authority : (p : Parts) (a : AuthorityParts) → Valid p → authority.Valid a → Valid (record p { authority = Some a; path = path.made_absolute p.path })
+valid_authority p a v i = record { is_scheme = v.is_scheme; is_authority = i; is_path = v.is_path; absolute = refl; plain = refl; fit = refl; is_query = v.is_query; is_fragment = v.is_fragment }
+
+pub valid_no_authority : (p : Parts) → Valid p → path_refusal (is_some p.scheme) false (path.text p.path) ≡ None → Valid (record p { authority = None })
+valid_no_authority p v k = record { is_scheme = v.is_scheme; is_authority = tt; is_path = v.is_path; absolute = tt; plain = v.plain; fit = k; is_query = v.is_query; is_fragment = v.is_fragment }
+
+pub valid_path : (p : Parts) (h : PathParts) → Valid p → IsListed h.segments → path_refusal (is_some p.scheme) (is_some p.authority) (path.text h) ≡ None → Valid (record p { path = placed (is_some p.authority) h })
+valid_path p h v i k = valid_parts (record p { path = h }) v.is_scheme v.is_authority i v.is_query v.is_fragment k
+
+pub valid_query : (p : Parts) (q : Option (List ℕ)) → Valid p → IfSome q IsQuery → Valid (record p { query = q })
+valid_query p q v i = record { is_scheme = v.is_scheme; is_authority = v.is_authority; is_path = v.is_path; absolute = v.absolute; plain = v.plain; fit = v.fit; is_query = i; is_fragment = v.is_fragment }
+
+pub valid_fragment : (p : Parts) (f : Option (List ℕ)) → Valid p → IfSome f IsFragment → Valid (record p { fragment = f })
+valid_fragment p f v i = record { is_scheme = v.is_scheme; is_authority = v.is_authority; is_path = v.is_path; absolute = v.absolute; plain = v.plain; fit = v.fit; is_query = v.is_query; is_fragment = i }
+
+-- ---- edits are replaced parts
+
+abbrev pub build : Option Scheme → Option AuthorityParts → PathParts → Option (List ℕ) → Option (List ℕ) → Parts
+build s a h q f = record { scheme = s; authority = a; path = h; query = q; fragment = f }
+
+-- a valid reference's path is in its place
+placed_same : (p : Parts) → Valid p → placed (is_some p.authority) p.path ≡ p.path
+placed_same p v = by_authority p.authority v.absolute
+  where
+    make : Bool → PathParts
+    make b = record { absolute = b; segments = p.path.segments }
+
+    by_authority : (a : Option AuthorityParts) → IfSome a (λ _. p.path.absolute ≡ true) → placed (is_some a) p.path ≡ p.path
+    by_authority None h = same_path p.path v.is_path v.plain
+    by_authority (Some a) h = sym (ap make h)
+
+accepts : (p q r : Parts) (o : Option URIReferenceError) → o ≡ None → q ≡ r → unless_fault o q ≡ Ok r
+accepts p q r o e f = ap (λ x. unless_fault x q) e ∙ ap Ok f
+
+-- a valid reference's own parts make it
+pub own_parts : (p : Parts) → Valid p → of_parts p ≡ Ok p
+own_parts p v = accepts p (record p { path = placed (is_some p.authority) p.path }) p (refusal p) v.fit (ap (λ h. build p.scheme p.authority h p.query p.fragment) (placed_same p v))
+
+-- an edit makes of a valid reference what its parts make, with one of them replaced
+pub edited_parts : (p : Parts) (e : Edit) → Valid p → edited p e ≡ of_parts (replaced p e)
+edited_parts p (edits.Scheme (Some s)) v =
+    sym (accepts p (build (Some s) p.authority (placed (is_some p.authority) p.path) p.query p.fragment) (build (Some s) p.authority p.path p.query p.fragment)
+    (path_refusal true (is_some p.authority) (path.text p.path)) (with_scheme (is_some p.scheme) (is_some p.authority) (path.text p.path) v.fit)
+    (ap (λ h. build (Some s) p.authority h p.query p.fragment) (placed_same p v)))
+edited_parts p (edits.Scheme None) v =
+    ap (λ h. unless_fault (path_refusal false (is_some p.authority) (path.text p.path)) (build None p.authority h p.query p.fragment)) (sym (placed_same p v))
+edited_parts p (edits.Authority (Some a)) v = refl
+edited_parts p (edits.Authority None) v =
+    ap (λ h. unless_fault (path_refusal (is_some p.scheme) false (path.text p.path)) (build p.scheme None h p.query p.fragment)) (sym (same_path p.path v.is_path v.plain))
+edited_parts p (edits.Path h) v = refl
+edited_parts p (edits.Query q) v =
+    sym (accepts p (build p.scheme p.authority (placed (is_some p.authority) p.path) q p.fragment) (build p.scheme p.authority p.path q p.fragment) (refusal p) v.fit
+    (ap (λ h. build p.scheme p.authority h q p.fragment) (placed_same p v)))
+edited_parts p (edits.Fragment f) v =
+    sym (accepts p (build p.scheme p.authority (placed (is_some p.authority) p.path) p.query f) (build p.scheme p.authority p.path p.query f) (refusal p) v.fit
+    (ap (λ h. build p.scheme p.authority h p.query f) (placed_same p v)))
+
+-- ---- by what the tests of a path answered
+
+-- a test that accepts leaves no refusal
+pub no_refusal : (v w b d : Bool) (t : List ℕ) (r : Result (Unit {0}) URIReferenceError) (x : Unit {0}) → b ≡ v → d ≡ w → r ≡ unless_fault (path_refusal b d t) tt → r ≡ Ok x → path_refusal v w t ≡ None
+no_refusal v w b d t r x e f g h = ap (λ u. path_refusal u w t) (sym e) ∙ ap (λ u. path_refusal b u t) (sym f) ∙ accepted (path_refusal b d t) x (sym g ∙ h)
+
+pub tested_path : (p : Parts) (h g : PathParts) (b d : Bool) (r : Result (Unit {0}) URIReferenceError) (x : Unit {0}) → Valid p → IsListed h.segments → b ≡ is_some p.scheme → d ≡ is_some p.authority
+    → r ≡ unless_fault (path_refusal b d (path.text h)) tt → r ≡ Ok x → g ≡ placed d h → Valid (record p { path = g })
+tested_path p h g b d r x v i e f k l m =
+    subst (λ u. Valid (record p { path = u })) (sym (m ∙ ap (λ u. placed u h) f)) (valid_path p h v i (no_refusal (is_some p.scheme) (is_some p.authority) b d (path.text h) r x e f k l))
+
+pub tested_parts : (p : Parts) (g : PathParts) (b d : Bool) (r : Result (Unit {0}) URIReferenceError) (x : Unit {0}) → IfSome p.scheme scheme.Valid → IfSome p.authority authority.Valid → IsListed p.path.segments → IfSome p.query IsQuery → IfSome p.fragment IsFragment
+    → b ≡ is_some p.scheme → d ≡ is_some p.authority → r ≡ unless_fault (path_refusal b d (path.text p.path)) tt → r ≡ Ok x → g ≡ placed d p.path → Valid (record p { path = g })
+tested_parts p g b d r x s a i q f e h k l m =
+    subst (λ u. Valid (record p { path = u })) (sym (m ∙ ap (λ u. placed u p.path) h)) (valid_parts p s a i q f (no_refusal (is_some p.scheme) (is_some p.authority) b d (path.text p.path) r x e h k l))
+
+-- ---- lists of edits
+
+-- A run over the edits that are left, from where i edits have led, is the end of a run over all of them.
+abbrev pub Continues : Parts → List Edit → Parts → ℕ → List Edit → Type 0
+Continues p all q i rest = (n : ℕ) (r : Parts) (o : Option URIReferenceError) → Run q rest n r o → Run p all (i + n) r o
+
+pub step : (p q s : Parts) (all rest : List Edit) (i : ℕ) (e : Edit) → Continues p all q i (e ∷ rest) → edited q e ≡ Ok s → Continues p all s (i + 1) rest
+step p q s all rest i e c k n r o h =
+    let same : i + suc n ≡ (i + 1) + n = omega arith in
+    subst (λ m. Run p all m r o) same (c (suc n) r o (goes q s r e rest n o k h))
+
+pub stop : (p q r : Parts) (all rest : List Edit) (i : ℕ) (e : Edit) (x : URIReferenceError) → Continues p all q i (e ∷ rest) → edited q e ≡ Err x → r ≡ q → Run p all i r (Some x)
+stop p q r all rest i e x c k same =
+    let none : i + 0 ≡ i = omega arith in
+    subst (λ u. Run p all i u (Some x)) (sym same) (subst (λ m. Run p all m q (Some x)) none (c 0 q (Some x) (stops q e rest x k)))
+
+pub empty : (l : List Edit) → length l ≡ 0 → l ≡ []
+empty [] h = refl
+empty (e ∷ l) h = absurd (omega (arith, h))
+
+pub finish : (p q : Parts) (all rest : List Edit) (i : ℕ) → Continues p all q i rest → rest ≡ [] → i + length rest ≡ length all → Run p all (length all) q None
+finish p q all rest i c none e =
+    let last : i + 0 ≡ length all = ap (λ l. i + length l) (sym none) ∙ e in
+    subst (λ m. Run p all m q None) last (c 0 q None (subst (λ l. Run q l 0 q None) (sym none) (ends q)))

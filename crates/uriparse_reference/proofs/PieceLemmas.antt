@@ -1,0 +1,84 @@
+-- What the pieces lack that a text is cut into, and which faults come before want of memory.
+use Rattle.std.proofs.Common.{◌≡◌, ℕ, Bool, true, false, cond, List, [], ◌∷◌, drop, Option, Some, None, Ok, Err, refl, sym, ap, ◌∙◌}
+use Rattle.std.specs.Prelude.{◌==◌, IfSome, IsErr, Result}
+use Rattle.std.specs.Option.{option_map}
+use Rattle.uriparse_text.specs.Bytes.{colon, question_mark, number_sign}
+use Rattle.uriparse_text.specs.Cuts.{lacks, none_pass, before, after, front, up_to}
+use Rattle.uriparse_text.specs.Readings.{◌>>=◌, of_piece, if_present, error_of}
+use Rattle.uriparse_text.proofs.CutLemmas.{lacks-before, lacks-after, before-lacks, up_to-none}
+use Rattle.uriparse_path.specs.declared.path.error.PathError.{PathError}
+use Rattle.uriparse_path.specs.Path.{PathParts, has_two_slashes}
+use Rattle.uriparse_path.specs.Faults as path
+use Rattle.uriparse_authority.specs.Authority as authority
+use Rattle.uriparse_authority.specs.Authority.{AuthorityParts, ends_authority}
+use Rattle.uriparse_scheme.specs.Scheme as scheme
+use Rattle.uriparse_reference.specs.declared.uri_reference.error.URIReferenceError.{URIReferenceError}
+use Rattle.uriparse_reference.specs.declared.uri_reference.error.URIReferenceError.TheVariants as errors
+use Rattle.uriparse_reference.specs.Reference.{path_of}
+use Rattle.uriparse_reference.specs.Cuts.{if_scheme, scheme_text, after_scheme, authority_text, after_authority, path_text, query_text}
+use Rattle.uriparse_reference.specs.Reading.{path_reading, early_fault}
+
+-- ---- what the pieces lack
+
+pub scheme_is : (t : List ℕ) → IfSome (scheme_text t) (λ s. scheme.is_scheme s ≡ true)
+scheme_is t = by_front (front colon t)
+  where
+    by_test : (s : List ℕ) (v : Bool) → scheme.is_scheme s ≡ v → IfSome (cond v (Some s) None) (λ u. scheme.is_scheme u ≡ true)
+    by_test s true e = e
+    by_test s false e = tt
+
+    by_front : (o : Option (List ℕ)) → IfSome (if_scheme o) (λ s. scheme.is_scheme s ≡ true)
+    by_front None = tt
+    by_front (Some s) = by_test s (scheme.is_scheme s) refl
+
+pub authority_lacks : (t : List ℕ) → IfSome (authority_text t) (λ a. none_pass ends_authority a ≡ true)
+authority_lacks t = by_slashes (has_two_slashes (after_scheme t))
+  where
+    by_slashes : (v : Bool) → IfSome (cond v (Some (up_to ends_authority (drop 2 (after_scheme t)))) None) (λ a. none_pass ends_authority a ≡ true)
+    by_slashes true = up_to-none ends_authority (drop 2 (after_scheme t))
+    by_slashes false = tt
+
+pub path_lacks_question_mark : (t : List ℕ) → lacks question_mark (path_text t) ≡ true
+path_lacks_question_mark t = before-lacks question_mark (before number_sign (after_authority t))
+
+pub path_lacks_number_sign : (t : List ℕ) → lacks number_sign (path_text t) ≡ true
+path_lacks_number_sign t = lacks-before number_sign question_mark (before number_sign (after_authority t)) (before-lacks number_sign (after_authority t))
+
+pub query_lacks_number_sign : (t : List ℕ) → IfSome (query_text t) (λ q. lacks number_sign q ≡ true)
+query_lacks_number_sign t = lacks-after number_sign question_mark (before number_sign (after_authority t)) (before-lacks number_sign (after_authority t))
+
+-- ---- faults before memory
+
+-- a refused authority is answered
+pub refused_early : {A : Type 0} (t : List ℕ) (r : Result A URIReferenceError) (x e : URIReferenceError)
+    → of_piece errors.Authority (if_present authority.reading (authority_text t)) ≡ Err x → r ≡ Err x → early_fault t ≡ Some e → r ≡ Err e
+refused_early t r x e h k f =
+    let told : early_fault t ≡ Some x = ap (λ s. error_of (s >>= λ _. of_piece errors.Path (path.reading (path_text t)))) h in
+    let same : x ≡ e = cc in
+    k ∙ ap Err same
+
+-- behind one that is read, a path's fault is the early one
+early_path : (t : List ℕ) (a : Option AuthorityParts) → of_piece errors.Authority (if_present authority.reading (authority_text t)) ≡ Ok a
+    → early_fault t ≡ error_of (of_piece errors.Path (path.reading (path_text t)))
+early_path t a h = ap (λ r. error_of (r >>= λ _. of_piece errors.Path (path.reading (path_text t)))) h
+
+-- a path with a fault is answered it
+pub path_early : {A : Type 0} (t : List ℕ) (w : Bool) (a : Option AuthorityParts) (u : List ℕ) (s : Result PathParts URIReferenceError) (r : Result A URIReferenceError) (x e : URIReferenceError)
+    → of_piece errors.Authority (if_present authority.reading (authority_text t)) ≡ Ok a
+    → u ≡ path_text t → (IsErr (path.reading u) → s ≡ of_piece errors.Path (path_reading w u)) → s ≡ Err x → r ≡ Err x → early_fault t ≡ Some e → r ≡ Err e
+path_early t w a u s r x e h at fault k l f =
+    by_reading (path.reading u) fault (ap (λ v. error_of (of_piece errors.Path (path.reading v))) at ∙ sym (early_path t a h) ∙ f)
+  where
+    by_reading : (o : Result PathParts PathError) → (IsErr o → s ≡ of_piece errors.Path (o >>= λ _. Ok (path_of w u))) → error_of (of_piece errors.Path o) ≡ Some e → r ≡ Err e
+    by_reading (Ok y) g i = cc
+    by_reading (Err y) g i = let told : s ≡ Err (errors.Path y) = g refl in let same : errors.Path y ≡ e = cc in let own : x ≡ errors.Path y = cc in l ∙ ap Err (own ∙ same)
+
+-- behind an authority and a path that are read, there is no early fault
+pub none_early : {A : Type 0} (t : List ℕ) (w : Bool) (a : Option AuthorityParts) (h : PathParts) (r : Result A URIReferenceError) (e : URIReferenceError)
+    → of_piece errors.Authority (if_present authority.reading (authority_text t)) ≡ Ok a → of_piece errors.Path (path_reading w (path_text t)) ≡ Ok h
+    → early_fault t ≡ Some e → r ≡ Err e
+none_early t w a h r e i j f = by_reading (path.reading (path_text t)) j (sym (early_path t a i) ∙ f)
+  where
+    by_reading : (o : Result PathParts PathError) → of_piece errors.Path (o >>= λ _. Ok (path_of w (path_text t))) ≡ Ok h → error_of (of_piece errors.Path o) ≡ Some e → r ≡ Err e
+    by_reading (Ok y) k l = cc
+    by_reading (Err y) k l = cc

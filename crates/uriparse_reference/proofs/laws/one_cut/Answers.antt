@@ -1,0 +1,12 @@
+use Rattle.uriparse_reference.proofs.ReferenceLemmas.{whole_is}
+use Rattle.uriparse_reference.proofs.PieceLemmas.{scheme_is, authority_lacks, path_lacks_question_mark, path_lacks_number_sign, query_lacks_number_sign}
+use Rattle.uriparse_reference.proofs.laws.one_cut.Goals as goal
+
+pub returns : goal.returns
+returns c = record {
+  whole = whole_is;
+  scheme = scheme_is;
+  authority = authority_lacks;
+  path = λ t. (path_lacks_question_mark t, path_lacks_number_sign t);
+  query = query_lacks_number_sign;
+}

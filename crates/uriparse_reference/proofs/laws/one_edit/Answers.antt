@@ -1,0 +1,5 @@
+use Rattle.uriparse_reference.proofs.EditLemmas.{own_parts, edited_parts}
+use Rattle.uriparse_reference.proofs.laws.one_edit.Goals as goal
+
+pub returns : goal.returns
+returns c = record { own = own_parts; replaced = edited_parts }

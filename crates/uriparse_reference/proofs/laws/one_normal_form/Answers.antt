@@ -1,0 +1,5 @@
+use Rattle.uriparse_reference.proofs.NormalLemmas.{normal_valid, normal_twice, normal_exactly, normal_no_longer, normal_kind, kept_whole}
+use Rattle.uriparse_reference.proofs.laws.one_normal_form.Goals as goal
+
+pub returns : goal.returns
+returns c = record { valid = normal_valid; twice = normal_twice; print = normal_exactly; no_longer = normal_no_longer; kinds = normal_kind; kept = kept_whole }

@@ -1,0 +1,15 @@
+use Rattle.std.proofs.Common.{◌∷◌, ◌++◌, [], refl, sym, ap, ◌∙◌}
+use Rattle.std.proofs.Output.{has_written_styled_append, has_written_styled_of_eq}
+use Rattle.std.specs.Option.{option_map}
+use Rattle.uriparse_text.specs.Bytes.{colon}
+use Rattle.uriparse_text.specs.Cuts.{ahead}
+use Rattle.uriparse_scheme.specs.Scheme as scheme
+use Rattle.uriparse_reference.proofs.uri_reference.print.write_scheme.Goals as goal
+
+pub returns-in_ok-write_str-2-clause-styled : goal.returns-in_ok-write_str-2-clause-styled
+returns-in_ok-write_str-2-clause-styled g c flush ok =
+    let first = c.in_ok-write_str.ensures.styled flush refl in
+    let second = c.in_ok-write_str-2.ensures.styled first.flush refl in
+    has_written_styled_of_eq _ _ _ _ _
+    (ap (λ t. t ++ colon ∷ []) c.as_str.ensures.value ∙ sym (ap (λ o. ahead colon (option_map scheme.text o)) c.in-Some.is))
+    (has_written_styled_append _ _ _ _ _ _ first second)

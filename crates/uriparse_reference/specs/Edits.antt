@@ -1,0 +1,49 @@
+-- What parts make a reference, what an edit makes of one, and what a list of edits does.
+use Rattle.std.specs.Prelude.{◌≡◌, ℕ, suc, Bool, true, false, List, [], ◌∷◌, Option, Some, None, Result, Ok, Err, is_some}
+use Rattle.uriparse_text.specs.Readings.{unless_fault}
+use Rattle.uriparse_path.specs.Path as path
+use Rattle.uriparse_reference.specs.declared.uri_reference.edit.Edit.{Edit}
+use Rattle.uriparse_reference.specs.declared.uri_reference.edit.Edit.TheVariants as edits
+use Rattle.uriparse_reference.specs.declared.uri_reference.error.URIReferenceError.{URIReferenceError}
+use Rattle.uriparse_reference.specs.Reference.{Parts, path_refusal}
+
+-- the path as a reference holds it: behind an authority it is made absolute, else it is the one that its text spells
+abbrev pub placed : Bool → path.PathParts → path.PathParts
+placed true h = path.made_absolute h
+placed false h = path.spelled (path.text h)
+
+-- why these parts make no reference
+abbrev pub refusal : Parts → Option URIReferenceError
+refusal p = path_refusal (is_some p.scheme) (is_some p.authority) (path.text p.path)
+
+-- the reference that these parts make, or why they make none
+abbrev pub of_parts : Parts → Result Parts URIReferenceError
+of_parts p = unless_fault (refusal p) (record p { path = placed (is_some p.authority) p.path })
+
+-- what an edit makes of a reference, or why it is refused
+abbrev pub edited : Parts → Edit → Result Parts URIReferenceError
+edited p (edits.Scheme (Some s)) = Ok (record p { scheme = Some s })
+edited p (edits.Scheme None) =
+    unless_fault (path_refusal false (is_some p.authority) (path.text p.path)) (record p { scheme = None })
+edited p (edits.Authority (Some a)) = Ok (record p { authority = Some a; path = path.made_absolute p.path })
+edited p (edits.Authority None) =
+    unless_fault (path_refusal (is_some p.scheme) false (path.text p.path)) (record p { authority = None })
+edited p (edits.Path h) = of_parts (record p { path = h })
+edited p (edits.Query q) = Ok (record p { query = q })
+edited p (edits.Fragment f) = Ok (record p { fragment = f })
+
+-- the parts with one of them replaced, which may make no reference
+abbrev pub replaced : Parts → Edit → Parts
+replaced p (edits.Scheme scheme) = record p { scheme = scheme }
+replaced p (edits.Authority authority) = record p { authority = authority }
+replaced p (edits.Path path) = record p { path = path }
+replaced p (edits.Query query) = record p { query = query }
+replaced p (edits.Fragment fragment) = record p { fragment = fragment }
+
+-- From these parts the first n edits of the list are accepted, one after another, and make the parts q; these edits are all there are, or the
+-- next one is refused.
+pub data Run : Parts → List Edit → ℕ → Parts → Option URIReferenceError → Type 0 where
+  ends : (p : Parts) → Run p [] 0 p None
+  stops : (p : Parts) (e : Edit) (es : List Edit) (x : URIReferenceError) → edited p e ≡ Err x → Run p (e ∷ es) 0 p (Some x)
+  goes : (p r q : Parts) (e : Edit) (es : List Edit) (n : ℕ) (o : Option URIReferenceError)
+      → edited p e ≡ Ok r → Run r es n q o → Run p (e ∷ es) (suc n) q o

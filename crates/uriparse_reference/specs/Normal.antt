@@ -1,0 +1,48 @@
+-- Normal forms of references: RFC 3986, section 6.2.2.
+use Rattle.std.specs.Prelude.{ℕ, Bool, false, ◌&&◌, ◌||◌, if◌then◌else◌, List, [], ◌∷◌, Option, Some, None, is_none, bytes_eq}
+use Rattle.std.specs.Option.{option_map, option_eq}
+use Rattle.uriparse_text.specs.Bytes.{dot}
+use Rattle.uriparse_text.specs.Canon.{canon}
+use Rattle.uriparse_path.specs.Edits.{dotted}
+use Rattle.uriparse_path.specs.Path.{PathParts, hides_root, has_two_slashes, text}
+use Rattle.uriparse_path.specs.Normal as path
+use Rattle.uriparse_authority.specs.Authority as authority
+use Rattle.uriparse_authority.specs.Normal.{canonical_authority}
+use Rattle.uriparse_scheme.specs.Scheme as scheme
+use Rattle.uriparse_scheme.specs.Normal.{canonical_scheme}
+use Rattle.uriparse_reference.specs.Reference.{Parts, scheme_part, authority_part}
+
+-- The path, to stand behind this authority. Where there is none, and the text would begin with two slashes, a "." stands in front.
+abbrev pub shielded : Option authority.AuthorityParts → PathParts → PathParts
+shielded (Some a) p = p
+shielded None p = if has_two_slashes (text p) then dotted p else p
+
+-- The normal form: each text in canonical spelling, and the normal form of the path, which is that of a relative one exactly where there is no scheme.
+abbrev pub normal : Parts → Parts
+normal p = record {
+  scheme = option_map canonical_scheme p.scheme;
+  authority = option_map canonical_authority p.authority;
+  path = shielded p.authority (path.pnormal p.path (is_none p.scheme));
+  query = option_map canon p.query;
+  fragment = option_map canon p.fragment;
+}
+
+-- ---- which references are left as they are
+
+-- the absolute path has a "." in front, which is needed where there is no authority, and behind it a normal path
+abbrev pub is_shielded : Bool → List (List ℕ) → Bool
+is_shielded absolute [] = false
+is_shielded absolute (s ∷ ss) = absolute && bytes_eq s (dot ∷ []) && hides_root ss && path.is_normal (record { absolute = absolute; segments = ss }) false
+
+-- the path is its own normal form where it stands
+abbrev pub is_normal_path : Option authority.AuthorityParts → PathParts → Bool → Bool
+is_normal_path a p as_reference = path.is_normal p as_reference || (is_none a && is_shielded p.absolute p.segments)
+
+-- each part has the text of its normal form
+abbrev pub is_normal : Parts → Bool
+is_normal p =
+    option_eq bytes_eq (option_map scheme.canonical_text p.scheme) (scheme_part p)
+    && (option_eq bytes_eq (option_map authority.canonical_text p.authority) (authority_part p)
+    && (is_normal_path p.authority p.path (is_none p.scheme)
+    && (option_eq bytes_eq (option_map canon p.query) p.query
+    && option_eq bytes_eq (option_map canon p.fragment) p.fragment)))

@@ -1,0 +1,285 @@
+//! Building a reference from parts, and changing one: RFC 3986, section 4.1.
+ghost use Rattle.std.specs.Prelude.{◌≡◌, IfSome, Some, None, is_some, length, MatchResult};
+ghost use Rattle.uriparse_text.specs.Readings.{unless_fault};
+ghost use Rattle.uriparse_path.specs.Path.{IsListed, text};
+ghost use Rattle.uriparse_scheme.specs.Scheme as schemes;
+ghost use Rattle.uriparse_reference.specs.Reference.{path_refusal};
+ghost use Rattle.uriparse_reference.specs.Edits.{placed};
+
+use super::URIReference;
+use super::error::URIReferenceError;
+use std::mem;
+use uriparse_authority::authority::Authority;
+use uriparse_path::parts::{has_two_slashes, into_absolute, lacks_colon_segment, respell};
+use uriparse_path::path::Path;
+use uriparse_scheme::scheme::Scheme;
+use uriparse_text::fragment::Fragment;
+use uriparse_text::query::Query;
+
+/// One change of a reference.
+#[derive(Drop)]
+pub enum Edit<'e> {
+    /// Sets the scheme, or takes it away.
+    Scheme(Option<Scheme<'e>>),
+    /// Sets the authority, or takes it away.
+    Authority(Option<Authority<'e>>),
+    /// Sets the path.
+    Path(Path<'e>),
+    /// Sets the query, or takes it away.
+    Query(Option<Query<'e>>),
+    /// Sets the fragment, or takes it away.
+    Fragment(Option<Fragment<'e>>),
+}
+
+/// Whether there is a scheme, which is a valid one.
+fn has_scheme(scheme: &Option<Scheme<'_>>) -> bool
+    ensures test { result ≡ is_some scheme.now }
+    ensures valid { IfSome scheme.now schemes.Valid }
+{
+    match scheme {
+        Some(scheme) => {
+            let _text = scheme.as_str();
+            true
+        }
+        None => false,
+    }
+}
+
+/// Refuses a path that may not stand with a scheme or without one, and behind an authority or not.
+fn check_place(
+    has_scheme: bool,
+    has_authority: bool,
+    path: &Path<'_>,
+) -> Result<(), URIReferenceError>
+    ensures answer { result ≡ unless_fault (path_refusal has_scheme has_authority (text path.now)) tt }
+    ensures listed { IsListed path.now.segments }
+{
+    let begins_twice = has_two_slashes(path);
+    if has_authority {
+        return Ok(());
+    }
+    if begins_twice {
+        return Err(URIReferenceError::AbsolutePathStartsWithTwoSlashes);
+    }
+    if has_scheme || lacks_colon_segment(path) {
+        return Ok(());
+    }
+    Err(URIReferenceError::SchemelessPathStartsWithColonSegment)
+}
+
+/// The path as a reference holds it, behind an authority or not.
+fn place(has_authority: bool, path: Path<'_>) -> Path<'_>
+    ensures { result ≡ placed has_authority path.entry }
+{
+    if has_authority {
+        return into_absolute(path);
+    }
+    let mut path = path;
+    respell(&mut path);
+    path
+}
+
+impl<'r> URIReference<'r> {
+    ghost use Rattle.uriparse_reference.specs.Reference.{Valid};
+    ghost use Rattle.uriparse_text.specs.Readings.{Settles};
+    ghost use Rattle.uriparse_reference.specs.Edits.{of_parts, edited, Run};
+    ghost use Rattle.uriparse_reference.specs.declared.uri_reference.edit.Edit.TheVariants as edits;
+
+    /// The reference of these parts. Behind an authority the path is made absolute, else it is the
+    /// one that its text spells.
+    ///
+    /// Refused are, in this order, a path without authority whose text begins with two slashes, and
+    /// one without scheme and authority that has a colon in its first segment. Takes no memory.
+    pub fn from_parts(
+        scheme: Option<Scheme<'r>>,
+        authority: Option<Authority<'r>>,
+        path: Path<'r>,
+        query: Option<Query<'r>>,
+        fragment: Option<Fragment<'r>>,
+    ) -> Result<URIReference<'r>, URIReferenceError>
+        ensures { result ≡ of_parts (record { scheme = scheme.entry; authority = authority.entry; path = path.entry; query = query.entry; fragment = fragment.entry }) }
+    {
+        let has_scheme = has_scheme(&scheme);
+        let has_authority = authority.is_some();
+        check_place(has_scheme, has_authority, &path)?;
+        let path = place(has_authority, path);
+        Ok(URIReference {
+            scheme,
+            authority,
+            path,
+            query,
+            fragment,
+        })
+    }
+
+    /// The scheme, the authority, the path, the query and the fragment.
+    pub fn into_parts(
+        self,
+    ) -> (
+        Option<Scheme<'r>>,
+        Option<Authority<'r>>,
+        Path<'r>,
+        Option<Query<'r>>,
+        Option<Fragment<'r>>,
+    )
+        ensures scheme { result.0 ≡ self.entry.scheme }
+        ensures authority { result.1 ≡ self.entry.authority }
+        ensures path { result.2 ≡ self.entry.path }
+        ensures query { result.3 ≡ self.entry.query }
+        ensures fragment { result.4 ≡ self.entry.fragment }
+        ensures valid { Valid self.entry }
+    {
+        (
+            self.scheme,
+            self.authority,
+            self.path,
+            self.query,
+            self.fragment,
+        )
+    }
+
+    /// Sets the scheme. Without one, a path without authority that has a colon in its first segment
+    /// is refused, and the reference is unchanged. Takes no memory.
+    pub fn set_scheme(&mut self, scheme: Option<Scheme<'r>>) -> Result<(), URIReferenceError>
+        ensures { Settles self.old self.new result (edited self.old (edits.Scheme scheme.entry)) }
+    {
+        if !has_scheme(&scheme) {
+            check_place(false, self.authority.is_some(), &self.path)?;
+        }
+        self.scheme = scheme;
+        Ok(())
+    }
+
+    /// Sets the authority, behind which the path is made absolute. Without one, a path whose text
+    /// begins with two slashes is refused, and the reference is unchanged. Takes no memory.
+    pub fn set_authority(
+        &mut self,
+        authority: Option<Authority<'r>>,
+    ) -> Result<(), URIReferenceError>
+        ensures { Settles self.old self.new result (edited self.old (edits.Authority authority.entry)) }
+    {
+        if authority.is_none() {
+            check_place(self.scheme.is_some(), false, &self.path)?;
+            self.authority = None;
+            return Ok(());
+        }
+        self.path.set_absolute(true);
+        self.authority = authority;
+        Ok(())
+    }
+
+    /// Sets the path: behind an authority made absolute, else the one that its text spells. What
+    /// [`from_parts`](URIReference::from_parts) refuses is refused, and the reference is unchanged.
+    /// Takes no memory.
+    pub fn set_path(&mut self, path: Path<'r>) -> Result<(), URIReferenceError>
+        ensures { Settles self.old self.new result (edited self.old (edits.Path path.entry)) }
+    {
+        let has_authority = self.authority.is_some();
+        check_place(self.scheme.is_some(), has_authority, &path)?;
+        let _old = mem::replace(&mut self.path, place(has_authority, path));
+        Ok(())
+    }
+
+    /// Sets the query. It is never refused. Takes no memory.
+    pub fn set_query(&mut self, query: Option<Query<'r>>) -> Result<(), URIReferenceError>
+        ensures { Settles self.old self.new result (edited self.old (edits.Query query.entry)) }
+    {
+        self.query = query;
+        Ok(())
+    }
+
+    /// Sets the fragment. It is never refused. Takes no memory.
+    pub fn set_fragment(&mut self, fragment: Option<Fragment<'r>>) -> Result<(), URIReferenceError>
+        ensures { Settles self.old self.new result (edited self.old (edits.Fragment fragment.entry)) }
+    {
+        self.fragment = fragment;
+        Ok(())
+    }
+
+    /// Makes one edit, which is refused as its setter refuses.
+    fn apply(&mut self, edit: Edit<'r>) -> Result<(), URIReferenceError>
+        ensures { Settles self.old self.new result (edited self.old edit.entry) }
+    {
+        match edit {
+            Edit::Scheme(scheme) => self.set_scheme(scheme),
+            Edit::Authority(authority) => self.set_authority(authority),
+            Edit::Path(path) => self.set_path(path),
+            Edit::Query(query) => self.set_query(query),
+            Edit::Fragment(fragment) => self.set_fragment(fragment),
+        }
+    }
+
+    /// Makes the edits in order, up to the first refused one, whose index and refusal are answered.
+    /// The reference is then as the edits before that one made it.
+    pub fn apply_all(&mut self, edits: Vec<Edit<'r>>) -> Result<(), (usize, URIReferenceError)>
+        ensures { MatchResult result (λ _. Run self.old edits.entry.items (length edits.entry.items) self.new None) (λ e. Run self.old edits.entry.items e.0 self.new (Some e.1)) }
+    {
+        let mut index = 0;
+        for edit in edits {
+            if let Err(error) = self.apply(edit) {
+                return Err((index, error));
+            }
+            index += 1;
+        }
+        Ok(())
+    }
+
+    /// Sets what the closure makes of the scheme. A refusal consumes the reference.
+    pub fn map_scheme<F>(self, make: F) -> Result<URIReference<'r>, URIReferenceError>
+    where
+        F: FnOnce(Option<Scheme<'r>>) -> Option<Scheme<'r>>,
+        requires { F.pre make self.scheme }
+        ensures { (scheme : _) × F.post make self.entry.scheme scheme × (edited self.entry (edits.Scheme scheme) ≡ result) }
+    {
+        let (scheme, authority, path, query, fragment) = self.into_parts();
+        URIReference::from_parts(make(scheme), authority, path, query, fragment)
+    }
+
+    /// Sets what the closure makes of the authority. A refusal consumes the reference.
+    pub fn map_authority<F>(self, make: F) -> Result<URIReference<'r>, URIReferenceError>
+    where
+        F: FnOnce(Option<Authority<'r>>) -> Option<Authority<'r>>,
+        requires { F.pre make self.authority }
+        ensures { (authority : _) × F.post make self.entry.authority authority × (edited self.entry (edits.Authority authority) ≡ result) }
+    {
+        let (scheme, authority, path, query, fragment) = self.into_parts();
+        URIReference::from_parts(scheme, make(authority), path, query, fragment)
+    }
+
+    /// Sets what the closure makes of the path. A refusal consumes the reference.
+    pub fn map_path<F>(self, make: F) -> Result<URIReference<'r>, URIReferenceError>
+    where
+        F: FnOnce(Path<'r>) -> Path<'r>,
+        requires { F.pre make self.path }
+        ensures { (path : _) × F.post make self.entry.path path × (edited self.entry (edits.Path path) ≡ result) }
+    {
+        let (scheme, authority, path, query, fragment) = self.into_parts();
+        URIReference::from_parts(scheme, authority, make(path), query, fragment)
+    }
+
+    /// Sets what the closure makes of the query.
+    pub fn map_query<F>(self, make: F) -> Result<URIReference<'r>, URIReferenceError>
+    where
+        F: FnOnce(Option<Query<'r>>) -> Option<Query<'r>>,
+        requires { F.pre make self.query }
+        ensures { (query : _) × F.post make self.entry.query query × (edited self.entry (edits.Query query) ≡ result) }
+    {
+        let mut reference = self;
+        let old = reference.query.take();
+        reference.set_query(make(old))?;
+        Ok(reference)
+    }
+
+    /// Sets what the closure makes of the fragment.
+    pub fn map_fragment<F>(self, make: F) -> Result<URIReference<'r>, URIReferenceError>
+    where
+        F: FnOnce(Option<Fragment<'r>>) -> Option<Fragment<'r>>,
+        requires { F.pre make self.fragment }
+        ensures { (fragment : _) × F.post make self.entry.fragment fragment × (edited self.entry (edits.Fragment fragment) ≡ result) }
+    {
+        let mut reference = self;
+        let old = reference.fragment.take();
+        reference.set_fragment(make(old))?;
+        Ok(reference)
+    }
+}

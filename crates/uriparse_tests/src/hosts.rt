@@ -1,0 +1,225 @@
+//! Hosts and addresses.
+
+use crate::answer::{Answer, printed, said, word};
+use crate::component::same_as;
+use std::alloc::Global;
+use uriparse_authority::authority::{Host, IpAddr, Ipv4Addr, Ipv6Addr};
+
+/// The host's kind, where its three tests agree.
+pub fn kind_of(host: &Host<'_>) -> &'static str {
+    let address = (host.is_ipv4_address(), host.is_ipv6_address());
+    match (host, address, host.is_registered_name()) {
+        (Host::IPv4Address(_), (true, false), false) => "ipv4",
+        (Host::IPv6Address(_), (false, true), false) => "ipv6",
+        (Host::RegisteredName(_), (false, false), true) => "name",
+        _ => "several kinds",
+    }
+}
+
+/// The kind and the text.
+fn told(alloc: Global, host: &Host<'_>) -> Answer {
+    let kind = kind_of(host);
+    format!(in alloc; "{kind}={host}")
+}
+
+fn copied(alloc: Global, host: &Host<'_>) -> Answer {
+    host.as_borrowed().into_owned(alloc)?.to_string(alloc)
+}
+
+fn compared(alloc: Global, left: &Host<'_>, right: &str) -> Answer {
+    same_as(alloc, left, Host::try_from_bytes(right.as_bytes()))
+}
+
+/// The answer to a question about this host.
+fn asked_of(alloc: Global, command: &str, host: &Host<'_>, other: &str) -> Answer {
+    match command {
+        "host" => told(alloc, host),
+        "copied-host" => copied(alloc, host),
+        "hosts" => compared(alloc, host, other),
+        _ => said(alloc, "no such command"),
+    }
+}
+
+fn host(alloc: Global, command: &str, text: &str, other: &str) -> Answer {
+    match Host::try_from_str(text) {
+        Ok(host) => asked_of(alloc, command, &host, other),
+        Err(why) => printed(alloc, why),
+    }
+}
+
+/// The address that the text spells, made again of its octets.
+fn ipv4_of(text: &str) -> Option<Ipv4Addr> {
+    let [a, b, c, d] = Ipv4Addr::parse_bytes(text.as_bytes())?.octets();
+    Some(Ipv4Addr::new(a, b, c, d))
+}
+
+/// The address that the text spells, made again of its segments.
+fn ipv6_of(text: &str) -> Option<Ipv6Addr> {
+    let [a, b, c, d, e, f, g, h] = Ipv6Addr::parse_bytes(text.as_bytes())?.segments();
+    Some(Ipv6Addr::new(a, b, c, d, e, f, g, h))
+}
+
+fn ipv4(alloc: Global, text: &str) -> Answer {
+    match ipv4_of(text) {
+        Some(address) => printed(alloc, address),
+        None => said(alloc, "none"),
+    }
+}
+
+fn ipv6(alloc: Global, text: &str) -> Answer {
+    match ipv6_of(text) {
+        Some(address) => printed(alloc, address),
+        None => said(alloc, "none"),
+    }
+}
+
+/// What a host tells of itself that is made of the address both ways.
+fn host_of(alloc: Global, host: Host<'_>, address: IpAddr) -> Answer {
+    if host == Host::from(address) {
+        return told(alloc, &host);
+    }
+    said(alloc, "several hosts")
+}
+
+fn host_of_address(alloc: Global, text: &str) -> Answer {
+    match (ipv4_of(text), ipv6_of(text)) {
+        (Some(address), None) => host_of(alloc, Host::from(address), IpAddr::V4(address)),
+        (None, Some(address)) => host_of(alloc, Host::from(address), IpAddr::V6(address)),
+        _ => said(alloc, "none"),
+    }
+}
+
+/// The answer to a question about hosts.
+pub fn answer(alloc: Global, asked: &str) -> Answer {
+    let (command, rest) = word(asked);
+    let (text, rest) = word(rest);
+    let (other, _) = word(rest);
+    match command {
+        "ipv4" => ipv4(alloc, text),
+        "ipv6" => ipv6(alloc, text),
+        "host-of-address" => host_of_address(alloc, text),
+        _ => host(alloc, command, text, other),
+    }
+}
+
+pub const ROWS: &str = "\
+host [1:0:0:2:0:0:0:3] -> ipv6=[1:0:0:2::3]
+copied-host [1:0:0:2:0:0:0:3] -> [1:0:0:2::3]
+hosts [1:0:0:2:0:0:0:3] [1:0:0:2::3] -> equal
+host [1:0:0:2:3:0:0:4] -> ipv6=[1::2:3:0:0:4]
+copied-host [1:0:0:2:3:0:0:4] -> [1::2:3:0:0:4]
+hosts [1:0:0:2:3:0:0:4] [1::2:3:0:0:4] -> equal
+host [::FFFF:1.2.3.4] -> ipv6=[::ffff:1.2.3.4]
+copied-host [::FFFF:1.2.3.4] -> [::ffff:1.2.3.4]
+hosts [::FFFF:1.2.3.4] [::ffff:1.2.3.4] -> equal
+host [::1.2.3.4] -> ipv6=[::102:304]
+copied-host [::1.2.3.4] -> [::102:304]
+hosts [::1.2.3.4] [::102:304] -> equal
+host [1:2:3:4:5:6:7::] -> ipv6=[1:2:3:4:5:6:7:0]
+copied-host [1:2:3:4:5:6:7::] -> [1:2:3:4:5:6:7:0]
+hosts [1:2:3:4:5:6:7::] [1:2:3:4:5:6:7:0] -> equal
+host [::] -> ipv6=[::]
+copied-host [::] -> [::]
+hosts [::] [::] -> equal
+host [1:2:3:4:5:6:1.2.3.4] -> ipv6=[1:2:3:4:5:6:102:304]
+copied-host [1:2:3:4:5:6:1.2.3.4] -> [1:2:3:4:5:6:102:304]
+hosts [1:2:3:4:5:6:1.2.3.4] [1:2:3:4:5:6:102:304] -> equal
+host [::ffff:0:0] -> ipv6=[::ffff:0.0.0.0]
+copied-host [::ffff:0:0] -> [::ffff:0.0.0.0]
+hosts [::ffff:0:0] [::ffff:0.0.0.0] -> equal
+host [0:0:1::] -> ipv6=[0:0:1::]
+copied-host [0:0:1::] -> [0:0:1::]
+hosts [0:0:1::] [0:0:1::] -> equal
+host [::1:2:3:4:5:6:7] -> ipv6=[0:1:2:3:4:5:6:7]
+copied-host [::1:2:3:4:5:6:7] -> [0:1:2:3:4:5:6:7]
+hosts [::1:2:3:4:5:6:7] [0:1:2:3:4:5:6:7] -> equal
+host 1.2.3.4 -> ipv4=1.2.3.4
+copied-host 1.2.3.4 -> 1.2.3.4
+hosts 1.2.3.4 1.2.3.4 -> equal
+host 255.0.10.99 -> ipv4=255.0.10.99
+copied-host 255.0.10.99 -> 255.0.10.99
+hosts 255.0.10.99 255.0.10.99 -> equal
+host '' -> name=
+copied-host '' -> ''
+hosts '' '' -> equal
+host 256.1.1.1 -> name=256.1.1.1
+copied-host 256.1.1.1 -> 256.1.1.1
+hosts 256.1.1.1 256.1.1.1 -> equal
+host 1.2.3 -> name=1.2.3
+copied-host 1.2.3 -> 1.2.3
+hosts 1.2.3 1.2.3 -> equal
+host 01.2.3.4 -> name=01.2.3.4
+copied-host 01.2.3.4 -> 01.2.3.4
+hosts 01.2.3.4 01.2.3.4 -> equal
+host %31.2.3.4 -> name=%31.2.3.4
+copied-host %31.2.3.4 -> %31.2.3.4
+hosts %31.2.3.4 %31.2.3.4 -> equal
+host EXAMPLE.com -> name=EXAMPLE.com
+copied-host EXAMPLE.com -> EXAMPLE.com
+hosts EXAMPLE.com EXAMPLE.com -> equal
+copied-host [::ffff:1.2.3.4] -> [::ffff:1.2.3.4]
+copied-host 1.2.3.4 -> 1.2.3.4
+copied-host Own%7e -> Own%7e
+copied-host a%7ebc%7edef%7eghij%7eklmno%7epqrstu%7evwxyz01%7e -> a%7ebc%7edef%7eghij%7eklmno%7epqrstu%7evwxyz01%7e
+host [] -> invalid host IPv6 format
+host [1:2:3:4:5:6:7:8::] -> invalid host IPv6 format
+host [1::2::3] -> invalid host IPv6 format
+host [12345::] -> invalid host IPv6 format
+host [1:2:3:4:5:6:7] -> invalid host IPv6 format
+host [::1.2.3] -> invalid host IPv6 format
+host [1.2.3.4::] -> invalid host IPv6 format
+host [::01.2.3.4] -> invalid host IPv6 format
+host [:1::2] -> invalid host IPv6 format
+host [v1.x] -> host address mechanism not supported
+host [v1] -> host address mechanism not supported
+host [V1] -> host address mechanism not supported
+host [v1.%41] -> invalid host IPvFuture character
+host [::g] -> invalid host IPv6 character
+host [v] -> invalid host IPv6 character
+host [::1 -> invalid host IPv4 or registered name character
+host [ -> invalid host IPv4 or registered name character
+host ] -> invalid host IPv4 or registered name character
+host [::1]x -> invalid host IPv4 or registered name character
+host ::1 -> invalid host IPv4 or registered name character
+host a%4 -> invalid host IPv4 or registered name character
+host [vg.x] -> invalid host IPv6 character
+host [v1x.y] -> host address mechanism not supported
+hosts EXAMPLE.com example.COM -> equal
+hosts %41 a -> equal
+hosts [::ffff:1.2.3.4] [::FFFF:102:304] -> equal
+hosts %31.2.3.4 1.2.3.4 -> different
+hosts [::ffff:1.2.3.4] 1.2.3.4 -> different
+hosts 1.2.3.4 1.2.3.5 -> different
+hosts '' a -> different
+hosts abc %41bc -> equal
+ipv4 1.2.3.4 -> 1.2.3.4
+ipv4 255.255.255.255 -> 255.255.255.255
+ipv4 1.2.3 -> none
+ipv4 01.2.3.4 -> none
+ipv4 256.1.1.1 -> none
+ipv4 '' -> none
+ipv4 1.2.3.4.5 -> none
+ipv6 1:0:0:2:0:0:0:3 -> 1:0:0:2::3
+ipv6 1:0:0:2:3:0:0:4 -> 1::2:3:0:0:4
+ipv6 ::FFFF:1.2.3.4 -> ::ffff:1.2.3.4
+ipv6 ::1.2.3.4 -> ::102:304
+ipv6 1:2:3:4:5:6:7:: -> 1:2:3:4:5:6:7:0
+ipv6 :: -> ::
+ipv6 1:2:3:4:5:6:1.2.3.4 -> 1:2:3:4:5:6:102:304
+ipv6 ::ffff:0:0 -> ::ffff:0.0.0.0
+ipv6 0:0:1:: -> 0:0:1::
+ipv6 ::1:2:3:4:5:6:7 -> 0:1:2:3:4:5:6:7
+ipv6 '' -> none
+ipv6 1:2:3:4:5:6:7:8:: -> none
+ipv6 1::2::3 -> none
+ipv6 12345:: -> none
+ipv6 1:2:3:4:5:6:7 -> none
+ipv6 ::1.2.3 -> none
+ipv6 1.2.3.4:: -> none
+ipv6 ::01.2.3.4 -> none
+ipv6 :1::2 -> none
+host-of-address 1.2.3.4 -> ipv4=1.2.3.4
+host-of-address 255.0.10.99 -> ipv4=255.0.10.99
+host-of-address ::ffff:1.2.3.4 -> ipv6=[::ffff:1.2.3.4]
+host-of-address ::1 -> ipv6=[::1]
+host-of-address 1.2.3 -> none";

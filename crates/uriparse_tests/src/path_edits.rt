@@ -1,0 +1,155 @@
+//! Edits and copies of paths.
+
+use crate::answer::{Answer, said, word};
+use crate::paths::{refused, told};
+use std::alloc::Global;
+use std::test::Fail;
+use uriparse_path::path::{MAX_SEGMENTS, Path, PathError, Segment};
+
+/// The path's text after a push, or the refusal, after which the path is to be as it was.
+fn pushed(alloc: Global, answer: Result<(), PathError>, path: &Path<'_>, text: &str) -> Answer {
+    match answer {
+        Ok(()) => told(alloc, path),
+        Err(why) if path.eq_str(text) => refused(alloc, why),
+        Err(_) => said(alloc, "refused and changed"),
+    }
+}
+
+fn push_bytes<'t>(alloc: Global, path: Path<'t>, text: &str, bytes: &'t str) -> Answer {
+    let mut path = path;
+    let answer = path.push_bytes(alloc, bytes.as_bytes());
+    pushed(alloc, answer, &path, text)
+}
+
+fn push<'t>(alloc: Global, path: Path<'t>, text: &str, segment: &'t str) -> Answer {
+    let mut path = path;
+    let Ok(segment) = Segment::try_from_str(segment) else {
+        return said(alloc, "no segment");
+    };
+    let answer = path.push(alloc, segment);
+    pushed(alloc, answer, &path, text)
+}
+
+/// An empty segment pushed, and then another.
+fn push_behind_empty<'t>(alloc: Global, path: Path<'t>, segment: &'t str) -> Answer {
+    let mut path = path;
+    match path.push(alloc, Segment::empty()) {
+        Ok(()) => push_bytes(alloc, path, "no text", segment),
+        Err(why) => refused(alloc, why),
+    }
+}
+
+fn pop(alloc: Global, path: Path<'_>) -> Answer {
+    let mut path = path;
+    path.pop();
+    told(alloc, &path)
+}
+
+fn clear(alloc: Global, path: Path<'_>) -> Answer {
+    let mut path = path;
+    path.clear();
+    told(alloc, &path)
+}
+
+fn set_absolute(alloc: Global, path: Path<'_>, absolute: bool) -> Answer {
+    let mut path = path;
+    path.set_absolute(absolute);
+    told(alloc, &path)
+}
+
+/// Another last segment written through the loan, and the dot segments removed.
+fn write_last<'t>(alloc: Global, path: Path<'t>, segment: &'t str) -> Answer {
+    let mut path = path;
+    let Ok(segment) = Segment::try_from_str(segment) else {
+        return said(alloc, "no segment");
+    };
+    if let Some(last) = path.segments_mut().last_mut() {
+        *last = segment;
+    }
+    path.remove_dot_segments();
+    told(alloc, &path)
+}
+
+/// The text of a copy that owns it, of a copy that borrows.
+fn copy(alloc: Global, path: Path<'_>) -> Answer {
+    let borrowed = path.to_borrowed(alloc)?;
+    let owned = borrowed.into_owned(alloc)?;
+    told(alloc, &owned)
+}
+
+fn edited<'t>(alloc: Global, command: &str, path: Path<'t>, text: &str, other: &'t str) -> Answer {
+    match command {
+        "push-bytes" => push_bytes(alloc, path, text, other),
+        "push" => push(alloc, path, text, other),
+        "push-behind-empty" => push_behind_empty(alloc, path, other),
+        "pop" => pop(alloc, path),
+        "clear" => clear(alloc, path),
+        "set-absolute" => set_absolute(alloc, path, other == "true"),
+        "write-last" => write_last(alloc, path, other),
+        "copy" => copy(alloc, path),
+        _ => said(alloc, "no such command"),
+    }
+}
+
+/// The answer to a question about an edit of a path.
+pub fn answer(alloc: Global, asked: &str) -> Answer {
+    let (command, rest) = word(asked);
+    let (text, rest) = word(rest);
+    let (other, _) = word(rest);
+    match Path::try_from_str(alloc, text) {
+        Ok(path) => edited(alloc, command, path, text, other),
+        Err(why) => refused(alloc, why),
+    }
+}
+
+/// What a push on a path answers that has as many segments as it may have.
+fn push_on_full(alloc: Global) -> Answer {
+    let mut text = String::new(alloc);
+    for _ in 0..MAX_SEGMENTS {
+        text.push('/')?;
+    }
+    let Ok(path) = Path::try_from_str(alloc, text.as_str()) else {
+        return said(alloc, "no path");
+    };
+    // No segment has a slash, but the length is looked at first.
+    let slashes = text.as_str();
+    push_bytes(alloc, path, slashes, slashes)
+}
+
+#[test]
+fn a_full_path_takes_no_segment(rt: HostRuntime) -> Result<(), Fail> {
+    assert_eq!(rt;
+        push_on_full(rt.alloc())?.as_str(),
+        "exceeded maximum path length"
+    );
+    Ok(())
+}
+
+pub const ROWS: &str = "\
+push-bytes a %7e -> a/%7e
+push-bytes a a/b -> invalid path character
+push-bytes a %4 -> invalid path percent encoding
+push-bytes '' x -> x
+push-bytes / x -> /x
+push-bytes '' '' -> /
+push-bytes a '' -> a/
+push-bytes a/ b -> a//b
+push a %7e -> a/%7e
+push '' x -> x
+push /a b -> /a/b
+push-behind-empty '' x -> //x
+push-behind-empty a b -> a//b
+pop a/b -> a
+pop /a -> /
+pop a -> ''
+pop a//b -> a/
+clear /a/b -> /
+clear a/b -> ''
+set-absolute a true -> /a
+set-absolute /a false -> a
+set-absolute // false -> /
+write-last a/b/c .. -> a/
+write-last a/b d -> a/d
+write-last /a/b %2E%2e -> /
+copy '' -> ''
+copy /a/%7eb//c -> /a/%7eb//c";
