@@ -1,18 +1,22 @@
 //! How a command fails.
 
+use std::alloc::{AllocError, AllocFailed};
 use std::io;
 use thiserror::Error;
-use uriparse_path::path::PathError;
-use uriparse_reference::uri_reference::URIReferenceError;
-use uriparse_text::fragment::FragmentError;
-use uriparse_text::query::QueryError;
+use uriparse::{
+    AuthorityError, FragmentError, PathError, QueryError, SchemeError, URIError, URIReferenceError,
+};
 
 /// Why a command printed nothing, or not all.
 #[derive(Debug, Drop, Error)]
 pub enum Failure {
-    /// No such command, or a wrong number of words.
+    /// No such command or edit, or a wrong number of words.
     #[error("usage: uri COMMAND TEXT..")]
     Usage,
+    #[error(transparent)]
+    Scheme(#[from] SchemeError),
+    #[error(transparent)]
+    Authority(#[from] AuthorityError),
     #[error(transparent)]
     Path(#[from] PathError),
     #[error(transparent)]
@@ -21,9 +25,25 @@ pub enum Failure {
     Fragment(#[from] FragmentError),
     #[error(transparent)]
     Reference(#[from] URIReferenceError),
+    #[error(transparent)]
+    Uri(#[from] URIError),
+    /// An edit that was refused, by its index.
+    #[error("edit {index}: {refusal}")]
+    Edit {
+        index: usize,
+        refusal: URIReferenceError,
+    },
+    #[error("out of memory")]
+    Memory(#[from] AllocError),
     /// A write that failed.
     #[error(transparent)]
     Write(#[from] io::Error),
+}
+
+impl<T: Drop> From<AllocFailed<T>> for Failure {
+    fn from(_error: AllocFailed<T>) -> Failure {
+        Failure::Memory(AllocError)
+    }
 }
 
 impl Failure {

@@ -1,9 +1,13 @@
 //! The program `uri`: reads texts as URIs or their parts, and prints what they hold.
 #![tactic(auto)]
 
+mod edit;
+mod equal;
 mod failure;
+mod normalize;
 mod parse;
 mod part;
+mod resolve;
 mod run;
 mod tail;
 

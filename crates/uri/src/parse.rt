@@ -4,8 +4,7 @@ use crate::failure::Failure;
 use crate::part::print_part;
 use std::alloc::Global;
 use std::io::Write;
-use uriparse_authority::authority::{Authority, Host};
-use uriparse_reference::uri_reference::URIReference;
+use uriparse::{Authority, Host, URIReference};
 
 /// Prints the reference, its path, and its other parts where it has them, a line each.
 pub fn parse<O: Write>(alloc: Global, text: &str, out: &mut O) -> Result<(), Failure> {

@@ -1,7 +1,11 @@
 //! The commands, by their words.
 
+use crate::edit::edit;
+use crate::equal::equal;
 use crate::failure::Failure;
+use crate::normalize::normalize;
 use crate::parse::parse;
+use crate::resolve::resolve;
 use crate::tail::tail;
 use std::alloc::Global;
 use std::io::Write;
@@ -23,11 +27,12 @@ pub fn run<O: Write, E: Write>(alloc: Global, words: &[&str], out: &mut O, err: 
 
 fn command<O: Write>(alloc: Global, words: &[&str], out: &mut O) -> Result<(), Failure> {
     match words {
-        [name, text] => match *name {
-            "parse" => parse(alloc, text, out),
-            "tail" => tail(alloc, text, out),
-            _ => Err(Failure::Usage),
-        },
+        ["parse", text] => parse(alloc, text, out),
+        ["tail", text] => tail(alloc, text, out),
+        ["normalize", text] => normalize(alloc, text, out),
+        ["equal", left, right] => equal(alloc, left, right, out),
+        ["resolve", base, reference] => resolve(alloc, base, reference, out),
+        ["edit", text, edits @ ..] => edit(alloc, text, edits, out),
         _ => Err(Failure::Usage),
     }
 }

@@ -4,9 +4,7 @@ use crate::failure::Failure;
 use crate::part::print_part;
 use std::alloc::Global;
 use std::io::Write;
-use uriparse_path::path::Path;
-use uriparse_text::fragment::Fragment;
-use uriparse_text::query::Query;
+use uriparse::{Fragment, Path, Query};
 
 /// The text before the first such mark, and what stands behind it if there is one.
 fn cut(text: &str, mark: char) -> (&str, Option<&str>) {

@@ -1,5 +1,6 @@
 -- Reading an authority is exact; what its texts are cut into; and how authorities compare.
-use Rattle.std.proofs.Common.{◌≡◌, ◌↔◌, ℕ, Bool, true, false, cond, List, [], ◌∷◌, ◌++◌, Option, Some, None, Ok, Err, refl, sym, ap, ◌∙◌, subst, append-nil, fold, arith, IsTrue}
+use Rattle.std.proofs.Common.{◌≡◌, ◌↔◌, ℕ, Bool, true, false, cond, List, [], ◌∷◌, ◌++◌, Option, Some, None, Ok, Err, refl, sym, ap, ◌∙◌, subst, append-nil}
+use Rattle.std.proofs.Common.{fold, arith, IsTrue}
 use Rattle.std.specs.Prelude.{not, ◌==◌, ◌||◌, IfSome, IsSome, unwrap_or, bytes_eq}
 use Rattle.std.specs.Option.{option_map, option_eq}
 use Rattle.std.specs.Char.{is_digit}
@@ -13,7 +14,8 @@ use Rattle.uriparse_text.specs.Canon.{canon, fed_spelling}
 use Rattle.uriparse_text.specs.declared.parts.class.Class.TheVariants as class
 use Rattle.uriparse_text.specs.Cuts.{lacks, none_pass, behind, ahead, before, after, front, rest, up_to, from_first, from_last, up_to_last}
 use Rattle.uriparse_text.specs.Readings.{◌>>=◌, of_piece, if_present, error_of}
-use Rattle.uriparse_text.proofs.CutLemmas.{lacks-append, lacks-behind, before_after, front_rest, before_of, after_of, front_of, up_to-append, from_first-append, cut-whole, from_last-of, up_to_last-of, last-whole, none_of_either, none_of_two}
+use Rattle.uriparse_text.proofs.CutLemmas.{lacks-append, lacks-behind, before_after, front_rest, before_of, after_of, front_of, up_to-append, from_first-append}
+use Rattle.uriparse_text.proofs.CutLemmas.{cut-whole, from_last-of, up_to_last-of, last-whole, none_of_either, none_of_two}
 use Rattle.uriparse_text.proofs.OptionLemmas.{same_option, fed_option}
 use Rattle.uriparse_text.proofs.ReadingLemmas.{IsExact, texts_again, texts_found, bind_ok, piece_found, none_or}
 use Rattle.uriparse_authority.specs.declared.authority.host.Host.{Host}
@@ -22,10 +24,14 @@ use Rattle.uriparse_authority.specs.Username as username
 use Rattle.uriparse_authority.specs.Password as password
 use Rattle.uriparse_authority.specs.Host as host
 use Rattle.uriparse_authority.specs.Port as port
-use Rattle.uriparse_authority.specs.Authority.{AuthorityParts, user, joined, IsPaired, Spells, Valid, ReadsBack, print, canonical_text, kind, front_text, right_text, name_in, password_in, username_text, password_text, ends_host, colon_part, cut_port, cut_host, host_text, port_text, reading, ends_authority, rest_error, unless_rest, whole_reading, key, each_alike, fed_pieces, fed}
+use Rattle.uriparse_authority.specs.Authority.{AuthorityParts, userinfo, joined, IsPaired, Spells, Valid, ReadsBack, print, canonical_text, kind, userinfo_text}
+use Rattle.uriparse_authority.specs.Authority.{host_and_port_text, username_in, password_in, username_text, password_text, ends_host, colon_part, cut_port}
+use Rattle.uriparse_authority.specs.Authority.{cut_host, host_text, port_text, reading, ends_authority, rest_error, unless_rest, whole_reading, key, each_alike}
+use Rattle.uriparse_authority.specs.Authority.{fed_pieces, fed}
 use Rattle.uriparse_authority.proofs.UserLemmas.{is_gen_delim, username_lacks, password_lacks, IsUsername-canon, IsPassword-canon}
 use Rattle.uriparse_authority.proofs.PortLemmas.{port_exact, port_printed, port_lacks, decimal_lacks, decimal_of_one_port}
-use Rattle.uriparse_authority.proofs.HostLemmas.{host_exact, host_valid, IsHostText, spelled_host, printed_host, canonical_host, host_text_lacks, no_port, host_alike, code_kind}
+use Rattle.uriparse_authority.proofs.HostLemmas.{host_exact, host_valid, IsHostText, spelled_host, printed_host, canonical_host, host_text_lacks, no_port}
+use Rattle.uriparse_authority.proofs.HostLemmas.{host_alike, code_kind}
 
 -- ---- a text that is joined from such pieces is cut into them
 
@@ -47,21 +53,23 @@ some_password b gen other None is = tt
 some_password b gen other (Some t) is = password_lacks b gen other t is
 
 -- user information lacks a delimiter that is neither its colon nor one of a password's bytes
-user_lacks : (b : ℕ) → is_gen_delim b ≡ true → (b == colon) ≡ false → not (colon == b) ≡ true → (u w : Option (List ℕ)) → IfSome u username.IsUsername → IfSome w password.IsPassword → IfSome (user u w) (λ t. lacks b t ≡ true)
+user_lacks : (b : ℕ) → is_gen_delim b ≡ true → (b == colon) ≡ false → not (colon == b) ≡ true → (u w : Option (List ℕ)) → IfSome u username.IsUsername
+    → IfSome w password.IsPassword → IfSome (userinfo u w) (λ t. lacks b t ≡ true)
 user_lacks b gen other mark None w is also = tt
 user_lacks b gen other mark (Some t) w is also =
     lacks-append b t (behind colon w) (username_lacks b gen t is) (lacks-behind b colon w mark (some_password b gen other w also))
 
-name_of : (u w : Option (List ℕ)) → IfSome u username.IsUsername → name_in (user u w) ≡ u
+name_of : (u w : Option (List ℕ)) → IfSome u username.IsUsername → username_in (userinfo u w) ≡ u
 name_of None w is = refl
 name_of (Some t) w is = ap Some (before_of colon t w refl (username_lacks colon refl t is))
 
-password_of : (u w : Option (List ℕ)) → IfSome u username.IsUsername → IsPaired u w → password_in (user u w) ≡ w
+password_of : (u w : Option (List ℕ)) → IfSome u username.IsUsername → IsPaired u w → password_in (userinfo u w) ≡ w
 password_of None None is pair = refl
 password_of None (Some t) is pair = absurd (cc)
 password_of (Some t) w is pair = after_of colon t w refl (username_lacks colon refl t is)
 
-port_of : (g : List ℕ) (n : Option (List ℕ)) → cut_port g ≡ None → IfSome n (λ t. lacks colon t ≡ true) → IfSome n (λ t. lacks right_bracket t ≡ true) → (cut_port (g ++ behind colon n) ≡ n) × (cut_host (g ++ behind colon n) ≡ g)
+port_of : (g : List ℕ) (n : Option (List ℕ)) → cut_port g ≡ None → IfSome n (λ t. lacks colon t ≡ true) → IfSome n (λ t. lacks right_bracket t ≡ true)
+    → (cut_port (g ++ behind colon n) ≡ n) × (cut_host (g ++ behind colon n) ≡ g)
 port_of g None e h k =
     let a : cut_port (g ++ []) ≡ None = ap cut_port (append-nil g) ∙ e in
     (a, ap (λ o. unwrap_or (option_map (λ _. up_to_last ends_host (g ++ [])) o) (g ++ [])) a ∙ append-nil g)
@@ -71,7 +79,8 @@ port_of g (Some t) e h k =
     (a, ap (λ o. unwrap_or (option_map (λ _. up_to_last ends_host (g ++ colon ∷ t)) o) (g ++ colon ∷ t)) a ∙ up_to_last-of ends_host g colon t refl n)
 
 -- what stands behind an "@", or the whole text where there is none
-front_user : (o : Option (List ℕ)) (right : List ℕ) → IfSome o (λ t. lacks at_sign t ≡ true) → lacks at_sign right ≡ true → (front at_sign (ahead at_sign o ++ right) ≡ o) × (rest at_sign (ahead at_sign o ++ right) ≡ right)
+front_user : (o : Option (List ℕ)) (right : List ℕ) → IfSome o (λ t. lacks at_sign t ≡ true) → lacks at_sign right ≡ true
+    → (front at_sign (ahead at_sign o ++ right) ≡ o) × (rest at_sign (ahead at_sign o ++ right) ≡ right)
 front_user (Some t) right h k = front_of at_sign t right refl h
 front_user None right h k =
     let none : after at_sign right ≡ None = ap (after at_sign) (sym (append-nil right)) ∙ after_of at_sign right None refl k in
@@ -80,13 +89,15 @@ front_user None right h k =
 pub cut_again : (a : List ℕ) (u w : Option (List ℕ)) (g : List ℕ) (n : Option (List ℕ)) → ArePieces u w g n → a ≡ joined u w g n → IsCutInto a u w g n
 cut_again a u w g n are whole =
     let right : List ℕ = g ++ behind colon n in
-    let right_lacks : lacks at_sign right ≡ true = lacks-append at_sign g (behind colon n) (host_text_lacks at_sign refl refl refl refl g are.is_host) (lacks-behind at_sign colon n refl (are.is_port at_sign refl)) in
-    let cut = front_user (user u w) right (user_lacks at_sign refl refl refl u w are.is_username are.is_password) right_lacks in
-    let f : front_text a ≡ user u w = ap front_text whole ∙ cut.0 in
-    let r : right_text a ≡ right = ap right_text whole ∙ cut.1 in
+    let right_lacks : lacks at_sign right ≡ true =
+    lacks-append at_sign g (behind colon n) (host_text_lacks at_sign refl refl refl refl g are.is_host)
+    (lacks-behind at_sign colon n refl (are.is_port at_sign refl)) in
+    let cut = front_user (userinfo u w) right (user_lacks at_sign refl refl refl u w are.is_username are.is_password) right_lacks in
+    let f : userinfo_text a ≡ userinfo u w = ap userinfo_text whole ∙ cut.0 in
+    let r : host_and_port_text a ≡ right = ap host_and_port_text whole ∙ cut.1 in
     let last = port_of g n (no_port g are.is_host) (are.is_port colon refl) (are.is_port right_bracket refl) in
     record {
-      username = ap name_in f ∙ name_of u w are.is_username;
+      username = ap username_in f ∙ name_of u w are.is_username;
       password = ap password_in f ∙ password_of u w are.is_username are.paired;
       host = ap cut_host r ∙ last.1;
       port = ap cut_port r ∙ last.0;
@@ -101,17 +112,22 @@ lacks-ahead : (b : ℕ) (o : Option (List ℕ)) → not (at_sign == b) ≡ true 
 lacks-ahead b None other h = refl
 lacks-ahead b (Some t) other h = lacks-append b t (at_sign ∷ []) h (and_from (not (at_sign == b)) true other refl)
 
-lacks-joined : (b : ℕ) → is_gen_delim b ≡ true → (b == colon) ≡ false → not (colon == b) ≡ true → not (at_sign == b) ≡ true → is_digit b 10 ≡ false → ((g : List ℕ) → IsHostText g → lacks b g ≡ true) → (u w : Option (List ℕ)) (g : List ℕ) (n : Option (List ℕ)) → ArePieces u w g n → lacks b (joined u w g n) ≡ true
+lacks-joined : (b : ℕ) → is_gen_delim b ≡ true → (b == colon) ≡ false → not (colon == b) ≡ true → not (at_sign == b) ≡ true → is_digit b 10 ≡ false
+    → ((g : List ℕ) → IsHostText g → lacks b g ≡ true) → (u w : Option (List ℕ)) (g : List ℕ) (n : Option (List ℕ)) → ArePieces u w g n
+    → lacks b (joined u w g n) ≡ true
 lacks-joined b gen other mark at digit in_host u w g n are =
-    lacks-append b (ahead at_sign (user u w)) (g ++ behind colon n) (lacks-ahead b (user u w) at (user_lacks b gen other mark u w are.is_username are.is_password))
+    lacks-append b (ahead at_sign (userinfo u w)) (g ++ behind colon n) (lacks-ahead b (userinfo u w) at
+    (user_lacks b gen other mark u w are.is_username are.is_password))
     (lacks-append b g (behind colon n) (in_host g are.is_host) (lacks-behind b colon n mark (are.is_port b digit)))
 
 joined_lacks : (u w : Option (List ℕ)) (g : List ℕ) (n : Option (List ℕ)) → ArePieces u w g n → LacksEnds (joined u w g n)
 joined_lacks u w g n are =
     let a : List ℕ = joined u w g n in
     let x : lacks slash a ≡ true = lacks-joined slash refl refl refl refl refl (λ g h. host_text_lacks slash refl refl refl refl g h) u w g n are in
-    let y : lacks question_mark a ≡ true = lacks-joined question_mark refl refl refl refl refl (λ g h. host_text_lacks question_mark refl refl refl refl g h) u w g n are in
-    let z : lacks number_sign a ≡ true = lacks-joined number_sign refl refl refl refl refl (λ g h. host_text_lacks number_sign refl refl refl refl g h) u w g n are in
+    let y : lacks question_mark a ≡ true =
+    lacks-joined question_mark refl refl refl refl refl (λ g h. host_text_lacks question_mark refl refl refl refl g h) u w g n are in
+    let z : lacks number_sign a ≡ true =
+    lacks-joined number_sign refl refl refl refl refl (λ g h. host_text_lacks number_sign refl refl refl refl g h) u w g n are in
     none_of_either (λ b. b == slash) (λ b. b == question_mark || b == number_sign) a x (none_of_two question_mark number_sign a y z)
 
 -- ---- the pieces of spelled, printed and canonical texts
@@ -125,10 +141,24 @@ printed_port None is b digit = tt
 printed_port (Some n) is b digit = decimal_lacks b digit n is
 
 spelled_pieces : (a : List ℕ) (p : AuthorityParts) (s : Spells a p) → ArePieces p.username p.password s.host_text s.port_text
-spelled_pieces a p s = record { is_username = s.is_username; is_password = s.is_password; paired = s.paired; is_host = spelled_host s.host_text p.host s.is_host; is_port = some_port s.port_text p.port s.is_port }
+spelled_pieces a p s =
+    record {
+      is_username = s.is_username;
+      is_password = s.is_password;
+      paired = s.paired;
+      is_host = spelled_host s.host_text p.host s.is_host;
+      is_port = some_port s.port_text p.port s.is_port;
+    }
 
 printed_pieces : (p : AuthorityParts) → Valid p → ArePieces p.username p.password (host.text p.host) (option_map port.text p.port)
-printed_pieces p v = record { is_username = v.is_username; is_password = v.is_password; paired = v.paired; is_host = printed_host p.host v.is_host; is_port = printed_port p.port v.is_port }
+printed_pieces p v =
+    record {
+      is_username = v.is_username;
+      is_password = v.is_password;
+      paired = v.paired;
+      is_host = printed_host p.host v.is_host;
+      is_port = printed_port p.port v.is_port;
+    }
 
 canonical_username : (u : Option (List ℕ)) → IfSome u username.IsUsername → IfSome (option_map canon u) username.IsUsername
 canonical_username None is = tt
@@ -143,8 +173,16 @@ canonical_pair u None pair = tt
 canonical_pair (Some t) (Some w) pair = refl
 canonical_pair None (Some w) pair = absurd (cc)
 
-canonical_pieces : (p : AuthorityParts) → Valid p → ArePieces (option_map canon p.username) (option_map canon p.password) (host.canonical_text p.host) (option_map port.text p.port)
-canonical_pieces p v = record { is_username = canonical_username p.username v.is_username; is_password = canonical_password p.password v.is_password; paired = canonical_pair p.username p.password v.paired; is_host = canonical_host p.host v.is_host; is_port = printed_port p.port v.is_port }
+canonical_pieces : (p : AuthorityParts) → Valid p → ArePieces (option_map canon p.username) (option_map canon p.password) (host.canonical_text p.host)
+    (option_map port.text p.port)
+canonical_pieces p v =
+    record {
+      is_username = canonical_username p.username v.is_username;
+      is_password = canonical_password p.password v.is_password;
+      paired = canonical_pair p.username p.password v.paired;
+      is_host = canonical_host p.host v.is_host;
+      is_port = printed_port p.port v.is_port;
+    }
 
 pub spelled_lacks : (a : List ℕ) (p : AuthorityParts) → Spells a p → LacksEnds a
 spelled_lacks a p s = subst LacksEnds (sym s.whole) (joined_lacks p.username p.password s.host_text s.port_text (spelled_pieces a p s))
@@ -153,13 +191,17 @@ pub print_lacks : (p : AuthorityParts) → Valid p → LacksEnds (print p)
 print_lacks p v = joined_lacks p.username p.password (host.text p.host) (option_map port.text p.port) (printed_pieces p v)
 
 pub canonical_lacks : (p : AuthorityParts) → Valid p → LacksEnds (canonical_text p)
-canonical_lacks p v = joined_lacks (option_map canon p.username) (option_map canon p.password) (host.canonical_text p.host) (option_map port.text p.port) (canonical_pieces p v)
+canonical_lacks p v =
+    joined_lacks (option_map canon p.username) (option_map canon p.password) (host.canonical_text p.host) (option_map port.text p.port) (canonical_pieces p v)
 
 pub print_cut : (p : AuthorityParts) → Valid p → IsCutInto (print p) p.username p.password (host.text p.host) (option_map port.text p.port)
 print_cut p v = cut_again (print p) p.username p.password (host.text p.host) (option_map port.text p.port) (printed_pieces p v) refl
 
-canonical_cut : (p : AuthorityParts) → Valid p → IsCutInto (canonical_text p) (option_map canon p.username) (option_map canon p.password) (host.canonical_text p.host) (option_map port.text p.port)
-canonical_cut p v = cut_again (canonical_text p) (option_map canon p.username) (option_map canon p.password) (host.canonical_text p.host) (option_map port.text p.port) (canonical_pieces p v) refl
+canonical_cut : (p : AuthorityParts) → Valid p → IsCutInto (canonical_text p) (option_map canon p.username) (option_map canon p.password)
+    (host.canonical_text p.host) (option_map port.text p.port)
+canonical_cut p v =
+    cut_again (canonical_text p) (option_map canon p.username) (option_map canon p.password) (host.canonical_text p.host) (option_map port.text p.port)
+    (canonical_pieces p v) refl
 
 -- ---- what is spelled so is read so
 
@@ -167,19 +209,22 @@ again : (a : List ℕ) (p : AuthorityParts) → Spells a p → reading a ≡ Ok 
 unfolding reading
 again a p s =
     let cut = cut_again a p.username p.password s.host_text s.port_text (spelled_pieces a p s) s.whole in
-    let x : if_present username.reading (username_text a) ≡ Ok p.username = ap (if_present username.reading) cut.username ∙ texts_again class.Name username.error_of p.username s.is_username in
-    let y : if_present password.reading (password_text a) ≡ Ok p.password = ap (if_present password.reading) cut.password ∙ texts_again class.UserInfo password.error_of p.password s.is_password in
+    let x : if_present username.reading (username_text a) ≡ Ok p.username =
+    ap (if_present username.reading) cut.username ∙ texts_again class.Name username.error_of p.username s.is_username in
+    let y : if_present password.reading (password_text a) ≡ Ok p.password =
+    ap (if_present password.reading) cut.password ∙ texts_again class.UserInfo password.error_of p.password s.is_password in
     let z : host.reading (host_text a) ≡ Ok p.host = ap host.reading cut.host ∙ host_exact.again s.host_text p.host s.is_host in
-    let v : port.reading (unwrap_or (port_text a) []) ≡ Ok p.port = ap (λ o. port.reading (unwrap_or o [])) cut.port ∙ port_exact.again (unwrap_or s.port_text []) p.port s.is_port in
+    let v : port.reading (unwrap_or (port_text a) []) ≡ Ok p.port =
+    ap (λ o. port.reading (unwrap_or o [])) cut.port ∙ port_exact.again (unwrap_or s.port_text []) p.port s.is_port in
     rw (x, y, z, v) refl
 
 -- ---- a text, put together from its cuts
 
-user_is : (o : Option (List ℕ)) → user (name_in o) (password_in o) ≡ o
+user_is : (o : Option (List ℕ)) → userinfo (username_in o) (password_in o) ≡ o
 user_is None = refl
 user_is (Some i) = ap Some (before_after colon i)
 
-paired_is : (o : Option (List ℕ)) → IsPaired (name_in o) (password_in o)
+paired_is : (o : Option (List ℕ)) → IsPaired (username_in o) (password_in o)
 paired_is None = tt
 paired_is (Some i) = by_after (after colon i)
   where
@@ -190,21 +235,24 @@ paired_is (Some i) = by_after (after colon i)
 right_is : (t : List ℕ) → cut_host t ++ behind colon (cut_port t) ≡ t
 right_is t = by_last (from_last ends_host t) (last-whole ends_host t)
   where
-    by_last : (l : List ℕ) → up_to_last ends_host t ++ l ≡ t → unwrap_or (option_map (λ _. up_to_last ends_host t) (colon_part l)) t ++ behind colon (colon_part l) ≡ t
+    by_last : (l : List ℕ) → up_to_last ends_host t ++ l ≡ t → unwrap_or (option_map (λ _. up_to_last ends_host t) (colon_part l)) t ++ behind colon
+        (colon_part l) ≡ t
     by_last [] h = append-nil t
     by_last (b ∷ r) h = at_byte (b == colon) refl
       where
-        at_byte : (v : Bool) → (b == colon) ≡ v → unwrap_or (option_map (λ _. up_to_last ends_host t) (cond v (Some r) None)) t ++ behind colon (cond v (Some r) None) ≡ t
+        at_byte : (v : Bool) → (b == colon) ≡ v → unwrap_or (option_map (λ _. up_to_last ends_host t) (cond v (Some r) None)) t ++ behind colon
+            (cond v (Some r) None) ≡ t
         at_byte true e = ap (λ x. up_to_last ends_host t ++ x ∷ r) (sym (eqb-true b colon e)) ∙ h
         at_byte false e = append-nil t
 
 pub whole_is : (a : List ℕ) → a ≡ joined (username_text a) (password_text a) (host_text a) (port_text a)
 whole_is a =
     sym (front_rest at_sign a)
-    ∙ ap (λ o. ahead at_sign o ++ right_text a) (sym (user_is (front_text a)))
-    ∙ ap (λ u. ahead at_sign (user (username_text a) (password_text a)) ++ u) (sym (right_is (right_text a)))
+    ∙ ap (λ o. ahead at_sign o ++ host_and_port_text a) (sym (user_is (userinfo_text a)))
+    ∙ ap (λ u. ahead at_sign (userinfo (username_text a) (password_text a)) ++ u) (sym (right_is (host_and_port_text a)))
 
-spells_cuts : (a : List ℕ) (u w : Option (List ℕ)) (h : Host) (n : Option ℕ) → if_present username.reading (username_text a) ≡ Ok u → if_present password.reading (password_text a) ≡ Ok w → host.reading (host_text a) ≡ Ok h → port.reading (unwrap_or (port_text a) []) ≡ Ok n
+spells_cuts : (a : List ℕ) (u w : Option (List ℕ)) (h : Host) (n : Option ℕ) → if_present username.reading (username_text a) ≡ Ok u
+    → if_present password.reading (password_text a) ≡ Ok w → host.reading (host_text a) ≡ Ok h → port.reading (unwrap_or (port_text a) []) ≡ Ok n
     → Spells a (record { username = u; password = w; host = h; port = n })
 spells_cuts a u w h n x y z v =
     let d = texts_found class.Name username.error_of (username_text a) u x in
@@ -215,7 +263,7 @@ spells_cuts a u w h n x y z v =
       whole = rw (d.0, e.0) (whole_is a);
       is_username = d.1;
       is_password = e.1;
-      paired = rw (d.0, e.0) (paired_is (front_text a));
+      paired = rw (d.0, e.0) (paired_is (userinfo_text a));
       is_host = host_exact.found (host_text a) h z;
       is_port = port_exact.found (unwrap_or (port_text a) []) n v;
     }
@@ -228,14 +276,16 @@ found a p k =
     let z = bind_ok (of_piece errors.Host (host.reading (host_text a))) _ p y.2 in
     let v = bind_ok (of_piece errors.Port (port.reading (unwrap_or (port_text a) []))) _ p z.2 in
     let e : record { username = x.0; password = y.0; host = z.0; port = v.0 } ≡ p = cc (v.2) in
-    subst (λ q. Spells a q) e (spells_cuts a x.0 y.0 z.0 v.0 (piece_found errors.Username _ x.0 x.1) (piece_found errors.Password _ y.0 y.1) (piece_found errors.Host _ z.0 z.1) (piece_found errors.Port _ v.0 v.1))
+    subst (λ q. Spells a q) e (spells_cuts a x.0 y.0 z.0 v.0 (piece_found errors.Username _ x.0 x.1) (piece_found errors.Password _ y.0 y.1)
+    (piece_found errors.Host _ z.0 z.1) (piece_found errors.Port _ v.0 v.1))
 
 pub exact : IsExact Spells reading
 exact = record { again = again; found = found }
 
 -- ---- a text by itself, which may go on behind an authority
 
-ends_at : (a rest : List ℕ) (p : AuthorityParts) → Spells a p → up_to ends_authority rest ≡ [] → from_first ends_authority rest ≡ rest → whole_reading (a ++ rest) ≡ unless_rest rest p
+ends_at : (a rest : List ℕ) (p : AuthorityParts) → Spells a p → up_to ends_authority rest ≡ [] → from_first ends_authority rest ≡ rest
+    → whole_reading (a ++ rest) ≡ unless_rest rest p
 ends_at a rest p s h k =
     let plain = spelled_lacks a p s in
     let front : up_to ends_authority (a ++ rest) ≡ a = up_to-append ends_authority a rest plain ∙ ap (λ u. a ++ u) h ∙ append-nil a in
@@ -248,7 +298,8 @@ whole_again : (t : List ℕ) (p : AuthorityParts) → Spells t p → whole_readi
 whole_again t p s = ap whole_reading (sym (append-nil t)) ∙ ends_at t [] p s refl refl
 
 -- behind a faultless authority a rest answers
-pub rest_answers : (a : List ℕ) (b : ℕ) (u : List ℕ) (p : AuthorityParts) → Spells a p → ends_authority b ≡ true → whole_reading (a ++ b ∷ u) ≡ Err (rest_error p.port (kind p))
+pub rest_answers : (a : List ℕ) (b : ℕ) (u : List ℕ) (p : AuthorityParts) → Spells a p → ends_authority b ≡ true
+    → whole_reading (a ++ b ∷ u) ≡ Err (rest_error p.port (kind p))
 rest_answers a b u p s h = ends_at a (b ∷ u) p s (ap (λ v. cond v [] (b ∷ up_to ends_authority u)) h) (ap (λ v. cond v (b ∷ u) (from_first ends_authority u)) h)
 
 no_rest : (rest : List ℕ) (q p : AuthorityParts) → unless_rest rest q ≡ Ok p → (rest ≡ []) × (q ≡ p)
@@ -259,7 +310,8 @@ whole_found : (t : List ℕ) (p : AuthorityParts) → whole_reading t ≡ Ok p �
 whole_found t p h =
     let x = bind_ok (reading (up_to ends_authority t)) (unless_rest (from_first ends_authority t)) p h in
     let y = no_rest (from_first ends_authority t) x.0 p x.2 in
-    let front : up_to ends_authority t ≡ t = sym (append-nil (up_to ends_authority t)) ∙ ap (λ u. up_to ends_authority t ++ u) (sym y.0) ∙ cut-whole ends_authority t in
+    let front : up_to ends_authority t ≡ t =
+    sym (append-nil (up_to ends_authority t)) ∙ ap (λ u. up_to ends_authority t ++ u) (sym y.0) ∙ cut-whole ends_authority t in
     subst (λ u. Spells u p) front (found (up_to ends_authority t) p (x.1 ∙ ap Ok y.1))
 
 pub whole_exact : IsExact Spells whole_reading
@@ -272,7 +324,14 @@ port_valid [] p s = subst (λ o. IfSome o port.IsPort) (sym s.value) tt
 port_valid (d ∷ ds) p s = subst (λ o. IfSome o port.IsPort) (sym s.value) s.in_range
 
 pub valid : (a : List ℕ) (p : AuthorityParts) → Spells a p → Valid p
-valid a p s = record { is_username = s.is_username; is_password = s.is_password; paired = s.paired; is_host = host_valid s.host_text p.host s.is_host; is_port = port_valid (unwrap_or s.port_text []) p.port s.is_port }
+valid a p s =
+    record {
+      is_username = s.is_username;
+      is_password = s.is_password;
+      paired = s.paired;
+      is_host = host_valid s.host_text p.host s.is_host;
+      is_port = port_valid (unwrap_or s.port_text []) p.port s.is_port;
+    }
 
 no_digits : port.Spells [] None
 no_digits = record { digits = refl; in_range = omega arith; value = refl }
@@ -282,7 +341,17 @@ port_back None h = no_digits
 port_back (Some n) h = port_printed n h
 
 pub back : (p : AuthorityParts) → Valid p → ReadsBack p → Spells (print p) p
-back p v r = record { host_text = host.text p.host; port_text = option_map port.text p.port; whole = refl; is_username = v.is_username; is_password = v.is_password; paired = v.paired; is_host = r; is_port = port_back p.port v.is_port }
+back p v r =
+    record {
+      host_text = host.text p.host;
+      port_text = option_map port.text p.port;
+      whole = refl;
+      is_username = v.is_username;
+      is_password = v.is_password;
+      paired = v.paired;
+      is_host = r;
+      is_port = port_back p.port v.is_port;
+    }
 
 -- ---- authorities that print alike
 
@@ -359,7 +428,8 @@ fed_parts : (p : AuthorityParts) → Valid p → fed (key p)
     ++ (host.fed (host.key p.host)
     ++ option u16 p.port))
 fed_parts p v =
-    fed_cut (host.kind_code (kind p)) (canonical_text p) (option_map canon p.username) (option_map canon p.password) (host.canonical_text p.host) (option_map port.text p.port) (canonical_cut p v)
+    fed_cut (host.kind_code (kind p)) (canonical_text p) (option_map canon p.username) (option_map canon p.password) (host.canonical_text p.host)
+    (option_map port.text p.port) (canonical_cut p v)
     ∙ rw (fed_option canon fed_spelling p.username, fed_option canon fed_spelling p.password, port_value p.port v.is_port) refl
 
 -- the parts are fed one after another
@@ -391,6 +461,7 @@ none_exactly a = (
 
 pub same_key : (p q : AuthorityParts) → (key p ≡ key q) ↔ ((canonical_text p ≡ canonical_text q) × (kind p ≡ kind q))
 same_key p q = (
-  (λ e. let codes : host.kind_code (kind p) ≡ host.kind_code (kind q) = cc in let texts : canonical_text p ≡ canonical_text q = cc in (texts, code_kind (kind p) (kind q) codes)),
+  (λ e. let codes : host.kind_code (kind p) ≡ host.kind_code (kind q) = cc in let texts : canonical_text p ≡ canonical_text q = cc in
+      (texts, code_kind (kind p) (kind q) codes)),
   (λ s. rw (s.0, s.1) refl),
 )

@@ -11,18 +11,21 @@ use Rattle.uriparse_authority.specs.Authority.{ends_host, colon_part, cut_port, 
 regrouped : (t front before behind : List ℕ) (last : ℕ) → t ≡ front ++ behind → front ≡ before ++ last ∷ [] → t ≡ before ++ last ∷ behind
 regrouped t front before behind last e k = e ∙ ap (λ u. u ++ behind) k ∙ append_assoc before (last ∷ []) behind
 
-pub port_at_colon : (t front before behind : List ℕ) (last : ℕ) → t ≡ front ++ behind → none_pass ends_host behind ≡ true → front ≡ before ++ last ∷ [] → last ≡ colon → cut_port t ≡ Some behind
+pub port_at_colon : (t front before behind : List ℕ) (last : ℕ) → t ≡ front ++ behind → none_pass ends_host behind ≡ true → front ≡ before ++ last ∷ []
+    → last ≡ colon → cut_port t ≡ Some behind
 port_at_colon t front before behind last e plain k is =
     ap cut_port (regrouped t front before behind last e k ∙ ap (λ b. before ++ b ∷ behind) is)
     ∙ ap colon_part (from_last-of ends_host before colon behind refl plain)
 
-pub host_at_colon : (t front before behind : List ℕ) (last : ℕ) → t ≡ front ++ behind → none_pass ends_host behind ≡ true → front ≡ before ++ last ∷ [] → last ≡ colon → cut_host t ≡ before
+pub host_at_colon : (t front before behind : List ℕ) (last : ℕ) → t ≡ front ++ behind → none_pass ends_host behind ≡ true → front ≡ before ++ last ∷ []
+    → last ≡ colon → cut_host t ≡ before
 host_at_colon t front before behind last e plain k is =
     ap (λ o. unwrap_or (option_map (λ _. up_to_last ends_host t) o) t) (port_at_colon t front before behind last e plain k is)
     ∙ ap (up_to_last ends_host) (regrouped t front before behind last e k ∙ ap (λ b. before ++ b ∷ behind) is)
     ∙ up_to_last-of ends_host before colon behind refl plain
 
-pub no_port_at_bracket : (t front before behind : List ℕ) (last : ℕ) → t ≡ front ++ behind → none_pass ends_host behind ≡ true → front ≡ before ++ last ∷ [] → last ≡ right_bracket → cut_port t ≡ None
+pub no_port_at_bracket : (t front before behind : List ℕ) (last : ℕ) → t ≡ front ++ behind → none_pass ends_host behind ≡ true → front ≡ before ++ last ∷ []
+    → last ≡ right_bracket → cut_port t ≡ None
 no_port_at_bracket t front before behind last e plain k is =
     ap cut_port (regrouped t front before behind last e k ∙ ap (λ b. before ++ b ∷ behind) is)
     ∙ ap colon_part (from_last-of ends_host before right_bracket behind refl plain)

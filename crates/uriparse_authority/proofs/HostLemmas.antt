@@ -1,5 +1,6 @@
 -- Reading a host is exact; what its texts are made of; and how hosts compare.
-use Rattle.std.proofs.Common.{◌≡◌, ◌⊎◌, ◌↔◌, ℕ, Bool, true, false, cond, List, [], ◌∷◌, ◌++◌, Option, Some, None, Ok, Err, refl, sym, ap, ◌∙◌, subst, inl, inr, fold, arith}
+use Rattle.std.proofs.Common.{◌≡◌, ◌⊎◌, ◌↔◌, ℕ, Bool, true, false, cond, List, [], ◌∷◌, ◌++◌, Option, Some, None, Ok, Err, refl, sym, ap, ◌∙◌, subst, inl, inr}
+use Rattle.std.proofs.Common.{fold, arith}
 use Rattle.std.specs.Prelude.{not, ◌==◌, is_none, bytes_eq, codes}
 use Rattle.std.specs.Option.{option_map, ok_or}
 use Rattle.std.specs.List.{list_all}
@@ -19,7 +20,8 @@ use Rattle.uriparse_text.proofs.ClassLemmas.{IsIn-spelling}
 use Rattle.uriparse_text.proofs.CutLemmas.{lacks_by, lacks-append, from_last-none, from_last-of, none_of_two}
 use Rattle.uriparse_text.specs.Readings.{reading_in}
 use Rattle.uriparse_text.proofs.ReadingLemmas.{IsExact, exact_in}
-use Rattle.uriparse_text.proofs.AddressLemmas.{ipv4_reading-spelled, ipv4_reading-found, ipv6_reading-spelled, ipv6_reading-found, SpellsIpv4-ipv4_text, SpellsIpv6-ipv6_text, ipv4_reading-ipv4_text, ipv6_reading-ipv6_text, ipv4_text-injective, ipv6_text-injective}
+use Rattle.uriparse_text.proofs.AddressLemmas.{ipv4_reading-spelled, ipv4_reading-found, ipv6_reading-spelled, ipv6_reading-found, SpellsIpv4-ipv4_text}
+use Rattle.uriparse_text.proofs.AddressLemmas.{SpellsIpv6-ipv6_text, ipv4_reading-ipv4_text, ipv6_reading-ipv6_text, ipv4_text-injective, ipv6_text-injective}
 use Rattle.uriparse_text.proofs.AddressBytes.{SpellsIpv6-bytes, IsIn-SpellsIpv4}
 use Rattle.uriparse_text.proofs.AddressFit.{IsSegments-SpellsIpv6}
 use Rattle.uriparse_text.proofs.OctetLemmas.{IsOctets-SpellsIpv4}
@@ -27,8 +29,11 @@ use Rattle.uriparse_authority.specs.Name.{IsName}
 use Rattle.uriparse_authority.specs.Name as name
 use Rattle.uriparse_authority.specs.declared.authority.host.Host.{Host}
 use Rattle.uriparse_authority.specs.declared.authority.host.Host.TheVariants.{IPv4Address, IPv6Address, RegisteredName}
-use Rattle.uriparse_authority.specs.declared.authority.error.HostError.TheVariants.{InvalidIPv4OrRegisteredNameCharacter, InvalidIPv6Character, InvalidIPv6Format}
-use Rattle.uriparse_authority.specs.Host.{Kind, kind, kind_code, bracketed, Spells, text, canonical_text, Valid, ReadsBack, IsHiddenAddress, closed, in_brackets, begins_future, future_error, literal_reading, address_or_name, name_reading, bracket_reading, reading, key, fed}
+use Rattle.uriparse_authority.specs.declared.authority.error.HostError.TheVariants.{InvalidIPv4OrRegisteredNameCharacter, InvalidIPv6Character}
+use Rattle.uriparse_authority.specs.declared.authority.error.HostError.TheVariants.{InvalidIPv6Format}
+use Rattle.uriparse_authority.specs.Host.{Kind, kind, kind_code, bracketed, Spells, text, canonical_text, Valid, ReadsBack, IsHiddenAddress, closed}
+use Rattle.uriparse_authority.specs.Host.{in_brackets, begins_future, future_error, literal_reading, address_or_name, name_reading, bracket_reading, reading}
+use Rattle.uriparse_authority.specs.Host.{key, fed}
 use Rattle.uriparse_authority.specs.Authority.{ends_host, colon_part, cut_port}
 use Rattle.uriparse_authority.proofs.UserLemmas.{is_gen_delim, username_lacks}
 
@@ -37,7 +42,8 @@ use Rattle.uriparse_authority.proofs.UserLemmas.{is_gen_delim, username_lacks}
 -- the last byte tells
 pub closed-last : (t : List ℕ) (b : ℕ) → closed (t ++ b ∷ []) ≡ cond (b == right_bracket) (Some t) None
 closed-last [] b = refl
-closed-last (c ∷ []) b = elim (b == right_bracket) as (λ v. option_map (λ u. c ∷ u) (cond v (Some []) None) ≡ cond v (Some (c ∷ [])) None) [ true ↦ refl | false ↦ refl ]
+closed-last (c ∷ []) b =
+    elim (b == right_bracket) as (λ v. option_map (λ u. c ∷ u) (cond v (Some []) None) ≡ cond v (Some (c ∷ [])) None) [ true ↦ refl | false ↦ refl ]
 closed-last (c ∷ d ∷ t) b =
     ap (option_map (λ u. c ∷ u)) (closed-last (d ∷ t) b)
     ∙ elim (b == right_bracket) as (λ v. option_map (λ u. c ∷ u) (cond v (Some (d ∷ t)) None) ≡ cond v (Some (c ∷ d ∷ t)) None) [ true ↦ refl | false ↦ refl ]
@@ -57,7 +63,8 @@ closed_is (b ∷ []) u h = at_byte (b == right_bracket) refl h
     at_byte false e k = cc
 closed_is (b ∷ c ∷ t) u h = at_rest (closed (c ∷ t)) (closed_is (c ∷ t)) h
   where
-    at_rest : (o : Option (List ℕ)) → ((u : List ℕ) → o ≡ Some u → c ∷ t ≡ u ++ right_bracket ∷ []) → option_map (λ u. b ∷ u) o ≡ Some u → b ∷ c ∷ t ≡ u ++ right_bracket ∷ []
+    at_rest : (o : Option (List ℕ)) → ((u : List ℕ) → o ≡ Some u → c ∷ t ≡ u ++ right_bracket ∷ []) → option_map (λ u. b ∷ u) o ≡ Some u
+        → b ∷ c ∷ t ≡ u ++ right_bracket ∷ []
     at_rest None f k = cc
     at_rest (Some w) f k = let p : b ∷ w ≡ u = cc in ap (λ x. b ∷ x) (f w refl) ∙ ap (λ x. x ++ right_bracket ∷ []) p
 
@@ -107,7 +114,8 @@ again t (IPv6Address a) s =
     let e : in_brackets t ≡ Some inner = ap in_brackets s.1 ∙ closed-bracket inner in
     rw (e, no_future inner bytes, bytes, ipv6_reading-spelled inner a s.2) refl
 again t (RegisteredName n) s =
-    rw (name_no_brackets t s.1, (no_fault class.Name t).1 s.1, name_or t (ipv4_reading t) (λ a e. s.2 a (ipv4_reading-found t a e))) (ap (λ x. Ok (RegisteredName x)) (sym s.0))
+    rw (name_no_brackets t s.1, (no_fault class.Name t).1 s.1, name_or t (ipv4_reading t) (λ a e. s.2 a (ipv4_reading-found t a e)))
+    (ap (λ x. Ok (RegisteredName x)) (sym s.0))
 
 name_found : (t : List ℕ) (h : Host) → name_reading t ≡ Ok h → Spells t h
 name_found t h k = at_fault (fault class.Name t) refl k
@@ -116,14 +124,17 @@ name_found t h k = at_fault (fault class.Name t) refl k
     at_name None e n = (refl, n, λ a s. let x : None ≡ Some a = sym e ∙ ipv4_reading-spelled t a s in cc)
     at_name (Some a) e n = ipv4_reading-found t a e
 
-    at_fault : (f : Option ℕ) → fault class.Name t ≡ f → cond (is_none f) (Ok (address_or_name t (ipv4_reading t))) (Err InvalidIPv4OrRegisteredNameCharacter) ≡ Ok h → Spells t h
-    at_fault None e k = let p : address_or_name t (ipv4_reading t) ≡ h = cc in subst (λ x. Spells t x) p (at_name (ipv4_reading t) refl ((no_fault class.Name t).0 e))
+    at_fault : (f : Option ℕ) → fault class.Name t ≡ f → cond (is_none f) (Ok (address_or_name t (ipv4_reading t))) (Err InvalidIPv4OrRegisteredNameCharacter) ≡
+        Ok h → Spells t h
+    at_fault None e k =
+        let p : address_or_name t (ipv4_reading t) ≡ h = cc in subst (λ x. Spells t x) p (at_name (ipv4_reading t) refl ((no_fault class.Name t).0 e))
     at_fault (Some x) e k = cc
 
 literal_found : (t : List ℕ) (h : Host) → literal_reading t ≡ Ok h → Spells (bracketed t) h
 literal_found t h k = at_tests (begins_future t) (list_all is_ipv6_byte t) (ipv6_reading t) refl k
   where
-    at_tests : (v w : Bool) (o : Option (List ℕ)) → ipv6_reading t ≡ o → cond v (Err (future_error t)) (cond w (ok_or (option_map IPv6Address o) InvalidIPv6Format) (Err InvalidIPv6Character)) ≡ Ok h → Spells (bracketed t) h
+    at_tests : (v w : Bool) (o : Option (List ℕ)) → ipv6_reading t ≡ o
+        → cond v (Err (future_error t)) (cond w (ok_or (option_map IPv6Address o) InvalidIPv6Format) (Err InvalidIPv6Character)) ≡ Ok h → Spells (bracketed t) h
     at_tests true w o f k = cc
     at_tests false false o f k = cc
     at_tests false true None f k = cc
@@ -150,7 +161,8 @@ names_again t n s = at_address (ipv4_reading t) refl
 names_found : (t n : List ℕ) → name.reading t ≡ Ok n → Spells t (RegisteredName n)
 names_found t n h = at_address (ipv4_reading t) refl h
   where
-    at_address : (o : Option (List ℕ)) → ipv4_reading t ≡ o → cond (is_none o) (reading_in class.Name name.error_of t) (Err (record {})) ≡ Ok n → Spells t (RegisteredName n)
+    at_address : (o : Option (List ℕ)) → ipv4_reading t ≡ o → cond (is_none o) (reading_in class.Name name.error_of t) (Err (record {})) ≡ Ok n
+        → Spells t (RegisteredName n)
     at_address None e k =
         let is = (exact_in class.Name name.error_of).found t n k in
         (is.same, is.fine, λ a s. let x : None ≡ Some a = sym e ∙ ipv4_reading-spelled t a s in cc)
@@ -190,14 +202,17 @@ canonical_host (IPv6Address a) v = printed_host (IPv6Address a) v
 canonical_host (RegisteredName n) v = inl (IsIn-spelling class.Name Lowered n v)
 
 -- it has none of the delimiters that stand in no name and no IPv6 address
-pub host_text_lacks : (b : ℕ) → is_gen_delim b ≡ true → is_ipv6_byte b ≡ false → not (left_bracket == b) ≡ true → not (right_bracket == b) ≡ true → (g : List ℕ) → IsHostText g → lacks b g ≡ true
+pub host_text_lacks : (b : ℕ) → is_gen_delim b ≡ true → is_ipv6_byte b ≡ false → not (left_bracket == b) ≡ true → not (right_bracket == b) ≡ true → (g : List ℕ)
+    → IsHostText g → lacks b g ≡ true
 host_text_lacks b gen other left right g (inl n) = username_lacks b gen g n
 host_text_lacks b gen other left right g (inr u) =
-    subst (λ x. lacks b x ≡ true) (sym u.1) (and_from (not (left_bracket == b)) _ left (lacks-append b u.0 (right_bracket ∷ []) (lacks_by is_ipv6_byte b u.0 other u.2) (and_from (not (right_bracket == b)) true right refl)))
+    subst (λ x. lacks b x ≡ true) (sym u.1) (and_from (not (left_bracket == b)) _ left
+    (lacks-append b u.0 (right_bracket ∷ []) (lacks_by is_ipv6_byte b u.0 other u.2) (and_from (not (right_bracket == b)) true right refl)))
 
 -- no port starts inside a host
 pub no_port : (g : List ℕ) → IsHostText g → cut_port g ≡ None
-no_port g (inl n) = ap colon_part (from_last-none ends_host g (none_of_two colon right_bracket g (username_lacks colon refl g n) (username_lacks right_bracket refl g n)))
+no_port g (inl n) =
+    ap colon_part (from_last-none ends_host g (none_of_two colon right_bracket g (username_lacks colon refl g n) (username_lacks right_bracket refl g n)))
 no_port g (inr u) = ap cut_port u.1 ∙ ap colon_part (from_last-of ends_host (left_bracket ∷ u.0) right_bracket [] refl refl)
 
 -- but for a name that hides an address, a host's text stands for it
@@ -242,17 +257,22 @@ ipv4_test a b v w =
     (λ t. ap (λ x. 4 ∷ ipv4_text x) (test.0 t), λ e. let texts : ipv4_text a ≡ ipv4_text b = cc in test.1 (ipv4_text-injective a b v w texts))
     (bytes_eq-Decides (4 ∷ ipv4_text a) (4 ∷ ipv4_text b))
 
-pub same_ipv4 : (g h : Host) (a b x y : List ℕ) (r : Bool) → g ≡ IPv4Address a → h ≡ IPv4Address b → IsOctets a → IsOctets b → x ≡ a → y ≡ b → r ≡ bytes_eq x y → r ≡ bytes_eq (key g) (key h)
+pub same_ipv4 : (g h : Host) (a b x y : List ℕ) (r : Bool) → g ≡ IPv4Address a → h ≡ IPv4Address b → IsOctets a → IsOctets b → x ≡ a → y ≡ b → r ≡ bytes_eq x y
+    → r ≡ bytes_eq (key g) (key h)
 same_ipv4 g h a b x y r e f v w i j k = rw (e, f) (k ∙ rw (i, j) (ipv4_test a b v w))
 
 ipv6_test : (a b : List ℕ) → IsSegments a → IsSegments b → bytes_eq a b ≡ bytes_eq (key (IPv6Address a)) (key (IPv6Address b))
 ipv6_test a b v w =
     let test = bytes_eq-Decides a b in
-    same_from_decides (bytes_eq a b) (bytes_eq (6 ∷ bracketed (ipv6_text a)) (6 ∷ bracketed (ipv6_text b)))
-    (λ t. ap (λ x. 6 ∷ bracketed (ipv6_text x)) (test.0 t), λ e. let texts : bracketed (ipv6_text a) ≡ bracketed (ipv6_text b) = cc in test.1 (ipv6_text-injective a b v w (bracketed-injective (ipv6_text a) (ipv6_text b) texts)))
+    same_from_decides (bytes_eq a b) (bytes_eq (6 ∷ bracketed (ipv6_text a)) (6 ∷ bracketed (ipv6_text b))) (
+      λ t. ap (λ x. 6 ∷ bracketed (ipv6_text x)) (test.0 t),
+      λ e. let texts : bracketed (ipv6_text a) ≡ bracketed (ipv6_text b) = cc in test.1
+          (ipv6_text-injective a b v w (bracketed-injective (ipv6_text a) (ipv6_text b) texts)),
+    )
     (bytes_eq-Decides (6 ∷ bracketed (ipv6_text a)) (6 ∷ bracketed (ipv6_text b)))
 
-pub same_ipv6 : (g h : Host) (a b x y : List ℕ) (r : Bool) → g ≡ IPv6Address a → h ≡ IPv6Address b → IsSegments a → IsSegments b → x ≡ a → y ≡ b → r ≡ bytes_eq x y → r ≡ bytes_eq (key g) (key h)
+pub same_ipv6 : (g h : Host) (a b x y : List ℕ) (r : Bool) → g ≡ IPv6Address a → h ≡ IPv6Address b → IsSegments a → IsSegments b → x ≡ a → y ≡ b
+    → r ≡ bytes_eq x y → r ≡ bytes_eq (key g) (key h)
 same_ipv6 g h a b x y r e f v w i j k = rw (e, f) (k ∙ rw (i, j) (ipv6_test a b v w))
 
 pub code_kind : (k l : Kind) → kind_code k ≡ kind_code l → k ≡ l
@@ -268,7 +288,8 @@ code_kind Kind.Name Kind.V6 e = absurd (cc)
 
 pub same_host : (g h : Host) → (key g ≡ key h) ↔ ((canonical_text g ≡ canonical_text h) × (kind g ≡ kind h))
 same_host g h = (
-  (λ e. let codes : kind_code (kind g) ≡ kind_code (kind h) = cc in let texts : canonical_text g ≡ canonical_text h = cc in (texts, code_kind (kind g) (kind h) codes)),
+  (λ e. let codes : kind_code (kind g) ≡ kind_code (kind h) = cc in let texts : canonical_text g ≡ canonical_text h = cc in
+      (texts, code_kind (kind g) (kind h) codes)),
   (λ s. rw (s.0, s.1) refl),
 )
 
@@ -280,13 +301,16 @@ fed_ipv4 a v = rw (ipv4_reading-ipv4_text a v) refl
 pub fed_ipv6 : (a : List ℕ) → IsSegments a → fed (key (IPv6Address a)) ≡ u8 6 ++ slice u16 a
 fed_ipv6 a v = rw (closed-bracket (ipv6_text a), ipv6_reading-ipv6_text a v) refl
 
-feeds : {S : Type 0} (write : S → List ℕ → S) (s t u : S) (h : Host) (code : ℕ) (numbers : HashWrites) → fed (key h) ≡ u8 code ++ numbers → t ≡ write s (code ∷ []) → u ≡ fold write t numbers → u ≡ fold write s (fed (key h))
+feeds : {S : Type 0} (write : S → List ℕ → S) (s t u : S) (h : Host) (code : ℕ) (numbers : HashWrites) → fed (key h) ≡ u8 code ++ numbers
+    → t ≡ write s (code ∷ []) → u ≡ fold write t numbers → u ≡ fold write s (fed (key h))
 feeds write s t u h code numbers i e f = f ∙ ap (λ y. fold write y numbers) e ∙ sym (ap (fold write s) i)
 
-pub feeds_ipv4 : {S : Type 0} (write : S → List ℕ → S) (s t u : S) (h : Host) (a x : List ℕ) → h ≡ IPv4Address a → IsOctets a → x ≡ a → t ≡ write s (4 ∷ []) → u ≡ fold write t (slice u8 x) → u ≡ fold write s (fed (key h))
+pub feeds_ipv4 : {S : Type 0} (write : S → List ℕ → S) (s t u : S) (h : Host) (a x : List ℕ) → h ≡ IPv4Address a → IsOctets a → x ≡ a → t ≡ write s (4 ∷ [])
+    → u ≡ fold write t (slice u8 x) → u ≡ fold write s (fed (key h))
 feeds_ipv4 write s t u h a x i v j e f =
     feeds write s t u h 4 (slice u8 a) (ap (λ g. fed (key g)) i ∙ fed_ipv4 a v) e (f ∙ ap (λ y. fold write t (slice u8 y)) j)
 
-pub feeds_ipv6 : {S : Type 0} (write : S → List ℕ → S) (s t u : S) (h : Host) (a x : List ℕ) → h ≡ IPv6Address a → IsSegments a → x ≡ a → t ≡ write s (6 ∷ []) → u ≡ fold write t (slice u16 x) → u ≡ fold write s (fed (key h))
+pub feeds_ipv6 : {S : Type 0} (write : S → List ℕ → S) (s t u : S) (h : Host) (a x : List ℕ) → h ≡ IPv6Address a → IsSegments a → x ≡ a → t ≡ write s (6 ∷ [])
+    → u ≡ fold write t (slice u16 x) → u ≡ fold write s (fed (key h))
 feeds_ipv6 write s t u h a x i v j e f =
     feeds write s t u h 6 (slice u16 a) (ap (λ g. fed (key g)) i ∙ fed_ipv6 a v) e (f ∙ ap (λ y. fold write t (slice u16 y)) j)

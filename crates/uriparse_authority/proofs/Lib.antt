@@ -6,3 +6,4 @@ pub mod AuthorityLemmas
 pub mod NormalLemmas
 pub mod PrintedLemmas
 pub mod PieceLemmas
+pub mod LengthLemmas

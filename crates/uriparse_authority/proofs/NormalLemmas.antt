@@ -1,5 +1,5 @@
 -- Hosts and authorities in canonical spelling.
-use Rattle.std.proofs.Common.{◌≡◌, ℕ, List, Option, Some, None, refl, sym, ap, ◌∙◌}
+use Rattle.std.proofs.Common.{◌≡◌, ℕ, List, Option, Some, None, refl, sym, ap, ◌∙◌, subst}
 use Rattle.std.specs.Prelude.{IfSome}
 use Rattle.std.specs.Option.{option_map}
 use Rattle.uriparse_text.specs.declared.parts.class.Class.{Class}
@@ -9,7 +9,8 @@ use Rattle.uriparse_text.specs.Faults.{IsIn}
 use Rattle.uriparse_text.specs.Canon.{canon}
 use Rattle.uriparse_text.proofs.CanonLemmas.{spelling-spelling}
 use Rattle.uriparse_text.proofs.ClassLemmas.{well_formed-in_class, IsIn-spelling}
-use Rattle.uriparse_authority.specs.Authority.{AuthorityParts, IsPaired, Valid, joined, print, canonical_text, kind, username_text, password_text, host_text, port_text}
+use Rattle.uriparse_authority.specs.Authority.{AuthorityParts, IsPaired, Valid, joined, print, canonical_text, kind, username_text, password_text, host_text}
+use Rattle.uriparse_authority.specs.Authority.{port_text}
 use Rattle.uriparse_authority.specs.Host as host
 use Rattle.uriparse_authority.specs.Port as port
 use Rattle.uriparse_authority.specs.Normal.{canonical_host, canonical_authority}
@@ -66,12 +67,21 @@ pub kind-canonical : (a : AuthorityParts) → kind (canonical_authority a) ≡ k
 kind-canonical a = host_kind-canonical a.host
 
 pub valid_canonical : (a : AuthorityParts) → Valid a → Valid (canonical_authority a)
-valid_canonical a v = record { is_username = text_valid Name a.username v.is_username; is_password = text_valid UserInfo a.password v.is_password; paired = paired a.username a.password v.paired; is_host = host_valid_canonical a.host v.is_host; is_port = v.is_port }
+valid_canonical a v =
+    record {
+      is_username = text_valid Name a.username v.is_username;
+      is_password = text_valid UserInfo a.password v.is_password;
+      paired = paired a.username a.password v.paired;
+      is_host = host_valid_canonical a.host v.is_host;
+      is_port = v.is_port;
+    }
 
 pub canonical_twice : (a : AuthorityParts) → Valid a → canonical_authority (canonical_authority a) ≡ canonical_authority a
 canonical_twice a v =
-    ap (λ u. record { username = u; password = option_map canon (option_map canon a.password); host = canonical_host (canonical_host a.host); port = a.port }) (text_twice Name a.username v.is_username)
-    ∙ ap (λ w. record { username = option_map canon a.username; password = w; host = canonical_host (canonical_host a.host); port = a.port }) (text_twice UserInfo a.password v.is_password)
+    ap (λ u. record { username = u; password = option_map canon (option_map canon a.password); host = canonical_host (canonical_host a.host); port = a.port })
+    (text_twice Name a.username v.is_username)
+    ∙ ap (λ w. record { username = option_map canon a.username; password = w; host = canonical_host (canonical_host a.host); port = a.port })
+    (text_twice UserInfo a.password v.is_password)
     ∙ ap (λ h. record { username = option_map canon a.username; password = option_map canon a.password; host = h; port = a.port }) (host_twice a.host v.is_host)
 
 host_kept : (h : Host) → host.text (canonical_host h) ≡ host.text h → canonical_host h ≡ h
@@ -79,17 +89,25 @@ host_kept (IPv4Address a) e = refl
 host_kept (IPv6Address a) e = refl
 host_kept (RegisteredName n) e = ap RegisteredName e
 
+-- an authority whose parts are canonical is its normal form
+pub canonical_of_parts : (a : AuthorityParts) → option_map canon a.username ≡ a.username → option_map canon a.password ≡ a.password
+    → host.text (canonical_host a.host) ≡ host.text a.host → canonical_authority a ≡ a
+canonical_of_parts a u w h =
+    ap (λ t. record { username = t; password = option_map canon a.password; host = canonical_host a.host; port = a.port }) u
+    ∙ ap (λ t. record { username = a.username; password = t; host = canonical_host a.host; port = a.port }) w
+    ∙ ap (λ t. record { username = a.username; password = a.password; host = t; port = a.port }) (host_kept a.host h)
+
 -- an authority that prints as its normal form is that form
 pub canonical_kept : (a : AuthorityParts) → Valid a → print (canonical_authority a) ≡ print a → canonical_authority a ≡ a
 canonical_kept a v e =
     let x = print_cut (canonical_authority a) (valid_canonical a v) in
     let y = print_cut a v in
-    let u : option_map canon a.username ≡ a.username = sym x.username ∙ ap username_text e ∙ y.username in
-    let w : option_map canon a.password ≡ a.password = sym x.password ∙ ap password_text e ∙ y.password in
-    let h : canonical_host a.host ≡ a.host = host_kept a.host (sym x.host ∙ ap host_text e ∙ y.host) in
-    ap (λ t. record { username = t; password = option_map canon a.password; host = canonical_host a.host; port = a.port }) u
-    ∙ ap (λ t. record { username = a.username; password = t; host = canonical_host a.host; port = a.port }) w
-    ∙ ap (λ t. record { username = a.username; password = a.password; host = t; port = a.port }) h
+    canonical_of_parts a (sym x.username ∙ ap username_text e ∙ y.username) (sym x.password ∙ ap password_text e ∙ y.password)
+    (sym x.host ∙ ap host_text e ∙ y.host)
+
+-- the same of one that equals it
+pub kept_inside : (a p : AuthorityParts) → a ≡ p → Valid a → print (canonical_authority p) ≡ print p → canonical_authority a ≡ a
+kept_inside a p e v same = canonical_kept a v (subst (λ q. print (canonical_authority q) ≡ print q) (sym e) same)
 
 -- ---- valid hosts, and authorities, that print alike
 

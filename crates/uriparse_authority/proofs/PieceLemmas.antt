@@ -1,27 +1,28 @@
 -- What the pieces lack that a text is cut into; and which fault of a text answers for a longer one.
-use Rattle.std.proofs.Common.{◌≡◌, ℕ, Bool, true, List, [], ◌∷◌, ◌++◌, cond, Option, Some, None, Ok, Err, refl, sym, ap, ◌∙◌, append-nil}
-use Rattle.std.specs.Prelude.{◌==◌, IfSome, Result}
-use Rattle.std.specs.Option.{option_map, option_and_then}
+use Rattle.std.proofs.Common.{◌≡◌, ℕ, true, List, [], ◌∷◌, ◌++◌, cond, Option, Some, None, Ok, Err, ap, ◌∙◌, append-nil}
+use Rattle.std.specs.Prelude.{IfSome, Result}
+use Rattle.std.specs.Option.{option_map}
 use Rattle.uriparse_text.specs.Bytes.{colon, at_sign}
-use Rattle.uriparse_text.specs.Cuts.{lacks, none_pass, before, after, up_to, from_first, from_last}
+use Rattle.uriparse_text.specs.Cuts.{lacks, none_pass, before, after, up_to, from_first}
 use Rattle.uriparse_text.specs.Readings.{◌>>=◌, error_of}
 use Rattle.uriparse_text.proofs.CutLemmas.{lacks-before, lacks-after, before-lacks, up_to-append}
 use Rattle.uriparse_authority.specs.declared.authority.error.AuthorityError.{AuthorityError}
-use Rattle.uriparse_authority.specs.Authority.{AuthorityParts, name_in, password_in, username_text, password_text, ends_authority, reading, fault, unless_rest, whole_reading}
+use Rattle.uriparse_authority.specs.Authority.{username_in, password_in, username_text, password_text, ends_authority, reading, fault, unless_rest}
+use Rattle.uriparse_authority.specs.Authority.{whole_reading}
 
 -- ---- user information
 
 pub username_lacks_at : (a : List ℕ) → IfSome (username_text a) (λ t. lacks at_sign t ≡ true)
 username_lacks_at a = by_after (after at_sign a)
   where
-    by_after : (o : Option (List ℕ)) → IfSome (name_in (option_map (λ _. before at_sign a) o)) (λ t. lacks at_sign t ≡ true)
+    by_after : (o : Option (List ℕ)) → IfSome (username_in (option_map (λ _. before at_sign a) o)) (λ t. lacks at_sign t ≡ true)
     by_after None = tt
     by_after (Some r) = lacks-before at_sign colon (before at_sign a) (before-lacks at_sign a)
 
 pub username_lacks_colon : (a : List ℕ) → IfSome (username_text a) (λ t. lacks colon t ≡ true)
 username_lacks_colon a = by_after (after at_sign a)
   where
-    by_after : (o : Option (List ℕ)) → IfSome (name_in (option_map (λ _. before at_sign a) o)) (λ t. lacks colon t ≡ true)
+    by_after : (o : Option (List ℕ)) → IfSome (username_in (option_map (λ _. before at_sign a) o)) (λ t. lacks colon t ≡ true)
     by_after None = tt
     by_after (Some r) = before-lacks colon (before at_sign a)
 

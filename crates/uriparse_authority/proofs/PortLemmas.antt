@@ -1,5 +1,6 @@
 -- Reading a port is exact, and a printed port reads back.
-use Rattle.std.proofs.Common.{◌≡◌, ◌⊎◌, ◌↔◌, ℕ, ◌+◌, ◌-◌, ◌*◌, ◌<◌, ◌≤◌, Bool, true, false, not, ◌&&◌, cond, List, [], ◌∷◌, ◌++◌, length, get_or, drop, drop-cons, add-one, Option, Some, None, Ok, refl, sym, ap, ◌∙◌, subst, inl, inr, arith}
+use Rattle.std.proofs.Common.{◌≡◌, ◌⊎◌, ◌↔◌, ℕ, ◌+◌, ◌-◌, ◌*◌, ◌<◌, ◌≤◌, Bool, true, false, not, ◌&&◌, cond, List, [], ◌∷◌, ◌++◌, length, get_or, drop}
+use Rattle.std.proofs.Common.{drop-cons, add-one, Option, Some, None, Ok, refl, sym, ap, ◌∙◌, subst, inl, inr, arith}
 use Rattle.std.specs.Prelude.{nat_le, decimal}
 use Rattle.std.specs.Char.{digit_value, is_digit, is_ascii_digit}
 use Rattle.std.specs.Str.Parse.{digits_value, digits_value_after, AllDigits}
@@ -81,7 +82,16 @@ abbrev IsBeyond : ℕ → ℕ → Type 0
 IsBeyond n b = (is_digit b 10 ≡ true) × (largest < n * 10 + digit_value b)
 
 one_more : (n b : ℕ) (t : List ℕ) (AtFault : ℕ → ℕ → Type 0) → is_digit b 10 ≡ true → IsAt (n * 10 + digit_value b) t AtFault → IsAt n (b ∷ t) AtFault
-one_more n b t AtFault digit is = record { front = b ∷ is.front; byte = is.byte; left = is.left; whole = ap (λ u. b ∷ u) is.whole; digits = and_from _ _ digit is.digits; in_range = is.in_range; at_fault = is.at_fault }
+one_more n b t AtFault digit is =
+    record {
+      front = b ∷ is.front;
+      byte = is.byte;
+      left = is.left;
+      whole = ap (λ u. b ∷ u) is.whole;
+      digits = and_from _ _ digit is.digits;
+      in_range = is.in_range;
+      at_fault = is.at_fault;
+    }
 
 -- the fault, and where it stands
 abbrev IsFound : ℕ → List ℕ → Option PortError → Type 0
@@ -98,9 +108,14 @@ fault_found : (n : ℕ) (t : List ℕ) → n ≤ largest → IsFound n t (fault_
 fault_found n [] h = subst (IsFound n []) (sym (fault_after-nil n h)) tt
 fault_found n (b ∷ t) h = at_byte (is_digit b 10) refl (small_or_large (n * 10 + digit_value b)) (fault_found (n * 10 + digit_value b) t)
   where
-    at_byte : (v : Bool) → is_digit b 10 ≡ v → (n * 10 + digit_value b ≤ largest) ⊎ (largest < n * 10 + digit_value b) → (n * 10 + digit_value b ≤ largest → IsFound (n * 10 + digit_value b) t (fault_after (n * 10 + digit_value b) t)) → IsFound n (b ∷ t) (fault_after n (b ∷ t))
-    at_byte false e size found = subst (IsFound n (b ∷ t)) (sym (fault_after-other n b t h e)) (record { front = []; byte = b; left = t; whole = refl; digits = refl; in_range = h; at_fault = e })
-    at_byte true e (inl small) found = subst (IsFound n (b ∷ t)) (sym (fault_after-digit n b t e)) (found_more n b t (fault_after (n * 10 + digit_value b) t) e (found small))
+    at_byte : (v : Bool) → is_digit b 10 ≡ v → (n * 10 + digit_value b ≤ largest) ⊎ (largest < n * 10 + digit_value b)
+        → (n * 10 + digit_value b ≤ largest → IsFound (n * 10 + digit_value b) t (fault_after (n * 10 + digit_value b) t))
+        → IsFound n (b ∷ t) (fault_after n (b ∷ t))
+    at_byte false e size found =
+        subst (IsFound n (b ∷ t)) (sym (fault_after-other n b t h e)) (record
+        { front = []; byte = b; left = t; whole = refl; digits = refl; in_range = h; at_fault = e })
+    at_byte true e (inl small) found =
+        subst (IsFound n (b ∷ t)) (sym (fault_after-digit n b t e)) (found_more n b t (fault_after (n * 10 + digit_value b) t) e (found small))
     at_byte true e (inr large) found =
         subst (IsFound n (b ∷ t)) (sym (fault_after-digit n b t e ∙ fault_after-large (n * 10 + digit_value b) t large))
         (record { front = []; byte = b; left = t; whole = refl; digits = refl; in_range = h; at_fault = (e, large) })
@@ -122,7 +137,15 @@ pub other_exactly : (t : List ℕ) → (fault t ≡ Some InvalidCharacter) ↔ H
 other_exactly t = (
   (λ e. let is : IsAt 0 t IsOther = subst (IsFound 0 t) e (fault_found 0 t (omega arith)) in
       record { front = is.front; byte = is.byte; left = is.left; whole = is.whole; digits = is.digits; in_range = is.in_range; other = is.at_fault }),
-  (λ is. other_there t (record { front = is.front; byte = is.byte; left = is.left; whole = is.whole; digits = is.digits; in_range = is.in_range; at_fault = is.other })),
+  (λ is. other_there t (record {
+    front = is.front;
+    byte = is.byte;
+    left = is.left;
+    whole = is.whole;
+    digits = is.digits;
+    in_range = is.in_range;
+    at_fault = is.other;
+  })),
 )
 
 -- and a digit where the digits before it write one, and with it write none
@@ -130,8 +153,25 @@ pub passes_exactly : (t : List ℕ) → (fault t ≡ Some Overflow) ↔ Passes t
 passes_exactly t = (
   (λ e. let is : IsAt 0 t IsBeyond = subst (IsFound 0 t) e (fault_found 0 t (omega arith)) in
       let at_fault = is.at_fault in
-      record { front = is.front; byte = is.byte; left = is.left; whole = is.whole; digits = is.digits; in_range = is.in_range; digit = at_fault.0; beyond = subst (λ k. largest < k) (sym (digit_more 0 is.front is.byte)) at_fault.1 }),
-  (λ is. beyond_there t (record { front = is.front; byte = is.byte; left = is.left; whole = is.whole; digits = is.digits; in_range = is.in_range; at_fault = (is.digit, subst (λ k. largest < k) (digit_more 0 is.front is.byte) is.beyond) })),
+      record {
+        front = is.front;
+        byte = is.byte;
+        left = is.left;
+        whole = is.whole;
+        digits = is.digits;
+        in_range = is.in_range;
+        digit = at_fault.0;
+        beyond = subst (λ k. largest < k) (sym (digit_more 0 is.front is.byte)) at_fault.1;
+      }),
+  (λ is. beyond_there t (record {
+    front = is.front;
+    byte = is.byte;
+    left = is.left;
+    whole = is.whole;
+    digits = is.digits;
+    in_range = is.in_range;
+    at_fault = (is.digit, subst (λ k. largest < k) (digit_more 0 is.front is.byte) is.beyond);
+  })),
 )
 
 -- ---- the fault, met byte by byte
@@ -158,7 +198,8 @@ pub record IsReadOn (n m : ℕ) (t left : List ℕ) : Type 0 where
   pub fault : fault_after n t ≡ fault_after m left
   pub value : digits_value_after 10 n t ≡ digits_value_after 10 m left
 
-pub reads_digit : (n m i : ℕ) (t : List ℕ) → i < length t → is_ascii_digit (get_or t i 0) ≡ true → m ≡ n * 10 + (get_or t i 0 - 48) → IsReadOn n m (drop i t) (drop (i + 1) t)
+pub reads_digit : (n m i : ℕ) (t : List ℕ) → i < length t → is_ascii_digit (get_or t i 0) ≡ true → m ≡ n * 10 + (get_or t i 0 - 48)
+    → IsReadOn n m (drop i t) (drop (i + 1) t)
 reads_digit n m i t below digit is =
     let same : n * 10 + digit_value (get_or t i 0) ≡ m = omega (arith, decimal_value (get_or t i 0) digit, is) in
     record {
@@ -187,7 +228,8 @@ no_other : (t : List ℕ) → other_fault (from_first is_other t) ≡ None → a
 no_other [] h = refl
 no_other (b ∷ t) h = by_test (is_digit b 10) (no_other t) h
   where
-    by_test : (v : Bool) → (other_fault (from_first is_other t) ≡ None → are_digits t ≡ true) → other_fault (cond (not v) (b ∷ t) (from_first is_other t)) ≡ None → (v && are_digits t) ≡ true
+    by_test : (v : Bool) → (other_fault (from_first is_other t) ≡ None → are_digits t ≡ true)
+        → other_fault (cond (not v) (b ∷ t) (from_first is_other t)) ≡ None → (v && are_digits t) ≡ true
     by_test true f k = f k
     by_test false f k = cc
 
@@ -198,7 +240,8 @@ again t port is =
 found : (t : List ℕ) (port : Option ℕ) → reading t ≡ Ok port → Spells t port
 found t port h = by_tests (nat_le (digits_value 10 (up_to is_other t)) largest) (other_fault (from_first is_other t)) refl refl h
   where
-    by_tests : (v : Bool) (o : Option PortError) → nat_le (digits_value 10 (up_to is_other t)) largest ≡ v → other_fault (from_first is_other t) ≡ o → unless_fault (cond v o (Some Overflow)) (value_of t) ≡ Ok port → Spells t port
+    by_tests : (v : Bool) (o : Option PortError) → nat_le (digits_value 10 (up_to is_other t)) largest ≡ v → other_fault (from_first is_other t) ≡ o
+        → unless_fault (cond v o (Some Overflow)) (value_of t) ≡ Ok port → Spells t port
     by_tests true None e f k =
         let digits = no_other t f in
         record {

@@ -1,6 +1,5 @@
 -- What the printed text of an authority tells.
-use Rattle.std.proofs.Common.{◌≡◌, ◌⊎◌, ℕ, List, Option, Some, None, refl, sym, ap, ◌∙◌, subst, inl, inr}
-use Rattle.std.specs.Option.{option_map}
+use Rattle.std.proofs.Common.{◌≡◌, ◌⊎◌, ℕ, List, refl, sym, ap, ◌∙◌, subst, inl, inr}
 use Rattle.uriparse_text.specs.Address.{SpellsIpv4, ipv4_text, ipv6_text}
 use Rattle.uriparse_text.proofs.AddressLemmas.{SpellsIpv4-ipv4_text}
 use Rattle.uriparse_text.proofs.AddressBytes.{IsIn-SpellsIpv4}

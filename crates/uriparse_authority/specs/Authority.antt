@@ -1,5 +1,6 @@
 -- Authorities: RFC 3986, section 3.2.
-use Rattle.std.specs.Prelude.{◌≡◌, ℕ, Bool, ◌==◌, ◌&&◌, ◌||◌, List, [], ◌∷◌, ◌++◌, Option, Some, None, Result, Ok, Err, IfSome, IsSome, unwrap_or, bytes_eq, if◌then◌else◌}
+use Rattle.std.specs.Prelude.{◌≡◌, ℕ, Bool, ◌==◌, ◌&&◌, ◌||◌, List, [], ◌∷◌, ◌++◌, Option, Some, None, Result, Ok, Err, IfSome, IsSome, unwrap_or, bytes_eq}
+use Rattle.std.specs.Prelude.{if◌then◌else◌}
 use Rattle.std.specs.Option.{option_map, option_and_then, option_eq}
 use Rattle.std.specs.Ordering.{on}
 use Rattle.std.specs.Hash.{HashWrites, option, u16}
@@ -25,12 +26,12 @@ pub record AuthorityParts : Type 0 where
   pub port : Option ℕ
 
 -- userinfo = username [ ":" password ]
-abbrev pub user : Option (List ℕ) → Option (List ℕ) → Option (List ℕ)
-user username password = option_map (λ t. t ++ behind colon password) username
+abbrev pub userinfo : Option (List ℕ) → Option (List ℕ) → Option (List ℕ)
+userinfo username password = option_map (λ t. t ++ behind colon password) username
 
 -- [ userinfo "@" ] host [ ":" port ]
 abbrev pub joined : Option (List ℕ) → Option (List ℕ) → List ℕ → Option (List ℕ) → List ℕ
-joined username password host port = ahead at_sign (user username password) ++ (host ++ behind colon port)
+joined username password host port = ahead at_sign (userinfo username password) ++ (host ++ behind colon port)
 
 -- a password stands only with a user name
 abbrev pub IsPaired : Option (List ℕ) → Option (List ℕ) → Type 0
@@ -72,25 +73,25 @@ kind p = host.kind p.host
 
 -- ---- the cuts of a text
 
--- The first "@" ends the user information.
-abbrev pub front_text : List ℕ → Option (List ℕ)
-front_text a = front at_sign a
+-- The first "@" ends the user information, and the host and the port stand behind it.
+abbrev pub userinfo_text : List ℕ → Option (List ℕ)
+userinfo_text a = front at_sign a
 
-abbrev pub right_text : List ℕ → List ℕ
-right_text a = rest at_sign a
+abbrev pub host_and_port_text : List ℕ → List ℕ
+host_and_port_text a = rest at_sign a
 
 -- The first ":" in the user information starts the password.
-abbrev pub name_in : Option (List ℕ) → Option (List ℕ)
-name_in o = option_map (λ i. before colon i) o
+abbrev pub username_in : Option (List ℕ) → Option (List ℕ)
+username_in o = option_map (λ i. before colon i) o
 
 abbrev pub password_in : Option (List ℕ) → Option (List ℕ)
 password_in o = option_and_then (λ i. after colon i) o
 
 abbrev pub username_text : List ℕ → Option (List ℕ)
-username_text a = name_in (front_text a)
+username_text a = username_in (userinfo_text a)
 
 abbrev pub password_text : List ℕ → Option (List ℕ)
-password_text a = password_in (front_text a)
+password_text a = password_in (userinfo_text a)
 
 -- The last ":" behind that "@" and behind any "]" starts the port.
 abbrev pub ends_host : ℕ → Bool
@@ -108,10 +109,10 @@ abbrev pub cut_host : List ℕ → List ℕ
 cut_host t = unwrap_or (option_map (λ _. up_to_last ends_host t) (cut_port t)) t
 
 abbrev pub host_text : List ℕ → List ℕ
-host_text a = cut_host (right_text a)
+host_text a = cut_host (host_and_port_text a)
 
 abbrev pub port_text : List ℕ → Option (List ℕ)
-port_text a = cut_port (right_text a)
+port_text a = cut_port (host_and_port_text a)
 
 -- ---- reading
 
@@ -165,11 +166,11 @@ each_alike p q =
 
 -- what a hasher is fed for these pieces of a canonical text, with the code of the host's kind
 abbrev pub fed_pieces : ℕ → Option (List ℕ) → Option (List ℕ) → List ℕ → Option (List ℕ) → HashWrites
-fed_pieces code u w g n =
-    option fed_spelling u
-    ++ (option fed_spelling w
-    ++ (host.fed (code ∷ g)
-    ++ option u16 (port.value_of (unwrap_or n []))))
+fed_pieces code username password host_piece port_piece =
+    option fed_spelling username
+    ++ (option fed_spelling password
+    ++ (host.fed (code ∷ host_piece)
+    ++ option u16 (port.value_of (unwrap_or port_piece []))))
 
 -- what a hasher is fed for the authority with this key: the pieces into which the canonical text is cut
 abbrev pub fed : List ℕ → HashWrites
@@ -186,7 +187,7 @@ with_empty None None = None
 
 -- the authority of these parts
 abbrev pub of_parts : Option (List ℕ) → Option (List ℕ) → Host → Option ℕ → AuthorityParts
-of_parts u w h n = record { username = with_empty u w; password = w; host = h; port = n }
+of_parts username password host port = record { username = with_empty username password; password = password; host = host; port = port }
 
 abbrev pub with_host : AuthorityParts → Host → AuthorityParts
 with_host p h = record { username = p.username; password = p.password; host = h; port = p.port }

@@ -1,5 +1,6 @@
 -- Hosts: RFC 3986, section 3.2.2.
-use Rattle.std.specs.Prelude.{◌≡◌, ◌⊎◌, ℕ, Bool, false, ◌==◌, ◌&&◌, ◌||◌, List, [], ◌∷◌, ◌++◌, Option, Some, None, Result, Ok, Err, is_none, unwrap_or, codes, if◌then◌else◌}
+use Rattle.std.specs.Prelude.{◌≡◌, ◌⊎◌, ℕ, Bool, false, ◌==◌, ◌&&◌, ◌||◌, List, [], ◌∷◌, ◌++◌, Option, Some, None, Result, Ok, Err, is_none}
+use Rattle.std.specs.Prelude.{unwrap_or, codes, if◌then◌else◌}
 use Rattle.std.specs.Option.{option_map, ok_or}
 use Rattle.std.specs.List.{list_all}
 use Rattle.std.specs.Hash.{HashWrites, slice, u8, u16}
@@ -14,7 +15,7 @@ use Rattle.uriparse_authority.specs.Name.{IsName}
 use Rattle.uriparse_authority.specs.declared.authority.host.Host.{Host}
 use Rattle.uriparse_authority.specs.declared.authority.host.Host.TheVariants.{IPv4Address, IPv6Address, RegisteredName}
 use Rattle.uriparse_authority.specs.declared.authority.error.HostError.{HostError}
-use Rattle.uriparse_authority.specs.declared.authority.error.HostError.TheVariants.{AddressMechanismNotSupported, InvalidIPv4OrRegisteredNameCharacter, InvalidIPv6Character, InvalidIPv6Format, InvalidIPvFutureCharacter}
+use Rattle.uriparse_authority.specs.declared.authority.error.HostError.TheVariants as errors
 
 -- what tells hosts apart besides their texts
 pub data Kind : Type 0 where
@@ -42,7 +43,8 @@ kind_code Name = 1
 abbrev pub bracketed : List ℕ → List ℕ
 bracketed t = left_bracket ∷ (t ++ right_bracket ∷ [])
 
--- The text stands for the host. A text of the class of names stands for the IPv4 address that it spells, or else for a name; an IPv6 spelling in brackets stands for its address.
+-- The text stands for the host. A text of the class of names stands for the IPv4 address that it spells, or else for
+-- a name; an IPv6 spelling in brackets stands for its address.
 abbrev pub Spells : List ℕ → Host → Type 0
 Spells t (IPv4Address a) = SpellsIpv4 t a
 Spells t (IPv6Address a) = (inner : List ℕ) × (t ≡ bracketed inner) × SpellsIpv6 inner a
@@ -111,14 +113,14 @@ is_future_byte b = is_unreserved b || is_sub_delim b || b == colon
 
 -- IPvFuture is refused, by its bytes or else by name
 abbrev pub future_error : List ℕ → HostError
-future_error t = if list_all is_future_byte t then AddressMechanismNotSupported else InvalidIPvFutureCharacter
+future_error t = if list_all is_future_byte t then errors.AddressMechanismNotSupported else errors.InvalidIPvFutureCharacter
 
 -- what reading the text between brackets gives
 abbrev pub literal_reading : List ℕ → Result Host HostError
 literal_reading t =
     if begins_future t then Err (future_error t)
-    else if list_all is_ipv6_byte t then ok_or (option_map IPv6Address (ipv6_reading t)) InvalidIPv6Format
-    else Err InvalidIPv6Character
+    else if list_all is_ipv6_byte t then ok_or (option_map IPv6Address (ipv6_reading t)) errors.InvalidIPv6Format
+    else Err errors.InvalidIPv6Character
 
 -- the IPv4 address, or else the name
 abbrev pub address_or_name : List ℕ → Option (List ℕ) → Host
@@ -129,7 +131,7 @@ address_or_name t None = RegisteredName t
 abbrev pub name_reading : List ℕ → Result Host HostError
 name_reading t =
     if is_none (fault class.Name t) then Ok (address_or_name t (ipv4_reading t))
-    else Err InvalidIPv4OrRegisteredNameCharacter
+    else Err errors.InvalidIPv4OrRegisteredNameCharacter
 
 abbrev pub bracket_reading : Option (List ℕ) → List ℕ → Result Host HostError
 bracket_reading (Some inner) t = literal_reading inner

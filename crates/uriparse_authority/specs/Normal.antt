@@ -1,7 +1,9 @@
 -- Normal forms of hosts and authorities: RFC 3986, sections 3.2 and 6.2.2.
-use Rattle.std.specs.Option.{option_map}
+use Rattle.std.specs.Prelude.{◌≡◌, unwrap_or}
+use Rattle.std.specs.Option.{option_map, option_or}
 use Rattle.uriparse_text.specs.Canon.{canon, canon_low}
 use Rattle.uriparse_authority.specs.Authority.{AuthorityParts}
+use Rattle.uriparse_authority.specs.declared.authority.normal.CanonicalCopies.{CanonicalCopies}
 use Rattle.uriparse_authority.specs.declared.authority.host.Host.{Host}
 use Rattle.uriparse_authority.specs.declared.authority.host.Host.TheVariants.{IPv4Address, IPv6Address, RegisteredName}
 
@@ -14,3 +16,9 @@ canonical_host (RegisteredName n) = RegisteredName (canon_low n)
 -- the same authority, each part in canonical spelling
 abbrev pub canonical_authority : AuthorityParts → AuthorityParts
 canonical_authority p = record { username = option_map canon p.username; password = option_map canon p.password; host = canonical_host p.host; port = p.port }
+
+-- a copy in its place, or the part where there is none, is the part in canonical spelling
+pub record AreCanonicalCopies (copies : CanonicalCopies) (p : AuthorityParts) : Type 0 where
+  pub username : option_or copies.username p.username ≡ option_map canon p.username
+  pub password : option_or copies.password p.password ≡ option_map canon p.password
+  pub host : unwrap_or copies.host p.host ≡ canonical_host p.host

@@ -66,7 +66,9 @@ pub record Passes (t : List ℕ) : Type 0 where
   pub digit : is_digit byte 10 ≡ true
   pub beyond : largest < digits_value 10 (front ++ byte ∷ [])
 
--- The leftmost fault of the text. Cut it at the first byte that is no digit: the fault is that byte's, unless the digits before it write too large a number. One of those digits is then the first to do so, since more digits never write less.
+-- The leftmost fault of the text. Cut it at the first byte that is no digit: the fault is that byte's, unless the
+-- digits before it write too large a number. One of those digits is then the first to do so, since more digits never
+-- write less.
 abbrev pub fault : List ℕ → Option PortError
 fault t =
     if nat_le (digits_value 10 (up_to is_other t)) largest

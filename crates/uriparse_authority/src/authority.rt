@@ -1,5 +1,5 @@
 //! An authority: RFC 3986, section 3.2.
-ghost use Rattle.std.specs.Prelude.{◌≡◌, ℕ, IfOk, List, Ok, Option, Some, bytes_eq, is_some, string_bytes};
+ghost use Rattle.std.specs.Prelude.{[], ◌≡◌, ◌≤◌, ◌⊎◌, ℕ, IfOk, List, Ok, Option, Some, bytes_eq, is_some, length, string_bytes, unwrap_or};
 ghost use Rattle.std.specs.Option.{option_copied};
 ghost use Rattle.std.proofs.Common.{rules};
 ghost use Rattle.std.specs.Ordering.{on};
@@ -16,6 +16,7 @@ mod edit;
 mod error;
 mod host;
 mod name;
+pub(crate) mod normal;
 mod password;
 mod port;
 mod print;
@@ -32,6 +33,7 @@ pub use port::parse_port;
 use print::{write_port, write_user};
 use read::read_whole;
 pub use uriparse_text::address::{IpAddr, Ipv4Addr, Ipv6Addr};
+use uriparse_text::parts::{Kind, Text};
 pub use username::Username;
 use username::empty_username;
 
@@ -224,13 +226,14 @@ impl<'a> Authority<'a> {
     }
 
     /// How many bytes the authority's text has at most: those of its parts, two colons, an `@` and the
-    /// five digits of a port.
-    pub(crate) fn most_bytes(&self) -> usize {
-        let username = self.username.as_ref().map_or(0, |u| u.as_str().len());
-        let password = self.password.as_ref().map_or(0, |p| p.as_str().len());
-        [username, password, self.host.most_bytes()]
-            .iter()
-            .fold(8usize, |sum, part| sum.saturating_add(*part))
+    /// five digits of a port; or the most that a number holds.
+    pub(crate) fn most_bytes(&self) -> usize
+        ensures { length (spec.print self.now) ≤ result ⊎ result ≡ usize.MAX }
+    {
+        8usize
+            .saturating_add(len_of(&self.username))
+            .saturating_add(len_of(&self.password))
+            .saturating_add(self.host.most_bytes())
     }
 
     /// A copy of the authority's text, which wants memory.
@@ -251,6 +254,16 @@ impl<'a> Authority<'a> {
             && self.password == other.password
             && self.host == other.host
             && self.port == other.port
+    }
+}
+
+/// How many bytes a part has, or none where there is no part.
+fn len_of<K: Kind>(part: &Option<Text<'_, K>>) -> usize
+    ensures { result ≡ length (unwrap_or part.now []) }
+{
+    match part {
+        Some(text) => text.as_str().len(),
+        None => 0,
     }
 }
 

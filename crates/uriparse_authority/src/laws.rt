@@ -118,3 +118,13 @@ pub fn examples()
     ensures behind_name { whole_reading (codes "h?") ≡ Err (errors.Host host_errors.InvalidIPv4OrRegisteredNameCharacter) }
     ensures last_colon { reading (codes "u:p:w@[::1]:8") ≡ Ok (record { username = Some (codes "u"); password = Some (codes "p:w"); host = IPv6Address (0 ∷ 0 ∷ 0 ∷ 0 ∷ 0 ∷ 0 ∷ 0 ∷ 1 ∷ []); port = Some 8 }) }
 {}
+
+/// Worked examples of normal forms: names, one of which becomes the text of an address and stays a
+/// name, and a whole authority, whose user name and password keep the case of their letters.
+pub fn normal_examples()
+    ensures letters { canonical_host (RegisteredName (codes "EXAMPLE.%43om")) ≡ RegisteredName (codes "example.com") }
+    ensures escape { canonical_host (RegisteredName (codes "a%2fB")) ≡ RegisteredName (codes "a%2Fb") }
+    ensures hidden { canonical_host (RegisteredName (codes "%31.2.3.4")) ≡ RegisteredName (codes "1.2.3.4") }
+    ensures empty { canonical_host (RegisteredName []) ≡ RegisteredName [] }
+    ensures whole { canonical_authority (record { username = Some (codes "%7eU"); password = Some (codes "%7E%3a"); host = RegisteredName (codes "H"); port = Some 80 }) ≡ record { username = Some (codes "~U"); password = Some (codes "~%3A"); host = RegisteredName (codes "h"); port = Some 80 } }
+{}

@@ -1,9 +1,14 @@
 //! What the crates above build on. Users have no need of it.
+ghost use Rattle.std.specs.Prelude.{◌≡◌, ◌≤◌, ◌⊎◌, length};
+ghost use Rattle.uriparse_authority.specs.Authority.{print};
 
 use crate::authority::Authority;
+pub use crate::authority::normal::{CanonicalCopies, canonical_copies, put_copies};
 pub use crate::authority::read::{read_authority, split_rest};
 
-/// How many bytes the authority's text has at most.
-pub fn most_authority_bytes(authority: &Authority<'_>) -> usize {
+/// How many bytes the authority's text has at most, or the most that a number holds.
+pub fn most_authority_bytes(authority: &Authority<'_>) -> usize
+    ensures { length (print authority.now) ≤ result ⊎ result ≡ usize.MAX }
+{
     authority.most_bytes()
 }

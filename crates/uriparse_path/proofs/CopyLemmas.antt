@@ -2,7 +2,10 @@
 use Rattle.std.proofs.Common.{◌≡◌, ℕ, ◌+◌, ◌<◌, Bool, true, false, not, cond, List, [], ◌∷◌, ◌++◌, length, map, filter, take, drop, get_or, set, refl, sym, ap, ◌∙◌, arith, append_assoc, append-nil}
 use Rattle.std.specs.Prelude.{reverse}
 use Rattle.std.proofs.lemmas.List.{take_more, drop_more, take-set, drop-set, map-append, reverse-append, reverse-reverse}
+use Rattle.std.specs.List.{list_all}
+use Rattle.std.proofs.lemmas.Bool.{false≢true, not-true}
 use Rattle.std.proofs.lemmas.List.Elements.{filter-append}
+use Rattle.std.proofs.lemmas.List.Folds.{list_all_at}
 use Rattle.std.proofs.lemmas.Slice.Eq.{bytes_eq-Decides}
 use Rattle.uriparse_text.specs.Canon.{canon}
 use Rattle.uriparse_path.specs.Normal.{is_canonical}
@@ -26,6 +29,25 @@ copies_kept s l e = ap (λ v. map canon (cond v (s ∷ filter strays l) (filter 
 
 copies_more : (s : List ℕ) (l : List (List ℕ)) → strays s ≡ true → map canon (filter strays (s ∷ l)) ≡ canon s ∷ map canon (filter strays l)
 copies_more s l e = ap (λ v. map canon (cond v (s ∷ filter strays l) (filter strays l))) e
+
+-- no segment is to be copied of those that are canonical
+pub no_strays : (xs : List (List ℕ)) (at : ℕ) (s : List ℕ) → at < length xs → s ≡ get_or xs at s → (canon s ≡ s → ⊥) → list_all is_canonical xs ≡ true → ⊥
+no_strays xs at s h read n e =
+    let own : is_canonical (get_or xs at s) ≡ false = ap is_canonical (sym read) ∙ not-true (is_canonical s) (strays_so s n) in
+    false≢true (sym (list_all_at is_canonical xs at s h own) ∙ e)
+
+-- where none is to be copied, each is canonical
+pub none_strays : (l : List (List ℕ)) → map canon (filter strays l) ≡ [] → map canon l ≡ l
+none_strays [] e = refl
+none_strays (s ∷ l) e = by_test (is_canonical s) refl (none_strays l)
+  where
+    by_test : (v : Bool) → is_canonical s ≡ v → (map canon (filter strays l) ≡ [] → map canon l ≡ l) → map canon (s ∷ l) ≡ s ∷ l
+    by_test true h f = ap (λ r. r ∷ map canon l) ((bytes_eq-Decides (canon s) s).0 h) ∙ ap (λ m. s ∷ m) (f (sym (copies_kept s l (ap not h)) ∙ e))
+    by_test false h f = let more : canon s ∷ map canon (filter strays l) ≡ [] = sym (copies_more s l (ap not h)) ∙ e in absurd (cc)
+
+pub nothing : {X : Type 0} (l : List X) → length l ≡ 0 → l ≡ []
+nothing [] e = refl
+nothing (x ∷ l) e = absurd (omega (arith, e))
 
 -- ---- from the first to the last
 

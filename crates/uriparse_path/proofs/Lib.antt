@@ -12,6 +12,8 @@ pub mod NormalLemmas
 pub mod CommuteLemmas
 pub mod PlaceLemmas
 pub mod MergeLemmas
+pub mod MergingLemmas
+pub mod ShieldLemmas
 mod PassLemmas
 mod PutLemmas
 mod CopyLemmas

@@ -4,7 +4,7 @@ use Rattle.uriparse_text.specs.Readings.{◌>>=◌}
 use Rattle.uriparse_text.specs.Bytes.{dot}
 use Rattle.uriparse_path.specs.declared.path.error.PathError.{PathError}
 use Rattle.uriparse_path.specs.declared.path.error.PathError.TheVariants.{ExceededMaximumLength}
-use Rattle.uriparse_path.specs.Path.{PathParts, max_segments}
+use Rattle.uriparse_path.specs.Path.{PathParts, has_two_slashes, max_segments, text}
 use Rattle.uriparse_path.specs.Dots.{all_but_last}
 use Rattle.uriparse_path.specs.Relative.{filled}
 
@@ -31,3 +31,7 @@ cleared p = record p { segments = [] ∷ [] }
 -- a "." in front of the segments
 abbrev pub dotted : PathParts → PathParts
 dotted p = record p { segments = (dot ∷ []) ∷ p.segments }
+
+-- The path where no authority stands before it: a "." in front keeps its text from beginning with two slashes.
+abbrev pub shield : PathParts → PathParts
+shield p = if has_two_slashes (text p) then dotted p else p

@@ -5,4 +5,5 @@ pub mod Dots
 pub mod Relative
 pub mod Normal
 pub mod Edits
+pub mod Merge
 pub mod Lends

@@ -1,8 +1,9 @@
 -- Normal forms of paths: RFC 3986, section 6.2.2.
 use Rattle.std.specs.Prelude.{ℕ, Bool, true, false, ◌&&◌, ◌||◌, not, if◌then◌else◌, List, [], ◌∷◌, map, bytes_eq}
 use Rattle.std.specs.List.{list_all}
+use Rattle.uriparse_text.specs.Bytes.{dot}
 use Rattle.uriparse_text.specs.Canon.{canon}
-use Rattle.uriparse_path.specs.Path.{PathParts, text, is_rooted, spelled}
+use Rattle.uriparse_path.specs.Path.{PathParts, hides_root, text, is_rooted, spelled}
 use Rattle.uriparse_path.specs.Dots.{is_single_dot, is_double_dot, has_dot_segment, undot}
 use Rattle.uriparse_path.specs.Relative.{needs_guard, relative_normal}
 
@@ -41,3 +42,13 @@ abbrev pub is_normal : PathParts → Bool → Bool
 is_normal p as_reference =
     list_all is_canonical p.segments
     && (if stays_relative p as_reference then climbs_first p.segments || is_guarded p.segments else not (has_dot_segment p.segments))
+
+-- the absolute path has a "." in front, which is needed where there is no authority, and behind it a normal path
+abbrev pub is_shielded : Bool → List (List ℕ) → Bool
+is_shielded absolute [] = false
+is_shielded absolute (s ∷ ss) =
+    absolute && bytes_eq s (dot ∷ []) && hides_root ss && is_normal (record { absolute = absolute; segments = ss }) false
+
+-- the normal form of the path has its text, where a "." may be needed in front or not
+abbrev pub is_normal_in : Bool → PathParts → Bool → Bool
+is_normal_in shields p as_reference = is_normal p as_reference || (shields && is_shielded p.absolute p.segments)

@@ -1,11 +1,17 @@
 //! What the crates above build on. Users have no need of it.
-ghost use Rattle.std.specs.Prelude.{◌≡◌, ◌<◌, OnOk, OnErr, length};
+ghost use Rattle.std.specs.Prelude.{◌≡◌, Err, IfErr, IsOk, OnOk, OnErr, if◌then◌else◌, true, false};
+ghost use Rattle.std.specs.List.{list_all};
 ghost use Rattle.uriparse_text.specs.Bytes.{colon};
 ghost use Rattle.uriparse_text.specs.Cuts.{lacks, up_to};
-ghost use Rattle.uriparse_path.specs.Path.{IsListed, has_two_slashes, is_slash, made_absolute, max_segments, spelled, text};
-ghost use Rattle.uriparse_path.specs.Edits.{dotted};
+ghost use Rattle.uriparse_text.specs.Readings.{IsUnless};
+ghost use Rattle.uriparse_path.specs.declared.path.error.PathError.TheVariants as errors;
+ghost use Rattle.uriparse_path.specs.Path.{IsListed, has_two_slashes, hides_root, is_slash, made_absolute, spelled, text};
+ghost use Rattle.uriparse_path.specs.Dots.{without_dots};
+ghost use Rattle.uriparse_path.specs.Edits.{shield};
+ghost use Rattle.uriparse_path.specs.Merge.{merging};
+ghost use Rattle.uriparse_path.specs.Normal.{is_canonical, is_normal_in, pnormal};
 
-use crate::path::{Path, Segment};
+use crate::path::{Path, PathError, Segment};
 use std::alloc::{AllocError, Global};
 
 /// The path of this flag and these segments.
@@ -16,13 +22,37 @@ pub fn path_of(absolute: bool, segments: Vec<Segment<'_>>) -> Path<'_>
     Path::of(absolute, segments)
 }
 
-/// Puts a segment `.` in front of the others. Wants memory; where there is none, the path is kept.
-pub fn put_dot(_alloc: Global, path: &mut Path<'_>) -> Result<(), AllocError>
-    requires { length path.old.segments < max_segments }
-    ensures ok { OnOk result (path.new ≡ dotted path.old) }
-    ensures err { OnErr result (path.new ≡ path.old) }
+/// Removes the dot segments as [`Path::remove_dot_segments`] does. Where no authority stands before the
+/// path, a `.` comes in front of a text that would begin with two slashes then. Takes no memory.
+pub fn remove_dots(path: &mut Path<'_>, shields: bool)
+    requires { shields ≡ true → hides_root path.old.segments ≡ false }
+    ensures { path.new ≡ (if shields then shield (without_dots path.old) else without_dots path.old) }
 {
-    path.put_dot()
+    path.remove_dots(shields);
+}
+
+/// Whether the path has the text of its normal form, where a `.` may be needed in front of it or not.
+pub fn is_normal_path(path: &Path<'_>, as_reference: bool, shields: bool) -> bool
+    ensures { result ≡ is_normal_in shields path.now as_reference }
+{
+    path.is_normal_in(as_reference, shields)
+}
+
+/// Brings the path into its normal form as [`Path::normalize`] does. Where no authority stands before
+/// the path, a `.` comes in front of a text that would begin with two slashes then. Memory is wanted for
+/// the segments that aren't canonical; where there is none, the path is kept.
+pub fn normalize_path(
+    path: &mut Path<'_>,
+    alloc: Global,
+    as_reference: bool,
+    shields: bool,
+) -> Result<(), AllocError>
+    requires { shields ≡ true → hides_root path.old.segments ≡ false }
+    ensures ok { OnOk result (path.new ≡ (if shields then shield (pnormal path.old as_reference) else pnormal path.old as_reference)) }
+    ensures err { OnErr result (path.new ≡ path.old) }
+    ensures takes_no_memory { list_all is_canonical path.old.segments ≡ true → IsOk result }
+{
+    path.put_normal(alloc, as_reference, shields)
 }
 
 /// The same path, made absolute.
@@ -58,4 +88,22 @@ pub fn lacks_colon_segment(path: &Path<'_>) -> bool
     ensures { result ≡ lacks colon (up_to is_slash (text path.now)) }
 {
     path.lacks_colon_segment()
+}
+
+/// The path of a reference behind that of a base: the base's segments but for the last one, then the
+/// reference's, which all borrow their texts. The base's flag is kept.
+///
+/// [`ExceededMaximumLength`](PathError::ExceededMaximumLength) is answered where there would be more
+/// segments than [`MAX_SEGMENTS`](crate::path::MAX_SEGMENTS), whatever memory there is. Else room for
+/// the list is asked for once; where there is none, [`OutOfMemory`](PathError::OutOfMemory) is
+/// answered.
+pub fn merged_path<'p>(
+    alloc: Global,
+    base: &'p Path<'_>,
+    reference: &'p Path<'_>,
+) -> Result<Path<'p>, PathError>
+    ensures answer { IsUnless errors.OutOfMemory result (merging base.now reference.now) }
+    ensures fault { IfErr (merging base.now reference.now) (λ e. result ≡ Err e) }
+{
+    Path::merged(alloc, base, reference)
 }

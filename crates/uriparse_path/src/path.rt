@@ -1,10 +1,10 @@
 //! A path: RFC 3986, section 3.3.
-ghost use Rattle.std.specs.Prelude.{◌≡◌, ◌↔◌, ◌∷◌, IsTrue, IfOk, OnOk, OnErr, IsOk, IsErr, Some, true, false, not, map, filter, bytes_eq, string_bytes};
+ghost use Rattle.std.specs.Prelude.{◌≡◌, ◌↔◌, ◌∷◌, IsTrue, IfOk, OnOk, OnErr, IsOk, IsErr, Some, true, false, if◌then◌else◌, not, map, filter, bytes_eq, string_bytes};
 ghost use Rattle.std.proofs.Common.{rules};
 ghost use Rattle.std.specs.Ordering.{on};
 ghost use Rattle.std.specs.Cmp.Rules.{comparing, hashing};
 ghost use Rattle.std.specs.Fmt.{WritesOnOk, WritesStyledOnOk};
-ghost use Rattle.std.specs.List.{flat_map};
+ghost use Rattle.std.specs.List.{flat_map, list_all};
 ghost use Rattle.uriparse_text.specs.declared.parts.canonical.Case.TheVariants as case;
 ghost use Rattle.uriparse_text.specs.Bytes.{colon, slash};
 ghost use Rattle.uriparse_text.specs.Cuts.{lacks, up_to};
@@ -14,8 +14,9 @@ ghost use Rattle.uriparse_text.specs.Readings.{IsUnless};
 ghost use Rattle.uriparse_path.specs.Path.{IsListed, has_two_slashes, hides_root, is_rooted, is_slash, made_absolute, spelled, text};
 ghost use Rattle.uriparse_path.specs.Faults.{reading};
 ghost use Rattle.uriparse_path.specs.Dots.{without_dots};
+ghost use Rattle.uriparse_path.specs.Edits.{shield};
 ghost use Rattle.uriparse_path.specs.Relative.{ended, reduced};
-ghost use Rattle.uriparse_path.specs.Normal.{canonical_path, is_canonical, pnormal, stays_relative};
+ghost use Rattle.uriparse_path.specs.Normal.{canonical_path, is_canonical, is_normal_in, is_shielded, pnormal, stays_relative};
 
 use std::alloc::{AllocError, Global};
 use std::fmt;
@@ -28,16 +29,17 @@ mod copy;
 mod dots;
 mod edit;
 mod error;
+mod merge;
 mod normal;
 mod read;
 mod segment;
 mod walk;
 
-use dots::{has_dot_segment, remove_dots};
+use dots::{has_dot_segment, replay, root_first};
 pub use error::PathError;
 use normal::{
-    begins_twice, canonical_copies, has_first_colon, hides_root, is_normal, make_relative,
-    put_copies,
+    begins_twice, canonical_copies, guard, has_first_colon, hides_root, is_normal, make_relative,
+    needs_shield, put_copies,
 };
 use read::{count_segments, split_root, split_segments};
 pub use segment::Segment;
@@ -140,11 +142,23 @@ impl<'p> Path<'p> {
     pub fn remove_dot_segments(&mut self)
         ensures { self.new ≡ without_dots self.old }
     {
+        self.remove_dots(false);
+    }
+
+    /// The same, and where no authority stands before the path, a `.` comes in front of a text that
+    /// would begin with two slashes then. There is room for it, since the list has become shorter.
+    pub(crate) fn remove_dots(&mut self, shields: bool)
+        requires { shields ≡ true → hides_root self.old.segments ≡ false }
+        ensures { self.new ≡ (if shields then shield (without_dots self.old) else without_dots self.old) }
+    {
         if !has_dot_segment(self.segments()) {
             return;
         }
-        self.absolute = remove_dots(self.absolute, &mut self.segments);
-        self.respell();
+        let (rooted, kept) = replay(self.absolute, &mut self.segments);
+        let (absolute, kept) = root_first(rooted, &mut self.segments, kept);
+        let shielded = needs_shield(shields, absolute, &self.segments[..kept]);
+        guard(&mut self.segments, shielded, kept);
+        self.absolute = absolute;
     }
 
     /// Whether the path's text begins with a slash.
@@ -201,18 +215,57 @@ impl<'p> Path<'p> {
         ensures err { OnErr result (self.new ≡ self.old) }
         ensures takes_no_memory { text (pnormal self.old as_reference) ≡ text self.old → IsOk result }
     {
-        if self.is_normalized(as_reference) {
-            return Ok(());
-        }
+        self.put_normal(alloc, as_reference, false)
+    }
+
+    /// Brings the path into its normal form; where no authority stands before it, a `.` comes in front of
+    /// a text that would begin with two slashes then. Memory is wanted for the segments that aren't
+    /// canonical; where there is none, the path is kept.
+    pub(crate) fn put_normal(
+        &mut self,
+        alloc: Global,
+        as_reference: bool,
+        shields: bool,
+    ) -> Result<(), AllocError>
+        requires { shields ≡ true → hides_root self.old.segments ≡ false }
+        ensures ok { OnOk result (self.new ≡ (if shields then shield (pnormal self.old as_reference) else pnormal self.old as_reference)) }
+        ensures err { OnErr result (self.new ≡ self.old) }
+        ensures takes_no_memory { list_all is_canonical self.old.segments ≡ true → IsOk result }
+        ensures listed { IsListed self.old.segments }
+    {
         let stays_relative = self.stays_relative(as_reference);
         let copies = canonical_copies(alloc, self.segments())?;
         self.put_canonical(copies);
         if stays_relative {
             self.shape_relative();
         } else {
-            self.remove_dot_segments();
+            self.remove_dots(shields);
         }
         Ok(())
+    }
+
+    /// Whether a `.` stands in front of an absolute path, which is needed where no authority stands
+    /// before it, and behind that a normal path.
+    fn is_shielded(&self) -> bool
+        ensures { result ≡ is_shielded self.now.absolute self.now.segments }
+    {
+        match self.segments().split_first() {
+            Some((first, later)) => {
+                self.absolute
+                    && first.as_str() == "."
+                    && hides_root(later)
+                    && is_normal(false, later)
+            }
+            None => false,
+        }
+    }
+
+    /// Whether the normal form has the path's text, where a `.` may be needed in front or not.
+    pub(crate) fn is_normal_in(&self, as_reference: bool, shields: bool) -> bool
+        ensures { result ≡ is_normal_in shields self.now as_reference }
+    {
+        let relative = self.stays_relative(as_reference);
+        is_normal(relative, self.segments()) || (shields && self.is_shielded())
     }
 
     /// How many bytes the path's text has at most.

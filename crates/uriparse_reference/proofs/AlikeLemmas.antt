@@ -28,7 +28,8 @@ use Rattle.uriparse_reference.proofs.SameLemmas.{canonical_cut}
 use Rattle.uriparse_reference.proofs.PartLemmas.{scheme-text, some_map, none_map, map_or, authority-print, authority-kind}
 use Rattle.uriparse_reference.proofs.PlaceLemmas.{Fits, two_slashes, fits_of, shielded_fits}
 use Rattle.uriparse_reference.proofs.NormalLemmas.{same_path, normal_valid, printed_alike}
-use Rattle.uriparse_reference.proofs.TargetLemmas.{merged, merged_spelled, IsBehind, behind, fits_merged, fits_rooted, fits_undotted, dots_removed-text, dots_removed-merged, chosen, le_from}
+use Rattle.uriparse_path.specs.Merge.{merged}
+use Rattle.uriparse_reference.proofs.TargetLemmas.{merged_spelled, IsBehind, behind, fits_merged, fits_rooted, fits_undotted, dots_removed-text, dots_removed-merged, chosen, le_from}
 
 -- ---- part by part
 

@@ -36,7 +36,8 @@ use Rattle.uriparse_reference.specs.Target.{merge, dots_removed, is_empty, targe
 use Rattle.uriparse_reference.proofs.PartLemmas.{scheme_twice, text_twice, some_map, none_map, map_or, or_valid, authority_twice}
 use Rattle.uriparse_reference.proofs.PlaceLemmas.{Fits, make, rooted_formed, fits_of, shielded_cases, shielded_fits, undotted_shielded}
 use Rattle.uriparse_reference.proofs.NormalLemmas.{same_path, fits_normal_path, normal_no_longer, absolute_stays, pnormal_shielded, shielded_map, path_twice}
-use Rattle.uriparse_reference.proofs.TargetLemmas.{merged, merged_spelled, IsBehind, behind, fits_merged, fits_rooted, fits_undotted, dots_removed-text, dots_removed-merged, chosen, le_from, merged_now}
+use Rattle.uriparse_path.specs.Merge.{merged}
+use Rattle.uriparse_reference.proofs.TargetLemmas.{merged_spelled, IsBehind, behind, fits_merged, fits_rooted, fits_undotted, dots_removed-text, dots_removed-merged, chosen, le_from, merged_now}
 
 -- the normal form of a path that isn't normalised as a relative one
 abbrev settled : PathParts → PathParts

@@ -15,8 +15,7 @@ use Rattle.uriparse_reference.specs.declared.uri_reference.error.URIReferenceErr
 use Rattle.uriparse_reference.specs.declared.uri_reference.error.URIReferenceError.TheVariants as errors
 use Rattle.uriparse_reference.specs.Reference.{Parts, Valid, path_refusal, is_noscheme}
 use Rattle.uriparse_reference.specs.declared.uri_reference.edit.Edit.{Edit}
-use Rattle.uriparse_reference.specs.declared.uri_reference.edit.Edit.TheVariants as edits
-use Rattle.uriparse_reference.specs.Edits.{placed, refusal, of_parts, edited, replaced, Run, ends, stops, goes}
+use Rattle.uriparse_reference.specs.Edits.{placed, refusal, of_parts, edited, IsRefused, Run, ends, stops, goes}
 use Rattle.uriparse_reference.proofs.ValidLemmas.{HasPlace, placed_text, same_path}
 use Rattle.uriparse_reference.proofs.ReferenceLemmas.{accepted}
 
@@ -36,7 +35,7 @@ valid_parts p s a i q f k =
     record { is_scheme = s; is_authority = a; is_path = z.is_path; absolute = if_there p.authority z.absolute; plain = z.plain; fit = z.fit; is_query = q; is_fragment = f }
 
 -- a path that may stand anywhere may stand behind a scheme
-with_scheme : (v w : Bool) (h : List ℕ) → path_refusal v w h ≡ None → path_refusal true w h ≡ None
+pub with_scheme : (v w : Bool) (h : List ℕ) → path_refusal v w h ≡ None → path_refusal true w h ≡ None
 with_scheme v true h k = refl
 with_scheme v false h k = by_slashes (has_two_slashes h) k
   where
@@ -71,7 +70,7 @@ abbrev pub build : Option Scheme → Option AuthorityParts → PathParts → Opt
 build s a h q f = record { scheme = s; authority = a; path = h; query = q; fragment = f }
 
 -- a valid reference's path is in its place
-placed_same : (p : Parts) → Valid p → placed (is_some p.authority) p.path ≡ p.path
+pub placed_same : (p : Parts) → Valid p → placed (is_some p.authority) p.path ≡ p.path
 placed_same p v = by_authority p.authority v.absolute
   where
     make : Bool → PathParts
@@ -81,31 +80,12 @@ placed_same p v = by_authority p.authority v.absolute
     by_authority None h = same_path p.path v.is_path v.plain
     by_authority (Some a) h = sym (ap make h)
 
-accepts : (p q r : Parts) (o : Option URIReferenceError) → o ≡ None → q ≡ r → unless_fault o q ≡ Ok r
+pub accepts : (p q r : Parts) (o : Option URIReferenceError) → o ≡ None → q ≡ r → unless_fault o q ≡ Ok r
 accepts p q r o e f = ap (λ x. unless_fault x q) e ∙ ap Ok f
 
 -- a valid reference's own parts make it
 pub own_parts : (p : Parts) → Valid p → of_parts p ≡ Ok p
 own_parts p v = accepts p (record p { path = placed (is_some p.authority) p.path }) p (refusal p) v.fit (ap (λ h. build p.scheme p.authority h p.query p.fragment) (placed_same p v))
-
--- an edit makes of a valid reference what its parts make, with one of them replaced
-pub edited_parts : (p : Parts) (e : Edit) → Valid p → edited p e ≡ of_parts (replaced p e)
-edited_parts p (edits.Scheme (Some s)) v =
-    sym (accepts p (build (Some s) p.authority (placed (is_some p.authority) p.path) p.query p.fragment) (build (Some s) p.authority p.path p.query p.fragment)
-    (path_refusal true (is_some p.authority) (path.text p.path)) (with_scheme (is_some p.scheme) (is_some p.authority) (path.text p.path) v.fit)
-    (ap (λ h. build (Some s) p.authority h p.query p.fragment) (placed_same p v)))
-edited_parts p (edits.Scheme None) v =
-    ap (λ h. unless_fault (path_refusal false (is_some p.authority) (path.text p.path)) (build None p.authority h p.query p.fragment)) (sym (placed_same p v))
-edited_parts p (edits.Authority (Some a)) v = refl
-edited_parts p (edits.Authority None) v =
-    ap (λ h. unless_fault (path_refusal (is_some p.scheme) false (path.text p.path)) (build p.scheme None h p.query p.fragment)) (sym (same_path p.path v.is_path v.plain))
-edited_parts p (edits.Path h) v = refl
-edited_parts p (edits.Query q) v =
-    sym (accepts p (build p.scheme p.authority (placed (is_some p.authority) p.path) q p.fragment) (build p.scheme p.authority p.path q p.fragment) (refusal p) v.fit
-    (ap (λ h. build p.scheme p.authority h q p.fragment) (placed_same p v)))
-edited_parts p (edits.Fragment f) v =
-    sym (accepts p (build p.scheme p.authority (placed (is_some p.authority) p.path) p.query f) (build p.scheme p.authority p.path p.query f) (refusal p) v.fit
-    (ap (λ h. build p.scheme p.authority h p.query f) (placed_same p v)))
 
 -- ---- by what the tests of a path answered
 
@@ -134,7 +114,7 @@ step p q s all rest i e c k n r o h =
     let same : i + suc n ≡ (i + 1) + n = omega arith in
     subst (λ m. Run p all m r o) same (c (suc n) r o (goes q s r e rest n o k h))
 
-pub stop : (p q r : Parts) (all rest : List Edit) (i : ℕ) (e : Edit) (x : URIReferenceError) → Continues p all q i (e ∷ rest) → edited q e ≡ Err x → r ≡ q → Run p all i r (Some x)
+pub stop : (p q r : Parts) (all rest : List Edit) (i : ℕ) (e : Edit) (x : URIReferenceError) → Continues p all q i (e ∷ rest) → IsRefused q e x → r ≡ q → Run p all i r (Some x)
 stop p q r all rest i e x c k same =
     let none : i + 0 ≡ i = omega arith in
     subst (λ u. Run p all i u (Some x)) (sym same) (subst (λ m. Run p all m q (Some x)) none (c 0 q (Some x) (stops q e rest x k)))

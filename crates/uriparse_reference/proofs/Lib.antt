@@ -7,6 +7,7 @@ pub mod PartLemmas
 pub mod PlaceLemmas
 pub mod NormalLemmas
 pub mod TargetLemmas
+pub mod ResolveLemmas
 pub mod AlikeLemmas
 pub mod CommutationLemmas
 pub mod RunLemmas

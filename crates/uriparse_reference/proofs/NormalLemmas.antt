@@ -1,5 +1,5 @@
 -- Normal forms of references.
-use Rattle.std.proofs.Common.{◌≡◌, ◌↔◌, ℕ, ◌<◌, ◌≤◌, Bool, true, false, ◌&&◌, ◌||◌, cond, List, [], ◌∷◌, length, Option, Some, None, refl, sym, ap, ◌∙◌, subst, arith}
+use Rattle.std.proofs.Common.{◌≡◌, ◌↔◌, ℕ, ◌<◌, ◌≤◌, Bool, true, false, not, ◌&&◌, ◌||◌, cond, List, [], ◌∷◌, length, Option, Some, None, refl, sym, ap, ◌∙◌, subst, arith}
 use Rattle.std.specs.Prelude.{IfSome, is_some, is_none, bytes_eq}
 use Rattle.std.specs.Option.{option_map, option_eq}
 use Rattle.std.specs.List.{list_all}
@@ -13,9 +13,11 @@ use Rattle.uriparse_path.specs.Path.{PathParts, IsListed, text, spelled, hides_r
 use Rattle.uriparse_path.specs.Relative.{is_first, has_colon}
 use Rattle.uriparse_path.specs.Normal.{canonical_path, stays_relative, pnormal}
 use Rattle.uriparse_path.specs.Normal as path
+use Rattle.uriparse_path.specs.Normal.{is_shielded}
 use Rattle.uriparse_path.proofs.TextLemmas.{spelled-text}
 use Rattle.uriparse_path.proofs.NormalLemmas.{listed_pnormal, pnormal_twice, normal_iff, normal_kept}
 use Rattle.uriparse_path.proofs.MergeLemmas.{pnormal_is, dot_undotted}
+use Rattle.uriparse_path.proofs.ShieldLemmas.{normal_canonical}
 use Rattle.uriparse_authority.specs.Authority as authority
 use Rattle.uriparse_authority.specs.Authority.{AuthorityParts}
 use Rattle.uriparse_authority.specs.Normal.{canonical_authority}
@@ -24,8 +26,8 @@ use Rattle.uriparse_scheme.specs.Scheme as scheme
 use Rattle.uriparse_scheme.specs.Normal.{canonical_scheme}
 use Rattle.uriparse_reference.specs.Reference.{Parts, joined, Valid, scheme_part, authority_part, print, kind}
 use Rattle.uriparse_reference.specs.Cuts.{scheme_text, authority_text, path_text, query_text, fragment_text}
-use Rattle.uriparse_path.specs.Edits.{dotted}
-use Rattle.uriparse_reference.specs.Normal.{shielded, normal, is_shielded, is_normal_path, is_normal}
+use Rattle.uriparse_path.specs.Edits.{dotted, shield}
+use Rattle.uriparse_reference.specs.Normal.{shielded, normal, is_normal_path, is_normal}
 use Rattle.uriparse_reference.proofs.ValidLemmas.{HasPlace}
 use Rattle.uriparse_reference.proofs.SameLemmas.{print_cut, same_scheme}
 use Rattle.uriparse_authority.proofs.NormalLemmas.{one_printed}
@@ -233,6 +235,49 @@ kept_whole p v h =
     ∙ ap (λ u. build p.scheme p.authority u (normal p).query (normal p).fragment) t
     ∙ ap (λ u. build p.scheme p.authority p.path u (normal p).fragment) q
     ∙ ap (λ u. build p.scheme p.authority p.path p.query u) f
+  where
+    build : Option Scheme → Option AuthorityParts → PathParts → Option (List ℕ) → Option (List ℕ) → Parts
+    build s a h q f = record { scheme = s; authority = a; path = h; query = q; fragment = f }
+
+-- ---- what takes no memory
+
+-- these are the parts of a reference that prints as its normal form
+pub kept_parts : (p q : Parts) → Valid p → p ≡ q → print (normal q) ≡ print q → normal p ≡ p
+kept_parts p q v e h = kept_whole p v ((normal_exactly p v).1 (subst (λ r. print (normal r) ≡ print r) (sym e) h))
+
+pub kept_segments : (p q : Parts) → Valid p → p ≡ q → print (normal q) ≡ print q → list_all path.is_canonical p.path.segments ≡ true
+kept_segments p q v e h =
+    let is = (normal_exactly p v).1 (subst (λ r. print (normal r) ≡ print r) (sym e) h) in
+    let x = and_parts (option_eq bytes_eq (option_map scheme.canonical_text p.scheme) (scheme_part p)) _ is in
+    let y = and_parts (option_eq bytes_eq (option_map authority.canonical_text p.authority) (authority_part p)) _ x.1 in
+    normal_canonical (is_none p.authority) p.path (is_none p.scheme) (and_parts (is_normal_path p.authority p.path (is_none p.scheme)) _ y.1).0
+
+-- ---- what is put in place
+
+-- the path is brought into its normal form by what stands before it
+pub placed_normal : (s : Option Scheme) (a : Option AuthorityParts) (p h : PathParts) (v w : Bool) → is_some s ≡ not v → is_some a ≡ not w → h ≡ cond w (shield (pnormal p v)) (pnormal p v)
+    → h ≡ shielded a (pnormal p (is_none s))
+placed_normal s a p h v w e f g = g ∙ ap (λ u. cond w (shield (pnormal p u)) (pnormal p u)) (sym (none_is s v e)) ∙ ap (λ u. cond u (shield (pnormal p (is_none s))) (pnormal p (is_none s))) (sym (none_is a w f)) ∙ by_authority a
+  where
+    none_is : {A : Type 0} (o : Option A) (v : Bool) → is_some o ≡ not v → is_none o ≡ v
+    none_is None true e = refl
+    none_is None false e = absurd (false≢true e)
+    none_is (Some x) true e = absurd (false≢true (sym e))
+    none_is (Some x) false e = refl
+
+    by_authority : (a : Option AuthorityParts) → cond (is_none a) (shield (pnormal p (is_none s))) (pnormal p (is_none s)) ≡ shielded a (pnormal p (is_none s))
+    by_authority None = refl
+    by_authority (Some a) = refl
+
+pub made_normal : (p : Parts) (s : Option Scheme) (a : Option AuthorityParts) (h : PathParts) (q f : Option (List ℕ)) → Valid p
+    → s ≡ (normal p).scheme → a ≡ (normal p).authority → h ≡ (normal p).path → q ≡ (normal p).query → f ≡ (normal p).fragment
+    → Valid (record { scheme = s; authority = a; path = h; query = q; fragment = f })
+made_normal p s a h q f v es ea eh eq ef =
+    subst (λ u. Valid (build u a h q f)) (sym es)
+    (subst (λ u. Valid (build (normal p).scheme u h q f)) (sym ea)
+    (subst (λ u. Valid (build (normal p).scheme (normal p).authority u q f)) (sym eh)
+    (subst (λ u. Valid (build (normal p).scheme (normal p).authority (normal p).path u f)) (sym eq)
+    (subst (λ u. Valid (build (normal p).scheme (normal p).authority (normal p).path (normal p).query u)) (sym ef) (normal_valid p v)))))
   where
     build : Option Scheme → Option AuthorityParts → PathParts → Option (List ℕ) → Option (List ℕ) → Parts
     build s a h q f = record { scheme = s; authority = a; path = h; query = q; fragment = f }

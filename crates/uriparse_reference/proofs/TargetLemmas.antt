@@ -3,7 +3,7 @@ use Rattle.std.proofs.Common.{◌≡◌, ◌↔◌, ℕ, ◌<◌, ◌≤◌, Boo
 use Rattle.std.specs.Prelude.{IfSome, is_some, nat_le}
 use Rattle.std.specs.Option.{option_or}
 use Rattle.std.specs.List.{list_all, list_any, slice_split, join_with_byte}
-use Rattle.std.proofs.lemmas.Bool.{false≢true, and_parts, and_from, not-true}
+use Rattle.std.proofs.lemmas.Bool.{false≢true, and_parts, not-true}
 use Rattle.std.proofs.lemmas.Bool.Decides.{nat_tests}
 use Rattle.std.proofs.lemmas.List.Folds.{list_all-append}
 use Rattle.uriparse_text.specs.Bytes.{slash}
@@ -11,6 +11,7 @@ use Rattle.uriparse_text.specs.Query.{IsQuery}
 use Rattle.uriparse_text.specs.Fragment.{IsFragment}
 use Rattle.uriparse_path.specs.Segment.{is_segment}
 use Rattle.uriparse_path.specs.Path.{PathParts, IsListed, max_segments, root, text, is_slash, is_rooted, unrooted, pieces, spelled, hides_root, respelled}
+use Rattle.uriparse_path.specs.Merge.{merged}
 use Rattle.uriparse_path.specs.Dots.{LacksSlash, all_but_last, rooted_after, replayed, undot}
 use Rattle.uriparse_path.proofs.SplitLemmas.{joined-behind}
 use Rattle.uriparse_path.proofs.TextLemmas.{lacks_slash, pieces-segments, rooted-relative}
@@ -18,6 +19,7 @@ use Rattle.uriparse_path.proofs.DotLemmas.{has-lacks}
 use Rattle.uriparse_path.proofs.ReplayLemmas.{once_rooted}
 use Rattle.uriparse_path.proofs.LengthLemmas.{pushed}
 use Rattle.uriparse_path.proofs.NormalLemmas.{spelled_undot}
+use Rattle.uriparse_path.proofs.MergingLemmas.{some_before, merged_each, merged_hides, listed_merged}
 use Rattle.uriparse_path.proofs.MergeLemmas.{all_but_last_push, undotted, listed_undotted, respelled_twice, room}
 use Rattle.uriparse_authority.specs.Authority as authority
 use Rattle.uriparse_authority.specs.Authority.{AuthorityParts}
@@ -57,9 +59,6 @@ joined_one s = refl
 some_pushed : (front : List (List ℕ)) (y : List ℕ) → 0 < length (front ++ y ∷ [])
 some_pushed front y = omega (arith, length-append front (y ∷ []))
 
-some_before : (front l : List (List ℕ)) → 0 < length l → 0 < length (front ++ l)
-some_before front l h = omega (arith, length-append front l)
-
 merged_joined : (front : List (List ℕ)) (y : List ℕ) (r : List (List ℕ)) → LacksSlash y → 0 < length r → through_last_slash (join_with_byte slash (front ++ y ∷ [])) ++ join_with_byte slash r ≡ join_with_byte slash (front ++ r)
 merged_joined [] y r h n = ap (λ u. u ++ join_with_byte slash r) (directory_none y h)
 merged_joined (s ∷ front) y r h n =
@@ -68,10 +67,6 @@ merged_joined (s ∷ front) y r h n =
     ∙ append_assoc s (slash ∷ through_last_slash (join_with_byte slash (front ++ y ∷ []))) (join_with_byte slash r)
     ∙ ap (λ u. s ++ slash ∷ u) (merged_joined front y r h n)
     ∙ sym (joined_cons s (front ++ r) (some_before front r n))
-
--- the segments of the base but for the last one, and then those of the reference
-abbrev pub merged : PathParts → PathParts → PathParts
-merged p q = record { absolute = p.absolute; segments = all_but_last p.segments ++ q.segments }
 
 last_segment : (front : List (List ℕ)) (y : List ℕ) → list_all is_segment (front ++ y ∷ []) ≡ true → is_segment y ≡ true
 last_segment front y h = (and_parts (is_segment y) true (and_parts (list_all is_segment front) (list_all is_segment (y ∷ [])) (sym (list_all-append is_segment front (y ∷ [])) ∙ h)).1).0
@@ -99,20 +94,6 @@ merged_text p q is js h = by_list p.segments is ∙ refl
         ∙ ap (λ u. root p.absolute ++ (through_last_slash (join_with_byte slash u) ++ join_with_byte slash q.segments)) cut.whole
         ∙ ap (λ u. root p.absolute ++ u) (merged_joined cut.front cut.last q.segments (lacks_slash cut.last (last_segment cut.front cut.last (sym (ap (list_all is_segment) cut.whole) ∙ is.each))) js.some)
         ∙ ap (λ u. root p.absolute ++ join_with_byte slash (u ++ q.segments)) (sym (ap all_but_last cut.whole ∙ all_but_last_push cut.front cut.last))
-
-each_cut : (l : List (List ℕ)) → list_all is_segment l ≡ true → list_all is_segment (all_but_last l) ≡ true
-each_cut [] h = refl
-each_cut (s ∷ []) h = refl
-each_cut (s ∷ r ∷ l) h = let both = and_parts (is_segment s) (list_all is_segment (r ∷ l)) h in and_from _ _ both.0 (each_cut (r ∷ l) both.1)
-
-pub merged_each : (p q : PathParts) → IsListed p.segments → IsListed q.segments → list_all is_segment (merged p q).segments ≡ true
-merged_each p q is js = list_all-append is_segment (all_but_last p.segments) q.segments ∙ and_from _ _ (each_cut p.segments is.each) js.each
-
-merged_hides : (l m : List (List ℕ)) → hides_root l ≡ false → hides_root m ≡ false → hides_root (all_but_last l ++ m) ≡ false
-merged_hides [] m h k = k
-merged_hides (s ∷ []) m h k = k
-merged_hides ([] ∷ r ∷ l) m h k = absurd (false≢true (sym h))
-merged_hides ((b ∷ s) ∷ r ∷ l) m h k = refl
 
 -- what the pieces of segments that are joined are, where their text begins with no hidden slash; there may be too many of them
 pieces_text : (p : PathParts) → 0 < length p.segments → list_all is_segment p.segments ≡ true → (p.absolute ≡ false → hides_root p.segments ≡ false) → spelled (text p) ≡ p
@@ -148,7 +129,7 @@ merged_spelled v p q is js =
 -- within the limit it fits as the base's does
 pub fits_merged : (v : Bool) (p q : PathParts) → Fits v p → IsBehind q → length (merged p q).segments ≤ max_segments → Fits v (merged p q)
 fits_merged v p q is js short = record {
-  listed = record { some = some_before (all_but_last p.segments) q.segments js.listed.some; short = short; each = merged_each p q is.listed js.listed };
+  listed = listed_merged p q is.listed js.listed short;
   formed = by_flag p.absolute refl;
   rooted = is.rooted;
   shown = λ h. merged_hides p.segments q.segments (is.shown h) js.shown;

@@ -1,11 +1,14 @@
 -- What parts make a reference, what an edit makes of one, and what a list of edits does.
-use Rattle.std.specs.Prelude.{◌≡◌, ℕ, suc, Bool, true, false, List, [], ◌∷◌, Option, Some, None, Result, Ok, Err, is_some}
+use Rattle.std.specs.Prelude.{◌≡◌, ◌⊎◌, ℕ, suc, Bool, true, false, List, [], ◌∷◌, Option, Some, None, Result, Ok, Err, is_some}
 use Rattle.uriparse_text.specs.Readings.{unless_fault}
 use Rattle.uriparse_path.specs.Path as path
 use Rattle.uriparse_reference.specs.declared.uri_reference.edit.Edit.{Edit}
 use Rattle.uriparse_reference.specs.declared.uri_reference.edit.Edit.TheVariants as edits
 use Rattle.uriparse_reference.specs.declared.uri_reference.error.URIReferenceError.{URIReferenceError}
-use Rattle.uriparse_reference.specs.Reference.{Parts, path_refusal}
+use Rattle.uriparse_path.specs.declared.path.error.PathError.TheVariants.{OutOfMemory}
+use Rattle.uriparse_reference.specs.declared.uri_reference.error.URIReferenceError.TheVariants as errors
+use Rattle.uriparse_reference.specs.Reference.{Parts, path_refusal, print}
+use Rattle.uriparse_reference.specs.Normal.{normal}
 
 -- the path as a reference holds it: behind an authority it is made absolute, else it is the one that its text spells
 abbrev pub placed : Bool → path.PathParts → path.PathParts
@@ -31,19 +34,35 @@ edited p (edits.Authority None) =
 edited p (edits.Path h) = of_parts (record p { path = h })
 edited p (edits.Query q) = Ok (record p { query = q })
 edited p (edits.Fragment f) = Ok (record p { fragment = f })
+edited p edits.Normalize = Ok (normal p)
 
--- the parts with one of them replaced, which may make no reference
+-- the parts with one of them replaced, which may make no reference; or their normal form
 abbrev pub replaced : Parts → Edit → Parts
 replaced p (edits.Scheme scheme) = record p { scheme = scheme }
 replaced p (edits.Authority authority) = record p { authority = authority }
 replaced p (edits.Path path) = record p { path = path }
 replaced p (edits.Query query) = record p { query = query }
 replaced p (edits.Fragment fragment) = record p { fragment = fragment }
+replaced p edits.Normalize = normal p
+
+-- The edit asks for the normal form of a reference that doesn't print as that form, and this tells that there was no memory.
+pub record WantsMemory (p : Parts) (e : Edit) (x : URIReferenceError) : Type 0 where
+  pub normalises : e ≡ edits.Normalize
+  pub differs : print (normal p) ≡ print p → ⊥
+  pub error : x ≡ errors.Path OutOfMemory
+
+-- the edit is refused with this, by its rule or for want of memory
+abbrev pub IsRefused : Parts → Edit → URIReferenceError → Type 0
+IsRefused p e x = (edited p e ≡ Err x) ⊎ WantsMemory p e x
+
+-- the refusal is want of memory
+abbrev pub IsWant : Option URIReferenceError → Type 0
+IsWant o = o ≡ Some (errors.Path OutOfMemory)
 
 -- From these parts the first n edits of the list are accepted, one after another, and make the parts q; these edits are all there are, or the
 -- next one is refused.
 pub data Run : Parts → List Edit → ℕ → Parts → Option URIReferenceError → Type 0 where
   ends : (p : Parts) → Run p [] 0 p None
-  stops : (p : Parts) (e : Edit) (es : List Edit) (x : URIReferenceError) → edited p e ≡ Err x → Run p (e ∷ es) 0 p (Some x)
+  stops : (p : Parts) (e : Edit) (es : List Edit) (x : URIReferenceError) → IsRefused p e x → Run p (e ∷ es) 0 p (Some x)
   goes : (p r q : Parts) (e : Edit) (es : List Edit) (n : ℕ) (o : Option URIReferenceError)
       → edited p e ≡ Ok r → Run r es n q o → Run p (e ∷ es) (suc n) q o

@@ -1,6 +1,8 @@
 pub mod Reference
+pub mod Kinds
 pub mod Cuts
 pub mod Edits
+pub mod Builder
 pub mod Key
 pub mod Reading
 pub mod Normal

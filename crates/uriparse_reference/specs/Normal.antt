@@ -1,13 +1,13 @@
 -- Normal forms of references: RFC 3986, section 6.2.2.
-use Rattle.std.specs.Prelude.{ℕ, Bool, false, ◌&&◌, ◌||◌, if◌then◌else◌, List, [], ◌∷◌, Option, Some, None, is_none, bytes_eq}
+use Rattle.std.specs.Prelude.{Bool, ◌&&◌, Option, Some, None, is_none, bytes_eq}
 use Rattle.std.specs.Option.{option_map, option_eq}
-use Rattle.uriparse_text.specs.Bytes.{dot}
 use Rattle.uriparse_text.specs.Canon.{canon}
-use Rattle.uriparse_path.specs.Edits.{dotted}
-use Rattle.uriparse_path.specs.Path.{PathParts, hides_root, has_two_slashes, text}
+use Rattle.uriparse_path.specs.Edits.{shield}
+use Rattle.uriparse_path.specs.Path.{PathParts}
 use Rattle.uriparse_path.specs.Normal as path
 use Rattle.uriparse_authority.specs.Authority as authority
-use Rattle.uriparse_authority.specs.Normal.{canonical_authority}
+use Rattle.uriparse_authority.specs.Normal.{AreCanonicalCopies, canonical_authority}
+use Rattle.uriparse_authority.specs.declared.authority.normal.CanonicalCopies.{CanonicalCopies}
 use Rattle.uriparse_scheme.specs.Scheme as scheme
 use Rattle.uriparse_scheme.specs.Normal.{canonical_scheme}
 use Rattle.uriparse_reference.specs.Reference.{Parts, scheme_part, authority_part}
@@ -15,7 +15,7 @@ use Rattle.uriparse_reference.specs.Reference.{Parts, scheme_part, authority_par
 -- The path, to stand behind this authority. Where there is none, and the text would begin with two slashes, a "." stands in front.
 abbrev pub shielded : Option authority.AuthorityParts → PathParts → PathParts
 shielded (Some a) p = p
-shielded None p = if has_two_slashes (text p) then dotted p else p
+shielded None p = shield p
 
 -- The normal form: each text in canonical spelling, and the normal form of the path, which is that of a relative one exactly where there is no scheme.
 abbrev pub normal : Parts → Parts
@@ -29,14 +29,9 @@ normal p = record {
 
 -- ---- which references are left as they are
 
--- the absolute path has a "." in front, which is needed where there is no authority, and behind it a normal path
-abbrev pub is_shielded : Bool → List (List ℕ) → Bool
-is_shielded absolute [] = false
-is_shielded absolute (s ∷ ss) = absolute && bytes_eq s (dot ∷ []) && hides_root ss && path.is_normal (record { absolute = absolute; segments = ss }) false
-
 -- the path is its own normal form where it stands
 abbrev pub is_normal_path : Option authority.AuthorityParts → PathParts → Bool → Bool
-is_normal_path a p as_reference = path.is_normal p as_reference || (is_none a && is_shielded p.absolute p.segments)
+is_normal_path a p as_reference = path.is_normal_in (is_none a) p as_reference
 
 -- each part has the text of its normal form
 abbrev pub is_normal : Parts → Bool
@@ -46,3 +41,12 @@ is_normal p =
     && (is_normal_path p.authority p.path (is_none p.scheme)
     && (option_eq bytes_eq (option_map canon p.query) p.query
     && option_eq bytes_eq (option_map canon p.fragment) p.fragment)))
+
+-- ---- copies that are made before one is put in place
+
+-- the copies are those of the authority, where there is one
+abbrev pub AreCopiesIf : Option CanonicalCopies → Option authority.AuthorityParts → Type 0
+AreCopiesIf None None = Unit {0}
+AreCopiesIf None (Some a) = ⊥
+AreCopiesIf (Some copies) None = ⊥
+AreCopiesIf (Some copies) (Some a) = AreCanonicalCopies copies a

@@ -9,7 +9,8 @@ ghost use Rattle.uriparse_authority.specs.Authority.{ends_authority};
 ghost use Rattle.uriparse_scheme.specs.Scheme.{is_scheme};
 ghost use Rattle.uriparse_reference.specs.Reference.{Parts, Spells, Valid, ReadsBack, HidesAddress, OneHidesAddress, Same, joined, print, kind};
 ghost use Rattle.uriparse_reference.specs.Cuts.{scheme_text, authority_text, path_text, query_text, fragment_text};
-ghost use Rattle.uriparse_reference.specs.Edits.{Run, edited, of_parts, replaced};
+ghost use Rattle.uriparse_reference.specs.Edits.{IsWant, Run, edited, of_parts, replaced};
+ghost use Rattle.uriparse_reference.specs.Builder.{built, held};
 ghost use Rattle.uriparse_reference.specs.Examples.{are_equal, hold, is_normalised, normal_form_rows, normalised, normalised_first, normal_rows, relative_form_rows, abnormal_rows, resolved, resolved_first, rfc_base};
 ghost use Rattle.uriparse_reference.specs.Key.{key};
 ghost use Rattle.uriparse_reference.specs.declared.uri_reference.edit.Edit.{Edit};
@@ -100,10 +101,15 @@ pub fn one_edit()
     ensures replaced { (p : Parts) (e : Edit) → Valid p → edited p e ≡ of_parts (replaced p e) }
 {}
 
+/// The parts of a valid reference, held by a builder, build it again.
+pub fn one_build()
+    ensures { (p : Parts) → Valid p → built (held p) ≡ Ok p }
+{}
+
 /// A list of edits has one outcome: how many are accepted, the parts that they make, and the refusal
-/// of the next one, if there is one.
+/// of the next one, if there is one; save that a normal form may have wanted memory.
 pub fn one_run()
-    ensures { (p q r : Parts) (es : List Edit) (n m : ℕ) (o u : Option URIReferenceError) → Run p es n q o → Run p es m r u → (n ≡ m) × (q ≡ r) × (o ≡ u) }
+    ensures { (p q r : Parts) (es : List Edit) (n m : ℕ) (o u : Option URIReferenceError) → Run p es n q o → Run p es m r u → IsWant o ⊎ (IsWant u ⊎ ((n ≡ m) × (q ≡ r) × (o ≡ u))) }
 {}
 
 /// Worked examples of targets: those of sections 5.4.1 and 5.4.2, and others.

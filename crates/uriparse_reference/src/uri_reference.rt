@@ -23,11 +23,17 @@ use uriparse_scheme::scheme::Scheme;
 use uriparse_text::fragment::Fragment;
 use uriparse_text::query::Query;
 
+mod builder;
+mod copy;
 mod edit;
 mod error;
+mod kind;
+mod normal;
 mod print;
 mod read;
+pub(crate) mod resolve;
 
+pub use builder::URIReferenceBuilder;
 pub use edit::Edit;
 pub use error::URIReferenceError;
 use print::{write_authority, write_behind, write_scheme};

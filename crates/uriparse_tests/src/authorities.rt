@@ -165,6 +165,27 @@ fn authority_of_password<'t>(alloc: Global, word: &'t str, host: &'t str) -> Ans
     }
 }
 
+/// The text of the normal form, or "normal" where the authority is that already.
+fn normalized(alloc: Global, authority: Authority<'_>) -> Answer {
+    let mut authority = authority;
+    let was_normal = authority.is_normalized();
+    authority.normalize(alloc)?;
+    if !authority.is_normalized() {
+        return said(alloc, "not normal");
+    }
+    if was_normal {
+        return said(alloc, "normal");
+    }
+    authority.to_string(alloc)
+}
+
+fn normal_authority(alloc: Global, text: &str) -> Answer {
+    match Authority::try_from_str(text) {
+        Ok(authority) => normalized(alloc, authority),
+        Err(why) => printed(alloc, why),
+    }
+}
+
 fn authority(alloc: Global, command: &str, text: &str, other: &str) -> Answer {
     match Authority::try_from_str(text) {
         Ok(authority) => asked_of(alloc, command, &authority, other),
@@ -180,6 +201,7 @@ pub fn answer(alloc: Global, asked: &str) -> Answer {
     match command {
         "authority-of-its-parts" => authority_of_its_parts(alloc, text),
         "authority-of-password" => authority_of_password(alloc, text, other),
+        "normal-authority" => normal_authority(alloc, text),
         "authority"
         | "authorities"
         | "borrowed-authority"
@@ -314,4 +336,18 @@ swap-username-for-none u:p@h -> h
 swap-name u@h:8 [::1] -> u@[::1]:8
 swap-name [::1] h -> [::1]
 map-port-8-to-9 u@h:8 -> u@h:9
-map-port-8-to-9 u@h:7 -> u@h";
+map-port-8-to-9 u@h:7 -> u@h
+normal-authority User:@EXAMPLE.com:80 -> User:@example.com:80
+normal-authority %7eu:%7Ep@h -> ~u:~p@h
+normal-authority %7eu@h:8 -> ~u@h:8
+normal-authority u:%3a%7e@h -> u:%3A~@h
+normal-authority %31.2.3.4:8 -> 1.2.3.4:8
+normal-authority @%41 -> @a
+normal-authority '' -> normal
+normal-authority U:P@h:80 -> normal
+normal-authority u:p@h: -> normal
+normal-authority %3A@h -> normal
+normal-authority [::A] -> normal
+normal-authority U@[::A]:8 -> normal
+normal-authority %7E@[::A]:8 -> ~@[::a]:8
+normal-authority h:99999 -> port overflow";

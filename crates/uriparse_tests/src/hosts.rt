@@ -47,6 +47,27 @@ fn host(alloc: Global, command: &str, text: &str, other: &str) -> Answer {
     }
 }
 
+/// The kind and the text of the normal form, or "normal" where the host is that already.
+fn normalized(alloc: Global, host: Host<'_>) -> Answer {
+    let mut host = host;
+    let was_normal = host.is_normalized();
+    host.normalize(alloc)?;
+    if !host.is_normalized() {
+        return said(alloc, "not normal");
+    }
+    if was_normal {
+        return said(alloc, "normal");
+    }
+    told(alloc, &host)
+}
+
+fn normal_host(alloc: Global, text: &str) -> Answer {
+    match Host::try_from_str(text) {
+        Ok(host) => normalized(alloc, host),
+        Err(why) => printed(alloc, why),
+    }
+}
+
 /// The address that the text spells, made again of its octets.
 fn ipv4_of(text: &str) -> Option<Ipv4Addr> {
     let [a, b, c, d] = Ipv4Addr::parse_bytes(text.as_bytes())?.octets();
@@ -95,6 +116,7 @@ pub fn answer(alloc: Global, asked: &str) -> Answer {
     let (text, rest) = word(rest);
     let (other, _) = word(rest);
     match command {
+        "normal-host" => normal_host(alloc, text),
         "ipv4" => ipv4(alloc, text),
         "ipv6" => ipv6(alloc, text),
         "host-of-address" => host_of_address(alloc, text),
@@ -222,4 +244,14 @@ host-of-address 1.2.3.4 -> ipv4=1.2.3.4
 host-of-address 255.0.10.99 -> ipv4=255.0.10.99
 host-of-address ::ffff:1.2.3.4 -> ipv6=[::ffff:1.2.3.4]
 host-of-address ::1 -> ipv6=[::1]
-host-of-address 1.2.3 -> none";
+host-of-address 1.2.3 -> none
+normal-host EXAMPLE.com -> name=example.com
+normal-host %31.2.3.4 -> name=1.2.3.4
+normal-host %41 -> name=a
+normal-host A%7e%2fB -> name=a~%2Fb
+normal-host example.com -> normal
+normal-host '' -> normal
+normal-host %2F -> normal
+normal-host 1.2.3.4 -> normal
+normal-host [::A] -> normal
+normal-host a%4 -> invalid host IPv4 or registered name character";

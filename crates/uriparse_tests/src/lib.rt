@@ -22,6 +22,8 @@ mod limits;
 #[cfg(test)]
 mod memory;
 #[cfg(test)]
+mod normal_forms;
+#[cfg(test)]
 mod path_edits;
 #[cfg(test)]
 mod paths;
@@ -31,6 +33,8 @@ mod reference_edits;
 mod references;
 #[cfg(test)]
 mod refusals;
+#[cfg(test)]
+mod resolutions;
 #[cfg(test)]
 mod rows;
 #[cfg(test)]

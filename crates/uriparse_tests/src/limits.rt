@@ -1,7 +1,8 @@
-//! Long texts, of three words of which the second is repeated.
+//! Long texts, of three words of which the second is repeated. A reference is resolved behind the base
+//! that the first two make.
 
 use crate::answer::{Answer, printed, said, verdict, word};
-use crate::{authorities, paths, references, users};
+use crate::{authorities, paths, references, resolutions, users};
 use std::alloc::Global;
 use uriparse_path::path::Path;
 use uriparse_text::query::Query;
@@ -69,6 +70,10 @@ pub fn answer(alloc: Global, asked: &str) -> Answer {
         return repeated_queries(alloc, count, middle, back);
     }
     let middle = repeated(alloc, count, middle)?;
+    if command.starts_with("resolve") {
+        let base = format!(in alloc; "{front}{middle}")?;
+        return resolutions::resolved(alloc, command, base.as_str(), back);
+    }
     let text = format!(in alloc; "{front}{middle}{back}")?;
     told(alloc, command, text.as_str())
 }
@@ -92,4 +97,18 @@ reference //h 65536 / ?% -> exceeded maximum path length
 scheme-length '' 1000000 a : -> 1000000
 queries '' 100000 %7e ~ -> equal
 queries '' 100000 %7E %7f -> different
-remove-dots / 32767 x/../ g -> /g";
+remove-dots / 32767 x/../ g -> /g
+resolve http://h 65535 / x/y -> exceeded maximum path length
+resolve-segments http://h 65535 / x -> 65535
+resolve http://h 65535 / ../x -> exceeded maximum path length
+resolve http://h 65535 / /g -> http://h/g
+resolve-segments http://h 65535 / '' -> 65535
+resolve-segments http://h 65534 / ../x -> 65533
+resolve-segments http://h 65534 / x/y -> 65535
+resolve s: 65534 a/ x/y -> exceeded maximum path length
+resolve-segments s: 65534 a/ x -> 65535
+resolve-segments s:/ 65534 a/ ../x -> exceeded maximum path length
+resolve-segments s:/ 65533 a/ ../x -> 65533
+resolve s:/ 32766 a/../ c -> s:/c
+resolve s:/ 32766 a/../ .//c -> s:/.//c
+resolve s:/ 32766 a/../ ././/c -> exceeded maximum path length";

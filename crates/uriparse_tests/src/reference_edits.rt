@@ -89,7 +89,7 @@ fn apply_all<'t>(alloc: Global, old: URIReference<'t>, new: &'t str) -> Answer {
     edits.push(Edit::Query(Query::try_from_str(new).ok()))?;
     edits.push(Edit::Scheme(None))?;
     edits.push(Edit::Fragment(Fragment::try_from_str(new).ok()))?;
-    let answer = reference.apply_all(edits);
+    let answer = reference.apply_all(alloc, edits);
     let now = told(alloc, &reference)?;
     match answer {
         Ok(()) => Ok(now),

@@ -6,8 +6,8 @@
 
 use crate::answer::{Answer, said};
 use crate::{
-    authorities, components, hosts, limits, path_edits, paths, reference_edits, references,
-    schemes, users,
+    authorities, components, hosts, limits, normal_forms, path_edits, paths, reference_edits,
+    references, resolutions, schemes, users,
 };
 use scarce::{Outcome, starve};
 use std::alloc::{AllocError, Global};
@@ -24,10 +24,12 @@ enum Layer {
     PathEdits,
     References,
     ReferenceEdits,
+    NormalForms,
+    Resolutions,
     Limits,
 }
 
-const LAYERS: [(Layer, &str); 9] = [
+const LAYERS: [(Layer, &str); 11] = [
     (Layer::Components, components::ROWS),
     (Layer::Schemes, schemes::ROWS),
     (Layer::Users, users::ROWS),
@@ -37,6 +39,8 @@ const LAYERS: [(Layer, &str); 9] = [
     (Layer::PathEdits, path_edits::ROWS),
     (Layer::References, references::ROWS),
     (Layer::ReferenceEdits, reference_edits::ROWS),
+    (Layer::NormalForms, normal_forms::ROWS),
+    (Layer::Resolutions, resolutions::ROWS),
 ];
 
 fn answer(alloc: Global, layer: Layer, asked: &str) -> Answer {
@@ -50,6 +54,8 @@ fn answer(alloc: Global, layer: Layer, asked: &str) -> Answer {
         Layer::PathEdits => path_edits::answer(alloc, asked),
         Layer::References => references::answer(alloc, asked),
         Layer::ReferenceEdits => reference_edits::answer(alloc, asked),
+        Layer::NormalForms => normal_forms::answer(alloc, asked),
+        Layer::Resolutions => resolutions::answer(alloc, asked),
         Layer::Limits => limits::answer(alloc, asked),
     }
 }

@@ -9,6 +9,7 @@ pub mod ReadingLemmas
 pub mod OctetLemmas
 mod AddressGrammar
 mod AddressPrinted
+pub mod AddressLengths
 pub mod AddressLemmas
 pub mod AddressBytes
 pub mod AddressFit

@@ -2,6 +2,7 @@
 
 mod canonical;
 mod class;
+mod copy;
 mod cut;
 mod print;
 mod text;
@@ -11,6 +12,7 @@ pub use canonical::{
     Case, TextWalk, Walk, canonical_bytes, feed_walk, is_canonical, same_spelling, same_walks,
 };
 pub use class::{Class, fault_of, is_unreserved};
+pub use copy::{canonical_copy, is_canonical_part, put_copy};
 pub use cut::{behind_mark, split_at_mark};
 pub use print::write_short;
 pub use text::{Kind, Text};

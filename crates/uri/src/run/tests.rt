@@ -8,7 +8,7 @@ use std::{io, str};
 const USAGE: &str = "usage: uri COMMAND TEXT..\n";
 
 // (the words with bars between them, the status, what is printed, what is said of a failure)
-const ROWS: [(&str, u8, &str, &str); 23] = [
+const ROWS: [(&str, u8, &str, &str); 61] = [
     (
         "tail|a/%7Eb?q#f",
         0,
@@ -68,6 +68,92 @@ const ROWS: [(&str, u8, &str, &str); 23] = [
     ("parse|//h:65536", 1, "", "port overflow\n"),
     ("parse|a%?x", 1, "", "invalid path percent encoding\n"),
     ("parse", 2, "", USAGE),
+    ("edit|s:a", 0, "s:a\n", ""),
+    ("edit|x|scheme|HTTP|query|q", 0, "http:x?q\n", ""),
+    (
+        "edit|x|authority|u@h:80|path|y|fragment|f",
+        0,
+        "//u@h:80/y#f\n",
+        "",
+    ),
+    (
+        "edit|s://h/x?q#f|drop-scheme|drop-authority|drop-query|drop-fragment",
+        0,
+        "/x\n",
+        "",
+    ),
+    // A word behind the name of a part is its value, whatever it is.
+    ("edit|x|query|drop-query", 0, "x?drop-query\n", ""),
+    ("edit|x|query|", 0, "x?\n", ""),
+    (
+        "edit|s:a:b|query|q|drop-scheme|fragment|f",
+        1,
+        "",
+        "edit 1: schemeless path URI reference starts with colon segment\n",
+    ),
+    (
+        "edit|http://h//x|drop-authority",
+        1,
+        "",
+        "edit 0: absolute path URI reference starts with two slashes\n",
+    ),
+    ("edit|s:a|path| ", 1, "", "invalid path character\n"),
+    (
+        "edit|s:a|scheme|1",
+        1,
+        "",
+        "scheme starts with non-alphabetic character\n",
+    ),
+    ("edit|s:a|authority|h:99999", 1, "", "port overflow\n"),
+    (
+        "edit|s:a|query|%",
+        1,
+        "",
+        "invalid query percent encoding\n",
+    ),
+    ("edit|s:a|fragment|#", 1, "", "invalid fragment character\n"),
+    // The text is read before the values, and all of these before an edit is made.
+    ("edit|a b|path|%", 1, "", "invalid path character\n"),
+    (
+        "edit|s:a:b|drop-scheme|query|%",
+        1,
+        "",
+        "invalid query percent encoding\n",
+    ),
+    // The words are looked at before the text is read.
+    ("edit|a b|query", 2, "", USAGE),
+    ("edit|s:a|query", 2, "", USAGE),
+    ("edit|s:a|drop-path", 2, "", USAGE),
+    ("edit|s:a|drop-query|q", 2, "", USAGE),
+    ("edit|s:a|", 2, "", USAGE),
+    ("edit", 2, "", USAGE),
+    (
+        "normalize|HTTP://User:@EXAMPLE.com:0080/%7Ea",
+        0,
+        "http://User:@example.com:80/~a\n",
+        "",
+    ),
+    ("normalize|a//..", 0, "a/\n", ""),
+    ("normalize|?%7e#%c3%A9", 0, "?~#%C3%A9\n", ""),
+    ("normalize|a%", 1, "", "invalid path percent encoding\n"),
+    ("normalize", 2, "", USAGE),
+    ("equal|http://h/%7e|HTTP://H/~", 0, "equal\n", ""),
+    ("equal|a/./b|a/b", 0, "different\n", ""),
+    ("equal|//%31.2.3.4|//1.2.3.4", 0, "different\n", ""),
+    ("equal|a%|b?[", 1, "", "invalid path percent encoding\n"),
+    ("equal|a", 2, "", USAGE),
+    (
+        "resolve|http://a/b/c/d;p?q|../../../g",
+        0,
+        "http://a/g\n",
+        "",
+    ),
+    ("resolve|s:/a/b|..//c", 0, "s:/.//c\n", ""),
+    ("resolve|a|b?[", 1, "", "not URI\n"),
+    ("resolve|s:a|b?[", 1, "", "invalid query character\n"),
+    ("resolve|s:a", 2, "", USAGE),
+    ("edit|x/%7e|normalize|scheme|HTTP", 0, "http:x/~\n", ""),
+    ("edit|x|query|normalize", 0, "x?normalize\n", ""),
 ];
 
 #[test]

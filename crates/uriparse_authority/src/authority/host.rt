@@ -1,25 +1,29 @@
 //! A host: RFC 3986, section 3.2.2.
-ghost use Rattle.std.specs.Prelude.{◌≡◌, ◌↔◌, IsTrue, IfOk, Some, bytes_eq, string_bytes};
+ghost use Rattle.std.specs.Prelude.{◌≡◌, ◌↔◌, ◌≤◌, IsTrue, IsOk, IfOk, OnOk, OnErr, Some, bytes_eq, length, string_bytes, unwrap_or};
 ghost use Rattle.std.proofs.Common.{rules};
 ghost use Rattle.std.specs.Ordering.{on};
 ghost use Rattle.std.specs.Cmp.Rules.{comparing, hashing};
 ghost use Rattle.uriparse_authority.specs.Host as spec;
+ghost use Rattle.uriparse_authority.specs.Normal.{canonical_host};
 
 use super::error::HostError;
 use super::name::RegisteredName;
-use super::read::read_host;
 use std::alloc::{AllocError, Global};
 use std::fmt;
 use std::fmt::Write;
 use std::hash::{Hash, Hasher};
 use uriparse_text::address::{IpAddr, Ipv4Addr, Ipv6Addr};
 
+mod read;
+
+use read::read_host;
+
 /// The host of an authority: an IPv4 address, an IPv6 address, which stands in brackets, or a
 /// registered name.
 ///
 /// RFC 3986, section 3.2.2. Addresses are held by value. A name borrows the text that it was read
-/// from, or owns its text. Two hosts are equal where they are of one kind and their canonical spellings agree, so the name
-/// `%31.2.3.4` isn't the address `1.2.3.4`.
+/// from, or owns its text. Two hosts are equal where they are of one kind and their canonical
+/// spellings agree, so the name `%31.2.3.4` isn't the address `1.2.3.4`.
 ///
 /// ```
 /// let host = Host::try_from_str("[::FFFF:1.2.3.4]")?;
@@ -36,9 +40,12 @@ pub enum Host<'h> {
     RegisteredName(RegisteredName<'h>),
 }
 
-/// The most bytes that the text of an address has: eight groups of four digits, seven colons and two
-/// brackets.
-const ADDRESS_BYTES: usize = 41;
+/// The most bytes that the text of an IPv4 address has: four numbers of three digits, and three dots.
+const IPV4_BYTES: usize = 15;
+
+/// The most bytes that the text of an IPv6 address has: eight groups of four digits, seven colons and
+/// two brackets.
+const IPV6_BYTES: usize = 41;
 
 impl<'h> Host<'h> {
     /// Reads a host. A name borrows the bytes. Takes no memory.
@@ -110,6 +117,49 @@ impl<'h> Host<'h> {
         }
     }
 
+    /// Whether the host's text is its canonical spelling: RFC 3986, section 6.2.2. An address's always
+    /// is. Takes no memory.
+    pub fn is_normalized(&self) -> bool
+        ensures { IsTrue result ↔ (spec.text (canonical_host self.now) ≡ spec.text self.now) }
+    {
+        match self {
+            Host::IPv4Address(_) | Host::IPv6Address(_) => true,
+            Host::RegisteredName(name) => name.is_normalized(),
+        }
+    }
+
+    /// A copy in canonical spelling of a name that isn't canonical, or none. Wants memory for such a name
+    /// alone.
+    pub(super) fn canonical_copy(&self, alloc: Global) -> Result<Option<Host<'static>>, AllocError>
+        ensures copy { IfOk result (λ copy. unwrap_or copy self.now ≡ canonical_host self.now) }
+        ensures takes_no_memory { spec.text (canonical_host self.now) ≡ spec.text self.now → IsOk result }
+    {
+        match self {
+            Host::IPv4Address(_) | Host::IPv6Address(_) => Ok(None),
+            Host::RegisteredName(name) => {
+                if name.is_normalized() {
+                    return Ok(None);
+                }
+                Ok(Some(Host::RegisteredName(name.to_normalized(alloc)?)))
+            }
+        }
+    }
+
+    /// Puts a name in canonical spelling, in which letters are lower case: RFC 3986, section 6.2.2. It
+    /// stays a name, also where its text spells an IPv4 address then. Addresses stay as they are. Memory
+    /// is wanted only where the text changes; where there is none, the host is unchanged. A second call
+    /// changes nothing.
+    pub fn normalize(&mut self, alloc: Global) -> Result<(), AllocError>
+        ensures ok { OnOk result (self.new ≡ canonical_host self.old) }
+        ensures err { OnErr result (self.new ≡ self.old) }
+        ensures takes_no_memory { spec.text (canonical_host self.old) ≡ spec.text self.old → IsOk result }
+    {
+        match self {
+            Host::IPv4Address(_) | Host::IPv6Address(_) => Ok(()),
+            Host::RegisteredName(name) => name.normalize(alloc),
+        }
+    }
+
     /// A host of each kind is valid by its type. This does nothing but to say so.
     pub(super) fn assert_valid(&self)
         ensures { spec.Valid self.now }
@@ -128,9 +178,13 @@ impl<'h> Host<'h> {
     }
 
     /// How many bytes the host's text has at most.
-    pub(super) fn most_bytes(&self) -> usize {
+    pub(super) fn most_bytes(&self) -> usize
+        ensures { length (spec.text self.now) ≤ result }
+    {
+        self.assert_valid();
         match self {
-            Host::IPv4Address(_) | Host::IPv6Address(_) => ADDRESS_BYTES,
+            Host::IPv4Address(_) => IPV4_BYTES,
+            Host::IPv6Address(_) => IPV6_BYTES,
             Host::RegisteredName(name) => name.as_str().len(),
         }
     }

@@ -148,6 +148,15 @@ impl<'n> RegisteredName<'n> {
         self.text.is_normalized()
     }
 
+    /// A name that owns the canonical spelling of this one. Wants memory.
+    pub(super) fn to_normalized(&self, alloc: Global) -> Result<RegisteredName<'static>, AllocError>
+        ensures { IfOk result (λ n. n ≡ canon_low self.now) }
+    {
+        Ok(RegisteredName {
+            text: self.text.to_normalized(alloc)?,
+        })
+    }
+
     /// Puts the canonical spelling in the name's place; it is its own canonical spelling. It stays a
     /// name, also where it spells an IPv4 address then. Memory is wanted only where they differ; where
     /// there is none, the name is kept.

@@ -3,7 +3,7 @@ ghost use Rattle.std.specs.Option.{option_map};
 ghost use Rattle.std.specs.Fmt.{WritesOnOk, WritesStyledOnOk};
 ghost use Rattle.uriparse_text.specs.Bytes.{at_sign, colon};
 ghost use Rattle.uriparse_text.specs.Cuts.{ahead, behind};
-ghost use Rattle.uriparse_authority.specs.Authority.{user};
+ghost use Rattle.uriparse_authority.specs.Authority.{userinfo};
 ghost use Rattle.uriparse_authority.specs.Port as ports;
 
 use super::{Password, Username};
@@ -31,8 +31,8 @@ pub(super) fn write_user<W: fmt::Write>(
     password: &Option<Password<'_>>,
     f: &mut fmt::Formatter<W>,
 ) -> fmt::Result
-    ensures writes { WritesOnOk W.write_str_gives f.old result (ahead at_sign (user username.now password.now)) f.new }
-    ensures styled { WritesStyledOnOk W.write_str_gives f.old result (ahead at_sign (user username.now password.now)) f.new }
+    ensures writes { WritesOnOk W.write_str_gives f.old result (ahead at_sign (userinfo username.now password.now)) f.new }
+    ensures styled { WritesStyledOnOk W.write_str_gives f.old result (ahead at_sign (userinfo username.now password.now)) f.new }
 {
     if let Some(username) = username {
         f.write_str(username.as_str())?;

@@ -1,137 +1,41 @@
 //! How an authority is cut and its pieces are read: RFC 3986, sections 3.2 to 3.2.3.
 ghost use Rattle.std.specs.Prelude.{◌≡◌, position};
 ghost use Rattle.std.specs.Option.{option_copied};
-ghost use Rattle.std.specs.List.{list_all};
-ghost use Rattle.uriparse_text.specs.Address.{is_ipv6_byte};
 ghost use Rattle.uriparse_text.specs.Cuts.{up_to, from_first};
 ghost use Rattle.uriparse_text.specs.Readings.{if_present};
 ghost use Rattle.uriparse_authority.specs.Username as username;
 ghost use Rattle.uriparse_authority.specs.Password as password;
-ghost use Rattle.uriparse_authority.specs.Host as host;
 ghost use Rattle.uriparse_authority.specs.Authority as authority;
 
 use super::{
-    Authority, AuthorityError, Host, HostError, Password, PasswordError, PortError, RegisteredName,
-    Username, UsernameError, parse_port,
+    Authority, AuthorityError, Host, HostError, Password, PasswordError, PortError, Username,
+    UsernameError, parse_port,
 };
-use uriparse_text::address::{Ipv4Addr, Ipv6Addr};
-use uriparse_text::parts::{Class, behind_mark, split_at_mark};
-
-/// The text before a last closing bracket, where the text ends with one.
-fn before_closing(bytes: &[u8]) -> Option<&[u8]>
-    ensures { option_copied result ≡ host.closed bytes.now }
-{
-    let (last, inner) = bytes.split_last()?;
-    if *last == b']' { Some(inner) } else { None }
-}
-
-/// What stands in brackets, where the text begins and ends with them.
-fn in_brackets(bytes: &[u8]) -> Option<&[u8]>
-    ensures { option_copied result ≡ host.in_brackets bytes.now }
-{
-    match bytes {
-        [b'[', rest @ ..] => before_closing(rest),
-        _ => None,
-    }
-}
-
-/// Whether the text begins with `v` and a hexadecimal digit, as an address of a later version does.
-fn begins_future(bytes: &[u8]) -> bool
-    ensures { result ≡ host.begins_future bytes.now }
-{
-    match bytes {
-        [v, digit, ..] => matches!(v, b'v' | b'V') && digit.is_ascii_hexdigit(),
-        _ => false,
-    }
-}
-
-#[tactic(auto, unfolding(uriparse_text::specs::Classes::is_plain))]
-fn is_future_byte(b: u8) -> bool
-    ensures { result ≡ host.is_future_byte b }
-{
-    Class::UserInfo.has(b)
-}
-
-fn are_future_bytes(bytes: &[u8]) -> bool
-    ensures { result ≡ list_all host.is_future_byte bytes.now }
-{
-    bytes.iter().all(|b| is_future_byte(*b))
-}
-
-fn are_ipv6_bytes(bytes: &[u8]) -> bool
-    ensures { result ≡ list_all is_ipv6_byte bytes.now }
-{
-    bytes
-        .iter()
-        .all(|b| b.is_ascii_hexdigit() || *b == b':' || *b == b'.')
-}
-
-/// Reads the text between brackets.
-fn read_literal(bytes: &[u8]) -> Result<Host<'_>, HostError>
-    ensures { result ≡ host.literal_reading bytes.now }
-{
-    if begins_future(bytes) {
-        return Err(if are_future_bytes(bytes) {
-            HostError::AddressMechanismNotSupported
-        } else {
-            HostError::InvalidIPvFutureCharacter
-        });
-    }
-    if !are_ipv6_bytes(bytes) {
-        return Err(HostError::InvalidIPv6Character);
-    }
-    match Ipv6Addr::parse_bytes(bytes) {
-        Some(address) => Ok(Host::IPv6Address(address)),
-        None => Err(HostError::InvalidIPv6Format),
-    }
-}
-
-/// Reads a text without brackets: an IPv4 address, or else a name.
-fn read_name(bytes: &[u8]) -> Result<Host<'_>, HostError>
-    ensures { result ≡ host.name_reading bytes.now }
-{
-    if let Some(address) = Ipv4Addr::parse_bytes(bytes) {
-        return Ok(Host::IPv4Address(address));
-    }
-    match RegisteredName::of_class(bytes) {
-        Ok(name) => Ok(Host::RegisteredName(name)),
-        Err(_) => Err(HostError::InvalidIPv4OrRegisteredNameCharacter),
-    }
-}
-
-/// Reads a host, whose name borrows the bytes.
-pub(super) fn read_host(bytes: &[u8]) -> Result<Host<'_>, HostError>
-    ensures { result ≡ host.reading bytes.now }
-{
-    match in_brackets(bytes) {
-        Some(inner) => read_literal(inner),
-        None => read_name(bytes),
-    }
-}
+use uriparse_text::parts::{behind_mark, split_at_mark};
 
 /// The user information, if there is an `@` behind it, and what stands behind the `@`; or none, and
 /// the text.
-fn split_user(text: &[u8]) -> (Option<&[u8]>, &[u8])
-    ensures user { option_copied result.0 ≡ authority.front_text text.now }
-    ensures right { result.1.now ≡ authority.right_text text.now }
+fn split_userinfo(text: &[u8]) -> (Option<&[u8]>, &[u8])
+    ensures userinfo { option_copied result.0 ≡ authority.userinfo_text text.now }
+    ensures host_and_port { result.1.now ≡ authority.host_and_port_text text.now }
 {
-    let (front, rest) = split_at_mark(text, b'@');
+    let (userinfo, rest) = split_at_mark(text, b'@');
     match behind_mark(rest) {
-        Some(right) => (Some(front), right),
+        Some(host_and_port) => (Some(userinfo), host_and_port),
         None => (None, text),
     }
 }
 
 /// The user name and, behind the first `:`, the password of user information.
-fn split_password(user: Option<&[u8]>) -> (Option<&[u8]>, Option<&[u8]>)
-    ensures username { option_copied result.0 ≡ authority.name_in (option_copied user.entry) }
-    ensures password { option_copied result.1 ≡ authority.password_in (option_copied user.entry) }
+fn split_password(userinfo: Option<&[u8]>) -> (Option<&[u8]>, Option<&[u8]>)
+    ensures username { option_copied result.0 ≡ authority.username_in (option_copied userinfo.entry) }
+    ensures password { option_copied result.1 ≡ authority.password_in (option_copied userinfo.entry) }
 {
-    let Some(user) = user else {
+    let Some(userinfo) = userinfo else {
         return (None, None);
     };
-    let (name, rest) = split_at_mark(user, b':');
-    (Some(name), behind_mark(rest))
+    let (username, rest) = split_at_mark(userinfo, b':');
+    (Some(username), behind_mark(rest))
 }
 
 /// The host and, behind the last `:` that no `]` follows, the port.
@@ -178,13 +82,13 @@ fn read_password(text: Option<&[u8]>) -> Result<Option<Password<'_>>, PasswordEr
 pub fn read_authority(bytes: &[u8]) -> Result<Authority<'_>, AuthorityError>
     ensures { result ≡ authority.reading bytes.now }
 {
-    let (user, right) = split_user(bytes);
-    let (name, word) = split_password(user);
-    let (front, digits) = split_port(right);
-    let username = read_username(name)?;
-    let password = read_password(word)?;
-    let host = read_host(front)?;
-    let port = parse_port(digits.unwrap_or(b""))?;
+    let (userinfo, host_and_port) = split_userinfo(bytes);
+    let (username, password) = split_password(userinfo);
+    let (host, port) = split_port(host_and_port);
+    let username = read_username(username)?;
+    let password = read_password(password)?;
+    let host = Host::try_from_bytes(host)?;
+    let port = parse_port(port.unwrap_or(b""))?;
     Authority::from_parts(username, password, host, port)
 }
 

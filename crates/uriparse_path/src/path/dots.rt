@@ -1,7 +1,9 @@
 //! Dot segments taken out of a list of segments: RFC 3986, section 5.2.4.
 ghost use Rattle.std.specs.Prelude.{◌≡◌, ◌+◌, ◌<◌, ◌≤◌, [], take, drop, vec_len};
+ghost use Rattle.uriparse_path.specs.Path as path;
 ghost use Rattle.uriparse_path.specs.Dots as spec;
 
+use super::normal::hides_root;
 use super::segment::Segment;
 
 /// Whether a dot segment is among the segments.
@@ -47,17 +49,43 @@ fn replay_segment(
     (rooted, kept + 1)
 }
 
-/// Takes the dot segments out of the list in one pass, and answers whether a slash stands before
-/// the segments that are left.
-pub(super) fn remove_dots(absolute: bool, segments: &mut Vec<Segment<'_>>) -> bool
-    ensures segments { segments.new.items ≡ spec.replay [] segments.old.items }
-    ensures root { result ≡ spec.rooted_after absolute [] segments.old.items }
+/// Takes the dot segments out of the list in one pass. Answers whether a slash stands before the
+/// segments that are left, and how many are: the first ones of the list.
+pub(super) fn replay(absolute: bool, segments: &mut Vec<Segment<'_>>) -> (bool, usize)
+    ensures segments { take result.1 segments.new.items ≡ spec.replay [] segments.old.items }
+    ensures root { result.0 ≡ spec.rooted_after absolute [] segments.old.items }
+    ensures within { result.1 ≤ vec_len segments.new }
+    ensures len { vec_len segments.new ≡ vec_len segments.old }
 {
     let mut rooted = absolute;
     let mut kept = 0;
     for at in 0..segments.len() {
         (rooted, kept) = replay_segment(segments, rooted, kept, at);
     }
-    segments.truncate(kept);
-    rooted
+    (rooted, kept)
+}
+
+/// Makes the first `kept` segments of the list those of the path that their text spells: an empty one
+/// goes from the front of others where no slash stands before it. Answers whether a slash stands
+/// before the segments then, and how many are left.
+pub(super) fn root_first(
+    rooted: bool,
+    segments: &mut Vec<Segment<'_>>,
+    kept: usize,
+) -> (bool, usize)
+    requires within { kept ≤ vec_len segments.old }
+    ensures path { record { absolute = result.0; segments = take result.1 segments.new.items } ≡ path.respelled (record { absolute = rooted; segments = take kept segments.old.items }) }
+    ensures within { result.1 ≤ vec_len segments.new }
+    ensures spare { vec_len segments.new + kept ≡ vec_len segments.old + result.1 }
+    ensures no_longer { vec_len segments.new ≤ vec_len segments.old }
+{
+    if rooted {
+        return (true, kept);
+    }
+    let hides = hides_root(&segments[..kept]);
+    if !hides {
+        return (false, kept);
+    }
+    let _ = segments.remove(0);
+    (true, kept - 1)
 }

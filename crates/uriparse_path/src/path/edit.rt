@@ -80,16 +80,6 @@ impl<'p> Path<'p> {
         self.push(alloc, Segment::try_from_bytes(bytes)?)
     }
 
-    /// Puts a segment `.` in front.
-    pub(crate) fn put_dot(&mut self) -> Result<(), AllocError>
-        requires { length self.old.segments < max_segments }
-        ensures ok { OnOk result (self.new ≡ spec.dotted self.old) }
-        ensures err { OnErr result (self.new ≡ self.old) }
-    {
-        self.segments.insert(0, Segment::single_dot())?;
-        Ok(())
-    }
-
     /// Takes the last segment away; the only one leaves an empty one. The path stays absolute or
     /// relative. Takes no memory.
     pub fn pop(&mut self)

@@ -1,5 +1,5 @@
 //! Normal forms of lists of segments: RFC 3986, section 6.2.2.
-ghost use Rattle.std.specs.Prelude.{◌≡◌, ◌+◌, ◌<◌, ◌≤◌, ◌∷◌, ◌&&◌, ◌||◌, [], false, not, if◌then◌else◌, IfOk, filter, map, length, take, drop, reverse, slice_set, vec_len};
+ghost use Rattle.std.specs.Prelude.{◌≡◌, ◌+◌, ◌<◌, ◌≤◌, ◌∷◌, ◌&&◌, ◌||◌, [], true, false, not, if◌then◌else◌, IfOk, IsOk, filter, map, length, take, drop, reverse, slice_set, vec_len};
 ghost use Rattle.std.specs.List.{list_all};
 ghost use Rattle.uriparse_text.specs.Bytes.{dot};
 ghost use Rattle.uriparse_text.specs.Canon.{canon};
@@ -30,6 +30,14 @@ pub(super) fn begins_twice(absolute: bool, segments: &[Segment<'_>]) -> bool
         [_, followers @ ..] => hides_root(segments) && (absolute || hides_root(followers)),
         [] => false,
     }
+}
+
+/// Whether two slashes begin the text of the path with these segments, where no authority stands before
+/// it.
+pub(super) fn needs_shield(shields: bool, absolute: bool, segments: &[Segment<'_>]) -> bool
+    ensures { result ≡ (shields && (path.hides_root segments.now && (absolute || path.hides_root (drop 1 segments.now)))) }
+{
+    shields && begins_twice(absolute, segments)
 }
 
 /// Whether a colon stands in the first segment.
@@ -187,7 +195,7 @@ fn close(segments: &mut Vec<Segment<'_>>, ended_in_dots: bool, kept: usize) -> u
 
 /// Leaves the first `kept` of the list, with a `.` in front where one is needed, and an empty
 /// segment where there is none.
-fn guard(segments: &mut Vec<Segment<'_>>, needs_guard: bool, kept: usize)
+pub(super) fn guard(segments: &mut Vec<Segment<'_>>, needs_guard: bool, kept: usize)
     requires within { kept ≤ vec_len segments.old }
     requires room { length (relative.filled (if needs_guard then (dot ∷ []) ∷ take kept segments.old.items else take kept segments.old.items)) ≤ vec_len segments.old }
     ensures { segments.new.items ≡ relative.filled (if needs_guard then (dot ∷ []) ∷ take kept segments.old.items else take kept segments.old.items) }
@@ -225,7 +233,8 @@ pub(super) fn canonical_copies(
     alloc: Global,
     segments: &[Segment<'_>],
 ) -> Result<Vec<Segment<'static>>, AllocError>
-    ensures { IfOk result (λ v. v.items ≡ map canon (filter (λ s. not (spec.is_canonical s)) segments.now)) }
+    ensures copies { IfOk result (λ v. v.items ≡ map canon (filter (λ s. not (spec.is_canonical s)) segments.now)) }
+    ensures takes_no_memory { list_all spec.is_canonical segments.now ≡ true → IsOk result }
 {
     let mut copies = Vec::new(alloc);
     for segment in segments {
@@ -250,6 +259,9 @@ pub(super) fn put_copies<'s>(segments: &mut Vec<Segment<'s>>, copies: Vec<Segmen
     requires { copies.items ≡ map canon (filter (λ s. not (spec.is_canonical s)) segments.old.items) }
     ensures { segments.new.items ≡ map canon segments.old.items }
 {
+    if copies.is_empty() {
+        return;
+    }
     let mut copies = copies;
     let mut at = segments.len();
     while at > 0 {

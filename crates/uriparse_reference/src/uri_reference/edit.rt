@@ -1,5 +1,5 @@
 //! Building a reference from parts, and changing one: RFC 3986, section 4.1.
-ghost use Rattle.std.specs.Prelude.{◌≡◌, IfSome, Some, None, is_some, length, MatchResult};
+ghost use Rattle.std.specs.Prelude.{◌≡◌, IfSome, Ok, Some, None, is_some, length, MatchResult};
 ghost use Rattle.uriparse_text.specs.Readings.{unless_fault};
 ghost use Rattle.uriparse_path.specs.Path.{IsListed, text};
 ghost use Rattle.uriparse_scheme.specs.Scheme as schemes;
@@ -8,10 +8,11 @@ ghost use Rattle.uriparse_reference.specs.Edits.{placed};
 
 use super::URIReference;
 use super::error::URIReferenceError;
+use std::alloc::Global;
 use std::mem;
 use uriparse_authority::authority::Authority;
 use uriparse_path::parts::{has_two_slashes, into_absolute, lacks_colon_segment, respell};
-use uriparse_path::path::Path;
+use uriparse_path::path::{Path, PathError};
 use uriparse_scheme::scheme::Scheme;
 use uriparse_text::fragment::Fragment;
 use uriparse_text::query::Query;
@@ -29,6 +30,8 @@ pub enum Edit<'e> {
     Query(Option<Query<'e>>),
     /// Sets the fragment, or takes it away.
     Fragment(Option<Fragment<'e>>),
+    /// Brings the reference into its normal form.
+    Normalize,
 }
 
 /// Whether there is a scheme, which is a valid one.
@@ -82,7 +85,8 @@ fn place(has_authority: bool, path: Path<'_>) -> Path<'_>
 impl<'r> URIReference<'r> {
     ghost use Rattle.uriparse_reference.specs.Reference.{Valid};
     ghost use Rattle.uriparse_text.specs.Readings.{Settles};
-    ghost use Rattle.uriparse_reference.specs.Edits.{of_parts, edited, Run};
+    ghost use Rattle.uriparse_reference.specs.Edits.{IsRefused, Run, WantsMemory, edited, of_parts};
+    ghost use Rattle.uriparse_reference.specs.Normal.{normal};
     ghost use Rattle.uriparse_reference.specs.declared.uri_reference.edit.Edit.TheVariants as edits;
 
     /// The reference of these parts. Behind an authority the path is made absolute, else it is the
@@ -196,9 +200,19 @@ impl<'r> URIReference<'r> {
         Ok(())
     }
 
-    /// Makes one edit, which is refused as its setter refuses.
-    fn apply(&mut self, edit: Edit<'r>) -> Result<(), URIReferenceError>
-        ensures { Settles self.old self.new result (edited self.old edit.entry) }
+    /// Brings the reference into its normal form, as one edit of a list.
+    fn apply_normal(&mut self, alloc: Global) -> Result<(), URIReferenceError>
+        ensures { MatchResult result (λ _. self.new ≡ normal self.old) (λ x. WantsMemory self.old edits.Normalize x × (self.new ≡ self.old)) }
+    {
+        match self.normalize(alloc) {
+            Ok(()) => Ok(()),
+            Err(_) => Err(URIReferenceError::Path(PathError::OutOfMemory)),
+        }
+    }
+
+    /// Makes one edit, which is refused as its setter refuses, or for want of memory.
+    fn apply(&mut self, alloc: Global, edit: Edit<'r>) -> Result<(), URIReferenceError>
+        ensures { MatchResult result (λ _. edited self.old edit.entry ≡ Ok self.new) (λ x. IsRefused self.old edit.entry x × (self.new ≡ self.old)) }
     {
         match edit {
             Edit::Scheme(scheme) => self.set_scheme(scheme),
@@ -206,17 +220,26 @@ impl<'r> URIReference<'r> {
             Edit::Path(path) => self.set_path(path),
             Edit::Query(query) => self.set_query(query),
             Edit::Fragment(fragment) => self.set_fragment(fragment),
+            Edit::Normalize => self.apply_normal(alloc),
         }
     }
 
-    /// Makes the edits in order, up to the first refused one, whose index and refusal are answered.
-    /// The reference is then as the edits before that one made it.
-    pub fn apply_all(&mut self, edits: Vec<Edit<'r>>) -> Result<(), (usize, URIReferenceError)>
+    /// Makes the edits in order, up to the first refused one, whose index, from 0, and refusal are
+    /// answered. The reference is then as the edits before that one made it.
+    ///
+    /// Only [`Normalize`](Edit::Normalize) wants memory, and only where it changes the printed text. Where
+    /// there is none, it is refused with [`Path`](URIReferenceError::Path) of
+    /// [`OutOfMemory`](PathError::OutOfMemory).
+    pub fn apply_all(
+        &mut self,
+        alloc: Global,
+        edits: Vec<Edit<'r>>,
+    ) -> Result<(), (usize, URIReferenceError)>
         ensures { MatchResult result (λ _. Run self.old edits.entry.items (length edits.entry.items) self.new None) (λ e. Run self.old edits.entry.items e.0 self.new (Some e.1)) }
     {
         let mut index = 0;
         for edit in edits {
-            if let Err(error) = self.apply(edit) {
+            if let Err(error) = self.apply(alloc, edit) {
                 return Err((index, error));
             }
             index += 1;

@@ -141,7 +141,10 @@ impl<'s> UnregisteredScheme<'s> {
     }
 
     /// A scheme that owns the canonical spelling of this one.
-    fn to_normalized(&self, alloc: Global) -> Result<UnregisteredScheme<'static>, AllocError>
+    pub(crate) fn to_normalized(
+        &self,
+        alloc: Global,
+    ) -> Result<UnregisteredScheme<'static>, AllocError>
         ensures { IfOk result (λ s. s ≡ canon_low self.now) }
     {
         let bytes = canonical_bytes(alloc, Case::Lowered, self.as_bytes())?;

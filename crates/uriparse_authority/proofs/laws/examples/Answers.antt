@@ -9,7 +9,8 @@ use Rattle.uriparse_authority.specs.Authority.{reading}
 use Rattle.uriparse_authority.proofs.laws.examples.Goals as goal
 
 pub returns : goal.returns
-unfolding read_ipv4 read_ipv6 read_octet read_number read_segment read_segments ipv4_reading ipv6_reading is_unreserved is_sub_delim is_plain texts.fault tokens reading
+unfolding read_ipv4 read_ipv6 read_octet read_number read_segment read_segments ipv4_reading ipv6_reading is_unreserved is_sub_delim is_plain texts.fault tokens
+    reading
 returns c = record {
   address = refl;
   leading_zero = refl;

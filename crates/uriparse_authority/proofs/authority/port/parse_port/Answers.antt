@@ -8,20 +8,26 @@ use Rattle.uriparse_authority.proofs.authority.port.parse_port.Goals as goal
 
 pub returns-then-not-is_ascii_digit : goal.returns-then-not-is_ascii_digit
 returns-then-not-is_ascii_digit c =
-    let met = meets_other c.loop-b.number c.loop-b.b-index c.args.bytes.now c.loop-b.invariant.in_range c.loop-b-test.true (sym c.is_ascii_digit.ensures.value ∙ c.if-not-is_ascii_digit.true) in
+    let met =
+    meets_other c.loop-b.number c.loop-b.b-index c.args.bytes.now c.loop-b.invariant.in_range c.loop-b-test.true
+    (sym c.is_ascii_digit.ensures.value ∙ c.if-not-is_ascii_digit.true) in
     let found : fault c.args.bytes.now ≡ Some InvalidCharacter = sym c.loop-b.invariant.fault ∙ met in
     sym (ap (λ o. unless_fault o (value_of c.args.bytes.now)) found)
 
 pub returns-then-number-from : goal.returns-then-number-from
 returns-then-number-from c =
-    let read = reads_digit c.loop-b.number (c.loop-b.number * 10 + c.from.result) c.loop-b.b-index c.args.bytes.now c.loop-b-test.true (sym c.is_ascii_digit.ensures.value ∙ c.if-not-is_ascii_digit.false) (omega arith) in
+    let read =
+    reads_digit c.loop-b.number (c.loop-b.number * 10 + c.from.result) c.loop-b.b-index c.args.bytes.now c.loop-b-test.true
+    (sym c.is_ascii_digit.ensures.value ∙ c.if-not-is_ascii_digit.false) (omega arith) in
     let large = fault_after-large (c.loop-b.number * 10 + c.from.result) (drop (c.loop-b.b-index + 1) c.args.bytes.now) (omega arith) in
     let found : fault c.args.bytes.now ≡ Some Overflow = sym c.loop-b.invariant.fault ∙ read.fault ∙ large in
     sym (ap (λ o. unless_fault o (value_of c.args.bytes.now)) found)
 
 pub loop-b-preserved : goal.loop-b-preserved
 loop-b-preserved c =
-    let read = reads_digit c.loop-b.number (c.loop-b.number * 10 + c.from.result) c.loop-b.b-index c.args.bytes.now c.loop-b-test.true (sym c.is_ascii_digit.ensures.value ∙ c.if-not-is_ascii_digit.false) (omega arith) in
+    let read =
+    reads_digit c.loop-b.number (c.loop-b.number * 10 + c.from.result) c.loop-b.b-index c.args.bytes.now c.loop-b-test.true
+    (sym c.is_ascii_digit.ensures.value ∙ c.if-not-is_ascii_digit.false) (omega arith) in
     record {
       in_range = omega arith;
       fault = sym read.fault ∙ c.loop-b.invariant.fault;

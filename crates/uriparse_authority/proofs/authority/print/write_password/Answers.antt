@@ -8,4 +8,5 @@ pub returns-in_ok-write_str-2-clause-styled : goal.returns-in_ok-write_str-2-cla
 returns-in_ok-write_str-2-clause-styled g c flush ok =
     let first = c.in_ok-write_str.ensures.styled flush refl in
     let second = c.in_ok-write_str-2.ensures.styled first.flush refl in
-    has_written_styled_of_eq _ _ _ _ _ (ap (λ t. colon ∷ t) c.as_str.ensures.value ∙ sym (ap (behind colon) c.in-Some.is)) (has_written_styled_append _ _ _ _ _ _ first second)
+    has_written_styled_of_eq _ _ _ _ _ (ap (λ t. colon ∷ t) c.as_str.ensures.value ∙ sym (ap (behind colon) c.in-Some.is))
+    (has_written_styled_append _ _ _ _ _ _ first second)

@@ -1,7 +1,7 @@
 use Rattle.std.proofs.Common.{◌+◌, ◌++◌, ◌∷◌, [], sym, ap, ◌∙◌, map, filter, drop}
 use Rattle.std.proofs.lemmas.Bool.{false≢true}
 use Rattle.uriparse_text.specs.Canon.{canon}
-use Rattle.uriparse_path.proofs.CopyLemmas.{strays, copied_kept, copied_more}
+use Rattle.uriparse_path.proofs.CopyLemmas.{strays, copied_kept, copied_more, no_strays}
 use Rattle.uriparse_path.proofs.path.normal.canonical_copies.Goals.{then-not-is_normalized+in_ok-to_normalized+in_ok-push, else-not-is_normalized}
 use Rattle.uriparse_path.proofs.path.normal.canonical_copies.Goals as goal
 
@@ -15,3 +15,13 @@ loop-segment-preserved c = elim c.if-not-is_normalized.branch [
       ap (λ v. v.items ++ map canon (filter strays (drop (c.loop-segment.segment-index + 1) c.args.segments.now))) w.copies-is
       ∙ copied_kept c.args.segments.now c.loop-segment.copies.items (map canon (filter strays c.args.segments.now)) c.loop-segment.segment-index c.segment-item.result c.loop-segment-test.true c.segment-item.is (c.is_normalized.ensures.0 w.if-not-is_normalized.false) c.loop-segment.invariant
 ]
+
+pub returns-in_err-to_normalized-clause-takes_no_memory : goal.returns-in_err-to_normalized-clause-takes_no_memory
+returns-in_err-to_normalized-clause-takes_no_memory c h =
+    absurd (no_strays c.args.segments.now c.loop-segment.segment-index c.segment-item.result c.loop-segment-test.true c.segment-item.is
+    (λ e. false≢true (sym c.if-not-is_normalized.true ∙ c.is_normalized.ensures.1 e)) h)
+
+pub returns-in_err-push-clause-takes_no_memory : goal.returns-in_err-push-clause-takes_no_memory
+returns-in_err-push-clause-takes_no_memory c h =
+    absurd (no_strays c.args.segments.now c.loop-segment.segment-index c.segment-item.result c.loop-segment-test.true c.segment-item.is
+    (λ e. false≢true (sym c.if-not-is_normalized.true ∙ c.is_normalized.ensures.1 e)) h)

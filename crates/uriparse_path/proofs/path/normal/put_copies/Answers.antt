@@ -1,7 +1,8 @@
-use Rattle.std.proofs.Common.{◌≡◌, ◌-◌, ◌∷◌, [], arith, sym, ap, ◌∙◌, map, filter, take, drop, length, length-append}
+use Rattle.std.proofs.Common.{◌-◌, ◌∷◌, [], arith, sym, ap, ◌∙◌, map, filter, take, drop, length, length-append, ◌≡◌, vec_len}
 use Rattle.std.proofs.lemmas.Bool.{false≢true}
+use Rattle.std.proofs.lemmas.Bool.Decides.{Decides-eqb}
 use Rattle.uriparse_text.specs.Canon.{canon}
-use Rattle.uriparse_path.proofs.CopyLemmas.{strays, pushed_same, front_less, front_more, back_kept, back_more, copies_same, copies_less}
+use Rattle.uriparse_path.proofs.CopyLemmas.{strays, pushed_same, front_less, front_more, back_kept, back_more, copies_same, copies_less, none_strays, nothing}
 use Rattle.uriparse_path.proofs.path.normal.put_copies.Goals as goal
 
 pub loop-at-preserved-in-Some : goal.loop-at-preserved-in-Some
@@ -33,3 +34,8 @@ loop-at-preserved c =
       back = back_kept c.loop-at.segments.items c.args.segments.now.items c.loop-at.at (c.loop-at.at - 1) c.index.result.now (omega arith) (omega arith) (omega (arith, c.loop-at.invariant.long)) c.index.ensures c.loop-at.invariant.front c.loop-at.invariant.back same;
       copies = copies_same c.loop-at.segments.items c.args.segments.now.items c.loop-at.at (c.loop-at.at - 1) c.index.result.now (omega arith) (omega arith) (omega (arith, c.loop-at.invariant.long)) c.index.ensures c.loop-at.invariant.front c.loop-at.invariant.back c.loop-at.copies.items c.loop-at.invariant.copies same;
     }
+
+pub returns-then-is_empty : goal.returns-then-is_empty
+returns-then-is_empty c =
+    let len : vec_len c.args.copies ≡ 0 = (Decides-eqb (vec_len c.args.copies) 0).0 (sym c.is_empty.ensures ∙ c.if-is_empty.true) in
+    sym (none_strays c.args.segments.now.items (sym c.requires ∙ nothing c.args.copies.items (omega (arith, len))))

@@ -8,4 +8,5 @@ returns-in_ok-fmt-in-IPv6Address-clause-styled g c flush ok =
     let first = c.in_ok-write_str-in-IPv6Address.ensures.styled flush refl in
     let second = c.in_ok-fmt-in-IPv6Address.ensures.styled first.flush refl in
     let third = c.write_str-in-IPv6Address.ensures.styled second.flush ok in
-    has_written_styled_of_eq _ _ _ _ _ (sym (ap text c.in-IPv6Address.is)) (has_written_styled_append _ _ _ _ _ _ first (has_written_styled_append _ _ _ _ _ _ second third))
+    has_written_styled_of_eq _ _ _ _ _ (sym (ap text c.in-IPv6Address.is))
+    (has_written_styled_append _ _ _ _ _ _ first (has_written_styled_append _ _ _ _ _ _ second third))

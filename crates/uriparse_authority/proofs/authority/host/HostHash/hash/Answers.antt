@@ -8,5 +8,6 @@ returns-in-IPv4Address g c =
 
 pub returns-in-IPv6Address : goal.returns-in-IPv6Address
 returns-in-IPv6Address g c =
-    feeds_ipv6 g.H.Hasher.write c.args.state.now c.write_u8-in-IPv6Address.new.self c.hash-in-IPv6Address.new.state c.args.self.now c.in-IPv6Address.address c.segments.result
+    feeds_ipv6 g.H.Hasher.write c.args.state.now c.write_u8-in-IPv6Address.new.self c.hash-in-IPv6Address.new.state c.args.self.now c.in-IPv6Address.address
+    c.segments.result
     c.in-IPv6Address.is c.segments.ensures.segments c.segments.ensures.value c.write_u8-in-IPv6Address.ensures c.hash-in-IPv6Address.ensures

@@ -1,0 +1,90 @@
+//! `uri edit TEXT EDIT..`: a reference with parts set or taken away.
+
+use crate::failure::Failure;
+use std::alloc::Global;
+use std::io::Write;
+use uriparse::{Authority, Edit, Fragment, Path, Query, Scheme, URIReference};
+
+/// An edit as its words tell it. Its value isn't read yet.
+#[derive(Clone, Copy)]
+enum Change<'w> {
+    Scheme(&'w str),
+    Authority(&'w str),
+    Path(&'w str),
+    Query(&'w str),
+    Fragment(&'w str),
+    DropScheme,
+    DropAuthority,
+    DropQuery,
+    DropFragment,
+    Normalize,
+}
+
+/// The first edit of these words, and how many of them tell it.
+fn first_change<'w>(words: &[&'w str]) -> Result<(Change<'w>, usize), Failure> {
+    match words {
+        ["scheme", value, ..] => Ok((Change::Scheme(value), 2)),
+        ["authority", value, ..] => Ok((Change::Authority(value), 2)),
+        ["path", value, ..] => Ok((Change::Path(value), 2)),
+        ["query", value, ..] => Ok((Change::Query(value), 2)),
+        ["fragment", value, ..] => Ok((Change::Fragment(value), 2)),
+        ["drop-scheme", ..] => Ok((Change::DropScheme, 1)),
+        ["drop-authority", ..] => Ok((Change::DropAuthority, 1)),
+        ["drop-query", ..] => Ok((Change::DropQuery, 1)),
+        ["drop-fragment", ..] => Ok((Change::DropFragment, 1)),
+        ["normalize", ..] => Ok((Change::Normalize, 1)),
+        _ => Err(Failure::Usage),
+    }
+}
+
+/// The edits that the words tell, from the left.
+fn changes<'w>(alloc: Global, words: &[&'w str]) -> Result<Vec<Change<'w>>, Failure> {
+    let mut changes = Vec::with_capacity(alloc, words.len())?;
+    let mut next = 0usize;
+    for at in 0..words.len() {
+        if at < next {
+            continue;
+        }
+        let (change, count) = first_change(&words[at..])?;
+        changes.push(change)?;
+        next = at.saturating_add(count);
+    }
+    Ok(changes)
+}
+
+/// Reads the edit's value, if it has one.
+fn read_change<'w>(alloc: Global, change: Change<'w>) -> Result<Edit<'w>, Failure> {
+    Ok(match change {
+        Change::Scheme(text) => Edit::Scheme(Some(Scheme::try_from_str(text)?)),
+        Change::Authority(text) => Edit::Authority(Some(Authority::try_from_str(text)?)),
+        Change::Path(text) => Edit::Path(Path::try_from_str(alloc, text)?),
+        Change::Query(text) => Edit::Query(Some(Query::try_from_str(text)?)),
+        Change::Fragment(text) => Edit::Fragment(Some(Fragment::try_from_str(text)?)),
+        Change::DropScheme => Edit::Scheme(None),
+        Change::DropAuthority => Edit::Authority(None),
+        Change::DropQuery => Edit::Query(None),
+        Change::DropFragment => Edit::Fragment(None),
+        Change::Normalize => Edit::Normalize,
+    })
+}
+
+/// Prints the reference with all edits made. The words are looked at first, then the text is read,
+/// then the values.
+pub fn edit<O: Write>(
+    alloc: Global,
+    text: &str,
+    words: &[&str],
+    out: &mut O,
+) -> Result<(), Failure> {
+    let changes = changes(alloc, words)?;
+    let mut reference = URIReference::try_from_str(alloc, text)?;
+    let mut edits = Vec::with_capacity(alloc, changes.len())?;
+    for change in changes {
+        edits.push(read_change(alloc, change)?)?;
+    }
+    if let Err((index, refusal)) = reference.apply_all(alloc, edits) {
+        return Err(Failure::Edit { index, refusal });
+    }
+    writeln!(out, "{reference}")?;
+    Ok(())
+}

@@ -1,0 +1,40 @@
+//! `uri resolve BASE REF`: the target of a reference behind a base.
+
+use crate::failure::Failure;
+use std::alloc::Global;
+use std::io::Write;
+use uriparse::{URI, URIReference};
+
+/// Prints the target of the reference behind the base, which is read first.
+pub fn resolve<O: Write>(
+    alloc: Global,
+    base: &str,
+    reference: &str,
+    out: &mut O,
+) -> Result<(), Failure> {
+    let base = URI::try_from_str(alloc, base)?;
+    read_behind(alloc, &base, reference, out)
+}
+
+/// Reads the reference, and prints its target behind the base.
+fn read_behind<O: Write>(
+    alloc: Global,
+    base: &URI<'_>,
+    reference: &str,
+    out: &mut O,
+) -> Result<(), Failure> {
+    let reference = URIReference::try_from_str(alloc, reference)?;
+    print_target(alloc, base, &reference, out)
+}
+
+/// Prints the target of the reference behind the base.
+fn print_target<O: Write>(
+    alloc: Global,
+    base: &URI<'_>,
+    reference: &URIReference<'_>,
+    out: &mut O,
+) -> Result<(), Failure> {
+    let target = base.resolve(alloc, reference)?;
+    writeln!(out, "{target}")?;
+    Ok(())
+}

@@ -1,0 +1,49 @@
+-- What reading a reference of one kind gives.
+use Rattle.std.proofs.Common.{◌≡◌, ℕ, Bool, true, false, cond, List, Ok, Err, inl, inr, refl, ap, ◌∙◌}
+use Rattle.std.specs.Prelude.{IfOk, Result, is_some}
+use Rattle.std.specs.Bool.{beq}
+use Rattle.uriparse_text.specs.Readings.{◌>>=◌, IsUnless}
+use Rattle.uriparse_reference.specs.declared.uri_reference.error.URIReferenceError.{URIReferenceError}
+use Rattle.uriparse_reference.specs.Reference.{Parts, Spells}
+use Rattle.uriparse_reference.specs.Reading.{reading}
+use Rattle.uriparse_reference.proofs.ReferenceLemmas.{again, found}
+use Rattle.uriparse.specs.Kinds.{IsOfKind, of_kind, reading_of, told_of}
+
+-- a reference of the kind is taken
+pub of_its_kind : {E : Type 0} (v : Bool) (other : E) (p : Parts) → IsOfKind v p → of_kind v other p ≡ Ok p
+of_its_kind v other p k = ap (λ b. cond (beq b v) (Ok p) (Err other)) k ∙ ap (λ b. cond b (Ok p) (Err other)) (same v)
+  where
+    same : (b : Bool) → beq b b ≡ true
+    same true = refl
+    same false = refl
+
+-- a text that is spelled is read
+pub read_of : {E : Type 0} (v : Bool) (told : URIReferenceError → E) (other : E) (t : List ℕ) (p : Parts) → Spells t p
+    → reading_of v told other t ≡ of_kind v other p
+read_of v told other t p s = ap (λ r. told_of told r >>= of_kind v other) (again t p s)
+
+-- what is taken is what was read
+taken_by : {E : Type 0} (other : E) (p q : Parts) (b : Bool) → ◌≡◌ {A = Result Parts E} (Ok p) (cond b (Ok q) (Err other))
+    → ◌≡◌ {A = Result Parts URIReferenceError} (Ok q) (Ok p)
+taken_by other p q true h =
+    let same : q ≡ p = cc in
+    ap Ok same
+taken_by other p q false h = absurd (cc)
+
+pub taken : {E : Type 0} (v : Bool) (told : URIReferenceError → E) (other : E) (r : Result Parts URIReferenceError) (p : Parts)
+    → ◌≡◌ {A = Result Parts E} (Ok p) (told_of told r >>= of_kind v other) → r ≡ Ok p
+taken v told other (Ok q) p h = taken_by other p q (beq (is_some q.scheme) v) h
+taken v told other (Err e) p h = absurd (cc)
+
+-- ---- what an answer by the reading tells in the grammar's words
+
+pub kind_found : {E : Type 0} (v : Bool) (told : URIReferenceError → E) (other x : E) (t : List ℕ) (r : Result Parts E)
+    → IsUnless x r (reading_of v told other t) → IfOk r (λ p. Spells t p)
+kind_found v told other x t (Ok p) (inl h) = found t p (taken v told other (reading t) p h)
+kind_found v told other x t (Ok p) (inr h) = absurd (cc)
+kind_found v told other x t (Err e) h = tt
+
+pub kind_only : {E : Type 0} (v : Bool) (told : URIReferenceError → E) (other x : E) (t : List ℕ) (r : Result Parts E)
+    → IsUnless x r (reading_of v told other t) → (p : Parts) → Spells t p → IsOfKind v p → IsUnless x r (Ok p)
+kind_only v told other x t r (inl h) p s k = inl (h ∙ read_of v told other t p s ∙ of_its_kind v other p k)
+kind_only v told other x t r (inr h) p s k = inr h

@@ -1,0 +1,26 @@
+-- What resolving a reference tells of a URI's refusals.
+use Rattle.std.proofs.Common.{◌≡◌, Option, Some, None, Ok, Err, inl, inr, refl, sym, ap, ◌∙◌}
+use Rattle.std.specs.Prelude.{Result, MatchOption}
+use Rattle.uriparse_text.specs.Readings.{IsUnless}
+use Rattle.uriparse_path.specs.declared.path.error.PathError.TheVariants as paths
+use Rattle.uriparse_reference.specs.declared.uri_reference.error.URIReferenceError.{URIReferenceError}
+use Rattle.uriparse_reference.specs.declared.uri_reference.error.URIReferenceError.TheVariants as references
+use Rattle.uriparse_reference.specs.Reference.{Parts}
+use Rattle.uriparse.specs.declared.uri.error.URIError.{URIError}
+use Rattle.uriparse.specs.declared.uri.error.URIError.TheVariants as errors
+use Rattle.uriparse.specs.Uri.{told}
+
+abbrev pub Answers : {E : Type 0} → E → E → Option Parts → Result Parts E → Type 0
+Answers long memory o r = MatchOption o (r ≡ Err long) (λ t. IsUnless memory r (Ok t))
+
+-- a refusal that is told as a URI's
+pub refusal_told : (o : Option Parts) (e : URIReferenceError) (d : URIError) → d ≡ told e
+    → Answers (references.Path paths.ExceededMaximumLength) (references.Path paths.OutOfMemory) o (Err e)
+    → Answers (errors.Path paths.ExceededMaximumLength) (errors.Path paths.OutOfMemory) o (Err d)
+refusal_told None e d k h =
+    let same : e ≡ references.Path paths.ExceededMaximumLength = cc in
+    ap Err (k ∙ ap told same)
+refusal_told (Some t) e d k (inl h) = absurd (cc)
+refusal_told (Some t) e d k (inr h) =
+    let same : e ≡ references.Path paths.OutOfMemory = cc in
+    inr (ap Err (k ∙ ap told same))

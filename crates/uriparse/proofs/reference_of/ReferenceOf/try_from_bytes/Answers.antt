@@ -1,0 +1,12 @@
+use Rattle.uriparse_path.specs.declared.path.error.PathError.TheVariants.{OutOfMemory}
+use Rattle.uriparse_reference.specs.declared.uri_reference.error.URIReferenceError.TheVariants as errors
+use Rattle.uriparse.proofs.KindLemmas.{kind_found, kind_only}
+use Rattle.uriparse.proofs.reference_of.ReferenceOf.try_from_bytes.Goals as goal
+
+pub returns-clause-found : goal.returns-clause-found
+returns-clause-found g c =
+    kind_found g.K.Kind.has_scheme g.K.Kind.told g.K.Kind.other (g.K.Kind.told (errors.Path OutOfMemory)) c.args.bytes.now c.read.result c.read.ensures.answer
+
+pub returns-clause-only : goal.returns-clause-only
+returns-clause-only g c =
+    kind_only g.K.Kind.has_scheme g.K.Kind.told g.K.Kind.other (g.K.Kind.told (errors.Path OutOfMemory)) c.args.bytes.now c.read.result c.read.ensures.answer

@@ -1,0 +1,32 @@
+-- References of one kind: all have a scheme, or none has one. RFC 3986, section 4.1.
+use Rattle.std.specs.Prelude.{◌≡◌, ℕ, Bool, false, if◌then◌else◌, List, Option, Result, Ok, Err, is_some}
+use Rattle.std.specs.Bool.{beq}
+use Rattle.uriparse_text.specs.Readings.{◌>>=◌, error_of, of_piece}
+use Rattle.uriparse_reference.specs.declared.uri_reference.error.URIReferenceError.{URIReferenceError}
+use Rattle.uriparse_reference.specs.Reference.{Parts}
+use Rattle.uriparse_reference.specs.Builder.{Held}
+use Rattle.uriparse_reference.specs.Reading.{reading}
+
+-- the same answer, its refusal told as another
+abbrev pub told_of : {E F A : Type 0} → (E → F) → Result A E → Result A F
+told_of told answer = of_piece told answer
+
+-- it has a scheme, or has none, as all of its kind
+abbrev pub IsOfKind : Bool → Parts → Type 0
+IsOfKind has_scheme p = is_some p.scheme ≡ has_scheme
+
+-- the same parts where they are of the kind, or else this refusal
+abbrev pub of_kind : {E : Type 0} → Bool → E → Parts → Result Parts E
+of_kind has_scheme other p = if beq (is_some p.scheme) has_scheme then Ok p else Err other
+
+-- What reading a text gives. Its fault comes before the refusal of another kind.
+abbrev pub reading_of : {E : Type 0} → Bool → (URIReferenceError → E) → E → List ℕ → Result Parts E
+reading_of has_scheme told other t = told_of told (reading t) >>= of_kind has_scheme other
+
+-- why a text is refused
+abbrev pub fault_of : {E : Type 0} → Bool → (URIReferenceError → E) → E → List ℕ → Option E
+fault_of has_scheme told other t = error_of (reading_of has_scheme told other t)
+
+-- a builder holds a scheme only where the kind has one
+abbrev pub HoldsKind : Bool → Held → Type 0
+HoldsKind has_scheme h = has_scheme ≡ false → is_some h.scheme ≡ false

@@ -1,0 +1,37 @@
+-- URIs: references that have a scheme. RFC 3986, section 3.
+use Rattle.std.specs.Prelude.{true, Option, Some, None, Result, unwrap_or}
+use Rattle.uriparse_text.specs.Readings.{◌>>=◌}
+use Rattle.uriparse_reference.specs.declared.uri_reference.error.URIReferenceError.{URIReferenceError}
+use Rattle.uriparse_reference.specs.declared.uri_reference.error.URIReferenceError.TheVariants as references
+use Rattle.uriparse_reference.specs.Reference.{Parts}
+use Rattle.uriparse_reference.specs.Builder.{Held, built}
+use Rattle.uriparse.specs.declared.uri.error.URIError.{URIError}
+use Rattle.uriparse.specs.declared.uri.error.URIError.TheVariants as errors
+use Rattle.uriparse.specs.Kinds.{told_of, of_kind}
+
+-- the refusal of a reference as one of a URI, where it is one: a path that only a scheme could stand before is none
+abbrev pub uri_error : URIReferenceError → Option URIError
+uri_error references.AbsolutePathStartsWithTwoSlashes = Some errors.AbsolutePathStartsWithTwoSlashes
+uri_error references.SchemelessPathStartsWithColonSegment = None
+uri_error references.MissingPath = Some errors.MissingPath
+uri_error (references.Authority e) = Some (errors.Authority e)
+uri_error (references.Path e) = Some (errors.Path e)
+uri_error (references.Query e) = Some (errors.Query e)
+uri_error (references.Fragment e) = Some (errors.Fragment e)
+uri_error (references.Scheme e) = Some (errors.Scheme e)
+
+-- what a URI's caller is told: a reference that lacks a scheme is no URI
+abbrev pub told : URIReferenceError → URIError
+told e = unwrap_or (uri_error e) errors.NotURI
+
+-- what a builder's caller is told: the scheme is what is missing
+abbrev pub told_built : URIReferenceError → URIError
+told_built e = unwrap_or (uri_error e) errors.MissingScheme
+
+-- the URI that a builder makes of these parts: a path is needed first of all, and a scheme last
+abbrev pub uri_built : Held → Result Parts URIError
+uri_built h = told_of told_built (built h) >>= of_kind true errors.MissingScheme
+
+-- without its fragment
+abbrev pub base : Parts → Parts
+base p = record p { fragment = None }

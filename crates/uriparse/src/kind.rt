@@ -1,0 +1,41 @@
+//! The two kinds of references, those with a scheme and those without: RFC 3986, section 4.1.
+ghost use Rattle.std.specs.Prelude.{◌≡◌, Bool};
+ghost use Rattle.uriparse_reference.specs.declared.uri_reference.error.URIReferenceError.{URIReferenceError};
+ghost use Rattle.uriparse.specs.Kinds.{told_of};
+
+use uriparse_reference::uri_reference::URIReferenceError;
+
+/// A kind of reference: whether its references have a scheme, and how their refusals are told.
+pub trait Kind {
+    type Error;
+
+    ghost has_scheme: { Bool };
+
+    // How the refusal of a reference is told of one of this kind.
+    ghost told: { URIReferenceError → Self.Error };
+
+    // The refusal of a reference of the other kind.
+    ghost other: { Self.Error };
+
+    /// What `Debug` calls a reference of this kind.
+    fn name() -> &'static str;
+
+    fn has_scheme() -> bool
+        ensures { result ≡ has_scheme };
+
+    fn told(error: URIReferenceError) -> Self::Error
+        ensures { result ≡ told error };
+
+    fn other() -> Self::Error
+        ensures { result ≡ other };
+}
+
+/// The same answer, its refusal told as the kind's.
+pub(crate) fn told<K: Kind, T>(answer: Result<T, URIReferenceError>) -> Result<T, K::Error>
+    ensures { result ≡ told_of K.told answer }
+{
+    match answer {
+        Ok(value) => Ok(value),
+        Err(error) => Err(K::told(error)),
+    }
+}

@@ -1,0 +1,30 @@
+//! URIs, relative references and URI references: RFC 3986.
+//!
+//! Each part has a module, with its type and its errors, and all of these types and errors stand here
+//! too.
+#![tactic(auto)]
+
+mod builder_of;
+mod kind;
+mod reference_of;
+pub mod relative_reference;
+pub mod uri;
+
+pub use relative_reference::{RelativeReference, RelativeReferenceBuilder, RelativeReferenceError};
+pub use uri::{URI, URIBuilder, URIError};
+pub use uriparse_authority::authority;
+pub use uriparse_authority::authority::{
+    Authority, AuthorityError, Host, HostError, IpAddr, Ipv4Addr, Ipv6Addr, Password,
+    PasswordError, PortError, RegisteredName, RegisteredNameError, Username, UsernameError,
+};
+pub use uriparse_path::path;
+pub use uriparse_path::path::{Path, PathError, Segment};
+pub use uriparse_reference::uri_reference;
+pub use uriparse_reference::uri_reference::{
+    Edit, URIReference, URIReferenceBuilder, URIReferenceError,
+};
+pub use uriparse_scheme::scheme;
+pub use uriparse_scheme::scheme::{Scheme, SchemeError, SchemeStatus, UnregisteredScheme};
+pub use uriparse_text::fragment::{Fragment, FragmentError};
+pub use uriparse_text::query::{Query, QueryError};
+pub use uriparse_text::{fragment, query};

@@ -1,0 +1,242 @@
+//! A reference of one kind: what URIs and relative references share.
+ghost use Rattle.std.specs.Prelude.{◌≡◌, ◌⊎◌, IfOk, IfErr, Ok, Err, Some, bytes_eq, is_some, string_bytes};
+ghost use Rattle.std.specs.Bool.{beq};
+ghost use Rattle.std.proofs.Common.{rules};
+ghost use Rattle.std.specs.Ordering.{on};
+ghost use Rattle.std.specs.Cmp.Rules.{comparing, hashing};
+ghost use Rattle.uriparse_text.specs.Readings.{IsUnless};
+ghost use Rattle.uriparse_path.specs.declared.path.error.PathError.TheVariants.{OutOfMemory};
+ghost use Rattle.uriparse_reference.specs.declared.uri_reference.error.URIReferenceError.TheVariants as errors;
+ghost use Rattle.uriparse_reference.specs.Key.{fed, key};
+ghost use Rattle.uriparse_reference.specs.Reading.{early_fault};
+ghost use Rattle.uriparse_reference.specs.Reference.{print};
+ghost use Rattle.uriparse.specs.Kinds.{IsOfKind, fault_of, of_kind, reading_of};
+
+use crate::builder_of::BuilderOf;
+use crate::kind::Kind;
+use std::alloc::{AllocError, Global};
+use std::fmt;
+use std::hash::{Hash, Hasher};
+use std::marker::{Model, PhantomData};
+use uriparse_reference::uri_reference::URIReference;
+
+mod access;
+mod edit;
+mod normal;
+
+/// A reference that has a scheme, or one that has none, by its kind. Users name it by
+/// [`URI`](crate::uri::URI) or [`RelativeReference`](crate::relative_reference::RelativeReference)
+/// alone; it is seen as the five parts of a reference.
+///
+/// Its calls are those of the [`URIReference`] that it holds, whose refusals are told as the kind's.
+/// Two of them are equal where their references are.
+#[derive(Drop)]
+pub struct ReferenceOf<'r, K: Kind> {
+    pub(crate) reference: URIReference<'r>,
+    kind: PhantomData<K>,
+}
+
+impl<'r, K: Kind> Model for ReferenceOf<'r, K> {
+    ghost use Rattle.uriparse_reference.specs.Reference.{Parts};
+    ghost use Rattle.uriparse.specs.Kinds.{IsOfKind};
+
+    ghost Value = { Parts };
+
+    ghost view = { λ u. u.reference };
+
+    ghost invariant = { λ u. IsOfKind K.has_scheme u.reference };
+}
+
+impl<'r, K: Kind> ReferenceOf<'r, K> {
+    ghost use Rattle.uriparse_reference.specs.Builder.{held, nothing};
+    ghost use Rattle.uriparse_reference.specs.Reference.{Parts, Spells, Valid};
+    ghost use Rattle.uriparse_reference.specs.declared.uri_reference.error.URIReferenceError.{URIReferenceError};
+
+    /// The reference of this kind that is known to be one.
+    pub(crate) fn of_checked(reference: URIReference<'r>) -> ReferenceOf<'r, K>
+        requires { IsOfKind K.has_scheme reference }
+        ensures { result ≡ reference.entry }
+    {
+        ReferenceOf {
+            reference,
+            kind: PhantomData,
+        }
+    }
+
+    /// Reads a reference of this kind, whose parts borrow the bytes. Only the list of segments wants
+    /// memory.
+    ///
+    /// The text's first fault is answered as [`URIReference::try_from_bytes`] answers it, told as the
+    /// kind's error. A text without fault that is of the other kind is
+    /// [`NotURI`](crate::uri::URIError::NotURI) or
+    /// [`NotRelativeReference`](crate::relative_reference::RelativeReferenceError::NotRelativeReference);
+    /// for a URI, so is one whose fault is the colon rule.
+    pub fn try_from_bytes(alloc: Global, bytes: &'r [u8]) -> Result<ReferenceOf<'r, K>, K::Error>
+        // What is read is what the grammar spells, and of the kind.
+        ensures found { IfOk result (λ u. Spells bytes.now u) }
+        ensures kind { IfOk result (λ u. IsOfKind K.has_scheme u) }
+
+        // What the grammar spells is read if it is of the kind, unless memory runs out.
+        ensures only { (p : Parts) → Spells bytes.now p → IsOfKind K.has_scheme p → IsUnless (K.told (errors.Path OutOfMemory)) result (Ok p) }
+
+        // Else the text's fault is answered, or that it is of the other kind.
+        ensures fault { IfErr result (λ e. (fault_of K.has_scheme K.told K.other bytes.now ≡ Some e) ⊎ (e ≡ K.told (errors.Path OutOfMemory))) }
+
+        // A fault of the authority or the path is answered whatever memory there is.
+        ensures early { (e : URIReferenceError) → early_fault bytes.now ≡ Some e → result ≡ Err (K.told e) }
+    {
+        Self::read(alloc, bytes)
+    }
+
+    /// The same for a text.
+    pub fn try_from_str(alloc: Global, text: &'r str) -> Result<ReferenceOf<'r, K>, K::Error>
+        ensures found { IfOk result (λ u. Spells text.now u) }
+        ensures kind { IfOk result (λ u. IsOfKind K.has_scheme u) }
+        ensures only { (p : Parts) → Spells text.now p → IsOfKind K.has_scheme p → IsUnless (K.told (errors.Path OutOfMemory)) result (Ok p) }
+        ensures fault { IfErr result (λ e. (fault_of K.has_scheme K.told K.other text.now ≡ Some e) ⊎ (e ≡ K.told (errors.Path OutOfMemory))) }
+        ensures early { (e : URIReferenceError) → early_fault text.now ≡ Some e → result ≡ Err (K.told e) }
+    {
+        Self::read(alloc, text.as_bytes())
+    }
+
+    /// Reads by the reader of references.
+    fn read(alloc: Global, bytes: &'r [u8]) -> Result<ReferenceOf<'r, K>, K::Error>
+        ensures answer { IsUnless (K.told (errors.Path OutOfMemory)) result (reading_of K.has_scheme K.told K.other bytes.now) }
+        ensures early { (e : URIReferenceError) → early_fault bytes.now ≡ Some e → result ≡ Err (K.told e) }
+    {
+        match URIReference::try_from_bytes(alloc, bytes) {
+            Ok(reference) => ReferenceOf::of(reference),
+            Err(error) => Err(K::told(error)),
+        }
+    }
+
+    /// Whether the reference is of this kind.
+    fn is_own(reference: &URIReference<'r>) -> bool
+        ensures { result ≡ beq (is_some reference.now.scheme) K.has_scheme }
+    {
+        reference.has_scheme() == K::has_scheme()
+    }
+
+    /// The reference, if it is of this kind.
+    fn of(reference: URIReference<'r>) -> Result<ReferenceOf<'r, K>, K::Error>
+        ensures { result ≡ of_kind K.has_scheme K.other reference.entry }
+    {
+        if Self::is_own(&reference) {
+            return Ok(ReferenceOf::of_checked(reference));
+        }
+        Err(K::other())
+    }
+
+    /// The reference that it is. Takes no memory.
+    pub fn as_uri_reference(&self) -> &URIReference<'r>
+        ensures value { result.now ≡ self.now }
+        ensures kind { IsOfKind K.has_scheme self.now }
+    {
+        &self.reference
+    }
+
+    /// A builder with no part. Takes no memory.
+    pub fn builder() -> BuilderOf<'r, K>
+        ensures { result ≡ nothing }
+    {
+        BuilderOf::new()
+    }
+
+    /// A builder with the parts of this value, which builds it again. Takes no memory.
+    pub fn into_builder(self) -> BuilderOf<'r, K>
+        ensures parts { result ≡ held self.entry }
+        ensures valid { Valid self.entry }
+        ensures kind { IsOfKind K.has_scheme self.entry }
+    {
+        BuilderOf::of_checked(self.reference.into_builder())
+    }
+
+    /// The same, with parts that borrow the texts of this one's. Memory is wanted once, for the list
+    /// of segments.
+    pub fn to_borrowed(&self, alloc: Global) -> Result<ReferenceOf<'_, K>, AllocError>
+        ensures { IfOk result (λ u. u ≡ self.now) }
+    {
+        Ok(ReferenceOf {
+            reference: self.reference.to_borrowed(alloc)?,
+            kind: PhantomData,
+        })
+    }
+
+    /// The same, with parts that own their texts. Memory is wanted for the list of segments and for
+    /// each borrowed text; where there is none, the value is gone.
+    pub fn into_owned(self, alloc: Global) -> Result<ReferenceOf<'static, K>, AllocError>
+        ensures { IfOk result (λ u. u ≡ self.entry) }
+    {
+        Ok(ReferenceOf {
+            reference: self.reference.into_owned(alloc)?,
+            kind: PhantomData,
+        })
+    }
+
+    /// A copy of the text, which wants memory.
+    pub fn to_string(&self, alloc: Global) -> Result<String, AllocError>
+        ensures { IfOk result (λ s. string_bytes s ≡ print self.now) }
+    {
+        self.reference.to_string(alloc)
+    }
+}
+
+impl<'r, K: Kind> From<ReferenceOf<'r, K>> for URIReference<'r> {
+    ghost from_gives = { λ u r. r ≡ u };
+
+    fn from(value: ReferenceOf<'r, K>) -> URIReference<'r> {
+        value.reference
+    }
+}
+
+/// A reference of the other kind is refused, and gone.
+impl<'r, K: Kind> TryFrom<URIReference<'r>> for ReferenceOf<'r, K> {
+    type Error = K::Error;
+
+    ghost try_from_gives = { λ r answer. answer ≡ of_kind K.has_scheme K.other r };
+
+    fn try_from(reference: URIReference<'r>) -> Result<ReferenceOf<'r, K>, K::Error> {
+        ReferenceOf::of(reference)
+    }
+}
+
+impl<'r, K: Kind> PartialEq for ReferenceOf<'r, K> {
+    ghost eq = { on key bytes_eq };
+
+    ghost laws = { Prim.search (comparing, rules) };
+
+    fn eq(&self, other: &ReferenceOf<'r, K>) -> bool {
+        self.reference == other.reference
+    }
+}
+
+impl<'r, K: Kind> Eq for ReferenceOf<'r, K> {
+    ghost laws = { Prim.search (comparing, rules) };
+}
+
+impl<'r, K: Kind> Hash for ReferenceOf<'r, K> {
+    ghost hash_input = { λ u. fed (key u) };
+
+    ghost respects_eq = { Prim.search (hashing, rules) };
+
+    fn hash<H: Hasher>(&self, state: &mut H) {
+        self.reference.hash(state);
+    }
+}
+
+impl<'r, K: Kind> fmt::Display for ReferenceOf<'r, K> {
+    ghost output = { λ u. Some (print u) };
+
+    // No option of the formatter changes it.
+    ghost styled_output = { λ u _. Some (print u) };
+
+    fn fmt<W: fmt::Write>(&self, f: &mut fmt::Formatter<W>) -> fmt::Result {
+        fmt::Display::fmt(&self.reference, f)
+    }
+}
+
+impl<'r, K: Kind> fmt::Debug for ReferenceOf<'r, K> {
+    fn fmt<W: fmt::Write>(&self, f: &mut fmt::Formatter<W>) -> fmt::Result {
+        f.debug_tuple(K::name()).field(&self.reference).finish()
+    }
+}

@@ -1,0 +1,98 @@
+//! Changing the parts of a URI or a relative reference, as those of the reference that it is.
+ghost use Rattle.std.specs.Prelude.{◌≡◌};
+ghost use Rattle.uriparse_text.specs.Readings.{Settles};
+ghost use Rattle.uriparse_reference.specs.declared.uri_reference.edit.Edit.TheVariants as edits;
+ghost use Rattle.uriparse_reference.specs.Edits.{edited};
+ghost use Rattle.uriparse.specs.Kinds.{told_of};
+
+use super::ReferenceOf;
+use crate::kind::{Kind, told};
+use uriparse_authority::authority::Authority;
+use uriparse_path::path::Path;
+use uriparse_text::fragment::Fragment;
+use uriparse_text::query::Query;
+
+impl<'r, K: Kind> ReferenceOf<'r, K> {
+    /// Sets the authority, behind which the path is made absolute. Without one, a path whose text
+    /// begins with two slashes is refused, and the value is unchanged. Takes no memory.
+    pub fn set_authority(&mut self, authority: Option<Authority<'r>>) -> Result<(), K::Error>
+        ensures { Settles self.old self.new result (told_of K.told (edited self.old (edits.Authority authority.entry))) }
+    {
+        told::<K, _>(self.reference.set_authority(authority))
+    }
+
+    /// Sets the path: behind an authority made absolute, else the one that its text spells. Without
+    /// an authority, a path whose text begins with two slashes is refused, and without a scheme too
+    /// one that has a colon in its first segment; the value is then unchanged. Takes no memory.
+    pub fn set_path(&mut self, path: Path<'r>) -> Result<(), K::Error>
+        ensures { Settles self.old self.new result (told_of K.told (edited self.old (edits.Path path.entry))) }
+    {
+        told::<K, _>(self.reference.set_path(path))
+    }
+
+    /// Sets the query. It is never refused. Takes no memory.
+    pub fn set_query(&mut self, query: Option<Query<'r>>) -> Result<(), K::Error>
+        ensures { Settles self.old self.new result (told_of K.told (edited self.old (edits.Query query.entry))) }
+    {
+        told::<K, _>(self.reference.set_query(query))
+    }
+
+    /// Sets the fragment. It is never refused. Takes no memory.
+    pub fn set_fragment(&mut self, fragment: Option<Fragment<'r>>) -> Result<(), K::Error>
+        ensures { Settles self.old self.new result (told_of K.told (edited self.old (edits.Fragment fragment.entry))) }
+    {
+        told::<K, _>(self.reference.set_fragment(fragment))
+    }
+
+    /// Sets what the closure makes of the authority. A refusal consumes the value.
+    pub fn map_authority<F>(self, make: F) -> Result<ReferenceOf<'r, K>, K::Error>
+    where
+        F: FnOnce(Option<Authority<'r>>) -> Option<Authority<'r>>,
+        requires { F.pre make self.authority }
+        ensures { (authority : _) × F.post make self.entry.authority authority × (told_of K.told (edited self.entry (edits.Authority authority)) ≡ result) }
+    {
+        match self.reference.map_authority(make) {
+            Ok(reference) => Ok(ReferenceOf::of_checked(reference)),
+            Err(error) => Err(K::told(error)),
+        }
+    }
+
+    /// Sets what the closure makes of the path. A refusal consumes the value.
+    pub fn map_path<F>(self, make: F) -> Result<ReferenceOf<'r, K>, K::Error>
+    where
+        F: FnOnce(Path<'r>) -> Path<'r>,
+        requires { F.pre make self.path }
+        ensures { (path : _) × F.post make self.entry.path path × (told_of K.told (edited self.entry (edits.Path path)) ≡ result) }
+    {
+        match self.reference.map_path(make) {
+            Ok(reference) => Ok(ReferenceOf::of_checked(reference)),
+            Err(error) => Err(K::told(error)),
+        }
+    }
+
+    /// Sets what the closure makes of the query.
+    pub fn map_query<F>(self, make: F) -> Result<ReferenceOf<'r, K>, K::Error>
+    where
+        F: FnOnce(Option<Query<'r>>) -> Option<Query<'r>>,
+        requires { F.pre make self.query }
+        ensures { (query : _) × F.post make self.entry.query query × (told_of K.told (edited self.entry (edits.Query query)) ≡ result) }
+    {
+        match self.reference.map_query(make) {
+            Ok(reference) => Ok(ReferenceOf::of_checked(reference)),
+            Err(error) => Err(K::told(error)),
+        }
+    }
+
+    /// Sets what the closure makes of the fragment.
+    pub fn map_fragment<F>(self, make: F) -> Result<ReferenceOf<'r, K>, K::Error>
+    where
+        F: FnOnce(Option<Fragment<'r>>) -> Option<Fragment<'r>>,
+        requires { F.pre make self.fragment }
+        ensures { (fragment : _) × F.post make self.entry.fragment fragment × (told_of K.told (edited self.entry (edits.Fragment fragment)) ≡ result) }
+    {
+        match self.reference.map_fragment(make) {
+            Ok(reference) => Ok(ReferenceOf::of_checked(reference)),
+            Err(error) => Err(K::told(error)),
+        }
+    }
+}

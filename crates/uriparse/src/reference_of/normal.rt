@@ -1,0 +1,32 @@
+//! Normal forms of URIs and relative references: RFC 3986, section 6.2.2.
+ghost use Rattle.std.specs.Prelude.{◌≡◌, ◌↔◌, IsTrue, IsOk, OnOk, OnErr};
+ghost use Rattle.uriparse_reference.specs.Reference.{print};
+ghost use Rattle.uriparse_reference.specs.Normal.{normal};
+
+use super::ReferenceOf;
+use crate::kind::Kind;
+use std::alloc::{AllocError, Global};
+
+impl<'r, K: Kind> ReferenceOf<'r, K> {
+    /// Whether the text is that of the normal form. Then the value is that form, part for part. Takes
+    /// no memory.
+    pub fn is_normalized(&self) -> bool
+        ensures text { IsTrue result ↔ (print (normal self.now) ≡ print self.now) }
+        ensures form { IsTrue result → normal self.now ≡ self.now }
+    {
+        self.reference.is_normalized()
+    }
+
+    /// Brings the value into its normal form, as
+    /// [`URIReference::normalize`](uriparse_reference::uri_reference::URIReference::normalize) does.
+    ///
+    /// Memory is wanted only for the texts that aren't canonical; where there is none, the value is
+    /// unchanged.
+    pub fn normalize(&mut self, alloc: Global) -> Result<(), AllocError>
+        ensures ok { OnOk result (self.new ≡ normal self.old) }
+        ensures err { OnErr result (self.new ≡ self.old) }
+        ensures takes_no_memory { print (normal self.old) ≡ print self.old → IsOk result }
+    {
+        self.reference.normalize(alloc)
+    }
+}

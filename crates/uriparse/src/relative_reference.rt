@@ -1,0 +1,155 @@
+//! A relative reference: RFC 3986, section 4.2.
+ghost use Rattle.std.specs.Prelude.{◌≡◌, None};
+ghost use Rattle.uriparse_reference.specs.Edits.{of_parts};
+ghost use Rattle.uriparse_reference.specs.Kinds as kinds;
+ghost use Rattle.uriparse.specs.Kinds.{told_of};
+ghost use Rattle.uriparse.specs.RelativeReference as spec;
+
+use crate::builder_of::BuilderOf;
+use crate::kind::Kind;
+use crate::reference_of::ReferenceOf;
+use uriparse_authority::authority::Authority;
+use uriparse_path::path::Path;
+use uriparse_reference::uri_reference::{URIReference, URIReferenceError};
+use uriparse_text::fragment::Fragment;
+use uriparse_text::query::Query;
+
+mod error;
+
+pub use error::RelativeReferenceError;
+
+/// The kind of reference that a relative reference is.
+pub struct WithoutScheme;
+
+impl Kind for WithoutScheme {
+    type Error = RelativeReferenceError;
+
+    ghost use Rattle.std.specs.Prelude.{false};
+    ghost use Rattle.uriparse.specs.RelativeReference.{told};
+    ghost use Rattle.uriparse.specs.declared.relative_reference.error.RelativeReferenceError.TheVariants.{NotRelativeReference};
+
+    ghost has_scheme = { false };
+
+    ghost told = { told };
+
+    ghost other = { NotRelativeReference };
+
+    fn name() -> &'static str {
+        "RelativeReference"
+    }
+
+    fn has_scheme() -> bool {
+        false
+    }
+
+    fn told(error: URIReferenceError) -> RelativeReferenceError {
+        RelativeReferenceError::try_from(error).unwrap_or(
+            RelativeReferenceError::NotRelativeReference,
+        )
+    }
+
+    fn other() -> RelativeReferenceError {
+        RelativeReferenceError::NotRelativeReference
+    }
+}
+
+/// A relative reference: one that has no scheme. RFC 3986, section 4.2.
+///
+/// Its parts borrow the text that it was read from, or own their texts. Two of them are equal where
+/// their hosts, if they have any, are of one kind and the canonical spellings of their texts agree.
+/// The calls that it shares with URIs are those of [`ReferenceOf`].
+///
+/// ```
+/// let reference = RelativeReference::try_from_str(alloc, "../a?q")?;
+/// assert!(reference.is_relative_path_reference() && reference.has_query());
+/// ```
+pub type RelativeReference<'r> = ReferenceOf<'r, WithoutScheme>;
+
+/// The parts of a relative reference that were given so far. Only the path has to be given before it
+/// is built. The calls that it shares with the builder of URIs are those of [`BuilderOf`].
+///
+/// ```
+/// let mut builder = RelativeReference::builder();
+/// builder.try_path(alloc, b"a")?;
+/// assert_eq!(builder.build()?.to_string(alloc)?, "a");
+/// ```
+pub type RelativeReferenceBuilder<'b> = BuilderOf<'b, WithoutScheme>;
+
+impl<'r> RelativeReference<'r> {
+    /// The relative reference of these parts. Behind an authority the path is made absolute, else it
+    /// is the one that its text spells. Takes no memory.
+    ///
+    /// Refused are, in this order, a path without authority whose text begins with two slashes as
+    /// [`AbsolutePathStartsWithTwoSlashes`](RelativeReferenceError::AbsolutePathStartsWithTwoSlashes),
+    /// and one that has a colon in its first segment as
+    /// [`SchemelessPathStartsWithColonSegment`](RelativeReferenceError::SchemelessPathStartsWithColonSegment).
+    pub fn from_parts(
+        authority: Option<Authority<'r>>,
+        path: Path<'r>,
+        query: Option<Query<'r>>,
+        fragment: Option<Fragment<'r>>,
+    ) -> Result<RelativeReference<'r>, RelativeReferenceError>
+        ensures { result ≡ told_of spec.told (of_parts (record { scheme = None; authority = authority.entry; path = path.entry; query = query.entry; fragment = fragment.entry })) }
+    {
+        match URIReference::from_parts(None, authority, path, query, fragment) {
+            Ok(reference) => Ok(ReferenceOf::of_checked(reference)),
+            Err(error) => Err(WithoutScheme::told(error)),
+        }
+    }
+
+    /// The authority, the path, the query and the fragment. Takes no memory.
+    pub fn into_parts(
+        self,
+    ) -> (
+        Option<Authority<'r>>,
+        Path<'r>,
+        Option<Query<'r>>,
+        Option<Fragment<'r>>,
+    )
+        ensures scheme { self.entry.scheme ≡ None }
+        ensures authority { result.0 ≡ self.entry.authority }
+        ensures path { result.1 ≡ self.entry.path }
+        ensures query { result.2 ≡ self.entry.query }
+        ensures fragment { result.3 ≡ self.entry.fragment }
+    {
+        let (_, authority, path, query, fragment) = self.reference.into_parts();
+        (authority, path, query, fragment)
+    }
+
+    /// Whether it has an authority. RFC 3986, section 4.2.
+    pub fn is_network_path_reference(&self) -> bool
+        ensures { result ≡ kinds.is_network_path_reference self.now }
+    {
+        self.reference.is_network_path_reference()
+    }
+
+    /// Whether it has no authority and an absolute path. RFC 3986, section 4.2.
+    pub fn is_absolute_path_reference(&self) -> bool
+        ensures { result ≡ kinds.is_absolute_path_reference self.now }
+    {
+        self.reference.is_absolute_path_reference()
+    }
+
+    /// Whether it has no authority and a relative path, as the empty one is. RFC 3986, section 4.2.
+    pub fn is_relative_path_reference(&self) -> bool
+        ensures { result ≡ kinds.is_relative_path_reference self.now }
+    {
+        self.reference.is_relative_path_reference()
+    }
+}
+
+impl<'b> RelativeReferenceBuilder<'b> {
+    /// The relative reference of the parts. Takes no memory.
+    ///
+    /// Refused are, in this order, a builder without a path as
+    /// [`MissingPath`](RelativeReferenceError::MissingPath), and what
+    /// [`from_parts`](RelativeReference::from_parts) refuses. A refusal consumes the builder.
+    pub fn build(self) -> Result<RelativeReference<'b>, RelativeReferenceError>
+        ensures { result ≡ spec.relative_built self.entry }
+    {
+        match self.builder.build() {
+            Ok(reference) => Ok(ReferenceOf::of_checked(reference)),
+            Err(error) => Err(WithoutScheme::told(error)),
+        }
+    }
+}

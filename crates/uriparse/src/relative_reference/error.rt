@@ -1,0 +1,96 @@
+//! Why a relative reference is refused.
+ghost use Rattle.std.specs.Prelude.{◌≡◌};
+ghost use Rattle.uriparse.specs.declared.relative_reference.error.RelativeReferenceError.TheVariants as errors;
+
+use thiserror::Error;
+use uriparse_authority::authority::AuthorityError;
+use uriparse_path::path::PathError;
+use uriparse_reference::uri_reference::URIReferenceError;
+use uriparse_text::fragment::FragmentError;
+use uriparse_text::query::QueryError;
+
+/// Why a text or a set of parts is no relative reference. The first of the parts that has a fault answers.
+#[derive(Clone, Debug, Drop, PartialEq, Eq, Hash, Error)]
+pub enum RelativeReferenceError {
+    /// Without an authority the path would begin with two slashes. Reading never answers it.
+    #[error("absolute path starts with two slashes")]
+    AbsolutePathStartsWithTwoSlashes,
+    /// Without an authority a colon stands in the first segment of a relative path.
+    #[error("relative reference schemeless path starts with colon segment")]
+    SchemelessPathStartsWithColonSegment,
+    /// A builder was given no path. Reading never answers it.
+    #[error("missing path")]
+    MissingPath,
+    /// It has a scheme.
+    #[error("not relative reference")]
+    NotRelativeReference,
+    #[error(transparent)]
+    Authority(AuthorityError),
+    #[error(transparent)]
+    Path(PathError),
+    #[error(transparent)]
+    Query(QueryError),
+    #[error(transparent)]
+    Fragment(FragmentError),
+}
+
+impl From<AuthorityError> for RelativeReferenceError {
+    ghost from_gives = { λ x e. e ≡ errors.Authority x };
+
+    fn from(error: AuthorityError) -> RelativeReferenceError {
+        RelativeReferenceError::Authority(error)
+    }
+}
+
+impl From<PathError> for RelativeReferenceError {
+    ghost from_gives = { λ x e. e ≡ errors.Path x };
+
+    fn from(error: PathError) -> RelativeReferenceError {
+        RelativeReferenceError::Path(error)
+    }
+}
+
+impl From<QueryError> for RelativeReferenceError {
+    ghost from_gives = { λ x e. e ≡ errors.Query x };
+
+    fn from(error: QueryError) -> RelativeReferenceError {
+        RelativeReferenceError::Query(error)
+    }
+}
+
+impl From<FragmentError> for RelativeReferenceError {
+    ghost from_gives = { λ x e. e ≡ errors.Fragment x };
+
+    fn from(error: FragmentError) -> RelativeReferenceError {
+        RelativeReferenceError::Fragment(error)
+    }
+}
+
+/// The refusal of a reference as that of a relative reference. A fault of a scheme is none: `Err` is
+/// answered.
+impl TryFrom<URIReferenceError> for RelativeReferenceError {
+    type Error = ();
+
+    ghost use Rattle.std.specs.Prelude.{◌≡◌};
+    ghost use Rattle.std.specs.Option.{ok_or};
+    ghost use Rattle.uriparse.specs.RelativeReference.{relative_error};
+
+    ghost try_from_gives = { λ e answer. answer ≡ ok_or (relative_error e) tt };
+
+    fn try_from(error: URIReferenceError) -> Result<RelativeReferenceError, ()> {
+        match error {
+            URIReferenceError::AbsolutePathStartsWithTwoSlashes => {
+                Ok(RelativeReferenceError::AbsolutePathStartsWithTwoSlashes)
+            }
+            URIReferenceError::SchemelessPathStartsWithColonSegment => {
+                Ok(RelativeReferenceError::SchemelessPathStartsWithColonSegment)
+            }
+            URIReferenceError::MissingPath => Ok(RelativeReferenceError::MissingPath),
+            URIReferenceError::Authority(error) => Ok(RelativeReferenceError::Authority(error)),
+            URIReferenceError::Path(error) => Ok(RelativeReferenceError::Path(error)),
+            URIReferenceError::Query(error) => Ok(RelativeReferenceError::Query(error)),
+            URIReferenceError::Fragment(error) => Ok(RelativeReferenceError::Fragment(error)),
+            URIReferenceError::Scheme(_) => Err(()),
+        }
+    }
+}

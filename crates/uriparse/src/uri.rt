@@ -1,0 +1,208 @@
+//! A URI: RFC 3986, section 3.
+ghost use Rattle.std.specs.Prelude.{◌≡◌, true, Ok, Some, IfSome, is_none};
+ghost use Rattle.uriparse_text.specs.Readings.{Settles};
+ghost use Rattle.uriparse_reference.specs.Edits.{of_parts};
+ghost use Rattle.uriparse_reference.specs.Builder.{scheme_read};
+ghost use Rattle.uriparse.specs.Kinds.{told_of};
+ghost use Rattle.uriparse.specs.Uri as spec;
+
+use crate::builder_of::BuilderOf;
+use crate::kind::{Kind, told};
+use crate::reference_of::ReferenceOf;
+use uriparse_authority::authority::Authority;
+use uriparse_path::path::Path;
+use uriparse_reference::uri_reference::{URIReference, URIReferenceError};
+use uriparse_scheme::scheme::Scheme;
+use uriparse_text::fragment::Fragment;
+use uriparse_text::query::Query;
+
+mod error;
+mod resolve;
+
+pub use error::URIError;
+
+/// The kind of reference that a URI is.
+pub struct WithScheme;
+
+impl Kind for WithScheme {
+    type Error = URIError;
+
+    ghost use Rattle.std.specs.Prelude.{true};
+    ghost use Rattle.uriparse.specs.Uri.{told};
+    ghost use Rattle.uriparse.specs.declared.uri.error.URIError.TheVariants.{NotURI};
+
+    ghost has_scheme = { true };
+
+    ghost told = { told };
+
+    ghost other = { NotURI };
+
+    fn name() -> &'static str {
+        "URI"
+    }
+
+    fn has_scheme() -> bool {
+        true
+    }
+
+    fn told(error: URIReferenceError) -> URIError {
+        URIError::try_from(error).unwrap_or(URIError::NotURI)
+    }
+
+    fn other() -> URIError {
+        URIError::NotURI
+    }
+}
+
+/// A URI: a reference that has a scheme. RFC 3986, section 3.
+///
+/// Its parts borrow the text that it was read from, or own their texts. Two URIs are equal where their
+/// hosts, if they have any, are of one kind and the canonical spellings of their texts agree. The
+/// calls that it shares with relative references are those of [`ReferenceOf`].
+///
+/// ```
+/// let uri = URI::try_from_str(alloc, "HTTP://h/%7Ea?q#f")?;
+/// assert!(uri.scheme() == &Scheme::HTTP && uri.has_authority());
+/// assert_eq!(uri.into_base_uri().to_string(alloc)?, "http://h/%7Ea?q");
+/// ```
+pub type URI<'u> = ReferenceOf<'u, WithScheme>;
+
+/// The parts of a URI that were given so far. A path and a scheme have to be given before it is built.
+/// The calls that it shares with the builder of relative references are those of [`BuilderOf`].
+///
+/// ```
+/// let mut builder = URI::builder();
+/// builder.scheme(Scheme::HTTP);
+/// builder.try_authority(Some(b"h"))?;
+/// builder.try_path(alloc, b"a")?;
+/// assert_eq!(builder.build()?.to_string(alloc)?, "http://h/a");
+/// ```
+pub type URIBuilder<'b> = BuilderOf<'b, WithScheme>;
+
+impl<'u> URI<'u> {
+    ghost use Rattle.uriparse_reference.specs.Reference.{Valid};
+
+    /// The URI of these parts. Behind an authority the path is made absolute, else it is the one that
+    /// its text spells. Takes no memory.
+    ///
+    /// A path without authority whose text begins with two slashes is refused as
+    /// [`AbsolutePathStartsWithTwoSlashes`](URIError::AbsolutePathStartsWithTwoSlashes).
+    pub fn from_parts(
+        scheme: Scheme<'u>,
+        authority: Option<Authority<'u>>,
+        path: Path<'u>,
+        query: Option<Query<'u>>,
+        fragment: Option<Fragment<'u>>,
+    ) -> Result<URI<'u>, URIError>
+        ensures { result ≡ told_of spec.told (of_parts (record { scheme = Some scheme.entry; authority = authority.entry; path = path.entry; query = query.entry; fragment = fragment.entry })) }
+    {
+        match URIReference::from_parts(Some(scheme), authority, path, query, fragment) {
+            Ok(reference) => Ok(ReferenceOf::of_checked(reference)),
+            Err(error) => Err(WithScheme::told(error)),
+        }
+    }
+
+    /// The scheme, the authority, the path, the query and the fragment. Takes no memory.
+    pub fn into_parts(
+        self,
+    ) -> (
+        Scheme<'u>,
+        Option<Authority<'u>>,
+        Path<'u>,
+        Option<Query<'u>>,
+        Option<Fragment<'u>>,
+    )
+        ensures scheme { self.entry.scheme ≡ Some result.0 }
+        ensures authority { result.1 ≡ self.entry.authority }
+        ensures path { result.2 ≡ self.entry.path }
+        ensures query { result.3 ≡ self.entry.query }
+        ensures fragment { result.4 ≡ self.entry.fragment }
+        ensures valid { Valid self.entry }
+    {
+        let (scheme, authority, path, query, fragment) = self.reference.into_parts();
+        (scheme.unwrap(), authority, path, query, fragment)
+    }
+
+    /// The scheme.
+    pub fn scheme(&self) -> &Scheme<'u>
+        ensures { self.now.scheme ≡ Some result.now }
+    {
+        self.reference.scheme().unwrap()
+    }
+
+    /// Whether a reference can be resolved against it: it has no fragment. RFC 3986, section 4.3.
+    pub fn can_be_a_base(&self) -> bool
+        ensures { result ≡ is_none self.now.fragment }
+    {
+        !self.reference.has_fragment()
+    }
+
+    /// The URI without its fragment. It is never refused. Takes no memory.
+    pub fn into_base_uri(self) -> URI<'u>
+        ensures { result ≡ spec.base self.entry }
+    {
+        let mut uri = self;
+        let _ok = uri.reference.set_fragment(None);
+        uri
+    }
+
+    /// Sets the scheme. It is never refused. Takes no memory.
+    pub fn set_scheme(&mut self, scheme: Scheme<'u>) -> Result<(), URIError>
+        ensures answer { result ≡ Ok tt }
+        ensures value { self.new ≡ record self.old { scheme = Some scheme.entry } }
+    {
+        told::<WithScheme, _>(self.reference.set_scheme(Some(scheme)))
+    }
+
+    /// Sets what the closure makes of the scheme. It is never refused.
+    pub fn map_scheme<F>(self, make: F) -> Result<URI<'u>, URIError>
+    where
+        F: FnOnce(Scheme<'u>) -> Scheme<'u>,
+        requires { IfSome self.scheme (λ old. F.pre make old) }
+        ensures { (old : _) × (scheme : _) × (self.entry.scheme ≡ Some old) × F.post make old scheme × (result ≡ Ok (record self.entry { scheme = Some scheme })) }
+    {
+        let (scheme, authority, path, query, fragment) = self.into_parts();
+        URI::from_parts(make(scheme), authority, path, query, fragment)
+    }
+}
+
+impl<'b> URIBuilder<'b> {
+    /// Sets the scheme. Takes no memory.
+    pub fn scheme(&mut self, scheme: Scheme<'b>)
+        ensures { self.new ≡ record self.old { scheme = Some scheme.entry } }
+    {
+        self.builder.scheme(Some(scheme));
+    }
+
+    /// The builder with this scheme. Takes no memory.
+    pub fn with_scheme(self, scheme: Scheme<'b>) -> URIBuilder<'b>
+        ensures { result ≡ record self.entry { scheme = Some scheme.entry } }
+    {
+        BuilderOf::of_checked(self.builder.with_scheme(Some(scheme)))
+    }
+
+    /// Reads the scheme and sets it. A text that is no scheme is refused as
+    /// [`Scheme`](URIError::Scheme), and the builder is unchanged. Takes no memory.
+    pub fn try_scheme(&mut self, scheme: &'b [u8]) -> Result<(), URIError>
+        ensures { Settles self.old self.new result (told_of spec.told (scheme_read self.old (Some scheme.now))) }
+    {
+        told::<WithScheme, _>(self.builder.try_scheme(Some(scheme)))
+    }
+
+    /// The URI of the parts. Takes no memory.
+    ///
+    /// Refused are, in this order, a builder without a path as
+    /// [`MissingPath`](URIError::MissingPath), a path without authority whose text begins with two
+    /// slashes as
+    /// [`AbsolutePathStartsWithTwoSlashes`](URIError::AbsolutePathStartsWithTwoSlashes), and a builder
+    /// without a scheme as [`MissingScheme`](URIError::MissingScheme). A refusal consumes the builder.
+    pub fn build(self) -> Result<URI<'b>, URIError>
+        ensures { result ≡ spec.uri_built self.entry }
+    {
+        match self.builder.build() {
+            Ok(reference) if reference.has_scheme() => Ok(ReferenceOf::of_checked(reference)),
+            Ok(_) => Err(URIError::MissingScheme),
+            Err(error) => Err(URIError::try_from(error).unwrap_or(URIError::MissingScheme)),
+        }
+    }
+}

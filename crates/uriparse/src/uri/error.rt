@@ -1,0 +1,106 @@
+//! Why a URI is refused.
+ghost use Rattle.std.specs.Prelude.{◌≡◌};
+ghost use Rattle.uriparse.specs.declared.uri.error.URIError.TheVariants as errors;
+
+use thiserror::Error;
+use uriparse_authority::authority::AuthorityError;
+use uriparse_path::path::PathError;
+use uriparse_reference::uri_reference::URIReferenceError;
+use uriparse_scheme::scheme::SchemeError;
+use uriparse_text::fragment::FragmentError;
+use uriparse_text::query::QueryError;
+
+/// Why a text or a set of parts is no URI. The first of the parts that has a fault answers.
+#[derive(Clone, Debug, Drop, PartialEq, Eq, Hash, Error)]
+pub enum URIError {
+    /// Without an authority the path would begin with two slashes. Reading never answers it.
+    #[error("absolute path URI starts with two slashes")]
+    AbsolutePathStartsWithTwoSlashes,
+    /// A builder was given no path. Reading never answers it.
+    #[error("missing path")]
+    MissingPath,
+    /// A builder was given no scheme. Reading never answers it.
+    #[error("missing scheme")]
+    MissingScheme,
+    /// It has no scheme.
+    #[error("not URI")]
+    NotURI,
+    #[error(transparent)]
+    Authority(AuthorityError),
+    #[error(transparent)]
+    Path(PathError),
+    #[error(transparent)]
+    Query(QueryError),
+    #[error(transparent)]
+    Fragment(FragmentError),
+    /// Reading never answers it: a text that begins with no scheme has none.
+    #[error(transparent)]
+    Scheme(SchemeError),
+}
+
+impl From<AuthorityError> for URIError {
+    ghost from_gives = { λ x e. e ≡ errors.Authority x };
+
+    fn from(error: AuthorityError) -> URIError {
+        URIError::Authority(error)
+    }
+}
+
+impl From<PathError> for URIError {
+    ghost from_gives = { λ x e. e ≡ errors.Path x };
+
+    fn from(error: PathError) -> URIError {
+        URIError::Path(error)
+    }
+}
+
+impl From<QueryError> for URIError {
+    ghost from_gives = { λ x e. e ≡ errors.Query x };
+
+    fn from(error: QueryError) -> URIError {
+        URIError::Query(error)
+    }
+}
+
+impl From<FragmentError> for URIError {
+    ghost from_gives = { λ x e. e ≡ errors.Fragment x };
+
+    fn from(error: FragmentError) -> URIError {
+        URIError::Fragment(error)
+    }
+}
+
+impl From<SchemeError> for URIError {
+    ghost from_gives = { λ x e. e ≡ errors.Scheme x };
+
+    fn from(error: SchemeError) -> URIError {
+        URIError::Scheme(error)
+    }
+}
+
+/// The refusal of a reference as that of a URI. A colon in the first segment of a reference without a
+/// scheme is no refusal of a URI: `Err` is answered.
+impl TryFrom<URIReferenceError> for URIError {
+    type Error = ();
+
+    ghost use Rattle.std.specs.Prelude.{◌≡◌};
+    ghost use Rattle.std.specs.Option.{ok_or};
+    ghost use Rattle.uriparse.specs.Uri.{uri_error};
+
+    ghost try_from_gives = { λ e answer. answer ≡ ok_or (uri_error e) tt };
+
+    fn try_from(error: URIReferenceError) -> Result<URIError, ()> {
+        match error {
+            URIReferenceError::AbsolutePathStartsWithTwoSlashes => {
+                Ok(URIError::AbsolutePathStartsWithTwoSlashes)
+            }
+            URIReferenceError::SchemelessPathStartsWithColonSegment => Err(()),
+            URIReferenceError::MissingPath => Ok(URIError::MissingPath),
+            URIReferenceError::Authority(error) => Ok(URIError::Authority(error)),
+            URIReferenceError::Path(error) => Ok(URIError::Path(error)),
+            URIReferenceError::Query(error) => Ok(URIError::Query(error)),
+            URIReferenceError::Fragment(error) => Ok(URIError::Fragment(error)),
+            URIReferenceError::Scheme(error) => Ok(URIError::Scheme(error)),
+        }
+    }
+}

@@ -1,7 +1,0 @@
-use Rattle.std.proofs.Common.{sym}
-use Rattle.uriparse_authority.proofs.HostLemmas.{ipv4_first}
-use Rattle.uriparse_authority.proofs.authority.read.read_name.Goals as goal
-
-pub returns-in-Some : goal.returns-in-Some
-returns-in-Some c =
-    sym (ipv4_first c.args.bytes.now c.in-Some.address (sym c.in-Some.ensures.value))

@@ -1,0 +1,102 @@
+//! How a host is read: RFC 3986, section 3.2.2.
+ghost use Rattle.std.specs.Prelude.{◌≡◌};
+ghost use Rattle.std.specs.Option.{option_copied};
+ghost use Rattle.std.specs.List.{list_all};
+ghost use Rattle.uriparse_text.specs.Address.{is_ipv6_byte};
+ghost use Rattle.uriparse_authority.specs.Host as host;
+
+use super::{Host, HostError, RegisteredName};
+use uriparse_text::address::{Ipv4Addr, Ipv6Addr};
+use uriparse_text::parts::Class;
+
+/// The text before a last closing bracket, where the text ends with one.
+fn before_closing(bytes: &[u8]) -> Option<&[u8]>
+    ensures { option_copied result ≡ host.closed bytes.now }
+{
+    let (last, inner) = bytes.split_last()?;
+    if *last == b']' { Some(inner) } else { None }
+}
+
+/// What stands in brackets, where the text begins and ends with them.
+fn in_brackets(bytes: &[u8]) -> Option<&[u8]>
+    ensures { option_copied result ≡ host.in_brackets bytes.now }
+{
+    match bytes {
+        [b'[', rest @ ..] => before_closing(rest),
+        _ => None,
+    }
+}
+
+/// Whether the text begins with `v` and a hexadecimal digit, as an address of a later version does.
+fn begins_future(bytes: &[u8]) -> bool
+    ensures { result ≡ host.begins_future bytes.now }
+{
+    match bytes {
+        [v, digit, ..] => matches!(v, b'v' | b'V') && digit.is_ascii_hexdigit(),
+        _ => false,
+    }
+}
+
+#[tactic(auto, unfolding(uriparse_text::specs::Classes::is_plain))]
+fn is_future_byte(b: u8) -> bool
+    ensures { result ≡ host.is_future_byte b }
+{
+    Class::UserInfo.has(b)
+}
+
+fn are_future_bytes(bytes: &[u8]) -> bool
+    ensures { result ≡ list_all host.is_future_byte bytes.now }
+{
+    bytes.iter().all(|b| is_future_byte(*b))
+}
+
+fn are_ipv6_bytes(bytes: &[u8]) -> bool
+    ensures { result ≡ list_all is_ipv6_byte bytes.now }
+{
+    bytes
+        .iter()
+        .all(|b| b.is_ascii_hexdigit() || *b == b':' || *b == b'.')
+}
+
+/// Reads the text between brackets.
+fn read_literal(bytes: &[u8]) -> Result<Host<'_>, HostError>
+    ensures { result ≡ host.literal_reading bytes.now }
+{
+    if begins_future(bytes) {
+        return Err(if are_future_bytes(bytes) {
+            HostError::AddressMechanismNotSupported
+        } else {
+            HostError::InvalidIPvFutureCharacter
+        });
+    }
+    if !are_ipv6_bytes(bytes) {
+        return Err(HostError::InvalidIPv6Character);
+    }
+    match Ipv6Addr::parse_bytes(bytes) {
+        Some(address) => Ok(Host::IPv6Address(address)),
+        None => Err(HostError::InvalidIPv6Format),
+    }
+}
+
+/// Reads a text without brackets: an IPv4 address, or else a name.
+fn read_name(bytes: &[u8]) -> Result<Host<'_>, HostError>
+    ensures { result ≡ host.name_reading bytes.now }
+{
+    if let Some(address) = Ipv4Addr::parse_bytes(bytes) {
+        return Ok(Host::IPv4Address(address));
+    }
+    match RegisteredName::of_class(bytes) {
+        Ok(name) => Ok(Host::RegisteredName(name)),
+        Err(_) => Err(HostError::InvalidIPv4OrRegisteredNameCharacter),
+    }
+}
+
+/// Reads a host, whose name borrows the bytes.
+pub(super) fn read_host(bytes: &[u8]) -> Result<Host<'_>, HostError>
+    ensures { result ≡ host.reading bytes.now }
+{
+    match in_brackets(bytes) {
+        Some(inner) => read_literal(inner),
+        None => read_name(bytes),
+    }
+}

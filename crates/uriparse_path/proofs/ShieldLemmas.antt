@@ -1,0 +1,164 @@
+-- Paths without their dot segments or in normal form, with a "." in front where they would begin with two slashes.
+use Rattle.std.proofs.Common.{◌≡◌, ℕ, ◌+◌, ◌<◌, ◌≤◌, Bool, true, false, ◌&&◌, ◌||◌, cond, List, [], ◌∷◌, suc, length, take, drop, refl, sym, ap, ◌∙◌, subst, arith}
+use Rattle.std.proofs.lemmas.Bool.{false≢true, and_parts, and_from}
+use Rattle.std.specs.Prelude.{bytes_eq}
+use Rattle.std.specs.List.{list_all}
+use Rattle.std.proofs.lemmas.List.{length-take-le}
+use Rattle.std.proofs.lemmas.Slice.Eq.{bytes_eq-Decides}
+use Rattle.uriparse_text.specs.Bytes.{is_unreserved}
+use Rattle.uriparse_text.specs.Tokens.{tokens}
+use Rattle.uriparse_text.specs.Canon.{spelling}
+use Rattle.uriparse_text.specs.Bytes.{dot}
+use Rattle.uriparse_path.specs.Path.{PathParts, IsListed, IsCounted, max_segments, text, spelled, is_rooted, hides_root, respelled, has_two_slashes}
+use Rattle.uriparse_path.specs.Dots.{has_dot_segment, replay, replayed, rooted_after, undot, without_dots}
+use Rattle.uriparse_path.specs.Edits.{dotted, shield}
+use Rattle.uriparse_path.specs.Relative.{filled}
+use Rattle.uriparse_path.specs.Normal.{stays_relative, pnormal, is_canonical, is_normal, is_shielded, is_normal_in}
+use Rattle.uriparse_path.proofs.TextLemmas.{spelled-text, listed-respelled}
+use Rattle.uriparse_path.proofs.RelativeLemmas.{hides_relative}
+use Rattle.uriparse_path.proofs.NormalLemmas.{listed_replayed, listed_pnormal, pnormal_relative, undot_path}
+use Rattle.uriparse_path.proofs.PlaceLemmas.{two_slashes-text}
+use Rattle.uriparse_path.proofs.MergeLemmas.{undotted, listed_undotted, shorter}
+
+abbrev make : Bool → List (List ℕ) → PathParts
+make a l = record { absolute = a; segments = l }
+
+-- two slashes begin the text of the path with these segments
+abbrev pub twice : PathParts → Bool
+twice q = hides_root q.segments && (q.absolute || hides_root (drop 1 q.segments))
+
+-- the path with a "." in front where no authority stands before it, or as it is
+abbrev pub shielded : Bool → PathParts → PathParts
+shielded v q = cond v (shield q) q
+
+-- the list with a "." in front or not
+abbrev pub behind : Bool → List (List ℕ) → List (List ℕ)
+behind n l = filled (cond n ((dot ∷ []) ∷ l) l)
+
+filled_some : (l : List (List ℕ)) → 0 < length l → filled l ≡ l
+filled_some [] h = absurd (omega arith)
+filled_some (s ∷ l) h = refl
+
+pub shield_is : (q : PathParts) → IsListed q.segments → shield q ≡ cond (twice q) (dotted q) q
+shield_is q is = ap (λ v. cond v (dotted q) q) (sym (two_slashes-text q is))
+
+not_twice : (q : PathParts) → hides_root q.segments ≡ false → twice q ≡ false
+not_twice q h = ap (λ v. v && (q.absolute || hides_root (drop 1 q.segments))) h
+
+-- a path that hides no root stays
+pub shown_stays : (v : Bool) (q : PathParts) → IsListed q.segments → (v ≡ true → hides_root q.segments ≡ false) → shielded v q ≡ q
+shown_stays false q is h = refl
+shown_stays true q is h = shield_is q is ∙ ap (λ w. cond w (dotted q) q) (not_twice q (h refl))
+
+pub kept_shielded : (v : Bool) (p : PathParts) → IsListed p.segments → has_dot_segment p.segments ≡ false → (v ≡ true → hides_root p.segments ≡ false) → p ≡ shielded v (without_dots p)
+kept_shielded v p is h f = sym (ap (λ w. shielded v (cond w (spelled (undot (text p))) p)) h ∙ shown_stays v p is f)
+
+-- ---- what comes out of the pass
+
+hidden_before : (q : PathParts) → hides_root (respelled q).segments ≡ true → hides_root q.segments ≡ true
+hidden_before q = by_shape q.absolute q.segments
+  where
+    by_shape : (a : Bool) (l : List (List ℕ)) → hides_root (respelled (make a l)).segments ≡ true → hides_root l ≡ true
+    by_shape true l h = h
+    by_shape false [] h = h
+    by_shape false ([] ∷ []) h = h
+    by_shape false ([] ∷ r ∷ l) h = refl
+    by_shape false ((b ∷ s) ∷ l) h = h
+
+pub undotted_is : (p : PathParts) → IsListed p.segments → has_dot_segment p.segments ≡ true → without_dots p ≡ undotted p
+undotted_is p is h = ap (λ v. cond v (spelled (undot (text p))) p) h ∙ ap spelled (undot_path p is) ∙ spelled-text (replayed p) (listed_replayed p is)
+
+-- The pass over the path p left the first `kept` of the list `first`, and of these, as their text spells them, the first `left` of the list `rest`; n tells whether a "." comes in front of them.
+pub record Pass (v : Bool) (p : PathParts) (rooted : Bool) (kept : ℕ) (first : List (List ℕ)) (absolute : Bool) (left : ℕ) (rest : List (List ℕ)) (n : Bool) : Type 0 where
+  pub listed : IsListed p.segments
+  pub dots : has_dot_segment p.segments ≡ true
+  pub shown : v ≡ true → hides_root p.segments ≡ false
+  pub segments : take kept first ≡ replay [] p.segments
+  pub root : rooted ≡ rooted_after p.absolute [] p.segments
+  pub within : kept ≤ length first
+  pub len : length first ≡ length p.segments
+  pub path : make absolute (take left rest) ≡ respelled (make rooted (take kept first))
+  pub inside : left ≤ length rest
+  pub spare : length rest + kept ≡ length first + left
+  pub no_longer : length rest ≤ length first
+  pub need : n ≡ (v && twice (make absolute (take left rest)))
+
+module _ {v : Bool} {p : PathParts} {rooted : Bool} {kept : ℕ} {first : List (List ℕ)} {absolute : Bool} {left : ℕ} {rest : List (List ℕ)} {n : Bool} (is : Pass v p rooted kept first absolute left rest n) where
+  abbrev pub out : PathParts
+  out = make absolute (take left rest)
+
+  came : out ≡ undotted p
+  came = is.path ∙ ap (λ l. respelled (make rooted l)) is.segments ∙ ap (λ a. respelled (make a (replay [] p.segments))) is.root
+
+  listed_out : IsListed out.segments
+  listed_out = subst (λ q. IsListed q.segments) (sym came) (listed_undotted p is.listed)
+
+  left_is : length out.segments ≡ left
+  left_is = length-take-le left rest is.inside
+
+  kept_is : length (replay [] p.segments) ≡ kept
+  kept_is = ap length (sym is.segments) ∙ length-take-le kept first is.within
+
+  -- there is room for the "."
+  room_for : n ≡ true → left + 1 ≤ length rest
+  room_for e =
+      let both = and_parts v (twice out) (sym is.need ∙ e) in
+      let hides : hides_root out.segments ≡ true = (and_parts (hides_root out.segments) _ both.1).0 in
+      let before : hides_root (replay [] p.segments) ≡ true = ap hides_root (sym is.segments) ∙ hidden_before (make rooted (take kept first)) (ap (λ q. hides_root q.segments) (sym is.path) ∙ hides) in
+      let less = shorter p.segments (is.shown both.0) before in
+      omega (arith, less, kept_is, is.spare, is.len)
+
+  pub room_left : length (behind n out.segments) ≤ length rest
+  room_left = by_need n room_for
+    where
+      by_need : (w : Bool) → (w ≡ true → left + 1 ≤ length rest) → length (behind w out.segments) ≤ length rest
+      by_need true f = let k = f refl in omega (arith, k, left_is)
+      by_need false f = omega (arith, ap length (filled_some out.segments listed_out.some), left_is, is.inside)
+
+  some_left : 0 < length (behind n out.segments)
+  some_left = by_need n
+    where
+      by_need : (w : Bool) → 0 < length (behind w out.segments)
+      by_need true = omega arith
+      by_need false = let k = listed_out.some in omega (arith, ap length (filled_some out.segments k), k)
+
+  pub counted_left : IsCounted (behind n out.segments)
+  counted_left = let k = is.listed.short in record { some = some_left; short = omega (arith, room_left, k, is.no_longer, is.len) }
+
+  pub passed : make absolute (behind n out.segments) ≡ shielded v (without_dots p)
+  passed = by_need v n is.need ∙ ap (shielded v) (came ∙ sym (undotted_is p is.listed is.dots))
+    where
+      by_need : (w m : Bool) → m ≡ (w && twice out) → make absolute (behind m out.segments) ≡ shielded w out
+      by_need false m e = ap (λ u. make absolute (behind u out.segments)) e ∙ ap (make absolute) (filled_some out.segments listed_out.some)
+      by_need true m e = ap (λ u. make absolute (behind u out.segments)) e ∙ by_test (twice out) ∙ sym (shield_is out listed_out)
+        where
+          by_test : (t : Bool) → make absolute (behind t out.segments) ≡ cond t (dotted out) out
+          by_test true = refl
+          by_test false = ap (make absolute) (filled_some out.segments listed_out.some)
+
+-- ---- normal forms
+
+-- a path that stays relative needs no "." against slashes
+pub relative_stays : (v : Bool) (p : PathParts) (r : Bool) → IsListed p.segments → stays_relative p r ≡ true → shielded v (pnormal p r) ≡ pnormal p r
+relative_stays v p r is e = shown_stays v (pnormal p r) (listed_pnormal p r is) (λ h. ap (λ q. hides_root q.segments) (pnormal_relative p r e) ∙ hides_relative p.segments)
+
+dot_canonical : is_canonical (dot ∷ []) ≡ true
+unfolding spelling tokens is_unreserved
+dot_canonical = refl
+
+-- the path of a normal form has canonical segments
+pub normal_canonical : (v : Bool) (p : PathParts) (r : Bool) → is_normal_in v p r ≡ true → list_all is_canonical p.segments ≡ true
+normal_canonical v p r h = by_test (is_normal p r) refl h
+  where
+    behind_dot : (a : Bool) (l : List (List ℕ)) → is_shielded a l ≡ true → list_all is_canonical l ≡ true
+    behind_dot a [] e = absurd (false≢true e)
+    behind_dot a (s ∷ ss) e =
+        let x = and_parts (a && bytes_eq s (dot ∷ []) && hides_root ss) (is_normal (make a ss) false) e in
+        let y = and_parts (a && bytes_eq s (dot ∷ [])) (hides_root ss) x.0 in
+        let z = and_parts a (bytes_eq s (dot ∷ [])) y.0 in
+        let own : is_canonical s ≡ true = ap is_canonical ((bytes_eq-Decides s (dot ∷ [])).0 z.1) ∙ dot_canonical in
+        and_from _ _ own (and_parts (list_all is_canonical ss) _ x.1).0
+
+    by_test : (w : Bool) → is_normal p r ≡ w → (w || (v && is_shielded p.absolute p.segments)) ≡ true → list_all is_canonical p.segments ≡ true
+    by_test true e k = (and_parts (list_all is_canonical p.segments) _ e).0
+    by_test false e k = behind_dot p.absolute p.segments (and_parts v (is_shielded p.absolute p.segments) k).1

@@ -1,0 +1,25 @@
+use Rattle.std.proofs.Common.{◌≡◌, ◌+◌, ◌≤◌, length, inl, sym, subst, arith, IfErr, Err}
+use Rattle.uriparse_path.proofs.ReadLemmas.{limit_is}
+use Rattle.uriparse_path.proofs.MergingLemmas.{too_long, short_enough, listed_list}
+use Rattle.uriparse_path.proofs.path.merge.Path.merged.Goals as goal
+
+pub returns-then-front-back-gt-MAX_SEGMENTS-clause-answer :
+    goal.returns-then-front-back-gt-MAX_SEGMENTS-clause-answer
+returns-then-front-back-gt-MAX_SEGMENTS-clause-answer c =
+    inl (sym (too_long c.args.base.now c.args.reference.now c.segments.result.now c.directory-front.result.now c.segments-back.result.now
+    c.segments.ensures.value c.directory-front.ensures c.segments-back.ensures.value (omega arith)))
+
+pub joined-requires : goal.joined-requires
+joined-requires c = subst (λ n. length c.directory-front.result.now + length c.segments-back.result.now ≤ n) limit_is (omega arith)
+
+pub returns-in_err-segments-clause-fault : goal.returns-in_err-segments-clause-fault
+returns-in_err-segments-clause-fault c =
+    let same = short_enough c.args.base.now c.args.reference.now c.segments.result.now c.directory-front.result.now c.segments-back.result.now
+    c.segments.ensures.value c.directory-front.ensures c.segments-back.ensures.value (omega arith) in
+    subst (λ r. IfErr r (λ e. c.from_residual.result ≡ Err e)) (sym same) tt
+
+pub of-requires : goal.of-requires
+of-requires c =
+    listed_list c.args.base.now c.args.reference.now c.segments.result.now c.directory-front.result.now c.segments-back.result.now c.segments.ensures.value
+    c.directory-front.ensures c.segments-back.ensures.value c.segments.ensures.listed c.segments-back.ensures.listed (omega arith)
+    c.in_ok-segments.segments.items c.in_ok-segments.ensures

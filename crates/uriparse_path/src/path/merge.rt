@@ -1,0 +1,66 @@
+//! The path of a reference behind that of a base: RFC 3986, section 5.2.3.
+ghost use Rattle.std.specs.Prelude.{◌≡◌, ◌+◌, ◌<◌, ◌≤◌, ◌++◌, Err, IfErr, IfOk, OnOk, length};
+ghost use Rattle.uriparse_text.specs.Readings.{IsUnless};
+ghost use Rattle.uriparse_path.specs.declared.path.error.PathError.TheVariants as errors;
+ghost use Rattle.uriparse_path.specs.Path.{max_segments};
+ghost use Rattle.uriparse_path.specs.Dots.{all_but_last};
+ghost use Rattle.uriparse_path.specs.Merge.{merging};
+
+use super::{MAX_SEGMENTS, Path, PathError, Segment};
+use std::alloc::{AllocError, Global};
+
+/// The segments but for the last one.
+fn directory<'d, 's>(segments: &'d [Segment<'s>]) -> &'d [Segment<'s>]
+    requires { 0 < length segments.now }
+    ensures { result.now ≡ all_but_last segments.now }
+{
+    &segments[..segments.len() - 1]
+}
+
+/// Puts the segments at the end of the list. They borrow the texts of these.
+fn push_borrowed<'p>(
+    list: &mut Vec<Segment<'p>>,
+    segments: &'p [Segment<'_>],
+) -> Result<(), AllocError>
+    ensures { OnOk result (list.new.items ≡ list.old.items ++ segments.now) }
+{
+    for segment in segments {
+        list.push(segment.as_borrowed())?;
+    }
+    Ok(())
+}
+
+/// The one list behind the other, for which room is asked for once.
+fn joined<'p>(
+    alloc: Global,
+    front: &'p [Segment<'_>],
+    back: &'p [Segment<'_>],
+) -> Result<Vec<Segment<'p>>, AllocError>
+    requires { length front.now + length back.now ≤ max_segments }
+    ensures { IfOk result (λ v. v.items ≡ front.now ++ back.now) }
+{
+    let mut segments = Vec::with_capacity(alloc, front.len() + back.len())?;
+    push_borrowed(&mut segments, front)?;
+    push_borrowed(&mut segments, back)?;
+    Ok(segments)
+}
+
+impl<'p> Path<'p> {
+    /// The base's path up to and with its last slash, and then the reference's.
+    pub(crate) fn merged(
+        alloc: Global,
+        base: &'p Path<'_>,
+        reference: &'p Path<'_>,
+    ) -> Result<Path<'p>, PathError>
+        ensures answer { IsUnless errors.OutOfMemory result (merging base.now reference.now) }
+        ensures fault { IfErr (merging base.now reference.now) (λ e. result ≡ Err e) }
+    {
+        let front = directory(base.segments());
+        let back = reference.segments();
+        if front.len() + back.len() > MAX_SEGMENTS {
+            return Err(PathError::ExceededMaximumLength);
+        }
+        let segments = joined(alloc, front, back)?;
+        Ok(Path::of(base.is_absolute(), segments))
+    }
+}

@@ -1,0 +1,66 @@
+-- What a builder of references holds, what its calls make of that, and what it builds.
+use Rattle.std.specs.Prelude.{ℕ, Bool, List, Option, Some, None, Result, Ok, Err, bytes_eq}
+use Rattle.std.specs.Option.{option_eq}
+use Rattle.std.specs.Ordering.{eq_of_both, on}
+use Rattle.uriparse_text.specs.Canon.{canon}
+use Rattle.uriparse_text.specs.Readings.{◌>>=◌, if_present, of_piece}
+use Rattle.uriparse_text.specs.Query as query
+use Rattle.uriparse_text.specs.Fragment as fragment
+use Rattle.uriparse_path.specs.Faults as path
+use Rattle.uriparse_path.specs.Path.{PathParts, text}
+use Rattle.uriparse_authority.specs.Authority as authority
+use Rattle.uriparse_scheme.specs.Scheme as scheme
+use Rattle.uriparse_scheme.specs.declared.scheme.Scheme.{Scheme}
+use Rattle.uriparse_reference.specs.declared.uri_reference.error.URIReferenceError.{URIReferenceError}
+use Rattle.uriparse_reference.specs.declared.uri_reference.error.URIReferenceError.TheVariants as errors
+use Rattle.uriparse_reference.specs.Reference.{Parts}
+use Rattle.uriparse_reference.specs.Edits.{of_parts}
+
+-- the parts that were given so far
+pub record Held : Type 0 where
+  pub scheme : Option Scheme
+  pub authority : Option authority.AuthorityParts
+  pub path : Option PathParts
+  pub query : Option (List ℕ)
+  pub fragment : Option (List ℕ)
+
+-- no part
+abbrev pub nothing : Held
+nothing = record { scheme = None; authority = None; path = None; query = None; fragment = None }
+
+-- all parts of a reference
+abbrev pub held : Parts → Held
+held p = record { scheme = p.scheme; authority = p.authority; path = Some p.path; query = p.query; fragment = p.fragment }
+
+-- each part is held by both and equal, or by neither
+abbrev pub alike : Held → Held → Bool
+alike =
+    eq_of_both (on (λ (h : Held). h.scheme) (option_eq (on scheme.canonical_text bytes_eq)))
+    (eq_of_both (on (λ (h : Held). h.authority) (option_eq (on authority.key bytes_eq)))
+    (eq_of_both (on (λ (h : Held). h.path) (option_eq (on (λ (p : PathParts). canon (text p)) bytes_eq)))
+    (eq_of_both (on (λ (h : Held). h.query) (option_eq (on canon bytes_eq)))
+    (on (λ (h : Held). h.fragment) (option_eq (on canon bytes_eq))))))
+
+-- The same parts with the one that a text spells, or with none where no text is given, or else why the text spells none.
+abbrev pub scheme_read : Held → Option (List ℕ) → Result Held URIReferenceError
+scheme_read h t = of_piece errors.Scheme (if_present scheme.reading t) >>= λ s. Ok (record h { scheme = s })
+
+abbrev pub authority_read : Held → Option (List ℕ) → Result Held URIReferenceError
+authority_read h t = of_piece errors.Authority (if_present authority.whole_reading t) >>= λ a. Ok (record h { authority = a })
+
+abbrev pub path_read : Held → List ℕ → Result Held URIReferenceError
+path_read h t = of_piece errors.Path (path.reading t) >>= λ p. Ok (record h { path = Some p })
+
+abbrev pub query_read : Held → Option (List ℕ) → Result Held URIReferenceError
+query_read h t = of_piece errors.Query (if_present query.reading t) >>= λ q. Ok (record h { query = q })
+
+abbrev pub fragment_read : Held → Option (List ℕ) → Result Held URIReferenceError
+fragment_read h t = of_piece errors.Fragment (if_present fragment.reading t) >>= λ f. Ok (record h { fragment = f })
+
+-- the reference of these parts with this path, or why there is none; first of all a path is needed
+abbrev pub built_with : Held → Option PathParts → Result Parts URIReferenceError
+built_with h None = Err errors.MissingPath
+built_with h (Some p) = of_parts (record { scheme = h.scheme; authority = h.authority; path = p; query = h.query; fragment = h.fragment })
+
+abbrev pub built : Held → Result Parts URIReferenceError
+built h = built_with h h.path

@@ -1,0 +1,3 @@
+//! What the crate above builds on. Users have no need of it.
+
+pub use crate::uri_reference::resolve::resolve;

@@ -1,0 +1,124 @@
+//! Normal forms of references: RFC 3986, section 6.2.2.
+ghost use Rattle.std.specs.Prelude.{◌≡◌, ◌↔◌, IsTrue, IsOk, IfOk, OnOk, OnErr, bytes_eq};
+ghost use Rattle.std.specs.Option.{option_eq, option_map};
+ghost use Rattle.uriparse_authority.specs.Authority as authorities;
+ghost use Rattle.uriparse_authority.specs.Normal.{canonical_authority};
+ghost use Rattle.uriparse_scheme.specs.Scheme as schemes;
+ghost use Rattle.uriparse_reference.specs.Reference.{Valid, print};
+ghost use Rattle.uriparse_reference.specs.Normal.{AreCopiesIf, is_normal, normal};
+
+use super::URIReference;
+use std::alloc::{AllocError, Global};
+use uriparse_authority::authority::Authority;
+use uriparse_authority::parts as authority;
+use uriparse_authority::parts::CanonicalCopies;
+use uriparse_path::parts::{is_normal_path, normalize_path};
+use uriparse_scheme::parts as scheme;
+use uriparse_scheme::scheme::Scheme;
+use uriparse_text::parts::{canonical_copy, is_canonical_part, put_copy};
+
+/// Whether the scheme has its canonical spelling, if there is one.
+fn is_canonical_scheme(scheme: &Option<Scheme<'_>>) -> bool
+    ensures { result ≡ option_eq bytes_eq (option_map schemes.canonical_text scheme.now) (option_map schemes.text scheme.now) }
+{
+    match scheme {
+        Some(scheme) => scheme.is_normalized(),
+        None => true,
+    }
+}
+
+/// Whether the authority has its canonical spelling, if there is one.
+fn is_canonical_authority(authority: &Option<Authority<'_>>) -> bool
+    ensures { result ≡ option_eq bytes_eq (option_map authorities.canonical_text authority.now) (option_map authorities.print authority.now) }
+{
+    match authority {
+        Some(authority) => authority.is_normalized(),
+        None => true,
+    }
+}
+
+/// Copies of the parts of the authority that aren't canonical, if there is one. Wants memory for those
+/// alone.
+fn authority_copies(
+    alloc: Global,
+    authority: &Option<Authority<'_>>,
+) -> Result<Option<CanonicalCopies>, AllocError>
+    ensures copies { IfOk result (λ copies. AreCopiesIf copies authority.now) }
+    ensures takes_no_memory { option_map canonical_authority authority.now ≡ authority.now → IsOk result }
+{
+    match authority {
+        Some(authority) => Ok(Some(authority::canonical_copies(alloc, authority)?)),
+        None => Ok(None),
+    }
+}
+
+/// Puts the copies in the places of the authority's parts, if there is one.
+fn put_authority(authority: &mut Option<Authority<'_>>, copies: Option<CanonicalCopies>)
+    requires { AreCopiesIf copies authority.old }
+    ensures { authority.new ≡ option_map canonical_authority authority.old }
+{
+    if let Some(authority) = authority {
+        if let Some(copies) = copies {
+            authority::put_copies(authority, copies);
+        }
+    }
+}
+
+impl<'r> URIReference<'r> {
+    /// Whether each part has the text of its normal form.
+    fn is_normal(&self) -> bool
+        ensures test { result ≡ is_normal self.now }
+        ensures valid { Valid self.now }
+    {
+        is_canonical_scheme(&self.scheme)
+            && is_canonical_authority(&self.authority)
+            && is_normal_path(&self.path, self.scheme.is_none(), self.authority.is_none())
+            && is_canonical_part(&self.query)
+            && is_canonical_part(&self.fragment)
+    }
+
+    /// Whether the reference's text is that of its normal form. Then it is that form, part for part.
+    /// Takes no memory.
+    pub fn is_normalized(&self) -> bool
+        ensures text { IsTrue result ↔ (print (normal self.now) ≡ print self.now) }
+        ensures form { IsTrue result → normal self.now ≡ self.now }
+    {
+        self.is_normal()
+    }
+
+    /// Brings the reference into its normal form: RFC 3986, section 6.2.2. Each text gets its canonical
+    /// spelling; a name stays a name, also where it spells an IPv4 address then. The path gets its normal
+    /// form: that of a path which a base comes before exactly where there is no scheme. Where there is
+    /// no authority and the path's text would begin with two slashes then, a `.` stands in front, so that
+    /// it begins with `/.//`. A second call changes nothing.
+    ///
+    /// Memory is wanted only for the texts that aren't canonical. All of them are copied before one is
+    /// put in place, so where there is no memory, the reference is unchanged.
+    ///
+    /// ```
+    /// let mut reference = URIReference::try_from_str(alloc, "HTTP://H/a/../%7eb")?;
+    /// reference.normalize(alloc)?;
+    /// assert_eq!(reference.to_string(alloc)?, "http://h/~b");
+    /// ```
+    pub fn normalize(&mut self, alloc: Global) -> Result<(), AllocError>
+        ensures ok { OnOk result (self.new ≡ normal self.old) }
+        ensures err { OnErr result (self.new ≡ self.old) }
+        ensures takes_no_memory { print (normal self.old) ≡ print self.old → IsOk result }
+    {
+        let query = canonical_copy(alloc, &self.query)?;
+        let fragment = canonical_copy(alloc, &self.fragment)?;
+        let scheme = scheme::canonical_copy(alloc, &self.scheme)?;
+        let authority = authority_copies(alloc, &self.authority)?;
+        normalize_path(
+            &mut self.path,
+            alloc,
+            self.scheme.is_none(),
+            self.authority.is_none(),
+        )?;
+        scheme::put_copy(&mut self.scheme, scheme);
+        put_authority(&mut self.authority, authority);
+        put_copy(&mut self.query, query);
+        put_copy(&mut self.fragment, fragment);
+        Ok(())
+    }
+}

@@ -1,0 +1,191 @@
+//! The target of a reference behind a base: RFC 3986, section 5.2.
+ghost use Rattle.std.specs.Prelude.{◌≡◌, ◌||◌, Err, IfOk, IsSome, MatchOption, MatchResult, Ok, false, if◌then◌else◌, is_some, not, option_copied};
+ghost use Rattle.std.specs.Option.{option_or};
+ghost use Rattle.uriparse_text.specs.Readings.{IsUnless};
+ghost use Rattle.uriparse_path.specs.Dots.{without_dots};
+ghost use Rattle.uriparse_path.specs.Edits.{shield};
+ghost use Rattle.uriparse_path.specs.Path.{hides_root, text};
+ghost use Rattle.uriparse_path.specs.declared.path.error.PathError.TheVariants as paths;
+ghost use Rattle.uriparse_reference.specs.declared.uri_reference.error.URIReferenceError.TheVariants as errors;
+ghost use Rattle.uriparse_reference.specs.Reference.{Valid};
+ghost use Rattle.uriparse_reference.specs.Target.{is_empty, target};
+
+use super::URIReference;
+use super::error::URIReferenceError;
+use std::alloc::Global;
+use uriparse_authority::authority::Authority;
+use uriparse_path::parts::{merged_path, remove_dots};
+use uriparse_path::path::{Path, PathError};
+use uriparse_scheme::scheme::Scheme;
+use uriparse_text::fragment::Fragment;
+use uriparse_text::query::Query;
+
+/// The same scheme, if there is one, which borrows this one's text.
+fn borrowed_scheme<'r>(scheme: Option<&'r Scheme<'_>>) -> Option<Scheme<'r>>
+    ensures { result ≡ option_copied scheme.entry }
+{
+    match scheme {
+        Some(scheme) => Some(scheme.as_borrowed()),
+        None => None,
+    }
+}
+
+/// The same authority, if there is one, which borrows this one's texts.
+fn borrowed_authority<'r>(authority: Option<&'r Authority<'_>>) -> Option<Authority<'r>>
+    ensures { result ≡ option_copied authority.entry }
+{
+    match authority {
+        Some(authority) => Some(authority.as_borrowed()),
+        None => None,
+    }
+}
+
+/// The same query, if there is one, which borrows this one's text.
+fn borrowed_query<'r>(query: Option<&'r Query<'_>>) -> Option<Query<'r>>
+    ensures { result ≡ option_copied query.entry }
+{
+    match query {
+        Some(query) => Some(query.as_borrowed()),
+        None => None,
+    }
+}
+
+/// The same fragment, if there is one, which borrows this one's text.
+fn borrowed_fragment<'r>(fragment: Option<&'r Fragment<'_>>) -> Option<Fragment<'r>>
+    ensures { result ≡ option_copied fragment.entry }
+{
+    match fragment {
+        Some(fragment) => Some(fragment.as_borrowed()),
+        None => None,
+    }
+}
+
+/// Whether the path's text is empty.
+fn is_empty(path: &Path<'_>) -> bool
+    ensures { result ≡ is_empty (text path.now) }
+{
+    match path.segments() {
+        [only] => path.is_relative() && only.as_bytes().is_empty(),
+        _ => false,
+    }
+}
+
+/// Whether the reference has a scheme or an authority. Then it takes at most the scheme of a base.
+fn has_front(reference: &URIReference<'_>) -> bool
+    ensures { result ≡ (is_some reference.now.scheme || is_some reference.now.authority) }
+{
+    reference.scheme().is_some() || reference.authority().is_some()
+}
+
+/// The scheme of the reference, else of the base.
+fn target_scheme<'r>(
+    base: &'r URIReference<'_>,
+    reference: &'r URIReference<'_>,
+) -> Option<Scheme<'r>>
+    ensures { result ≡ option_or reference.now.scheme base.now.scheme }
+{
+    match reference.scheme() {
+        Some(scheme) => Some(scheme.as_borrowed()),
+        None => borrowed_scheme(base.scheme()),
+    }
+}
+
+/// The authority of the reference, or of the base where the reference has neither scheme nor
+/// authority.
+fn target_authority<'r>(
+    base: &'r URIReference<'_>,
+    reference: &'r URIReference<'_>,
+) -> Option<Authority<'r>>
+    ensures { result ≡ (if is_some reference.now.scheme || is_some reference.now.authority then reference.now.authority else base.now.authority) }
+{
+    if has_front(reference) {
+        return borrowed_authority(reference.authority());
+    }
+    borrowed_authority(base.authority())
+}
+
+/// The query of the reference, or of the base where the reference has nothing but a fragment.
+fn target_query<'r>(
+    base: &'r URIReference<'_>,
+    reference: &'r URIReference<'_>,
+) -> Option<Query<'r>>
+    ensures { result ≡ (if (is_some reference.now.scheme || is_some reference.now.authority) || not (is_empty (text reference.now.path)) then reference.now.query else option_or reference.now.query base.now.query) }
+{
+    if has_front(reference) || !is_empty(reference.path()) {
+        return borrowed_query(reference.query());
+    }
+    match reference.query() {
+        Some(query) => Some(query.as_borrowed()),
+        None => borrowed_query(base.query()),
+    }
+}
+
+/// A path without its dot segments, as it stands behind an authority or where there is none. It
+/// borrows the texts of this one; room for the list is asked for once.
+fn path_without_dots<'r>(
+    alloc: Global,
+    path: &'r Path<'_>,
+    has_authority: bool,
+) -> Result<Path<'r>, PathError>
+    requires { has_authority ≡ false → hides_root path.now.segments ≡ false }
+    ensures { MatchResult result (λ p. p ≡ (if has_authority then without_dots path.now else shield (without_dots path.now))) (λ e. e ≡ paths.OutOfMemory) }
+{
+    let mut copy = path.to_borrowed(alloc)?;
+    remove_dots(&mut copy, !has_authority);
+    Ok(copy)
+}
+
+/// The path of the target.
+fn target_path<'r>(
+    alloc: Global,
+    base: &'r URIReference<'_>,
+    reference: &'r URIReference<'_>,
+) -> Result<Path<'r>, PathError>
+    ensures answer { MatchOption (target base.now reference.now) (result ≡ Err paths.ExceededMaximumLength) (λ t. IsUnless paths.OutOfMemory result (Ok t.path)) }
+    ensures valid { Valid base.now × Valid reference.now }
+{
+    let own = reference.path();
+    let inherited = base.path();
+    if has_front(reference) {
+        return path_without_dots(alloc, own, reference.authority().is_some());
+    }
+    if is_empty(own) {
+        return Ok(inherited.to_borrowed(alloc)?);
+    }
+    let has_authority = base.authority().is_some();
+    if own.is_absolute() {
+        return path_without_dots(alloc, own, has_authority);
+    }
+    let mut merged = merged_path(alloc, inherited, own)?;
+    remove_dots(&mut merged, !has_authority);
+    Ok(merged)
+}
+
+/// The target of a reference behind a base that has a scheme, which borrows the texts of both.
+/// Nothing is normalised but that dot segments are removed where section 5.2.2 says so; where no
+/// authority stands before a path that would begin with two slashes, a `.` stands in front of it.
+///
+/// [`Path`](URIReferenceError::Path) with
+/// [`ExceededMaximumLength`](PathError::ExceededMaximumLength) is answered where paths are merged and
+/// have more segments together than a path may have, whatever memory there is. Else room for the
+/// list of segments is asked for once; where there is none, it is
+/// [`OutOfMemory`](PathError::OutOfMemory).
+pub fn resolve<'r>(
+    alloc: Global,
+    base: &'r URIReference<'_>,
+    reference: &'r URIReference<'_>,
+) -> Result<URIReference<'r>, URIReferenceError>
+    requires { IsSome base.now.scheme }
+    ensures scheme { IfOk result (λ t. IsSome t.scheme) }
+    ensures valid { Valid base.now × Valid reference.now }
+    ensures answer { MatchOption (target base.now reference.now) (result ≡ Err (errors.Path paths.ExceededMaximumLength)) (λ t. IsUnless (errors.Path paths.OutOfMemory) result (Ok t)) }
+{
+    let path = target_path(alloc, base, reference)?;
+    Ok(URIReference {
+        scheme: target_scheme(base, reference),
+        authority: target_authority(base, reference),
+        path,
+        query: target_query(base, reference),
+        fragment: borrowed_fragment(reference.fragment()),
+    })
+}
