@@ -68,6 +68,28 @@ fn read_change<'w>(alloc: Global, change: Change<'w>) -> Result<Edit<'w>, Failur
     })
 }
 
+/// Reads the edits' values, from the left.
+fn read_changes<'w>(alloc: Global, changes: &[Change<'w>]) -> Result<Vec<Edit<'w>>, Failure> {
+    let mut edits = Vec::with_capacity(alloc, changes.len())?;
+    for change in changes {
+        edits.push(read_change(alloc, *change)?)?;
+    }
+    Ok(edits)
+}
+
+/// Makes the edits, whose values are read first.
+fn make_changes<'w>(
+    alloc: Global,
+    reference: &mut URIReference<'w>,
+    changes: &[Change<'w>],
+) -> Result<(), Failure> {
+    let edits = read_changes(alloc, changes)?;
+    match reference.apply_all(alloc, edits) {
+        Ok(()) => Ok(()),
+        Err((index, refusal)) => Err(Failure::Edit { index, refusal }),
+    }
+}
+
 /// Prints the reference with all edits made. The words are looked at first, then the text is read,
 /// then the values.
 pub fn edit<O: Write>(
@@ -78,13 +100,7 @@ pub fn edit<O: Write>(
 ) -> Result<(), Failure> {
     let changes = changes(alloc, words)?;
     let mut reference = URIReference::try_from_str(alloc, text)?;
-    let mut edits = Vec::with_capacity(alloc, changes.len())?;
-    for change in changes {
-        edits.push(read_change(alloc, change)?)?;
-    }
-    if let Err((index, refusal)) = reference.apply_all(alloc, edits) {
-        return Err(Failure::Edit { index, refusal });
-    }
+    make_changes(alloc, &mut reference, &changes)?;
     writeln!(out, "{reference}")?;
     Ok(())
 }

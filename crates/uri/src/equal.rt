@@ -3,13 +3,21 @@
 use crate::failure::Failure;
 use std::alloc::Global;
 use std::io::Write;
-use uriparse::URIReference;
+use uriparse::{URIReference, URIReferenceError};
+
+/// Whether the text is a reference that equals this one.
+fn equals_text(
+    alloc: Global,
+    reference: &URIReference<'_>,
+    text: &str,
+) -> Result<bool, URIReferenceError> {
+    Ok(*reference == URIReference::try_from_str(alloc, text)?)
+}
 
 /// Prints whether the references are equal.
 pub fn equal<O: Write>(alloc: Global, left: &str, right: &str, out: &mut O) -> Result<(), Failure> {
     let left = URIReference::try_from_str(alloc, left)?;
-    let right = URIReference::try_from_str(alloc, right)?;
-    let verdict = if left == right { "equal" } else { "different" };
-    writeln!(out, "{verdict}")?;
+    let is_equal = equals_text(alloc, &left, right)?;
+    writeln!(out, "{}", if is_equal { "equal" } else { "different" })?;
     Ok(())
 }

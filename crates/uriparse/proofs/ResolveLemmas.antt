@@ -1,11 +1,14 @@
 -- What resolving a reference tells of a URI's refusals.
-use Rattle.std.proofs.Common.{◌≡◌, Option, Some, None, Ok, Err, inl, inr, refl, sym, ap, ◌∙◌}
-use Rattle.std.specs.Prelude.{Result, MatchOption}
+use Rattle.std.proofs.Common.{◌≡◌, true, Option, Some, None, Ok, Err, inl, inr, refl, sym, ap, ◌∙◌}
+use Rattle.std.specs.Prelude.{Result, MatchOption, is_some}
 use Rattle.uriparse_text.specs.Readings.{IsUnless}
 use Rattle.uriparse_path.specs.declared.path.error.PathError.TheVariants as paths
 use Rattle.uriparse_reference.specs.declared.uri_reference.error.URIReferenceError.{URIReferenceError}
 use Rattle.uriparse_reference.specs.declared.uri_reference.error.URIReferenceError.TheVariants as references
-use Rattle.uriparse_reference.specs.Reference.{Parts}
+use Rattle.uriparse_reference.specs.Reference.{Parts, Valid}
+use Rattle.uriparse_reference.specs.Normal.{normal}
+use Rattle.uriparse_reference.specs.Target.{MergesAlike, is_merged, target}
+use Rattle.uriparse_reference.proofs.CommutationLemmas.{commutes}
 use Rattle.uriparse.specs.declared.uri.error.URIError.{URIError}
 use Rattle.uriparse.specs.declared.uri.error.URIError.TheVariants as errors
 use Rattle.uriparse.specs.Uri.{told}
@@ -24,3 +27,15 @@ refusal_told (Some t) e d k (inl h) = absurd (cc)
 refusal_told (Some t) e d k (inr h) =
     let same : e ≡ references.Path paths.OutOfMemory = cc in
     inr (ap Err (k ∙ ap told same))
+
+-- the target that is answered
+answered : (o : Option Parts) (t : Parts) → Answers (references.Path paths.ExceededMaximumLength) (references.Path paths.OutOfMemory) o (Ok t) → o ≡ Some t
+answered None t h = absurd (cc)
+answered (Some u) t (inl h) = let same : t ≡ u = cc in ap Some (sym same)
+answered (Some u) t (inr h) = absurd (cc)
+
+-- the law of commutation, of the target that is answered
+pub commutes_answered : (b r t : Parts) → Valid b → Valid r → is_some b.scheme ≡ true
+    → Answers (references.Path paths.ExceededMaximumLength) (references.Path paths.OutOfMemory) (target b r) (Ok t)
+    → (is_merged r ≡ true → MergesAlike b r) → (u : Parts) × (target (normal b) (normal r) ≡ Some u) × (normal t ≡ normal u)
+commutes_answered b r t v w s h m = commutes b r t v w s m (answered (target b r) t h)

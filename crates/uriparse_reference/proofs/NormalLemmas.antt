@@ -269,15 +269,15 @@ placed_normal s a p h v w e f g = g ∙ ap (λ u. cond w (shield (pnormal p u)) 
     by_authority None = refl
     by_authority (Some a) = refl
 
-pub made_normal : (p : Parts) (s : Option Scheme) (a : Option AuthorityParts) (h : PathParts) (q f : Option (List ℕ)) → Valid p
+pub made_is : (p : Parts) (s : Option Scheme) (a : Option AuthorityParts) (h : PathParts) (q f : Option (List ℕ))
     → s ≡ (normal p).scheme → a ≡ (normal p).authority → h ≡ (normal p).path → q ≡ (normal p).query → f ≡ (normal p).fragment
-    → Valid (record { scheme = s; authority = a; path = h; query = q; fragment = f })
-made_normal p s a h q f v es ea eh eq ef =
-    subst (λ u. Valid (build u a h q f)) (sym es)
-    (subst (λ u. Valid (build (normal p).scheme u h q f)) (sym ea)
-    (subst (λ u. Valid (build (normal p).scheme (normal p).authority u q f)) (sym eh)
-    (subst (λ u. Valid (build (normal p).scheme (normal p).authority (normal p).path u f)) (sym eq)
-    (subst (λ u. Valid (build (normal p).scheme (normal p).authority (normal p).path (normal p).query u)) (sym ef) (normal_valid p v)))))
+    → record { scheme = s; authority = a; path = h; query = q; fragment = f } ≡ normal p
+made_is p s a h q f es ea eh eq ef =
+    ap (λ u. build u a h q f) es
+    ∙ ap (λ u. build (normal p).scheme u h q f) ea
+    ∙ ap (λ u. build (normal p).scheme (normal p).authority u q f) eh
+    ∙ ap (λ u. build (normal p).scheme (normal p).authority (normal p).path u f) eq
+    ∙ ap (λ u. build (normal p).scheme (normal p).authority (normal p).path (normal p).query u) ef
   where
     build : Option Scheme → Option AuthorityParts → PathParts → Option (List ℕ) → Option (List ℕ) → Parts
     build s a h q f = record { scheme = s; authority = a; path = h; query = q; fragment = f }

@@ -7,6 +7,8 @@ mod answer;
 #[cfg(test)]
 mod authorities;
 #[cfg(test)]
+mod builders;
+#[cfg(test)]
 mod component;
 #[cfg(test)]
 mod components;
@@ -17,6 +19,8 @@ mod every_byte;
 mod hashing;
 #[cfg(test)]
 mod hosts;
+#[cfg(test)]
+mod kinds;
 #[cfg(test)]
 mod limits;
 #[cfg(test)]
@@ -34,6 +38,8 @@ mod references;
 #[cfg(test)]
 mod refusals;
 #[cfg(test)]
+mod relatives;
+#[cfg(test)]
 mod resolutions;
 #[cfg(test)]
 mod rows;
@@ -41,5 +47,7 @@ mod rows;
 mod scheme_rows;
 #[cfg(test)]
 mod schemes;
+#[cfg(test)]
+mod uris;
 #[cfg(test)]
 mod users;

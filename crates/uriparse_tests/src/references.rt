@@ -26,7 +26,7 @@ pub fn told(alloc: Global, reference: &URIReference<'_>) -> Answer {
 }
 
 /// Each part behind its name.
-fn listed(alloc: Global, reference: &URIReference<'_>) -> Answer {
+pub fn listed(alloc: Global, reference: &URIReference<'_>) -> Answer {
     let mut text = String::new(alloc);
     add(&mut text, "scheme", reference.scheme())?;
     if let Some(authority) = reference.authority() {

@@ -1,60 +1,44 @@
 //! References resolved behind a base.
 
 use crate::answer::{Answer, printed, said, word};
-use crate::references::{refused, told};
+use crate::references::refused;
+use crate::uris::{made_uri, uri_refused};
 use std::alloc::Global;
-use uriparse_reference::parts::resolve;
-use uriparse_reference::uri_reference::{URIReference, URIReferenceError};
+use uriparse::{URI, URIError, URIReference};
 
 /// The base of RFC 3986, section 5.4.
 const RFC_BASE: &str = "http://a/b/c/d;p?q";
 
-/// The target, or why there is none.
-type Resolved<'r> = Result<URIReference<'r>, URIReferenceError>;
-
-/// The target's text.
-fn shown(alloc: Global, target: Resolved<'_>) -> Answer {
-    match target {
-        Ok(target) => told(alloc, &target),
-        Err(why) => refused(alloc, why),
-    }
-}
-
 /// How many segments the target's path has.
-fn counted(alloc: Global, target: Resolved<'_>) -> Answer {
+fn counted(alloc: Global, target: Result<URI<'_>, URIError>) -> Answer {
     match target {
         Ok(target) => printed(alloc, target.path().segments().len()),
-        Err(why) => refused(alloc, why),
+        Err(why) => uri_refused(alloc, why),
     }
 }
 
 /// What a command asks of the target.
-fn asked_of(
-    alloc: Global,
-    command: &str,
-    base: &URIReference<'_>,
-    reference: &URIReference<'_>,
-) -> Answer {
-    if base.scheme().is_none() {
-        return said(alloc, "no base");
-    }
-    let target = resolve(alloc, base, reference);
+fn asked_of(alloc: Global, command: &str, base: &URI<'_>, reference: &URIReference<'_>) -> Answer {
     match command {
-        "resolve" | "rfc" => shown(alloc, target),
-        "resolve-segments" => counted(alloc, target),
+        "resolve" | "rfc" => made_uri(alloc, base.resolve(alloc, reference)),
+        "resolve-segments" => counted(alloc, base.resolve(alloc, reference)),
         _ => said(alloc, "no such command"),
+    }
+}
+
+/// The answer to a question about the target of a reference behind this base.
+fn behind(alloc: Global, command: &str, base: &URI<'_>, reference: &str) -> Answer {
+    match URIReference::try_from_str(alloc, reference) {
+        Ok(reference) => asked_of(alloc, command, base, &reference),
+        Err(why) => refused(alloc, why),
     }
 }
 
 /// The answer to a question about the target of a reference behind a base.
 pub fn resolved(alloc: Global, command: &str, base: &str, reference: &str) -> Answer {
-    let base = match URIReference::try_from_str(alloc, base) {
-        Ok(base) => base,
-        Err(why) => return refused(alloc, why),
-    };
-    match URIReference::try_from_str(alloc, reference) {
-        Ok(reference) => asked_of(alloc, command, &base, &reference),
-        Err(why) => refused(alloc, why),
+    match URI::try_from_str(alloc, base) {
+        Ok(base) => behind(alloc, command, &base, reference),
+        Err(why) => uri_refused(alloc, why),
     }
 }
 
@@ -147,5 +131,5 @@ resolve s:/.//a/b c -> s:/.//a/c
 resolve http://u:p@h:8/a?q b -> http://u:p@h:8/b
 resolve HTTP://H/a/%2e/b '' -> http://H/a/%2e/b
 resolve HTTP://H/a/%2e/b c -> http://H/a/c
-resolve a b -> no base
+resolve a b -> not URI
 resolve-segments http://h/a/b/c ../d/e -> 3";

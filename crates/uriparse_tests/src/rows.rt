@@ -6,8 +6,8 @@
 
 use crate::answer::{Answer, said};
 use crate::{
-    authorities, components, hosts, limits, normal_forms, path_edits, paths, reference_edits,
-    references, resolutions, schemes, users,
+    authorities, builders, components, hosts, kinds, limits, normal_forms, path_edits, paths,
+    reference_edits, references, relatives, resolutions, schemes, uris, users,
 };
 use scarce::{Outcome, starve};
 use std::alloc::{AllocError, Global};
@@ -26,10 +26,14 @@ enum Layer {
     ReferenceEdits,
     NormalForms,
     Resolutions,
+    Kinds,
+    Uris,
+    Relatives,
+    Builders,
     Limits,
 }
 
-const LAYERS: [(Layer, &str); 11] = [
+const LAYERS: [(Layer, &str); 15] = [
     (Layer::Components, components::ROWS),
     (Layer::Schemes, schemes::ROWS),
     (Layer::Users, users::ROWS),
@@ -41,6 +45,10 @@ const LAYERS: [(Layer, &str); 11] = [
     (Layer::ReferenceEdits, reference_edits::ROWS),
     (Layer::NormalForms, normal_forms::ROWS),
     (Layer::Resolutions, resolutions::ROWS),
+    (Layer::Kinds, kinds::ROWS),
+    (Layer::Uris, uris::ROWS),
+    (Layer::Relatives, relatives::ROWS),
+    (Layer::Builders, builders::ROWS),
 ];
 
 fn answer(alloc: Global, layer: Layer, asked: &str) -> Answer {
@@ -56,6 +64,10 @@ fn answer(alloc: Global, layer: Layer, asked: &str) -> Answer {
         Layer::ReferenceEdits => reference_edits::answer(alloc, asked),
         Layer::NormalForms => normal_forms::answer(alloc, asked),
         Layer::Resolutions => resolutions::answer(alloc, asked),
+        Layer::Kinds => kinds::answer(alloc, asked),
+        Layer::Uris => uris::answer(alloc, asked),
+        Layer::Relatives => relatives::answer(alloc, asked),
+        Layer::Builders => builders::answer(alloc, asked),
         Layer::Limits => limits::answer(alloc, asked),
     }
 }

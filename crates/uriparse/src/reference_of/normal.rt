@@ -1,6 +1,6 @@
 //! Normal forms of URIs and relative references: RFC 3986, section 6.2.2.
 ghost use Rattle.std.specs.Prelude.{◌≡◌, ◌↔◌, IsTrue, IsOk, OnOk, OnErr};
-ghost use Rattle.uriparse_reference.specs.Reference.{print};
+ghost use Rattle.uriparse_reference.specs.Reference.{Parts, Same, Valid, print};
 ghost use Rattle.uriparse_reference.specs.Normal.{normal};
 
 use super::ReferenceOf;
@@ -26,6 +26,9 @@ impl<'r, K: Kind> ReferenceOf<'r, K> {
         ensures ok { OnOk result (self.new ≡ normal self.old) }
         ensures err { OnErr result (self.new ≡ self.old) }
         ensures takes_no_memory { print (normal self.old) ≡ print self.old → IsOk result }
+
+        // References that are the same get one normal form.
+        ensures equal { OnOk result ((q : Parts) → Valid q → Same self.old q → self.new ≡ normal q) }
     {
         self.reference.normalize(alloc)
     }

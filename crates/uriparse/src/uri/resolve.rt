@@ -1,8 +1,10 @@
 //! The target of a reference behind a base: RFC 3986, section 5.2.
-ghost use Rattle.std.specs.Prelude.{◌≡◌, Err, MatchOption, Ok};
+ghost use Rattle.std.specs.Prelude.{◌≡◌, Err, IfOk, MatchOption, Ok, Some, true};
 ghost use Rattle.uriparse_text.specs.Readings.{IsUnless};
 ghost use Rattle.uriparse_path.specs.declared.path.error.PathError.TheVariants as paths;
-ghost use Rattle.uriparse_reference.specs.Target.{target};
+ghost use Rattle.uriparse_reference.specs.Normal.{normal};
+ghost use Rattle.uriparse_reference.specs.Reference.{Parts, Same, Valid};
+ghost use Rattle.uriparse_reference.specs.Target.{AreSame, MergesAlike, is_merged, target};
 ghost use Rattle.uriparse.specs.declared.uri.error.URIError.TheVariants as errors;
 
 use super::{URI, URIError, WithScheme};
@@ -34,7 +36,15 @@ impl<'u> URI<'u> {
         alloc: Global,
         reference: &'a URIReference<'_>,
     ) -> Result<URI<'a>, URIError>
-        ensures { MatchOption (target self.now reference.now) (result ≡ Err (errors.Path paths.ExceededMaximumLength)) (λ t. IsUnless (errors.Path paths.OutOfMemory) result (Ok t)) }
+        // Section 5.2.2's answer.
+        ensures answer { MatchOption (target self.now reference.now) (result ≡ Err (errors.Path paths.ExceededMaximumLength)) (λ t. IsUnless (errors.Path paths.OutOfMemory) result (Ok t)) }
+
+        // References that are the same have the same target behind bases that are, or both none.
+        ensures equal { (c q : Parts) → Valid c → Valid q → Same self.now c → Same reference.now q → AreSame (target self.now reference.now) (target c q) }
+
+        // The normal forms of both have a target with the same normal form, save where paths merge that
+        // don't merge alike.
+        ensures commutes { IfOk result (λ t. (is_merged reference.now ≡ true → MergesAlike self.now reference.now) → (u : Parts) × (target (normal self.now) (normal reference.now) ≡ Some u) × (normal t ≡ normal u)) }
     {
         match resolve(alloc, &self.reference, reference) {
             Ok(target) => Ok(ReferenceOf::of_checked(target)),

@@ -4,7 +4,7 @@ ghost use Rattle.std.specs.Option.{option_eq, option_map};
 ghost use Rattle.uriparse_authority.specs.Authority as authorities;
 ghost use Rattle.uriparse_authority.specs.Normal.{canonical_authority};
 ghost use Rattle.uriparse_scheme.specs.Scheme as schemes;
-ghost use Rattle.uriparse_reference.specs.Reference.{Valid, print};
+ghost use Rattle.uriparse_reference.specs.Reference.{Parts, Same, Valid, print};
 ghost use Rattle.uriparse_reference.specs.Normal.{AreCopiesIf, is_normal, normal};
 
 use super::URIReference;
@@ -104,6 +104,9 @@ impl<'r> URIReference<'r> {
         ensures ok { OnOk result (self.new ≡ normal self.old) }
         ensures err { OnErr result (self.new ≡ self.old) }
         ensures takes_no_memory { print (normal self.old) ≡ print self.old → IsOk result }
+
+        // References that are the same get one normal form.
+        ensures equal { OnOk result ((q : Parts) → Valid q → Same self.old q → self.new ≡ normal q) }
     {
         let query = canonical_copy(alloc, &self.query)?;
         let fragment = canonical_copy(alloc, &self.fragment)?;

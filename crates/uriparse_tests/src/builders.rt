@@ -1,0 +1,328 @@
+//! Builders of references, URIs and relative references.
+
+use crate::answer::{Answer, said, verdict, word};
+use crate::kinds::made;
+use crate::references::refused;
+use crate::relatives::{made_relative, relative_refused};
+use crate::uris::{made_uri, uri_refused};
+use std::alloc::Global;
+use uriparse::{
+    RelativeReference, RelativeReferenceBuilder, RelativeReferenceError, URI, URIBuilder, URIError,
+    URIReference, URIReferenceBuilder, URIReferenceError,
+};
+
+/// The texts of the parts that a row names. A `-` names none.
+#[derive(Clone, Copy)]
+struct Texts<'t> {
+    scheme: Option<&'t [u8]>,
+    authority: Option<&'t [u8]>,
+    path: Option<&'t [u8]>,
+    query: Option<&'t [u8]>,
+    fragment: Option<&'t [u8]>,
+}
+
+/// The part that a word names.
+fn part(text: &str) -> Option<&[u8]> {
+    match text {
+        "-" => None,
+        text => Some(text.as_bytes()),
+    }
+}
+
+fn split_texts(line: &str) -> Texts<'_> {
+    let (scheme, rest) = word(line);
+    let (authority, rest) = word(rest);
+    let (path, rest) = word(rest);
+    let (query, rest) = word(rest);
+    let (fragment, _) = word(rest);
+    Texts {
+        scheme: part(scheme),
+        authority: part(authority),
+        path: part(path),
+        query: part(query),
+        fragment: part(fragment),
+    }
+}
+
+/// Gives a builder each text.
+fn give<'t>(
+    alloc: Global,
+    builder: &mut URIReferenceBuilder<'t>,
+    texts: Texts<'t>,
+) -> Result<(), URIReferenceError> {
+    builder.try_scheme(texts.scheme)?;
+    builder.try_authority(texts.authority)?;
+    if let Some(path) = texts.path {
+        builder.try_path(alloc, path)?;
+    }
+    builder.try_query(texts.query)?;
+    builder.try_fragment(texts.fragment)
+}
+
+fn give_uri<'t>(
+    alloc: Global,
+    builder: &mut URIBuilder<'t>,
+    texts: Texts<'t>,
+) -> Result<(), URIError> {
+    if let Some(scheme) = texts.scheme {
+        builder.try_scheme(scheme)?;
+    }
+    builder.try_authority(texts.authority)?;
+    if let Some(path) = texts.path {
+        builder.try_path(alloc, path)?;
+    }
+    builder.try_query(texts.query)?;
+    builder.try_fragment(texts.fragment)
+}
+
+fn give_relative<'t>(
+    alloc: Global,
+    builder: &mut RelativeReferenceBuilder<'t>,
+    texts: Texts<'t>,
+) -> Result<(), RelativeReferenceError> {
+    builder.try_authority(texts.authority)?;
+    if let Some(path) = texts.path {
+        builder.try_path(alloc, path)?;
+    }
+    builder.try_query(texts.query)?;
+    builder.try_fragment(texts.fragment)
+}
+
+/// What is built of the texts.
+fn build(alloc: Global, texts: Texts<'_>) -> Answer {
+    let mut builder = URIReference::builder();
+    match give(alloc, &mut builder, texts) {
+        Ok(()) => made(alloc, builder.build()),
+        Err(why) => refused(alloc, why),
+    }
+}
+
+fn build_uri(alloc: Global, texts: Texts<'_>) -> Answer {
+    let mut builder = URI::builder();
+    match give_uri(alloc, &mut builder, texts) {
+        Ok(()) => made_uri(alloc, builder.build()),
+        Err(why) => uri_refused(alloc, why),
+    }
+}
+
+fn build_relative(alloc: Global, texts: Texts<'_>) -> Answer {
+    let mut builder = RelativeReference::builder();
+    match give_relative(alloc, &mut builder, texts) {
+        Ok(()) => made_relative(alloc, builder.build()),
+        Err(why) => relative_refused(alloc, why),
+    }
+}
+
+/// Whether a text that is no such part is refused for each part.
+fn refuses(alloc: Global, builder: &mut URIBuilder<'_>) -> bool {
+    builder.try_scheme(b":").is_err()
+        && builder.try_authority(Some(b"/")).is_err()
+        && builder.try_path(alloc, b" ").is_err()
+        && builder.try_query(Some(b"%")).is_err()
+        && builder.try_fragment(Some(b"#")).is_err()
+}
+
+/// Gives a builder each text, and then texts that it is to refuse.
+fn give_and_refuse<'t>(
+    alloc: Global,
+    builder: &mut URIBuilder<'t>,
+    texts: Texts<'t>,
+) -> Result<(), URIError> {
+    give_uri(alloc, builder, texts)?;
+    if refuses(alloc, builder) {
+        return Ok(());
+    }
+    Err(URIError::NotURI)
+}
+
+/// What is built of the texts after others were refused.
+fn after_refusals(alloc: Global, texts: Texts<'_>) -> Answer {
+    let mut builder = URI::builder();
+    match give_and_refuse(alloc, &mut builder, texts) {
+        Ok(()) => made_uri(alloc, builder.build()),
+        Err(why) => uri_refused(alloc, why),
+    }
+}
+
+/// The reference built again by the plain calls.
+fn by_calls(reference: URIReference<'_>) -> Result<URIReference<'_>, URIReferenceError> {
+    let (scheme, authority, path, query, fragment) = reference.into_parts();
+    let mut builder = URIReferenceBuilder::new();
+    builder.scheme(scheme);
+    builder.authority(authority);
+    builder.path(path);
+    builder.query(query);
+    builder.fragment(fragment);
+    builder.build()
+}
+
+fn uri_by_calls(uri: URI<'_>) -> Result<URI<'_>, URIError> {
+    let (scheme, authority, path, query, fragment) = uri.into_parts();
+    let mut builder = URIBuilder::new();
+    builder.scheme(scheme);
+    builder.authority(authority);
+    builder.path(path);
+    builder.query(query);
+    builder.fragment(fragment);
+    builder.build()
+}
+
+fn relative_by_calls(
+    relative: RelativeReference<'_>,
+) -> Result<RelativeReference<'_>, RelativeReferenceError> {
+    let (authority, path, query, fragment) = relative.into_parts();
+    let mut builder = RelativeReferenceBuilder::new();
+    builder.authority(authority);
+    builder.path(path);
+    builder.query(query);
+    builder.fragment(fragment);
+    builder.build()
+}
+
+/// The reference built again by the calls that hand the builder on.
+fn by_chain(reference: URIReference<'_>) -> Result<URIReference<'_>, URIReferenceError> {
+    let (scheme, authority, path, query, fragment) = reference.into_parts();
+    URIReferenceBuilder::default()
+        .with_scheme(scheme)
+        .with_authority(authority)
+        .with_path(path)
+        .with_query(query)
+        .with_fragment(fragment)
+        .build()
+}
+
+fn uri_by_chain(uri: URI<'_>) -> Result<URI<'_>, URIError> {
+    let (scheme, authority, path, query, fragment) = uri.into_parts();
+    URIBuilder::default()
+        .with_scheme(scheme)
+        .with_authority(authority)
+        .with_path(path)
+        .with_query(query)
+        .with_fragment(fragment)
+        .build()
+}
+
+fn relative_by_chain(
+    relative: RelativeReference<'_>,
+) -> Result<RelativeReference<'_>, RelativeReferenceError> {
+    let (authority, path, query, fragment) = relative.into_parts();
+    RelativeReferenceBuilder::default()
+        .with_authority(authority)
+        .with_path(path)
+        .with_query(query)
+        .with_fragment(fragment)
+        .build()
+}
+
+/// Whether the builders that hold these references' parts are equal.
+fn compare(alloc: Global, left: URIReference<'_>, right: URIReference<'_>) -> Answer {
+    let same = left.into_builder() == right.into_builder();
+    verdict(alloc, &[same])
+}
+
+/// The same, where the second one was read.
+fn compared(
+    alloc: Global,
+    left: URIReference<'_>,
+    right: Result<URIReference<'_>, URIReferenceError>,
+) -> Answer {
+    match right {
+        Ok(right) => compare(alloc, left, right),
+        Err(why) => refused(alloc, why),
+    }
+}
+
+/// What is built of a reference's parts, or the answer to a question about its builder.
+fn of_reference(alloc: Global, command: &str, text: &str, other: &str) -> Answer {
+    match URIReference::try_from_str(alloc, text) {
+        Ok(reference) => match command {
+            "calls" => made(alloc, by_calls(reference)),
+            "chain" => made(alloc, by_chain(reference)),
+            _ => compared(alloc, reference, URIReference::try_from_str(alloc, other)),
+        },
+        Err(why) => refused(alloc, why),
+    }
+}
+
+/// What is built of a URI's parts.
+fn of_uri(alloc: Global, command: &str, text: &str) -> Answer {
+    match URI::try_from_str(alloc, text) {
+        Ok(uri) => match command {
+            "uri-calls" => made_uri(alloc, uri_by_calls(uri)),
+            _ => made_uri(alloc, uri_by_chain(uri)),
+        },
+        Err(why) => uri_refused(alloc, why),
+    }
+}
+
+/// What is built of a relative reference's parts.
+fn of_relative(alloc: Global, command: &str, text: &str) -> Answer {
+    match RelativeReference::try_from_str(alloc, text) {
+        Ok(relative) => match command {
+            "relative-calls" => made_relative(alloc, relative_by_calls(relative)),
+            _ => made_relative(alloc, relative_by_chain(relative)),
+        },
+        Err(why) => relative_refused(alloc, why),
+    }
+}
+
+/// The answer to a question about builders.
+pub fn answer(alloc: Global, asked: &str) -> Answer {
+    let (command, rest) = word(asked);
+    let (text, others) = word(rest);
+    match command {
+        "build" => build(alloc, split_texts(rest)),
+        "build-uri" => build_uri(alloc, split_texts(rest)),
+        "build-relative" => build_relative(alloc, split_texts(rest)),
+        "after-refusals" => after_refusals(alloc, split_texts(rest)),
+        "calls" | "chain" | "builders" => of_reference(alloc, command, text, word(others).0),
+        "uri-calls" | "uri-chain" => of_uri(alloc, command, text),
+        "relative-calls" | "relative-chain" => of_relative(alloc, command, text),
+        _ => said(alloc, "no such command"),
+    }
+}
+
+pub const ROWS: &str = "\
+build HTTP u@h:080 a q f -> http://u@h:80/a?q#f
+build - - '' - - -> ''
+build - - '' '' '' -> ?#
+build - - - q - -> URI reference missing path
+build - - //x - - -> absolute path URI reference starts with two slashes
+build - - a:b - - -> schemeless path URI reference starts with colon segment
+build 1 h a - - -> scheme starts with non-alphabetic character
+build s h/ a - - -> invalid host IPv4 or registered name character
+build s h 'a b' - - -> invalid path character
+build s h a % - -> invalid query percent encoding
+build s h a q # -> invalid fragment character
+build-uri s h a q f -> s://h/a?q#f
+build-uri - - - - - -> missing path
+build-uri - - //x - - -> absolute path URI starts with two slashes
+build-uri - - a:b - - -> missing scheme
+build-uri - h a - - -> missing scheme
+build-uri 1 - a - - -> scheme starts with non-alphabetic character
+build-uri s h:x a - - -> invalid port character
+build-uri s - 'a b' - - -> invalid path character
+build-uri s - a % - -> invalid query percent encoding
+build-uri s - a - # -> invalid fragment character
+build-relative - h a q f -> //h/a?q#f
+build-relative - - - - - -> missing path
+build-relative - - //x - - -> absolute path starts with two slashes
+build-relative - - a:b - - -> relative reference schemeless path starts with colon segment
+build-relative - h:x a - - -> invalid port character
+build-relative - - 'a b' - - -> invalid path character
+build-relative - - a % - -> invalid query percent encoding
+build-relative - - a - # -> invalid fragment character
+after-refusals s h a q f -> s://h/a?q#f
+after-refusals - - a - - -> missing scheme
+after-refusals s - - - - -> missing path
+calls http://u:p@h:8/a/%7e?q#f -> http://u:p@h:8/a/%7e?q#f
+calls '' -> ''
+chain http://u:p@h:8/a/%7e?q#f -> http://u:p@h:8/a/%7e?q#f
+chain ../a -> ../a
+uri-calls http://u:p@h:8/a/%7e?q#f -> http://u:p@h:8/a/%7e?q#f
+uri-chain s:a:b -> s:a:b
+relative-calls //h/a?q#f -> //h/a?q#f
+relative-chain ../a?q -> ../a?q
+builders HTTP://H/%7e http://h/~ -> equal
+builders s:a s:a? -> different
+builders s:a #a -> different";
