@@ -4,6 +4,7 @@
 mod edit;
 mod equal;
 mod failure;
+mod help;
 mod normalize;
 mod parse;
 mod part;
@@ -11,13 +12,20 @@ mod resolve;
 mod run;
 mod tail;
 
-pub use run::run;
+pub use run::{refuse_arguments, run};
 use std::process::ExitCode;
 use std::{env, io};
 
 fn main(rt: HostRuntime) -> io::Result<ExitCode> {
+    let found = match env::args(&rt) {
+        Ok(found) => found,
+        Err(error) => {
+            let status = refuse_arguments(&error, &mut rt.stderr());
+            return Ok(ExitCode::from(status));
+        }
+    };
     let mut args = Vec::new(rt.alloc());
-    for arg in env::args(&rt)?.skip(1) {
+    for arg in found.skip(1) {
         args.push(arg)?;
     }
     let mut words = Vec::new(rt.alloc());

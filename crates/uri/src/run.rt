@@ -1,13 +1,16 @@
 //! The commands, by their words.
+ghost use Rattle.std.specs.Prelude.{◌≡◌};
 
 use crate::edit::edit;
 use crate::equal::equal;
 use crate::failure::Failure;
+use crate::help::help;
 use crate::normalize::normalize;
 use crate::parse::parse;
 use crate::resolve::resolve;
 use crate::tail::tail;
 use std::alloc::Global;
+use std::io;
 use std::io::Write;
 
 /// Runs the command of these words, which come after the program's name, and answers the status:
@@ -25,8 +28,23 @@ pub fn run<O: Write, E: Write>(alloc: Global, words: &[&str], out: &mut O, err: 
     }
 }
 
+/// Says why the program's arguments can't be had, in a line of `err`, and answers the status, 1.
+/// Each has to be UTF-8.
+pub fn refuse_arguments<E: Write>(error: &io::Error, err: &mut E) -> u8
+    ensures { result ≡ 1 }
+{
+    // The status tells of a failure that can't be written either.
+    let _ = match error.kind() {
+        io::ErrorKind::InvalidData => writeln!(err, "an argument is not UTF-8 text"),
+        _ => writeln!(err, "{error}"),
+    };
+    1
+}
+
 fn command<O: Write>(alloc: Global, words: &[&str], out: &mut O) -> Result<(), Failure> {
     match words {
+        ["help"] => help(out),
+        ["--help"] => help(out),
         ["parse", text] => parse(alloc, text, out),
         ["tail", text] => tail(alloc, text, out),
         ["normalize", text] => normalize(alloc, text, out),

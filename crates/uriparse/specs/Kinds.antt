@@ -1,7 +1,7 @@
 -- References of one kind: all have a scheme, or none has one. RFC 3986, section 4.1.
 use Rattle.std.specs.Prelude.{◌≡◌, ℕ, Bool, false, if◌then◌else◌, List, Option, Result, Ok, Err, is_some}
 use Rattle.std.specs.Bool.{beq}
-use Rattle.uriparse_text.specs.Readings.{◌>>=◌, error_of, of_piece}
+use Rattle.uriparse_text.specs.Readings.{◌>>=◌, fault_in, of_piece}
 use Rattle.uriparse_reference.specs.declared.uri_reference.error.URIReferenceError.{URIReferenceError}
 use Rattle.uriparse_reference.specs.Reference.{Parts}
 use Rattle.uriparse_reference.specs.Builder.{Held}
@@ -25,7 +25,7 @@ reading_of has_scheme told other t = told_of told (reading t) >>= of_kind has_sc
 
 -- why a text is refused
 abbrev pub fault_of : {E : Type 0} → Bool → (URIReferenceError → E) → E → List ℕ → Option E
-fault_of has_scheme told other t = error_of (reading_of has_scheme told other t)
+fault_of has_scheme told other t = fault_in (reading_of has_scheme told other t)
 
 -- a builder holds a scheme only where the kind has one
 abbrev pub HoldsKind : Bool → Held → Type 0

@@ -1,5 +1,5 @@
 //! A reference of one kind: what URIs and relative references share.
-ghost use Rattle.std.specs.Prelude.{◌≡◌, ◌⊎◌, IfOk, IfErr, Ok, Err, Some, bytes_eq, is_some, string_bytes};
+ghost use Rattle.std.specs.Prelude.{◌≡◌, ◌⊎◌, IfOk, IfErr, Ok, Err, Some, bytes_eq, fold, is_some, string_bytes};
 ghost use Rattle.std.specs.Bool.{beq};
 ghost use Rattle.std.proofs.Common.{rules};
 ghost use Rattle.std.specs.Ordering.{on};
@@ -7,7 +7,7 @@ ghost use Rattle.std.specs.Cmp.Rules.{comparing, hashing};
 ghost use Rattle.uriparse_text.specs.Readings.{IsUnless};
 ghost use Rattle.uriparse_path.specs.declared.path.error.PathError.TheVariants.{OutOfMemory};
 ghost use Rattle.uriparse_reference.specs.declared.uri_reference.error.URIReferenceError.TheVariants as errors;
-ghost use Rattle.uriparse_reference.specs.Key.{fed, key};
+ghost use Rattle.uriparse_reference.specs.Key.{fed, fed_key, key};
 ghost use Rattle.uriparse_reference.specs.Reading.{early_fault};
 ghost use Rattle.uriparse_reference.specs.Reference.{print};
 ghost use Rattle.uriparse.specs.Kinds.{IsOfKind, fault_of, of_kind, reading_of};
@@ -215,11 +215,14 @@ impl<'r, K: Kind> Eq for ReferenceOf<'r, K> {
 }
 
 impl<'r, K: Kind> Hash for ReferenceOf<'r, K> {
-    ghost hash_input = { λ u. fed (key u) };
+    ghost hash_input = { λ u. fed_key (key u) };
 
     ghost respects_eq = { Prim.search (hashing, rules) };
 
-    fn hash<H: Hasher>(&self, state: &mut H) {
+    fn hash<H: Hasher>(&self, state: &mut H)
+        ensures fed { state.new ≡ fold H.write state.old (fed self.now) }
+        ensures key { state.new ≡ fold H.write state.old (fed_key (key self.now)) }
+    {
         self.reference.hash(state);
     }
 }

@@ -71,7 +71,7 @@ pub type RelativeReference<'r> = ReferenceOf<'r, WithoutScheme>;
 /// ```
 /// let mut builder = RelativeReference::builder();
 /// builder.try_path(alloc, b"a")?;
-/// assert_eq!(builder.build()?.to_string(alloc)?, "a");
+/// assert_eq!(builder.build()?.to_string(alloc)?.as_str(), "a");
 /// ```
 pub type RelativeReferenceBuilder<'b> = BuilderOf<'b, WithoutScheme>;
 

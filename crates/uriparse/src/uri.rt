@@ -63,7 +63,7 @@ impl Kind for WithScheme {
 /// ```
 /// let uri = URI::try_from_str(alloc, "HTTP://h/%7Ea?q#f")?;
 /// assert!(uri.scheme() == &Scheme::HTTP && uri.has_authority());
-/// assert_eq!(uri.into_base_uri().to_string(alloc)?, "http://h/%7Ea?q");
+/// assert_eq!(uri.into_base_uri().to_string(alloc)?.as_str(), "http://h/%7Ea?q");
 /// ```
 pub type URI<'u> = ReferenceOf<'u, WithScheme>;
 
@@ -75,7 +75,7 @@ pub type URI<'u> = ReferenceOf<'u, WithScheme>;
 /// builder.scheme(Scheme::HTTP);
 /// builder.try_authority(Some(b"h"))?;
 /// builder.try_path(alloc, b"a")?;
-/// assert_eq!(builder.build()?.to_string(alloc)?, "http://h/a");
+/// assert_eq!(builder.build()?.to_string(alloc)?.as_str(), "http://h/a");
 /// ```
 pub type URIBuilder<'b> = BuilderOf<'b, WithScheme>;
 

@@ -13,7 +13,7 @@ use Rattle.uriparse_text.specs.Bytes.{slash, colon, question_mark, number_sign, 
 use Rattle.uriparse_text.specs.Canon.{canon, fed_spelling}
 use Rattle.uriparse_text.specs.declared.parts.class.Class.TheVariants as class
 use Rattle.uriparse_text.specs.Cuts.{lacks, none_pass, behind, ahead, before, after, front, rest, up_to, from_first, from_last, up_to_last}
-use Rattle.uriparse_text.specs.Readings.{◌>>=◌, of_piece, if_present, error_of}
+use Rattle.uriparse_text.specs.Readings.{◌>>=◌, of_piece, if_present, fault_in}
 use Rattle.uriparse_text.proofs.CutLemmas.{lacks-append, lacks-behind, before_after, front_rest, before_of, after_of, front_of, up_to-append, from_first-append}
 use Rattle.uriparse_text.proofs.CutLemmas.{cut-whole, from_last-of, up_to_last-of, last-whole, none_of_either, none_of_two}
 use Rattle.uriparse_text.proofs.OptionLemmas.{same_option, fed_option}
@@ -27,11 +27,11 @@ use Rattle.uriparse_authority.specs.Port as port
 use Rattle.uriparse_authority.specs.Authority.{AuthorityParts, userinfo, joined, IsPaired, Spells, Valid, ReadsBack, print, canonical_text, kind, userinfo_text}
 use Rattle.uriparse_authority.specs.Authority.{host_and_port_text, username_in, password_in, username_text, password_text, ends_host, colon_part, cut_port}
 use Rattle.uriparse_authority.specs.Authority.{cut_host, host_text, port_text, reading, ends_authority, rest_error, unless_rest, whole_reading, key, each_alike}
-use Rattle.uriparse_authority.specs.Authority.{fed_pieces, fed}
+use Rattle.uriparse_authority.specs.Authority.{fed, fed_pieces, fed_key}
 use Rattle.uriparse_authority.proofs.UserLemmas.{is_gen_delim, username_lacks, password_lacks, IsUsername-canon, IsPassword-canon}
 use Rattle.uriparse_authority.proofs.PortLemmas.{port_exact, port_printed, port_lacks, decimal_lacks, decimal_of_one_port}
 use Rattle.uriparse_authority.proofs.HostLemmas.{host_exact, host_valid, IsHostText, spelled_host, printed_host, canonical_host, host_text_lacks, no_port}
-use Rattle.uriparse_authority.proofs.HostLemmas.{host_alike, code_kind}
+use Rattle.uriparse_authority.proofs.HostLemmas.{host_alike, code_kind, fed_host}
 
 -- ---- a text that is joined from such pieces is cut into them
 
@@ -415,48 +415,50 @@ tested p q v w = same_from_decides (each_alike p q) (bytes_eq (key p) (key q)) (
 port_value : (n : Option ℕ) → IfSome n port.IsPort → port.value_of (unwrap_or (option_map port.text n) []) ≡ n
 port_value n v = sym (port_back n v).value
 
-fed_cut : (code : ℕ) (t : List ℕ) (u w : Option (List ℕ)) (g : List ℕ) (n : Option (List ℕ)) → IsCutInto t u w g n → fed (code ∷ t) ≡ fed_pieces code u w g n
+fed_cut : (code : ℕ) (t : List ℕ) (u w : Option (List ℕ)) (g : List ℕ) (n : Option (List ℕ)) → IsCutInto t u w g n
+    → fed_key (code ∷ t) ≡ fed_pieces code u w g n
 fed_cut code t u w g n cut =
     ap (λ x. fed_pieces code x (password_text t) (host_text t) (port_text t)) cut.username
     ∙ ap (λ x. fed_pieces code u x (host_text t) (port_text t)) cut.password
     ∙ ap (λ x. fed_pieces code u w x (port_text t)) cut.host
     ∙ ap (λ x. fed_pieces code u w g x) cut.port
 
-fed_parts : (p : AuthorityParts) → Valid p → fed (key p)
-    ≡ option (λ t. fed_spelling (canon t)) p.username
-    ++ (option (λ t. fed_spelling (canon t)) p.password
-    ++ (host.fed (host.key p.host)
-    ++ option u16 p.port))
+-- the key alone tells it
+pub fed_parts : (p : AuthorityParts) → Valid p → fed_key (key p) ≡ fed p
 fed_parts p v =
     fed_cut (host.kind_code (kind p)) (canonical_text p) (option_map canon p.username) (option_map canon p.password) (host.canonical_text p.host)
     (option_map port.text p.port) (canonical_cut p v)
-    ∙ rw (fed_option canon fed_spelling p.username, fed_option canon fed_spelling p.password, port_value p.port v.is_port) refl
+    ∙ rw (fed_option canon fed_spelling p.username, fed_option canon fed_spelling p.password, fed_host p.host v.is_host, port_value p.port v.is_port) refl
+
+pub feeds_key : {S : Type 0} (write : S → List ℕ → S) (s t : S) (p : AuthorityParts) → Valid p → t ≡ fold write s (fed p)
+    → t ≡ fold write s (fed_key (key p))
+feeds_key write s t p v e = e ∙ sym (ap (fold write s) (fed_parts p v))
 
 -- the parts are fed one after another
-pub fed_by_turns : {S : Type 0} (write : S → List ℕ → S) (s₀ s₁ s₂ s₃ s₄ : S) (p : AuthorityParts) → Valid p
+pub fed_by_turns : {S : Type 0} (write : S → List ℕ → S) (s₀ s₁ s₂ s₃ s₄ : S) (p : AuthorityParts)
     → s₁ ≡ fold write s₀ (option (λ t. fed_spelling (canon t)) p.username)
     → s₂ ≡ fold write s₁ (option (λ t. fed_spelling (canon t)) p.password)
-    → s₃ ≡ fold write s₂ (host.fed (host.key p.host))
+    → s₃ ≡ fold write s₂ (host.fed p.host)
     → s₄ ≡ fold write s₃ (option u16 p.port)
-    → s₄ ≡ fold write s₀ (fed (key p))
-fed_by_turns write s₀ s₁ s₂ s₃ s₄ p v a b c d =
+    → s₄ ≡ fold write s₀ (fed p)
+fed_by_turns write s₀ s₁ s₂ s₃ s₄ p a b c d =
     let u : HashWrites = option (λ t. fed_spelling (canon t)) p.username in
     let w : HashWrites = option (λ t. fed_spelling (canon t)) p.password in
-    let g : HashWrites = host.fed (host.key p.host) in
+    let g : HashWrites = host.fed p.host in
     let n : HashWrites = option u16 p.port in
     let all : fold write s₀ (u ++ (w ++ (g ++ n))) ≡ fold write (fold write (fold write (fold write s₀ u) w) g) n =
     fold-append write s₀ u (w ++ (g ++ n)) ∙ fold-append write (fold write s₀ u) w (g ++ n) ∙ fold-append write (fold write (fold write s₀ u) w) g n in
-    rw (d, c, b, a) (sym all ∙ sym (ap (fold write s₀) (fed_parts p v)))
+    rw (d, c, b, a) (sym all)
 
 -- ---- laws of the definitions
 
 pub one_reading : (a : List ℕ) (p q : AuthorityParts) → Spells a p → Spells a q → p ≡ q
 one_reading a p q h k = let e = again a p h in let f = again a q k in cc
 
-pub none_exactly : (a : List ℕ) → (error_of (reading a) ≡ None) ↔ ((p : AuthorityParts) × Spells a p)
+pub none_exactly : (a : List ℕ) → (fault_in (reading a) ≡ None) ↔ ((p : AuthorityParts) × Spells a p)
 none_exactly a = (
   (λ h. let r = none_or (reading a) h in (r.0, found a r.0 r.1)),
-  (λ w. ap error_of (again a w.0 w.1)),
+  (λ w. ap fault_in (again a w.0 w.1)),
 )
 
 pub same_key : (p q : AuthorityParts) → (key p ≡ key q) ↔ ((canonical_text p ≡ canonical_text q) × (kind p ≡ kind q))

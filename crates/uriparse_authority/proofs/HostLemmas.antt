@@ -21,9 +21,9 @@ use Rattle.uriparse_text.proofs.CutLemmas.{lacks_by, lacks-append, from_last-non
 use Rattle.uriparse_text.specs.Readings.{reading_in}
 use Rattle.uriparse_text.proofs.ReadingLemmas.{IsExact, exact_in}
 use Rattle.uriparse_text.proofs.AddressLemmas.{ipv4_reading-spelled, ipv4_reading-found, ipv6_reading-spelled, ipv6_reading-found, SpellsIpv4-ipv4_text}
-use Rattle.uriparse_text.proofs.AddressLemmas.{SpellsIpv6-ipv6_text, ipv4_reading-ipv4_text, ipv6_reading-ipv6_text, ipv4_text-injective, ipv6_text-injective}
-use Rattle.uriparse_text.proofs.AddressBytes.{SpellsIpv6-bytes, IsIn-SpellsIpv4}
-use Rattle.uriparse_text.proofs.AddressFit.{IsSegments-SpellsIpv6}
+use Rattle.uriparse_text.proofs.AddressLemmas.{SpellsIpv6-ipv6_text, ipv4_text-injective, ipv6_text-injective}
+use Rattle.uriparse_text.proofs.AddressByteLemmas.{SpellsIpv6-bytes, IsIn-SpellsIpv4}
+use Rattle.uriparse_text.proofs.AddressFitLemmas.{IsSegments-SpellsIpv6}
 use Rattle.uriparse_text.proofs.OctetLemmas.{IsOctets-SpellsIpv4}
 use Rattle.uriparse_authority.specs.Name.{IsName}
 use Rattle.uriparse_authority.specs.Name as name
@@ -33,7 +33,7 @@ use Rattle.uriparse_authority.specs.declared.authority.error.HostError.TheVarian
 use Rattle.uriparse_authority.specs.declared.authority.error.HostError.TheVariants.{InvalidIPv6Format}
 use Rattle.uriparse_authority.specs.Host.{Kind, kind, kind_code, bracketed, Spells, text, canonical_text, Valid, ReadsBack, IsHiddenAddress, closed}
 use Rattle.uriparse_authority.specs.Host.{in_brackets, begins_future, future_error, literal_reading, address_or_name, name_reading, bracket_reading, reading}
-use Rattle.uriparse_authority.specs.Host.{key, fed}
+use Rattle.uriparse_authority.specs.Host.{key, fed, fed_read, fed_key}
 use Rattle.uriparse_authority.specs.Authority.{ends_host, colon_part, cut_port}
 use Rattle.uriparse_authority.proofs.UserLemmas.{is_gen_delim, username_lacks}
 
@@ -295,22 +295,23 @@ same_host g h = (
 
 -- ---- what a hasher is fed: the kind, and then an address as its numbers
 
-pub fed_ipv4 : (a : List ℕ) → IsOctets a → fed (key (IPv4Address a)) ≡ u8 4 ++ slice u8 a
-fed_ipv4 a v = rw (ipv4_reading-ipv4_text a v) refl
+-- the key alone tells it
+pub fed_host : (h : Host) → Valid h → fed_key (key h) ≡ fed h
+fed_host (IPv4Address a) v = ap fed_read (host_exact.again (ipv4_text a) (IPv4Address a) (SpellsIpv4-ipv4_text a v))
+fed_host (IPv6Address a) v =
+    ap fed_read (host_exact.again (bracketed (ipv6_text a)) (IPv6Address a) (ipv6_text a, refl, SpellsIpv6-ipv6_text a v))
+fed_host (RegisteredName n) v = refl
 
-pub fed_ipv6 : (a : List ℕ) → IsSegments a → fed (key (IPv6Address a)) ≡ u8 6 ++ slice u16 a
-fed_ipv6 a v = rw (closed-bracket (ipv6_text a), ipv6_reading-ipv6_text a v) refl
-
-feeds : {S : Type 0} (write : S → List ℕ → S) (s t u : S) (h : Host) (code : ℕ) (numbers : HashWrites) → fed (key h) ≡ u8 code ++ numbers
-    → t ≡ write s (code ∷ []) → u ≡ fold write t numbers → u ≡ fold write s (fed (key h))
+feeds : {S : Type 0} (write : S → List ℕ → S) (s t u : S) (h : Host) (code : ℕ) (numbers : HashWrites) → fed_key (key h) ≡ u8 code ++ numbers
+    → t ≡ write s (code ∷ []) → u ≡ fold write t numbers → u ≡ fold write s (fed_key (key h))
 feeds write s t u h code numbers i e f = f ∙ ap (λ y. fold write y numbers) e ∙ sym (ap (fold write s) i)
 
 pub feeds_ipv4 : {S : Type 0} (write : S → List ℕ → S) (s t u : S) (h : Host) (a x : List ℕ) → h ≡ IPv4Address a → IsOctets a → x ≡ a → t ≡ write s (4 ∷ [])
-    → u ≡ fold write t (slice u8 x) → u ≡ fold write s (fed (key h))
+    → u ≡ fold write t (slice u8 x) → u ≡ fold write s (fed_key (key h))
 feeds_ipv4 write s t u h a x i v j e f =
-    feeds write s t u h 4 (slice u8 a) (ap (λ g. fed (key g)) i ∙ fed_ipv4 a v) e (f ∙ ap (λ y. fold write t (slice u8 y)) j)
+    feeds write s t u h 4 (slice u8 a) (ap (λ g. fed_key (key g)) i ∙ fed_host (IPv4Address a) v) e (f ∙ ap (λ y. fold write t (slice u8 y)) j)
 
 pub feeds_ipv6 : {S : Type 0} (write : S → List ℕ → S) (s t u : S) (h : Host) (a x : List ℕ) → h ≡ IPv6Address a → IsSegments a → x ≡ a → t ≡ write s (6 ∷ [])
-    → u ≡ fold write t (slice u16 x) → u ≡ fold write s (fed (key h))
+    → u ≡ fold write t (slice u16 x) → u ≡ fold write s (fed_key (key h))
 feeds_ipv6 write s t u h a x i v j e f =
-    feeds write s t u h 6 (slice u16 a) (ap (λ g. fed (key g)) i ∙ fed_ipv6 a v) e (f ∙ ap (λ y. fold write t (slice u16 y)) j)
+    feeds write s t u h 6 (slice u16 a) (ap (λ g. fed_key (key g)) i ∙ fed_host (IPv6Address a) v) e (f ∙ ap (λ y. fold write t (slice u16 y)) j)

@@ -1,7 +1,5 @@
 -- How long the texts of hosts and authorities are at most.
-use Rattle.std.proofs.Common.{◌≡◌, ◌⊎◌, ℕ, ◌+◌, ◌≤◌, min, List, [], ◌∷◌, length, Option, Some, None, inl, inr, ◌∙◌, subst, arith}
-use Rattle.std.proofs.Math.Nat.{min-eq_left, min-eq_right}
-use Rattle.std.proofs.lemmas.Bool.{cases_lt}
+use Rattle.std.proofs.Common.{◌≡◌, ℕ, ◌+◌, ◌≤◌, List, [], ◌∷◌, length, Option, Some, None, subst, arith}
 use Rattle.std.proofs.lemmas.Fmt.{length-decimal-le}
 use Rattle.std.proofs.lemmas.List.{length-append}
 use Rattle.std.specs.Prelude.{◌++◌, IfSome, unwrap_or}
@@ -9,7 +7,7 @@ use Rattle.std.specs.Option.{option_map}
 use Rattle.uriparse_text.specs.Address.{ipv6_text}
 use Rattle.uriparse_text.specs.Bytes.{at_sign, colon, right_bracket}
 use Rattle.uriparse_text.specs.Cuts.{ahead, behind}
-use Rattle.uriparse_text.proofs.AddressLengths.{length-ipv4_text, length-ipv6_text}
+use Rattle.uriparse_text.proofs.AddressLengthLemmas.{length-ipv4_text, length-ipv6_text}
 use Rattle.uriparse_authority.specs.declared.authority.host.Host.{Host}
 use Rattle.uriparse_authority.specs.declared.authority.host.Host.TheVariants.{IPv4Address, IPv6Address}
 use Rattle.uriparse_authority.specs.Host as host
@@ -46,20 +44,3 @@ length-print p v =
     let a = length-user p.username p.password in
     let b = length-port p.port v.is_port in
     omega (arith, length-append front (host.text p.host ++ back), length-append (host.text p.host) back)
-
--- ---- sums that stop at a largest number
-
-pub most_more : (m n r k s : ℕ) → (n ≤ r) ⊎ (r ≡ m) → s ≡ min (r + k) m → (n + k ≤ s) ⊎ (s ≡ m)
-most_more m n r k s most is =
-    elim (cases_lt (r + k) m) [
-      | inl under ↦ by_most most (is ∙ min-eq_left (omega arith))
-      | inr over ↦ inr (is ∙ min-eq_right over)
-    ]
-  where
-    by_most : (n ≤ r) ⊎ (r ≡ m) → s ≡ r + k → (n + k ≤ s) ⊎ (s ≡ m)
-    by_most (inl within) sum = inl (omega arith)
-    by_most (inr full) sum = inr (omega arith)
-
-pub most_of : (m n k r : ℕ) → n ≤ k → (k ≤ r) ⊎ (r ≡ m) → (n ≤ r) ⊎ (r ≡ m)
-most_of m n k r less (inl within) = inl (omega arith)
-most_of m n k r less (inr full) = inr full

@@ -2,7 +2,7 @@
 use Rattle.std.proofs.Common.{◌≡◌, ◌⊎◌, ℕ, List, refl, sym, ap, ◌∙◌, subst, inl, inr}
 use Rattle.uriparse_text.specs.Address.{SpellsIpv4, ipv4_text, ipv6_text}
 use Rattle.uriparse_text.proofs.AddressLemmas.{SpellsIpv4-ipv4_text}
-use Rattle.uriparse_text.proofs.AddressBytes.{IsIn-SpellsIpv4}
+use Rattle.uriparse_text.proofs.AddressByteLemmas.{IsIn-SpellsIpv4}
 use Rattle.uriparse_authority.specs.declared.authority.host.Host.{Host}
 use Rattle.uriparse_authority.specs.declared.authority.host.Host.TheVariants.{IPv4Address, IPv6Address, RegisteredName}
 use Rattle.uriparse_authority.specs.Host as host

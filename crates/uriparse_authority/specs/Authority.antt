@@ -7,7 +7,7 @@ use Rattle.std.specs.Hash.{HashWrites, option, u16}
 use Rattle.uriparse_text.specs.Bytes.{slash, colon, question_mark, number_sign, at_sign, right_bracket}
 use Rattle.uriparse_text.specs.Canon.{canon, fed_spelling}
 use Rattle.uriparse_text.specs.Cuts.{behind, ahead, before, after, front, rest, up_to, from_first, from_last, up_to_last}
-use Rattle.uriparse_text.specs.Readings.{◌>>=◌, of_piece, if_present, error_of}
+use Rattle.uriparse_text.specs.Readings.{◌>>=◌, of_piece, if_present, fault_in}
 use Rattle.uriparse_authority.specs.Username as username
 use Rattle.uriparse_authority.specs.Password as password
 use Rattle.uriparse_authority.specs.Host as host
@@ -126,7 +126,7 @@ reading a = do
   Ok (record { username = username; password = password; host = host; port = port })
 
 abbrev pub fault : List ℕ → Option AuthorityError
-fault a = error_of (reading a)
+fault a = fault_in (reading a)
 
 -- ---- an authority read by itself, from a text that may go on behind it
 
@@ -164,18 +164,25 @@ each_alike p q =
     && (bytes_eq (host.key p.host) (host.key q.host)
     && option_eq ◌==◌ p.port q.port))
 
--- what a hasher is fed for these pieces of a canonical text, with the code of the host's kind
+-- what a hasher is fed: each part in turn
+abbrev pub fed : AuthorityParts → HashWrites
+fed p =
+    option (λ t. fed_spelling (canon t)) p.username
+    ++ (option (λ t. fed_spelling (canon t)) p.password
+    ++ (host.fed p.host
+    ++ option u16 p.port))
+
+-- the same, told by the key alone: for these pieces of the canonical text, with the code of the host's kind
 abbrev pub fed_pieces : ℕ → Option (List ℕ) → Option (List ℕ) → List ℕ → Option (List ℕ) → HashWrites
 fed_pieces code username password host_piece port_piece =
     option fed_spelling username
     ++ (option fed_spelling password
-    ++ (host.fed (code ∷ host_piece)
+    ++ (host.fed_key (code ∷ host_piece)
     ++ option u16 (port.value_of (unwrap_or port_piece []))))
 
--- what a hasher is fed for the authority with this key: the pieces into which the canonical text is cut
-abbrev pub fed : List ℕ → HashWrites
-fed [] = []
-fed (code ∷ t) = fed_pieces code (username_text t) (password_text t) (host_text t) (port_text t)
+abbrev pub fed_key : List ℕ → HashWrites
+fed_key [] = []
+fed_key (code ∷ t) = fed_pieces code (username_text t) (password_text t) (host_text t) (port_text t)
 
 -- ---- making and changing
 

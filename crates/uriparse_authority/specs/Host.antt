@@ -1,6 +1,6 @@
 -- Hosts: RFC 3986, section 3.2.2.
 use Rattle.std.specs.Prelude.{◌≡◌, ◌⊎◌, ℕ, Bool, false, ◌==◌, ◌&&◌, ◌||◌, List, [], ◌∷◌, ◌++◌, Option, Some, None, Result, Ok, Err, is_none}
-use Rattle.std.specs.Prelude.{unwrap_or, codes, if◌then◌else◌}
+use Rattle.std.specs.Prelude.{codes, if◌then◌else◌}
 use Rattle.std.specs.Option.{option_map, ok_or}
 use Rattle.std.specs.List.{list_all}
 use Rattle.std.specs.Hash.{HashWrites, slice, u8, u16}
@@ -147,14 +147,17 @@ reading t = bracket_reading (in_brackets t) t
 abbrev pub key : Host → List ℕ
 key h = kind_code (kind h) ∷ canonical_text h
 
--- what a hasher is fed for a canonical spelling of this kind: an address as its numbers, a name as its bytes
-abbrev pub fed_text : ℕ → List ℕ → HashWrites
-fed_text code t =
-    if code == 4 then slice u8 (unwrap_or (ipv4_reading t) [])
-    else if code == 6 then slice u16 (unwrap_or (ipv6_reading (unwrap_or (in_brackets t) [])) [])
-    else fed_spelling t
+-- what a hasher is fed: the kind, and then an address as its numbers, a name as its canonical spelling
+abbrev pub fed : Host → HashWrites
+fed (IPv4Address a) = u8 (kind_code V4) ++ slice u8 a
+fed (IPv6Address a) = u8 (kind_code V6) ++ slice u16 a
+fed (RegisteredName n) = u8 (kind_code Name) ++ fed_spelling (canon_low n)
 
--- what a hasher is fed for the host with this key
-abbrev pub fed : List ℕ → HashWrites
-fed [] = []
-fed (code ∷ t) = u8 code ++ fed_text code t
+abbrev pub fed_read : Result Host HostError → HashWrites
+fed_read (Ok h) = fed h
+fed_read (Err e) = []
+
+-- the same, told by the key alone: for a name its canonical spelling, else what is fed for the address that is read again
+abbrev pub fed_key : List ℕ → HashWrites
+fed_key [] = []
+fed_key (code ∷ t) = if code == kind_code Name then u8 code ++ fed_spelling t else fed_read (reading t)

@@ -1,5 +1,5 @@
 //! An authority: RFC 3986, section 3.2.
-ghost use Rattle.std.specs.Prelude.{[], ◌≡◌, ◌≤◌, ◌⊎◌, ℕ, IfOk, List, Ok, Option, Some, bytes_eq, is_some, length, string_bytes, unwrap_or};
+ghost use Rattle.std.specs.Prelude.{[], ◌≡◌, ◌≤◌, ◌⊎◌, ℕ, IfOk, List, Ok, Option, Some, bytes_eq, is_some, fold, length, string_bytes, unwrap_or};
 ghost use Rattle.std.specs.Option.{option_copied};
 ghost use Rattle.std.proofs.Common.{rules};
 ghost use Rattle.std.specs.Ordering.{on};
@@ -47,7 +47,7 @@ use username::empty_username;
 /// ```
 /// let authority = Authority::try_from_str("user:@EXAMPLE.com:0080")?;
 /// assert!(authority.has_password() && authority.port() == Some(80));
-/// assert_eq!(authority.to_string(alloc)?, "user:@EXAMPLE.com:80");
+/// assert_eq!(authority.to_string(alloc)?.as_str(), "user:@EXAMPLE.com:80");
 /// ```
 #[derive(Drop)]
 pub struct Authority<'a> {
@@ -292,11 +292,14 @@ impl<'a> Eq for Authority<'a> {
 }
 
 impl<'a> Hash for Authority<'a> {
-    ghost hash_input = { λ a. spec.fed (spec.key a) };
+    ghost hash_input = { λ a. spec.fed_key (spec.key a) };
 
     ghost respects_eq = { Prim.search (hashing, rules) };
 
-    fn hash<H: Hasher>(&self, state: &mut H) {
+    fn hash<H: Hasher>(&self, state: &mut H)
+        ensures fed { state.new ≡ fold H.write state.old (spec.fed self.now) }
+        ensures key { state.new ≡ fold H.write state.old (spec.fed_key (spec.key self.now)) }
+    {
         self.username.hash(state);
         self.password.hash(state);
         self.host.hash(state);

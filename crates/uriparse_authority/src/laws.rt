@@ -1,7 +1,7 @@
 //! Laws of the definitions that contracts cite. Each function has nothing to do: its contract is
 //! the law.
-ghost use Rattle.std.specs.Prelude.{◌≡◌, ◌↔◌, ◌⊎◌, ◌∷◌, ◌++◌, true, ℕ, codes, IfSome, List, [], Err, None, Ok, Option, Some, decimal};
-ghost use Rattle.uriparse_text.specs.Bytes.{at_sign, colon};
+ghost use Rattle.std.specs.Prelude.{◌≡◌, ◌↔◌, ◌⊎◌, ◌∷◌, ◌++◌, true, false, ℕ, codes, IfSome, List, [], Err, None, Ok, Option, Some, decimal};
+ghost use Rattle.uriparse_text.specs.Bytes.{at_sign, colon, right_bracket};
 ghost use Rattle.uriparse_text.specs.Cuts.{lacks, none_pass};
 ghost use Rattle.uriparse_authority.specs.declared.authority.error.AuthorityError.{AuthorityError};
 ghost use Rattle.uriparse_authority.specs.declared.authority.error.PortError.TheVariants.{InvalidCharacter, Overflow};
@@ -16,7 +16,7 @@ ghost use Rattle.uriparse_authority.specs.Name as name;
 ghost use Rattle.uriparse_authority.specs.Host as host;
 ghost use Rattle.uriparse_authority.specs.Port as port;
 ghost use Rattle.uriparse_authority.specs.Normal.{canonical_host, canonical_authority};
-ghost use Rattle.uriparse_authority.specs.Authority.{AuthorityParts, Spells, Valid, ReadsBack, canonical_text, ends_authority, fault, host_text, joined, key, kind, password_text, port_text, print, reading, rest_error, username_text, whole_reading};
+ghost use Rattle.uriparse_authority.specs.Authority.{AuthorityParts, Spells, Valid, ReadsBack, canonical_text, ends_authority, fault, fed, fed_key, host_text, joined, key, kind, password_text, port_text, print, reading, rest_error, username_text, whole_reading};
 
 /// Reading gives exactly what a text spells: a host, a name by itself, a port, an authority, and an
 /// authority that is the whole text. A text spells one authority at most, and has a fault exactly
@@ -44,13 +44,18 @@ pub fn first_fault()
     ensures rest { (a : List ℕ) (b : ℕ) (u : List ℕ) (p : AuthorityParts) → Spells a p → ends_authority b ≡ true → whole_reading (a ++ b ∷ u) ≡ Err (rest_error p.port (kind p)) }
 {}
 
-/// Every text is its pieces put together; the user name lacks the marks that end it, the password the
-/// `@` that ends it.
+/// Every text is its pieces put together. The user name lacks the marks that end it, the password the
+/// `@` that ends it; without a user name the text has no `@`. The port lacks the marks that would end
+/// a host behind it; without a port, a `]` stands behind each colon of the host.
 pub fn one_cut()
     ensures whole { (a : List ℕ) → a ≡ joined (username_text a) (password_text a) (host_text a) (port_text a) }
     ensures username_at { (a : List ℕ) → IfSome (username_text a) (λ t. lacks at_sign t ≡ true) }
     ensures username_colon { (a : List ℕ) → IfSome (username_text a) (λ t. lacks colon t ≡ true) }
     ensures password_at { (a : List ℕ) → IfSome (password_text a) (λ t. lacks at_sign t ≡ true) }
+    ensures no_username { (a : List ℕ) → username_text a ≡ None → lacks at_sign a ≡ true }
+    ensures port_colon { (a : List ℕ) → IfSome (port_text a) (λ t. lacks colon t ≡ true) }
+    ensures port_bracket { (a : List ℕ) → IfSome (port_text a) (λ t. lacks right_bracket t ≡ true) }
+    ensures no_port { (a u v : List ℕ) → port_text a ≡ None → host_text a ≡ u ++ colon ∷ v → lacks right_bracket v ≡ false }
 {}
 
 /// What a text spells reads back: its own printed text spells it. So does that of each valid host and
@@ -69,10 +74,12 @@ pub fn reading_back()
 {}
 
 /// Two hosts, or two authorities, have one key exactly where their canonical texts agree and their
-/// hosts are of one kind.
+/// hosts are of one kind. What a Hasher is fed for a valid one, part by part, is told by the key alone.
 pub fn one_key()
     ensures hosts { (g h : Host) → (host.key g ≡ host.key h) ↔ ((host.canonical_text g ≡ host.canonical_text h) × (host.kind g ≡ host.kind h)) }
     ensures authorities { (p q : AuthorityParts) → (key p ≡ key q) ↔ ((canonical_text p ≡ canonical_text q) × (kind p ≡ kind q)) }
+    ensures hosts_fed { (h : Host) → host.Valid h → host.fed_key (host.key h) ≡ host.fed h }
+    ensures authorities_fed { (p : AuthorityParts) → Valid p → fed_key (key p) ≡ fed p }
 {}
 
 /// The normal form of a valid host or authority is valid and its own normal form, has the canonical

@@ -35,18 +35,21 @@ canon-behind [] h = canon-nil
 canon-behind (s ∷ ss) h =
     let both = and_parts _ _ h in
     canon-slash (s ++ flat_map (λ r. slash ∷ r) ss)
-    ∙ ap (λ u. slash ∷ u) (spelling-append Kept s (flat_map (λ r. slash ∷ r) ss) (well_formed-in_class Segment s both.0) ∙ ap (λ u. canon s ++ u) (canon-behind ss both.1))
+    ∙ ap (λ u. slash ∷ u) (spelling-append Kept s (flat_map (λ r. slash ∷ r) ss) (well_formed-in_class Segment s both.0)
+    ∙ ap (λ u. canon s ++ u) (canon-behind ss both.1))
 
 pub canon-text : (p : PathParts) → IsListed p.segments → canon (text p) ≡ text (canonical_path p)
 canon-text p is = by_shape p.absolute p.segments is
   where
-    by_shape : (a : Bool) (ss : List (List ℕ)) → IsListed ss → canon (text (record { absolute = a; segments = ss })) ≡ text (record { absolute = a; segments = map canon ss })
+    by_shape : (a : Bool) (ss : List (List ℕ)) → IsListed ss
+        → canon (text (record { absolute = a; segments = ss })) ≡ text (record { absolute = a; segments = map canon ss })
     by_shape a [] is = absurd (omega (arith, is.some))
     by_shape a (s ∷ ss) is =
         let both = and_parts _ _ is.each in
         ap canon (text-cons a (s ∷ ss) s ss refl)
         ∙ canon-root a (s ++ flat_map (λ r. slash ∷ r) ss)
-        ∙ ap (λ u. root a ++ u) (spelling-append Kept s (flat_map (λ r. slash ∷ r) ss) (well_formed-in_class Segment s both.0) ∙ ap (λ u. canon s ++ u) (canon-behind ss both.1))
+        ∙ ap (λ u. root a ++ u) (spelling-append Kept s (flat_map (λ r. slash ∷ r) ss) (well_formed-in_class Segment s both.0)
+        ∙ ap (λ u. canon s ++ u) (canon-behind ss both.1))
         ∙ sym (text-cons a (map canon (s ∷ ss)) (canon s) (map canon ss) refl)
 
 pub each-canon : (ss : List (List ℕ)) → list_all is_segment ss ≡ true → list_all is_segment (map canon ss) ≡ true
@@ -87,8 +90,10 @@ rooted-tokens [] = refl
 rooted-tokens (t ∷ ts) = rooted-token t (flat_map spell (map (canonical Kept) ts)) (flat_map spell ts)
 
 unrooted-token : (t : Token) (u v : List ℕ) → is_rooted u ≡ is_rooted v → has_two_slashes (spell (canonical Kept t) ++ u) ≡ has_two_slashes (spell t ++ v)
-unrooted-token (Byte b) u v e = elim (is_slash b) as (λ w. (w && is_rooted (cond w u (b ∷ u))) ≡ (w && is_rooted (cond w v (b ∷ v)))) [ true ↦ e | false ↦ refl ]
-unrooted-token (Escape high low) u v e = by_escaped Kept high low (λ t. has_two_slashes (spell t ++ u) ≡ false) (λ k. rw (not_slash (escaped_byte high low) k) refl) (λ k. refl)
+unrooted-token (Byte b) u v e =
+    elim (is_slash b) as (λ w. (w && is_rooted (cond w u (b ∷ u))) ≡ (w && is_rooted (cond w v (b ∷ v)))) [ true ↦ e | false ↦ refl ]
+unrooted-token (Escape high low) u v e =
+    by_escaped Kept high low (λ t. has_two_slashes (spell t ++ u) ≡ false) (λ k. rw (not_slash (escaped_byte high low) k) refl) (λ k. refl)
 
 two-tokens : (ts : List Token) → has_two_slashes (flat_map spell (map (canonical Kept) ts)) ≡ has_two_slashes (flat_map spell ts)
 two-tokens [] = refl

@@ -8,14 +8,17 @@ use Rattle.uriparse_text.specs.Bytes.{dot}
 use Rattle.uriparse_text.specs.Canon.{canon}
 use Rattle.uriparse_path.specs.Segment.{is_segment}
 use Rattle.uriparse_path.specs.Path.{PathParts, IsListed, text, spelled, respelled, IsPath, pieces, is_rooted}
-use Rattle.uriparse_path.specs.Dots.{is_single_dot, is_double_dot, is_dot_segment, has_dot_segment, all_but_last, replay, is_one, rooted_after, replayed, undot, without_dots}
+use Rattle.uriparse_path.specs.Dots.{is_single_dot, is_double_dot, is_dot_segment, has_dot_segment, all_but_last, replay, is_one, rooted_after, replayed, undot}
+use Rattle.uriparse_path.specs.Dots.{without_dots}
 use Rattle.uriparse_path.specs.Relative.{is_last, closed, needs_guard, guarded, filled, put, put_all, reduced, relative_normal}
 use Rattle.uriparse_path.specs.Normal.{canonical_path, stays_relative, pnormal}
 use Rattle.uriparse_path.proofs.TextLemmas.{text-spelled}
 use Rattle.uriparse_path.proofs.CanonicalLemmas.{canon-nil, listed-canonical, canon-text, is_rooted-canon, is_path-text}
 use Rattle.uriparse_path.proofs.DotLemmas.{canon-dot, single-canon, double-canon, dot-canon}
-use Rattle.uriparse_path.proofs.RelativeLemmas.{all_put, empty_segment, dot_segment, shaped, relative_is, guard-canon, has_dot-canon, all_canonical_same, all_canonical-canon, each_reduced, each_shaped}
-use Rattle.uriparse_path.proofs.NormalLemmas.{spelled_undot, spelled_canon_undot, respelled-canonical, pnormal_dots, pnormal_plain, undot_path, listed_replayed, pnormal_relative}
+use Rattle.uriparse_path.proofs.RelativeLemmas.{all_put, empty_segment, dot_segment, shaped, relative_is, guard-canon, has_dot-canon, all_canonical_same}
+use Rattle.uriparse_path.proofs.RelativeLemmas.{all_canonical-canon, each_reduced, each_shaped}
+use Rattle.uriparse_path.proofs.NormalLemmas.{spelled_undot, spelled_canon_undot, respelled-canonical, pnormal_dots, pnormal_plain, undot_path, listed_replayed}
+use Rattle.uriparse_path.proofs.NormalLemmas.{pnormal_relative}
 
 -- ---- the replay
 
@@ -39,36 +42,47 @@ pub replay-canon : (out l : List (List ℕ)) → list_all is_segment l ≡ true 
 replay-canon out [] h = refl
 replay-canon out (s ∷ []) h = rw (single-canon s (and_parts _ _ h).0, double-canon s (and_parts _ _ h).0) (by_kind (is_single_dot s) (is_double_dot s))
   where
-    by_kind : (v w : Bool) → cond v (map canon out ++ [] ∷ []) (cond w (all_but_last (map canon out) ++ [] ∷ []) (map canon out ++ canon s ∷ [])) ≡ map canon (cond v (out ++ [] ∷ []) (cond w (all_but_last out ++ [] ∷ []) (out ++ s ∷ [])))
+    by_kind : (v w : Bool)
+        → cond v (map canon out ++ [] ∷ []) (cond w (all_but_last (map canon out) ++ [] ∷ []) (map canon out ++ canon s ∷ []))
+        ≡ map canon (cond v (out ++ [] ∷ []) (cond w (all_but_last out ++ [] ∷ []) (out ++ s ∷ [])))
     by_kind true w = sym (push_empty-canon out)
     by_kind false true = ap (λ u. u ++ [] ∷ []) (cut-canon out) ∙ sym (push_empty-canon (all_but_last out))
     by_kind false false = sym (push-canon out s)
 replay-canon out (s ∷ r ∷ l) h =
     let both = and_parts (is_segment s) (list_all is_segment (r ∷ l)) h in
-    rw (single-canon s both.0, double-canon s both.0) (by_kind (is_single_dot s) (is_double_dot s) (replay-canon out (r ∷ l) both.1) (replay-canon (all_but_last out) (r ∷ l) both.1) (replay-canon (out ++ s ∷ []) (r ∷ l) both.1))
+    rw (single-canon s both.0, double-canon s both.0)
+    (by_kind (is_single_dot s) (is_double_dot s) (replay-canon out (r ∷ l) both.1) (replay-canon (all_but_last out) (r ∷ l) both.1)
+    (replay-canon (out ++ s ∷ []) (r ∷ l) both.1))
   where
     by_kind : (v w : Bool) → replay (map canon out) (map canon (r ∷ l)) ≡ map canon (replay out (r ∷ l))
         → replay (map canon (all_but_last out)) (map canon (r ∷ l)) ≡ map canon (replay (all_but_last out) (r ∷ l))
         → replay (map canon (out ++ s ∷ [])) (map canon (r ∷ l)) ≡ map canon (replay (out ++ s ∷ []) (r ∷ l))
-        → cond v (replay (map canon out) (map canon (r ∷ l))) (cond w (replay (all_but_last (map canon out)) (map canon (r ∷ l))) (replay (map canon out ++ canon s ∷ []) (map canon (r ∷ l))))
+        → cond v (replay (map canon out) (map canon (r ∷ l)))
+        (cond w (replay (all_but_last (map canon out)) (map canon (r ∷ l))) (replay (map canon out ++ canon s ∷ []) (map canon (r ∷ l))))
         ≡ map canon (cond v (replay out (r ∷ l)) (cond w (replay (all_but_last out) (r ∷ l)) (replay (out ++ s ∷ []) (r ∷ l))))
     by_kind true w x y z = x
     by_kind false true x y z = ap (λ u. replay u (map canon (r ∷ l))) (cut-canon out) ∙ y
     by_kind false false x y z = ap (λ u. replay u (map canon (r ∷ l))) (sym (push-canon out s)) ∙ z
 
-pub rooted-canon : (rooted : Bool) (out l : List (List ℕ)) → list_all is_segment l ≡ true → rooted_after rooted (map canon out) (map canon l) ≡ rooted_after rooted out l
+pub rooted-canon : (rooted : Bool) (out l : List (List ℕ)) → list_all is_segment l ≡ true
+    → rooted_after rooted (map canon out) (map canon l) ≡ rooted_after rooted out l
 rooted-canon rooted out [] h = refl
 rooted-canon rooted out (s ∷ l) h =
     let both = and_parts (is_segment s) (list_all is_segment l) h in
-    rw (single-canon s both.0, double-canon s both.0) (by_kind (is_single_dot s) (is_double_dot s) (rooted-canon rooted out l both.1) (rooted-canon (rooted || is_one out) (all_but_last out) l both.1) (rooted-canon rooted (out ++ s ∷ []) l both.1))
+    rw (single-canon s both.0, double-canon s both.0)
+    (by_kind (is_single_dot s) (is_double_dot s) (rooted-canon rooted out l both.1) (rooted-canon (rooted || is_one out) (all_but_last out) l both.1)
+    (rooted-canon rooted (out ++ s ∷ []) l both.1))
   where
     by_kind : (v w : Bool) → rooted_after rooted (map canon out) (map canon l) ≡ rooted_after rooted out l
         → rooted_after (rooted || is_one out) (map canon (all_but_last out)) (map canon l) ≡ rooted_after (rooted || is_one out) (all_but_last out) l
         → rooted_after rooted (map canon (out ++ s ∷ [])) (map canon l) ≡ rooted_after rooted (out ++ s ∷ []) l
-        → cond v (rooted_after rooted (map canon out) (map canon l)) (cond w (rooted_after (rooted || is_one (map canon out)) (all_but_last (map canon out)) (map canon l)) (rooted_after rooted (map canon out ++ canon s ∷ []) (map canon l)))
+        → cond v (rooted_after rooted (map canon out) (map canon l))
+        (cond w (rooted_after (rooted || is_one (map canon out)) (all_but_last (map canon out)) (map canon l))
+        (rooted_after rooted (map canon out ++ canon s ∷ []) (map canon l)))
         ≡ cond v (rooted_after rooted out l) (cond w (rooted_after (rooted || is_one out) (all_but_last out) l) (rooted_after rooted (out ++ s ∷ []) l))
     by_kind true w x y z = x
-    by_kind false true x y z = ap (λ u. rooted_after (rooted || u) (all_but_last (map canon out)) (map canon l)) (one-canon out) ∙ ap (λ u. rooted_after (rooted || is_one out) u (map canon l)) (cut-canon out) ∙ y
+    by_kind false true x y z = ap (λ u. rooted_after (rooted || u) (all_but_last (map canon out)) (map canon l)) (one-canon out)
+        ∙ ap (λ u. rooted_after (rooted || is_one out) u (map canon l)) (cut-canon out) ∙ y
     by_kind false false x y z = ap (λ u. rooted_after rooted u (map canon l)) (sym (push-canon out s)) ∙ z
 
 pub replayed-canon : (p : PathParts) → list_all is_segment p.segments ≡ true → replayed (canonical_path p) ≡ canonical_path (replayed p)
@@ -93,29 +107,39 @@ pnormal_without_dots p r is e = by_dots (has_dot_segment p.segments) refl
 
 -- ---- the relative normal form
 
-put-canon : (stack : List (List ℕ)) (s : List ℕ) → list_all is_segment stack ≡ true → is_segment s ≡ true → put (map canon stack) (canon s) ≡ map canon (put stack s)
-put-canon [] s h k = rw (single-canon s k) (elim (is_single_dot s) as (λ v. cond v [] (canon s ∷ []) ≡ map canon (cond v [] (s ∷ []))) [ true ↦ refl | false ↦ refl ])
-put-canon (t ∷ stack) s h k = rw (single-canon s k, double-canon s k, single-canon t (and_parts _ _ h).0, double-canon t (and_parts _ _ h).0) (by_kind (is_single_dot s) (is_double_dot s && not (is_dot_segment t)))
+put-canon : (stack : List (List ℕ)) (s : List ℕ) → list_all is_segment stack ≡ true → is_segment s ≡ true
+    → put (map canon stack) (canon s) ≡ map canon (put stack s)
+put-canon [] s h k = rw (single-canon s k) (elim (is_single_dot s) as (λ v. cond v [] (canon s ∷ []) ≡ map canon (cond v [] (s ∷ [])))
+    [ true ↦ refl | false ↦ refl ])
+put-canon (t ∷ stack) s h k =
+    rw (single-canon s k, double-canon s k, single-canon t (and_parts _ _ h).0, double-canon t (and_parts _ _ h).0)
+    (by_kind (is_single_dot s) (is_double_dot s && not (is_dot_segment t)))
   where
-    by_kind : (v w : Bool) → cond v (map canon (t ∷ stack)) (cond w (map canon stack) (canon s ∷ canon t ∷ map canon stack)) ≡ map canon (cond v (t ∷ stack) (cond w stack (s ∷ t ∷ stack)))
+    by_kind : (v w : Bool)
+        → cond v (map canon (t ∷ stack)) (cond w (map canon stack) (canon s ∷ canon t ∷ map canon stack))
+        ≡ map canon (cond v (t ∷ stack) (cond w stack (s ∷ t ∷ stack)))
     by_kind true w = refl
     by_kind false true = refl
     by_kind false false = refl
 
-put_all-canon : (stack l : List (List ℕ)) → list_all is_segment stack ≡ true → list_all is_segment l ≡ true → put_all (map canon stack) (map canon l) ≡ map canon (put_all stack l)
+put_all-canon : (stack l : List (List ℕ)) → list_all is_segment stack ≡ true → list_all is_segment l ≡ true
+    → put_all (map canon stack) (map canon l) ≡ map canon (put_all stack l)
 put_all-canon stack [] h k = refl
 put_all-canon stack (s ∷ l) h k =
     let both = and_parts (is_segment s) (list_all is_segment l) k in
-    ap (λ u. put_all u (map canon l)) (put-canon stack s h both.0) ∙ put_all-canon (put stack s) l (all_put is_segment empty_segment dot_segment stack s h both.0) both.1
+    ap (λ u. put_all u (map canon l)) (put-canon stack s h both.0)
+    ∙ put_all-canon (put stack s) l (all_put is_segment empty_segment dot_segment stack s h both.0) both.1
 
 reverse-canon : (l : List (List ℕ)) → reverse (map canon l) ≡ map canon (reverse l)
 reverse-canon [] = refl
-reverse-canon (s ∷ l) = reverse-append (canon s ∷ []) (map canon l) ∙ ap (λ u. u ++ canon s ∷ []) (reverse-canon l) ∙ sym (ap (map canon) (reverse-append (s ∷ []) l) ∙ push-canon (reverse l) s)
+reverse-canon (s ∷ l) = reverse-append (canon s ∷ []) (map canon l) ∙ ap (λ u. u ++ canon s ∷ []) (reverse-canon l)
+    ∙ sym (ap (map canon) (reverse-append (s ∷ []) l) ∙ push-canon (reverse l) s)
 
 pub reduced-canon : (l : List (List ℕ)) → list_all is_segment l ≡ true → reduced (map canon l) ≡ map canon (reduced l)
 reduced-canon l h = ap reverse (put_all-canon [] l refl h) ∙ reverse-canon (put_all [] l)
 
-pub last-canon : (p : List ℕ → Bool) → ((s : List ℕ) → is_segment s ≡ true → p (canon s) ≡ p s) → (l : List (List ℕ)) → list_all is_segment l ≡ true → is_last p (map canon l) ≡ is_last p l
+pub last-canon : (p : List ℕ → Bool) → ((s : List ℕ) → is_segment s ≡ true → p (canon s) ≡ p s) → (l : List (List ℕ)) → list_all is_segment l ≡ true
+    → is_last p (map canon l) ≡ is_last p l
 last-canon p f [] h = refl
 last-canon p f (s ∷ []) h = f s (and_parts _ _ h).0
 last-canon p f (s ∷ r ∷ l) h = last-canon p f (r ∷ l) (and_parts _ _ h).1
@@ -179,7 +203,8 @@ stays-canon p r is = ap (λ v. r && not v) (ap is_rooted (sym (canon-text p is))
 
 canon_twice : (p : PathParts) → IsListed p.segments → canon (canon (undot (text p))) ≡ canon (undot (text p))
 canon_twice p is =
-    let spelled_text : canon (undot (text p)) ≡ text (canonical_path (replayed p)) = ap canon (undot_path p is) ∙ canon-text (replayed p) (listed_replayed p is) in
+    let spelled_text : canon (undot (text p)) ≡ text (canonical_path (replayed p)) = ap canon (undot_path p is)
+    ∙ canon-text (replayed p) (listed_replayed p is) in
     ap canon spelled_text
     ∙ canon-text (canonical_path (replayed p)) (listed-canonical (replay [] p.segments) (listed_replayed p is))
     ∙ ap (λ l. text (record { absolute = (replayed p).absolute; segments = l })) (canonical_twice (replay [] p.segments) (listed_replayed p is).each)

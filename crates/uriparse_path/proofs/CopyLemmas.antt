@@ -1,5 +1,6 @@
 -- Segments that are put into canonical spelling from the last to the first.
-use Rattle.std.proofs.Common.{◌≡◌, ℕ, ◌+◌, ◌<◌, Bool, true, false, not, cond, List, [], ◌∷◌, ◌++◌, length, map, filter, take, drop, get_or, set, refl, sym, ap, ◌∙◌, arith, append_assoc, append-nil}
+use Rattle.std.proofs.Common.{◌≡◌, ℕ, ◌+◌, ◌<◌, Bool, true, false, not, cond, List, [], ◌∷◌, ◌++◌, length, map, filter, take, drop, get_or, set, refl, sym, ap}
+use Rattle.std.proofs.Common.{◌∙◌, arith, append_assoc, append-nil}
 use Rattle.std.specs.Prelude.{reverse}
 use Rattle.std.proofs.lemmas.List.{take_more, drop_more, take-set, drop-set, map-append, reverse-append, reverse-reverse}
 use Rattle.std.specs.List.{list_all}
@@ -51,14 +52,18 @@ nothing (x ∷ l) e = absurd (omega (arith, e))
 
 -- ---- from the first to the last
 
-pub copied_kept : (xs done whole : List (List ℕ)) (at : ℕ) (s : List ℕ) → at < length xs → s ≡ get_or xs at s → canon s ≡ s → done ++ map canon (filter strays (drop at xs)) ≡ whole → done ++ map canon (filter strays (drop (at + 1) xs)) ≡ whole
+pub copied_kept : (xs done whole : List (List ℕ)) (at : ℕ) (s : List ℕ) → at < length xs → s ≡ get_or xs at s → canon s ≡ s
+    → done ++ map canon (filter strays (drop at xs)) ≡ whole → done ++ map canon (filter strays (drop (at + 1) xs)) ≡ whole
 copied_kept xs done whole at s h read e f =
-    ap (λ u. done ++ u) (sym (ap (λ l. map canon (filter strays l)) (drop_more xs at s h ∙ ap (λ x. x ∷ drop (at + 1) xs) (sym read)) ∙ copies_kept s (drop (at + 1) xs) (strays_not s e))) ∙ f
+    ap (λ u. done ++ u) (sym (ap (λ l. map canon (filter strays l)) (drop_more xs at s h ∙ ap (λ x. x ∷ drop (at + 1) xs) (sym read))
+    ∙ copies_kept s (drop (at + 1) xs) (strays_not s e))) ∙ f
 
-pub copied_more : (xs done whole : List (List ℕ)) (at : ℕ) (s : List ℕ) → at < length xs → s ≡ get_or xs at s → (canon s ≡ s → ⊥) → done ++ map canon (filter strays (drop at xs)) ≡ whole → (done ++ canon s ∷ []) ++ map canon (filter strays (drop (at + 1) xs)) ≡ whole
+pub copied_more : (xs done whole : List (List ℕ)) (at : ℕ) (s : List ℕ) → at < length xs → s ≡ get_or xs at s → (canon s ≡ s → ⊥)
+    → done ++ map canon (filter strays (drop at xs)) ≡ whole → (done ++ canon s ∷ []) ++ map canon (filter strays (drop (at + 1) xs)) ≡ whole
 copied_more xs done whole at s h read n f =
     append_assoc done (canon s ∷ []) (map canon (filter strays (drop (at + 1) xs)))
-    ∙ ap (λ u. done ++ u) (sym (ap (λ l. map canon (filter strays l)) (drop_more xs at s h ∙ ap (λ x. x ∷ drop (at + 1) xs) (sym read)) ∙ copies_more s (drop (at + 1) xs) (strays_so s n))) ∙ f
+    ∙ ap (λ u. done ++ u) (sym (ap (λ l. map canon (filter strays l)) (drop_more xs at s h ∙ ap (λ x. x ∷ drop (at + 1) xs) (sym read))
+    ∙ copies_more s (drop (at + 1) xs) (strays_so s n))) ∙ f
 
 -- ---- from the last to the first
 
@@ -71,7 +76,8 @@ pushed_same a b x y e =
     let g : reverse a ≡ reverse b = cc in
     (sym (reverse-reverse a) ∙ ap reverse g ∙ reverse-reverse b, cc)
 
-module _ (xs ys : List (List ℕ)) (n at : ℕ) (s : List ℕ) (place : n ≡ at + 1) (within : at < length xs) (long : length xs ≡ length ys) (read : s ≡ get_or xs at s) (front : take n xs ≡ take n ys) (back : drop n xs ≡ map canon (drop n ys)) where
+module _ (xs ys : List (List ℕ)) (n at : ℕ) (s : List ℕ) (place : n ≡ at + 1) (within : at < length xs) (long : length xs ≡ length ys)
+    (read : s ≡ get_or xs at s) (front : take n xs ≡ take n ys) (back : drop n xs ≡ map canon (drop n ys)) where
   both_fronts : take at xs ++ s ∷ [] ≡ take at ys ++ get_or ys at s ∷ []
   both_fronts =
       ap (λ x. take at xs ++ x ∷ []) read
@@ -119,8 +125,10 @@ module _ (xs ys : List (List ℕ)) (n at : ℕ) (s : List ℕ) (place : n ≡ at
 
   pub copies_same : (copies : List (List ℕ)) → copies ≡ map canon (filter strays (take n ys)) → canon s ≡ s → copies ≡ map canon (filter strays (take at ys))
   copies_same copies f e =
-      f ∙ copies_split ∙ ap (λ l. map canon (filter strays (take at ys)) ++ l) (copies_kept s [] (strays_not s e)) ∙ append-nil (map canon (filter strays (take at ys)))
+      f ∙ copies_split ∙ ap (λ l. map canon (filter strays (take at ys)) ++ l) (copies_kept s [] (strays_not s e))
+      ∙ append-nil (map canon (filter strays (take at ys)))
 
-  pub copies_less : (copies : List (List ℕ)) → copies ≡ map canon (filter strays (take n ys)) → (canon s ≡ s → ⊥) → copies ≡ map canon (filter strays (take at ys)) ++ canon s ∷ []
+  pub copies_less : (copies : List (List ℕ)) → copies ≡ map canon (filter strays (take n ys)) → (canon s ≡ s → ⊥)
+      → copies ≡ map canon (filter strays (take at ys)) ++ canon s ∷ []
   copies_less copies f e =
       f ∙ copies_split ∙ ap (λ l. map canon (filter strays (take at ys)) ++ l) (copies_more s [] (strays_so s e))

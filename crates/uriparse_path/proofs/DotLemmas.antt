@@ -1,5 +1,6 @@
 -- Dot segments, plain and escaped, and what their canonical spelling tells of a segment.
-use Rattle.std.proofs.Common.{◌≡◌, ℕ, ◌<◌, Bool, true, false, not, ◌&&◌, ◌||◌, List, [], ◌∷◌, ◌++◌, length, map, flat_map, refl, sym, ap, ◌∙◌, arith, Some, None, slice_get, ◌⊎◌, inl, inr, ⊎_elim}
+use Rattle.std.proofs.Common.{◌≡◌, ℕ, ◌<◌, Bool, true, false, not, ◌&&◌, ◌||◌, List, [], ◌∷◌, ◌++◌, length, map, flat_map, refl, sym, ap, ◌∙◌, arith, Some}
+use Rattle.std.proofs.Common.{None, slice_get, ◌⊎◌, inl, inr, ⊎_elim}
 use Rattle.std.specs.Prelude.{◌==◌, ◌↔◌, IsTrue, bytes_eq}
 use Rattle.std.specs.Bool.{one_answer}
 use Rattle.std.specs.List.{list_all, list_any}
@@ -58,11 +59,19 @@ canon-dots = refl
 
 pub single_by : (s : List ℕ) (r : Bool) → (IsTrue r ↔ SpellsAlike Kept (dot ∷ []) s) → r ≡ is_single_dot s
 unfolding tokens
-single_by s r h = one_answer r (is_single_dot s) h (λ k. record { formed = refl; same = canon-dot ∙ sym (single_is s k) }, λ is. single_of s (sym is.same ∙ canon-dot))
+single_by s r h = one_answer r (is_single_dot s) h (
+  λ k. record { formed = refl; same = canon-dot ∙ sym (single_is s k) },
+  λ is. single_of s (sym is.same
+      ∙ canon-dot),
+)
 
 pub double_by : (s : List ℕ) (r : Bool) → (IsTrue r ↔ SpellsAlike Kept (dot ∷ dot ∷ []) s) → r ≡ is_double_dot s
 unfolding tokens
-double_by s r h = one_answer r (is_double_dot s) h (λ k. record { formed = refl; same = canon-dots ∙ sym (double_is s k) }, λ is. double_of s (sym is.same ∙ canon-dots))
+double_by s r h = one_answer r (is_double_dot s) h (
+  λ k. record { formed = refl; same = canon-dots ∙ sym (double_is s k) },
+  λ is. double_of s (sym is.same
+      ∙ canon-dots),
+)
 
 pub not_both : (s : List ℕ) → is_double_dot s ≡ true → is_single_dot s ≡ false
 not_both s h = by_single (is_single_dot s) refl
@@ -169,7 +178,8 @@ empty_tokens : (ts : List Token) → flat_map spell (map (canonical Kept) ts) �
 empty_tokens [] h = refl
 empty_tokens (Byte b ∷ ts) h = cc
 empty_tokens (Escape high low ∷ ts) h =
-    let no : flat_map spell (map (canonical Kept) (Escape high low ∷ ts)) ≡ [] → ⊥ = by_escaped Kept high low (λ t. spell t ++ flat_map spell (map (canonical Kept) ts) ≡ [] → ⊥) (λ e k. cc) (λ e k. cc) in
+    let no : flat_map spell (map (canonical Kept) (Escape high low ∷ ts)) ≡ []
+    → ⊥ = by_escaped Kept high low (λ t. spell t ++ flat_map spell (map (canonical Kept) ts) ≡ [] → ⊥) (λ e k. cc) (λ e k. cc) in
     absurd (no h)
 
 -- only the empty text has an empty canonical spelling
@@ -183,10 +193,12 @@ module _ (c : ℕ) (plain : is_unreserved c ≡ false) (digit : is_hex c ≡ fal
   lacks_token (Byte b) h = refl
   lacks_token (Escape high low) h =
       let both = and_parts _ _ h in
-      let raw : lacks c (percent ∷ high ∷ low ∷ []) ≡ true = and_from _ _ (ap not sign) (and_from _ _ (other_byte is_hex c high digit both.0) (and_from _ _ (other_byte is_hex c low digit both.1) refl)) in
+      let raw : lacks c (percent ∷ high ∷ low ∷ []) ≡ true =
+      and_from _ _ (ap not sign) (and_from _ _ (other_byte is_hex c high digit both.0) (and_from _ _ (other_byte is_hex c low digit both.1) refl)) in
       by_escaped Kept high low (λ t. lacks c (spell t) ≡ true)
       (λ e. and_from _ _ (other_byte is_unreserved c (escaped_byte high low) plain e) refl)
-      (λ e. and_from _ _ (ap not sign) (and_from _ _ (other_byte is_hex c _ digit (upper_digit high both.0)) (and_from _ _ (other_byte is_hex c _ digit (upper_digit low both.1)) refl)))
+      (λ e. and_from _ _ (ap not sign) (and_from _ _ (other_byte is_hex c _ digit (upper_digit high both.0))
+      (and_from _ _ (other_byte is_hex c _ digit (upper_digit low both.1)) refl)))
       ∙ sym raw
 
   lacks_tokens : (ts : List Token) → list_all has_digits ts ≡ true → lacks c (flat_map spell (map (canonical Kept) ts)) ≡ lacks c (flat_map spell ts)

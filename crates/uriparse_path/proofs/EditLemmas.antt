@@ -1,5 +1,6 @@
 -- What the edits of a path make of it.
-use Rattle.std.proofs.Common.{◌≡◌, ℕ, zero, suc, ◌+◌, ◌<◌, ◌≤◌, Bool, cond, List, [], ◌∷◌, ◌++◌, length, take, Result, Ok, Err, IfErr, MatchResult, inl, inr, refl, sym, ap, subst, ◌∙◌, arith}
+use Rattle.std.proofs.Common.{◌≡◌, ℕ, zero, suc, ◌+◌, ◌<◌, ◌≤◌, Bool, cond, List, [], ◌∷◌, ◌++◌, length, take, Result, Ok, Err, IfErr, MatchResult, inl, inr}
+use Rattle.std.proofs.Common.{refl, sym, ap, subst, ◌∙◌, arith}
 use Rattle.std.proofs.lemmas.Bool.{lt-ltb, le-ltb}
 use Rattle.uriparse_text.specs.Readings.{◌>>=◌, Settles, SettlesUnless}
 use Rattle.uriparse_path.specs.declared.path.error.PathError.{PathError}
@@ -64,30 +65,39 @@ counted_popped (s ∷ r ∷ ss) is = record { some = omega arith; short = let cu
 abbrev make : Bool → List (List ℕ) → PathParts
 make a ss = record { absolute = a; segments = ss }
 
-pub full_answer : (p : PathParts) (read : Result (List ℕ) PathError) → max_segments ≤ length p.segments → SettlesUnless OutOfMemory p p (Err ExceededMaximumLength) (pushing p read)
+pub full_answer : (p : PathParts) (read : Result (List ℕ) PathError) → max_segments ≤ length p.segments
+    → SettlesUnless OutOfMemory p p (Err ExceededMaximumLength) (pushing p read)
 full_answer p read h = inl (pushing_full p read h, refl)
 
-pub full_fault : (p : PathParts) (read : Result (List ℕ) PathError) → max_segments ≤ length p.segments → IfErr (pushing p read) (λ e. ◌≡◌ {A = Result (Unit {0}) PathError} (Err ExceededMaximumLength) (Err e))
+pub full_fault : (p : PathParts) (read : Result (List ℕ) PathError) → max_segments ≤ length p.segments
+    → IfErr (pushing p read) (λ e. ◌≡◌ {A = Result (Unit {0}) PathError} (Err ExceededMaximumLength) (Err e))
 full_fault p read h = subst (λ r. IfErr r (λ e. ◌≡◌ {A = Result (Unit {0}) PathError} (Err ExceededMaximumLength) (Err e))) (sym (pushing_full p read h)) refl
 
 -- the list behind the flag was changed, or there was no memory for it
-pub pushed_answer : (p : PathParts) (a : Bool) (ss new : List (List ℕ)) (s : List ℕ) (result : Result (Unit {0}) PathError) → make a ss ≡ p → length ss < max_segments
+pub pushed_answer : (p : PathParts) (a : Bool) (ss new : List (List ℕ)) (s : List ℕ) (result : Result (Unit {0}) PathError) → make a ss ≡ p
+    → length ss < max_segments
     → MatchResult result (λ _. new ≡ with_last ss s) (λ e. (e ≡ OutOfMemory) × (new ≡ ss))
     → SettlesUnless OutOfMemory p (make a new) result (pushing p (Ok s))
-pushed_answer p a ss new s (Ok x) e h k = inl (subst (λ q. pushing q (Ok s) ≡ Ok (make a new)) e (pushing_room (make a ss) (Ok s) h ∙ ap (λ u. Ok (make a u)) (sym k)))
+pushed_answer p a ss new s (Ok x) e h k =
+    inl (subst (λ q. pushing q (Ok s) ≡ Ok (make a new)) e (pushing_room (make a ss) (Ok s) h ∙ ap (λ u. Ok (make a u)) (sym k)))
 pushed_answer p a ss new s (Err x) e h k = inr (ap Err k.0, ap (make a) k.1 ∙ e)
 
-pub pushed_fault : (p : PathParts) (a : Bool) (ss : List (List ℕ)) (s : List ℕ) (result : Result (Unit {0}) PathError) → make a ss ≡ p → length ss < max_segments → IfErr (pushing p (Ok s)) (λ e. result ≡ Err e)
-pushed_fault p a ss s result e h = subst (λ q. IfErr (pushing q (Ok s)) (λ e. result ≡ Err e)) e (subst (λ r. IfErr r (λ e. result ≡ Err e)) (sym (pushing_room (make a ss) (Ok s) h)) tt)
+pub pushed_fault : (p : PathParts) (a : Bool) (ss : List (List ℕ)) (s : List ℕ) (result : Result (Unit {0}) PathError) → make a ss ≡ p
+    → length ss < max_segments → IfErr (pushing p (Ok s)) (λ e. result ≡ Err e)
+pushed_fault p a ss s result e h =
+    subst (λ q. IfErr (pushing q (Ok s)) (λ e. result ≡ Err e)) e (subst (λ r. IfErr r (λ e. result ≡ Err e)) (sym (pushing_room (make a ss) (Ok s) h)) tt)
 
-pub counted_pushed : (ss new : List (List ℕ)) (s : List ℕ) (result : Result (Unit {0}) PathError) → IsCounted ss → length ss < max_segments → MatchResult result (λ _. new ≡ with_last ss s) (λ e. (e ≡ OutOfMemory) × (new ≡ ss)) → IsCounted new
+pub counted_pushed : (ss new : List (List ℕ)) (s : List ℕ) (result : Result (Unit {0}) PathError) → IsCounted ss → length ss < max_segments
+    → MatchResult result (λ _. new ≡ with_last ss s) (λ e. (e ≡ OutOfMemory) × (new ≡ ss)) → IsCounted new
 counted_pushed ss new s (Ok x) is h k = subst IsCounted (sym k) (counted-with_last ss s is.some h)
 counted_pushed ss new s (Err x) is h k = subst IsCounted (sym k.1) is
 
 -- ---- what a push of bytes answers
 
-pub refused_answer : (p : PathParts) (e : PathError) (result : Result (Unit {0}) PathError) → length p.segments < max_segments → result ≡ Err e → SettlesUnless OutOfMemory p p result (pushing p (Err e))
+pub refused_answer : (p : PathParts) (e : PathError) (result : Result (Unit {0}) PathError) → length p.segments < max_segments → result ≡ Err e
+    → SettlesUnless OutOfMemory p p result (pushing p (Err e))
 refused_answer p e result h k = inl (subst (λ r. Settles p p r (pushing p (Err e))) (sym k) (pushing_room p (Err e) h, refl))
 
-pub refused_fault : (p : PathParts) (e : PathError) (result : Result (Unit {0}) PathError) → length p.segments < max_segments → result ≡ Err e → IfErr (pushing p (Err e)) (λ x. result ≡ Err x)
+pub refused_fault : (p : PathParts) (e : PathError) (result : Result (Unit {0}) PathError) → length p.segments < max_segments → result ≡ Err e
+    → IfErr (pushing p (Err e)) (λ x. result ≡ Err x)
 refused_fault p e result h k = subst (λ r. IfErr r (λ x. result ≡ Err x)) (sym (pushing_room p (Err e) h)) k

@@ -1,5 +1,6 @@
 -- The leftmost fault of a path, token by token.
-use Rattle.std.proofs.Common.{◌≡◌, ◌↔◌, ℕ, ◌+◌, ◌<◌, ◌≤◌, Bool, true, false, ◌&&◌, cond, nat_lt, List, [], ◌∷◌, length, take, take_all, drop, Option, Some, None, refl, sym, ap, ◌∙◌, arith, add-one, inl, inr, ⊎_elim}
+use Rattle.std.proofs.Common.{◌≡◌, ◌↔◌, ℕ, ◌+◌, ◌<◌, ◌≤◌, Bool, true, false, ◌&&◌, cond, nat_lt, List, [], ◌∷◌, length, take, take_all, drop, Option, Some}
+use Rattle.std.proofs.Common.{None, refl, sym, ap, ◌∙◌, arith, add-one, inl, inr, ⊎_elim}
 use Rattle.std.specs.Prelude.{◌==◌, ◌⊎◌}
 use Rattle.std.specs.Option.{option_or, option_map}
 use Rattle.std.proofs.Math.Seq.{take-nil}
@@ -17,6 +18,8 @@ use Rattle.uriparse_path.specs.declared.path.error.PathError.TheVariants.{Exceed
 use Rattle.uriparse_path.specs.Segment as segment
 use Rattle.uriparse_path.specs.Path.{is_slash}
 use Rattle.uriparse_path.specs.Faults.{fault_within, first_fault, length_fault}
+use Rattle.uriparse_text.proofs.FineLemmas.{hex_plain}
+use Rattle.uriparse_text.proofs.TokenLemmas.{escape_at}
 use Rattle.uriparse_path.proofs.SplitLemmas.{IsCut, cut, pieces-byte, pieces-slash}
 
 -- ---- piece by piece
@@ -60,7 +63,8 @@ pub record SameFrom (n : ℕ) (t u : List ℕ) : Type 0 where
   pub fault : fault_within (n + 1) (slice_split is_slash t) ≡ fault_within (n + 1) (slice_split is_slash u)
 
 -- where the first pieces have one fault, and the others are the same
-same_first : (n : ℕ) (t u q r : List ℕ) (qs : List (List ℕ)) → slice_split is_slash t ≡ q ∷ qs → slice_split is_slash u ≡ r ∷ qs → segment.fault q ≡ segment.fault r → SameFrom n t u
+same_first : (n : ℕ) (t u q r : List ℕ) (qs : List (List ℕ)) → slice_split is_slash t ≡ q ∷ qs → slice_split is_slash u ≡ r ∷ qs
+    → segment.fault q ≡ segment.fault r → SameFrom n t u
 same_first n t u q r qs e f same = record {
   pieces = rw (e, f) refl;
   fault = rw (e, f, within-cons n q qs, within-cons n r qs, same) refl;
@@ -86,7 +90,8 @@ hex_not_slash b h = other_than_slash is_hex b refl h
 pub behind_plain : (n b : ℕ) (after : List ℕ) → is_plain Segment b ≡ true → SameFrom n (b ∷ after) after
 behind_plain n b after plain =
     let is = cut after in
-    same_first n (b ∷ after) after (b ∷ is.first) is.first is.others (pieces-byte b after (plain_not_slash b plain) is) is.pieces (ap (option_map segment.error_of) (fault-plain Segment b is.first plain))
+    same_first n (b ∷ after) after (b ∷ is.first) is.first is.others (pieces-byte b after (plain_not_slash b plain) is) is.pieces
+    (ap (option_map segment.error_of) (fault-plain Segment b is.first plain))
 
 pub behind_escape : (n b : ℕ) (after : List ℕ) → is_escape b after ≡ true → SameFrom n (b ∷ after) (drop 2 after)
 behind_escape n b [] h = cc
@@ -97,11 +102,28 @@ behind_escape n b (high ∷ low ∷ rest) h =
     let inner = and_parts (b == percent) (is_hex high) outer.0 in
     let sign : is_slash b ≡ false = ap is_slash (eqb-true b percent inner.0) in
     let low_is : IsCut (low ∷ rest) = record { first = low ∷ is.first; others = is.others; pieces = pieces-byte low rest (hex_not_slash low outer.1) is } in
-    let high_is : IsCut (high ∷ low ∷ rest) = record { first = high ∷ low ∷ is.first; others = is.others; pieces = pieces-byte high (low ∷ rest) (hex_not_slash high inner.1) low_is } in
-    same_first n (b ∷ high ∷ low ∷ rest) rest (b ∷ high ∷ low ∷ is.first) is.first is.others (pieces-byte b (high ∷ low ∷ rest) sign high_is) is.pieces (ap (option_map segment.error_of) (fault-escape Segment b (high ∷ low ∷ is.first) h))
+    let high_is : IsCut (high ∷ low ∷ rest) = record {
+      first = high ∷ low ∷ is.first;
+      others = is.others;
+      pieces = pieces-byte high (low ∷ rest) (hex_not_slash high inner.1) low_is;
+    } in
+    same_first n (b ∷ high ∷ low ∷ rest) rest (b ∷ high ∷ low ∷ is.first) is.first is.others (pieces-byte b (high ∷ low ∷ rest) sign high_is) is.pieces
+    (ap (option_map segment.error_of) (fault-escape Segment b (high ∷ low ∷ is.first) h))
+
+-- so does its `%` alone, since its digits are bytes of the class,
+pub behind_sign : (n b : ℕ) (after : List ℕ) → is_escape b after ≡ true → SameFrom n (b ∷ after) after
+behind_sign n b [] h = cc
+behind_sign n b (c ∷ []) h = cc
+behind_sign n b (high ∷ low ∷ rest) h =
+    let whole = behind_escape n b (high ∷ low ∷ rest) h in
+    let both = and_parts (is_hex high) (is_hex low) (escape_at b (high ∷ low ∷ rest) h).digits in
+    let first = behind_plain n high (low ∷ rest) (hex_plain Segment high both.0) in
+    let second = behind_plain n low rest (hex_plain Segment low both.1) in
+    record { pieces = whole.pieces ∙ sym second.pieces ∙ sym first.pieces; fault = whole.fault ∙ sym second.fault ∙ sym first.fault }
 
 -- a slash begins a segment more,
-pub behind_slash : (n b : ℕ) (after : List ℕ) → is_slash b ≡ true → fault_within (n + 1 + 1) (slice_split is_slash (b ∷ after)) ≡ fault_within (n + 1) (slice_split is_slash after)
+pub behind_slash : (n b : ℕ) (after : List ℕ) → is_slash b ≡ true
+    → fault_within (n + 1 + 1) (slice_split is_slash (b ∷ after)) ≡ fault_within (n + 1) (slice_split is_slash after)
 behind_slash n b after e =
     rw (pieces-slash b after e, within-cons (n + 1) [] (slice_split is_slash after), empty_segment) refl
 
@@ -137,7 +159,8 @@ escape_in_piece b (c ∷ d ∷ t) is h = ⊎_elim
     (first-cons c (d ∷ t) is)
 
 -- no token of a segment begins here
-pub faulty_byte : (n b : ℕ) (after : List ℕ) → is_plain Segment b ≡ false → is_slash b ≡ false → is_escape b after ≡ false → fault_within (n + 1) (slice_split is_slash (b ∷ after)) ≡ Some (segment.error_of b)
+pub faulty_byte : (n b : ℕ) (after : List ℕ) → is_plain Segment b ≡ false → is_slash b ≡ false → is_escape b after ≡ false
+    → fault_within (n + 1) (slice_split is_slash (b ∷ after)) ≡ Some (segment.error_of b)
 faulty_byte n b after plain other never =
     let is = cut after in
     let here : text.fault Segment (b ∷ is.first) ≡ Some b = fault-here Segment b is.first plain (never_in_piece is (is_escape b is.first) refl) in
@@ -166,13 +189,13 @@ segment_none s h = (no_fault Segment s).0 (unmapped (text.fault Segment s) h)
 none_segment : (s : List ℕ) → segment.is_segment s ≡ true → segment.fault s ≡ None
 none_segment s h = ap (option_map segment.error_of) ((no_fault Segment s).1 h)
 
-all_segments : (ps : List (List ℕ)) → first_fault ps ≡ None → list_all segment.is_segment ps ≡ true
+pub all_segments : (ps : List (List ℕ)) → first_fault ps ≡ None → list_all segment.is_segment ps ≡ true
 all_segments [] h = refl
 all_segments (s ∷ ss) h =
     let both = or_none (segment.fault s) (first_fault ss) h in
     and_from _ _ (segment_none s both.0) (all_segments ss both.1)
 
-no_segment_fault : (ps : List (List ℕ)) → list_all segment.is_segment ps ≡ true → first_fault ps ≡ None
+pub no_segment_fault : (ps : List (List ℕ)) → list_all segment.is_segment ps ≡ true → first_fault ps ≡ None
 no_segment_fault [] h = refl
 no_segment_fault (s ∷ ss) h =
     let both = and_parts _ _ h in rw (none_segment s both.0) (no_segment_fault ss both.1)

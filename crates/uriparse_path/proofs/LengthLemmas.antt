@@ -1,30 +1,18 @@
 -- No normal form of a relative path has more segments than the path.
-use Rattle.std.proofs.Common.{◌≡◌, ◌↔◌, ℕ, ◌+◌, ◌<◌, ◌≤◌, Bool, true, false, not, cond, List, [], ◌∷◌, ◌++◌, length, map, refl, sym, ap, ◌∙◌, subst, arith, ◌&&◌, ◌||◌, inl, inr, ⊎_elim, length-append}
+use Rattle.std.proofs.Common.{◌≡◌, ℕ, ◌+◌, ◌<◌, ◌≤◌, Bool, true, false, not, cond, List, [], ◌∷◌, ◌++◌, length, refl, sym, ap, ◌∙◌, subst, arith}
+use Rattle.std.proofs.Common.{◌&&◌, inl, inr, ⊎_elim, length-append}
 use Rattle.std.specs.Prelude.{reverse, ◌⊎◌}
-use Rattle.std.specs.List.{list_all}
-use Rattle.std.proofs.lemmas.Bool.{false≢true, not-true, and_parts, and_from, or_parts, or_left}
+use Rattle.std.proofs.lemmas.Bool.{false≢true}
 use Rattle.std.proofs.lemmas.List.{reverse-append, length-reverse}
-use Rattle.std.proofs.lemmas.List.Folds.{list_all-append, list_any-append}
-use Rattle.std.proofs.lemmas.Slice.Eq.{bytes_eq-Decides}
 use Rattle.uriparse_text.specs.Bytes.{dot}
-use Rattle.uriparse_text.specs.Bytes.{is_unreserved}
-use Rattle.uriparse_text.specs.Classes.{is_plain}
-use Rattle.uriparse_text.specs.Faults.{allows}
-use Rattle.uriparse_text.specs.Tokens.{tokens}
-use Rattle.uriparse_text.specs.Canon.{canon}
-use Rattle.uriparse_text.proofs.TokenLemmas.{tokens-nil}
-use Rattle.uriparse_text.specs.declared.parts.class.Class.TheVariants.{Segment}
-use Rattle.uriparse_text.specs.declared.parts.canonical.Case.TheVariants.{Kept}
-use Rattle.uriparse_text.proofs.CanonLemmas.{spelling-spelling}
-use Rattle.uriparse_text.proofs.ClassLemmas.{well_formed-in_class}
-use Rattle.uriparse_path.specs.Segment.{is_segment}
 use Rattle.uriparse_path.specs.Path.{IsListed, hides_root, IsCounted}
-use Rattle.uriparse_path.specs.Dots.{is_single_dot, is_double_dot, is_dot_segment, has_dot_segment}
-use Rattle.uriparse_path.specs.Relative.{Deletes, single, pair, Leads, done, more, IsIrreducible, is_last, is_first, closed, has_colon, needs_guard, guarded, filled, put, put_all, reduced, relative_normal}
-use Rattle.uriparse_path.specs.Normal.{is_canonical, climbs_first, is_guarded}
+use Rattle.uriparse_path.specs.Dots.{is_single_dot, is_double_dot, is_dot_segment}
+use Rattle.uriparse_path.specs.Relative.{Deletes, single, pair, Leads, done, more, is_last, closed, has_colon, needs_guard, guarded}
+use Rattle.uriparse_path.specs.Relative.{filled, put, put_all, reduced, relative_normal}
+use Rattle.uriparse_path.specs.Normal.{climbs_first}
 use Rattle.uriparse_path.proofs.TextLemmas.{is_listed, counted}
-use Rattle.uriparse_path.proofs.DotLemmas.{not_both, neither, no_dot, single_dot, double_dot, empty_double, empty_no_dot, dot_single, canon-dot, single_is, single-canon, double-canon, dot-canon, canon-empty, has_colon-canon}
-use Rattle.uriparse_path.proofs.CanonicalLemmas.{canon-nil, each-canon, length-canon}
+use Rattle.uriparse_path.proofs.DotLemmas.{not_both, no_dot}
+use Rattle.uriparse_path.proofs.CanonicalLemmas.{length-canon}
 use Rattle.uriparse_path.proofs.ReduceLemmas.{leads_iff, put_all-append, put_single}
 use Rattle.uriparse_path.proofs.RelativeLemmas.{reduced_climbs, shaped, relative_is, each_shaped, climbing_kept, some_filled}
 
@@ -65,7 +53,8 @@ two_gone l h =
 -- one makes room for the front
 one_gone : (l : List (List ℕ)) → length (reduced l) < length l → closed (is_last is_dot_segment l) (reduced l) ≡ reduced l → length (shaped l) ≤ length l
 one_gone l h e =
-    subst (λ u. length (filled (guarded l u)) ≤ length l) (sym e) (length_filled (guarded l (reduced l)) (length l) (omega arith) (omega (arith, length_guarded l (reduced l))))
+    subst (λ u. length (filled (guarded l u)) ≤ length l) (sym e)
+    (length_filled (guarded l (reduced l)) (length l) (omega arith) (omega (arith, length_guarded l (reduced l))))
 
 none_gone : (l : List (List ℕ)) → 0 < length l → hides_root l ≡ false → reduced l ≡ l → length (shaped l) ≤ length l
 none_gone l some h e =
@@ -109,13 +98,16 @@ module _ (front : List (List ℕ)) (y : List ℕ) (h : hides_root (front ++ y �
   reduced_push = ap reverse (put_all-append [] front (y ∷ []))
 
   other_last : is_dot_segment y ≡ false → length (shaped (front ++ y ∷ [])) ≤ length (front ++ y ∷ [])
-  other_last e = open_end (front ++ y ∷ []) (omega (arith, longer)) h (ap (λ v. closed v (reduced (front ++ y ∷ []))) (last_push is_dot_segment front y ∙ e) ∙ closed_not (reduced (front ++ y ∷ [])))
+  other_last e = open_end (front ++ y ∷ []) (omega (arith, longer)) h (ap (λ v. closed v (reduced (front ++ y ∷ []))) (last_push is_dot_segment front y ∙ e)
+      ∙ closed_not (reduced (front ++ y ∷ [])))
 
   kept_last : is_last is_double_dot (reduced (front ++ y ∷ [])) ≡ true → length (shaped (front ++ y ∷ [])) ≤ length (front ++ y ∷ [])
   kept_last e = open_end (front ++ y ∷ []) (omega (arith, longer)) h (closed_double (is_last is_dot_segment (front ++ y ∷ [])) (reduced (front ++ y ∷ [])) e)
 
-  pushed_last : (stack : List (List ℕ)) → is_double_dot y ≡ true → put (put_all [] front) y ≡ y ∷ stack → length (shaped (front ++ y ∷ [])) ≤ length (front ++ y ∷ [])
-  pushed_last stack d e = kept_last (ap (is_last is_double_dot) (reduced_push ∙ ap reverse e ∙ reverse-append (y ∷ []) stack) ∙ last_push is_double_dot (reverse stack) y ∙ d)
+  pushed_last : (stack : List (List ℕ)) → is_double_dot y ≡ true → put (put_all [] front) y ≡ y ∷ stack
+      → length (shaped (front ++ y ∷ [])) ≤ length (front ++ y ∷ [])
+  pushed_last stack d e = kept_last (ap (is_last is_double_dot) (reduced_push ∙ ap reverse e ∙ reverse-append (y ∷ []) stack)
+      ∙ last_push is_double_dot (reverse stack) y ∙ d)
 
   double_last : is_double_dot y ≡ true → length (shaped (front ++ y ∷ [])) ≤ length (front ++ y ∷ [])
   double_last d = by_stack (put_all [] front) refl
@@ -132,13 +124,16 @@ module _ (front : List (List ℕ)) (y : List ℕ) (h : hides_root (front ++ y �
               let some : length (reduced front) ≤ length front = ⊎_elim (λ g. omega arith) (λ g. omega (arith, ap length g)) (leads_reduced front) in
               two_gone (front ++ y ∷ []) (omega (arith, longer, ap length gone, length-reverse stack, all, some))
 
-single_last : (front : List (List ℕ)) (y : List ℕ) → hides_root (front ++ y ∷ []) ≡ false → is_single_dot y ≡ true → length (shaped (front ++ y ∷ [])) ≤ length (front ++ y ∷ [])
-single_last front y h d = ⊎_elim (λ g. two_gone (front ++ y ∷ []) (omega (arith, g, ap length gone, longer front y h))) (λ g. by_front front h (gone ∙ g)) (leads_reduced front)
+single_last : (front : List (List ℕ)) (y : List ℕ) → hides_root (front ++ y ∷ []) ≡ false → is_single_dot y ≡ true
+    → length (shaped (front ++ y ∷ [])) ≤ length (front ++ y ∷ [])
+single_last front y h d = ⊎_elim (λ g. two_gone (front ++ y ∷ []) (omega (arith, g, ap length gone, longer front y h))) (λ g. by_front front h (gone
+    ∙ g)) (leads_reduced front)
   where
     gone : reduced (front ++ y ∷ []) ≡ reduced front
     gone = reduced_push front y h ∙ ap reverse (put_single (put_all [] front) y d)
 
-    ends : (b : ℕ) (s : List ℕ) (f : List (List ℕ)) (v : Bool) → length (filled (guarded ((b ∷ s) ∷ (f ++ y ∷ [])) (cond v (((b ∷ s) ∷ f) ++ [] ∷ []) ((b ∷ s) ∷ f)))) ≤ length ((b ∷ s) ∷ (f ++ y ∷ []))
+    ends : (b : ℕ) (s : List ℕ) (f : List (List ℕ)) (v : Bool)
+        → length (filled (guarded ((b ∷ s) ∷ (f ++ y ∷ [])) (cond v (((b ∷ s) ∷ f) ++ [] ∷ []) ((b ∷ s) ∷ f)))) ≤ length ((b ∷ s) ∷ (f ++ y ∷ []))
     ends b s f true = rw (never_own (has_colon (b ∷ s))) (omega (arith, length-append f (y ∷ []), length-append f ([] ∷ [])))
     ends b s f false = rw (never_own (has_colon (b ∷ s))) (omega (arith, length-append f (y ∷ [])))
 
@@ -147,7 +142,8 @@ single_last front y h d = ⊎_elim (λ g. two_gone (front ++ y ∷ []) (omega (a
     by_front ([] ∷ []) k e = absurd (false≢true (sym k))
     by_front ([] ∷ r ∷ f) k e = absurd (false≢true (sym k))
     by_front ((b ∷ s) ∷ f) k e =
-        subst (λ u. length (filled (guarded ((b ∷ s) ∷ (f ++ y ∷ [])) (closed (is_last is_dot_segment ((b ∷ s) ∷ (f ++ y ∷ []))) u))) ≤ length ((b ∷ s) ∷ (f ++ y ∷ []))) (sym e)
+        subst (λ u. length (filled (guarded ((b ∷ s) ∷ (f ++ y ∷ [])) (closed (is_last is_dot_segment ((b ∷ s) ∷ (f ++ y ∷ []))) u))) ≤ length
+        ((b ∷ s) ∷ (f ++ y ∷ []))) (sym e)
         (ends b s f (is_last is_dot_segment ((b ∷ s) ∷ (f ++ y ∷ [])) && not (is_last is_double_dot ((b ∷ s) ∷ f))))
 
 -- a list that isn't empty has a last segment

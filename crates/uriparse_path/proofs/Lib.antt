@@ -21,3 +21,4 @@ mod CountLemmas
 mod EditLemmas
 mod ElementLemmas
 pub mod ReadLemmas
+pub mod LimitLemmas

@@ -1,5 +1,6 @@
 -- Normal forms of a base's and a reference's path, and their merged path without dot segments.
-use Rattle.std.proofs.Common.{◌≡◌, ℕ, ◌+◌, ◌<◌, ◌≤◌, Bool, true, false, not, cond, List, [], ◌∷◌, ◌++◌, suc, length, refl, sym, ap, ◌∙◌, subst, arith, ◌&&◌, ◌||◌, append-nil, append_assoc, length-append}
+use Rattle.std.proofs.Common.{◌≡◌, ℕ, ◌+◌, ◌<◌, ◌≤◌, Bool, true, false, not, cond, List, [], ◌∷◌, ◌++◌, suc, length, refl, sym, ap, ◌∙◌, subst, arith, ◌&&◌}
+use Rattle.std.proofs.Common.{◌||◌, append-nil, append_assoc, length-append}
 use Rattle.std.specs.Prelude.{reverse}
 use Rattle.std.proofs.lemmas.Bool.{false≢true, or_parts}
 use Rattle.std.proofs.lemmas.List.{reverse-append}
@@ -13,7 +14,8 @@ use Rattle.uriparse_path.proofs.DotLemmas.{empty_single, empty_double, dot_singl
 use Rattle.uriparse_path.proofs.ReduceLemmas.{put_all-append, put_plain}
 use Rattle.uriparse_path.proofs.RelativeLemmas.{shaped}
 use Rattle.uriparse_path.proofs.LengthLemmas.{last_push, Pushed, pushed}
-use Rattle.uriparse_path.proofs.NormalLemmas.{listed_replayed, pnormal_dots, pnormal_plain, spelled_canon_undot, respelled-canonical, replay_kept, rooted_kept, has_dot-respelled, none_plain, plain_replayed, length_replay, length_cut}
+use Rattle.uriparse_path.proofs.NormalLemmas.{listed_replayed, pnormal_dots, pnormal_plain, spelled_canon_undot, respelled-canonical, replay_kept, rooted_kept}
+use Rattle.uriparse_path.proofs.NormalLemmas.{has_dot-respelled, none_plain, plain_replayed, length_replay, length_cut}
 use Rattle.uriparse_path.proofs.CommuteLemmas.{replayed-canon, canonical_twice}
 
 -- ---- the directory behind which the segments come out, the last one's empty segment left out
@@ -51,7 +53,9 @@ replay_more : (out : List (List ℕ)) (s : List ℕ) (ss : List (List ℕ)) → 
 replay_more out s [] h = absurd (omega arith)
 replay_more out s (r ∷ ss) h = by_kind (is_single_dot s) (is_double_dot s)
   where
-    by_kind : (v w : Bool) → cond v (replay out (r ∷ ss)) (cond w (replay (all_but_last out) (r ∷ ss)) (replay (out ++ s ∷ []) (r ∷ ss))) ≡ replay (cond v out (cond w (all_but_last out) (out ++ s ∷ []))) (r ∷ ss)
+    by_kind : (v w : Bool)
+        → cond v (replay out (r ∷ ss)) (cond w (replay (all_but_last out) (r ∷ ss)) (replay (out ++ s ∷ []) (r ∷ ss)))
+        ≡ replay (cond v out (cond w (all_but_last out) (out ++ s ∷ []))) (r ∷ ss)
     by_kind true w = refl
     by_kind false true = refl
     by_kind false false = refl
@@ -76,9 +80,11 @@ walk_put out [] s = by_single (is_single_dot s) refl
     by_single false e = refl
 walk_put out (t ∷ stack) s = by_kind (is_single_dot s) refl (is_double_dot s) refl (is_dot_segment t) refl
   where
-    by_kind : (v : Bool) → is_single_dot s ≡ v → (w : Bool) → is_double_dot s ≡ w → (x : Bool) → is_dot_segment t ≡ x → walk out (reverse (cond v (t ∷ stack) (cond (w && not x) stack (s ∷ t ∷ stack)))) ≡ step (walk out (reverse (t ∷ stack))) s
+    by_kind : (v : Bool) → is_single_dot s ≡ v → (w : Bool) → is_double_dot s ≡ w → (x : Bool) → is_dot_segment t ≡ x
+        → walk out (reverse (cond v (t ∷ stack) (cond (w && not x) stack (s ∷ t ∷ stack)))) ≡ step (walk out (reverse (t ∷ stack))) s
     by_kind true e w f x g = sym (step_single (walk out (reverse (t ∷ stack))) s e)
-    by_kind false e true f false g = sym (ap (λ u. step u s) (walk_reverse out t stack ∙ step_plain (walk out (reverse stack)) t g) ∙ step_double (walk out (reverse stack) ++ t ∷ []) s f ∙ all_but_last_push (walk out (reverse stack)) t)
+    by_kind false e true f false g = sym (ap (λ u. step u s) (walk_reverse out t stack ∙ step_plain (walk out (reverse stack)) t g)
+        ∙ step_double (walk out (reverse stack) ++ t ∷ []) s f ∙ all_but_last_push (walk out (reverse stack)) t)
     by_kind false e true f true g = walk_reverse out s (t ∷ stack)
     by_kind false e false f x g = walk_reverse out s (t ∷ stack)
 
@@ -94,7 +100,8 @@ walk_reduced out r = walk_put_all out [] r
 replay_dot : (out : List (List ℕ)) (s : List ℕ) → is_dot_segment s ≡ true → replay out (s ∷ []) ≡ step out s ++ [] ∷ []
 replay_dot out s h = by_kind (is_single_dot s) (is_double_dot s) h
   where
-    by_kind : (v w : Bool) → (v || w) ≡ true → cond v (out ++ [] ∷ []) (cond w (all_but_last out ++ [] ∷ []) (out ++ s ∷ [])) ≡ cond v out (cond w (all_but_last out) (out ++ s ∷ [])) ++ [] ∷ []
+    by_kind : (v w : Bool) → (v || w) ≡ true
+        → cond v (out ++ [] ∷ []) (cond w (all_but_last out ++ [] ∷ []) (out ++ s ∷ [])) ≡ cond v out (cond w (all_but_last out) (out ++ s ∷ [])) ++ [] ∷ []
     by_kind true w k = refl
     by_kind false true k = refl
     by_kind false false k = absurd (false≢true k)
@@ -129,7 +136,8 @@ closed_dot : (out old m : List (List ℕ)) → replay out (filled (guarded old (
 closed_dot out old [] = replay_empty out
 closed_dot out old (s ∷ l) = by_double (is_last is_double_dot (s ∷ l)) refl
   where
-    by_double : (v : Bool) → is_last is_double_dot (s ∷ l) ≡ v → replay out (filled (guarded old (cond (not v) ((s ∷ l) ++ [] ∷ []) (s ∷ l)))) ≡ walk out (s ∷ l) ++ [] ∷ []
+    by_double : (v : Bool) → is_last is_double_dot (s ∷ l) ≡ v
+        → replay out (filled (guarded old (cond (not v) ((s ∷ l) ++ [] ∷ []) (s ∷ l)))) ≡ walk out (s ∷ l) ++ [] ∷ []
     by_double true e =
         let is = pushed s l in
         let d : is_double_dot is.last ≡ true = sym (last_of is_double_dot (s ∷ l) is) ∙ e in
@@ -176,7 +184,8 @@ shaped_same out (s ∷ r) h = let is = pushed s r in subst (λ u. replay out (sh
 directory_pushed : (out b : List (List ℕ)) (x : List ℕ) → is_double_dot x ≡ false → all_but_last (replay out (b ++ x ∷ [])) ≡ walk out b
 directory_pushed out b x h = ap all_but_last (replay-append out b (x ∷ []) (omega arith)) ∙ by_single (is_single_dot x)
   where
-    by_single : (v : Bool) → all_but_last (cond v (walk out b ++ [] ∷ []) (cond (is_double_dot x) (all_but_last (walk out b) ++ [] ∷ []) (walk out b ++ x ∷ []))) ≡ walk out b
+    by_single : (v : Bool)
+        → all_but_last (cond v (walk out b ++ [] ∷ []) (cond (is_double_dot x) (all_but_last (walk out b) ++ [] ∷ []) (walk out b ++ x ∷ []))) ≡ walk out b
     by_single true = all_but_last_push (walk out b) []
     by_single false = rw h (all_but_last_push (walk out b) x)
 
@@ -185,7 +194,8 @@ directory_replayed [] h = refl
 directory_replayed (s ∷ b) h =
     let is = pushed s b in
     let k : is_double_dot is.last ≡ false = sym (last_of is_double_dot (s ∷ b) is) ∙ h in
-    subst (λ u. all_but_last (replay [] u) ≡ walk [] (all_but_last u)) (sym is.whole) (directory_pushed [] is.front is.last k ∙ ap (walk []) (sym (all_but_last_push is.front is.last)))
+    subst (λ u. all_but_last (replay [] u) ≡ walk [] (all_but_last u)) (sym is.whole) (directory_pushed [] is.front is.last k
+    ∙ ap (walk []) (sym (all_but_last_push is.front is.last)))
 
 -- what a walk leaves has no dot segment, so a further walk keeps it
 no_dots_push : (out : List (List ℕ)) (s : List ℕ) → has_dot_segment out ≡ false → is_dot_segment s ≡ false → has_dot_segment (out ++ s ∷ []) ≡ false
@@ -200,7 +210,8 @@ no_dots_cut (s ∷ r ∷ out) h = let parts = or_parts (is_dot_segment s) (has_d
 no_dots_step : (out : List (List ℕ)) (s : List ℕ) → has_dot_segment out ≡ false → has_dot_segment (step out s) ≡ false
 no_dots_step out s h = by_kind (is_single_dot s) refl (is_double_dot s) refl
   where
-    by_kind : (v : Bool) → is_single_dot s ≡ v → (w : Bool) → is_double_dot s ≡ w → has_dot_segment (cond v out (cond w (all_but_last out) (out ++ s ∷ []))) ≡ false
+    by_kind : (v : Bool) → is_single_dot s ≡ v → (w : Bool) → is_double_dot s ≡ w
+        → has_dot_segment (cond v out (cond w (all_but_last out) (out ++ s ∷ []))) ≡ false
     by_kind true e w f = h
     by_kind false e true f = no_dots_cut out h
     by_kind false e false f = no_dots_push out s h (no_dot s e f)
@@ -224,7 +235,8 @@ some_filled : (l : List (List ℕ)) → 0 < length (filled l)
 some_filled [] = omega arith
 some_filled (s ∷ l) = omega arith
 
-pub merged_same : (b r : List (List ℕ)) → is_last is_double_dot b ≡ false → 0 < length r → replay [] (all_but_last b ++ r) ≡ replay [] (all_but_last (replay [] b) ++ shaped r)
+pub merged_same : (b r : List (List ℕ)) → is_last is_double_dot b ≡ false → 0 < length r
+    → replay [] (all_but_last b ++ r) ≡ replay [] (all_but_last (replay [] b) ++ shaped r)
 merged_same b r h n =
     replay-append [] (all_but_last b) r n
     ∙ sym (shaped_same (walk [] (all_but_last b)) r n)
@@ -247,7 +259,8 @@ no_dots_undotted p is = has_dot-respelled (replayed p) ∙ none_plain (replay []
 pub respelled_twice : (p : PathParts) → respelled (respelled p) ≡ respelled p
 respelled_twice p = by_shape p.absolute p.segments
   where
-    by_shape : (a : Bool) (l : List (List ℕ)) → respelled (respelled (record { absolute = a; segments = l })) ≡ respelled (record { absolute = a; segments = l })
+    by_shape : (a : Bool) (l : List (List ℕ))
+        → respelled (respelled (record { absolute = a; segments = l })) ≡ respelled (record { absolute = a; segments = l })
     by_shape true l = refl
     by_shape false [] = refl
     by_shape false ([] ∷ []) = refl
@@ -276,31 +289,38 @@ pnormal_is p r is h e = by_dots (has_dot_segment p.segments) refl
     by_dots true k = pnormal_dots p r e k ∙ spelled_canon_undot p is
     by_dots false k = pnormal_plain p r e k ∙ sym (ap canonical_path (undotted_kept p k ∙ h))
 
-pub dot_undotted : (a : Bool) (l : List (List ℕ)) → 0 < length l → undotted (record { absolute = a; segments = (dot ∷ []) ∷ l }) ≡ undotted (record { absolute = a; segments = l })
+pub dot_undotted : (a : Bool) (l : List (List ℕ)) → 0 < length l
+    → undotted (record { absolute = a; segments = (dot ∷ []) ∷ l }) ≡ undotted (record { absolute = a; segments = l })
 dot_undotted a l h =
     ap (λ v. respelled (record { absolute = v; segments = replay [] ((dot ∷ []) ∷ l) })) (dot_gone_rooted a l)
     ∙ ap (λ m. respelled (record { absolute = rooted_after a [] l; segments = m })) (dot_gone [] l h)
 
 -- ---- a path that comes to begin with an empty segment, and goes on, has become shorter
 
-hidden_popped : (s : List ℕ) (out l : List (List ℕ)) → hides_root (s ∷ out) ≡ false → 0 < length s → hides_root (replay (s ∷ out) l) ≡ true → length (replay (s ∷ out) l) ≤ length out + length l
+hidden_popped : (s : List ℕ) (out l : List (List ℕ)) → hides_root (s ∷ out) ≡ false → 0 < length s → hides_root (replay (s ∷ out) l) ≡ true
+    → length (replay (s ∷ out) l) ≤ length out + length l
 hidden_popped s out [] h n k = absurd (false≢true (sym h ∙ k))
 hidden_popped [] out (r ∷ l) h n k = absurd (omega arith)
 hidden_popped (b ∷ s) out (r ∷ []) h n k = absurd (by_kind (is_single_dot r) (is_double_dot r) out k)
   where
-    by_kind : (v w : Bool) (o : List (List ℕ)) → hides_root (cond v (((b ∷ s) ∷ o) ++ [] ∷ []) (cond w (all_but_last ((b ∷ s) ∷ o) ++ [] ∷ []) (((b ∷ s) ∷ o) ++ r ∷ []))) ≡ true → ⊥
+    by_kind : (v w : Bool) (o : List (List ℕ))
+        → hides_root (cond v (((b ∷ s) ∷ o) ++ [] ∷ []) (cond w (all_but_last ((b ∷ s) ∷ o) ++ [] ∷ []) (((b ∷ s) ∷ o) ++ r ∷ []))) ≡ true → ⊥
     by_kind true w o e = false≢true e
     by_kind false true [] e = false≢true e
     by_kind false true (t ∷ o) e = false≢true e
     by_kind false false o e = false≢true e
 hidden_popped (b ∷ s) out (r ∷ q ∷ l) h n k =
-    by_kind (is_single_dot r) (is_double_dot r) (length_replay ((b ∷ s) ∷ out) (q ∷ l)) (length_replay (all_but_last ((b ∷ s) ∷ out)) (q ∷ l)) (hidden_popped (b ∷ s) (out ++ r ∷ []) (q ∷ l) refl (omega arith)) k
+    by_kind (is_single_dot r) (is_double_dot r) (length_replay ((b ∷ s) ∷ out) (q ∷ l)) (length_replay (all_but_last ((b ∷ s) ∷ out)) (q ∷ l))
+    (hidden_popped (b ∷ s) (out ++ r ∷ []) (q ∷ l) refl (omega arith)) k
   where
     by_kind : (v w : Bool) → length (replay ((b ∷ s) ∷ out) (q ∷ l)) ≤ length ((b ∷ s) ∷ out) + length (q ∷ l)
         → length (replay (all_but_last ((b ∷ s) ∷ out)) (q ∷ l)) ≤ length (all_but_last ((b ∷ s) ∷ out)) + length (q ∷ l)
-        → (hides_root (replay ((b ∷ s) ∷ (out ++ r ∷ [])) (q ∷ l)) ≡ true → length (replay ((b ∷ s) ∷ (out ++ r ∷ [])) (q ∷ l)) ≤ length (out ++ r ∷ []) + length (q ∷ l))
-        → hides_root (cond v (replay ((b ∷ s) ∷ out) (q ∷ l)) (cond w (replay (all_but_last ((b ∷ s) ∷ out)) (q ∷ l)) (replay (((b ∷ s) ∷ out) ++ r ∷ []) (q ∷ l)))) ≡ true
-        → length (cond v (replay ((b ∷ s) ∷ out) (q ∷ l)) (cond w (replay (all_but_last ((b ∷ s) ∷ out)) (q ∷ l)) (replay (((b ∷ s) ∷ out) ++ r ∷ []) (q ∷ l)))) ≤ length out + length (r ∷ q ∷ l)
+        → (hides_root (replay ((b ∷ s) ∷ (out ++ r ∷ [])) (q ∷ l)) ≡ true
+        → length (replay ((b ∷ s) ∷ (out ++ r ∷ [])) (q ∷ l)) ≤ length (out ++ r ∷ []) + length (q ∷ l))
+        → hides_root (cond v (replay ((b ∷ s) ∷ out) (q ∷ l))
+        (cond w (replay (all_but_last ((b ∷ s) ∷ out)) (q ∷ l)) (replay (((b ∷ s) ∷ out) ++ r ∷ []) (q ∷ l)))) ≡ true
+        → length (cond v (replay ((b ∷ s) ∷ out) (q ∷ l))
+        (cond w (replay (all_but_last ((b ∷ s) ∷ out)) (q ∷ l)) (replay (((b ∷ s) ∷ out) ++ r ∷ []) (q ∷ l)))) ≤ length out + length (r ∷ q ∷ l)
     by_kind true w x y z e = omega (arith, x)
     by_kind false true x y z e = let c = length_cut ((b ∷ s) ∷ out) in omega (arith, y, c)
     by_kind false false x y z e = let g = z e in omega (arith, g, length-append out (r ∷ []))
@@ -330,7 +350,9 @@ shorter ((b ∷ s) ∷ r ∷ l) h k =
 pub room : (p : PathParts) → hides_root p.segments ≡ false → hides_root (undotted p).segments ≡ true → suc (length (undotted p).segments) ≤ length p.segments
 room p h k = by_shape (rooted_after p.absolute [] p.segments) (replay [] p.segments) (shorter p.segments h) (length_replay [] p.segments) k
   where
-    by_shape : (a : Bool) (l : List (List ℕ)) → (hides_root l ≡ true → suc (length l) ≤ length p.segments) → length l ≤ 0 + length p.segments → hides_root (respelled (record { absolute = a; segments = l })).segments ≡ true → suc (length (respelled (record { absolute = a; segments = l })).segments) ≤ length p.segments
+    by_shape : (a : Bool) (l : List (List ℕ)) → (hides_root l ≡ true → suc (length l) ≤ length p.segments) → length l ≤ 0 + length p.segments
+        → hides_root (respelled (record { absolute = a; segments = l })).segments ≡ true
+        → suc (length (respelled (record { absolute = a; segments = l })).segments) ≤ length p.segments
     by_shape true l f g e = f e
     by_shape false [] f g e = absurd (false≢true e)
     by_shape false ([] ∷ []) f g e = absurd (false≢true e)

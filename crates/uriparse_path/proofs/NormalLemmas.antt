@@ -1,5 +1,6 @@
 -- Paths without their dot segments, and their normal forms.
-use Rattle.std.proofs.Common.{◌≡◌, ◌↔◌, ℕ, ◌+◌, ◌<◌, ◌≤◌, Bool, true, false, not, cond, List, [], ◌∷◌, ◌++◌, length, drop, map, refl, sym, ap, ◌∙◌, subst, arith, ◌&&◌, ◌||◌, length-append, append-nil, append_assoc}
+use Rattle.std.proofs.Common.{◌≡◌, ◌↔◌, ℕ, ◌+◌, ◌<◌, ◌≤◌, Bool, true, false, not, cond, List, [], ◌∷◌, ◌++◌, length, drop, map, refl, sym, ap, ◌∙◌, subst}
+use Rattle.std.proofs.Common.{arith, ◌&&◌, ◌||◌, length-append, append-nil, append_assoc}
 use Rattle.std.specs.List.{list_all, slice_split, join_with_byte}
 use Rattle.std.proofs.lemmas.Bool.{false≢true, not-true, and_parts, and_from, or_parts}
 use Rattle.std.proofs.lemmas.List.Folds.{list_all-append}
@@ -7,14 +8,16 @@ use Rattle.uriparse_text.specs.Bytes.{slash}
 use Rattle.uriparse_text.specs.Canon.{canon}
 use Rattle.uriparse_path.specs.Segment.{is_segment}
 use Rattle.uriparse_path.specs.Path.{PathParts, IsListed, text, is_slash, is_rooted, pieces, spelled, hides_root, respelled}
-use Rattle.uriparse_path.specs.Dots.{is_single_dot, is_double_dot, is_dot_segment, has_dot_segment, all_but_last, replay, rooted_after, replayed, undot, without_dots}
+use Rattle.uriparse_path.specs.Dots.{is_single_dot, is_double_dot, is_dot_segment, has_dot_segment, all_but_last, replay, rooted_after, replayed, undot}
+use Rattle.uriparse_path.specs.Dots.{without_dots}
 use Rattle.uriparse_path.specs.Relative.{is_first, has_colon, relative_normal}
 use Rattle.uriparse_path.specs.Normal.{canonical_path, stays_relative, pnormal, is_canonical, climbs_first, is_guarded, is_normal}
 use Rattle.uriparse_path.proofs.TextLemmas.{text-spelled, spelled-text, listed-respelled, pieces-segments, lacks_slash, rooted-relative}
 use Rattle.uriparse_path.proofs.CanonicalLemmas.{canon-nil, canon-text, length-canon, listed-canonical, is_rooted-canon}
 use Rattle.uriparse_path.proofs.DotLemmas.{empty_no_dot, no_dot}
 use Rattle.uriparse_path.proofs.ReplayLemmas.{AreClean, replay_some, once_rooted, undot-text}
-use Rattle.uriparse_path.proofs.RelativeLemmas.{colon_relative, all_canonical_same, all_canonical-canon, has_dot-canon, hides-canon, hides_relative, each_relative, some_relative, relative_iff, relative_twice, empty_segment}
+use Rattle.uriparse_path.proofs.RelativeLemmas.{colon_relative, all_canonical_same, all_canonical-canon, has_dot-canon, hides-canon, hides_relative}
+use Rattle.uriparse_path.proofs.RelativeLemmas.{each_relative, some_relative, relative_iff, relative_twice, empty_segment}
 use Rattle.uriparse_path.proofs.LengthLemmas.{length_relative}
 
 -- ---- replayed segments
@@ -41,12 +44,14 @@ plain_replay : (out l : List (List ℕ)) → list_all is_plain out ≡ true → 
 plain_replay out [] h k = h
 plain_replay out (s ∷ []) h k = by_kind (is_single_dot s) refl (is_double_dot s) refl
   where
-    by_kind : (v : Bool) → is_single_dot s ≡ v → (w : Bool) → is_double_dot s ≡ w → list_all is_plain (cond v (out ++ [] ∷ []) (cond w (all_but_last out ++ [] ∷ []) (out ++ s ∷ []))) ≡ true
+    by_kind : (v : Bool) → is_single_dot s ≡ v → (w : Bool) → is_double_dot s ≡ w
+        → list_all is_plain (cond v (out ++ [] ∷ []) (cond w (all_but_last out ++ [] ∷ []) (out ++ s ∷ []))) ≡ true
     by_kind true e w f = plain_push out [] h plain_empty
     by_kind false e true f = plain_push (all_but_last out) [] (plain_cut out h) plain_empty
     by_kind false e false f = plain_push out s h (plain_segment s (and_parts _ _ k).0 e f)
 plain_replay out (s ∷ r ∷ l) h k =
-    by_kind (is_single_dot s) refl (is_double_dot s) refl (plain_replay out (r ∷ l) h) (plain_replay (all_but_last out) (r ∷ l) (plain_cut out h)) (plain_replay (out ++ s ∷ []) (r ∷ l))
+    by_kind (is_single_dot s) refl (is_double_dot s) refl (plain_replay out (r ∷ l) h) (plain_replay (all_but_last out) (r ∷ l) (plain_cut out h))
+    (plain_replay (out ++ s ∷ []) (r ∷ l))
   where
     by_kind : (v : Bool) → is_single_dot s ≡ v → (w : Bool) → is_double_dot s ≡ w
         → (list_all is_segment (r ∷ l) ≡ true → list_all is_plain (replay out (r ∷ l)) ≡ true)
@@ -82,9 +87,12 @@ length_replay out (s ∷ []) = by_kind (is_single_dot s) (is_double_dot s)
     by_kind true w = omega (arith, length-append out ([] ∷ []))
     by_kind false true = omega (arith, length-append (all_but_last out) ([] ∷ []), length_cut out)
     by_kind false false = omega (arith, length-append out (s ∷ []))
-length_replay out (s ∷ r ∷ l) = by_kind (is_single_dot s) (is_double_dot s) (length_replay out (r ∷ l)) (length_replay (all_but_last out) (r ∷ l)) (length_replay (out ++ s ∷ []) (r ∷ l))
+length_replay out (s ∷ r ∷ l) =
+    by_kind (is_single_dot s) (is_double_dot s) (length_replay out (r ∷ l)) (length_replay (all_but_last out) (r ∷ l)) (length_replay (out ++ s ∷ []) (r ∷ l))
   where
-    by_kind : (v w : Bool) → length (replay out (r ∷ l)) ≤ length out + length (r ∷ l) → length (replay (all_but_last out) (r ∷ l)) ≤ length (all_but_last out) + length (r ∷ l) → length (replay (out ++ s ∷ []) (r ∷ l)) ≤ length (out ++ s ∷ []) + length (r ∷ l)
+    by_kind : (v w : Bool) → length (replay out (r ∷ l)) ≤ length out + length (r ∷ l)
+        → length (replay (all_but_last out) (r ∷ l)) ≤ length (all_but_last out) + length (r ∷ l)
+        → length (replay (out ++ s ∷ []) (r ∷ l)) ≤ length (out ++ s ∷ []) + length (r ∷ l)
         → length (cond v (replay out (r ∷ l)) (cond w (replay (all_but_last out) (r ∷ l)) (replay (out ++ s ∷ []) (r ∷ l)))) ≤ length out + length (s ∷ r ∷ l)
     by_kind true w x y z = omega (arith, x)
     by_kind false true x y z = omega (arith, y, length_cut out)
@@ -159,7 +167,8 @@ pub no_dots_left : (p : PathParts) → IsListed p.segments → has_dot_segment (
 no_dots_left p is = by_dots (has_dot_segment p.segments) refl
   where
     by_dots : (v : Bool) → has_dot_segment p.segments ≡ v → has_dot_segment (cond v (spelled (undot (text p))) p).segments ≡ false
-    by_dots true e = ap (λ q. has_dot_segment q.segments) (spelled_undot p is) ∙ has_dot-respelled (replayed p) ∙ none_plain (replay [] p.segments) (plain_replayed p is)
+    by_dots true e = ap (λ q. has_dot_segment q.segments) (spelled_undot p is) ∙ has_dot-respelled (replayed p)
+        ∙ none_plain (replay [] p.segments) (plain_replayed p is)
     by_dots false e = e
 
 pub listed_without_dots : (p : PathParts) → IsListed p.segments → IsListed (without_dots p).segments
@@ -173,22 +182,27 @@ pub length_without_dots : (p : PathParts) → IsListed p.segments → length (wi
 length_without_dots p is = by_dots (has_dot_segment p.segments)
   where
     by_dots : (v : Bool) → length (cond v (spelled (undot (text p))) p).segments ≤ length p.segments
-    by_dots true = let e = length_replay [] p.segments in let f = length-respelled (replayed p) in omega (arith, ap (λ q. length q.segments) (spelled_undot p is), e, f)
+    by_dots true = let e = length_replay [] p.segments in let f = length-respelled (replayed p) in
+        omega (arith, ap (λ q. length q.segments) (spelled_undot p is), e, f)
     by_dots false = omega arith
 
 -- ---- the three cases of a normal form
 
 pub pnormal_relative : (p : PathParts) (r : Bool) → stays_relative p r ≡ true → pnormal p r ≡ record { absolute = false; segments = relative_normal p.segments }
-pnormal_relative p r h = ap (λ v. cond v (record { absolute = false; segments = relative_normal p.segments }) (cond (has_dot_segment p.segments) (spelled (canon (undot (text p)))) (canonical_path p))) h
+pnormal_relative p r h =
+    ap (λ v. cond v (record { absolute = false; segments = relative_normal p.segments })
+    (cond (has_dot_segment p.segments) (spelled (canon (undot (text p)))) (canonical_path p))) h
 
 pub pnormal_dots : (p : PathParts) (r : Bool) → stays_relative p r ≡ false → has_dot_segment p.segments ≡ true → pnormal p r ≡ spelled (canon (undot (text p)))
 pnormal_dots p r h k =
-    ap (λ v. cond v (record { absolute = false; segments = relative_normal p.segments }) (cond (has_dot_segment p.segments) (spelled (canon (undot (text p)))) (canonical_path p))) h
+    ap (λ v. cond v (record { absolute = false; segments = relative_normal p.segments })
+    (cond (has_dot_segment p.segments) (spelled (canon (undot (text p)))) (canonical_path p))) h
     ∙ ap (λ v. cond v (spelled (canon (undot (text p)))) (canonical_path p)) k
 
 pub pnormal_plain : (p : PathParts) (r : Bool) → stays_relative p r ≡ false → has_dot_segment p.segments ≡ false → pnormal p r ≡ canonical_path p
 pnormal_plain p r h k =
-    ap (λ v. cond v (record { absolute = false; segments = relative_normal p.segments }) (cond (has_dot_segment p.segments) (spelled (canon (undot (text p)))) (canonical_path p))) h
+    ap (λ v. cond v (record { absolute = false; segments = relative_normal p.segments })
+    (cond (has_dot_segment p.segments) (spelled (canon (undot (text p)))) (canonical_path p))) h
     ∙ ap (λ v. cond v (spelled (canon (undot (text p)))) (canonical_path p)) k
 
 -- what holds of each case holds of the normal form
@@ -207,7 +221,8 @@ by_case p r P f g h = by_tests (stays_relative p r) refl (has_dot_segment p.segm
 pub respelled-canonical : (p : PathParts) → respelled (canonical_path p) ≡ canonical_path (respelled p)
 respelled-canonical p = by_shape p.absolute p.segments
   where
-    by_shape : (a : Bool) (l : List (List ℕ)) → respelled (canonical_path (record { absolute = a; segments = l })) ≡ canonical_path (respelled (record { absolute = a; segments = l }))
+    by_shape : (a : Bool) (l : List (List ℕ))
+        → respelled (canonical_path (record { absolute = a; segments = l })) ≡ canonical_path (respelled (record { absolute = a; segments = l }))
     by_shape true l = refl
     by_shape false [] = refl
     by_shape false ([] ∷ []) = rw canon-nil refl
@@ -257,23 +272,27 @@ pub listed_pnormal : (p : PathParts) (r : Bool) → IsListed p.segments → IsLi
 listed_pnormal p r is = by_case p r (λ q. IsListed q.segments)
     (λ e. let rel = relative p r is e in let no_longer = length_relative p.segments is.some rel.shown in
     record { some = some_relative p.segments; short = omega (arith, is.short, no_longer); each = each_relative p.segments is.each })
-    (λ e k. subst (λ q. IsListed q.segments) (sym (spelled_canon_undot p is)) (listed-canonical (respelled (replayed p)).segments (listed-respelled (replayed p) (listed_replayed p is))))
+    (λ e k. subst (λ q. IsListed q.segments) (sym (spelled_canon_undot p is))
+    (listed-canonical (respelled (replayed p)).segments (listed-respelled (replayed p) (listed_replayed p is))))
     (λ e k. listed-canonical p.segments is)
 
 pub length_pnormal : (p : PathParts) (r : Bool) → IsListed p.segments → length (pnormal p r).segments ≤ length p.segments
 length_pnormal p r is = by_case p r (λ q. length q.segments ≤ length p.segments)
     (λ e. length_relative p.segments is.some (relative p r is e).shown)
-    (λ e k. let a = length_replay [] p.segments in let b = length-respelled (replayed p) in omega (arith, ap (λ q. length q.segments) (spelled_canon_undot p is), length-canon (respelled (replayed p)).segments, a, b))
+    (λ e k. let a = length_replay [] p.segments in let b = length-respelled (replayed p) in
+    omega (arith, ap (λ q. length q.segments) (spelled_canon_undot p is), length-canon (respelled (replayed p)).segments, a, b))
     (λ e k. let a = length-canon p.segments in omega (arith, a))
 
 -- ---- which paths are left as they are
 
-joined_same : (x y : List (List ℕ)) → 0 < length x → 0 < length y → list_all is_segment x ≡ true → list_all is_segment y ≡ true → join_with_byte slash x ≡ join_with_byte slash y → x ≡ y
+joined_same : (x y : List (List ℕ)) → 0 < length x → 0 < length y → list_all is_segment x ≡ true → list_all is_segment y ≡ true
+    → join_with_byte slash x ≡ join_with_byte slash y → x ≡ y
 joined_same [] y a b h k e = absurd (omega arith)
 joined_same (s ∷ x) [] a b h k e = absurd (omega arith)
 joined_same (s ∷ x) (r ∷ y) a b h k e = sym (pieces-segments s x h) ∙ ap (slice_split is_slash) e ∙ pieces-segments r y k
 
-pub text_same : (a : Bool) (x y : List (List ℕ)) → IsListed x → IsListed y → text (record { absolute = a; segments = x }) ≡ text (record { absolute = a; segments = y }) → x ≡ y
+pub text_same : (a : Bool) (x y : List (List ℕ)) → IsListed x → IsListed y
+    → text (record { absolute = a; segments = x }) ≡ text (record { absolute = a; segments = y }) → x ≡ y
 text_same true x y h k e = let f : join_with_byte slash x ≡ join_with_byte slash y = cc in joined_same x y h.some k.some h.each k.each f
 text_same false x y h k e = joined_same x y h.some k.some h.each k.each e
 
@@ -293,16 +312,20 @@ is_normal_by v p = list_all is_canonical p.segments && cond v (climbs_first p.se
 
 pub normal_iff : (p : PathParts) (r : Bool) → IsListed p.segments → (is_normal p r ≡ true) ↔ (text (pnormal p r) ≡ text p)
 normal_iff p r is = by_case p r (λ q. (is_normal p r ≡ true) ↔ (text q ≡ text p))
-    (λ e. subst (λ v. (is_normal_by v p ≡ true) ↔ (text (record { absolute = false; segments = relative_normal p.segments }) ≡ text p)) (sym e) (by_flag p.absolute p.segments is (relative p r is e).flag (relative p r is e).shown))
+    (λ e. subst (λ v. (is_normal_by v p ≡ true) ↔ (text (record { absolute = false; segments = relative_normal p.segments }) ≡ text p)) (sym e)
+    (by_flag p.absolute p.segments is (relative p r is e).flag (relative p r is e).shown))
     (λ e k. subst (λ v. (is_normal_by v p ≡ true) ↔ (text (spelled (canon (undot (text p)))) ≡ text p)) (sym e) (never k))
     (λ e k. subst (λ v. (is_normal_by v p ≡ true) ↔ (text (canonical_path p) ≡ text p)) (sym e) (spelled_itself k))
   where
-    by_flag : (a : Bool) (l : List (List ℕ)) → IsListed l → a ≡ false → hides_root l ≡ false → ((list_all is_canonical l && (climbs_first l || is_guarded l)) ≡ true) ↔ (text (record { absolute = false; segments = relative_normal l }) ≡ text (record { absolute = a; segments = l }))
+    by_flag : (a : Bool) (l : List (List ℕ)) → IsListed l → a ≡ false → hides_root l ≡ false
+        → ((list_all is_canonical l && (climbs_first l || is_guarded l)) ≡ true)
+        ↔ (text (record { absolute = false; segments = relative_normal l }) ≡ text (record { absolute = a; segments = l }))
     by_flag true l is h k = absurd (false≢true (sym h))
     by_flag false l is h k =
         let both = relative_iff l is.some k is.each in
         let short : length (relative_normal l) ≤ length l = length_relative l is.some k in
-        let listed : IsListed (relative_normal l) = record { some = some_relative l; short = omega (arith, short, is.short); each = each_relative l is.each } in (
+        let listed : IsListed (relative_normal l) =
+        record { some = some_relative l; short = omega (arith, short, is.short); each = each_relative l is.each } in (
           λ g. ap (λ m. text (record { absolute = false; segments = m })) (both.0 g),
           λ e. both.1 (text_same false (relative_normal l) l listed is e),
         )
@@ -310,19 +333,23 @@ normal_iff p r is = by_case p r (λ q. (is_normal p r ≡ true) ↔ (text q ≡ 
     never : has_dot_segment p.segments ≡ true → (is_normal_by false p ≡ true) ↔ (text (spelled (canon (undot (text p)))) ≡ text p)
     never k = (
       λ g. absurd (false≢true (sym (ap not k) ∙ (and_parts (list_all is_canonical p.segments) (not (has_dot_segment p.segments)) g).1)),
-      λ e. absurd (false≢true (sym (none_in_normal p is) ∙ ap (λ t. has_dot_segment (spelled t).segments) (sym (text-spelled (canon (undot (text p)))) ∙ e) ∙ has_dots-text p is ∙ k)),
+      λ e. absurd (false≢true (sym (none_in_normal p is) ∙ ap (λ t. has_dot_segment (spelled t).segments) (sym (text-spelled (canon (undot (text p)))) ∙ e)
+          ∙ has_dots-text p is ∙ k)),
     )
 
     spelled_itself : has_dot_segment p.segments ≡ false → (is_normal_by false p ≡ true) ↔ (text (canonical_path p) ≡ text p)
     spelled_itself k = (
-      λ g. ap (λ m. text (record { absolute = p.absolute; segments = m })) (all_canonical_same p.segments (and_parts (list_all is_canonical p.segments) (not (has_dot_segment p.segments)) g).0),
-      λ e. and_from _ _ (sym (ap (list_all is_canonical) (text_same p.absolute (map canon p.segments) p.segments (listed-canonical p.segments is) is e)) ∙ all_canonical-canon p.segments is.each) (ap not k),
+      λ g. ap (λ m. text (record { absolute = p.absolute; segments = m }))
+          (all_canonical_same p.segments (and_parts (list_all is_canonical p.segments) (not (has_dot_segment p.segments)) g).0),
+      λ e. and_from _ _ (sym (ap (list_all is_canonical) (text_same p.absolute (map canon p.segments) p.segments (listed-canonical p.segments is) is e))
+          ∙ all_canonical-canon p.segments is.each) (ap not k),
     )
 
 -- ---- the normal form of a normal form
 
 -- a path in canonical spelling that has no dot segment
-settled : (q : PathParts) (r : Bool) → stays_relative q r ≡ false → has_dot_segment q.segments ≡ false → list_all is_canonical q.segments ≡ true → pnormal q r ≡ q
+settled : (q : PathParts) (r : Bool) → stays_relative q r ≡ false → has_dot_segment q.segments ≡ false → list_all is_canonical q.segments ≡ true
+    → pnormal q r ≡ q
 settled q r h k c = pnormal_plain q r h k ∙ ap (λ m. record { absolute = q.absolute; segments = m }) (all_canonical_same q.segments c)
 
 rooted_undot : (t : List ℕ) → is_rooted t ≡ true → is_rooted (undot t) ≡ true
@@ -337,15 +364,19 @@ pub pnormal_twice : (p : PathParts) (r : Bool) → IsListed p.segments → pnorm
 pnormal_twice p r is = by_case p r (λ q. pnormal q r ≡ q)
     (λ e. let listed = subst (λ q. IsListed q.segments) (pnormal_relative p r e) (listed_pnormal p r is) in
     let q : PathParts = record { absolute = false; segments = relative_normal p.segments } in
-    let shown : is_rooted (text (record { absolute = false; segments = relative_normal p.segments })) ≡ false = rooted-text (record { absolute = false; segments = relative_normal p.segments }) listed ∙ hides_relative p.segments in
+    let shown : is_rooted (text (record { absolute = false; segments = relative_normal p.segments })) ≡ false =
+    rooted-text (record { absolute = false; segments = relative_normal p.segments }) listed ∙ hides_relative p.segments in
     pnormal_relative (record { absolute = false; segments = relative_normal p.segments }) r (and_from _ _ (relative p r is e).asked (ap not shown))
     ∙ ap (λ m. record { absolute = false; segments = m }) (relative_twice p.segments is.each))
     (λ e k. settled (spelled (canon (undot (text p)))) r
-    (still_not_relative r (is_rooted (text p)) (is_rooted (text (spelled (canon (undot (text p)))))) e (λ h. ap is_rooted (text-spelled (canon (undot (text p)))) ∙ is_rooted-canon (undot (text p)) ∙ rooted_undot (text p) h))
+    (still_not_relative r (is_rooted (text p)) (is_rooted (text (spelled (canon (undot (text p)))))) e
+    (λ h. ap is_rooted (text-spelled (canon (undot (text p)))) ∙ is_rooted-canon (undot (text p)) ∙ rooted_undot (text p) h))
     (none_in_normal p is)
-    (ap (λ q. list_all is_canonical q.segments) (spelled_canon_undot p is) ∙ all_canonical-canon (respelled (replayed p)).segments (listed-respelled (replayed p) (listed_replayed p is)).each))
+    (ap (λ q. list_all is_canonical q.segments) (spelled_canon_undot p is)
+    ∙ all_canonical-canon (respelled (replayed p)).segments (listed-respelled (replayed p) (listed_replayed p is)).each))
     (λ e k. settled (canonical_path p) r
-    (still_not_relative r (is_rooted (text p)) (is_rooted (text (canonical_path p))) e (λ h. ap is_rooted (sym (canon-text p is)) ∙ is_rooted-canon (text p) ∙ h))
+    (still_not_relative r (is_rooted (text p)) (is_rooted (text (canonical_path p))) e (λ h. ap is_rooted (sym (canon-text p is)) ∙ is_rooted-canon (text p)
+    ∙ h))
     (has_dot-canon p.segments is.each ∙ k)
     (all_canonical-canon p.segments is.each))
 
@@ -355,7 +386,10 @@ pub pnormal_spelled : (p : PathParts) (r : Bool) → IsListed p.segments → spe
 pnormal_spelled p r is h = by_case p r (λ q. spelled (text q) ≡ q)
     (λ e. let listed = subst (λ q. IsListed q.segments) (pnormal_relative p r e) (listed_pnormal p r is) in
     spelled-text (record { absolute = false; segments = relative_normal p.segments }) listed
-    ∙ ap (λ v. cond v (record { absolute = true; segments = drop 1 (relative_normal p.segments) }) (record { absolute = false; segments = relative_normal p.segments })) (hides_relative p.segments))
+    ∙ ap (λ v. cond v (record { absolute = true; segments = drop 1 (relative_normal p.segments) }) (record {
+      absolute = false;
+      segments = relative_normal p.segments;
+    })) (hides_relative p.segments))
     (λ e k. ap spelled (text-spelled (canon (undot (text p)))))
     (λ e k. spelled-text (canonical_path p) (listed-canonical p.segments is) ∙ respelled-canonical p ∙ ap canonical_path (sym (spelled-text p is) ∙ h))
 
@@ -369,11 +403,15 @@ pnormal_absolute p r is h = by_case p r (λ q. q.absolute ≡ true)
 pub normal_kept : (p : PathParts) (r : Bool) → IsListed p.segments → is_normal p r ≡ true → pnormal p r ≡ p
 normal_kept p r is n = by_case p r (λ q. text q ≡ text p → q ≡ p)
     (λ e g. by_flag p.absolute p.segments is (relative p r is e).flag (relative p r is e).shown g)
-    (λ e k g. absurd (false≢true (sym (none_in_normal p is) ∙ ap (λ t. has_dot_segment (spelled t).segments) (sym (text-spelled (canon (undot (text p)))) ∙ g) ∙ has_dots-text p is ∙ k)))
-    (λ e k g. ap (λ m. record { absolute = p.absolute; segments = m }) (text_same p.absolute (map canon p.segments) p.segments (listed-canonical p.segments is) is g))
+    (λ e k g. absurd (false≢true (sym (none_in_normal p is) ∙ ap (λ t. has_dot_segment (spelled t).segments) (sym (text-spelled (canon (undot (text p)))) ∙ g)
+    ∙ has_dots-text p is ∙ k)))
+    (λ e k g. ap (λ m. record { absolute = p.absolute; segments = m })
+    (text_same p.absolute (map canon p.segments) p.segments (listed-canonical p.segments is) is g))
     ((normal_iff p r is).0 n)
   where
-    by_flag : (a : Bool) (l : List (List ℕ)) → IsListed l → a ≡ false → hides_root l ≡ false → text (record { absolute = false; segments = relative_normal l }) ≡ text (record { absolute = a; segments = l }) → ◌≡◌ {A = PathParts} (record { absolute = false; segments = relative_normal l }) (record { absolute = a; segments = l })
+    by_flag : (a : Bool) (l : List (List ℕ)) → IsListed l → a ≡ false → hides_root l ≡ false
+        → text (record { absolute = false; segments = relative_normal l }) ≡ text (record { absolute = a; segments = l })
+        → ◌≡◌ {A = PathParts} (record { absolute = false; segments = relative_normal l }) (record { absolute = a; segments = l })
     by_flag true l is h k g = absurd (false≢true (sym h))
     by_flag false l is h k g =
         let short : length (relative_normal l) ≤ length l = length_relative l is.some k in

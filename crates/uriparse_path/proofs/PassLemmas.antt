@@ -1,12 +1,13 @@
 -- One pass over a list that replays its segments in place: what came out so far is its front, what is left its end.
-use Rattle.std.proofs.Common.{◌≡◌, ◌≢◌, ◌↔◌, ◌&&◌, not, subst, ℕ, zero, suc, ◌+◌, ◌-◌, ◌<◌, ◌≤◌, Bool, true, false, cond, List, [], ◌∷◌, ◌++◌, length, take, drop, get_or, set, length-set, ⊎_elim, refl, sym, ap, ◌∙◌, arith, ◌||◌, add-one, length-drop}
+use Rattle.std.proofs.Common.{◌≡◌, ◌≢◌, ◌↔◌, ◌&&◌, not, subst, ℕ, zero, suc, ◌+◌, ◌-◌, ◌<◌, ◌≤◌, Bool, true, false, cond, List, [], ◌∷◌, ◌++◌, length, take}
+use Rattle.std.proofs.Common.{drop, get_or, set, length-set, ⊎_elim, refl, sym, ap, ◌∙◌, arith, ◌||◌, add-one, length-drop}
 use Rattle.std.specs.Prelude.{◌==◌}
 use Rattle.std.specs.List.{swap, list_all}
 use Rattle.std.proofs.lemmas.Bool.Decides.{eqb_tells}
 use Rattle.std.proofs.lemmas.List.{take_more, drop_more, take_more_set, take-set, take-set-le, drop-set-lt}
 use Rattle.std.proofs.lemmas.List.Edits.{swap_is}
 use Rattle.std.proofs.Math.Nat.{eq-or-lt_of_le}
-use Rattle.uriparse_path.specs.Path.{PathParts, IsListed, text, spelled, respelled}
+use Rattle.uriparse_path.specs.Path.{PathParts, IsListed, text, spelled}
 use Rattle.uriparse_path.specs.Dots.{is_single_dot, is_double_dot, has_dot_segment, all_but_last, replay, is_one, rooted_after, undot, without_dots}
 use Rattle.uriparse_path.proofs.DotLemmas.{not_both}
 use Rattle.uriparse_path.specs.Normal.{stays_relative, pnormal, is_canonical, climbs_first, is_guarded}
@@ -46,21 +47,25 @@ is_one-take xs kept h = ⊎_elim (λ (e, k). one-take xs kept h k ∙ sym e) (λ
 
 -- ---- the replay of one segment
 
-replay_double : (out : List (List ℕ)) (s : List ℕ) (rest : List (List ℕ)) → is_double_dot s ≡ true → 0 < length rest → replay out (s ∷ rest) ≡ replay (all_but_last out) rest
+replay_double : (out : List (List ℕ)) (s : List ℕ) (rest : List (List ℕ)) → is_double_dot s ≡ true → 0 < length rest
+    → replay out (s ∷ rest) ≡ replay (all_but_last out) rest
 replay_double out s [] h n = absurd (omega arith)
 replay_double out s (r ∷ rest) h n = rw (not_both s h, h) refl
 
 replay_last_double : (out : List (List ℕ)) (s : List ℕ) → is_double_dot s ≡ true → replay out (s ∷ []) ≡ all_but_last out ++ [] ∷ []
 replay_last_double out s h = rw (not_both s h, h) refl
 
-replay_other : (out : List (List ℕ)) (s : List ℕ) (rest : List (List ℕ)) → is_single_dot s ≡ false → is_double_dot s ≡ false → replay out (s ∷ rest) ≡ replay (out ++ s ∷ []) rest
+replay_other : (out : List (List ℕ)) (s : List ℕ) (rest : List (List ℕ)) → is_single_dot s ≡ false → is_double_dot s ≡ false
+    → replay out (s ∷ rest) ≡ replay (out ++ s ∷ []) rest
 replay_other out s [] h k = rw (h, k) refl
 replay_other out s (r ∷ rest) h k = rw (h, k) refl
 
-rooted_double : (rooted : Bool) (out : List (List ℕ)) (s : List ℕ) (rest : List (List ℕ)) → is_double_dot s ≡ true → rooted_after rooted out (s ∷ rest) ≡ rooted_after (rooted || is_one out) (all_but_last out) rest
+rooted_double : (rooted : Bool) (out : List (List ℕ)) (s : List ℕ) (rest : List (List ℕ)) → is_double_dot s ≡ true
+    → rooted_after rooted out (s ∷ rest) ≡ rooted_after (rooted || is_one out) (all_but_last out) rest
 rooted_double rooted out s rest h = rw (not_both s h, h) refl
 
-rooted_other : (rooted : Bool) (out : List (List ℕ)) (s : List ℕ) (rest : List (List ℕ)) → is_single_dot s ≡ false → is_double_dot s ≡ false → rooted_after rooted out (s ∷ rest) ≡ rooted_after rooted (out ++ s ∷ []) rest
+rooted_other : (rooted : Bool) (out : List (List ℕ)) (s : List ℕ) (rest : List (List ℕ)) → is_single_dot s ≡ false → is_double_dot s ≡ false
+    → rooted_after rooted out (s ∷ rest) ≡ rooted_after rooted (out ++ s ∷ []) rest
 rooted_other rooted out s rest h k = rw (h, k) refl
 
 -- ---- the pass at a place
@@ -74,13 +79,15 @@ module _ (xs : List (List ℕ)) (kept at : ℕ) (s : List ℕ) (order : kept ≤
       ap (λ u. replay u (drop (at + 1) xs)) (cut-take xs kept (omega arith))
       ∙ sym (ap (replay (take kept xs)) rest_is ∙ replay_double (take kept xs) s (drop (at + 1) xs) h (omega (arith, length-drop (at + 1) xs)))
 
-  pub double_rooted : (rooted now : Bool) → is_double_dot s ≡ true → now ≡ (rooted || is_one (take kept xs)) → rooted_after now (take (kept - 1) xs) (drop (at + 1) xs) ≡ rooted_after rooted (take kept xs) (drop at xs)
+  pub double_rooted : (rooted now : Bool) → is_double_dot s ≡ true → now ≡ (rooted || is_one (take kept xs))
+      → rooted_after now (take (kept - 1) xs) (drop (at + 1) xs) ≡ rooted_after rooted (take kept xs) (drop at xs)
   double_rooted rooted now h e =
       ap (λ v. rooted_after v (take (kept - 1) xs) (drop (at + 1) xs)) e
       ∙ ap (λ u. rooted_after (rooted || is_one (take kept xs)) u (drop (at + 1) xs)) (cut-take xs kept (omega arith))
       ∙ sym (ap (rooted_after rooted (take kept xs)) rest_is ∙ rooted_double rooted (take kept xs) s (drop (at + 1) xs) h)
 
-  pub double_last : is_double_dot s ≡ true → at + 1 ≡ length xs → replay (take (kept - 1 + 1) (set xs (kept - 1) [])) (drop (at + 1) (set xs (kept - 1) [])) ≡ replay (take kept xs) (drop at xs)
+  pub double_last : is_double_dot s ≡ true → at + 1 ≡ length xs
+      → replay (take (kept - 1 + 1) (set xs (kept - 1) [])) (drop (at + 1) (set xs (kept - 1) [])) ≡ replay (take kept xs) (drop at xs)
   double_last h e =
       ap (λ u. replay (take (kept - 1 + 1) (set xs (kept - 1) [])) u) (drop-set-lt (at + 1) xs (kept - 1) [] (omega arith) ∙ nothing)
       ∙ take_more_set xs (kept - 1) [] (omega arith)
@@ -120,15 +127,18 @@ module _ (xs : List (List ℕ)) (kept at : ℕ) (s : List ℕ) (order : kept ≤
   pub end_swapped : drop (at + 1) (swap xs kept at) ≡ drop (at + 1) xs
   end_swapped = ap (drop (at + 1)) swapped ∙ end (get_or xs kept s)
 
-  pub other_replayed : is_single_dot s ≡ false → is_double_dot s ≡ false → replay (take (kept + 1) (swap xs kept at)) (drop (at + 1) (swap xs kept at)) ≡ replay (take kept xs) (drop at xs)
+  pub other_replayed : is_single_dot s ≡ false → is_double_dot s ≡ false
+      → replay (take (kept + 1) (swap xs kept at)) (drop (at + 1) (swap xs kept at)) ≡ replay (take kept xs) (drop at xs)
   other_replayed h k = rw (front_swapped, end_swapped, rest_is) (sym (replay_other (take kept xs) s (drop (at + 1) xs) h k))
 
-  pub other_rooted : (rooted : Bool) → is_single_dot s ≡ false → is_double_dot s ≡ false → rooted_after rooted (take (kept + 1) (swap xs kept at)) (drop (at + 1) (swap xs kept at)) ≡ rooted_after rooted (take kept xs) (drop at xs)
+  pub other_rooted : (rooted : Bool) → is_single_dot s ≡ false → is_double_dot s ≡ false
+      → rooted_after rooted (take (kept + 1) (swap xs kept at)) (drop (at + 1) (swap xs kept at)) ≡ rooted_after rooted (take kept xs) (drop at xs)
   other_rooted rooted h k = rw (front_swapped, end_swapped, rest_is) (sym (rooted_other rooted (take kept xs) s (drop (at + 1) xs) h k))
 
 -- ---- the whole pass
 
-pub passed : (p q : PathParts) (a : Bool) (l : List (List ℕ)) → IsListed p.segments → has_dot_segment p.segments ≡ true → a ≡ rooted_after p.absolute [] p.segments → l ≡ replay [] p.segments → q ≡ spelled (text (record { absolute = a; segments = l })) → q ≡ without_dots p
+pub passed : (p q : PathParts) (a : Bool) (l : List (List ℕ)) → IsListed p.segments → has_dot_segment p.segments ≡ true
+    → a ≡ rooted_after p.absolute [] p.segments → l ≡ replay [] p.segments → q ≡ spelled (text (record { absolute = a; segments = l })) → q ≡ without_dots p
 passed p q a l is dots e f g =
     g
     ∙ ap (λ v. spelled (text (record { absolute = v; segments = l }))) e

@@ -22,10 +22,12 @@ and_true : (v : Bool) → (v && true) ≡ v
 and_true true = refl
 and_true false = refl
 
-pub two_slashes-text : (p : PathParts) → IsListed p.segments → (hides_root p.segments && (p.absolute || hides_root (drop 1 p.segments))) ≡ has_two_slashes (text p)
+pub two_slashes-text : (p : PathParts) → IsListed p.segments
+    → (hides_root p.segments && (p.absolute || hides_root (drop 1 p.segments))) ≡ has_two_slashes (text p)
 two_slashes-text p is = by_shape p.absolute p.segments is
   where
-    by_shape : (a : Bool) (ss : List (List ℕ)) → IsListed ss → (hides_root ss && (a || hides_root (drop 1 ss))) ≡ has_two_slashes (text (record { absolute = a; segments = ss }))
+    by_shape : (a : Bool) (ss : List (List ℕ)) → IsListed ss
+        → (hides_root ss && (a || hides_root (drop 1 ss))) ≡ has_two_slashes (text (record { absolute = a; segments = ss }))
     by_shape true ss is = and_true (hides_root ss) ∙ sym (rooted-text (make false ss) is)
     by_shape false [] is = refl
     by_shape false ([] ∷ []) is = refl
@@ -43,7 +45,9 @@ not_not false = refl
 pub colon-text : (p : PathParts) → IsListed p.segments → (is_rooted (text p) || not (is_first has_colon p.segments)) ≡ lacks colon (up_to is_slash (text p))
 colon-text p is = by_shape p.absolute p.segments is
   where
-    by_shape : (a : Bool) (ss : List (List ℕ)) → IsListed ss → (is_rooted (text (record { absolute = a; segments = ss })) || not (is_first has_colon ss)) ≡ lacks colon (up_to is_slash (text (record { absolute = a; segments = ss })))
+    by_shape : (a : Bool) (ss : List (List ℕ)) → IsListed ss
+        → (is_rooted (text (record { absolute = a; segments = ss })) || not (is_first has_colon ss))
+        ≡ lacks colon (up_to is_slash (text (record { absolute = a; segments = ss })))
     by_shape true ss is = refl
     by_shape false [] is = refl
     by_shape false ([] ∷ []) is = refl

@@ -1,5 +1,6 @@
 -- One pass over a list that deletes in place: what is left so far is its front.
-use Rattle.std.proofs.Common.{◌≡◌, ℕ, zero, suc, ◌+◌, ◌-◌, ◌<◌, ◌≤◌, Bool, true, false, not, List, [], ◌∷◌, ◌++◌, length, take, drop, get_or, refl, sym, ap, subst, ◌∙◌, arith, ◌&&◌}
+use Rattle.std.proofs.Common.{◌≡◌, ℕ, zero, suc, ◌+◌, ◌-◌, ◌<◌, ◌≤◌, Bool, true, false, not, List, [], ◌∷◌, ◌++◌, length, take, drop, get_or, refl, sym, ap}
+use Rattle.std.proofs.Common.{subst, ◌∙◌, arith, ◌&&◌}
 use Rattle.std.specs.Prelude.{reverse}
 use Rattle.std.specs.List.{swap}
 use Rattle.std.proofs.lemmas.Bool.{false≢true, not-true}
@@ -23,18 +24,22 @@ put_pair : (out : List (List ℕ)) (s : List ℕ) → is_double_dot s ≡ true �
 put_pair [] s h k = absurd (false≢true k)
 put_pair (r ∷ out) s h k =
     let is = pushed r out in
-    subst (λ u. put (reverse u) s ≡ reverse (all_but_last u)) (sym is.whole) (on_last is.front is.last (not-true (is_dot_segment is.last) (sym (ap (is_last is_name) is.whole ∙ last_push is_name is.front is.last) ∙ k)))
+    subst (λ u. put (reverse u) s ≡ reverse (all_but_last u)) (sym is.whole)
+    (on_last is.front is.last (not-true (is_dot_segment is.last) (sym (ap (is_last is_name) is.whole ∙ last_push is_name is.front is.last) ∙ k)))
   where
     on_last : (front : List (List ℕ)) (t : List ℕ) → is_dot_segment t ≡ false → put (reverse (front ++ t ∷ [])) s ≡ reverse (all_but_last (front ++ t ∷ []))
     on_last front t e = ap (λ u. put u s) (reverse_push front t) ∙ rw (not_both s h, h, e) (ap reverse (sym (push_cut front t)))
 
-put_other : (out : List (List ℕ)) (s : List ℕ) → is_single_dot s ≡ false → (is_double_dot s && is_last is_name out) ≡ false → put (reverse out) s ≡ reverse (out ++ s ∷ [])
+put_other : (out : List (List ℕ)) (s : List ℕ) → is_single_dot s ≡ false → (is_double_dot s && is_last is_name out) ≡ false
+    → put (reverse out) s ≡ reverse (out ++ s ∷ [])
 put_other [] s h k = rw h refl
 put_other (r ∷ out) s h k =
     let is = pushed r out in
-    subst (λ u. put (reverse u) s ≡ reverse (u ++ s ∷ [])) (sym is.whole) (on_last is.front is.last (sym (ap (λ v. is_double_dot s && v) (ap (is_last is_name) is.whole ∙ last_push is_name is.front is.last)) ∙ k))
+    subst (λ u. put (reverse u) s ≡ reverse (u ++ s ∷ [])) (sym is.whole)
+    (on_last is.front is.last (sym (ap (λ v. is_double_dot s && v) (ap (is_last is_name) is.whole ∙ last_push is_name is.front is.last)) ∙ k))
   where
-    on_last : (front : List (List ℕ)) (t : List ℕ) → (is_double_dot s && not (is_dot_segment t)) ≡ false → put (reverse (front ++ t ∷ [])) s ≡ reverse ((front ++ t ∷ []) ++ s ∷ [])
+    on_last : (front : List (List ℕ)) (t : List ℕ) → (is_double_dot s && not (is_dot_segment t)) ≡ false
+        → put (reverse (front ++ t ∷ [])) s ≡ reverse ((front ++ t ∷ []) ++ s ∷ [])
     on_last front t e = ap (λ u. put u s) (reverse_push front t) ∙ rw (h, e) (sym (reverse_push (front ++ t ∷ []) s ∙ ap (λ u. s ∷ u) (reverse_push front t)))
 
 -- ---- the pass at a place
@@ -46,12 +51,14 @@ module _ (xs : List (List ℕ)) (kept at : ℕ) (s : List ℕ) (order : kept ≤
   pub single_put : is_single_dot s ≡ true → put_all (reverse (take kept xs)) (drop (at + 1) xs) ≡ put_all (reverse (take kept xs)) (drop at xs)
   single_put h = sym (here ∙ ap (λ u. put_all u (drop (at + 1) xs)) (put_single (reverse (take kept xs)) s h))
 
-  pub pair_put : is_double_dot s ≡ true → is_last is_name (take kept xs) ≡ true → put_all (reverse (take (kept - 1) xs)) (drop (at + 1) xs) ≡ put_all (reverse (take kept xs)) (drop at xs)
+  pub pair_put : is_double_dot s ≡ true → is_last is_name (take kept xs) ≡ true
+      → put_all (reverse (take (kept - 1) xs)) (drop (at + 1) xs) ≡ put_all (reverse (take kept xs)) (drop at xs)
   pair_put h k =
       ap (λ u. put_all (reverse u) (drop (at + 1) xs)) (cut-take xs kept (omega arith))
       ∙ sym (here ∙ ap (λ u. put_all u (drop (at + 1) xs)) (put_pair (take kept xs) s h k))
 
-  pub other_put : is_single_dot s ≡ false → (is_double_dot s && is_last is_name (take kept xs)) ≡ false → put_all (reverse (take (kept + 1) (swap xs kept at))) (drop (at + 1) (swap xs kept at)) ≡ put_all (reverse (take kept xs)) (drop at xs)
+  pub other_put : is_single_dot s ≡ false → (is_double_dot s && is_last is_name (take kept xs)) ≡ false
+      → put_all (reverse (take (kept + 1) (swap xs kept at))) (drop (at + 1) (swap xs kept at)) ≡ put_all (reverse (take kept xs)) (drop at xs)
   other_put h k =
       ap (λ u. put_all (reverse u) (drop (at + 1) (swap xs kept at))) (front_swapped xs kept at s order within read)
       ∙ ap (λ u. put_all (reverse (take kept xs ++ s ∷ [])) u) (end_swapped xs kept at s order within read)

@@ -25,9 +25,11 @@ put_pair stack s d h k = ap (λ u. put u d) (put_plain stack s h) ∙ rw (not_bo
 -- a deletion doesn't change what is left
 deletes_same : (l m : List (List ℕ)) → Deletes l m → put_all [] l ≡ put_all [] m
 deletes_same l m (single a b d h e f) =
-    ap (put_all []) e ∙ put_all-append [] a (d ∷ b) ∙ ap (λ u. put_all u b) (put_single (put_all [] a) d h) ∙ sym (put_all-append [] a b) ∙ ap (put_all []) (sym f)
+    ap (put_all []) e ∙ put_all-append [] a (d ∷ b) ∙ ap (λ u. put_all u b) (put_single (put_all [] a) d h) ∙ sym (put_all-append [] a b)
+    ∙ ap (put_all []) (sym f)
 deletes_same l m (pair a b s d h k e f) =
-    ap (put_all []) e ∙ put_all-append [] a (s ∷ d ∷ b) ∙ ap (λ u. put_all u b) (put_pair (put_all [] a) s d h k) ∙ sym (put_all-append [] a b) ∙ ap (put_all []) (sym f)
+    ap (put_all []) e ∙ put_all-append [] a (s ∷ d ∷ b) ∙ ap (λ u. put_all u b) (put_pair (put_all [] a) s d h k) ∙ sym (put_all-append [] a b)
+    ∙ ap (put_all []) (sym f)
 
 leads_same : {m l : List (List ℕ)} → Leads m l → put_all [] l ≡ put_all [] m
 leads_same done = refl
@@ -54,7 +56,8 @@ put_kept [] ss s h = by_single (is_single_dot s) refl
     by_single false e = refl
 put_kept (t ∷ stack) ss s h = by_kind (is_single_dot s) refl (is_double_dot s) refl (is_dot_segment t) refl
   where
-    by_kind : (v : Bool) → is_single_dot s ≡ v → (w : Bool) → is_double_dot s ≡ w → (x : Bool) → is_dot_segment t ≡ x → cond v (t ∷ stack) (cond (w && not x) stack (s ∷ t ∷ stack)) ≡ s ∷ t ∷ stack
+    by_kind : (v : Bool) → is_single_dot s ≡ v → (w : Bool) → is_double_dot s ≡ w → (x : Bool) → is_dot_segment t ≡ x
+        → cond v (t ∷ stack) (cond (w && not x) stack (s ∷ t ∷ stack)) ≡ s ∷ t ∷ stack
     by_kind true e w f x g = absurd (no_single (t ∷ stack) ss s h e)
     by_kind false e true f false g = absurd (no_pair stack ss t s h f g)
     by_kind false e true f true g = refl
@@ -77,7 +80,8 @@ leads_put : (stack ss : List (List ℕ)) → Leads (reverse (put_all stack ss)) 
 leads_put stack [] = subst (λ l. Leads (reverse stack) l) (sym (append-nil (reverse stack))) done
 leads_put [] (s ∷ ss) = by_single (is_single_dot s) refl (leads_put [] ss) (leads_put (s ∷ []) ss)
   where
-    by_single : (v : Bool) → is_single_dot s ≡ v → Leads (reverse (put_all [] ss)) ss → Leads (reverse (put_all (s ∷ []) ss)) (s ∷ ss) → Leads (reverse (put_all (cond v [] (s ∷ [])) ss)) (s ∷ ss)
+    by_single : (v : Bool) → is_single_dot s ≡ v → Leads (reverse (put_all [] ss)) ss → Leads (reverse (put_all (s ∷ []) ss)) (s ∷ ss)
+        → Leads (reverse (put_all (cond v [] (s ∷ [])) ss)) (s ∷ ss)
     by_single true e f g = more (single [] ss s e refl refl) f
     by_single false e f g = g
 leads_put (t ∷ stack) (s ∷ ss) =
@@ -118,7 +122,8 @@ put_stable [] s h = by_single (is_single_dot s) refl
     by_single false e = e
 put_stable (t ∷ stack) s h = by_kind (is_single_dot s) refl (is_double_dot s) refl (is_dot_segment t) refl
   where
-    by_kind : (v : Bool) → is_single_dot s ≡ v → (w : Bool) → is_double_dot s ≡ w → (x : Bool) → is_dot_segment t ≡ x → IsStable (cond v (t ∷ stack) (cond (w && not x) stack (s ∷ t ∷ stack)))
+    by_kind : (v : Bool) → is_single_dot s ≡ v → (w : Bool) → is_double_dot s ≡ w → (x : Bool) → is_dot_segment t ≡ x
+        → IsStable (cond v (t ∷ stack) (cond (w && not x) stack (s ∷ t ∷ stack)))
     by_kind true e w f x g = h
     by_kind false e true f false g = stable_tail t stack h
     by_kind false e true f true g = (e, (λ _. g), h)
@@ -145,7 +150,8 @@ stable_irreducible stack h m (single a b d e f g) =
     let n : is_single_dot d ≡ false = inside_single (reverse b) (reverse a) d (subst IsStable k h) in
     false≢true (sym n ∙ e)
 stable_irreducible stack h m (pair a b s d e f g k) =
-    let n : stack ≡ reverse b ++ d ∷ s ∷ reverse a = sym (reverse-reverse stack) ∙ ap reverse g ∙ reverse_at a (d ∷ b) s ∙ ap (λ u. u ++ s ∷ reverse a) (reverse-append (d ∷ []) b) ∙ append_assoc (reverse b) (d ∷ []) (s ∷ reverse a) in
+    let n : stack ≡ reverse b ++ d ∷ s ∷ reverse a = sym (reverse-reverse stack) ∙ ap reverse g ∙ reverse_at a (d ∷ b) s
+    ∙ ap (λ u. u ++ s ∷ reverse a) (reverse-append (d ∷ []) b) ∙ append_assoc (reverse b) (d ∷ []) (s ∷ reverse a) in
     let q : is_dot_segment s ≡ true = inside_pair (reverse b) (reverse a) d s (subst IsStable n h) f in
     false≢true (sym e ∙ q)
 

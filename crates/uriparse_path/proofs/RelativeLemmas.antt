@@ -1,9 +1,10 @@
 -- The normal form of a relative path's segments: which lists are their own, and how long it is.
-use Rattle.std.proofs.Common.{◌≡◌, ◌↔◌, ℕ, ◌+◌, ◌<◌, ◌≤◌, Bool, true, false, not, cond, List, [], ◌∷◌, ◌++◌, length, map, refl, sym, ap, ◌∙◌, subst, arith, ◌&&◌, ◌||◌, inl, inr, ⊎_elim, length-append}
-use Rattle.std.specs.Prelude.{reverse, ◌⊎◌}
+use Rattle.std.proofs.Common.{◌≡◌, ◌↔◌, ℕ, ◌<◌, Bool, true, false, not, cond, List, [], ◌∷◌, ◌++◌, length, map, refl, sym, ap, ◌∙◌, arith}
+use Rattle.std.proofs.Common.{◌&&◌, ◌||◌}
+use Rattle.std.specs.Prelude.{reverse}
 use Rattle.std.specs.List.{list_all}
 use Rattle.std.proofs.lemmas.Bool.{false≢true, not-true, and_parts, and_from, or_parts, or_left}
-use Rattle.std.proofs.lemmas.List.{reverse-append, length-reverse}
+use Rattle.std.proofs.lemmas.List.{reverse-append}
 use Rattle.std.proofs.lemmas.List.Folds.{list_all-append, list_any-append}
 use Rattle.std.proofs.lemmas.Slice.Eq.{bytes_eq-Decides}
 use Rattle.uriparse_text.specs.Bytes.{dot}
@@ -18,20 +19,22 @@ use Rattle.uriparse_text.specs.declared.parts.canonical.Case.TheVariants.{Kept}
 use Rattle.uriparse_text.proofs.CanonLemmas.{spelling-spelling}
 use Rattle.uriparse_text.proofs.ClassLemmas.{well_formed-in_class}
 use Rattle.uriparse_path.specs.Segment.{is_segment}
-use Rattle.uriparse_path.specs.Path.{IsListed, hides_root, IsCounted}
+use Rattle.uriparse_path.specs.Path.{hides_root}
 use Rattle.uriparse_path.specs.Dots.{is_single_dot, is_double_dot, is_dot_segment, has_dot_segment}
-use Rattle.uriparse_path.specs.Relative.{Deletes, single, pair, Leads, done, more, IsIrreducible, is_last, is_first, closed, has_colon, needs_guard, guarded, filled, put, put_all, reduced, relative_normal}
+use Rattle.uriparse_path.specs.Relative.{single, pair, done, IsIrreducible, is_last, is_first, closed, has_colon, needs_guard, guarded}
+use Rattle.uriparse_path.specs.Relative.{filled, put, put_all, reduced, relative_normal}
 use Rattle.uriparse_path.specs.Normal.{is_canonical, climbs_first, is_guarded}
-use Rattle.uriparse_path.proofs.TextLemmas.{is_listed, counted}
-use Rattle.uriparse_path.proofs.DotLemmas.{not_both, neither, no_dot, single_dot, double_dot, empty_double, empty_no_dot, dot_single, canon-dot, single_is, single-canon, double-canon, dot-canon, canon-empty, has_colon-canon}
+use Rattle.uriparse_path.proofs.DotLemmas.{not_both, neither, no_dot, single_dot, double_dot, empty_double, empty_no_dot, dot_single, canon-dot, single_is}
+use Rattle.uriparse_path.proofs.DotLemmas.{single-canon, double-canon, dot-canon, canon-empty, has_colon-canon}
 use Rattle.uriparse_path.proofs.CanonicalLemmas.{canon-nil, each-canon, length-canon}
-use Rattle.uriparse_path.proofs.ReduceLemmas.{leads_iff, put_all-append, put_single}
+use Rattle.uriparse_path.proofs.ReduceLemmas.{leads_iff}
 
 -- ---- lists from which nothing is deleted
 
 has_dot-inside : (before after : List (List ℕ)) (d : List ℕ) → is_dot_segment d ≡ true → has_dot_segment (before ++ d ∷ after) ≡ true
 has_dot-inside [] after d h = rw h refl
-has_dot-inside (s ∷ before) after d h = rw (has_dot-inside before after d h) (elim (is_dot_segment s) as (λ v. (v || true) ≡ true) [ true ↦ refl | false ↦ refl ])
+has_dot-inside (s ∷ before) after d h =
+    rw (has_dot-inside before after d h) (elim (is_dot_segment s) as (λ v. (v || true) ≡ true) [ true ↦ refl | false ↦ refl ])
 
 climbs-double : (s : List ℕ) (ss : List (List ℕ)) → is_double_dot s ≡ true → climbs_first (s ∷ ss) ≡ climbs_first ss
 climbs-double s ss h = rw h refl
@@ -60,7 +63,8 @@ no_pair (r ∷ before) after s d h e k = by_double (is_double_dot r) refl (no_pa
     by_double : (v : Bool) → is_double_dot r ≡ v → (climbs_first (before ++ s ∷ d ∷ after) ≡ true → ⊥) → ⊥
     by_double true f g = g (sym (climbs-double r (before ++ s ∷ d ∷ after) f) ∙ k)
     by_double false f g =
-        let inside : has_dot_segment (r ∷ before ++ s ∷ d ∷ after) ≡ true = rw (has_dot-behind before) (elim (is_dot_segment r) as (λ v. (v || true) ≡ true) [ true ↦ refl | false ↦ refl ]) in
+        let inside : has_dot_segment (r ∷ before ++ s ∷ d ∷ after) ≡ true =
+        rw (has_dot-behind before) (elim (is_dot_segment r) as (λ v. (v || true) ≡ true) [ true ↦ refl | false ↦ refl ]) in
         false≢true (sym (climbs-other r (before ++ s ∷ d ∷ after) f ∙ ap not inside) ∙ k)
       where
         has_dot-behind : (b : List (List ℕ)) → has_dot_segment (b ++ s ∷ d ∷ after) ≡ true
@@ -116,7 +120,8 @@ canon-canon s h = spelling-spelling Kept s (well_formed-in_class Segment s h)
 
 pub all_canonical-canon : (l : List (List ℕ)) → list_all is_segment l ≡ true → list_all is_canonical (map canon l) ≡ true
 all_canonical-canon [] h = refl
-all_canonical-canon (s ∷ l) h = let both = and_parts _ _ h in and_from _ _ ((bytes_eq-Decides (canon (canon s)) (canon s)).1 (canon-canon s both.0)) (all_canonical-canon l both.1)
+all_canonical-canon (s ∷ l) h = let both = and_parts _ _ h in
+    and_from _ _ ((bytes_eq-Decides (canon (canon s)) (canon s)).1 (canon-canon s both.0)) (all_canonical-canon l both.1)
 
 pub has_dot-canon : (l : List (List ℕ)) → list_all is_segment l ≡ true → has_dot_segment (map canon l) ≡ has_dot_segment l
 has_dot-canon [] h = refl
@@ -196,7 +201,8 @@ settled_guarded : (old new : List (List ℕ)) → climbs_first new ≡ true → 
 settled_guarded old new h = by_guard (needs_guard old new) refl
   where
     by_guard : (v : Bool) → needs_guard old new ≡ v → is_settled (filled (cond v ((dot ∷ []) ∷ new) new)) ≡ true
-    by_guard true e = or_right (climbs_first ((dot ∷ []) ∷ new)) (is_guarded ((dot ∷ []) ∷ new)) (and_from _ _ (and_from _ _ dot_single h) (guard_again old new e))
+    by_guard true e = or_right (climbs_first ((dot ∷ []) ∷ new)) (is_guarded ((dot ∷ []) ∷ new))
+        (and_from _ _ (and_from _ _ dot_single h) (guard_again old new e))
     by_guard false e = or_left (climbs_first (filled new)) (is_guarded (filled new)) (climbs_filled new h)
 
 -- what stands there before it is spelled
@@ -309,9 +315,11 @@ last_climbs (s ∷ r ∷ l) h k = by_double (is_double_dot s) refl (last_climbs 
     later x [] g = rw g refl
     later x (z ∷ y) g = or_right (is_dot_segment x) (has_dot_segment (z ∷ y)) (later z y g)
 
-    by_double : (v : Bool) → is_double_dot s ≡ v → (climbs_first (r ∷ l) ≡ true → is_last is_dot_segment (r ∷ l) ≡ true → is_last is_double_dot (r ∷ l) ≡ true) → is_last is_double_dot (r ∷ l) ≡ true
+    by_double : (v : Bool) → is_double_dot s ≡ v
+        → (climbs_first (r ∷ l) ≡ true → is_last is_dot_segment (r ∷ l) ≡ true → is_last is_double_dot (r ∷ l) ≡ true) → is_last is_double_dot (r ∷ l) ≡ true
     by_double true e g = g (sym (climbs-double s (r ∷ l) e) ∙ h) k
-    by_double false e g = absurd (false≢true (sym (climbs-other s (r ∷ l) e ∙ ap not (or_right (is_dot_segment s) (has_dot_segment (r ∷ l)) (later r l k))) ∙ h))
+    by_double false e g = absurd (false≢true (sym (climbs-other s (r ∷ l) e ∙ ap not (or_right (is_dot_segment s) (has_dot_segment (r ∷ l)) (later r l k)))
+        ∙ h))
 
 closed_kept : (l : List (List ℕ)) → climbs_first l ≡ true → closed (is_last is_dot_segment l) l ≡ l
 closed_kept [] h = refl
@@ -345,7 +353,8 @@ reduced_single s l h = ap (λ u. reverse (put_all u l)) skipped
     skipped : put [] s ≡ []
     skipped = rw h refl
 
-guarded_kept : (s : List ℕ) (l : List (List ℕ)) → is_single_dot s ≡ true → climbs_first l ≡ true → needs_guard (s ∷ l) l ≡ true → shaped (s ∷ l) ≡ (dot ∷ []) ∷ l
+guarded_kept : (s : List ℕ) (l : List (List ℕ)) → is_single_dot s ≡ true → climbs_first l ≡ true → needs_guard (s ∷ l) l ≡ true
+    → shaped (s ∷ l) ≡ (dot ∷ []) ∷ l
 guarded_kept s [] h k g = absurd (false≢true g)
 guarded_kept s (r ∷ l) h k g =
     ap (λ u. filled (guarded (s ∷ r ∷ l) (closed (is_last is_dot_segment (r ∷ l)) u))) (reduced_single s (r ∷ l) h ∙ reduced_kept (r ∷ l) k)
@@ -391,7 +400,8 @@ some_filled (s ∷ c) = omega arith
 pub some_relative : (l : List (List ℕ)) → 0 < length (relative_normal l)
 some_relative l = rw (relative_is l, length-canon (shaped l)) (some_filled (guarded l (closed (is_last is_dot_segment l) (reduced l))))
 
-pub relative_iff : (l : List (List ℕ)) → 0 < length l → hides_root l ≡ false → list_all is_segment l ≡ true → ((list_all is_canonical l && is_settled l) ≡ true) ↔ (relative_normal l ≡ l)
+pub relative_iff : (l : List (List ℕ)) → 0 < length l → hides_root l ≡ false → list_all is_segment l ≡ true
+    → ((list_all is_canonical l && is_settled l) ≡ true) ↔ (relative_normal l ≡ l)
 relative_iff l some h each = (
   λ k. let both = and_parts _ _ k in settled_kept l some h both.0 both.1,
   λ e. and_from _ _ (sym (ap (list_all is_canonical) e) ∙ canonical_relative l each) (sym (ap is_settled e) ∙ settled_relative l each),

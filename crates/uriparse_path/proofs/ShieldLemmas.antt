@@ -1,5 +1,6 @@
 -- Paths without their dot segments or in normal form, with a "." in front where they would begin with two slashes.
-use Rattle.std.proofs.Common.{◌≡◌, ℕ, ◌+◌, ◌<◌, ◌≤◌, Bool, true, false, ◌&&◌, ◌||◌, cond, List, [], ◌∷◌, suc, length, take, drop, refl, sym, ap, ◌∙◌, subst, arith}
+use Rattle.std.proofs.Common.{◌≡◌, ℕ, ◌+◌, ◌<◌, ◌≤◌, Bool, true, false, ◌&&◌, ◌||◌, cond, List, [], ◌∷◌, length, take, drop, refl, sym, ap, ◌∙◌, subst}
+use Rattle.std.proofs.Common.{arith}
 use Rattle.std.proofs.lemmas.Bool.{false≢true, and_parts, and_from}
 use Rattle.std.specs.Prelude.{bytes_eq}
 use Rattle.std.specs.List.{list_all}
@@ -9,12 +10,12 @@ use Rattle.uriparse_text.specs.Bytes.{is_unreserved}
 use Rattle.uriparse_text.specs.Tokens.{tokens}
 use Rattle.uriparse_text.specs.Canon.{spelling}
 use Rattle.uriparse_text.specs.Bytes.{dot}
-use Rattle.uriparse_path.specs.Path.{PathParts, IsListed, IsCounted, max_segments, text, spelled, is_rooted, hides_root, respelled, has_two_slashes}
+use Rattle.uriparse_path.specs.Path.{PathParts, IsListed, IsCounted, text, spelled, hides_root, respelled}
 use Rattle.uriparse_path.specs.Dots.{has_dot_segment, replay, replayed, rooted_after, undot, without_dots}
 use Rattle.uriparse_path.specs.Edits.{dotted, shield}
 use Rattle.uriparse_path.specs.Relative.{filled}
 use Rattle.uriparse_path.specs.Normal.{stays_relative, pnormal, is_canonical, is_normal, is_shielded, is_normal_in}
-use Rattle.uriparse_path.proofs.TextLemmas.{spelled-text, listed-respelled}
+use Rattle.uriparse_path.proofs.TextLemmas.{spelled-text}
 use Rattle.uriparse_path.proofs.RelativeLemmas.{hides_relative}
 use Rattle.uriparse_path.proofs.NormalLemmas.{listed_replayed, listed_pnormal, pnormal_relative, undot_path}
 use Rattle.uriparse_path.proofs.PlaceLemmas.{two_slashes-text}
@@ -50,7 +51,8 @@ pub shown_stays : (v : Bool) (q : PathParts) → IsListed q.segments → (v ≡ 
 shown_stays false q is h = refl
 shown_stays true q is h = shield_is q is ∙ ap (λ w. cond w (dotted q) q) (not_twice q (h refl))
 
-pub kept_shielded : (v : Bool) (p : PathParts) → IsListed p.segments → has_dot_segment p.segments ≡ false → (v ≡ true → hides_root p.segments ≡ false) → p ≡ shielded v (without_dots p)
+pub kept_shielded : (v : Bool) (p : PathParts) → IsListed p.segments → has_dot_segment p.segments ≡ false → (v ≡ true → hides_root p.segments ≡ false)
+    → p ≡ shielded v (without_dots p)
 kept_shielded v p is h f = sym (ap (λ w. shielded v (cond w (spelled (undot (text p))) p)) h ∙ shown_stays v p is f)
 
 -- ---- what comes out of the pass
@@ -68,8 +70,10 @@ hidden_before q = by_shape q.absolute q.segments
 pub undotted_is : (p : PathParts) → IsListed p.segments → has_dot_segment p.segments ≡ true → without_dots p ≡ undotted p
 undotted_is p is h = ap (λ v. cond v (spelled (undot (text p))) p) h ∙ ap spelled (undot_path p is) ∙ spelled-text (replayed p) (listed_replayed p is)
 
--- The pass over the path p left the first `kept` of the list `first`, and of these, as their text spells them, the first `left` of the list `rest`; n tells whether a "." comes in front of them.
-pub record Pass (v : Bool) (p : PathParts) (rooted : Bool) (kept : ℕ) (first : List (List ℕ)) (absolute : Bool) (left : ℕ) (rest : List (List ℕ)) (n : Bool) : Type 0 where
+-- The pass over the path p left the first `kept` of the list `first`, and of these, as their text spells them, the
+-- first `left` of the list `rest`; n tells whether a "." comes in front of them.
+pub record Pass (v : Bool) (p : PathParts) (rooted : Bool) (kept : ℕ) (first : List (List ℕ)) (absolute : Bool) (left : ℕ) (rest : List (List ℕ))
+    (n : Bool) : Type 0 where
   pub listed : IsListed p.segments
   pub dots : has_dot_segment p.segments ≡ true
   pub shown : v ≡ true → hides_root p.segments ≡ false
@@ -83,7 +87,8 @@ pub record Pass (v : Bool) (p : PathParts) (rooted : Bool) (kept : ℕ) (first :
   pub no_longer : length rest ≤ length first
   pub need : n ≡ (v && twice (make absolute (take left rest)))
 
-module _ {v : Bool} {p : PathParts} {rooted : Bool} {kept : ℕ} {first : List (List ℕ)} {absolute : Bool} {left : ℕ} {rest : List (List ℕ)} {n : Bool} (is : Pass v p rooted kept first absolute left rest n) where
+module _ {v : Bool} {p : PathParts} {rooted : Bool} {kept : ℕ} {first : List (List ℕ)} {absolute : Bool} {left : ℕ} {rest : List (List ℕ)} {n : Bool}
+    (is : Pass v p rooted kept first absolute left rest n) where
   abbrev pub out : PathParts
   out = make absolute (take left rest)
 
@@ -104,7 +109,8 @@ module _ {v : Bool} {p : PathParts} {rooted : Bool} {kept : ℕ} {first : List (
   room_for e =
       let both = and_parts v (twice out) (sym is.need ∙ e) in
       let hides : hides_root out.segments ≡ true = (and_parts (hides_root out.segments) _ both.1).0 in
-      let before : hides_root (replay [] p.segments) ≡ true = ap hides_root (sym is.segments) ∙ hidden_before (make rooted (take kept first)) (ap (λ q. hides_root q.segments) (sym is.path) ∙ hides) in
+      let before : hides_root (replay [] p.segments) ≡ true = ap hides_root (sym is.segments)
+      ∙ hidden_before (make rooted (take kept first)) (ap (λ q. hides_root q.segments) (sym is.path) ∙ hides) in
       let less = shorter p.segments (is.shown both.0) before in
       omega (arith, less, kept_is, is.spare, is.len)
 
@@ -140,7 +146,8 @@ module _ {v : Bool} {p : PathParts} {rooted : Bool} {kept : ℕ} {first : List (
 
 -- a path that stays relative needs no "." against slashes
 pub relative_stays : (v : Bool) (p : PathParts) (r : Bool) → IsListed p.segments → stays_relative p r ≡ true → shielded v (pnormal p r) ≡ pnormal p r
-relative_stays v p r is e = shown_stays v (pnormal p r) (listed_pnormal p r is) (λ h. ap (λ q. hides_root q.segments) (pnormal_relative p r e) ∙ hides_relative p.segments)
+relative_stays v p r is e = shown_stays v (pnormal p r) (listed_pnormal p r is) (λ h. ap (λ q. hides_root q.segments) (pnormal_relative p r e)
+    ∙ hides_relative p.segments)
 
 dot_canonical : is_canonical (dot ∷ []) ≡ true
 unfolding spelling tokens is_unreserved

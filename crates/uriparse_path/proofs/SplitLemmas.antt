@@ -49,7 +49,8 @@ pieces-front (b ∷ s) t h =
     slice_split-cons_no is_slash b (s ++ slash ∷ t) (not-true (is_slash b) both.0) ∙ ap (onto_first b) (pieces-front s t both.1)
 
 -- segments joined by slashes are split into themselves
-pub pieces-joined : (s : List ℕ) (ss : List (List ℕ)) → LacksSlash s → list_all (λ r. list_all (λ b. not (is_slash b)) r) ss ≡ true → slice_split is_slash (join_with_byte slash (s ∷ ss)) ≡ s ∷ ss
+pub pieces-joined : (s : List ℕ) (ss : List (List ℕ)) → LacksSlash s → list_all (λ r. list_all (λ b. not (is_slash b)) r) ss ≡ true
+    → slice_split is_slash (join_with_byte slash (s ∷ ss)) ≡ s ∷ ss
 pieces-joined s [] h k = pieces-piece s h
 pieces-joined s (r ∷ ss) h k =
     let both = and_parts _ _ k in

@@ -4,7 +4,8 @@ use Rattle.std.proofs.lemmas.Bool.{not-true, and_parts}
 use Rattle.uriparse_text.specs.Bytes.{slash}
 use Rattle.uriparse_text.specs.Cuts.{up_to, from_first}
 use Rattle.uriparse_path.specs.Path.{is_slash, is_rooted, unrooted}
-use Rattle.uriparse_path.specs.Dots.{is_single_dot, is_double_dot, is_dot_segment, LacksSlash, IsRest, slashed, without_last, Step, drops, stays, climbs, ends, begins, moves, Reaches, done, more}
+use Rattle.uriparse_path.specs.Dots.{is_single_dot, is_double_dot, is_dot_segment, LacksSlash, IsRest, slashed, without_last, Step, drops, stays, climbs, ends}
+use Rattle.uriparse_path.specs.Dots.{begins, moves, Reaches, done, more}
 use Rattle.uriparse_path.proofs.DotLemmas.{not_both, neither, single_dot, double_dot, dot_some, single_lacks_slash, double_lacks_slash, dot_lacks_slash}
 
 -- ---- the first segment of a text
@@ -56,7 +57,8 @@ relative_output t s rest o a is = rw (a, is.segment) refl
 rooted_input : (s rest : List ℕ) → LacksSlash s → IsRest rest → next_input (slash ∷ (s ++ rest)) ≡ cond (is_dot_segment s) (slashed rest) rest
 rooted_input s rest h k = let is = split s rest h k in rw (is.segment, is.left) refl
 
-rooted_output : (s rest o : List ℕ) → LacksSlash s → IsRest rest → next_output (slash ∷ (s ++ rest)) o ≡ cond (is_single_dot s) o (cond (is_double_dot s) (without_last o) (o ++ slash ∷ s))
+rooted_output : (s rest o : List ℕ) → LacksSlash s → IsRest rest
+    → next_output (slash ∷ (s ++ rest)) o ≡ cond (is_single_dot s) o (cond (is_double_dot s) (without_last o) (o ++ slash ∷ s))
 rooted_output s rest o h k = let is = split s rest h k in rw is.segment refl
 
 -- each step is the one that the first segment tells

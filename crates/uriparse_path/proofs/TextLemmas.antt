@@ -1,5 +1,5 @@
 -- The text of a path, and the path that it spells.
-use Rattle.std.proofs.Common.{◌≡◌, ℕ, ◌<◌, Bool, true, false, not, cond, List, [], ◌∷◌, ◌++◌, length, map, flat_map, refl, sym, ap, ◌∙◌, arith, drop, ◌&&◌}
+use Rattle.std.proofs.Common.{◌≡◌, ℕ, ◌<◌, ◌≤◌, Bool, true, false, not, cond, List, [], ◌∷◌, ◌++◌, length, map, flat_map, refl, sym, ap, ◌∙◌, arith, drop, ◌&&◌}
 use Rattle.std.specs.List.{list_all, slice_split, join_with_byte}
 use Rattle.std.proofs.lemmas.Bool.{not-true, and_parts, and_from, eqb-true}
 use Rattle.uriparse_text.specs.declared.parts.token.Token.TheVariants.{Byte}
@@ -50,15 +50,18 @@ pub well_formed-behind : (ss : List (List ℕ)) → list_all is_segment ss ≡ t
 well_formed-behind [] h = ap (list_all is_token) tokens-nil
 well_formed-behind (s ∷ ss) h =
     let both = and_parts _ _ h in
-    let rest : is_well_formed (s ++ flat_map (λ r. slash ∷ r) ss) ≡ true = well_formed-append s (flat_map (λ r. slash ∷ r) ss) (well_formed-in_class Segment s both.0) (well_formed-behind ss both.1) in
+    let rest : is_well_formed (s ++ flat_map (λ r. slash ∷ r) ss) ≡ true =
+    well_formed-append s (flat_map (λ r. slash ∷ r) ss) (well_formed-in_class Segment s both.0) (well_formed-behind ss both.1) in
     ap (list_all is_token) (tokens-spell (Byte slash) (s ++ flat_map (λ r. slash ∷ r) ss) refl) ∙ rest
 
-pub tokens-behind : (ss : List (List ℕ)) → list_all is_segment ss ≡ true → canonical_tokens Kept (flat_map (λ s. slash ∷ s) ss) ≡ flat_map (λ s. Byte slash ∷ canonical_tokens Kept s) ss
+pub tokens-behind : (ss : List (List ℕ)) → list_all is_segment ss ≡ true
+    → canonical_tokens Kept (flat_map (λ s. slash ∷ s) ss) ≡ flat_map (λ s. Byte slash ∷ canonical_tokens Kept s) ss
 tokens-behind [] h = canonical_tokens-empty Kept [] refl
 tokens-behind (s ∷ ss) h =
     let both = and_parts _ _ h in
     ap (map (canonical Kept)) (tokens-spell (Byte slash) (s ++ flat_map (λ r. slash ∷ r) ss) refl)
-    ∙ ap (λ x. Byte slash ∷ x) (canonical_tokens-append Kept s (flat_map (λ r. slash ∷ r) ss) (well_formed-in_class Segment s both.0) ∙ ap (λ x. canonical_tokens Kept s ++ x) (tokens-behind ss both.1))
+    ∙ ap (λ x. Byte slash ∷ x) (canonical_tokens-append Kept s (flat_map (λ r. slash ∷ r) ss) (well_formed-in_class Segment s both.0)
+    ∙ ap (λ x. canonical_tokens Kept s ++ x) (tokens-behind ss both.1))
 
 -- the text of an absolute path is all its segments behind slashes
 pub text-absolute : (ss : List (List ℕ)) → 0 < length ss → text (record { absolute = true; segments = ss }) ≡ flat_map (λ s. slash ∷ s) ss
@@ -66,21 +69,27 @@ text-absolute [] h = absurd (omega arith)
 text-absolute (s ∷ ss) h = ap (λ x. slash ∷ x) (joined-behind s ss)
 
 -- what the cursor has before it at the start, by the flag
-pub start-absolute : (a : Bool) (ss : List (List ℕ)) → a ≡ true → IsListed ss → canonical_tokens Kept [] ++ flat_map (λ s. Byte slash ∷ canonical_tokens Kept s) ss ≡ canonical_tokens Kept (text (record { absolute = a; segments = ss }))
+pub start-absolute : (a : Bool) (ss : List (List ℕ)) → a ≡ true → IsListed ss
+    → canonical_tokens Kept [] ++ flat_map (λ s. Byte slash ∷ canonical_tokens Kept s) ss
+    ≡ canonical_tokens Kept (text (record { absolute = a; segments = ss }))
 start-absolute a ss e is =
     rw (canonical_tokens-empty Kept [] refl, e) (sym (ap (canonical_tokens Kept) (text-absolute ss is.some) ∙ tokens-behind ss is.each))
 
-pub start-relative : (a : Bool) (ss : List (List ℕ)) (s : List ℕ) (rest : List (List ℕ)) → a ≡ false → ss ≡ s ∷ rest → IsListed ss → canonical_tokens Kept s ++ flat_map (λ s. Byte slash ∷ canonical_tokens Kept s) rest ≡ canonical_tokens Kept (text (record { absolute = a; segments = ss }))
+pub start-relative : (a : Bool) (ss : List (List ℕ)) (s : List ℕ) (rest : List (List ℕ)) → a ≡ false → ss ≡ s ∷ rest → IsListed ss
+    → canonical_tokens Kept s ++ flat_map (λ s. Byte slash ∷ canonical_tokens Kept s) rest
+    ≡ canonical_tokens Kept (text (record { absolute = a; segments = ss }))
 start-relative a ss s rest e cut is =
     let both = and_parts _ _ (sym (ap (list_all is_segment) cut) ∙ is.each) in
-    rw (e, cut, joined-behind s rest) (sym (canonical_tokens-append Kept s (flat_map (λ s. slash ∷ s) rest) (well_formed-in_class Segment s both.0) ∙ ap (λ x. canonical_tokens Kept s ++ x) (tokens-behind rest both.1)))
+    rw (e, cut, joined-behind s rest) (sym (canonical_tokens-append Kept s (flat_map (λ s. slash ∷ s) rest) (well_formed-in_class Segment s both.0)
+    ∙ ap (λ x. canonical_tokens Kept s ++ x) (tokens-behind rest both.1)))
 
 pub well_formed-text : (a : Bool) (ss : List (List ℕ)) → IsListed ss → is_well_formed (text (record { absolute = a; segments = ss })) ≡ true
 well_formed-text true ss is = ap is_well_formed (text-absolute ss is.some) ∙ well_formed-behind ss is.each
 well_formed-text false [] is = absurd (omega (arith, is.some))
 well_formed-text false (s ∷ ss) is =
     let both = and_parts _ _ is.each in
-    ap is_well_formed (joined-behind s ss) ∙ well_formed-append s (flat_map (λ s. slash ∷ s) ss) (well_formed-in_class Segment s both.0) (well_formed-behind ss both.1)
+    ap is_well_formed (joined-behind s ss)
+    ∙ well_formed-append s (flat_map (λ s. slash ∷ s) ss) (well_formed-in_class Segment s both.0) (well_formed-behind ss both.1)
 
 -- ---- the path that the text of a path spells
 
@@ -96,7 +105,7 @@ pub pieces-segments : (s : List ℕ) (ss : List (List ℕ)) → list_all is_segm
 pieces-segments s ss h = let both = and_parts _ _ h in pieces-joined s ss (lacks_slash s both.0) (all_lack_slash ss both.1)
 
 -- a text that begins with no slash
-spelled-relative : (t : List ℕ) → is_rooted t ≡ false → spelled t ≡ record { absolute = false; segments = slice_split is_slash t }
+pub spelled-relative : (t : List ℕ) → is_rooted t ≡ false → spelled t ≡ record { absolute = false; segments = slice_split is_slash t }
 spelled-relative [] h = refl
 spelled-relative (b ∷ t) h =
     ap (λ v. record { absolute = v; segments = slice_split is_slash (cond v t (b ∷ t)) }) h
@@ -112,7 +121,8 @@ rooted-relative (b ∷ s) ss h k = ap is_rooted (joined-behind (b ∷ s) ss) ∙
 pub spelled-text : (p : PathParts) → IsListed p.segments → spelled (text p) ≡ respelled p
 spelled-text p is = by_shape p.absolute p.segments is
   where
-    by_shape : (a : Bool) (ss : List (List ℕ)) → IsListed ss → spelled (text (record { absolute = a; segments = ss })) ≡ respelled (record { absolute = a; segments = ss })
+    by_shape : (a : Bool) (ss : List (List ℕ)) → IsListed ss
+        → spelled (text (record { absolute = a; segments = ss })) ≡ respelled (record { absolute = a; segments = ss })
     by_shape a [] is = absurd (omega (arith, is.some))
     by_shape true (s ∷ ss) is = ap (λ l. record { absolute = true; segments = l }) (pieces-segments s ss is.each)
     by_shape false ([] ∷ []) is = refl
@@ -121,7 +131,8 @@ spelled-text p is = by_shape p.absolute p.segments is
         spelled-relative (join_with_byte slash ((b ∷ s) ∷ ss)) (rooted-relative (b ∷ s) ss (and_parts _ _ is.each).0 refl)
         ∙ ap (λ l. record { absolute = false; segments = l }) (pieces-segments (b ∷ s) ss is.each)
 
-pub text-cons : (a : Bool) (ss : List (List ℕ)) (s : List ℕ) (rest : List (List ℕ)) → ss ≡ s ∷ rest → text (record { absolute = a; segments = ss }) ≡ root a ++ (s ++ flat_map (λ r. slash ∷ r) rest)
+pub text-cons : (a : Bool) (ss : List (List ℕ)) (s : List ℕ) (rest : List (List ℕ)) → ss ≡ s ∷ rest
+    → text (record { absolute = a; segments = ss }) ≡ root a ++ (s ++ flat_map (λ r. slash ∷ r) rest)
 text-cons a ss s rest e = ap (λ l. root a ++ join_with_byte slash l) e ∙ ap (λ x. root a ++ x) (joined-behind s rest)
 
 pub respelled_shown : (p : PathParts) → hides_root p.segments ≡ false → respelled p ≡ p
@@ -134,7 +145,8 @@ respelled_shown p h = by_flag p.absolute
 pub respelled_absolute : (p : PathParts) → p.absolute ≡ true → respelled p ≡ p
 respelled_absolute p h = ap (λ a. cond (not a && hides_root p.segments) (record { absolute = true; segments = drop 1 p.segments }) p) h
 
-pub respelled_hidden : (p : PathParts) → hides_root p.segments ≡ true → p.absolute ≡ false → respelled p ≡ record { absolute = true; segments = drop 1 p.segments }
+pub respelled_hidden : (p : PathParts) → hides_root p.segments ≡ true → p.absolute ≡ false
+    → respelled p ≡ record { absolute = true; segments = drop 1 p.segments }
 respelled_hidden p h a =
     ap (λ v. cond (not v && hides_root p.segments) (record { absolute = true; segments = drop 1 p.segments }) p) a
     ∙ ap (λ v. cond v (record { absolute = true; segments = drop 1 p.segments }) p) h
@@ -151,13 +163,16 @@ listed-respelled p is = by_shape p.absolute p.segments is
 
 -- ---- bytes that the text of a path lacks
 
-lacks-behind_slashes : (b : ℕ) → is_plain Segment b ≡ false → (percent == b) ≡ false → is_hex b ≡ false → (slash == b) ≡ false → (ss : List (List ℕ)) → list_all is_segment ss ≡ true → lacks b (flat_map (λ s. slash ∷ s) ss) ≡ true
+lacks-behind_slashes : (b : ℕ) → is_plain Segment b ≡ false → (percent == b) ≡ false → is_hex b ≡ false → (slash == b) ≡ false → (ss : List (List ℕ))
+    → list_all is_segment ss ≡ true → lacks b (flat_map (λ s. slash ∷ s) ss) ≡ true
 lacks-behind_slashes b plain sign digit other [] h = refl
 lacks-behind_slashes b plain sign digit other (s ∷ ss) h =
     let both = and_parts _ _ h in
-    and_from _ _ (ap not other) (lacks-append b s (flat_map (λ s. slash ∷ s) ss) (lacks-in_class Segment b plain sign digit s both.0) (lacks-behind_slashes b plain sign digit other ss both.1))
+    and_from _ _ (ap not other) (lacks-append b s (flat_map (λ s. slash ∷ s) ss) (lacks-in_class Segment b plain sign digit s both.0)
+    (lacks-behind_slashes b plain sign digit other ss both.1))
 
-pub lacks-path : (b : ℕ) → is_plain Segment b ≡ false → (percent == b) ≡ false → is_hex b ≡ false → (slash == b) ≡ false → (t : List ℕ) → IsPath t → lacks b t ≡ true
+pub lacks-path : (b : ℕ) → is_plain Segment b ≡ false → (percent == b) ≡ false → is_hex b ≡ false → (slash == b) ≡ false → (t : List ℕ) → IsPath t
+    → lacks b t ≡ true
 lacks-path b plain sign digit other t is = ap (lacks b) (sym (text-spelled t)) ∙ by_shape (is_rooted t) (pieces t) is
   where
     by_shape : (a : Bool) (ss : List (List ℕ)) → IsListed ss → lacks b (text (record { absolute = a; segments = ss })) ≡ true
@@ -165,4 +180,15 @@ lacks-path b plain sign digit other t is = ap (lacks b) (sym (text-spelled t)) �
     by_shape false [] is = absurd (omega (arith, is.some))
     by_shape false (s ∷ ss) is =
         let both = and_parts _ _ is.each in
-        ap (lacks b) (joined-behind s ss) ∙ lacks-append b s (flat_map (λ s. slash ∷ s) ss) (lacks-in_class Segment b plain sign digit s both.0) (lacks-behind_slashes b plain sign digit other ss both.1)
+        ap (lacks b) (joined-behind s ss)
+        ∙ lacks-append b s (flat_map (λ s. slash ∷ s) ss) (lacks-in_class Segment b plain sign digit s both.0)
+        (lacks-behind_slashes b plain sign digit other ss both.1)
+
+-- a text is no longer than its segments, each behind a slash
+pub length-text : (p : PathParts) → 0 < length p.segments → length (text p) ≤ length (flat_map (λ s. slash ∷ s) p.segments)
+length-text p some = by_shape p.absolute p.segments some
+  where
+    by_shape : (a : Bool) (ss : List (List ℕ)) → 0 < length ss → length (root a ++ join_with_byte slash ss) ≤ length (flat_map (λ s. slash ∷ s) ss)
+    by_shape a [] h = absurd (omega arith)
+    by_shape true (s ∷ ss) h = omega (arith, ap length (joined-behind s ss))
+    by_shape false (s ∷ ss) h = omega (arith, ap length (joined-behind s ss))

@@ -74,7 +74,8 @@ all_but_last [] = []
 all_but_last (s ∷ []) = []
 all_but_last (s ∷ r ∷ ss) = s ∷ all_but_last (r ∷ ss)
 
--- The segments, replayed on a stack, whose last one is its top: "." is skipped, ".." takes the top away, any other is put there; a dot segment at the end leaves an empty one.
+-- The segments, replayed on a stack, whose last one is its top: "." is skipped, ".." takes the top away, any other is
+-- put there; a dot segment at the end leaves an empty one.
 abbrev pub replay : List (List ℕ) → List (List ℕ) → List (List ℕ)
 replay out [] = out
 replay out (s ∷ []) =
@@ -92,7 +93,8 @@ is_one [] = false
 is_one (s ∷ []) = true
 is_one (s ∷ r ∷ ss) = false
 
--- Whether a slash stands before the replayed segments: one did before, or the first segment, before which none stood, is taken away again, so that the slash behind it is left.
+-- Whether a slash stands before the replayed segments: one did before, or the first segment, before which none stood,
+-- is taken away again, so that the slash behind it is left.
 abbrev pub rooted_after : Bool → List (List ℕ) → List (List ℕ) → Bool
 rooted_after rooted out [] = rooted
 rooted_after rooted out (s ∷ ss) =

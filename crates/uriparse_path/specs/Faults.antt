@@ -1,6 +1,7 @@
 -- What is wrong with a text that is no path: RFC 3986, section 3.3, and the limit of segments.
-use Rattle.std.specs.Prelude.{ℕ, nat_lt, List, [], ◌∷◌, length, take, Option, Some, None, Result, if◌then◌else◌}
+use Rattle.std.specs.Prelude.{◌≡◌, ℕ, nat_lt, List, [], ◌∷◌, ◌++◌, length, take, Option, Some, None, Result, if◌then◌else◌}
 use Rattle.std.specs.Option.{option_or}
+use Rattle.uriparse_text.specs.Bytes.{slash}
 use Rattle.uriparse_text.specs.Readings.{unless_fault}
 use Rattle.uriparse_path.specs.declared.path.error.PathError.{PathError}
 use Rattle.uriparse_path.specs.declared.path.error.PathError.TheVariants.{ExceededMaximumLength}
@@ -16,12 +17,21 @@ first_fault (s ∷ ss) = option_or (segment.fault s) (first_fault ss)
 abbrev pub length_fault : ℕ → ℕ → Option PathError
 length_fault limit count = if nat_lt limit count then Some ExceededMaximumLength else None
 
--- The leftmost fault of pieces of which so many may be: that of the first with one, as far as the limit goes. Behind these stands the length's, at the slash that would begin one segment more.
+-- The leftmost fault of pieces of which so many may be: that of the first with one, as far as the limit goes. Behind these
+-- stands the length's, at the slash that would begin one segment more.
 abbrev pub fault_within : ℕ → List (List ℕ) → Option PathError
 fault_within limit ps = option_or (first_fault (take limit ps)) (length_fault limit (length ps))
 
 unfoldable pub fault : List ℕ → Option PathError
 fault t = fault_within max_segments (pieces t)
+
+-- A front without fault has as many segments as a path may have, and then comes a slash, which would begin one more.
+pub record PassesLimit (t : List ℕ) : Type 0 where
+  pub front : List ℕ
+  pub behind : List ℕ
+  pub whole : t ≡ front ++ slash ∷ behind
+  pub none : fault front ≡ None
+  pub full : length (pieces front) ≡ max_segments
 
 -- the path that the text spells, or the leftmost fault
 abbrev pub reading : List ℕ → Result PathParts PathError

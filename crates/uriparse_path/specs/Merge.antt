@@ -1,5 +1,5 @@
 -- A base's path and a reference's, merged: RFC 3986, section 5.2.3.
-use Rattle.std.specs.Prelude.{ℕ, nat_le, if◌then◌else◌, List, ◌++◌, length, Result, Ok, Err}
+use Rattle.std.specs.Prelude.{nat_le, if◌then◌else◌, ◌++◌, length, Result, Ok, Err}
 use Rattle.uriparse_path.specs.declared.path.error.PathError.{PathError}
 use Rattle.uriparse_path.specs.declared.path.error.PathError.TheVariants.{ExceededMaximumLength}
 use Rattle.uriparse_path.specs.Path.{PathParts, max_segments}

@@ -13,7 +13,8 @@ pub data Deletes (l m : List (List ℕ)) : Type 0 where
   -- a "." goes
   single : (before after : List (List ℕ)) (d : List ℕ) → is_single_dot d ≡ true → l ≡ before ++ d ∷ after → m ≡ before ++ after → Deletes l m
   -- a segment that is no dot segment goes with the ".." directly behind it
-  pair : (before after : List (List ℕ)) (s d : List ℕ) → is_dot_segment s ≡ false → is_double_dot d ≡ true → l ≡ before ++ s ∷ d ∷ after → m ≡ before ++ after → Deletes l m
+  pair : (before after : List (List ℕ)) (s d : List ℕ) → is_dot_segment s ≡ false → is_double_dot d ≡ true → l ≡ before ++ s ∷ d ∷ after → m ≡ before ++ after
+      → Deletes l m
 
 -- Deletions lead from this list to the list m.
 pub data Leads (m : List (List ℕ)) : List (List ℕ) → Type 0 where

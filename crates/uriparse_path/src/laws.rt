@@ -1,12 +1,12 @@
 //! Laws of the definitions that contracts cite. Each function has nothing to do: its contract is
 //! the law.
-ghost use Rattle.std.specs.Prelude.{◌≡◌, ◌≤◌, ◌↔◌, ◌∷◌, ℕ, List, Bool, None, Ok, Err, codes, length, map, true, false};
+ghost use Rattle.std.specs.Prelude.{◌≡◌, ◌≤◌, ◌↔◌, ◌∷◌, ℕ, List, Bool, None, Some, Ok, Err, codes, length, map, true, false};
 ghost use Rattle.std.specs.List.{list_all, slice_split, join_with_byte};
 ghost use Rattle.uriparse_text.specs.Bytes.{slash};
 ghost use Rattle.uriparse_text.specs.Canon.{canon};
 ghost use Rattle.uriparse_path.specs.Segment.{is_segment};
 ghost use Rattle.uriparse_path.specs.Path.{PathParts, IsListed, IsPath, max_segments, is_slash, is_rooted, pieces, text, spelled, respelled};
-ghost use Rattle.uriparse_path.specs.Faults.{fault};
+ghost use Rattle.uriparse_path.specs.Faults.{PassesLimit, fault};
 ghost use Rattle.uriparse_path.specs.Dots.{has_dot_segment, Step, Undots, rooted_after, replayed, undot, without_dots};
 ghost use Rattle.uriparse_path.specs.Relative.{is_first, has_colon, Leads, IsIrreducible, IsRelNormal, reduced, relative_normal};
 ghost use Rattle.uriparse_path.specs.Edits.{cleared, popped, pushed, pushing};
@@ -26,6 +26,12 @@ pub fn one_limit() -> usize
 /// A text has no fault exactly where its pieces are the segments of a path.
 pub fn no_fault()
     ensures { (t : List ℕ) → (fault t ≡ None) ↔ IsListed (pieces t) }
+{}
+
+/// The fault of a text is that of its length exactly where a front without fault has as many segments
+/// as a path may have, and a slash comes behind that.
+pub fn length_fault()
+    ensures { (t : List ℕ) → (fault t ≡ Some errors.ExceededMaximumLength) ↔ PassesLimit t }
 {}
 
 /// Splitting at slashes and joining by slashes undo one another.

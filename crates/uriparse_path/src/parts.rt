@@ -1,5 +1,5 @@
 //! What the crates above build on. Users have no need of it.
-ghost use Rattle.std.specs.Prelude.{◌≡◌, Err, IfErr, IsOk, OnOk, OnErr, if◌then◌else◌, true, false};
+ghost use Rattle.std.specs.Prelude.{◌≡◌, ◌≤◌, ◌⊎◌, Err, IfErr, IsOk, OnOk, OnErr, if◌then◌else◌, length, true, false};
 ghost use Rattle.std.specs.List.{list_all};
 ghost use Rattle.uriparse_text.specs.Bytes.{colon};
 ghost use Rattle.uriparse_text.specs.Cuts.{lacks, up_to};
@@ -62,8 +62,10 @@ pub fn into_absolute(path: Path<'_>) -> Path<'_>
     path.into_absolute()
 }
 
-/// How many bytes the path's text has at most.
-pub fn most_path_bytes(path: &Path<'_>) -> usize {
+/// How many bytes the path's text has at most, or the most that a number holds.
+pub fn most_path_bytes(path: &Path<'_>) -> usize
+    ensures { length (text path.now) ≤ result ⊎ result ≡ usize.MAX }
+{
     path.most_bytes()
 }
 

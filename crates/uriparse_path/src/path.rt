@@ -1,5 +1,5 @@
 //! A path: RFC 3986, section 3.3.
-ghost use Rattle.std.specs.Prelude.{◌≡◌, ◌↔◌, ◌∷◌, IsTrue, IfOk, OnOk, OnErr, IsOk, IsErr, Some, true, false, if◌then◌else◌, not, map, filter, bytes_eq, string_bytes};
+ghost use Rattle.std.specs.Prelude.{◌≡◌, ◌≤◌, ◌⊎◌, ◌↔◌, ◌∷◌, length, IsTrue, IfOk, OnOk, OnErr, IsOk, IsErr, Some, true, false, if◌then◌else◌, not, map, filter, bytes_eq, string_bytes};
 ghost use Rattle.std.proofs.Common.{rules};
 ghost use Rattle.std.specs.Ordering.{on};
 ghost use Rattle.std.specs.Cmp.Rules.{comparing, hashing};
@@ -268,8 +268,10 @@ impl<'p> Path<'p> {
         is_normal(relative, self.segments()) || (shields && self.is_shielded())
     }
 
-    /// How many bytes the path's text has at most.
-    pub(crate) fn most_bytes(&self) -> usize {
+    /// How many bytes the path's text has at most, or the most that a number holds.
+    pub(crate) fn most_bytes(&self) -> usize
+        ensures { length (text self.now) ≤ result ⊎ result ≡ usize.MAX }
+    {
         let mut len = 0usize;
         for segment in &self.segments {
             len = len.saturating_add(1).saturating_add(segment.as_str().len());

@@ -27,9 +27,12 @@ use Rattle.uriparse_reference.specs.Target.{merge, dots_removed, is_empty, targe
 use Rattle.uriparse_reference.proofs.SameLemmas.{canonical_cut}
 use Rattle.uriparse_reference.proofs.PartLemmas.{scheme-text, some_map, none_map, map_or, authority-print, authority-kind}
 use Rattle.uriparse_reference.proofs.PlaceLemmas.{Fits, two_slashes, fits_of, shielded_fits}
-use Rattle.uriparse_reference.proofs.NormalLemmas.{same_path, normal_valid, printed_alike}
+use Rattle.uriparse_reference.proofs.NormalFormLemmas.{normal_valid}
+use Rattle.uriparse_reference.proofs.NormalLemmas.{same_path, printed_alike}
 use Rattle.uriparse_path.specs.Merge.{merged}
-use Rattle.uriparse_reference.proofs.TargetLemmas.{merged_spelled, IsBehind, behind, fits_merged, fits_rooted, fits_undotted, dots_removed-text, dots_removed-merged, chosen, le_from}
+use Rattle.uriparse_reference.proofs.MergedLemmas.{merged_spelled, IsBehind, fits_merged}
+use Rattle.uriparse_reference.proofs.TargetLemmas.{behind, fits_rooted, fits_undotted, dots_removed-text}
+use Rattle.uriparse_reference.proofs.TargetLemmas.{dots_removed-merged, chosen, le_from}
 
 -- ---- part by part
 
@@ -56,7 +59,8 @@ alike_of p q v w s =
     record {
       schemes = sym x.scheme ∙ ap scheme_text e ∙ y.scheme;
       authorities = sym x.authority ∙ ap authority_text e ∙ y.authority;
-      paths = same_path (canonical_path p.path) (canonical_path q.path) (listed-canonical p.path.segments i.listed) (canonical_formed p.path i.formed) (listed-canonical q.path.segments j.listed) (canonical_formed q.path j.formed)
+      paths = same_path (canonical_path p.path) (canonical_path q.path) (listed-canonical p.path.segments i.listed) (canonical_formed p.path i.formed)
+          (listed-canonical q.path.segments j.listed) (canonical_formed q.path j.formed)
           (sym (canon-text p.path i.listed) ∙ t ∙ canon-text q.path j.listed);
       texts = t;
       queries = sym x.query ∙ ap query_text e ∙ y.query;
@@ -84,9 +88,11 @@ two-canonical q is h =
     ∙ ap (λ v. q.absolute && v) (hides-canon q.segments)
     ∙ sym (two_slashes q is h)
 
-pub shielded-canonical : (a : Option AuthorityParts) (q : PathParts) → IsListed q.segments → respelled q ≡ q → canonical_path (shielded a q) ≡ shielded a (canonical_path q)
+pub shielded-canonical : (a : Option AuthorityParts) (q : PathParts) → IsListed q.segments → respelled q ≡ q
+    → canonical_path (shielded a q) ≡ shielded a (canonical_path q)
 shielded-canonical (Some a) q is h = refl
-shielded-canonical None q is h = by_test (has_two_slashes (text q)) ∙ ap (λ v. cond v (dotted (canonical_path q)) (canonical_path q)) (sym (two-canonical q is h))
+shielded-canonical None q is h = by_test (has_two_slashes (text q))
+    ∙ ap (λ v. cond v (dotted (canonical_path q)) (canonical_path q)) (sym (two-canonical q is h))
   where
     by_test : (v : Bool) → canonical_path (cond v (dotted q) q) ≡ cond v (dotted (canonical_path q)) (canonical_path q)
     by_test true = ap (λ u. record { absolute = q.absolute; segments = u ∷ map canon q.segments }) canon-dot
@@ -106,15 +112,18 @@ made_same : (s r : Option Scheme) (a b : Option AuthorityParts) (p q : PathParts
 made_same s r a b p q x y f g es ea ek is i js j fp fq ep ex ef =
     let t : canon (text (shielded a p)) ≡ canon (text (shielded b q)) =
     canon-text (shielded a p) fp.listed
-    ∙ ap text (shielded-canonical a p is i ∙ ap (shielded a) ep ∙ shielded_some a b (canonical_path q) (same_some authority.canonical_text authority.canonical_text a b ea) ∙ sym (shielded-canonical b q js j))
+    ∙ ap text (shielded-canonical a p is i ∙ ap (shielded a) ep
+    ∙ shielded_some a b (canonical_path q) (same_some authority.canonical_text authority.canonical_text a b ea) ∙ sym (shielded-canonical b q js j))
     ∙ sym (canon-text (shielded b q) fq.listed) in
     record {
       spelling =
           ap (λ u. joined u (option_map authority.canonical_text a) (canon (text (shielded a p))) (option_map canon x) (option_map canon f)) es
           ∙ ap (λ u. joined (option_map scheme.canonical_text r) u (canon (text (shielded a p))) (option_map canon x) (option_map canon f)) ea
           ∙ ap (λ u. joined (option_map scheme.canonical_text r) (option_map authority.canonical_text b) u (option_map canon x) (option_map canon f)) t
-          ∙ ap (λ u. joined (option_map scheme.canonical_text r) (option_map authority.canonical_text b) (canon (text (shielded b q))) u (option_map canon f)) ex
-          ∙ ap (λ u. joined (option_map scheme.canonical_text r) (option_map authority.canonical_text b) (canon (text (shielded b q))) (option_map canon y) u) ef;
+          ∙ ap (λ u. joined (option_map scheme.canonical_text r) (option_map authority.canonical_text b) (canon (text (shielded b q))) u (option_map canon f))
+          ex
+          ∙ ap (λ u. joined (option_map scheme.canonical_text r) (option_map authority.canonical_text b) (canon (text (shielded b q))) (option_map canon y) u)
+          ef;
       kinds = ek;
     }
 
@@ -129,9 +138,11 @@ undotted_same : (s r : Option Scheme) (a b : Option AuthorityParts) (t u : List 
     → Same (target_of s a (dots_removed t) x f) (target_of r b (dots_removed u) y g)
 undotted_same s r a b t u m n x y f g es ea ek i j is js e ex ef =
     let same : Same (target_of s a (undotted m) x f) (target_of r b (undotted n) y g) =
-    made_same s r a b (undotted m) (undotted n) x y f g es ea ek (listed_undotted m is.listed) (respelled_twice (replayed m)) (listed_undotted n js.listed) (respelled_twice (replayed n)) (fits_undotted a m is) (fits_undotted b n js)
+    made_same s r a b (undotted m) (undotted n) x y f g es ea ek (listed_undotted m is.listed) (respelled_twice (replayed m)) (listed_undotted n js.listed)
+    (respelled_twice (replayed n)) (fits_undotted a m is) (fits_undotted b n js)
     (sym (undotted-canonical m is.listed) ∙ ap undotted e ∙ undotted-canonical n js.listed) ex ef in
-    subst (λ p. Same (target_of s a p x f) (target_of r b (dots_removed u) y g)) (sym i) (subst (λ q. Same (target_of s a (undotted m) x f) (target_of r b q y g)) (sym j) same)
+    subst (λ p. Same (target_of s a p x f) (target_of r b (dots_removed u) y g)) (sym i)
+    (subst (λ q. Same (target_of s a (undotted m) x f) (target_of r b q y g)) (sym j) same)
 
 pub merged-canonical : (p q : PathParts) → canonical_path (merged p q) ≡ merged (canonical_path p) (canonical_path q)
 merged-canonical p q =
@@ -199,39 +210,61 @@ same_targets b c r q vb vc vr vq sb sr =
     lone_too h = subst (λ v. Fits v q.path) (e2 ∙ h) fq
 
     by_room : IsBehind r.path → IsBehind q.path → (z : Bool) → nat_le (length (pieces (merge b r))) max_segments ≡ z
-        → AreSame (cond z (Some (target_of b.scheme b.authority (dots_removed (merge b r)) r.query r.fragment)) None) (cond (nat_le (length (pieces (merge c q))) max_segments) (Some (target_of c.scheme c.authority (dots_removed (merge c q)) q.query q.fragment)) None)
+        → AreSame (cond z (Some (target_of b.scheme b.authority (dots_removed (merge b r)) r.query r.fragment)) None)
+        (cond (nat_le (length (pieces (merge c q))) max_segments) (Some (target_of c.scheme c.authority (dots_removed (merge c q)) q.query q.fragment))
+        None)
     by_room br bq z e =
-        let m : (length (pieces (merge b r))) ≡ length (merged b.path r.path).segments = ap (λ p. length p.segments) (merged_spelled (is_some b.authority) b.path r.path fb br) in
-        let n : (length (pieces (merge c q))) ≡ length (merged c.path q.path).segments = ap (λ p. length p.segments) (merged_spelled (is_some c.authority) c.path q.path fc bq) in
-        let same : canonical_path (merged b.path r.path) ≡ canonical_path (merged c.path q.path) = merged-canonical b.path r.path ∙ ap (λ p. merged p (canonical_path r.path)) base.paths ∙ ap (λ p. merged (canonical_path c.path) p) ref.paths ∙ sym (merged-canonical c.path q.path) in
-        let long : length (merged b.path r.path).segments ≡ length (merged c.path q.path).segments = sym (length-canon (merged b.path r.path).segments) ∙ ap (λ p. length p.segments) same ∙ length-canon (merged c.path q.path).segments in
+        let m : (length (pieces (merge b r))) ≡ length (merged b.path r.path).segments =
+        ap (λ p. length p.segments) (merged_spelled (is_some b.authority) b.path r.path fb br) in
+        let n : (length (pieces (merge c q))) ≡ length (merged c.path q.path).segments =
+        ap (λ p. length p.segments) (merged_spelled (is_some c.authority) c.path q.path fc bq) in
+        let same : canonical_path (merged b.path r.path) ≡ canonical_path (merged c.path q.path) = merged-canonical b.path r.path
+        ∙ ap (λ p. merged p (canonical_path r.path)) base.paths ∙ ap (λ p. merged (canonical_path c.path) p) ref.paths
+        ∙ sym (merged-canonical c.path q.path) in
+        let long : length (merged b.path r.path).segments ≡ length (merged c.path q.path).segments = sym (length-canon (merged b.path r.path).segments)
+        ∙ ap (λ p. length p.segments) same ∙ length-canon (merged c.path q.path).segments in
         let too : nat_le (length (pieces (merge c q))) max_segments ≡ z = ap (λ k. nat_le k max_segments) (n ∙ sym long ∙ sym m) ∙ e in
-        subst (λ w. AreSame (cond z (Some (target_of b.scheme b.authority (dots_removed (merge b r)) r.query r.fragment)) None) (cond w (Some (target_of c.scheme c.authority (dots_removed (merge c q)) q.query q.fragment)) None)) (sym too)
-        (at_room z (λ h. le_from _ _ (ap (λ k. nat_le k max_segments) (sym m) ∙ e ∙ h)) (λ h. le_from _ _ (ap (λ k. nat_le k max_segments) (sym n) ∙ too ∙ h)) same)
+        subst (λ w. AreSame (cond z (Some (target_of b.scheme b.authority (dots_removed (merge b r)) r.query r.fragment)) None)
+        (cond w (Some (target_of c.scheme c.authority (dots_removed (merge c q)) q.query q.fragment)) None)) (sym too)
+        (at_room z (λ h. le_from _ _ (ap (λ k. nat_le k max_segments) (sym m) ∙ e ∙ h)) (λ h. le_from _ _ (ap (λ k. nat_le k max_segments) (sym n) ∙ too
+        ∙ h)) same)
       where
-        at_room : (z : Bool) → (z ≡ true → length (merged b.path r.path).segments ≤ max_segments) → (z ≡ true → length (merged c.path q.path).segments ≤ max_segments) → canonical_path (merged b.path r.path) ≡ canonical_path (merged c.path q.path)
-            → AreSame (cond z (Some (target_of b.scheme b.authority (dots_removed (merge b r)) r.query r.fragment)) None) (cond z (Some (target_of c.scheme c.authority (dots_removed (merge c q)) q.query q.fragment)) None)
+        at_room : (z : Bool) → (z ≡ true → length (merged b.path r.path).segments ≤ max_segments)
+            → (z ≡ true → length (merged c.path q.path).segments ≤ max_segments) → canonical_path (merged b.path r.path) ≡ canonical_path (merged c.path q.path)
+            → AreSame (cond z (Some (target_of b.scheme b.authority (dots_removed (merge b r)) r.query r.fragment)) None)
+            (cond z (Some (target_of c.scheme c.authority (dots_removed (merge c q)) q.query q.fragment)) None)
         at_room false f g same = tt
         at_room true f g same =
-            undotted_same b.scheme c.scheme b.authority c.authority (merge b r) (merge c q) (merged b.path r.path) (merged c.path q.path) r.query q.query r.fragment q.fragment base.schemes base.authorities base.kinds
+            undotted_same b.scheme c.scheme b.authority c.authority (merge b r) (merge c q) (merged b.path r.path) (merged c.path q.path) r.query q.query
+            r.fragment q.fragment base.schemes base.authorities base.kinds
             (dots_removed-merged (is_some b.authority) b.path r.path fb br (f refl)) (dots_removed-merged (is_some c.authority) c.path q.path fc bq (g refl))
-            (fits_merged (is_some b.authority) b.path r.path fb br (f refl)) (fits_merged (is_some c.authority) c.path q.path fc bq (g refl)) same ref.queries ref.fragments
+            (fits_merged (is_some b.authority) b.path r.path fb br (f refl)) (fits_merged (is_some c.authority) c.path q.path fc bq (g refl)) same ref.queries
+            ref.fragments
 
-    by_tests : (s : Bool) → is_some r.scheme ≡ s → (d : Bool) → is_some r.authority ≡ d → (x : Bool) → is_empty (text r.path) ≡ x → (y : Bool) → is_rooted (text r.path) ≡ y → AreSame (chosen s d x y b r) (chosen s d x y c q)
+    by_tests : (s : Bool) → is_some r.scheme ≡ s → (d : Bool) → is_some r.authority ≡ d → (x : Bool) → is_empty (text r.path) ≡ x → (y : Bool)
+        → is_rooted (text r.path) ≡ y → AreSame (chosen s d x y b r) (chosen s d x y c q)
     by_tests true e d i x j y k =
-        undotted_same r.scheme q.scheme r.authority q.authority (text r.path) (text q.path) r.path q.path r.query q.query r.fragment q.fragment ref.schemes ref.authorities ref.kinds (dots_removed-text r.path fr.listed) (dots_removed-text q.path fq.listed) fr fq ref.paths ref.queries ref.fragments
+        undotted_same r.scheme q.scheme r.authority q.authority (text r.path) (text q.path) r.path q.path r.query q.query r.fragment q.fragment ref.schemes
+        ref.authorities ref.kinds (dots_removed-text r.path fr.listed) (dots_removed-text q.path fq.listed) fr fq ref.paths ref.queries ref.fragments
     by_tests false e true i x j y k =
-        undotted_same b.scheme c.scheme r.authority q.authority (text r.path) (text q.path) r.path q.path r.query q.query r.fragment q.fragment base.schemes ref.authorities ref.kinds (dots_removed-text r.path fr.listed) (dots_removed-text q.path fq.listed) fr fq ref.paths ref.queries ref.fragments
+        undotted_same b.scheme c.scheme r.authority q.authority (text r.path) (text q.path) r.path q.path r.query q.query r.fragment q.fragment base.schemes
+        ref.authorities ref.kinds (dots_removed-text r.path fr.listed) (dots_removed-text q.path fq.listed) fr fq ref.paths ref.queries ref.fragments
     by_tests false e false i true j y k =
-        made_same b.scheme c.scheme b.authority c.authority b.path c.path (option_or r.query b.query) (option_or q.query c.query) r.fragment q.fragment base.schemes base.authorities base.kinds fb.listed fb.formed fc.listed fc.formed
-        (subst (λ p. Fits (is_some b.authority) p) (sym (shielded_fits b.authority b.path fb)) fb) (subst (λ p. Fits (is_some c.authority) p) (sym (shielded_fits c.authority c.path fc)) fc)
+        made_same b.scheme c.scheme b.authority c.authority b.path c.path (option_or r.query b.query) (option_or q.query c.query) r.fragment q.fragment
+        base.schemes base.authorities base.kinds fb.listed fb.formed fc.listed fc.formed
+        (subst (λ p. Fits (is_some b.authority) p) (sym (shielded_fits b.authority b.path fb)) fb)
+        (subst (λ p. Fits (is_some c.authority) p) (sym (shielded_fits c.authority c.path fc)) fc)
         base.paths
-        (map_or r.query b.query ∙ ap (λ o. option_or o (option_map canon b.query)) ref.queries ∙ ap (λ o. option_or (option_map canon q.query) o) base.queries ∙ sym (map_or q.query c.query))
+        (map_or r.query b.query ∙ ap (λ o. option_or o (option_map canon b.query)) ref.queries ∙ ap (λ o. option_or (option_map canon q.query) o) base.queries
+        ∙ sym (map_or q.query c.query))
         ref.fragments
     by_tests false e false i false j true k =
-        undotted_same b.scheme c.scheme b.authority c.authority (text r.path) (text q.path) r.path q.path r.query q.query r.fragment q.fragment base.schemes base.authorities base.kinds (dots_removed-text r.path fr.listed) (dots_removed-text q.path fq.listed)
-        (fits_rooted (is_some b.authority) r.path (lone i) k) (fits_rooted (is_some c.authority) q.path (lone_too i) (e4 ∙ k)) ref.paths ref.queries ref.fragments
-    by_tests false e false i false j false k = by_room (behind r.path (lone i) k) (behind q.path (lone_too i) (e4 ∙ k)) (nat_le (length (pieces (merge b r))) max_segments) refl
+        undotted_same b.scheme c.scheme b.authority c.authority (text r.path) (text q.path) r.path q.path r.query q.query r.fragment q.fragment base.schemes
+        base.authorities base.kinds (dots_removed-text r.path fr.listed) (dots_removed-text q.path fq.listed)
+        (fits_rooted (is_some b.authority) r.path (lone i) k) (fits_rooted (is_some c.authority) q.path (lone_too i) (e4
+        ∙ k)) ref.paths ref.queries ref.fragments
+    by_tests false e false i false j false k =
+        by_room (behind r.path (lone i) k) (behind q.path (lone_too i) (e4 ∙ k)) (nat_le (length (pieces (merge b r))) max_segments) refl
 
 pub same_normal : (p q : Parts) → Valid p → Valid q → Same p q → (print (normal p) ≡ print (normal q)) × (kind (normal p) ≡ kind (normal q))
 same_normal p q v w s =
@@ -240,10 +273,15 @@ same_normal p q v w s =
     let j = fits_of q w in
     let r : is_none p.scheme ≡ is_none q.scheme = same_none scheme.canonical_text scheme.canonical_text p.scheme q.scheme is.schemes in
     let h : pnormal p.path (is_none p.scheme) ≡ pnormal q.path (is_none q.scheme) =
-    sym (pnormal-canon p.path (is_none p.scheme) i.listed) ∙ ap (λ u. pnormal u (is_none p.scheme)) is.paths ∙ pnormal-canon q.path (is_none p.scheme) j.listed ∙ ap (pnormal q.path) r in
-    let t : text (normal p).path ≡ text (normal q).path = ap text (ap (shielded p.authority) h ∙ shielded_some p.authority q.authority (pnormal q.path (is_none q.scheme)) (same_some authority.canonical_text authority.canonical_text p.authority q.authority is.authorities)) in (
-      ap (λ u. joined u (authority_part (normal p)) (text (normal p).path) (normal p).query (normal p).fragment) (scheme-text p.scheme ∙ is.schemes ∙ sym (scheme-text q.scheme))
-          ∙ ap (λ u. joined (scheme_part (normal q)) u (text (normal p).path) (normal p).query (normal p).fragment) (authority-print p.authority ∙ is.authorities ∙ sym (authority-print q.authority))
+    sym (pnormal-canon p.path (is_none p.scheme) i.listed) ∙ ap (λ u. pnormal u (is_none p.scheme)) is.paths
+    ∙ pnormal-canon q.path (is_none p.scheme) j.listed ∙ ap (pnormal q.path) r in
+    let t : text (normal p).path ≡ text (normal q).path = ap text (ap (shielded p.authority) h
+    ∙ shielded_some p.authority q.authority (pnormal q.path (is_none q.scheme))
+    (same_some authority.canonical_text authority.canonical_text p.authority q.authority is.authorities)) in (
+      ap (λ u. joined u (authority_part (normal p)) (text (normal p).path) (normal p).query (normal p).fragment) (scheme-text p.scheme ∙ is.schemes
+          ∙ sym (scheme-text q.scheme))
+          ∙ ap (λ u. joined (scheme_part (normal q)) u (text (normal p).path) (normal p).query (normal p).fragment) (authority-print p.authority
+          ∙ is.authorities ∙ sym (authority-print q.authority))
           ∙ ap (λ u. joined (scheme_part (normal q)) (authority_part (normal q)) u (normal p).query (normal p).fragment) t
           ∙ ap (λ u. joined (scheme_part (normal q)) (authority_part (normal q)) (text (normal q).path) u (normal p).fragment) is.queries
           ∙ ap (λ u. joined (scheme_part (normal q)) (authority_part (normal q)) (text (normal q).path) (normal q).query u) is.fragments,

@@ -1,5 +1,6 @@
 -- How the text of a reference is cut, and that a text which is joined from pieces is cut into them.
-use Rattle.std.proofs.Common.{◌≡◌, ℕ, Bool, true, false, cond, List, [], ◌∷◌, ◌++◌, drop, Option, Some, None, Ok, refl, sym, ap, ◌∙◌, append-nil, append_assoc, ◌&&◌, ◌||◌, inl, inr, arith}
+use Rattle.std.proofs.Common.{◌≡◌, ℕ, Bool, true, false, cond, List, [], ◌∷◌, ◌++◌, drop, Option, Some, None, Ok, refl, sym, ap, ◌∙◌, append-nil, append_assoc}
+use Rattle.std.proofs.Common.{◌&&◌, ◌||◌, inl, inr, arith}
 use Rattle.std.specs.Prelude.{◌⊎◌, not, ◌==◌, IfSome, Err, is_some, unwrap_or}
 use Rattle.std.specs.Option.{option_map}
 use Rattle.std.specs.List.{list_all}
@@ -9,9 +10,10 @@ use Rattle.std.proofs.lemmas.List.Folds.{list_all-append}
 use Rattle.uriparse_text.specs.declared.parts.class.Class.TheVariants.{Query}
 use Rattle.uriparse_text.specs.Bytes.{slash, colon, question_mark, number_sign, is_unreserved, is_sub_delim}
 use Rattle.uriparse_text.specs.Classes.{is_plain}
-use Rattle.uriparse_text.specs.Cuts.{lacks, none_pass, behind, before, after, front, rest, up_to, from_first}
+use Rattle.uriparse_text.specs.Cuts.{lacks, none_pass, behind, before, after, rest, up_to, from_first}
 use Rattle.uriparse_text.specs.Query.{IsQuery}
-use Rattle.uriparse_text.proofs.CutLemmas.{weaker, up_to-none, from_first-head, lacks_by, lacks-append, lacks-behind, lacks-in_class, cut-whole, up_to-append, from_first-append, before_of, after_of, front_of}
+use Rattle.uriparse_text.proofs.CutLemmas.{weaker, up_to-none, from_first-head, lacks_by, lacks-append, lacks-behind, lacks-in_class, cut-whole, up_to-append}
+use Rattle.uriparse_text.proofs.CutLemmas.{from_first-append, before_of, after_of, front_of}
 use Rattle.uriparse_path.specs.Path.{IsPath, is_slash, is_rooted, has_two_slashes}
 use Rattle.uriparse_path.proofs.TextLemmas.{lacks-path}
 use Rattle.uriparse_authority.specs.Authority.{ends_authority, colon_part}
@@ -23,7 +25,9 @@ use Rattle.uriparse_scheme.proofs.SchemeLemmas as schemes
 use Rattle.uriparse_scheme.proofs.GrammarLemmas as grammar
 use Rattle.uriparse_reference.specs.declared.uri_reference.error.URIReferenceError.TheVariants as errors
 use Rattle.uriparse_reference.specs.Reference.{behind_slashes, joined, is_abempty, is_noscheme, path_refusal}
-use Rattle.uriparse_reference.specs.Cuts.{if_scheme, scheme_text, ends_scheme, left, after_scheme, cut_authority, authority_text, cut_left, after_authority, path_text, query_text, fragment_text}
+use Rattle.uriparse_reference.specs.Cuts.{if_scheme, scheme_text, ends_scheme, unless_scheme, after_scheme, cut_authority, authority_text, cut_left}
+use Rattle.uriparse_reference.specs.Cuts.{after_authority}
+use Rattle.uriparse_reference.specs.Cuts.{path_text, query_text, fragment_text}
 
 pub head_is : (a b : Bool) → (a && b) ≡ true → a ≡ true
 head_is a b h = (and_parts a b h).0
@@ -64,28 +68,34 @@ segment_no_scheme [] None (Some f) k = inr refl
 segment_no_scheme [] None None k = inl refl
 segment_no_scheme (b ∷ h) q f k = at_slash (is_slash b) refl (segment_no_scheme h q f) k
   where
-    at_slash : (v : Bool) → is_slash b ≡ v → (is_noscheme h ≡ true → NoScheme (h ++ tail q f)) → lacks colon (cond v [] (b ∷ up_to is_slash h)) ≡ true → NoScheme (b ∷ (h ++ tail q f))
+    at_slash : (v : Bool) → is_slash b ≡ v → (is_noscheme h ≡ true → NoScheme (h ++ tail q f)) → lacks colon (cond v [] (b ∷ up_to is_slash h)) ≡ true
+        → NoScheme (b ∷ (h ++ tail q f))
     at_slash true e g k = inr (ap (λ x. list_all scheme.is_scheme_byte (before colon (x ∷ (h ++ tail q f)))) (eqb-true b slash e))
     at_slash false e g k = let n = head_is (not (b == colon)) _ k in let r = g (tail_is (not (b == colon)) _ k) in first (b == colon) refl n r
       where
         first : (w : Bool) → (b == colon) ≡ w → not (b == colon) ≡ true → NoScheme (h ++ tail q f) → NoScheme (b ∷ (h ++ tail q f))
         first true e n r = absurd (false≢true (sym (ap not e) ∙ n))
         first false e n (inl r) = inl (rw e r)
-        first false e n (inr r) = inr (rw e (elim (scheme.is_scheme_byte b) as (λ v. (v && list_all scheme.is_scheme_byte (before colon (h ++ tail q f))) ≡ false) [ true ↦ r | false ↦ refl ]))
+        first false e n (inr r) =
+            inr (rw e (elim (scheme.is_scheme_byte b) as (λ v. (v && list_all scheme.is_scheme_byte (before colon (h ++ tail q f))) ≡ false)
+            [ true ↦ r | false ↦ refl ]))
 
 -- ---- what no refusal says of a path
 
 pub no_slashes : (v : Bool) (h : List ℕ) → path_refusal v false h ≡ None → has_two_slashes h ≡ false
 no_slashes v h = by_slashes (has_two_slashes h)
   where
-    by_slashes : (w : Bool) → cond w (Some errors.AbsolutePathStartsWithTwoSlashes) (cond (v || is_noscheme h) None (Some errors.SchemelessPathStartsWithColonSegment)) ≡ None → w ≡ false
+    by_slashes : (w : Bool)
+        → cond w (Some errors.AbsolutePathStartsWithTwoSlashes) (cond (v || is_noscheme h) None (Some errors.SchemelessPathStartsWithColonSegment)) ≡ None
+        → w ≡ false
     by_slashes true e = cc
     by_slashes false e = refl
 
 pub no_colon : (h : List ℕ) → path_refusal false false h ≡ None → is_noscheme h ≡ true
 no_colon h = by_tests (has_two_slashes h) (is_noscheme h)
   where
-    by_tests : (w v : Bool) → cond w (Some errors.AbsolutePathStartsWithTwoSlashes) (cond v None (Some errors.SchemelessPathStartsWithColonSegment)) ≡ None → v ≡ true
+    by_tests : (w v : Bool) → cond w (Some errors.AbsolutePathStartsWithTwoSlashes) (cond v None (Some errors.SchemelessPathStartsWithColonSegment)) ≡ None
+        → v ≡ true
     by_tests w true e = refl
     by_tests true false e = cc
     by_tests false false e = cc
@@ -93,45 +103,57 @@ no_colon h = by_tests (has_two_slashes h) (is_noscheme h)
 pub slash_no_scheme : (t : List ℕ) → scheme_text (slash ∷ t) ≡ None
 slash_no_scheme t = no_scheme (slash ∷ t) (inr refl)
 
-pub none_scheme : (a : Option (List ℕ)) (h : List ℕ) (q f : Option (List ℕ)) → path_refusal false (is_some a) h ≡ None → scheme_text (behind_slashes a ++ (h ++ tail q f)) ≡ None
+pub none_scheme : (a : Option (List ℕ)) (h : List ℕ) (q f : Option (List ℕ)) → path_refusal false (is_some a) h ≡ None
+    → scheme_text (behind_slashes a ++ (h ++ tail q f)) ≡ None
 none_scheme (Some a) h q f k = slash_no_scheme (slash ∷ (a ++ (h ++ tail q f)))
 none_scheme None h q f k = no_scheme (h ++ tail q f) (segment_no_scheme h q f (no_colon h k))
 
-pub scheme_of : (s a : Option (List ℕ)) (h : List ℕ) (q f : Option (List ℕ)) → IfSome s (λ t. scheme.is_scheme t ≡ true) → path_refusal (is_some s) (is_some a) h ≡ None
+pub scheme_of : (s a : Option (List ℕ)) (h : List ℕ) (q f : Option (List ℕ)) → IfSome s (λ t. scheme.is_scheme t ≡ true)
+    → path_refusal (is_some s) (is_some a) h ≡ None
     → (scheme_text (joined s a h q f) ≡ s) × (after_scheme (joined s a h q f) ≡ behind_slashes a ++ (h ++ tail q f))
-scheme_of None a h q f i k = let e = none_scheme a h q f k in (e, ap (λ o. left o (behind_slashes a ++ (h ++ tail q f)) (rest colon (behind_slashes a ++ (h ++ tail q f)))) e)
+scheme_of None a h q f i k = let e = none_scheme a h q f k in
+    (e, ap (λ o. unless_scheme o (behind_slashes a ++ (h ++ tail q f)) (rest colon (behind_slashes a ++ (h ++ tail q f)))) e)
 scheme_of (Some s) a h q f i k =
     let u : List ℕ = behind_slashes a ++ (h ++ tail q f) in
     let w = front_of colon s u refl (scheme_colon s i) in
     let e : scheme_text ((s ++ colon ∷ []) ++ u) ≡ Some s = ap if_scheme w.0 ∙ rw i refl in
-    (e, ap (λ o. left o ((s ++ colon ∷ []) ++ u) (rest colon ((s ++ colon ∷ []) ++ u))) e ∙ w.1)
+    (e, ap (λ o. unless_scheme o ((s ++ colon ∷ []) ++ u) (rest colon ((s ++ colon ∷ []) ++ u))) e ∙ w.1)
 
 -- ---- the authority
 
 pub two_append : (h u : List ℕ) → is_rooted u ≡ false → has_two_slashes (h ++ u) ≡ has_two_slashes h
 two_append [] u e = rw e refl
 two_append (b ∷ []) u e = elim (is_slash b) as (λ v. (v && is_rooted (cond v u (b ∷ u))) ≡ (v && is_rooted (cond v [] (b ∷ [])))) [ true ↦ e | false ↦ refl ]
-two_append (b ∷ c ∷ h) u e = elim (is_slash b) as (λ v. (v && is_rooted (cond v (c ∷ (h ++ u)) (b ∷ c ∷ (h ++ u)))) ≡ (v && is_rooted (cond v (c ∷ h) (b ∷ c ∷ h)))) [ true ↦ refl | false ↦ refl ]
+two_append (b ∷ c ∷ h) u e =
+    elim (is_slash b) as (λ v. (v && is_rooted (cond v (c ∷ (h ++ u)) (b ∷ c ∷ (h ++ u)))) ≡ (v && is_rooted (cond v (c ∷ h) (b ∷ c ∷ h))))
+    [ true ↦ refl | false ↦ refl ]
 
 pub tail_rooted : (q f : Option (List ℕ)) → is_rooted (tail q f) ≡ false
 tail_rooted (Some q) f = refl
 tail_rooted None (Some f) = refl
 tail_rooted None None = refl
 
-pub ends_there : (h : List ℕ) (q f : Option (List ℕ)) → is_abempty h ≡ true → (up_to ends_authority (h ++ tail q f) ≡ []) × (from_first ends_authority (h ++ tail q f) ≡ h ++ tail q f)
+pub ends_there : (h : List ℕ) (q f : Option (List ℕ)) → is_abempty h ≡ true
+    → (up_to ends_authority (h ++ tail q f) ≡ []) × (from_first ends_authority (h ++ tail q f) ≡ h ++ tail q f)
 ends_there [] (Some q) f k = (refl, refl)
 ends_there [] None (Some f) k = (refl, refl)
 ends_there [] None None k = (refl, refl)
 ends_there (b ∷ h) q f k = (rw k refl, rw k refl)
 
-pub authority_of : (v : Bool) (a : Option (List ℕ)) (h : List ℕ) (q f : Option (List ℕ)) → IfSome a (λ t. none_pass ends_authority t ≡ true) → IfSome a (λ _. is_abempty h ≡ true) → path_refusal v (is_some a) h ≡ None
+pub authority_of : (v : Bool) (a : Option (List ℕ)) (h : List ℕ) (q f : Option (List ℕ)) → IfSome a (λ t. none_pass ends_authority t ≡ true)
+    → IfSome a (λ _. is_abempty h ≡ true) → path_refusal v (is_some a) h ≡ None
     → (cut_authority (behind_slashes a ++ (h ++ tail q f)) ≡ a) × (cut_left (behind_slashes a ++ (h ++ tail q f)) ≡ h ++ tail q f)
 authority_of v None h q f i b k =
-    let n : has_two_slashes (h ++ tail q f) ≡ false = two_append h (tail q f) (tail_rooted q f) ∙ no_slashes v h k in
-    (ap (λ v. cond v (Some (up_to ends_authority (drop 2 (h ++ tail q f)))) None) n, ap (λ v. cond v (from_first ends_authority (drop 2 (h ++ tail q f))) (h ++ tail q f)) n)
+    let n : has_two_slashes (h ++ tail q f) ≡ false = two_append h (tail q f) (tail_rooted q f) ∙ no_slashes v h k in (
+      ap (λ v. cond v (Some (up_to ends_authority (drop 2 (h ++ tail q f)))) None) n,
+      ap (λ v. cond v (from_first ends_authority (drop 2 (h ++ tail q f))) (h ++ tail q f)) n,
+    )
 authority_of v (Some a) h q f i b k =
-    let w = ends_there h q f b in
-    (ap Some (up_to-append ends_authority a (h ++ tail q f) i ∙ ap (λ u. a ++ u) w.0 ∙ append-nil a), from_first-append ends_authority a (h ++ tail q f) i ∙ w.1)
+    let w = ends_there h q f b in (
+      ap Some (up_to-append ends_authority a (h ++ tail q f) i ∙ ap (λ u. a ++ u) w.0 ∙ append-nil a),
+      from_first-append ends_authority a (h ++ tail q f) i
+          ∙ w.1,
+    )
 
 -- ---- path, query and fragment
 
@@ -149,13 +171,20 @@ unfolding is_plain is_unreserved is_sub_delim
 path_number_sign h i = lacks-path number_sign refl refl refl refl h i
 
 pub tail_of : (h : List ℕ) (q f : Option (List ℕ)) → IsPath h → IfSome q IsQuery
-    → (before question_mark (before number_sign (h ++ tail q f)) ≡ h) × (after question_mark (before number_sign (h ++ tail q f)) ≡ q) × (after number_sign (h ++ tail q f) ≡ f)
+    → (before question_mark (before number_sign (h ++ tail q f)) ≡ h) × (after question_mark (before number_sign (h ++ tail q f)) ≡ q)
+    × (after number_sign (h ++ tail q f) ≡ f)
 tail_of h q f i k =
     let c = path_question_mark h i in
     let w : h ++ tail q f ≡ (h ++ behind question_mark q) ++ behind number_sign f = sym (append_assoc h (behind question_mark q) (behind number_sign f)) in
-    let l : lacks number_sign (h ++ behind question_mark q) ≡ true = lacks-append number_sign h (behind question_mark q) (path_number_sign h i) (lacks-behind number_sign question_mark q refl (query_lacks q k)) in
-    let e : before number_sign (h ++ tail q f) ≡ h ++ behind question_mark q = ap (before number_sign) w ∙ before_of number_sign (h ++ behind question_mark q) f refl l in
-    (ap (before question_mark) e ∙ before_of question_mark h q refl c, ap (after question_mark) e ∙ after_of question_mark h q refl c, ap (after number_sign) w ∙ after_of number_sign (h ++ behind question_mark q) f refl l)
+    let l : lacks number_sign (h ++ behind question_mark q) ≡ true =
+    lacks-append number_sign h (behind question_mark q) (path_number_sign h i) (lacks-behind number_sign question_mark q refl (query_lacks q k)) in
+    let e : before number_sign (h ++ tail q f) ≡ h ++ behind question_mark q = ap (before number_sign) w
+    ∙ before_of number_sign (h ++ behind question_mark q) f refl l in (
+      ap (before question_mark) e ∙ before_of question_mark h q refl c,
+      ap (after question_mark) e
+          ∙ after_of question_mark h q refl c,
+      ap (after number_sign) w ∙ after_of number_sign (h ++ behind question_mark q) f refl l,
+    )
 
 -- ---- a text that is joined from such pieces is cut into them
 
@@ -200,7 +229,8 @@ not_left false w h = refl
 
 -- no colon stands before the first byte that ends a scheme
 pub front_lacks : (t : List ℕ) → lacks colon (up_to ends_scheme t) ≡ true
-front_lacks t = weaker (λ b. not (ends_scheme b)) (λ b. not (b == colon)) (λ b h. not_left (b == colon) (ends_authority b) h) (up_to ends_scheme t) (up_to-none ends_scheme t)
+front_lacks t = weaker (λ b. not (ends_scheme b)) (λ b. not (b == colon)) (λ b h. not_left (b == colon) (ends_authority b) h) (up_to ends_scheme t)
+    (up_to-none ends_scheme t)
 
 pub no_scheme_byte : (b : ℕ) → ends_authority b ≡ true → scheme.is_scheme_byte b ≡ false
 no_scheme_byte b h = grind (arith, nat_tests)
@@ -216,7 +246,8 @@ front_no_scheme t none = no_scheme t (by_rest (from_first ends_scheme t) refl no
     front : List ℕ
     front = up_to ends_scheme t
 
-    at_colon : (m : ℕ) (r : List ℕ) (v : Bool) → (m == colon) ≡ v → (v || ends_authority m) ≡ true → cond v (Some r) None ≡ None → list_all scheme.is_scheme_byte (front ++ cond v [] (m ∷ before colon r)) ≡ false
+    at_colon : (m : ℕ) (r : List ℕ) (v : Bool) → (m == colon) ≡ v → (v || ends_authority m) ≡ true → cond v (Some r) None ≡ None
+        → list_all scheme.is_scheme_byte (front ++ cond v [] (m ∷ before colon r)) ≡ false
     at_colon m r true e k h = cc
     at_colon m r false e k h =
         list_all-append scheme.is_scheme_byte front (m ∷ before colon r)
@@ -244,11 +275,15 @@ colon_part_is (b ∷ t) u h = at_byte (b == colon) refl h
 -- where it is one, it is the first
 pub front_colon : (t u : List ℕ) → colon_part (from_first ends_scheme t) ≡ Some u → (before colon t ≡ up_to ends_scheme t) × (after colon t ≡ Some u)
 front_colon t u some =
-    let whole : t ≡ up_to ends_scheme t ++ colon ∷ u = sym (cut-whole ends_scheme t) ∙ ap (λ l. up_to ends_scheme t ++ l) (colon_part_is (from_first ends_scheme t) u some) in
-    (ap (before colon) whole ∙ before_of colon (up_to ends_scheme t) (Some u) refl (front_lacks t), ap (after colon) whole ∙ after_of colon (up_to ends_scheme t) (Some u) refl (front_lacks t))
+    let whole : t ≡ up_to ends_scheme t ++ colon ∷ u = sym (cut-whole ends_scheme t)
+    ∙ ap (λ l. up_to ends_scheme t ++ l) (colon_part_is (from_first ends_scheme t) u some) in (
+      ap (before colon) whole ∙ before_of colon (up_to ends_scheme t) (Some u) refl (front_lacks t),
+      ap (after colon) whole
+          ∙ after_of colon (up_to ends_scheme t) (Some u) refl (front_lacks t),
+    )
 
 pub without_scheme : (t : List ℕ) → scheme_text t ≡ None → IsSchemeCut t None t
-without_scheme t none = record { scheme = sym (ap (option_map scheme.named) none); rest = sym (ap (λ o. left o t (rest colon t)) none) }
+without_scheme t none = record { scheme = sym (ap (option_map scheme.named) none); rest = sym (ap (λ o. unless_scheme o t (rest colon t)) none) }
 
 pub before_is : (t u : List ℕ) → after colon t ≡ Some u → scheme_text t ≡ (if_scheme (Some (before colon t)))
 before_is t u e = ap (λ o. if_scheme (option_map (λ _. before colon t) o)) e
@@ -259,7 +294,8 @@ no_scheme_there t u error e h =
   where
     by_test : (v : Bool) → scheme.is_scheme (before colon t) ≡ v → cond v (Some (before colon t)) None ≡ None
     by_test true is =
-        let read : scheme.reading (before colon t) ≡ Ok (scheme.named (before colon t)) = (schemes.reads (before colon t) (scheme.named (before colon t))).1 (record { grammar = is; value = refl }) in
+        let read : scheme.reading (before colon t) ≡ Ok (scheme.named (before colon t)) =
+        (schemes.reads (before colon t) (scheme.named (before colon t))).1 (record { grammar = is; value = refl }) in
         absurd (cc)
     by_test false is = refl
 
@@ -267,4 +303,7 @@ pub scheme_there : (t u : List ℕ) (s : Scheme) → after colon t ≡ Some u �
 scheme_there t u s e h =
     let is = (schemes.reads (before colon t) s).0 h in
     let some : scheme_text t ≡ Some (before colon t) = before_is t u e ∙ rw is.grammar refl in
-    record { scheme = ap Some is.value ∙ sym (ap (option_map scheme.named) some); rest = sym (ap (λ o. left o t (rest colon t)) some ∙ ap (λ o. unwrap_or o t) e) }
+    record {
+      scheme = ap Some is.value ∙ sym (ap (option_map scheme.named) some);
+      rest = sym (ap (λ o. unless_scheme o t (rest colon t)) some ∙ ap (λ o. unwrap_or o t) e);
+    }

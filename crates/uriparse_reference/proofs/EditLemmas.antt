@@ -1,6 +1,6 @@
 -- What an edit makes is valid.
 use Rattle.std.proofs.Common.{◌≡◌, ℕ, ◌+◌, suc, arith, Bool, true, false, cond, List, [], ◌∷◌, length, Option, Some, None, refl, sym, ap, ◌∙◌, subst, ◌||◌}
-use Rattle.std.specs.Prelude.{IfSome, is_some, Result, Ok, Err}
+use Rattle.std.specs.Prelude.{IfSome, is_some, Result, Ok}
 use Rattle.uriparse_text.specs.Readings.{unless_fault}
 use Rattle.uriparse_text.specs.Query.{IsQuery}
 use Rattle.uriparse_text.specs.Fragment.{IsFragment}
@@ -29,40 +29,107 @@ if_there None h = tt
 if_there (Some a) h = h refl
 
 -- parts that aren't refused make a valid reference
-pub valid_parts : (p : Parts) → IfSome p.scheme scheme.Valid → IfSome p.authority authority.Valid → IsListed p.path.segments → IfSome p.query IsQuery → IfSome p.fragment IsFragment → refusal p ≡ None → Valid (record p { path = placed (is_some p.authority) p.path })
+pub valid_parts : (p : Parts) → IfSome p.scheme scheme.Valid → IfSome p.authority authority.Valid → IsListed p.path.segments → IfSome p.query IsQuery
+    → IfSome p.fragment IsFragment → refusal p ≡ None → Valid (record p { path = placed (is_some p.authority) p.path })
 valid_parts p s a i q f k =
     let z = has_place (is_some p.scheme) (is_some p.authority) p.path i k in
-    record { is_scheme = s; is_authority = a; is_path = z.is_path; absolute = if_there p.authority z.absolute; plain = z.plain; fit = z.fit; is_query = q; is_fragment = f }
+    record {
+      is_scheme = s;
+      is_authority = a;
+      is_path = z.is_path;
+      absolute = if_there p.authority z.absolute;
+      plain = z.plain;
+      fit = z.fit;
+      is_query = q;
+      is_fragment = f;
+    }
 
 -- a path that may stand anywhere may stand behind a scheme
 pub with_scheme : (v w : Bool) (h : List ℕ) → path_refusal v w h ≡ None → path_refusal true w h ≡ None
 with_scheme v true h k = refl
 with_scheme v false h k = by_slashes (has_two_slashes h) k
   where
-    by_slashes : (b : Bool) → cond b (Some errors.AbsolutePathStartsWithTwoSlashes) (cond (v || is_noscheme h) None (Some errors.SchemelessPathStartsWithColonSegment)) ≡ None → cond b (Some errors.AbsolutePathStartsWithTwoSlashes) None ≡ None
+    by_slashes : (b : Bool)
+        → cond b (Some errors.AbsolutePathStartsWithTwoSlashes) (cond (v || is_noscheme h) None (Some errors.SchemelessPathStartsWithColonSegment)) ≡ None
+        → cond b (Some errors.AbsolutePathStartsWithTwoSlashes) None ≡ None
     by_slashes true k = cc
     by_slashes false k = refl
 
 pub valid_scheme : (p : Parts) (s : Scheme) → Valid p → scheme.Valid s → Valid (record p { scheme = Some s })
-valid_scheme p s v i = record { is_scheme = i; is_authority = v.is_authority; is_path = v.is_path; absolute = v.absolute; plain = v.plain; fit = with_scheme (is_some p.scheme) (is_some p.authority) (path.text p.path) v.fit; is_query = v.is_query; is_fragment = v.is_fragment }
+valid_scheme p s v i = record {
+  is_scheme = i;
+  is_authority = v.is_authority;
+  is_path = v.is_path;
+  absolute = v.absolute;
+  plain = v.plain;
+  fit = with_scheme (is_some p.scheme) (is_some p.authority) (path.text p.path) v.fit;
+  is_query = v.is_query;
+  is_fragment = v.is_fragment;
+}
 
 pub valid_no_scheme : (p : Parts) → Valid p → path_refusal false (is_some p.authority) (path.text p.path) ≡ None → Valid (record p { scheme = None })
-valid_no_scheme p v k = record { is_scheme = tt; is_authority = v.is_authority; is_path = v.is_path; absolute = v.absolute; plain = v.plain; fit = k; is_query = v.is_query; is_fragment = v.is_fragment }
+valid_no_scheme p v k = record {
+  is_scheme = tt;
+  is_authority = v.is_authority;
+  is_path = v.is_path;
+  absolute = v.absolute;
+  plain = v.plain;
+  fit = k;
+  is_query = v.is_query;
+  is_fragment = v.is_fragment;
+}
 
 pub valid_authority : (p : Parts) (a : AuthorityParts) → Valid p → authority.Valid a → Valid (record p { authority = Some a; path = path.made_absolute p.path })
-valid_authority p a v i = record { is_scheme = v.is_scheme; is_authority = i; is_path = v.is_path; absolute = refl; plain = refl; fit = refl; is_query = v.is_query; is_fragment = v.is_fragment }
+valid_authority p a v i = record {
+  is_scheme = v.is_scheme;
+  is_authority = i;
+  is_path = v.is_path;
+  absolute = refl;
+  plain = refl;
+  fit = refl;
+  is_query = v.is_query;
+  is_fragment = v.is_fragment;
+}
 
 pub valid_no_authority : (p : Parts) → Valid p → path_refusal (is_some p.scheme) false (path.text p.path) ≡ None → Valid (record p { authority = None })
-valid_no_authority p v k = record { is_scheme = v.is_scheme; is_authority = tt; is_path = v.is_path; absolute = tt; plain = v.plain; fit = k; is_query = v.is_query; is_fragment = v.is_fragment }
+valid_no_authority p v k = record {
+  is_scheme = v.is_scheme;
+  is_authority = tt;
+  is_path = v.is_path;
+  absolute = tt;
+  plain = v.plain;
+  fit = k;
+  is_query = v.is_query;
+  is_fragment = v.is_fragment;
+}
 
-pub valid_path : (p : Parts) (h : PathParts) → Valid p → IsListed h.segments → path_refusal (is_some p.scheme) (is_some p.authority) (path.text h) ≡ None → Valid (record p { path = placed (is_some p.authority) h })
+pub valid_path : (p : Parts) (h : PathParts) → Valid p → IsListed h.segments → path_refusal (is_some p.scheme) (is_some p.authority) (path.text h) ≡ None
+    → Valid (record p { path = placed (is_some p.authority) h })
 valid_path p h v i k = valid_parts (record p { path = h }) v.is_scheme v.is_authority i v.is_query v.is_fragment k
 
 pub valid_query : (p : Parts) (q : Option (List ℕ)) → Valid p → IfSome q IsQuery → Valid (record p { query = q })
-valid_query p q v i = record { is_scheme = v.is_scheme; is_authority = v.is_authority; is_path = v.is_path; absolute = v.absolute; plain = v.plain; fit = v.fit; is_query = i; is_fragment = v.is_fragment }
+valid_query p q v i = record {
+  is_scheme = v.is_scheme;
+  is_authority = v.is_authority;
+  is_path = v.is_path;
+  absolute = v.absolute;
+  plain = v.plain;
+  fit = v.fit;
+  is_query = i;
+  is_fragment = v.is_fragment;
+}
 
 pub valid_fragment : (p : Parts) (f : Option (List ℕ)) → Valid p → IfSome f IsFragment → Valid (record p { fragment = f })
-valid_fragment p f v i = record { is_scheme = v.is_scheme; is_authority = v.is_authority; is_path = v.is_path; absolute = v.absolute; plain = v.plain; fit = v.fit; is_query = v.is_query; is_fragment = i }
+valid_fragment p f v i = record {
+  is_scheme = v.is_scheme;
+  is_authority = v.is_authority;
+  is_path = v.is_path;
+  absolute = v.absolute;
+  plain = v.plain;
+  fit = v.fit;
+  is_query = v.is_query;
+  is_fragment = i;
+}
 
 -- ---- edits are replaced parts
 
@@ -85,23 +152,30 @@ accepts p q r o e f = ap (λ x. unless_fault x q) e ∙ ap Ok f
 
 -- a valid reference's own parts make it
 pub own_parts : (p : Parts) → Valid p → of_parts p ≡ Ok p
-own_parts p v = accepts p (record p { path = placed (is_some p.authority) p.path }) p (refusal p) v.fit (ap (λ h. build p.scheme p.authority h p.query p.fragment) (placed_same p v))
+own_parts p v = accepts p (record p { path = placed (is_some p.authority) p.path }) p (refusal p) v.fit
+    (ap (λ h. build p.scheme p.authority h p.query p.fragment) (placed_same p v))
 
 -- ---- by what the tests of a path answered
 
 -- a test that accepts leaves no refusal
-pub no_refusal : (v w b d : Bool) (t : List ℕ) (r : Result (Unit {0}) URIReferenceError) (x : Unit {0}) → b ≡ v → d ≡ w → r ≡ unless_fault (path_refusal b d t) tt → r ≡ Ok x → path_refusal v w t ≡ None
+pub no_refusal : (v w b d : Bool) (t : List ℕ) (r : Result (Unit {0}) URIReferenceError) (x : Unit {0}) → b ≡ v → d ≡ w
+    → r ≡ unless_fault (path_refusal b d t) tt → r ≡ Ok x → path_refusal v w t ≡ None
 no_refusal v w b d t r x e f g h = ap (λ u. path_refusal u w t) (sym e) ∙ ap (λ u. path_refusal b u t) (sym f) ∙ accepted (path_refusal b d t) x (sym g ∙ h)
 
-pub tested_path : (p : Parts) (h g : PathParts) (b d : Bool) (r : Result (Unit {0}) URIReferenceError) (x : Unit {0}) → Valid p → IsListed h.segments → b ≡ is_some p.scheme → d ≡ is_some p.authority
+pub tested_path : (p : Parts) (h g : PathParts) (b d : Bool) (r : Result (Unit {0}) URIReferenceError) (x : Unit {0}) → Valid p → IsListed h.segments
+    → b ≡ is_some p.scheme → d ≡ is_some p.authority
     → r ≡ unless_fault (path_refusal b d (path.text h)) tt → r ≡ Ok x → g ≡ placed d h → Valid (record p { path = g })
 tested_path p h g b d r x v i e f k l m =
-    subst (λ u. Valid (record p { path = u })) (sym (m ∙ ap (λ u. placed u h) f)) (valid_path p h v i (no_refusal (is_some p.scheme) (is_some p.authority) b d (path.text h) r x e f k l))
+    subst (λ u. Valid (record p { path = u })) (sym (m ∙ ap (λ u. placed u h) f))
+    (valid_path p h v i (no_refusal (is_some p.scheme) (is_some p.authority) b d (path.text h) r x e f k l))
 
-pub tested_parts : (p : Parts) (g : PathParts) (b d : Bool) (r : Result (Unit {0}) URIReferenceError) (x : Unit {0}) → IfSome p.scheme scheme.Valid → IfSome p.authority authority.Valid → IsListed p.path.segments → IfSome p.query IsQuery → IfSome p.fragment IsFragment
-    → b ≡ is_some p.scheme → d ≡ is_some p.authority → r ≡ unless_fault (path_refusal b d (path.text p.path)) tt → r ≡ Ok x → g ≡ placed d p.path → Valid (record p { path = g })
+pub tested_parts : (p : Parts) (g : PathParts) (b d : Bool) (r : Result (Unit {0}) URIReferenceError) (x : Unit {0}) → IfSome p.scheme scheme.Valid
+    → IfSome p.authority authority.Valid → IsListed p.path.segments → IfSome p.query IsQuery → IfSome p.fragment IsFragment
+    → b ≡ is_some p.scheme → d ≡ is_some p.authority → r ≡ unless_fault (path_refusal b d (path.text p.path)) tt → r ≡ Ok x → g ≡ placed d p.path
+    → Valid (record p { path = g })
 tested_parts p g b d r x s a i q f e h k l m =
-    subst (λ u. Valid (record p { path = u })) (sym (m ∙ ap (λ u. placed u p.path) h)) (valid_parts p s a i q f (no_refusal (is_some p.scheme) (is_some p.authority) b d (path.text p.path) r x e h k l))
+    subst (λ u. Valid (record p { path = u })) (sym (m ∙ ap (λ u. placed u p.path) h))
+    (valid_parts p s a i q f (no_refusal (is_some p.scheme) (is_some p.authority) b d (path.text p.path) r x e h k l))
 
 -- ---- lists of edits
 
@@ -114,7 +188,8 @@ step p q s all rest i e c k n r o h =
     let same : i + suc n ≡ (i + 1) + n = omega arith in
     subst (λ m. Run p all m r o) same (c (suc n) r o (goes q s r e rest n o k h))
 
-pub stop : (p q r : Parts) (all rest : List Edit) (i : ℕ) (e : Edit) (x : URIReferenceError) → Continues p all q i (e ∷ rest) → IsRefused q e x → r ≡ q → Run p all i r (Some x)
+pub stop : (p q r : Parts) (all rest : List Edit) (i : ℕ) (e : Edit) (x : URIReferenceError) → Continues p all q i (e ∷ rest) → IsRefused q e x → r ≡ q
+    → Run p all i r (Some x)
 stop p q r all rest i e x c k same =
     let none : i + 0 ≡ i = omega arith in
     subst (λ u. Run p all i u (Some x)) (sym same) (subst (λ m. Run p all m q (Some x)) none (c 0 q (Some x) (stops q e rest x k)))

@@ -1,128 +1,36 @@
--- Normal forms of references.
-use Rattle.std.proofs.Common.{◌≡◌, ◌↔◌, ℕ, ◌<◌, ◌≤◌, Bool, true, false, not, ◌&&◌, ◌||◌, cond, List, [], ◌∷◌, length, Option, Some, None, refl, sym, ap, ◌∙◌, subst, arith}
+-- Which references are their own normal forms, and what normalising puts in place.
+use Rattle.std.proofs.Common.{◌≡◌, ◌↔◌, ℕ, ◌<◌, Bool, true, false, not, ◌&&◌, ◌||◌, cond, List, [], ◌∷◌, length, Option, Some, None, refl, sym, ap, ◌∙◌}
+use Rattle.std.proofs.Common.{subst, arith}
 use Rattle.std.specs.Prelude.{IfSome, is_some, is_none, bytes_eq}
 use Rattle.std.specs.Option.{option_map, option_eq}
 use Rattle.std.specs.List.{list_all}
 use Rattle.std.proofs.lemmas.Bool.{false≢true, and_parts, and_from}
 use Rattle.std.proofs.lemmas.Slice.Eq.{bytes_eq-Decides}
-use Rattle.uriparse_text.specs.declared.parts.class.Class.TheVariants.{Query}
 use Rattle.uriparse_text.specs.Bytes.{dot}
 use Rattle.uriparse_text.specs.Canon.{canon}
 use Rattle.uriparse_path.specs.Segment.{is_segment}
 use Rattle.uriparse_path.specs.Path.{PathParts, IsListed, text, spelled, hides_root, respelled, has_two_slashes}
-use Rattle.uriparse_path.specs.Relative.{is_first, has_colon}
 use Rattle.uriparse_path.specs.Normal.{canonical_path, stays_relative, pnormal}
 use Rattle.uriparse_path.specs.Normal as path
 use Rattle.uriparse_path.specs.Normal.{is_shielded}
 use Rattle.uriparse_path.proofs.TextLemmas.{spelled-text}
 use Rattle.uriparse_path.proofs.NormalLemmas.{listed_pnormal, pnormal_twice, normal_iff, normal_kept}
-use Rattle.uriparse_path.proofs.MergeLemmas.{pnormal_is, dot_undotted}
 use Rattle.uriparse_path.proofs.ShieldLemmas.{normal_canonical}
 use Rattle.uriparse_authority.specs.Authority as authority
 use Rattle.uriparse_authority.specs.Authority.{AuthorityParts}
-use Rattle.uriparse_authority.specs.Normal.{canonical_authority}
 use Rattle.uriparse_scheme.specs.declared.scheme.Scheme.{Scheme}
 use Rattle.uriparse_scheme.specs.Scheme as scheme
-use Rattle.uriparse_scheme.specs.Normal.{canonical_scheme}
 use Rattle.uriparse_reference.specs.Reference.{Parts, joined, Valid, scheme_part, authority_part, print, kind}
 use Rattle.uriparse_reference.specs.Cuts.{scheme_text, authority_text, path_text, query_text, fragment_text}
 use Rattle.uriparse_path.specs.Edits.{dotted, shield}
 use Rattle.uriparse_reference.specs.Normal.{shielded, normal, is_normal_path, is_normal}
-use Rattle.uriparse_reference.proofs.ValidLemmas.{HasPlace}
 use Rattle.uriparse_reference.proofs.SameLemmas.{print_cut, same_scheme}
 use Rattle.uriparse_authority.proofs.NormalLemmas.{one_printed}
-use Rattle.uriparse_reference.proofs.PartLemmas.{scheme-text, scheme_valid, scheme_twice, text_valid, text_twice, same_texts, some_map, none_map, authority-print, authority-kind, authority_valid, authority_twice, scheme_kept, authority_kept}
-use Rattle.uriparse_reference.proofs.PlaceLemmas.{Fits, make, absolute_formed, two_slashes, fits_of, colon_of, placed, valid_made, shielded_cases, shielded_fits, pnormal_formed, length_shielded, fits_normal, colon_normal}
-
--- ---- valid, and no longer
-
-pub fits_normal_path : (p : Parts) → Valid p → Fits (is_some p.authority) (normal p).path
-fits_normal_path p v = fits_normal p.authority p.path (is_none p.scheme) (fits_of p v)
-
-colon_there : (p : Parts) → Valid p → (s : Option Scheme) → (is_some s ≡ false → p.path.absolute ≡ false → is_first has_colon p.path.segments ≡ false) → is_some s ≡ false → is_some p.authority ≡ false
-    → (shielded p.authority (pnormal p.path (is_none s))).absolute ≡ false → is_first has_colon (shielded p.authority (pnormal p.path (is_none s))).segments ≡ false
-colon_there p v (Some s) f h k e = absurd (false≢true (sym h))
-colon_there p v None f h k e = colon_normal p.authority p.path (subst (λ w. Fits w p.path) k (fits_of p v)) k (f refl) e
-
-pub normal_placed : (p : Parts) → Valid p → HasPlace (is_some (normal p).scheme) (is_some (normal p).authority) (normal p).path
-normal_placed p v =
-    let a : is_some (normal p).authority ≡ is_some p.authority = some_map canonical_authority p.authority in
-    let s : is_some (normal p).scheme ≡ is_some p.scheme = some_map canonical_scheme p.scheme in
-    placed (is_some (normal p).scheme) (is_some (normal p).authority) (normal p).path (subst (λ w. Fits w (normal p).path) (sym a) (fits_normal_path p v))
-    (λ h k. colon_there p v p.scheme (λ g. colon_of p v g (sym a ∙ k)) (sym s ∙ h) (sym a ∙ k))
-
-pub normal_valid : (p : Parts) → Valid p → Valid (normal p)
-normal_valid p v =
-    valid_made (normal p).scheme (normal p).authority (normal p).path (normal p).query (normal p).fragment
-    (scheme_valid p.scheme v.is_scheme) (authority_valid p.authority v.is_authority) (normal_placed p v) (text_valid Query p.query v.is_query) (text_valid Query p.fragment v.is_fragment)
-
-pub normal_no_longer : (p : Parts) → Valid p → length (normal p).path.segments ≤ length p.path.segments
-normal_no_longer p v = length_shielded p.authority p.path (is_none p.scheme) (fits_of p v)
-
-pub normal_kind : (p : Parts) → kind (normal p) ≡ kind p
-normal_kind p = authority-kind p.authority
-
--- ---- the "." in front doesn't count
-
-and_false : (r : Bool) → (r && false) ≡ false
-and_false true = refl
-and_false false = refl
-
-or_false : (r : Bool) → (r || false) ≡ r
-or_false true = refl
-or_false false = refl
-
-pub absolute_stays : (p : PathParts) (r : Bool) → p.absolute ≡ true → stays_relative p r ≡ false
-absolute_stays p r h = by_flag p.absolute p.segments h
-  where
-    by_flag : (a : Bool) (l : List (List ℕ)) → a ≡ true → stays_relative (make a l) r ≡ false
-    by_flag true l e = and_false r
-    by_flag false l e = absurd (false≢true e)
-
-pnormal_dotted : (q : PathParts) (r : Bool) → IsListed q.segments → IsListed (dotted q).segments → q.absolute ≡ true → pnormal (dotted q) r ≡ pnormal q r
-pnormal_dotted q r is more h =
-    pnormal_is (dotted q) r more (absolute_formed (dotted q) h) (absolute_stays (dotted q) r h)
-    ∙ ap canonical_path (dot_undotted q.absolute q.segments is.some)
-    ∙ sym (pnormal_is q r is (absolute_formed q h) (absolute_stays q r h))
-
--- for an absolute path it doesn't matter whether a scheme is there
-pnormal_either : (q : PathParts) (r s : Bool) → IsListed q.segments → q.absolute ≡ true → pnormal q r ≡ pnormal q s
-pnormal_either q r s is h = pnormal_is q r is (absolute_formed q h) (absolute_stays q r h) ∙ sym (pnormal_is q s is (absolute_formed q h) (absolute_stays q s h))
-
-pub pnormal_shielded : (a : Option AuthorityParts) (q : PathParts) (r : Bool) → IsListed q.segments → respelled q ≡ q → Fits (is_some a) (shielded a q) → pnormal (shielded a q) r ≡ pnormal q r
-pnormal_shielded (Some a) q r is h fit = refl
-pnormal_shielded None q r is h fit = shielded_cases q (λ p. Fits false p → pnormal p r ≡ pnormal q r)
-    (λ e f. pnormal_dotted q r is f.listed (and_parts q.absolute (hides_root q.segments) (sym (two_slashes q is h) ∙ e)).0)
-    (λ e f. refl) fit
-
--- ---- twice
-
-pub shielded_map : (f : AuthorityParts → AuthorityParts) (a : Option AuthorityParts) (q : PathParts) → shielded (option_map f a) q ≡ shielded a q
-shielded_map f None q = refl
-shielded_map f (Some a) q = refl
-
-pub path_twice : (p : Parts) → Valid p → shielded p.authority (pnormal (normal p).path (is_none p.scheme)) ≡ (normal p).path
-path_twice p v =
-    let is = fits_of p v in
-    let r = is_none p.scheme in
-    ap (shielded p.authority) (
-    pnormal_shielded p.authority (pnormal p.path r) r (listed_pnormal p.path r is.listed) (pnormal_formed p.path r is.listed is.formed) (fits_normal_path p v)
-    ∙ pnormal_twice p.path r is.listed)
-
-pub normal_twice : (p : Parts) → Valid p → normal (normal p) ≡ normal p
-normal_twice p v =
-    let h : (normal (normal p)).path ≡ (normal p).path =
-    shielded_map canonical_authority p.authority (pnormal (normal p).path (is_none (option_map canonical_scheme p.scheme)))
-    ∙ ap (λ r. shielded p.authority (pnormal (normal p).path r)) (none_map canonical_scheme p.scheme)
-    ∙ path_twice p v in
-    ap (λ s. build s (normal (normal p)).authority (normal (normal p)).path (normal (normal p)).query (normal (normal p)).fragment) (scheme_twice p.scheme v.is_scheme)
-    ∙ ap (λ a. build (normal p).scheme a (normal (normal p)).path (normal (normal p)).query (normal (normal p)).fragment) (authority_twice p.authority v.is_authority)
-    ∙ ap (λ u. build (normal p).scheme (normal p).authority u (normal (normal p)).query (normal (normal p)).fragment) h
-    ∙ ap (λ q. build (normal p).scheme (normal p).authority (normal p).path q (normal (normal p)).fragment) (text_twice Query p.query v.is_query)
-    ∙ ap (λ f. build (normal p).scheme (normal p).authority (normal p).path (normal p).query f) (text_twice Query p.fragment v.is_fragment)
-  where
-    build : Option Scheme → Option AuthorityParts → PathParts → Option (List ℕ) → Option (List ℕ) → Parts
-    build s a h q f = record { scheme = s; authority = a; path = h; query = q; fragment = f }
+use Rattle.uriparse_reference.proofs.PartLemmas.{scheme-text, same_texts}
+use Rattle.uriparse_reference.proofs.PartLemmas.{authority-print, scheme_kept, authority_kept}
+use Rattle.uriparse_reference.proofs.PlaceLemmas.{Fits, make, two_slashes, fits_of, shielded_cases}
+use Rattle.uriparse_reference.proofs.PlaceLemmas.{shielded_fits, pnormal_formed, fits_normal}
+use Rattle.uriparse_reference.proofs.NormalFormLemmas.{fits_normal_path, normal_valid, or_false, pnormal_dotted, pnormal_either}
 
 -- ---- which references are left as they are
 
@@ -150,17 +58,27 @@ kept_shielded true (s ∷ ss) r is h =
     let y = and_parts (bytes_eq s (dot ∷ [])) (hides_root ss) x.0 in
     let e : s ≡ dot ∷ [] = (bytes_eq-Decides s (dot ∷ [])).0 y.0 in
     let short = is.short in
-    let listed : IsListed ss = record { some = some_hidden ss y.1; short = omega arith; each = (and_parts (is_segment s) (list_all is_segment ss) is.each).1 } in
+    let listed : IsListed ss = record {
+      some = some_hidden ss y.1;
+      short = omega arith;
+      each = (and_parts (is_segment s) (list_all is_segment ss) is.each).1;
+    } in
     let more : IsListed ((dot ∷ []) ∷ ss) = subst (λ u. IsListed (u ∷ ss)) e is in
-    let same : pnormal (make true ((dot ∷ []) ∷ ss)) r ≡ make true ss = pnormal_dotted (make true ss) r listed more refl ∙ pnormal_either (make true ss) r false listed refl ∙ normal_kept (make true ss) false listed x.1 in
+    let same : pnormal (make true ((dot ∷ []) ∷ ss)) r ≡ make true ss = pnormal_dotted (make true ss) r listed more refl
+    ∙ pnormal_either (make true ss) r false listed refl ∙ normal_kept (make true ss) false listed x.1 in
     let two : has_two_slashes (text (make true ss)) ≡ true = two_slashes (make true ss) listed refl ∙ y.1 in
     ap (λ u. text (shielded None (pnormal (make true (u ∷ ss)) r))) e
     ∙ ap (λ q. text (shielded None q)) same
     ∙ ap (λ v. text (cond v (dotted (make true ss)) (make true ss))) two
     ∙ ap (λ u. text (make true (u ∷ ss))) (sym e)
 
-pub path_iff : (a : Option AuthorityParts) (p : PathParts) (r : Bool) → Fits (is_some a) p → (is_normal_path a p r ≡ true) ↔ (text (shielded a (pnormal p r)) ≡ text p)
-path_iff (Some a) p r is = ((λ h. (normal_iff p r is.listed).0 (sym (or_false (path.is_normal p r)) ∙ h)), (λ e. or_false (path.is_normal p r) ∙ (normal_iff p r is.listed).1 e))
+pub path_iff : (a : Option AuthorityParts) (p : PathParts) (r : Bool) → Fits (is_some a) p
+    → (is_normal_path a p r ≡ true) ↔ (text (shielded a (pnormal p r)) ≡ text p)
+path_iff (Some a) p r is = (
+  (λ h. (normal_iff p r is.listed).0 (sym (or_false (path.is_normal p r)) ∙ h)),
+  (λ e. or_false (path.is_normal p r)
+      ∙ (normal_iff p r is.listed).1 e),
+)
 path_iff None p r is = (there, back)
   where
     by_test : (v : Bool) → path.is_normal p r ≡ v → (v || is_shielded p.absolute p.segments) ≡ true → text (shielded None (pnormal p r)) ≡ text p
@@ -170,14 +88,17 @@ path_iff None p r is = (there, back)
     there : is_normal_path None p r ≡ true → text (shielded None (pnormal p r)) ≡ text p
     there h = by_test (path.is_normal p r) refl h
 
-    needed : has_two_slashes (text (pnormal p r)) ≡ true → Fits false (dotted (pnormal p r)) → text (dotted (pnormal p r)) ≡ text p → is_normal_path None p r ≡ true
+    needed : has_two_slashes (text (pnormal p r)) ≡ true → Fits false (dotted (pnormal p r)) → text (dotted (pnormal p r)) ≡ text p
+        → is_normal_path None p r ≡ true
     needed e fit g =
         let listed = listed_pnormal p r is.listed in
-        let both = and_parts (pnormal p r).absolute (hides_root (pnormal p r).segments) (sym (two_slashes (pnormal p r) listed (pnormal_formed p r is.listed is.formed)) ∙ e) in
+        let both = and_parts (pnormal p r).absolute (hides_root (pnormal p r).segments)
+        (sym (two_slashes (pnormal p r) listed (pnormal_formed p r is.listed is.formed)) ∙ e) in
         let same : dotted (pnormal p r) ≡ p = same_path (dotted (pnormal p r)) p fit.listed fit.formed is.listed is.formed g in
         let own : pnormal (pnormal p r) false ≡ pnormal p r = pnormal_either (pnormal p r) false r listed both.0 ∙ pnormal_twice p r is.listed in
         let shielded_too : is_shielded (pnormal p r).absolute ((dot ∷ []) ∷ (pnormal p r).segments) ≡ true =
-        and_from _ _ (and_from _ _ (and_from _ _ both.0 ((bytes_eq-Decides (dot ∷ []) (dot ∷ [])).1 refl)) both.1) ((normal_iff (pnormal p r) false listed).1 (ap text own)) in
+        and_from _ _ (and_from _ _ (and_from _ _ both.0 ((bytes_eq-Decides (dot ∷ []) (dot ∷ [])).1 refl)) both.1)
+        ((normal_iff (pnormal p r) false listed).1 (ap text own)) in
         or_right (path.is_normal p r) (is_shielded p.absolute p.segments) (subst (λ q. is_shielded q.absolute q.segments ≡ true) same shielded_too)
 
     back : text (shielded None (pnormal p r)) ≡ text p → is_normal_path None p r ≡ true
@@ -255,9 +176,11 @@ kept_segments p q v e h =
 -- ---- what is put in place
 
 -- the path is brought into its normal form by what stands before it
-pub placed_normal : (s : Option Scheme) (a : Option AuthorityParts) (p h : PathParts) (v w : Bool) → is_some s ≡ not v → is_some a ≡ not w → h ≡ cond w (shield (pnormal p v)) (pnormal p v)
+pub placed_normal : (s : Option Scheme) (a : Option AuthorityParts) (p h : PathParts) (v w : Bool) → is_some s ≡ not v → is_some a ≡ not w
+    → h ≡ cond w (shield (pnormal p v)) (pnormal p v)
     → h ≡ shielded a (pnormal p (is_none s))
-placed_normal s a p h v w e f g = g ∙ ap (λ u. cond w (shield (pnormal p u)) (pnormal p u)) (sym (none_is s v e)) ∙ ap (λ u. cond u (shield (pnormal p (is_none s))) (pnormal p (is_none s))) (sym (none_is a w f)) ∙ by_authority a
+placed_normal s a p h v w e f g = g ∙ ap (λ u. cond w (shield (pnormal p u)) (pnormal p u)) (sym (none_is s v e))
+    ∙ ap (λ u. cond u (shield (pnormal p (is_none s))) (pnormal p (is_none s))) (sym (none_is a w f)) ∙ by_authority a
   where
     none_is : {A : Type 0} (o : Option A) (v : Bool) → is_some o ≡ not v → is_none o ≡ v
     none_is None true e = refl
@@ -284,7 +207,8 @@ made_is p s a h q f es ea eh eq ef =
 
 -- ---- valid references that print alike
 
-one_authority : (a b : Option AuthorityParts) → IfSome a authority.Valid → IfSome b authority.Valid → option_map authority.print a ≡ option_map authority.print b → option_map authority.kind a ≡ option_map authority.kind b → a ≡ b
+one_authority : (a b : Option AuthorityParts) → IfSome a authority.Valid → IfSome b authority.Valid
+    → option_map authority.print a ≡ option_map authority.print b → option_map authority.kind a ≡ option_map authority.kind b → a ≡ b
 one_authority None None v w e k = refl
 one_authority None (Some b) v w e k = absurd (cc)
 one_authority (Some a) None v w e k = absurd (cc)
@@ -300,8 +224,10 @@ printed_alike p q v w e k =
     let i = fits_of p v in
     let j = fits_of q w in
     ap (λ u. build u p.authority p.path p.query p.fragment) (same_scheme p.scheme q.scheme v.is_scheme w.is_scheme (sym x.scheme ∙ ap scheme_text e ∙ y.scheme))
-    ∙ ap (λ u. build q.scheme u p.path p.query p.fragment) (one_authority p.authority q.authority v.is_authority w.is_authority (sym x.authority ∙ ap authority_text e ∙ y.authority) k)
-    ∙ ap (λ u. build q.scheme q.authority u p.query p.fragment) (same_path p.path q.path i.listed i.formed j.listed j.formed (sym x.path ∙ ap path_text e ∙ y.path))
+    ∙ ap (λ u. build q.scheme u p.path p.query p.fragment) (one_authority p.authority q.authority v.is_authority w.is_authority (sym x.authority
+    ∙ ap authority_text e ∙ y.authority) k)
+    ∙ ap (λ u. build q.scheme q.authority u p.query p.fragment) (same_path p.path q.path i.listed i.formed j.listed j.formed (sym x.path ∙ ap path_text e
+    ∙ y.path))
     ∙ ap (λ u. build q.scheme q.authority q.path u p.fragment) (sym x.query ∙ ap query_text e ∙ y.query)
     ∙ ap (λ u. build q.scheme q.authority q.path q.query u) (sym x.fragment ∙ ap fragment_text e ∙ y.fragment)
   where

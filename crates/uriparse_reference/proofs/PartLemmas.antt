@@ -67,7 +67,8 @@ pub authority_valid : (a : Option AuthorityParts) → IfSome a authority.Valid �
 authority_valid None v = tt
 authority_valid (Some a) v = authorities.valid_canonical a v
 
-pub authority_twice : (a : Option AuthorityParts) → IfSome a authority.Valid → option_map canonical_authority (option_map canonical_authority a) ≡ option_map canonical_authority a
+pub authority_twice : (a : Option AuthorityParts) → IfSome a authority.Valid
+    → option_map canonical_authority (option_map canonical_authority a) ≡ option_map canonical_authority a
 authority_twice None v = refl
 authority_twice (Some a) v = ap Some (authorities.canonical_twice a v)
 
@@ -77,6 +78,7 @@ pub scheme_kept : (s : Option Scheme) → option_map scheme.text (option_map can
 scheme_kept None e = refl
 scheme_kept (Some s) e = let texts : scheme.text (canonical_scheme s) ≡ scheme.text s = cc in ap Some (schemes.canonical_kept s texts)
 
-pub authority_kept : (a : Option AuthorityParts) → IfSome a authority.Valid → option_map authority.print (option_map canonical_authority a) ≡ option_map authority.print a → option_map canonical_authority a ≡ a
+pub authority_kept : (a : Option AuthorityParts) → IfSome a authority.Valid
+    → option_map authority.print (option_map canonical_authority a) ≡ option_map authority.print a → option_map canonical_authority a ≡ a
 authority_kept None v e = refl
 authority_kept (Some a) v e = let texts : authority.print (canonical_authority a) ≡ authority.print a = cc in ap Some (authorities.canonical_kept a v texts)

@@ -1,10 +1,9 @@
 -- What the pieces lack that a text is cut into, and which faults come before want of memory.
-use Rattle.std.proofs.Common.{◌≡◌, ℕ, Bool, true, false, cond, List, [], ◌∷◌, drop, Option, Some, None, Ok, Err, refl, sym, ap, ◌∙◌}
-use Rattle.std.specs.Prelude.{◌==◌, IfSome, IsErr, Result}
-use Rattle.std.specs.Option.{option_map}
+use Rattle.std.proofs.Common.{◌≡◌, ℕ, Bool, true, false, cond, List, drop, Option, Some, None, Ok, Err, refl, sym, ap, ◌∙◌}
+use Rattle.std.specs.Prelude.{IfSome, IsErr, Result}
 use Rattle.uriparse_text.specs.Bytes.{colon, question_mark, number_sign}
-use Rattle.uriparse_text.specs.Cuts.{lacks, none_pass, before, after, front, up_to}
-use Rattle.uriparse_text.specs.Readings.{◌>>=◌, of_piece, if_present, error_of}
+use Rattle.uriparse_text.specs.Cuts.{lacks, none_pass, before, front, up_to}
+use Rattle.uriparse_text.specs.Readings.{◌>>=◌, of_piece, if_present, fault_in}
 use Rattle.uriparse_text.proofs.CutLemmas.{lacks-before, lacks-after, before-lacks, up_to-none}
 use Rattle.uriparse_path.specs.declared.path.error.PathError.{PathError}
 use Rattle.uriparse_path.specs.Path.{PathParts, has_two_slashes}
@@ -53,25 +52,28 @@ query_lacks_number_sign t = lacks-after number_sign question_mark (before number
 pub refused_early : {A : Type 0} (t : List ℕ) (r : Result A URIReferenceError) (x e : URIReferenceError)
     → of_piece errors.Authority (if_present authority.reading (authority_text t)) ≡ Err x → r ≡ Err x → early_fault t ≡ Some e → r ≡ Err e
 refused_early t r x e h k f =
-    let told : early_fault t ≡ Some x = ap (λ s. error_of (s >>= λ _. of_piece errors.Path (path.reading (path_text t)))) h in
+    let told : early_fault t ≡ Some x = ap (λ s. fault_in (s >>= λ _. of_piece errors.Path (path.reading (path_text t)))) h in
     let same : x ≡ e = cc in
     k ∙ ap Err same
 
 -- behind one that is read, a path's fault is the early one
 early_path : (t : List ℕ) (a : Option AuthorityParts) → of_piece errors.Authority (if_present authority.reading (authority_text t)) ≡ Ok a
-    → early_fault t ≡ error_of (of_piece errors.Path (path.reading (path_text t)))
-early_path t a h = ap (λ r. error_of (r >>= λ _. of_piece errors.Path (path.reading (path_text t)))) h
+    → early_fault t ≡ fault_in (of_piece errors.Path (path.reading (path_text t)))
+early_path t a h = ap (λ r. fault_in (r >>= λ _. of_piece errors.Path (path.reading (path_text t)))) h
 
 -- a path with a fault is answered it
-pub path_early : {A : Type 0} (t : List ℕ) (w : Bool) (a : Option AuthorityParts) (u : List ℕ) (s : Result PathParts URIReferenceError) (r : Result A URIReferenceError) (x e : URIReferenceError)
+pub path_early : {A : Type 0} (t : List ℕ) (w : Bool) (a : Option AuthorityParts) (u : List ℕ) (s : Result PathParts URIReferenceError)
+    (r : Result A URIReferenceError) (x e : URIReferenceError)
     → of_piece errors.Authority (if_present authority.reading (authority_text t)) ≡ Ok a
     → u ≡ path_text t → (IsErr (path.reading u) → s ≡ of_piece errors.Path (path_reading w u)) → s ≡ Err x → r ≡ Err x → early_fault t ≡ Some e → r ≡ Err e
 path_early t w a u s r x e h at fault k l f =
-    by_reading (path.reading u) fault (ap (λ v. error_of (of_piece errors.Path (path.reading v))) at ∙ sym (early_path t a h) ∙ f)
+    by_reading (path.reading u) fault (ap (λ v. fault_in (of_piece errors.Path (path.reading v))) at ∙ sym (early_path t a h) ∙ f)
   where
-    by_reading : (o : Result PathParts PathError) → (IsErr o → s ≡ of_piece errors.Path (o >>= λ _. Ok (path_of w u))) → error_of (of_piece errors.Path o) ≡ Some e → r ≡ Err e
+    by_reading : (o : Result PathParts PathError) → (IsErr o → s ≡ of_piece errors.Path (o >>= λ _. Ok (path_of w u)))
+        → fault_in (of_piece errors.Path o) ≡ Some e → r ≡ Err e
     by_reading (Ok y) g i = cc
-    by_reading (Err y) g i = let told : s ≡ Err (errors.Path y) = g refl in let same : errors.Path y ≡ e = cc in let own : x ≡ errors.Path y = cc in l ∙ ap Err (own ∙ same)
+    by_reading (Err y) g i = let told : s ≡ Err (errors.Path y) = g refl in let same : errors.Path y ≡ e = cc in let own : x ≡ errors.Path y = cc in l
+        ∙ ap Err (own ∙ same)
 
 -- behind an authority and a path that are read, there is no early fault
 pub none_early : {A : Type 0} (t : List ℕ) (w : Bool) (a : Option AuthorityParts) (h : PathParts) (r : Result A URIReferenceError) (e : URIReferenceError)
@@ -79,6 +81,7 @@ pub none_early : {A : Type 0} (t : List ℕ) (w : Bool) (a : Option AuthorityPar
     → early_fault t ≡ Some e → r ≡ Err e
 none_early t w a h r e i j f = by_reading (path.reading (path_text t)) j (sym (early_path t a i) ∙ f)
   where
-    by_reading : (o : Result PathParts PathError) → of_piece errors.Path (o >>= λ _. Ok (path_of w (path_text t))) ≡ Ok h → error_of (of_piece errors.Path o) ≡ Some e → r ≡ Err e
+    by_reading : (o : Result PathParts PathError) → of_piece errors.Path (o >>= λ _. Ok (path_of w (path_text t))) ≡ Ok h
+        → fault_in (of_piece errors.Path o) ≡ Some e → r ≡ Err e
     by_reading (Ok y) k l = cc
     by_reading (Err y) k l = cc

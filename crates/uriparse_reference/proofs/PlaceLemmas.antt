@@ -1,5 +1,6 @@
 -- Which paths may stand where, by their segments.
-use Rattle.std.proofs.Common.{◌≡◌, ℕ, ◌<◌, ◌≤◌, Bool, true, false, ◌&&◌, ◌||◌, not, cond, List, [], ◌∷◌, ◌++◌, suc, length, drop, flat_map, Option, Some, None, refl, sym, ap, ◌∙◌, subst, arith, append-nil}
+use Rattle.std.proofs.Common.{◌≡◌, ℕ, ◌<◌, ◌≤◌, Bool, true, false, ◌&&◌, ◌||◌, not, cond, List, [], ◌∷◌, ◌++◌, suc, length, drop, flat_map, Option, Some, None}
+use Rattle.std.proofs.Common.{refl, sym, ap, ◌∙◌, subst, arith, append-nil}
 use Rattle.std.specs.Prelude.{IfSome, is_some}
 use Rattle.std.proofs.lemmas.Bool.{false≢true, and_parts, and_from, not-true}
 use Rattle.uriparse_text.specs.Bytes.{dot, slash, colon}
@@ -79,7 +80,8 @@ pub noscheme-text : (l : List (List ℕ)) → IsListed l → is_noscheme (text (
 noscheme-text [] is = absurd (omega (arith, is.some))
 noscheme-text (s ∷ ss) is =
     ap is_noscheme (joined-behind s ss)
-    ∙ ap (lacks colon) (up_to-append is_slash s (flat_map (λ r. slash ∷ r) ss) (lacks_slash s (and_parts _ _ is.each).0) ∙ ap (λ u. s ++ u) (ends ss) ∙ append-nil s)
+    ∙ ap (lacks colon) (up_to-append is_slash s (flat_map (λ r. slash ∷ r) ss) (lacks_slash s (and_parts _ _ is.each).0) ∙ ap (λ u. s ++ u) (ends ss)
+    ∙ append-nil s)
     ∙ twice_not (has_colon s) (lacks colon s) (has-lacks colon s)
   where
     ends : (l : List (List ℕ)) → up_to is_slash (flat_map (λ r. slash ∷ r) l) ≡ []
@@ -114,10 +116,17 @@ there None h e = absurd (false≢true e)
 there (Some a) h e = h
 
 pub fits_of : (p : Parts) → Valid p → Fits (is_some p.authority) p.path
-fits_of p v = in_place (is_some p.scheme) (is_some p.authority) p.path (record { is_path = v.is_path; absolute = there p.authority v.absolute; plain = v.plain; fit = v.fit })
+fits_of p v = in_place (is_some p.scheme) (is_some p.authority) p.path (record {
+  is_path = v.is_path;
+  absolute = there p.authority v.absolute;
+  plain = v.plain;
+  fit = v.fit;
+})
 
-pub colon_of : (p : Parts) → Valid p → is_some p.scheme ≡ false → is_some p.authority ≡ false → p.path.absolute ≡ false → is_first has_colon p.path.segments ≡ false
-colon_of p v h k e = by_flag p.path.absolute p.path.segments e v.is_path (ap (λ u. path_refusal u false (text p.path)) (sym h) ∙ ap (λ u. path_refusal (is_some p.scheme) u (text p.path)) (sym k) ∙ v.fit)
+pub colon_of : (p : Parts) → Valid p → is_some p.scheme ≡ false → is_some p.authority ≡ false → p.path.absolute ≡ false
+    → is_first has_colon p.path.segments ≡ false
+colon_of p v h k e = by_flag p.path.absolute p.path.segments e v.is_path (ap (λ u. path_refusal u false (text p.path)) (sym h)
+    ∙ ap (λ u. path_refusal (is_some p.scheme) u (text p.path)) (sym k) ∙ v.fit)
   where
     by_flag : (a : Bool) (l : List (List ℕ)) → a ≡ false → IsListed l → path_refusal false false (text (make a l)) ≡ None → is_first has_colon l ≡ false
     by_flag true l e is f = absurd (false≢true (sym e))
@@ -143,32 +152,56 @@ placed v w p is c = record { is_path = is.listed; absolute = is.rooted; plain = 
     by_scheme true is c = refl
     by_scheme false is c = by_colon p.absolute p.segments is.listed (c refl)
 
-    by_authority : (w : Bool) → Fits w p → (v ≡ false → w ≡ false → p.absolute ≡ false → is_first has_colon p.segments ≡ false) → path_refusal v w (text p) ≡ None
+    by_authority : (w : Bool) → Fits w p → (v ≡ false → w ≡ false → p.absolute ≡ false → is_first has_colon p.segments ≡ false)
+        → path_refusal v w (text p) ≡ None
     by_authority true is c = refl
     by_authority false is c =
-        ap (λ u. cond u (Some errors.AbsolutePathStartsWithTwoSlashes) (cond (v || is_noscheme (text p)) None (Some errors.SchemelessPathStartsWithColonSegment))) (no_two is)
+        ap (λ u. cond u (Some errors.AbsolutePathStartsWithTwoSlashes)
+        (cond (v || is_noscheme (text p)) None (Some errors.SchemelessPathStartsWithColonSegment))) (no_two is)
         ∙ ap (λ u. cond u None (Some errors.SchemelessPathStartsWithColonSegment)) (by_scheme v is (λ h. c h refl))
 
-pub valid_made : (s : Option Scheme) (a : Option AuthorityParts) (p : PathParts) (q f : Option (List ℕ)) → IfSome s scheme.Valid → IfSome a authority.Valid → HasPlace (is_some s) (is_some a) p → IfSome q IsQuery → IfSome f IsFragment
+pub valid_made : (s : Option Scheme) (a : Option AuthorityParts) (p : PathParts) (q f : Option (List ℕ)) → IfSome s scheme.Valid → IfSome a authority.Valid
+    → HasPlace (is_some s) (is_some a) p → IfSome q IsQuery → IfSome f IsFragment
     → Valid (record { scheme = s; authority = a; path = p; query = q; fragment = f })
-valid_made s a p q f vs va is vq vf = record { is_scheme = vs; is_authority = va; is_path = is.is_path; absolute = if_there a is.absolute; plain = is.plain; fit = is.fit; is_query = vq; is_fragment = vf }
+valid_made s a p q f vs va is vq vf = record {
+  is_scheme = vs;
+  is_authority = va;
+  is_path = is.is_path;
+  absolute = if_there a is.absolute;
+  plain = is.plain;
+  fit = is.fit;
+  is_query = vq;
+  is_fragment = vf;
+}
 
 -- ---- the "." in front
 
-pub shielded_cases : (q : PathParts) (P : PathParts → Type 0) → (has_two_slashes (text q) ≡ true → P (dotted q)) → (has_two_slashes (text q) ≡ false → P q) → P (shielded None q)
+pub shielded_cases : (q : PathParts) (P : PathParts → Type 0) → (has_two_slashes (text q) ≡ true → P (dotted q)) → (has_two_slashes (text q) ≡ false → P q)
+    → P (shielded None q)
 shielded_cases q P f g = by_test (has_two_slashes (text q)) f g
   where
     by_test : (v : Bool) → (v ≡ true → P (dotted q)) → (v ≡ false → P q) → P (cond v (dotted q) q)
     by_test true f g = f refl
     by_test false f g = g refl
 
-pub fits_shielded : (a : Option AuthorityParts) (q : PathParts) → IsListed q.segments → respelled q ≡ q → (is_some a ≡ true → q.absolute ≡ true) → (is_some a ≡ false → hides_root q.segments ≡ true → suc (length q.segments) ≤ max_segments) → Fits (is_some a) (shielded a q)
+pub fits_shielded : (a : Option AuthorityParts) (q : PathParts) → IsListed q.segments → respelled q ≡ q → (is_some a ≡ true → q.absolute ≡ true)
+    → (is_some a ≡ false → hides_root q.segments ≡ true → suc (length q.segments) ≤ max_segments) → Fits (is_some a) (shielded a q)
 fits_shielded (Some a) q is h f g = record { listed = is; formed = h; rooted = f; shown = λ k. absurd (false≢true (sym k)) }
 fits_shielded None q is h f g = shielded_cases q (λ p. Fits false p)
     (λ e. let both = and_parts q.absolute (hides_root q.segments) (sym (two_slashes q is h) ∙ e) in
     let fit = g refl both.1 in
-    record { listed = record { some = omega arith; short = omega (arith, fit); each = and_from _ _ dot_segment is.each }; formed = dot_formed q.absolute; rooted = λ k. absurd (false≢true k); shown = λ k. refl })
-    (λ e. record { listed = is; formed = h; rooted = λ k. absurd (false≢true k); shown = λ k. by_flag q.absolute (sym (two_slashes q is h) ∙ e) (formed_shown q h) })
+    record {
+      listed = record { some = omega arith; short = omega (arith, fit); each = and_from _ _ dot_segment is.each };
+      formed = dot_formed q.absolute;
+      rooted = λ k. absurd (false≢true k);
+      shown = λ k. refl;
+    })
+    (λ e. record {
+      listed = is;
+      formed = h;
+      rooted = λ k. absurd (false≢true k);
+      shown = λ k. by_flag q.absolute (sym (two_slashes q is h) ∙ e) (formed_shown q h);
+    })
   where
     dot_formed : (a : Bool) → respelled (make a ((dot ∷ []) ∷ q.segments)) ≡ make a ((dot ∷ []) ∷ q.segments)
     dot_formed true = refl
@@ -185,7 +218,9 @@ undotted_shielded None q h = shielded_cases q (λ p. undotted p ≡ undotted q) 
 -- a path that may stand alone needs none
 pub shielded_fits : (a : Option AuthorityParts) (q : PathParts) → Fits (is_some a) q → shielded a q ≡ q
 shielded_fits (Some a) q is = refl
-shielded_fits None q is = shielded_cases q (λ p. p ≡ q) (λ e. absurd (false≢true (sym (is.shown refl) ∙ (and_parts q.absolute (hides_root q.segments) (sym (two_slashes q is.listed is.formed) ∙ e)).1))) (λ e. refl)
+shielded_fits None q is =
+    shielded_cases q (λ p. p ≡ q) (λ e. absurd (false≢true (sym (is.shown refl)
+    ∙ (and_parts q.absolute (hides_root q.segments) (sym (two_slashes q is.listed is.formed) ∙ e)).1))) (λ e. refl)
 
 -- ---- the normal form of a path in its place
 
@@ -193,7 +228,8 @@ pub pnormal_formed : (p : PathParts) (r : Bool) → IsListed p.segments → resp
 pnormal_formed p r is h = sym (spelled-text (pnormal p r) (listed_pnormal p r is)) ∙ pnormal_spelled p r is (spelled-text p is ∙ h)
 
 -- where it comes to begin with an empty segment and more, it has become shorter
-pub pnormal_room : (p : PathParts) (r : Bool) → Fits false p → hides_root (pnormal p r).segments ≡ true → suc (length (pnormal p r).segments) ≤ length p.segments
+pub pnormal_room : (p : PathParts) (r : Bool) → Fits false p → hides_root (pnormal p r).segments ≡ true
+    → suc (length (pnormal p r).segments) ≤ length p.segments
 pnormal_room p r is h = by_case (stays_relative p r) refl
   where
     by_case : (v : Bool) → stays_relative p r ≡ v → suc (length (pnormal p r).segments) ≤ length p.segments
@@ -204,10 +240,12 @@ pnormal_room p r is h = by_case (stays_relative p r) refl
         let k = room p (is.shown refl) hidden in
         omega (arith, ap (λ q. length q.segments) same, length-canon (undotted p).segments, k)
 
-pub length_shielded : (a : Option AuthorityParts) (p : PathParts) (r : Bool) → Fits (is_some a) p → length (shielded a (pnormal p r)).segments ≤ length p.segments
+pub length_shielded : (a : Option AuthorityParts) (p : PathParts) (r : Bool) → Fits (is_some a) p
+    → length (shielded a (pnormal p r)).segments ≤ length p.segments
 length_shielded (Some a) p r is = length_pnormal p r is.listed
 length_shielded None p r is = shielded_cases (pnormal p r) (λ q. length q.segments ≤ length p.segments)
-    (λ e. let both = and_parts (pnormal p r).absolute (hides_root (pnormal p r).segments) (sym (two_slashes (pnormal p r) (listed_pnormal p r is.listed) (pnormal_formed p r is.listed is.formed)) ∙ e) in
+    (λ e. let both = and_parts (pnormal p r).absolute (hides_root (pnormal p r).segments)
+    (sym (two_slashes (pnormal p r) (listed_pnormal p r is.listed) (pnormal_formed p r is.listed is.formed)) ∙ e) in
     let k = pnormal_room p r is both.1 in omega (arith, k))
     (λ e. length_pnormal p r is.listed)
 
@@ -217,9 +255,12 @@ fits_normal a p r is = fits_shielded a (pnormal p r) (listed_pnormal p r is.list
     (λ h k. let n = pnormal_room p r (subst (λ v. Fits v p) h is) k in let s = is.listed.short in omega (arith, n, s))
 
 -- a schemeless one keeps the colon rule
-pub colon_normal : (a : Option AuthorityParts) (p : PathParts) → Fits false p → is_some a ≡ false → (p.absolute ≡ false → is_first has_colon p.segments ≡ false) → (shielded a (pnormal p true)).absolute ≡ false → is_first has_colon (shielded a (pnormal p true)).segments ≡ false
+pub colon_normal : (a : Option AuthorityParts) (p : PathParts) → Fits false p → is_some a ≡ false
+    → (p.absolute ≡ false → is_first has_colon p.segments ≡ false) → (shielded a (pnormal p true)).absolute ≡ false
+    → is_first has_colon (shielded a (pnormal p true)).segments ≡ false
 colon_normal (Some a) p is h f k = absurd (false≢true (sym h))
-colon_normal None p is h f k = shielded_cases (pnormal p true) (λ q. q.absolute ≡ false → is_first has_colon q.segments ≡ false) (λ e k. refl) (λ e k. by_flag p.absolute refl k) k
+colon_normal None p is h f k = shielded_cases (pnormal p true) (λ q. q.absolute ≡ false
+    → is_first has_colon q.segments ≡ false) (λ e k. refl) (λ e k. by_flag p.absolute refl k) k
   where
     by_flag : (v : Bool) → p.absolute ≡ v → (pnormal p true).absolute ≡ false → is_first has_colon (pnormal p true).segments ≡ false
     by_flag true e k = absurd (false≢true (sym k ∙ pnormal_absolute p true is.listed e))

@@ -6,7 +6,6 @@ use Rattle.uriparse_text.specs.Readings.{IfPresent}
 use Rattle.uriparse_authority.specs.Authority as authority
 use Rattle.uriparse_authority.specs.Authority.{AuthorityParts}
 use Rattle.uriparse_authority.specs.Host as host
-use Rattle.uriparse_authority.specs.declared.authority.host.Host.{Host}
 use Rattle.uriparse_authority.proofs.HostLemmas.{host_back}
 use Rattle.uriparse_authority.proofs.PrintedLemmas as authorities
 use Rattle.uriparse_reference.specs.Reference.{Parts, Spells, Valid, ReadsBack, HidesAddress, OneHidesAddress, print}
@@ -29,16 +28,19 @@ spelled_reads_back t p s = by_authority s.authority_text p.authority s.is_author
 pub plain_back : (p : Parts) → Valid p → (HidesAddress p → ⊥) → Spells (print p) p
 plain_back p v plain = back p v (by_authority p.authority v.is_authority plain)
   where
-    by_authority : (a : Option AuthorityParts) → IfSome a authority.Valid → (IsSomeAnd (option_map (λ (x : AuthorityParts). x.host) a) host.IsHiddenAddress → ⊥) → IfSome a authority.ReadsBack
+    by_authority : (a : Option AuthorityParts) → IfSome a authority.Valid
+        → (IsSomeAnd (option_map (λ (x : AuthorityParts). x.host) a) host.IsHiddenAddress → ⊥) → IfSome a authority.ReadsBack
     by_authority None i hides = tt
     by_authority (Some a) i hides = host_back a.host i.is_host hides
 
 -- ---- what prints alike
 
 abbrev Apart : Option AuthorityParts → Option AuthorityParts → Type 0
-Apart a b = IsSomeAnd (option_map (λ (x : AuthorityParts). x.host) a) (λ g. IsSomeAnd (option_map (λ (x : AuthorityParts). x.host) b) (λ h. host.OneHidesAddress g h))
+Apart a b = IsSomeAnd (option_map (λ (x : AuthorityParts). x.host) a)
+    (λ g. IsSomeAnd (option_map (λ (x : AuthorityParts). x.host) b) (λ h. host.OneHidesAddress g h))
 
-authorities_apart : (a b : Option AuthorityParts) → IfSome a authority.Valid → IfSome b authority.Valid → option_map authority.print a ≡ option_map authority.print b
+authorities_apart : (a b : Option AuthorityParts) → IfSome a authority.Valid → IfSome b authority.Valid
+    → option_map authority.print a ≡ option_map authority.print b
     → (option_map authority.kind a ≡ option_map authority.kind b) ⊎ Apart a b
 authorities_apart None None v w e = inl refl
 authorities_apart None (Some b) v w e = absurd (cc)
@@ -54,7 +56,8 @@ authorities_apart (Some a) (Some b) v w e =
 -- references that print alike are one, or one of them holds as a name what the other holds as an IPv4 address
 pub printed_apart : (p q : Parts) → Valid p → Valid q → print p ≡ print q → (p ≡ q) ⊎ OneHidesAddress p q
 printed_apart p q v w e =
-    by_case (authorities_apart p.authority q.authority v.is_authority w.is_authority (sym (print_cut p v).authority ∙ ap authority_text e ∙ (print_cut q w).authority))
+    by_case (authorities_apart p.authority q.authority v.is_authority w.is_authority (sym (print_cut p v).authority ∙ ap authority_text e
+    ∙ (print_cut q w).authority))
   where
     by_case : (option_map authority.kind p.authority ≡ option_map authority.kind q.authority) ⊎ Apart p.authority q.authority → (p ≡ q) ⊎ OneHidesAddress p q
     by_case (inl kinds) = inl (printed_alike p q v w e kinds)

@@ -1,5 +1,6 @@
 -- Reading a reference is exact.
-use Rattle.std.proofs.Common.{◌≡◌, ℕ, Bool, true, false, cond, List, [], ◌∷◌, ◌++◌, drop, Option, Some, None, Ok, refl, sym, ap, ◌∙◌, subst, append_assoc, ◌&&◌, inl, inr, arith}
+use Rattle.std.proofs.Common.{◌≡◌, ℕ, Bool, true, false, cond, List, [], ◌∷◌, ◌++◌, drop, Option, Some, None, Ok, refl, sym, ap, ◌∙◌, subst, append_assoc, ◌&&◌}
+use Rattle.std.proofs.Common.{inl, inr, arith}
 use Rattle.std.specs.Prelude.{◌⊎◌, ◌==◌, IfSome, IfOk, IfErr, Result, Err, is_some}
 use Rattle.std.specs.Option.{option_map, option_copied}
 use Rattle.std.proofs.Common.{Bor}
@@ -8,7 +9,7 @@ use Rattle.std.proofs.lemmas.Bool.Decides.{nat_tests}
 use Rattle.uriparse_text.specs.declared.parts.class.Class.TheVariants.{Query}
 use Rattle.uriparse_text.specs.Bytes.{slash, colon, question_mark, number_sign}
 use Rattle.uriparse_text.specs.Cuts.{behind, ahead, before, after, front, rest, up_to, from_first}
-use Rattle.uriparse_text.specs.Readings.{IsUnless, ◌>>=◌, of_piece, if_present, error_of, unless_fault, IfPresent}
+use Rattle.uriparse_text.specs.Readings.{IsUnless, ◌>>=◌, of_piece, if_present, fault_in, unless_fault, IfPresent}
 use Rattle.uriparse_text.specs.Query as query
 use Rattle.uriparse_text.specs.Fragment as fragment
 use Rattle.uriparse_text.proofs.CutLemmas.{from_first-head, cut-whole, before_after, front_rest}
@@ -27,13 +28,16 @@ use Rattle.uriparse_path.specs.declared.path.error.PathError.TheVariants.{OutOfM
 use Rattle.uriparse_reference.specs.declared.uri_reference.error.URIReferenceError.{URIReferenceError}
 use Rattle.uriparse_reference.specs.declared.uri_reference.error.URIReferenceError.TheVariants as errors
 use Rattle.uriparse_reference.specs.Reference.{Parts, behind_slashes, joined, is_abempty, path_refusal, path_of, Spells}
-use Rattle.uriparse_reference.specs.Cuts.{if_scheme, scheme_text, left, after_scheme, cut_authority, authority_text, cut_left, after_authority, path_text, query_text, fragment_text}
+use Rattle.uriparse_reference.specs.Cuts.{if_scheme, scheme_text, unless_scheme, after_scheme, cut_authority, authority_text, cut_left, after_authority}
+use Rattle.uriparse_reference.specs.Cuts.{path_text}
+use Rattle.uriparse_reference.specs.Cuts.{query_text, fragment_text}
 use Rattle.uriparse_reference.specs.Reading.{path_reading, reading, fault}
 use Rattle.uriparse_reference.proofs.CutLemmas.{tail, ArePieces, cut_again}
 
 -- ---- what is spelled so is read so
 
-pub schemes_are : (o : Option (List ℕ)) (s : Option Scheme) → IfPresent scheme.Spells o s → (IfSome o (λ t. scheme.is_scheme t ≡ true)) × (option_map scheme.named o ≡ s)
+pub schemes_are : (o : Option (List ℕ)) (s : Option Scheme) → IfPresent scheme.Spells o s
+    → (IfSome o (λ t. scheme.is_scheme t ≡ true)) × (option_map scheme.named o ≡ s)
 schemes_are None None h = (tt, refl)
 schemes_are None (Some s) h = absurd h
 schemes_are (Some t) None h = absurd h
@@ -55,11 +59,13 @@ spelled_pieces t p s = record {
 }
 
 -- the refusal and the reading of a cut text's path, by what the pieces are
-pub refusal_is : (t : List ℕ) (v w : Bool) (h : List ℕ) → is_some (scheme_text t) ≡ v → is_some (authority_text t) ≡ w → h ≡ path_text t → path_refusal (is_some (scheme_text t)) (is_some (authority_text t)) (path_text t) ≡ path_refusal v w h
+pub refusal_is : (t : List ℕ) (v w : Bool) (h : List ℕ) → is_some (scheme_text t) ≡ v → is_some (authority_text t) ≡ w → h ≡ path_text t
+    → path_refusal (is_some (scheme_text t)) (is_some (authority_text t)) (path_text t) ≡ path_refusal v w h
 refusal_is t v w h e f g =
     ap (λ u. path_refusal u (is_some (authority_text t)) (path_text t)) e ∙ ap (λ u. path_refusal v u (path_text t)) f ∙ ap (path_refusal v w) (sym g)
 
-pub path_reading_is : (t : List ℕ) (w : Bool) (h : List ℕ) → is_some (authority_text t) ≡ w → h ≡ path_text t → path_reading (is_some (authority_text t)) (path_text t) ≡ path_reading w h
+pub path_reading_is : (t : List ℕ) (w : Bool) (h : List ℕ) → is_some (authority_text t) ≡ w → h ≡ path_text t
+    → path_reading (is_some (authority_text t)) (path_text t) ≡ path_reading w h
 path_reading_is t w h f g = ap (λ u. path_reading u (path_text t)) f ∙ ap (path_reading w) (sym g)
 
 pub again : (t : List ℕ) (p : Parts) → Spells t p → reading t ≡ Ok p
@@ -71,11 +77,15 @@ again t p s =
     let pa = cut.path in
     let qu = cut.query in
     let fr = cut.fragment in
-    let x : if_present authority.reading (authority_text t) ≡ Ok p.authority = ap (if_present authority.reading) au ∙ present_again authority.Spells authority.reading authorities.exact s.authority_text p.authority s.is_authority in
-    let y : path_reading (is_some (authority_text t)) (path_text t) ≡ Ok p.path = ap (λ u. path_reading (is_some u) (path_text t)) au ∙ ap (path_reading (is_some s.authority_text)) pa ∙ ap (λ r. r >>= λ _. Ok (path_of (is_some s.authority_text) s.path_text)) (reading-path s.path_text s.is_path) ∙ ap Ok (sym s.path) in
+    let x : if_present authority.reading (authority_text t) ≡ Ok p.authority = ap (if_present authority.reading) au
+    ∙ present_again authority.Spells authority.reading authorities.exact s.authority_text p.authority s.is_authority in
+    let y : path_reading (is_some (authority_text t)) (path_text t) ≡ Ok p.path = ap (λ u. path_reading (is_some u) (path_text t)) au
+    ∙ ap (path_reading (is_some s.authority_text)) pa
+    ∙ ap (λ r. r >>= λ _. Ok (path_of (is_some s.authority_text) s.path_text)) (reading-path s.path_text s.is_path) ∙ ap Ok (sym s.path) in
     let z = refusal_is t (is_some s.scheme_text) (is_some s.authority_text) s.path_text (ap is_some sc) (ap is_some au) (sym pa) ∙ s.fit in
     let v : if_present query.reading (query_text t) ≡ Ok p.query = ap (if_present query.reading) qu ∙ texts_again Query query.error_of p.query s.is_query in
-    let w : if_present fragment.reading (fragment_text t) ≡ Ok p.fragment = ap (if_present fragment.reading) fr ∙ texts_again Query fragment.error_of p.fragment s.is_fragment in
+    let w : if_present fragment.reading (fragment_text t) ≡ Ok p.fragment = ap (if_present fragment.reading) fr
+    ∙ texts_again Query fragment.error_of p.fragment s.is_fragment in
     let n : option_map scheme.named (scheme_text t) ≡ p.scheme = ap (option_map scheme.named) sc ∙ (schemes_are s.scheme_text p.scheme s.is_scheme).1 in
     rw (x, y, z, v, w, n) refl
 
@@ -87,9 +97,11 @@ one_reading t p q h k = let e = again t p h in let f = again t q k in cc
 pub scheme_whole : (t : List ℕ) → ahead colon (scheme_text t) ++ after_scheme t ≡ t
 scheme_whole t = by_front (front colon t) (front_rest colon t)
   where
-    by_front : (o : Option (List ℕ)) → ahead colon o ++ rest colon t ≡ t → ahead colon (if_scheme o) ++ left (if_scheme o) t (rest colon t) ≡ t
+    by_front : (o : Option (List ℕ)) → ahead colon o ++ rest colon t ≡ t → ahead colon (if_scheme o) ++ unless_scheme (if_scheme o) t (rest colon t) ≡ t
     by_front None h = refl
-    by_front (Some s) h = elim (scheme.is_scheme s) as (λ v. ahead colon (cond v (Some s) None) ++ left (cond v (Some s) None) t (rest colon t) ≡ t) [ true ↦ h | false ↦ refl ]
+    by_front (Some s) h =
+        elim (scheme.is_scheme s) as (λ v. ahead colon (cond v (Some s) None) ++ unless_scheme (cond v (Some s) None) t (rest colon t) ≡ t)
+        [ true ↦ h | false ↦ refl ]
 
 pub two_slashes : (u : List ℕ) → has_two_slashes u ≡ true → slash ∷ slash ∷ drop 2 u ≡ u
 two_slashes [] h = absurd (false≢true h)
@@ -106,15 +118,19 @@ two_slashes (b ∷ u) h = at_slash (is_slash b) refl h
 pub authority_whole : (u : List ℕ) → behind_slashes (cut_authority u) ++ cut_left u ≡ u
 authority_whole u = at_test (has_two_slashes u) refl
   where
-    at_test : (v : Bool) → has_two_slashes u ≡ v → behind_slashes (cond v (Some (up_to ends_authority (drop 2 u))) None) ++ cond v (from_first ends_authority (drop 2 u)) u ≡ u
+    at_test : (v : Bool) → has_two_slashes u ≡ v
+        → behind_slashes (cond v (Some (up_to ends_authority (drop 2 u))) None) ++ cond v (from_first ends_authority (drop 2 u)) u ≡ u
     at_test true e = ap (λ x. slash ∷ slash ∷ x) (cut-whole ends_authority (drop 2 u)) ∙ two_slashes u e
     at_test false e = refl
 
 pub tail_whole : (u : List ℕ) → before question_mark (before number_sign u) ++ tail (after question_mark (before number_sign u)) (after number_sign u) ≡ u
-tail_whole u = sym (append_assoc (before question_mark (before number_sign u)) (behind question_mark (after question_mark (before number_sign u))) (behind number_sign (after number_sign u))) ∙ ap (λ x. x ++ behind number_sign (after number_sign u)) (before_after question_mark (before number_sign u)) ∙ before_after number_sign u
+tail_whole u = sym (append_assoc (before question_mark (before number_sign u)) (behind question_mark (after question_mark (before number_sign u)))
+    (behind number_sign (after number_sign u))) ∙ ap (λ x. x ++ behind number_sign (after number_sign u)) (before_after question_mark (before number_sign u))
+    ∙ before_after number_sign u
 
 pub whole_is : (t : List ℕ) → t ≡ joined (scheme_text t) (authority_text t) (path_text t) (query_text t) (fragment_text t)
-whole_is t = sym (ap (λ u. ahead colon (scheme_text t) ++ u) (ap (λ u. behind_slashes (authority_text t) ++ u) (tail_whole (after_authority t)) ∙ authority_whole (after_scheme t)) ∙ scheme_whole t)
+whole_is t = sym (ap (λ u. ahead colon (scheme_text t) ++ u) (ap (λ u. behind_slashes (authority_text t) ++ u) (tail_whole (after_authority t))
+    ∙ authority_whole (after_scheme t)) ∙ scheme_whole t)
 
 pub schemes_spell : (t : List ℕ) → IfPresent scheme.Spells (scheme_text t) (option_map scheme.named (scheme_text t))
 schemes_spell t = by_front (front colon t)
@@ -131,7 +147,8 @@ schemes_spell t = by_front (front colon t)
 pub abempty_cut : (u : List ℕ) → is_abempty (before question_mark (before number_sign (from_first ends_authority u))) ≡ true
 abempty_cut u = by_rest (from_first ends_authority u) refl
   where
-    by_ends : (b : ℕ) (r : List ℕ) (v w : Bool) → (b == number_sign) ≡ v → (b == question_mark) ≡ w → ends_authority b ≡ true → is_abempty (before question_mark (cond v [] (b ∷ before number_sign r))) ≡ true
+    by_ends : (b : ℕ) (r : List ℕ) (v w : Bool) → (b == number_sign) ≡ v → (b == question_mark) ≡ w → ends_authority b ≡ true
+        → is_abempty (before question_mark (cond v [] (b ∷ before number_sign r))) ≡ true
     by_ends b r true w e f h = refl
     by_ends b r false true e f h = rw f refl
     by_ends b r false false e f h = rw f (grind (arith, nat_tests))
@@ -143,7 +160,9 @@ abempty_cut u = by_rest (from_first ends_authority u) refl
 pub abempty_text : (t : List ℕ) → IfSome (authority_text t) (λ _. is_abempty (path_text t) ≡ true)
 abempty_text t = by_slashes (has_two_slashes (after_scheme t))
   where
-    by_slashes : (v : Bool) → IfSome (cond v (Some (up_to ends_authority (drop 2 (after_scheme t)))) None) (λ _. is_abempty (before question_mark (before number_sign (cond v (from_first ends_authority (drop 2 (after_scheme t))) (after_scheme t)))) ≡ true)
+    by_slashes : (v : Bool)
+        → IfSome (cond v (Some (up_to ends_authority (drop 2 (after_scheme t)))) None)
+        (λ _. is_abempty (before question_mark (before number_sign (cond v (from_first ends_authority (drop 2 (after_scheme t))) (after_scheme t)))) ≡ true)
     by_slashes true = abempty_cut (drop 2 (after_scheme t))
     by_slashes false = tt
 
@@ -151,8 +170,11 @@ pub accepted : (o : Option URIReferenceError) (x : Unit {0}) → unless_fault o 
 accepted None x h = refl
 accepted (Some e) x h = cc
 
-pub spells_cuts : (t : List ℕ) (a : Option AuthorityParts) (h : PathParts) (x : Unit {0}) (q f : Option (List ℕ)) → if_present authority.reading (authority_text t) ≡ Ok a → path_reading (is_some (authority_text t)) (path_text t) ≡ Ok h → unless_fault {A = Unit {0}} (path_refusal (is_some (scheme_text t)) (is_some (authority_text t)) (path_text t)) tt ≡ Ok x
-    → if_present query.reading (query_text t) ≡ Ok q → if_present fragment.reading (fragment_text t) ≡ Ok f → Spells t (record { scheme = option_map scheme.named (scheme_text t); authority = a; path = h; query = q; fragment = f })
+pub spells_cuts : (t : List ℕ) (a : Option AuthorityParts) (h : PathParts) (x : Unit {0}) (q f : Option (List ℕ))
+    → if_present authority.reading (authority_text t) ≡ Ok a → path_reading (is_some (authority_text t)) (path_text t) ≡ Ok h
+    → unless_fault {A = Unit {0}} (path_refusal (is_some (scheme_text t)) (is_some (authority_text t)) (path_text t)) tt ≡ Ok x
+    → if_present query.reading (query_text t) ≡ Ok q → if_present fragment.reading (fragment_text t) ≡ Ok f
+    → Spells t (record { scheme = option_map scheme.named (scheme_text t); authority = a; path = h; query = q; fragment = f })
 spells_cuts t a h x q f i j k l m =
     let d = texts_found Query query.error_of (query_text t) q l in
     let e = texts_found Query fragment.error_of (fragment_text t) f m in
@@ -186,26 +208,32 @@ found t p k =
     let v = bind_ok (of_piece errors.Query (if_present query.reading (query_text t))) _ p z.2 in
     let w = bind_ok (of_piece errors.Fragment (if_present fragment.reading (fragment_text t))) _ p v.2 in
     let e : record { scheme = option_map scheme.named (scheme_text t); authority = x.0; path = y.0; query = v.0; fragment = w.0 } ≡ p = cc (w.2) in
-    subst (λ q. Spells t q) e (spells_cuts t x.0 y.0 z.0 v.0 w.0 (piece_found errors.Authority _ x.0 x.1) (piece_found errors.Path _ y.0 y.1) z.1 (piece_found errors.Query _ v.0 v.1) (piece_found errors.Fragment _ w.0 w.1))
+    subst (λ q. Spells t q) e (spells_cuts t x.0 y.0 z.0 v.0 w.0 (piece_found errors.Authority _ x.0 x.1) (piece_found errors.Path _ y.0 y.1) z.1
+    (piece_found errors.Query _ v.0 v.1) (piece_found errors.Fragment _ w.0 w.1))
 
 pub none_exactly : (t : List ℕ) → ((fault t ≡ None) → ((p : Parts) × Spells t p)) × (((p : Parts) × Spells t p) → (fault t ≡ None))
 none_exactly t = (
   (λ h. let r = none_or (reading t) h in (r.0, found t r.0 r.1)),
-  (λ w. ap error_of (again t w.0 w.1)),
+  (λ w. ap fault_in (again t w.0 w.1)),
 )
 
 pub scheme_back : (s : Option Scheme) → IfSome s scheme.Valid → IfPresent scheme.Spells (option_map scheme.text s) s
 scheme_back None h = tt
 scheme_back (Some s) h = schemes.spells_back s h
 
-pub authority_back : (a : Option AuthorityParts) → IfSome a authority.Valid → IfSome a authority.ReadsBack → IfPresent authority.Spells (option_map authority.print a) a
+pub authority_back : (a : Option AuthorityParts) → IfSome a authority.Valid → IfSome a authority.ReadsBack
+    → IfPresent authority.Spells (option_map authority.print a) a
 authority_back None h k = tt
 authority_back (Some a) h k = authorities.back a h k
 
 -- ---- what the pieces' readings make
 
-pub assembled : (t : List ℕ) (a : Option AuthorityParts) (h : PathParts) (q f : Option (List ℕ)) → of_piece errors.Authority (if_present authority.reading (authority_text t)) ≡ Ok a → of_piece errors.Path (path_reading (is_some (authority_text t)) (path_text t)) ≡ Ok h
-    → path_refusal (is_some (scheme_text t)) (is_some (authority_text t)) (path_text t) ≡ None → of_piece errors.Query (if_present query.reading (query_text t)) ≡ Ok q → of_piece errors.Fragment (if_present fragment.reading (fragment_text t)) ≡ Ok f
+pub assembled : (t : List ℕ) (a : Option AuthorityParts) (h : PathParts) (q f : Option (List ℕ))
+    → of_piece errors.Authority (if_present authority.reading (authority_text t)) ≡ Ok a
+    → of_piece errors.Path (path_reading (is_some (authority_text t)) (path_text t)) ≡ Ok h
+    → path_refusal (is_some (scheme_text t)) (is_some (authority_text t)) (path_text t) ≡ None
+    → of_piece errors.Query (if_present query.reading (query_text t)) ≡ Ok q
+    → of_piece errors.Fragment (if_present fragment.reading (fragment_text t)) ≡ Ok f
     → reading t ≡ Ok (record { scheme = option_map scheme.named (scheme_text t); authority = a; path = h; query = q; fragment = f })
 unfolding reading
 assembled t a h q f i j k l m = rw (i, j, k, l, m) refl
@@ -223,29 +251,42 @@ text_present (Some s) = refl
 
 -- ---- what an answer by the reading tells in the grammar's words
 
-pub found_only : (t : List ℕ) (r : Result Parts URIReferenceError) → IsUnless (errors.Path OutOfMemory) r (reading t) → (IfOk r (λ p. Spells t p)) × ((p : Parts) → Spells t p → IsUnless (errors.Path OutOfMemory) r (Ok p)) × (IfErr r (λ e. (fault t ≡ Some e) ⊎ (e ≡ errors.Path OutOfMemory)))
+pub found_only : (t : List ℕ) (r : Result Parts URIReferenceError) → IsUnless (errors.Path OutOfMemory) r (reading t)
+    → (IfOk r (λ p. Spells t p)) × ((p : Parts) → Spells t p → IsUnless (errors.Path OutOfMemory) r (Ok p))
+    × (IfErr r (λ e. (fault t ≡ Some e) ⊎ (e ≡ errors.Path OutOfMemory)))
 found_only t (Ok p) (inl h) = (found t p (sym h), (λ q s. inl (h ∙ again t q s)), tt)
 found_only t (Ok p) (inr h) = absurd (cc)
-found_only t (Err e) (inl h) = (tt, (λ q s. inl (h ∙ again t q s)), inl (ap error_of (sym h)))
+found_only t (Err e) (inl h) = (tt, (λ q s. inl (h ∙ again t q s)), inl (ap fault_in (sym h)))
 found_only t (Err e) (inr h) = (tt, (λ q s. inr h), inr (let same : e ≡ errors.Path OutOfMemory = cc in same))
 
 -- ---- where a piece is refused, and those before it are read
 
-pub refused_path : (t : List ℕ) (a : Option AuthorityParts) (e : URIReferenceError) → of_piece errors.Authority (if_present authority.reading (authority_text t)) ≡ Ok a → of_piece errors.Path (path_reading (is_some (authority_text t)) (path_text t)) ≡ Err e → reading t ≡ Err e
+pub refused_path : (t : List ℕ) (a : Option AuthorityParts) (e : URIReferenceError)
+    → of_piece errors.Authority (if_present authority.reading (authority_text t)) ≡ Ok a
+    → of_piece errors.Path (path_reading (is_some (authority_text t)) (path_text t)) ≡ Err e → reading t ≡ Err e
 unfolding reading
 refused_path t a e i j = rw (i, j) refl
 
-pub refused_fit : (t : List ℕ) (a : Option AuthorityParts) (h : PathParts) (e : URIReferenceError) → of_piece errors.Authority (if_present authority.reading (authority_text t)) ≡ Ok a → of_piece errors.Path (path_reading (is_some (authority_text t)) (path_text t)) ≡ Ok h
+pub refused_fit : (t : List ℕ) (a : Option AuthorityParts) (h : PathParts) (e : URIReferenceError)
+    → of_piece errors.Authority (if_present authority.reading (authority_text t)) ≡ Ok a
+    → of_piece errors.Path (path_reading (is_some (authority_text t)) (path_text t)) ≡ Ok h
     → path_refusal (is_some (scheme_text t)) (is_some (authority_text t)) (path_text t) ≡ Some e → reading t ≡ Err e
 unfolding reading
 refused_fit t a h e i j k = rw (i, j, k) refl
 
-pub refused_query : (t : List ℕ) (a : Option AuthorityParts) (h : PathParts) (e : URIReferenceError) → of_piece errors.Authority (if_present authority.reading (authority_text t)) ≡ Ok a → of_piece errors.Path (path_reading (is_some (authority_text t)) (path_text t)) ≡ Ok h
-    → path_refusal (is_some (scheme_text t)) (is_some (authority_text t)) (path_text t) ≡ None → of_piece errors.Query (if_present query.reading (query_text t)) ≡ Err e → reading t ≡ Err e
+pub refused_query : (t : List ℕ) (a : Option AuthorityParts) (h : PathParts) (e : URIReferenceError)
+    → of_piece errors.Authority (if_present authority.reading (authority_text t)) ≡ Ok a
+    → of_piece errors.Path (path_reading (is_some (authority_text t)) (path_text t)) ≡ Ok h
+    → path_refusal (is_some (scheme_text t)) (is_some (authority_text t)) (path_text t) ≡ None
+    → of_piece errors.Query (if_present query.reading (query_text t)) ≡ Err e → reading t ≡ Err e
 unfolding reading
 refused_query t a h e i j k l = rw (i, j, k, l) refl
 
-pub refused_fragment : (t : List ℕ) (a : Option AuthorityParts) (h : PathParts) (q : Option (List ℕ)) (e : URIReferenceError) → of_piece errors.Authority (if_present authority.reading (authority_text t)) ≡ Ok a → of_piece errors.Path (path_reading (is_some (authority_text t)) (path_text t)) ≡ Ok h
-    → path_refusal (is_some (scheme_text t)) (is_some (authority_text t)) (path_text t) ≡ None → of_piece errors.Query (if_present query.reading (query_text t)) ≡ Ok q → of_piece errors.Fragment (if_present fragment.reading (fragment_text t)) ≡ Err e → reading t ≡ Err e
+pub refused_fragment : (t : List ℕ) (a : Option AuthorityParts) (h : PathParts) (q : Option (List ℕ)) (e : URIReferenceError)
+    → of_piece errors.Authority (if_present authority.reading (authority_text t)) ≡ Ok a
+    → of_piece errors.Path (path_reading (is_some (authority_text t)) (path_text t)) ≡ Ok h
+    → path_refusal (is_some (scheme_text t)) (is_some (authority_text t)) (path_text t) ≡ None
+    → of_piece errors.Query (if_present query.reading (query_text t)) ≡ Ok q
+    → of_piece errors.Fragment (if_present fragment.reading (fragment_text t)) ≡ Err e → reading t ≡ Err e
 unfolding reading
 refused_fragment t a h q e i j k l m = rw (i, j, k, l, m) refl

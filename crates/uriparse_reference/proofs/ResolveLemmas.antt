@@ -20,7 +20,8 @@ use Rattle.uriparse_reference.specs.Reference.{Parts, Valid}
 use Rattle.uriparse_reference.specs.Normal.{shielded}
 use Rattle.uriparse_reference.specs.Target.{merge, dots_removed, is_empty, target_of, target}
 use Rattle.uriparse_reference.proofs.PlaceLemmas.{Fits, fits_of, make, rooted_formed}
-use Rattle.uriparse_reference.proofs.TargetLemmas.{IsBehind, merged_spelled, fits_merged, behind, dots_removed-text, dots_removed-merged, chosen}
+use Rattle.uriparse_reference.proofs.MergedLemmas.{IsBehind, merged_spelled, fits_merged}
+use Rattle.uriparse_reference.proofs.TargetLemmas.{behind, dots_removed-text, dots_removed-merged, chosen}
 use Rattle.uriparse_reference.proofs.TargetLemmas.{le_from, target_valid}
 
 -- ---- the target, case by case

@@ -1,14 +1,12 @@
 -- Which references are the same, by their pieces.
-use Rattle.std.proofs.Common.{◌≡◌, ◌↔◌, ℕ, Bool, true, false, ◌&&◌, ◌||◌, List, [], ◌∷◌, ◌++◌, fold, map, Option, Some, None, refl, sym, ap, ◌∙◌, subst, arith}
+use Rattle.std.proofs.Common.{◌≡◌, ◌↔◌, ℕ, Bool, true, false, ◌&&◌, ◌||◌, List, [], ◌∷◌, ◌++◌, map, Option, Some, None, refl, sym, ap, ◌∙◌, subst, arith}
 use Rattle.std.specs.Prelude.{not, ◌==◌, IfSome, IsTrue, bytes_eq, cond, is_some}
 use Rattle.std.specs.Option.{option_map}
 use Rattle.std.specs.List.{flat_map, list_all}
-use Rattle.std.specs.Hash.{HashWrites, option}
 use Rattle.std.specs.Char.{to_ascii_uppercase}
 use Rattle.std.proofs.lemmas.Bool.{and_parts, and_from}
 use Rattle.std.proofs.lemmas.Bool.Decides.{nat_tests, same_from_decides}
 use Rattle.std.proofs.lemmas.Slice.Eq.{bytes_eq-Decides}
-use Rattle.std.proofs.lemmas.Grind.{fold-append}
 use Rattle.uriparse_text.specs.declared.parts.token.Token.{Token}
 use Rattle.uriparse_text.specs.declared.parts.token.Token.TheVariants.{Byte, Escape}
 use Rattle.uriparse_text.specs.declared.parts.class.Class.TheVariants.{Query}
@@ -16,9 +14,9 @@ use Rattle.uriparse_text.specs.declared.parts.canonical.Case.TheVariants.{Kept}
 use Rattle.uriparse_text.specs.Bytes.{colon, is_hex, is_unreserved}
 use Rattle.uriparse_text.specs.Cuts.{lacks, up_to}
 use Rattle.uriparse_text.specs.Tokens.{tokens, spell, has_digits}
-use Rattle.uriparse_text.specs.Canon.{canonical, escaped_byte, canon, fed_spelling}
+use Rattle.uriparse_text.specs.Canon.{canonical, escaped_byte, canon}
 use Rattle.uriparse_text.specs.Query.{IsQuery}
-use Rattle.uriparse_text.proofs.OptionLemmas.{same_option, fed_option}
+use Rattle.uriparse_text.proofs.OptionLemmas.{same_option}
 use Rattle.uriparse_text.proofs.TokenLemmas.{spell-tokens, digits-tokens}
 use Rattle.uriparse_text.proofs.CanonLemmas.{by_escaped, spell-canonical, upper_digit}
 use Rattle.uriparse_text.proofs.ClassLemmas.{IsIn-spelling}
@@ -35,9 +33,10 @@ use Rattle.uriparse_scheme.specs.declared.scheme.Scheme.{Scheme}
 use Rattle.uriparse_scheme.specs.Scheme as scheme
 use Rattle.uriparse_scheme.proofs.SchemeLemmas as schemes
 use Rattle.uriparse_scheme.proofs.GrammarLemmas.{is_scheme-canon_low}
-use Rattle.uriparse_reference.specs.Reference.{Parts, is_abempty, is_noscheme, path_refusal, Valid, Same, scheme_part, authority_part, print, canonical_text, kind}
+use Rattle.uriparse_reference.specs.Reference.{Parts, is_abempty, is_noscheme, path_refusal, Valid, Same, scheme_part, authority_part, print, canonical_text}
+use Rattle.uriparse_reference.specs.Reference.{kind}
 use Rattle.uriparse_reference.specs.Cuts.{scheme_text, authority_text, path_text, query_text, fragment_text}
-use Rattle.uriparse_reference.specs.Key.{kind_code, key, fed_pieces, fed, each_alike}
+use Rattle.uriparse_reference.specs.Key.{kind_code, key, each_alike}
 use Rattle.uriparse_reference.proofs.CutLemmas.{IsCutInto, cut_again}
 use Rattle.uriparse_reference.proofs.ValidLemmas.{valid_placed, mapped, present}
 
@@ -61,7 +60,8 @@ past_plain : (b : ℕ) (rest : List ℕ) → is_unreserved b ≡ true → is_nos
 past_plain b rest h = let x = plain_ends b h in rw (x.0, x.1) refl
 
 past_byte : (b : ℕ) (u v : List ℕ) → is_noscheme u ≡ is_noscheme v → is_noscheme (b ∷ u) ≡ is_noscheme (b ∷ v)
-past_byte b u v e = elim (is_slash b) as (λ w. lacks colon (cond w [] (b ∷ up_to is_slash u)) ≡ lacks colon (cond w [] (b ∷ up_to is_slash v))) [ true ↦ refl | false ↦ ap (λ w. not (b == colon) && w) e ]
+past_byte b u v e = elim (is_slash b) as (λ w. lacks colon (cond w [] (b ∷ up_to is_slash u)) ≡ lacks colon (cond w [] (b ∷ up_to is_slash v)))
+    [ true ↦ refl | false ↦ ap (λ w. not (b == colon) && w) e ]
 
 noscheme-tokens : (ts : List Token) → list_all has_digits ts ≡ true → is_noscheme (flat_map spell (map (canonical Kept) ts)) ≡ is_noscheme (flat_map spell ts)
 noscheme-tokens [] h = refl
@@ -71,7 +71,8 @@ noscheme-tokens (Escape high low ∷ ts) h =
     let digits = and_parts _ _ both.0 in
     by_escaped Kept high low (λ t. is_noscheme (spell t ++ flat_map spell (map (canonical Kept) ts)) ≡ is_noscheme (flat_map spell (map (canonical Kept) ts)))
     (λ e. past_plain (escaped_byte high low) (flat_map spell (map (canonical Kept) ts)) e)
-    (λ e. past_escape (to_ascii_uppercase high) (to_ascii_uppercase low) (flat_map spell (map (canonical Kept) ts)) (upper_digit high digits.0) (upper_digit low digits.1))
+    (λ e. past_escape (to_ascii_uppercase high) (to_ascii_uppercase low) (flat_map spell (map (canonical Kept) ts)) (upper_digit high digits.0)
+    (upper_digit low digits.1))
     ∙ noscheme-tokens ts both.1
     ∙ sym (past_escape high low (flat_map spell ts) digits.0 digits.1)
 
@@ -135,15 +136,19 @@ print_cut p v = cut_again (print p) (scheme_part p) (authority_part p) (path.tex
   is_query = v.is_query;
 }) refl
 
-pub canonical_cut : (p : Parts) → Valid p → IsCutInto (canonical_text p) (option_map scheme.canonical_text p.scheme) (option_map authority.canonical_text p.authority) (canon (path.text p.path)) (option_map canon p.query) (option_map canon p.fragment)
-canonical_cut p v = cut_again (canonical_text p) (option_map scheme.canonical_text p.scheme) (option_map authority.canonical_text p.authority) (canon (path.text p.path)) (option_map canon p.query) (option_map canon p.fragment) (record {
-  is_scheme = scheme_canonical p.scheme v.is_scheme;
-  is_authority = authority_canonical p.authority v.is_authority;
-  is_path = is_path-canon (path.text p.path) (valid_placed p v).is_path;
-  abempty = present authority.canonical_text p.authority (λ there. abempty-canon (path.text p.path) ∙ (valid_placed p v).abempty there);
-  fit = rw (mapped scheme.canonical_text p.scheme, mapped authority.canonical_text p.authority) (refusal-canon (is_some p.scheme) (is_some p.authority) (path.text p.path) ∙ v.fit);
-  is_query = query_canonical p.query v.is_query;
-}) refl
+pub canonical_cut : (p : Parts) → Valid p
+    → IsCutInto (canonical_text p) (option_map scheme.canonical_text p.scheme) (option_map authority.canonical_text p.authority) (canon (path.text p.path))
+    (option_map canon p.query) (option_map canon p.fragment)
+canonical_cut p v = cut_again (canonical_text p) (option_map scheme.canonical_text p.scheme) (option_map authority.canonical_text p.authority)
+    (canon (path.text p.path)) (option_map canon p.query) (option_map canon p.fragment) (record {
+      is_scheme = scheme_canonical p.scheme v.is_scheme;
+      is_authority = authority_canonical p.authority v.is_authority;
+      is_path = is_path-canon (path.text p.path) (valid_placed p v).is_path;
+      abempty = present authority.canonical_text p.authority (λ there. abempty-canon (path.text p.path) ∙ (valid_placed p v).abempty there);
+      fit = rw (mapped scheme.canonical_text p.scheme, mapped authority.canonical_text p.authority)
+          (refusal-canon (is_some p.scheme) (is_some p.authority) (path.text p.path) ∙ v.fit);
+      is_query = query_canonical p.query v.is_query;
+    }) refl
 
 -- ---- references that print alike
 
@@ -155,7 +160,9 @@ same_scheme (Some s) (Some r) v w e =
     let texts : scheme.text s ≡ scheme.text r = cc in
     ap Some (schemes.one_scheme (scheme.text s) s r (schemes.spells_back s v) (subst (λ t. scheme.Spells t r) (sym texts) (schemes.spells_back r w)))
 
-same_authority : (a b : Option AuthorityParts) → IfSome a authority.Valid → IfSome b authority.Valid → option_map authority.print a ≡ option_map authority.print b → option_map authority.kind a ≡ option_map authority.kind b → option_map authority.canonical_text a ≡ option_map authority.canonical_text b
+same_authority : (a b : Option AuthorityParts) → IfSome a authority.Valid → IfSome b authority.Valid
+    → option_map authority.print a ≡ option_map authority.print b → option_map authority.kind a ≡ option_map authority.kind b
+    → option_map authority.canonical_text a ≡ option_map authority.canonical_text b
 same_authority None None v w e k = refl
 same_authority None (Some b) v w e k = absurd (cc)
 same_authority (Some a) None v w e k = absurd (cc)
@@ -173,7 +180,16 @@ alike p q v w e k =
     let h : path.text p.path ≡ path.text q.path = sym x.path ∙ ap path_text e ∙ y.path in
     let r : p.query ≡ q.query = sym x.query ∙ ap query_text e ∙ y.query in
     let f : p.fragment ≡ q.fragment = sym x.fragment ∙ ap fragment_text e ∙ y.fragment in
-    record { spelling = rw (same_scheme p.scheme q.scheme v.is_scheme w.is_scheme s, same_authority p.authority q.authority v.is_authority w.is_authority a k, h, r, f) refl; kinds = k }
+    record {
+      spelling = rw (
+        same_scheme p.scheme q.scheme v.is_scheme w.is_scheme s,
+        same_authority p.authority q.authority v.is_authority w.is_authority a k,
+        h,
+        r,
+        f,
+      ) refl;
+      kinds = k;
+    }
 
 -- ---- one key, and the test of the parts one by one
 
@@ -196,7 +212,10 @@ same_key p q = (
   (λ s. rw (s.spelling, s.kinds) refl),
 )
 
-authority_keys : (a b : Option AuthorityParts) → (option_map authority.key a ≡ option_map authority.key b) ↔ ((option_map authority.canonical_text a ≡ option_map authority.canonical_text b) × (kind_code (option_map authority.kind a) ≡ kind_code (option_map authority.kind b)))
+authority_keys : (a b : Option AuthorityParts)
+    → (option_map authority.key a ≡ option_map authority.key b)
+    ↔ ((option_map authority.canonical_text a ≡ option_map authority.canonical_text b)
+    × (kind_code (option_map authority.kind a) ≡ kind_code (option_map authority.kind b)))
 authority_keys None None = ((λ e. (refl, refl)), (λ e. refl))
 authority_keys None (Some b) = ((λ e. absurd (cc)), (λ e. let no = e.0 in absurd (cc)))
 authority_keys (Some a) None = ((λ e. absurd (cc)), (λ e. let no = e.0 in absurd (cc)))
@@ -226,7 +245,8 @@ from_key p q v w e =
     let texts : canonical_text p ≡ canonical_text q = cc in
     let x = canonical_cut p v in
     let y = canonical_cut q w in
-    let a : option_map authority.canonical_text p.authority ≡ option_map authority.canonical_text q.authority = sym x.authority ∙ ap authority_text texts ∙ y.authority in
+    let a : option_map authority.canonical_text p.authority ≡ option_map authority.canonical_text q.authority = sym x.authority ∙ ap authority_text texts
+    ∙ y.authority in
     and_from _ _ ((same_option scheme.canonical_text p.scheme q.scheme).1 (sym x.scheme ∙ ap scheme_text texts ∙ y.scheme))
     (and_from _ _ ((same_option authority.key p.authority q.authority).1 ((authority_keys p.authority q.authority).1 (a, codes)))
     (and_from _ _ ((bytes_eq-Decides (canon (path.text p.path)) (canon (path.text q.path))).1 (sym x.path ∙ ap path_text texts ∙ y.path))
@@ -235,52 +255,3 @@ from_key p q v w e =
 
 pub tested : (p q : Parts) → Valid p → Valid q → each_alike p q ≡ bytes_eq (key p) (key q)
 tested p q v w = same_from_decides (each_alike p q) (bytes_eq (key p) (key q)) (to_key p q, from_key p q v w) (bytes_eq-Decides (key p) (key q))
-
--- ---- what a hasher is fed, part by part
-
-fed_authority : (a : Option AuthorityParts) → option (λ t. authority.fed (kind_code (option_map authority.kind a) ∷ t)) (option_map authority.canonical_text a) ≡ option (λ b. authority.fed (authority.key b)) a
-fed_authority None = refl
-fed_authority (Some a) = refl
-
-fed_cut : (code : ℕ) (t : List ℕ) (s a : Option (List ℕ)) (h : List ℕ) (q f : Option (List ℕ)) → IsCutInto t s a h q f → fed (code ∷ t) ≡ fed_pieces code s a h q f
-fed_cut code t s a h q f cut =
-    ap (λ x. fed_pieces code x (authority_text t) (path_text t) (query_text t) (fragment_text t)) cut.scheme
-    ∙ ap (λ x. fed_pieces code s x (path_text t) (query_text t) (fragment_text t)) cut.authority
-    ∙ ap (λ x. fed_pieces code s a x (query_text t) (fragment_text t)) cut.path
-    ∙ ap (λ x. fed_pieces code s a h x (fragment_text t)) cut.query
-    ∙ ap (λ x. fed_pieces code s a h q x) cut.fragment
-
-pub fed_parts : (p : Parts) → Valid p → fed (key p)
-    ≡ option (λ s. fed_spelling (scheme.canonical_text s)) p.scheme
-    ++ (option (λ a. authority.fed (authority.key a)) p.authority
-    ++ (fed_spelling (canon (path.text p.path))
-    ++ (option (λ q. fed_spelling (canon q)) p.query
-    ++ option (λ f. fed_spelling (canon f)) p.fragment)))
-fed_parts p v =
-    fed_cut (kind_code (kind p)) (canonical_text p) (option_map scheme.canonical_text p.scheme) (option_map authority.canonical_text p.authority) (canon (path.text p.path)) (option_map canon p.query) (option_map canon p.fragment) (canonical_cut p v)
-    ∙ rw (fed_option scheme.canonical_text fed_spelling p.scheme, fed_authority p.authority, fed_option canon fed_spelling p.query, fed_option canon fed_spelling p.fragment) refl
-
--- five lists of writes, one after another
-fed_in_turn : {S : Type 0} (write : S → List ℕ → S) (s : S) (a b c d e : HashWrites) → fold write (fold write (fold write (fold write (fold write s a) b) c) d) e ≡ fold write s (a ++ (b ++ (c ++ (d ++ e))))
-fed_in_turn write s a b c d e =
-    sym (fold-append write s a (b ++ (c ++ (d ++ e)))
-    ∙ fold-append write (fold write s a) b (c ++ (d ++ e))
-    ∙ fold-append write (fold write (fold write s a) b) c (d ++ e)
-    ∙ fold-append write (fold write (fold write (fold write s a) b) c) d e)
-
--- the parts are fed one after another
-pub fed_by_turns : {S : Type 0} (write : S → List ℕ → S) (s₀ s₁ s₂ s₃ s₄ s₅ : S) (p : Parts) → Valid p
-    → s₁ ≡ fold write s₀ (option (λ s. fed_spelling (scheme.canonical_text s)) p.scheme)
-    → s₂ ≡ fold write s₁ (option (λ a. authority.fed (authority.key a)) p.authority)
-    → s₃ ≡ fold write s₂ (fed_spelling (canon (path.text p.path)))
-    → s₄ ≡ fold write s₃ (option (λ q. fed_spelling (canon q)) p.query)
-    → s₅ ≡ fold write s₄ (option (λ f. fed_spelling (canon f)) p.fragment)
-    → s₅ ≡ fold write s₀ (fed (key p))
-fed_by_turns write s₀ s₁ s₂ s₃ s₄ s₅ p v a b c d e =
-    rw (e, d, c, b, a) (fed_in_turn write s₀
-    (option (λ s. fed_spelling (scheme.canonical_text s)) p.scheme)
-    (option (λ x. authority.fed (authority.key x)) p.authority)
-    (fed_spelling (canon (path.text p.path)))
-    (option (λ q. fed_spelling (canon q)) p.query)
-    (option (λ f. fed_spelling (canon f)) p.fragment)
-    ∙ sym (ap (fold write s₀) (fed_parts p v)))

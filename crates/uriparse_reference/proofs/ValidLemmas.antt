@@ -1,9 +1,8 @@
 -- What is spelled is valid, and what a valid reference prints spells it.
-use Rattle.std.proofs.Common.{◌≡◌, ℕ, Bool, true, false, cond, List, [], drop, Option, Some, None, refl, sym, ap, ◌∙◌, subst, ◌&&◌}
+use Rattle.std.proofs.Common.{◌≡◌, ℕ, Bool, true, false, cond, List, drop, Option, Some, None, refl, sym, ap, ◌∙◌, subst, ◌&&◌}
 use Rattle.std.specs.Prelude.{not, IfSome, is_some}
 use Rattle.std.specs.Option.{option_map}
 use Rattle.std.proofs.lemmas.Bool.{false≢true}
-use Rattle.uriparse_text.specs.Bytes.{slash}
 use Rattle.uriparse_text.specs.Readings.{IfPresent}
 use Rattle.uriparse_path.specs.Path.{PathParts, IsPath, IsListed}
 use Rattle.uriparse_path.specs.Path as path
@@ -15,7 +14,6 @@ use Rattle.uriparse_scheme.specs.declared.scheme.Scheme.{Scheme}
 use Rattle.uriparse_scheme.specs.Scheme as scheme
 use Rattle.uriparse_scheme.proofs.SchemeLemmas as schemes
 use Rattle.uriparse_reference.specs.Reference.{Parts, is_abempty, path_refusal, path_of, hides_root, Spells, Valid, ReadsBack, Same, print}
-use Rattle.uriparse_reference.specs.Cuts.{scheme_text, authority_text, path_text}
 use Rattle.uriparse_reference.proofs.ReferenceLemmas.{scheme_back, authority_back}
 
 -- ---- what a valid reference's path is, told by its text
@@ -50,7 +48,8 @@ valid_placed p v =
     make : Bool → PathParts → PathParts
     make v h = record { absolute = v; segments = h.segments }
 
-    by_authority : (a : Option AuthorityParts) → IfSome a (λ _. p.path.absolute ≡ true) → (h : PathParts) → path.spelled (path.text p.path) ≡ p.path → p.path ≡ path_of (is_some a) (path.text p.path)
+    by_authority : (a : Option AuthorityParts) → IfSome a (λ _. p.path.absolute ≡ true) → (h : PathParts) → path.spelled (path.text p.path) ≡ p.path
+        → p.path ≡ path_of (is_some a) (path.text p.path)
     by_authority None h q e = sym e
     by_authority (Some a) h q e = ap (λ v. make v p.path) h ∙ sym (ap (make true) e)
 
@@ -88,7 +87,8 @@ back p v r =
 pub plain_spelled : (h : List ℕ) → IsPath h → hides_root (path.spelled h) ≡ false
 plain_spelled h is = by_flag (hides_root (path.spelled h)) refl (sym (spelled-text (path.spelled h) is) ∙ ap path.spelled (text-spelled h))
   where
-    by_flag : (v : Bool) → hides_root (path.spelled h) ≡ v → cond {A = PathParts} v (record { absolute = true; segments = drop 1 (path.spelled h).segments }) (path.spelled h) ≡ path.spelled h → v ≡ false
+    by_flag : (v : Bool) → hides_root (path.spelled h) ≡ v
+        → cond {A = PathParts} v (record { absolute = true; segments = drop 1 (path.spelled h).segments }) (path.spelled h) ≡ path.spelled h → v ≡ false
     by_flag false e k = refl
     by_flag true e k = absurd (false≢true (sym (ap (λ b. not b && path.hides_root (path.spelled h).segments) (sym (ap (λ q. q.absolute) k))) ∙ e))
 
@@ -113,7 +113,12 @@ pub record HasPlace (v w : Bool) (h : PathParts) : Type 0 where
 
 pub placed_text : (v w : Bool) (h : List ℕ) → IsPath h → path_refusal v w h ≡ None → HasPlace v w (path_of w h)
 placed_text v true h i k = record { is_path = i; absolute = λ _. refl; plain = refl; fit = refl }
-placed_text v false h i k = record { is_path = i; absolute = λ e. absurd (false≢true e); plain = plain_spelled h i; fit = ap (path_refusal v false) (text-spelled h) ∙ k }
+placed_text v false h i k = record {
+  is_path = i;
+  absolute = λ e. absurd (false≢true e);
+  plain = plain_spelled h i;
+  fit = ap (path_refusal v false) (text-spelled h) ∙ k;
+}
 
 pub valid : (t : List ℕ) (p : Parts) → Spells t p → Valid p
 valid t p s =
@@ -121,7 +126,16 @@ valid t p s =
     let y = authority_valid s.authority_text p.authority s.is_authority in
     let i = placed_text (is_some s.scheme_text) (is_some s.authority_text) s.path_text s.is_path s.fit in
     let z : HasPlace (is_some p.scheme) (is_some p.authority) p.path = rw (sym x.1, sym y.1, s.path) i in
-    record { is_scheme = x.0; is_authority = y.0; is_path = z.is_path; absolute = flag p.authority z.absolute; plain = z.plain; fit = z.fit; is_query = s.is_query; is_fragment = s.is_fragment }
+    record {
+      is_scheme = x.0;
+      is_authority = y.0;
+      is_path = z.is_path;
+      absolute = flag p.authority z.absolute;
+      plain = z.plain;
+      fit = z.fit;
+      is_query = s.is_query;
+      is_fragment = s.is_fragment;
+    }
   where
     flag : {Q : Type 0} (a : Option AuthorityParts) → (is_some a ≡ true → Q) → IfSome a (λ _. Q)
     flag None h = tt

@@ -20,12 +20,12 @@ abbrev pub ends_scheme : ℕ → Bool
 ends_scheme b = b == colon || ends_authority b
 
 -- the one where there is no scheme, the other where there is
-abbrev pub left : Option (List ℕ) → List ℕ → List ℕ → List ℕ
-left None t u = t
-left (Some s) t u = u
+abbrev pub unless_scheme : Option (List ℕ) → List ℕ → List ℕ → List ℕ
+unless_scheme None t u = t
+unless_scheme (Some s) t u = u
 
 abbrev pub after_scheme : List ℕ → List ℕ
-after_scheme t = left (scheme_text t) t (rest colon t)
+after_scheme t = unless_scheme (scheme_text t) t (rest colon t)
 
 -- Behind two slashes the authority runs to the first "/", "?", "#" or the end.
 abbrev pub cut_authority : List ℕ → Option (List ℕ)

@@ -1,5 +1,5 @@
 -- Worked examples: texts, and the texts of their normal forms and targets.
-use Rattle.std.specs.Prelude.{ℕ, Bool, false, List, [], ◌∷◌, Option, Some, None, Result, Ok, Err, bytes_eq, codes}
+use Rattle.std.specs.Prelude.{ℕ, Bool, List, [], ◌∷◌, Option, Some, None, Result, Ok, Err, bytes_eq, codes}
 use Rattle.std.specs.Option.{option_map, option_and_then, option_eq}
 use Rattle.std.specs.List.{list_all}
 use Rattle.uriparse_reference.specs.Reference.{Parts, print}

@@ -20,19 +20,27 @@ kind_code (Some k) = host.kind_code k
 abbrev pub key : Parts → List ℕ
 key p = kind_code (kind p) ∷ canonical_text p
 
--- what a hasher is fed for these pieces of a canonical text, with the code of the host's kind
-abbrev pub fed_pieces : ℕ → Option (List ℕ) → Option (List ℕ) → List ℕ → Option (List ℕ) → Option (List ℕ) → HashWrites
-fed_pieces code s a h q f =
-    option fed_spelling s
-    ++ (option (λ t. authority.fed (code ∷ t)) a
-    ++ (fed_spelling h
-    ++ (option fed_spelling q
-    ++ option fed_spelling f)))
+-- what a hasher is fed: each part in turn
+abbrev pub fed : Parts → HashWrites
+fed p =
+    option (λ s. fed_spelling (scheme.canonical_text s)) p.scheme
+    ++ (option authority.fed p.authority
+    ++ (fed_spelling (canon (path.text p.path))
+    ++ (option (λ t. fed_spelling (canon t)) p.query
+    ++ option (λ t. fed_spelling (canon t)) p.fragment)))
 
--- what a hasher is fed for the reference with this key: the pieces into which the canonical text is cut
-abbrev pub fed : List ℕ → HashWrites
-fed [] = []
-fed (code ∷ t) = fed_pieces code (scheme_text t) (authority_text t) (path_text t) (query_text t) (fragment_text t)
+-- the same, told by the key alone: for these pieces of the canonical text, with the code of the host's kind
+abbrev pub fed_pieces : ℕ → Option (List ℕ) → Option (List ℕ) → List ℕ → Option (List ℕ) → Option (List ℕ) → HashWrites
+fed_pieces code scheme_piece authority_piece path_piece query_piece fragment_piece =
+    option fed_spelling scheme_piece
+    ++ (option (λ t. authority.fed_key (code ∷ t)) authority_piece
+    ++ (fed_spelling path_piece
+    ++ (option fed_spelling query_piece
+    ++ option fed_spelling fragment_piece)))
+
+abbrev pub fed_key : List ℕ → HashWrites
+fed_key [] = []
+fed_key (code ∷ t) = fed_pieces code (scheme_text t) (authority_text t) (path_text t) (query_text t) (fragment_text t)
 
 -- whether each part is spelled like the other's, and the hosts are of one kind
 abbrev pub each_alike : Parts → Parts → Bool

@@ -1,7 +1,7 @@
 -- What reading a text as a reference gives: its parts, or the fault of the first piece that has one.
 use Rattle.std.specs.Prelude.{ℕ, Bool, List, Option, Result, Ok, is_some}
 use Rattle.std.specs.Option.{option_map}
-use Rattle.uriparse_text.specs.Readings.{◌>>=◌, of_piece, if_present, error_of, unless_fault}
+use Rattle.uriparse_text.specs.Readings.{◌>>=◌, of_piece, if_present, fault_in, unless_fault}
 use Rattle.uriparse_text.specs.Query as query
 use Rattle.uriparse_text.specs.Fragment as fragment
 use Rattle.uriparse_path.specs.declared.path.error.PathError.{PathError}
@@ -29,10 +29,10 @@ reading t = do
 
 -- the fault of a text
 abbrev pub fault : List ℕ → Option URIReferenceError
-fault t = error_of (reading t)
+fault t = fault_in (reading t)
 
 -- the fault of the authority or the path: it is told whatever memory there is
 abbrev pub early_fault : List ℕ → Option URIReferenceError
 early_fault t =
-    error_of (of_piece errors.Authority (if_present authority.reading (authority_text t))
+    fault_in (of_piece errors.Authority (if_present authority.reading (authority_text t))
     >>= λ _. of_piece errors.Path (path.reading (path_text t)))

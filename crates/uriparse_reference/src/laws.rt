@@ -3,7 +3,8 @@
 ghost use Rattle.std.specs.Prelude.{◌≡◌, ◌↔◌, ◌⊎◌, ◌<◌, ◌≤◌, ◌∷◌, ◌++◌, ℕ, List, [], Option, None, Some, Ok, IfSome, is_some, length, true, false, codes};
 ghost use Rattle.uriparse_text.specs.Bytes.{slash, question_mark, number_sign};
 ghost use Rattle.uriparse_text.specs.Cuts.{lacks, none_pass};
-ghost use Rattle.uriparse_path.specs.Path.{max_segments, pieces};
+ghost use Rattle.uriparse_path.specs.Path.{max_segments, pieces, spelled, text};
+ghost use Rattle.uriparse_path.specs.Merge.{merged};
 ghost use Rattle.uriparse_path.specs.Dots.{LacksSlash};
 ghost use Rattle.uriparse_authority.specs.Authority.{ends_authority};
 ghost use Rattle.uriparse_scheme.specs.Scheme.{is_scheme};
@@ -12,7 +13,7 @@ ghost use Rattle.uriparse_reference.specs.Cuts.{scheme_text, authority_text, pat
 ghost use Rattle.uriparse_reference.specs.Edits.{IsWant, Run, edited, of_parts, replaced};
 ghost use Rattle.uriparse_reference.specs.Builder.{built, held};
 ghost use Rattle.uriparse_reference.specs.Examples.{are_equal, hold, is_normalised, normal_form_rows, normalised, normalised_first, normal_rows, relative_form_rows, abnormal_rows, resolved, resolved_first, rfc_base};
-ghost use Rattle.uriparse_reference.specs.Key.{key};
+ghost use Rattle.uriparse_reference.specs.Key.{fed, fed_key, key};
 ghost use Rattle.uriparse_reference.specs.declared.uri_reference.edit.Edit.{Edit};
 ghost use Rattle.uriparse_reference.specs.declared.uri_reference.error.URIReferenceError.{URIReferenceError};
 ghost use Rattle.uriparse_reference.specs.Reading.{reading, fault};
@@ -50,9 +51,11 @@ pub fn reading_back()
 {}
 
 /// Two references have one key exactly where they are the same: where their canonical texts agree,
-/// and they have no host or hosts of one kind.
+/// and they have no host or hosts of one kind. What a Hasher is fed for a valid one, part by part, is
+/// told by the key alone.
 pub fn one_key()
-    ensures { (p q : Parts) → (key p ≡ key q) ↔ Same p q }
+    ensures same { (p q : Parts) → (key p ≡ key q) ↔ Same p q }
+    ensures fed { (p : Parts) → Valid p → fed_key (key p) ≡ fed p }
 {}
 
 /// The normal form of a valid reference is valid, its own normal form, and has a host of the same
@@ -76,6 +79,14 @@ pub fn one_target()
     ensures none { (b r : Parts) → (target b r ≡ None) ↔ ((is_merged r ≡ true) × (max_segments < length (pieces (merge b r)))) }
     ensures last_slash { (t s : List ℕ) → LacksSlash s → through_last_slash (t ++ slash ∷ s) ≡ t ++ slash ∷ [] }
     ensures no_slash { (s : List ℕ) → LacksSlash s → through_last_slash s ≡ [] }
+{}
+
+/// Where paths are merged, section 5.2.3's text is that of the base's segments but for the last one and
+/// then the reference's, and spells these.
+pub fn one_merge()
+    ensures text { (b r : Parts) → Valid b → Valid r → is_merged r ≡ true → merge b r ≡ text (merged b.path r.path) }
+    ensures path { (b r : Parts) → Valid b → Valid r → is_merged r ≡ true → spelled (merge b r) ≡ merged b.path r.path }
+    ensures row { through_last_slash (codes "/b/c//d;p") ++ codes "../g" ≡ text (merged (spelled (codes "/b/c//d;p")) (spelled (codes "../g"))) }
 {}
 
 /// References that are the same have the same target behind bases that are, or both have none, and

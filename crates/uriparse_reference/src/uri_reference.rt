@@ -1,12 +1,12 @@
 //! A URI reference: RFC 3986, section 4.1.
-ghost use Rattle.std.specs.Prelude.{◌≡◌, ◌⊎◌, ℕ, List, IfOk, IfErr, Ok, Err, Some, bytes_eq, is_some, option_copied, string_bytes};
+ghost use Rattle.std.specs.Prelude.{◌≡◌, ◌⊎◌, ℕ, List, IfOk, IfErr, Ok, Err, Some, bytes_eq, fold, is_some, option_copied, string_bytes};
 ghost use Rattle.std.proofs.Common.{rules};
 ghost use Rattle.std.specs.Ordering.{on};
 ghost use Rattle.std.specs.Cmp.Rules.{comparing, hashing};
 ghost use Rattle.uriparse_text.specs.Readings.{IsUnless};
 ghost use Rattle.uriparse_path.specs.declared.path.error.PathError.TheVariants.{OutOfMemory};
 ghost use Rattle.uriparse_reference.specs.declared.uri_reference.error.URIReferenceError.TheVariants as errors;
-ghost use Rattle.uriparse_reference.specs.Key.{each_alike, fed, key};
+ghost use Rattle.uriparse_reference.specs.Key.{each_alike, fed, fed_key, key};
 ghost use Rattle.uriparse_reference.specs.Reading.{reading, fault, early_fault};
 ghost use Rattle.uriparse_reference.specs.Reference.{host_of, password_of, port_of, print, username_of};
 
@@ -39,10 +39,20 @@ pub use error::URIReferenceError;
 use print::{write_authority, write_behind, write_scheme};
 use read::{check_path, cut, read_authority_if, read_fragment_if, read_path, read_query_if};
 
-/// A URI reference, seen as its five parts.
+/// A URI reference, seen as its five parts: a URI or a relative reference. RFC 3986, section 4.1.
 ///
-/// Two references are equal where their hosts, if they have any, are of one kind and the canonical
-/// spellings of their texts agree. Dot segments count.
+/// Its parts borrow the text that it was read from, or own their texts; only the list of the path's
+/// segments takes memory. Each value is valid, and what it prints reads back as an equal value, but
+/// where its host is a name that spells an IPv4 address, as none is that was read. Two references are
+/// equal where their hosts, if they have any, are of one kind and the canonical spellings of their
+/// texts agree. Dot segments count.
+///
+/// ```
+/// let reference = URIReference::try_from_str(alloc, "//h/%7Ea?q#f")?;
+/// assert!(reference.has_authority() && reference.scheme().is_none());
+/// assert!(reference == URIReference::try_from_str(alloc, "//H/~a?q#f")?);
+/// assert_eq!(reference.to_string(alloc)?.as_str(), "//h/%7Ea?q#f");
+/// ```
 #[derive(Drop)]
 pub struct URIReference<'r> {
     scheme: Option<Scheme<'r>>,
@@ -275,11 +285,14 @@ impl<'r> Eq for URIReference<'r> {
 }
 
 impl<'r> Hash for URIReference<'r> {
-    ghost hash_input = { λ r. fed (key r) };
+    ghost hash_input = { λ r. fed_key (key r) };
 
     ghost respects_eq = { Prim.search (hashing, rules) };
 
-    fn hash<H: Hasher>(&self, state: &mut H) {
+    fn hash<H: Hasher>(&self, state: &mut H)
+        ensures fed { state.new ≡ fold H.write state.old (fed self.now) }
+        ensures key { state.new ≡ fold H.write state.old (fed_key (key self.now)) }
+    {
         self.scheme.hash(state);
         self.authority.hash(state);
         self.path.hash(state);

@@ -1,5 +1,5 @@
 pub mod GrammarLemmas
-pub mod Sorted
+pub mod SortedLemmas
 pub mod TableLemmas
 pub mod SchemeLemmas
 pub mod NormalLemmas

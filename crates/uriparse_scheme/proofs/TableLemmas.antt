@@ -20,7 +20,7 @@ use Rattle.uriparse_scheme.specs.SchemeTable.{row_of, variants}
 use Rattle.uriparse_scheme.specs.Registered.{names, registered_named, name_of}
 use Rattle.uriparse_scheme.specs.Grammar.{is_scheme}
 use Rattle.uriparse_scheme.proofs.GrammarLemmas.{canon_low_of_scheme}
-use Rattle.uriparse_scheme.proofs.Sorted.{names_sorted, sorted_at}
+use Rattle.uriparse_scheme.proofs.SortedLemmas.{names_sorted, sorted_at}
 
 -- ---- each row, one by one: the first clause splits the rest into a case a row
 

@@ -27,6 +27,16 @@ pub fn printed<T: Display + Drop>(alloc: Global, value: T) -> Answer {
     format!(in alloc; "{value}")
 }
 
+/// What a value prints, which no option of the formatter changes.
+pub fn shown<T: Display>(alloc: Global, value: &T) -> Answer {
+    let text = format!(in alloc; "{value}")?;
+    let styled = format!(in alloc; "{value:>70.3}")?;
+    if styled == text {
+        return Ok(text);
+    }
+    said(alloc, "another text under options")
+}
+
 /// What is printed by what was read or made, or by the refusal.
 pub fn told<T: Display + Drop, E: Display + Drop>(alloc: Global, made: Result<T, E>) -> Answer {
     match made {

@@ -1,13 +1,12 @@
 //! Authorities.
 
-use crate::answer::{Answer, printed, said, told, word};
+use crate::answer::{Answer, printed, said, shown, told, word};
 use crate::component::{same, same_as};
 use crate::hosts::kind_of;
 use std::alloc::{AllocError, Global};
 use std::fmt::{Display, Write};
-use uriparse_authority::authority::{
-    Authority, AuthorityError, Host, Password, Username, parse_port,
-};
+use uriparse::authority::parse_port;
+use uriparse::{Authority, AuthorityError, Host, Password, Username};
 
 fn copied(alloc: Global, authority: &Authority<'_>) -> Answer {
     authority.as_borrowed().into_owned(alloc)?.to_string(alloc)
@@ -53,7 +52,7 @@ fn listed(alloc: Global, authority: &Authority<'_>) -> Answer {
 /// The answer to a question about this authority.
 fn asked_of(alloc: Global, command: &str, authority: &Authority<'_>, other: &str) -> Answer {
     match command {
-        "authority" => authority.to_string(alloc),
+        "authority" => shown(alloc, authority),
         "authorities" => compared(alloc, authority, other),
         "borrowed-authority" => same(alloc, authority, &authority.as_borrowed()),
         "copied-authority" => copied(alloc, authority),
@@ -130,7 +129,7 @@ fn change<'t>(authority: &mut Authority<'t>, command: &str, other: &'t str) -> b
 
 fn told_if(alloc: Global, accepted: bool, authority: &Authority<'_>) -> Answer {
     if accepted {
-        return authority.to_string(alloc);
+        return shown(alloc, authority);
     }
     said(alloc, "refused")
 }

@@ -1,13 +1,12 @@
 //! What the components have in common: those that hold one text.
 
-use crate::answer::{Answer, printed, said, verdict};
+use crate::answer::{Answer, printed, said, shown, verdict};
 use std::alloc::{AllocError, Global};
 use std::fmt::Display;
 use std::hash::{DefaultHasher, Hash, Hasher};
-use uriparse_authority::authority::RegisteredName;
-use uriparse_path::path::Segment;
-use uriparse_scheme::scheme::{Scheme, UnregisteredScheme};
-use uriparse_text::parts::{Kind, Text};
+use uriparse::{
+    Fragment, Password, Query, RegisteredName, Scheme, Segment, UnregisteredScheme, Username,
+};
 
 /// The calls that each component has.
 pub trait Component: Display + Eq + Hash + Drop {
@@ -30,7 +29,7 @@ pub trait Component: Display + Eq + Hash + Drop {
 /// The text, where all calls that give it agree.
 fn told<T: Component>(alloc: Global, value: &T) -> Answer {
     let text = value.copied(alloc)?;
-    let shown = format!(in alloc; "{value}")?;
+    let shown = shown(alloc, value)?;
     if shown == text && value.texts() == (text.as_str(), text.as_bytes()) {
         return Ok(text);
     }
@@ -121,7 +120,73 @@ pub fn compared<T: Component, E: Drop, F: Drop>(
     }
 }
 
-impl<'t, K: Kind> Component for Text<'t, K> {
+impl<'q> Component for Query<'q> {
+    fn texts(&self) -> (&str, &[u8]) {
+        (self.as_str(), self.as_bytes())
+    }
+
+    fn is_text(&self, text: &str) -> (bool, bool) {
+        (self.eq_str(text), self.eq_bytes(text.as_bytes()))
+    }
+
+    fn copied(&self, alloc: Global) -> Answer {
+        self.as_borrowed().into_owned(alloc)?.to_string(alloc)
+    }
+
+    fn is_normal(&self) -> bool {
+        self.is_normalized()
+    }
+
+    fn make_normal(&mut self, alloc: Global) -> Result<(), AllocError> {
+        self.normalize(alloc)
+    }
+}
+
+impl<'f> Component for Fragment<'f> {
+    fn texts(&self) -> (&str, &[u8]) {
+        (self.as_str(), self.as_bytes())
+    }
+
+    fn is_text(&self, text: &str) -> (bool, bool) {
+        (self.eq_str(text), self.eq_bytes(text.as_bytes()))
+    }
+
+    fn copied(&self, alloc: Global) -> Answer {
+        self.as_borrowed().into_owned(alloc)?.to_string(alloc)
+    }
+
+    fn is_normal(&self) -> bool {
+        self.is_normalized()
+    }
+
+    fn make_normal(&mut self, alloc: Global) -> Result<(), AllocError> {
+        self.normalize(alloc)
+    }
+}
+
+impl<'u> Component for Username<'u> {
+    fn texts(&self) -> (&str, &[u8]) {
+        (self.as_str(), self.as_bytes())
+    }
+
+    fn is_text(&self, text: &str) -> (bool, bool) {
+        (self.eq_str(text), self.eq_bytes(text.as_bytes()))
+    }
+
+    fn copied(&self, alloc: Global) -> Answer {
+        self.as_borrowed().into_owned(alloc)?.to_string(alloc)
+    }
+
+    fn is_normal(&self) -> bool {
+        self.is_normalized()
+    }
+
+    fn make_normal(&mut self, alloc: Global) -> Result<(), AllocError> {
+        self.normalize(alloc)
+    }
+}
+
+impl<'p> Component for Password<'p> {
     fn texts(&self) -> (&str, &[u8]) {
         (self.as_str(), self.as_bytes())
     }

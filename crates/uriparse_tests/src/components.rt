@@ -3,9 +3,7 @@
 use crate::answer::{Answer, said, word};
 use crate::component::{compared, normal, read};
 use std::alloc::Global;
-use uriparse_path::path::Segment;
-use uriparse_text::fragment::Fragment;
-use uriparse_text::query::Query;
+use uriparse::{Fragment, Query, Segment};
 
 fn segments(alloc: Global, left: &str, right: &str) -> Answer {
     let a = Segment::try_from_bytes(left.as_bytes());

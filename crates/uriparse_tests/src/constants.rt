@@ -3,7 +3,8 @@ ghost use Rattle.std.specs.Prelude.{◌≡◌};
 ghost use Rattle.uriparse_scheme.specs.declared.scheme.Scheme.TheVariants.{Registered};
 ghost use Rattle.uriparse_scheme.specs.declared.scheme.registered.RegisteredScheme.TheVariants.{Microsoft};
 
-use uriparse_scheme::scheme::{MicrosoftScheme, RegisteredScheme, Scheme};
+use uriparse::Scheme;
+use uriparse::scheme::{MicrosoftScheme, RegisteredScheme};
 
 /// The constant of a scheme whose name begins with `ms-`.
 #[rattlefmt::skip]

@@ -6,8 +6,7 @@ use crate::component::Component;
 use crate::references::compared;
 use std::alloc::{AllocError, Global};
 use std::test::Fail;
-use uriparse_authority::authority::{Authority, Host};
-use uriparse_reference::uri_reference::{URIReference, URIReferenceError};
+use uriparse::{Authority, Host, URIReference, URIReferenceError};
 
 fn is_alphanumeric(b: u8) -> bool {
     matches!(b, b'a'..=b'z' | b'A'..=b'Z' | b'0'..=b'9')

@@ -1,9 +1,9 @@
 //! Hosts and addresses.
 
-use crate::answer::{Answer, printed, said, word};
+use crate::answer::{Answer, printed, said, shown, word};
 use crate::component::same_as;
 use std::alloc::Global;
-use uriparse_authority::authority::{Host, IpAddr, Ipv4Addr, Ipv6Addr};
+use uriparse::{Host, IpAddr, Ipv4Addr, Ipv6Addr};
 
 /// The host's kind, where its three tests agree.
 pub fn kind_of(host: &Host<'_>) -> &'static str {
@@ -19,7 +19,8 @@ pub fn kind_of(host: &Host<'_>) -> &'static str {
 /// The kind and the text.
 fn told(alloc: Global, host: &Host<'_>) -> Answer {
     let kind = kind_of(host);
-    format!(in alloc; "{kind}={host}")
+    let text = shown(alloc, host)?;
+    format!(in alloc; "{kind}={text}")
 }
 
 fn copied(alloc: Global, host: &Host<'_>) -> Answer {

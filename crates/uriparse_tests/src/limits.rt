@@ -4,8 +4,7 @@
 use crate::answer::{Answer, printed, said, verdict, word};
 use crate::{authorities, paths, references, resolutions, users};
 use std::alloc::Global;
-use uriparse_path::path::Path;
-use uriparse_text::query::Query;
+use uriparse::{Path, Query};
 
 /// A word so many times.
 fn repeated(alloc: Global, count: usize, word: &str) -> Answer {

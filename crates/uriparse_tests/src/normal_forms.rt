@@ -3,10 +3,7 @@
 use crate::answer::{Answer, said, word};
 use crate::references::{refused, told};
 use std::alloc::{AllocError, Global};
-use uriparse_path::path::PathError;
-use uriparse_reference::uri_reference::{Edit, URIReference, URIReferenceError};
-use uriparse_text::fragment::Fragment;
-use uriparse_text::query::Query;
+use uriparse::{Edit, Fragment, PathError, Query, URIReference, URIReferenceError};
 
 /// Whether the reference is in normal form.
 fn is_normal(alloc: Global, reference: &URIReference<'_>) -> Answer {

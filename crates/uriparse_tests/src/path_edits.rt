@@ -4,7 +4,8 @@ use crate::answer::{Answer, said, word};
 use crate::paths::{refused, told};
 use std::alloc::Global;
 use std::test::Fail;
-use uriparse_path::path::{MAX_SEGMENTS, Path, PathError, Segment};
+use uriparse::path::MAX_SEGMENTS;
+use uriparse::{Path, PathError, Segment};
 
 /// The path's text after a push, or the refusal, after which the path is to be as it was.
 fn pushed(alloc: Global, answer: Result<(), PathError>, path: &Path<'_>, text: &str) -> Answer {

@@ -1,9 +1,9 @@
 //! Paths.
 
-use crate::answer::{Answer, printed, said, verdict, word};
+use crate::answer::{Answer, printed, said, shown, verdict, word};
 use crate::component::hash_of;
 use std::alloc::{AllocError, Global};
-use uriparse_path::path::{Path, PathError};
+use uriparse::{Path, PathError};
 
 /// The refusal's text, or want of memory.
 pub fn refused(alloc: Global, why: PathError) -> Answer {
@@ -16,7 +16,7 @@ pub fn refused(alloc: Global, why: PathError) -> Answer {
 /// The text, where both calls that give it agree.
 pub fn told(alloc: Global, path: &Path<'_>) -> Answer {
     let text = path.to_string(alloc)?;
-    let shown = format!(in alloc; "{path}")?;
+    let shown = shown(alloc, path)?;
     if shown == text {
         return Ok(text);
     }

@@ -3,12 +3,7 @@
 use crate::answer::{Answer, said, word};
 use crate::references::{refused, told};
 use std::alloc::{AllocError, Global};
-use uriparse_authority::authority::Authority;
-use uriparse_path::path::Path;
-use uriparse_reference::uri_reference::{Edit, URIReference, URIReferenceError};
-use uriparse_scheme::scheme::Scheme;
-use uriparse_text::fragment::Fragment;
-use uriparse_text::query::Query;
+use uriparse::{Authority, Edit, Fragment, Path, Query, Scheme, URIReference, URIReferenceError};
 
 /// The reference's text after an edit, or the refusal, after which it is to be as it was.
 fn settled(

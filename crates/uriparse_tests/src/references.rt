@@ -1,11 +1,10 @@
 //! References.
 
-use crate::answer::{Answer, printed, said, word};
+use crate::answer::{Answer, printed, said, shown, word};
 use crate::authorities::{add, add_authority};
 use crate::component::same_as;
 use std::alloc::{AllocError, Global};
-use uriparse_path::path::PathError;
-use uriparse_reference::uri_reference::{URIReference, URIReferenceError};
+use uriparse::{PathError, URIReference, URIReferenceError};
 
 /// The refusal's text, or want of memory.
 pub fn refused(alloc: Global, why: URIReferenceError) -> Answer {
@@ -18,7 +17,7 @@ pub fn refused(alloc: Global, why: URIReferenceError) -> Answer {
 /// The text, where both calls that give it agree.
 pub fn told(alloc: Global, reference: &URIReference<'_>) -> Answer {
     let text = reference.to_string(alloc)?;
-    let shown = format!(in alloc; "{reference}")?;
+    let shown = shown(alloc, reference)?;
     if shown == text {
         return Ok(text);
     }

@@ -1,6 +1,6 @@
 //! Relative references.
 
-use crate::answer::{Answer, printed, said, word};
+use crate::answer::{Answer, printed, said, shown, word};
 use crate::component::same_as;
 use crate::references::{listed, refused, told};
 use std::alloc::{AllocError, Global};
@@ -20,7 +20,7 @@ pub fn relative_refused(alloc: Global, why: RelativeReferenceError) -> Answer {
 /// The relative reference's text, where all calls that give it agree.
 fn told_relative(alloc: Global, relative: &RelativeReference<'_>) -> Answer {
     let text = told(alloc, relative.as_uri_reference())?;
-    let shown = format!(in alloc; "{relative}")?;
+    let shown = shown(alloc, relative)?;
     if shown == text {
         return Ok(text);
     }

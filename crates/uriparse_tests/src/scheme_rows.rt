@@ -1,9 +1,8 @@
 //! Every registered scheme, written down apart from the library's own table.
 
 use crate::schemes::status_name;
-use uriparse_scheme::scheme::{
-    MicrosoftScheme as Microsoft, RegisteredScheme as Registered, Scheme,
-};
+use uriparse::Scheme;
+use uriparse::scheme::{MicrosoftScheme as Microsoft, RegisteredScheme as Registered};
 
 /// The variants, in the order of the rows.
 #[rattlefmt::skip]

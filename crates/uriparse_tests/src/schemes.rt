@@ -3,7 +3,7 @@
 use crate::answer::{Answer, printed, said, word};
 use crate::component::{compared, normal, read};
 use std::alloc::Global;
-use uriparse_scheme::scheme::{Scheme, SchemeStatus, UnregisteredScheme};
+use uriparse::{Scheme, SchemeStatus, UnregisteredScheme};
 
 fn schemes(alloc: Global, left: &str, right: &str) -> Answer {
     let a = Scheme::try_from_bytes(left.as_bytes());

@@ -1,6 +1,6 @@
 //! URIs.
 
-use crate::answer::{Answer, printed, said, word};
+use crate::answer::{Answer, printed, said, shown, word};
 use crate::component::same_as;
 use crate::references::{listed, refused, told};
 use std::alloc::{AllocError, Global};
@@ -20,7 +20,7 @@ pub fn uri_refused(alloc: Global, why: URIError) -> Answer {
 /// The URI's text, where all calls that give it agree.
 fn told_uri(alloc: Global, uri: &URI<'_>) -> Answer {
     let text = told(alloc, uri.as_uri_reference())?;
-    let shown = format!(in alloc; "{uri}")?;
+    let shown = shown(alloc, uri)?;
     if shown == text {
         return Ok(text);
     }

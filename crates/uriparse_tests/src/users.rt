@@ -3,7 +3,8 @@
 use crate::answer::{Answer, printed, said, word};
 use crate::component::{compared, normal, read};
 use std::alloc::Global;
-use uriparse_authority::authority::{Password, RegisteredName, Username, parse_port};
+use uriparse::authority::parse_port;
+use uriparse::{Password, RegisteredName, Username};
 
 fn usernames(alloc: Global, left: &str, right: &str) -> Answer {
     let a = Username::try_from_bytes(left.as_bytes());

@@ -8,7 +8,7 @@ use Rattle.std.proofs.NetLemmas.Ipv4.{read_ipv4_complete, read_ipv4_sound}
 use Rattle.std.proofs.NetLemmas.Ipv6.{read_ipv6_complete, read_ipv6_sound, EndsGroups-nil, IsDotted-not_colon_hex}
 use Rattle.std.proofs.NetLemmas.Texts.{IsColonHex-ipv6_text}
 use Rattle.uriparse_text.specs.Address.{IsOctets, IsSegments, ipv4_text, ipv6_text, SpellsIpv4, SpellsIpv6, ipv4_reading, ipv6_reading}
-use Rattle.uriparse_text.proofs.AddressGrammar.{spells_from_colon_hex, colon_hex_from_spells}
+use Rattle.uriparse_text.proofs.AddressGrammarLemmas.{spells_from_colon_hex, colon_hex_from_spells}
 use Rattle.uriparse_text.proofs.OctetLemmas.{spells_from_dotted, dotted_from_spells}
 pub use Rattle.uriparse_text.proofs.OctetLemmas.{SpellsIpv4-ipv4_text}
 

@@ -22,10 +22,12 @@ pub canonical_tokens-empty : (case : Case) (text : List ℕ) → text ≡ [] →
 canonical_tokens-empty case text e = ap (canonical_tokens case) e ∙ ap (map (canonical case)) tokens-nil
 
 -- one token more is fed before the rest
-pub feeds_token : {S : Type 0} (write : S → List ℕ → S) (s : S) (ts : List Token) (t : Token) (rest : List Token) → ts ≡ t ∷ rest → fold write s (fed_spelling (flat_map spell ts)) ≡ fold write (fold write s (flat_map fed.u8 (spell t))) (fed_spelling (flat_map spell rest))
+pub feeds_token : {S : Type 0} (write : S → List ℕ → S) (s : S) (ts : List Token) (t : Token) (rest : List Token) → ts ≡ t ∷ rest
+    → fold write s (fed_spelling (flat_map spell ts)) ≡ fold write (fold write s (flat_map fed.u8 (spell t))) (fed_spelling (flat_map spell rest))
 unfolding fed_spelling
 feeds_token write s ts t rest e =
-    let regroup : (spell t ++ flat_map spell rest) ++ 255 ∷ [] ≡ spell t ++ (flat_map spell rest ++ 255 ∷ []) = append_assoc (spell t) (flat_map spell rest) (255 ∷ []) in
+    let regroup : (spell t ++ flat_map spell rest) ++ 255 ∷ [] ≡ spell t ++ (flat_map spell rest ++ 255 ∷ []) =
+    append_assoc (spell t) (flat_map spell rest) (255 ∷ []) in
     ap (λ us. fold write s (flat_map fed.u8 (flat_map spell us ++ 255 ∷ []))) e
     ∙ ap (λ bytes. fold write s (flat_map fed.u8 bytes)) regroup
     ∙ ap (fold write s) (flat_map-append fed.u8 (spell t) (flat_map spell rest ++ 255 ∷ []))
@@ -59,9 +61,12 @@ unfolding is_unreserved
 unreserved_not_percent b h = grind (arith, nat_tests)
 
 -- what holds of both outcomes holds of an escape's canonical form
-pub by_escaped : (case : Case) (high low : ℕ) (P : Token → Type 0) → (is_unreserved (escaped_byte high low) ≡ true → P (Byte (in_case case (escaped_byte high low)))) → (is_unreserved (escaped_byte high low) ≡ false → P (Escape (to_ascii_uppercase high) (to_ascii_uppercase low))) → P (canonical case (Escape high low))
+pub by_escaped : (case : Case) (high low : ℕ) (P : Token → Type 0)
+    → (is_unreserved (escaped_byte high low) ≡ true → P (Byte (in_case case (escaped_byte high low))))
+    → (is_unreserved (escaped_byte high low) ≡ false → P (Escape (to_ascii_uppercase high) (to_ascii_uppercase low))) → P (canonical case (Escape high low))
 by_escaped case high low P f g =
-    cond_both (is_unreserved (escaped_byte high low)) (Byte (in_case case (escaped_byte high low))) (Escape (to_ascii_uppercase high) (to_ascii_uppercase low)) P f g
+    cond_both (is_unreserved (escaped_byte high low)) (Byte (in_case case (escaped_byte high low)))
+    (Escape (to_ascii_uppercase high) (to_ascii_uppercase low)) P f g
 
 -- a canonical form is a token exactly where it is one of a token
 pub is_token-canonical : (case : Case) (t : Token) → has_digits t ≡ true → is_token (canonical case t) ≡ is_token t
@@ -79,7 +84,8 @@ canonical-canonical case (Escape high low) h =
     let both = and_parts _ _ h in
     by_escaped case high low (λ t. canonical case t ≡ t)
     (λ e. ap Byte (in_case_twice case (escaped_byte high low)))
-    (λ e. let same : escaped_byte (to_ascii_uppercase high) (to_ascii_uppercase low) ≡ escaped_byte high low = rw (upper_value high both.0, upper_value low both.1) refl in
+    (λ e. let same : escaped_byte (to_ascii_uppercase high) (to_ascii_uppercase low) ≡ escaped_byte high low =
+    rw (upper_value high both.0, upper_value low both.1) refl in
     cond-false _ _ _ (ap is_unreserved same ∙ e) ∙ rw (upper_twice high, upper_twice low) refl)
 
 -- ---- a text
@@ -118,19 +124,22 @@ unfolding spelling
 spelling-spelling case text h =
     ap (λ ts. flat_map spell (map (canonical case) ts)) (tokens-spelling case text h) ∙ ap (flat_map spell) (twice case (tokens text) h)
 
-pub canonical_tokens-append : (case : Case) (front rest : List ℕ) → is_well_formed front ≡ true → canonical_tokens case (front ++ rest) ≡ canonical_tokens case front ++ canonical_tokens case rest
+pub canonical_tokens-append : (case : Case) (front rest : List ℕ) → is_well_formed front ≡ true
+    → canonical_tokens case (front ++ rest) ≡ canonical_tokens case front ++ canonical_tokens case rest
 canonical_tokens-append case front rest h =
     ap (map (canonical case)) (tokens-append front rest h) ∙ map-append (canonical case) (tokens front) (tokens rest)
 
 -- the canonical spelling of a text that is cut at a border of tokens
-pub spelling-append : (case : Case) (front rest : List ℕ) → is_well_formed front ≡ true → spelling case (front ++ rest) ≡ spelling case front ++ spelling case rest
+pub spelling-append : (case : Case) (front rest : List ℕ) → is_well_formed front ≡ true
+    → spelling case (front ++ rest) ≡ spelling case front ++ spelling case rest
 unfolding spelling
 spelling-append case front rest h =
     ap (flat_map spell) (canonical_tokens-append case front rest h)
     ∙ flat_map-append spell (canonical_tokens case front) (canonical_tokens case rest)
 
 -- however a text is put together from tokens, its canonical spelling is that of these tokens
-pub spelling-concatenation : (case : Case) (ts : List Token) (text : List ℕ) → IsConcatenation ts text → spelling case text ≡ flat_map (λ t. spell (canonical case t)) ts
+pub spelling-concatenation : (case : Case) (ts : List Token) (text : List ℕ) → IsConcatenation ts text
+    → spelling case text ≡ flat_map (λ t. spell (canonical case t)) ts
 unfolding spelling
 spelling-concatenation case ts text is =
     ap (λ us. flat_map spell (map (canonical case) us)) (ap tokens is.whole ∙ tokens_of_concatenation ts is.each) ∙ along ts
@@ -140,7 +149,8 @@ spelling-concatenation case ts text is =
     along (u ∷ us) = ap (λ x. spell (canonical case u) ++ x) (along us)
 
 -- texts have the same canonical tokens exactly where they are spelled alike
-pub same_tokens : (case : Case) (bytes text : List ℕ) → is_well_formed text ≡ true → (canonical_tokens case bytes ≡ canonical_tokens case text) ↔ SpellsAlike case bytes text
+pub same_tokens : (case : Case) (bytes text : List ℕ) → is_well_formed text ≡ true
+    → (canonical_tokens case bytes ≡ canonical_tokens case text) ↔ SpellsAlike case bytes text
 unfolding spelling
 same_tokens case bytes text h = (
   λ e. record {
@@ -155,10 +165,12 @@ pub spells_itself : (case : Case) (bytes text : List ℕ) → is_well_formed tex
 spells_itself case bytes text h e = record { formed = ap is_well_formed e ∙ h; same = ap (spelling case) e }
 
 -- a test of the canonical tokens is one of the canonical spellings
-pub same_from_tokens : (case : Case) (left right : List ℕ) (r : Bool) → is_well_formed left ≡ true → is_well_formed right ≡ true → (IsTrue r ↔ (canonical_tokens case left ≡ canonical_tokens case right)) → r ≡ bytes_eq (spelling case left) (spelling case right)
+pub same_from_tokens : (case : Case) (left right : List ℕ) (r : Bool) → is_well_formed left ≡ true → is_well_formed right ≡ true
+    → (IsTrue r ↔ (canonical_tokens case left ≡ canonical_tokens case right)) → r ≡ bytes_eq (spelling case left) (spelling case right)
 same_from_tokens case left right r h k iff =
     let alike = same_tokens case left right k in
-    same_from_decides r (bytes_eq (spelling case left) (spelling case right)) (λ e. (alike.0 (iff.0 e)).same, λ e. iff.1 (alike.1 (record { formed = h; same = e }))) (bytes_eq-Decides (spelling case left) (spelling case right))
+    same_from_decides r (bytes_eq (spelling case left) (spelling case right))
+    (λ e. (alike.0 (iff.0 e)).same, λ e. iff.1 (alike.1 (record { formed = h; same = e }))) (bytes_eq-Decides (spelling case left) (spelling case right))
 
 -- ---- which texts are canonical
 
@@ -166,7 +178,8 @@ pub spelling-nil : (case : Case) → spelling case [] ≡ []
 unfolding spelling
 spelling-nil case = ap (λ ts. flat_map spell (map (canonical case) ts)) tokens-nil
 
-pub spelling-cons : (case : Case) (rest after : List ℕ) (t : Token) → tokens rest ≡ t ∷ tokens after → spelling case rest ≡ spell (canonical case t) ++ spelling case after
+pub spelling-cons : (case : Case) (rest after : List ℕ) (t : Token) → tokens rest ≡ t ∷ tokens after
+    → spelling case rest ≡ spell (canonical case t) ++ spelling case after
 unfolding spelling
 spelling-cons case rest after t e = ap (λ ts. flat_map spell (map (canonical case) ts)) e
 
@@ -175,7 +188,8 @@ cancel (Byte b) x y h = cc
 cancel (Escape high low) x y h = cc
 
 -- a canonical token more
-pub canonical_more : (case : Case) (rest after : List ℕ) (t : Token) → tokens rest ≡ t ∷ tokens after → rest ≡ spell t ++ after → canonical case t ≡ t → (spelling case after ≡ after) ↔ (spelling case rest ≡ rest)
+pub canonical_more : (case : Case) (rest after : List ℕ) (t : Token) → tokens rest ≡ t ∷ tokens after → rest ≡ spell t ++ after → canonical case t ≡ t
+    → (spelling case after ≡ after) ↔ (spelling case rest ≡ rest)
 canonical_more case rest after t e f g =
     let spelled : spelling case rest ≡ spell t ++ spelling case after = spelling-cons case rest after t e ∙ ap (λ u. spell u ++ spelling case after) g in (
       λ h. spelled ∙ ap (λ u. spell t ++ u) h ∙ sym f,
@@ -196,10 +210,12 @@ token_differs case (Escape high low) x y n h =
     n h
 
 -- a token that isn't
-pub canonical_never : (case : Case) (rest after : List ℕ) (t : Token) → tokens rest ≡ t ∷ tokens after → rest ≡ spell t ++ after → (canonical case t ≡ t → ⊥) → spelling case rest ≡ rest → ⊥
+pub canonical_never : (case : Case) (rest after : List ℕ) (t : Token) → tokens rest ≡ t ∷ tokens after → rest ≡ spell t ++ after → (canonical case t ≡ t → ⊥)
+    → spelling case rest ≡ rest → ⊥
 canonical_never case rest after t e f n h = token_differs case t (spelling case after) after n (sym (spelling-cons case rest after t e) ∙ h ∙ f)
 
 -- the end of a text that is spelled token by token
-pub spelled_more : (case : Case) (done rest after : List ℕ) (t : Token) (whole : List ℕ) → tokens rest ≡ t ∷ tokens after → done ++ spelling case rest ≡ whole → (done ++ spell (canonical case t)) ++ spelling case after ≡ whole
+pub spelled_more : (case : Case) (done rest after : List ℕ) (t : Token) (whole : List ℕ) → tokens rest ≡ t ∷ tokens after → done ++ spelling case rest ≡ whole
+    → (done ++ spell (canonical case t)) ++ spelling case after ≡ whole
 spelled_more case done rest after t whole e h =
     append_assoc done (spell (canonical case t)) (spelling case after) ∙ ap (λ u. done ++ u) (sym (spelling-cons case rest after t e)) ∙ h

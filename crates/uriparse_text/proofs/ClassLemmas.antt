@@ -1,5 +1,6 @@
 -- What a text of a class is known to be.
-use Rattle.std.proofs.Common.{◌≡◌, ℕ, ◌+◌, ◌<◌, ◌≤◌, Bool, true, false, not, cond, nat_lt, List, [], ◌∷◌, map, flat_map, All, IsAscii, IsUtf8, refl, sym, ap, ◌∙◌, subst, arith}
+use Rattle.std.proofs.Common.{◌≡◌, ℕ, ◌+◌, ◌<◌, ◌≤◌, Bool, true, false, not, cond, nat_lt, List, [], ◌∷◌, map, flat_map, All, IsAscii, IsUtf8, refl, sym, ap}
+use Rattle.std.proofs.Common.{◌∙◌, subst, arith}
 use Rattle.std.specs.Prelude.{◌==◌}
 use Rattle.std.specs.List.{list_all}
 use Rattle.std.proofs.lemmas.Bool.{and_from, and_parts, cond_both, false≢true, eqb-true, ltb-true, ltb-false}
@@ -25,7 +26,7 @@ use Rattle.uriparse_text.proofs.FaultLemmas.{percent_not_plain}
 
 -- ---- bytes
 
-unreserved_plain : (class : Class) (b : ℕ) → is_unreserved b ≡ true → is_plain class b ≡ true
+pub unreserved_plain : (class : Class) (b : ℕ) → is_unreserved b ≡ true → is_plain class b ≡ true
 unfolding is_plain
 unreserved_plain Name b h = rw h refl
 unreserved_plain UserInfo b h = rw h refl
@@ -51,7 +52,8 @@ pub in_case_plain : (class : Class) (case : Case) (b : ℕ) → is_plain class b
 in_case_plain class Kept b h = h
 in_case_plain class Lowered b h =
     cond_both (nat_lt b 65) b (cond (nat_lt b 91) (b + 32) b) (λ x. is_plain class x ≡ true) (λ _. h)
-    (λ low. cond_both (nat_lt b 91) (b + 32) b (λ x. is_plain class x ≡ true) (λ high. unreserved_plain class (b + 32) (lowered_unreserved b (ltb-false b 65 low) (ltb-true b 91 high))) (λ _. h))
+    (λ low. cond_both (nat_lt b 91) (b + 32) b (λ x. is_plain class x ≡ true)
+    (λ high. unreserved_plain class (b + 32) (lowered_unreserved b (ltb-false b 65 low) (ltb-true b 91 high))) (λ _. h))
 
 -- ---- tokens
 
@@ -76,7 +78,8 @@ token_ascii : (class : Class) (t : Token) → allows class t ≡ true → All (�
 token_ascii class (Byte b) h = All-cons (λ b. b < 128) b [] (plain_ascii class b h) (All-nil (λ b. b < 128))
 token_ascii class (Escape high low) h =
     let both = and_parts _ _ h in
-    All-cons (λ b. b < 128) percent (high ∷ low ∷ []) (omega arith) (All-cons (λ b. b < 128) high (low ∷ []) (hex_ascii high both.0) (All-cons (λ b. b < 128) low [] (hex_ascii low both.1) (All-nil (λ b. b < 128))))
+    All-cons (λ b. b < 128) percent (high ∷ low ∷ []) (omega arith)
+    (All-cons (λ b. b < 128) high (low ∷ []) (hex_ascii high both.0) (All-cons (λ b. b < 128) low [] (hex_ascii low both.1) (All-nil (λ b. b < 128))))
 
 -- ---- texts
 
@@ -114,14 +117,16 @@ IsAscii-in_class class text h =
 pub IsUtf8-in_class : (class : Class) (text : List ℕ) → IsIn class text → IsUtf8 text
 IsUtf8-in_class class text h = IsUtf8-from_ascii text (IsAscii-in_class class text h)
 
-token_bytes : (class : Class) (p : ℕ → Bool) → ((b : ℕ) → is_plain class b ≡ true → p b ≡ true) → p percent ≡ true → ((b : ℕ) → is_hex b ≡ true → p b ≡ true) → (t : Token) → allows class t ≡ true → list_all p (spell t) ≡ true
+token_bytes : (class : Class) (p : ℕ → Bool) → ((b : ℕ) → is_plain class b ≡ true → p b ≡ true) → p percent ≡ true → ((b : ℕ) → is_hex b ≡ true → p b ≡ true)
+    → (t : Token) → allows class t ≡ true → list_all p (spell t) ≡ true
 token_bytes class p plain sign digit (Byte b) h = and_from _ _ (plain b h) refl
 token_bytes class p plain sign digit (Escape high low) h =
     let both = and_parts _ _ h in
     and_from _ _ sign (and_from _ _ (digit high both.0) (and_from _ _ (digit low both.1) refl))
 
 -- what the bytes of a class, `%` and the hexadecimal digits pass, each byte of a text of the class passes
-pub bytes-in_class : (class : Class) (p : ℕ → Bool) → ((b : ℕ) → is_plain class b ≡ true → p b ≡ true) → p percent ≡ true → ((b : ℕ) → is_hex b ≡ true → p b ≡ true) → (text : List ℕ) → IsIn class text → list_all p text ≡ true
+pub bytes-in_class : (class : Class) (p : ℕ → Bool) → ((b : ℕ) → is_plain class b ≡ true → p b ≡ true) → p percent ≡ true
+    → ((b : ℕ) → is_hex b ≡ true → p b ≡ true) → (text : List ℕ) → IsIn class text → list_all p text ≡ true
 bytes-in_class class p plain sign digit text h = ap (list_all p) (sym (spell-tokens text)) ∙ each_token (tokens text) h
   where
     each_token : (ts : List Token) → list_all (allows class) ts ≡ true → list_all p (flat_map spell ts) ≡ true

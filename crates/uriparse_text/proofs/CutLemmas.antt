@@ -1,5 +1,6 @@
 -- Cuts of a text undo its putting together.
-use Rattle.std.proofs.Common.{◌≡◌, ℕ, Bool, true, false, cond, List, [], ◌∷◌, ◌++◌, Option, Some, None, refl, sym, ap, ◌∙◌, append-nil, append_assoc, ◌+◌, take, drop, length, inl, inr, arith}
+use Rattle.std.proofs.Common.{◌≡◌, ℕ, Bool, true, false, cond, List, [], ◌∷◌, ◌++◌, Option, Some, None, refl, sym, ap, ◌∙◌, append-nil, append_assoc, ◌+◌, take}
+use Rattle.std.proofs.Common.{drop, length, inl, inr, arith}
 use Rattle.std.specs.Prelude.{not, ◌==◌, ◌||◌, IfSome, unwrap_or, position}
 use Rattle.std.specs.Option.{option_map}
 use Rattle.std.specs.List.{list_all, list_any, position_or_len}
@@ -39,7 +40,8 @@ lacks-behind b mark None h k = refl
 lacks-behind b mark (Some t) h k = and_from _ _ h k
 
 -- a text of a class lacks each byte that neither the class nor an escape has
-pub lacks-in_class : (class : Class) (b : ℕ) → is_plain class b ≡ false → (percent == b) ≡ false → is_hex b ≡ false → (t : List ℕ) → IsIn class t → lacks b t ≡ true
+pub lacks-in_class : (class : Class) (b : ℕ) → is_plain class b ≡ false → (percent == b) ≡ false → is_hex b ≡ false → (t : List ℕ) → IsIn class t
+    → lacks b t ≡ true
 lacks-in_class class b plain sign digit t h =
     bytes-in_class class (λ c. not (c == b)) (λ c e. other_byte (is_plain class) b c plain e) (not_from_false _ sign) (λ c e. other_byte is_hex b c digit e) t h
 
@@ -92,7 +94,8 @@ rest_is : (mark : ℕ) (t : List ℕ) → from_first (λ b. b == mark) t ≡ beh
 rest_is mark [] = refl
 rest_is mark (b ∷ t) = by_test (b == mark) refl (rest_is mark t)
   where
-    by_test : (v : Bool) → (b == mark) ≡ v → from_first (λ b. b == mark) t ≡ behind mark (part (from_first (λ b. b == mark) t)) → cond v (b ∷ t) (from_first (λ b. b == mark) t) ≡ behind mark (part (cond v (b ∷ t) (from_first (λ b. b == mark) t)))
+    by_test : (v : Bool) → (b == mark) ≡ v → from_first (λ b. b == mark) t ≡ behind mark (part (from_first (λ b. b == mark) t))
+        → cond v (b ∷ t) (from_first (λ b. b == mark) t) ≡ behind mark (part (cond v (b ∷ t) (from_first (λ b. b == mark) t)))
     by_test true e h = ap (λ x. x ∷ t) (eqb-true b mark e)
     by_test false e h = h
 
@@ -132,7 +135,8 @@ after_of mark u None r h = ap part (from_first-append (λ b. b == mark) u [] h)
 after_of mark u (Some t) r h =
     ap part (from_first-append (λ b. b == mark) u (mark ∷ t) h) ∙ ap (λ v. part (cond v (mark ∷ t) (from_first (λ b. b == mark) t))) r
 
-pub front_of : (mark : ℕ) (s u : List ℕ) → (mark == mark) ≡ true → lacks mark s ≡ true → (front mark (ahead mark (Some s) ++ u) ≡ Some s) × (rest mark (ahead mark (Some s) ++ u) ≡ u)
+pub front_of : (mark : ℕ) (s u : List ℕ) → (mark == mark) ≡ true → lacks mark s ≡ true
+    → (front mark (ahead mark (Some s) ++ u) ≡ Some s) × (rest mark (ahead mark (Some s) ++ u) ≡ u)
 front_of mark s u r h =
     let w : (s ++ mark ∷ []) ++ u ≡ s ++ behind mark (Some u) = append_assoc s (mark ∷ []) u in
     let a : after mark ((s ++ mark ∷ []) ++ u) ≡ Some u = ap (after mark) w ∙ after_of mark s (Some u) r h in
@@ -163,11 +167,11 @@ place_or_length p t =
 
 -- ---- the last byte that passes
 
-any-none : (p : ℕ → Bool) (t : List ℕ) → none_pass p t ≡ true → list_any p t ≡ false
+pub any-none : (p : ℕ → Bool) (t : List ℕ) → none_pass p t ≡ true → list_any p t ≡ false
 any-none p [] h = refl
 any-none p (b ∷ t) h = let both = and_parts _ _ h in rw (not-true (p b) both.0, any-none p t both.1) refl
 
-any-some : (p : ℕ → Bool) (t : List ℕ) (mark : ℕ) (u : List ℕ) → p mark ≡ true → list_any p (t ++ mark ∷ u) ≡ true
+pub any-some : (p : ℕ → Bool) (t : List ℕ) (mark : ℕ) (u : List ℕ) → p mark ≡ true → list_any p (t ++ mark ∷ u) ≡ true
 any-some p [] mark u h = rw h refl
 any-some p (b ∷ t) mark u h = elim (p b) as (λ v. (v || list_any p (t ++ mark ∷ u)) ≡ true) [ true ↦ refl | false ↦ any-some p t mark u h ]
 
@@ -187,7 +191,8 @@ pub last-whole : (p : ℕ → Bool) (t : List ℕ) → up_to_last p t ++ from_la
 last-whole p [] = refl
 last-whole p (b ∷ t) = at_rest (list_any p t) (p b) (last-whole p t)
   where
-    at_rest : (v w : Bool) → up_to_last p t ++ from_last p t ≡ t → cond v (b ∷ up_to_last p t) (cond w [] (b ∷ t)) ++ cond v (from_last p t) (cond w (b ∷ t) []) ≡ b ∷ t
+    at_rest : (v w : Bool) → up_to_last p t ++ from_last p t ≡ t
+        → cond v (b ∷ up_to_last p t) (cond w [] (b ∷ t)) ++ cond v (from_last p t) (cond w (b ∷ t) []) ≡ b ∷ t
     at_rest true w h = ap (λ l. b ∷ l) h
     at_rest false true h = refl
     at_rest false false h = append-nil (b ∷ t)

@@ -33,7 +33,8 @@ unfolding fault
 fault-nil class = ap (λ ts. option_map first_byte (find (λ t. not (allows class t)) ts)) tokens-nil
 
 -- where the class has the first token, the fault is that of the rest
-pub fault-fine : (class : Class) (text : List ℕ) (t : Token) (rest : List ℕ) → tokens text ≡ t ∷ tokens rest → allows class t ≡ true → fault class text ≡ fault class rest
+pub fault-fine : (class : Class) (text : List ℕ) (t : Token) (rest : List ℕ) → tokens text ≡ t ∷ tokens rest → allows class t ≡ true
+    → fault class text ≡ fault class rest
 unfolding fault
 fault-fine class text t rest cut fine = rw (cut, fine) refl
 
@@ -56,7 +57,8 @@ all_found : (p : Token → Bool) (ts : List Token) → option_map first_byte (fi
 all_found p [] h = refl
 all_found p (t ∷ ts) h = at_token (p t) (all_found p ts) h
   where
-    at_token : (v : Bool) → (option_map first_byte (find (λ t. not (p t)) ts) ≡ None → list_all p ts ≡ true) → option_map first_byte (cond (not v) (Some t) (find (λ t. not (p t)) ts)) ≡ None → (v && list_all p ts) ≡ true
+    at_token : (v : Bool) → (option_map first_byte (find (λ t. not (p t)) ts) ≡ None → list_all p ts ≡ true)
+        → option_map first_byte (cond (not v) (Some t) (find (λ t. not (p t)) ts)) ≡ None → (v && list_all p ts) ≡ true
     at_token true f k = f k
     at_token false f k = cc
 

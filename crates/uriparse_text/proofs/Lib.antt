@@ -2,16 +2,22 @@ pub mod TokenLemmas
 pub mod FaultLemmas
 pub mod CanonLemmas
 pub mod ClassLemmas
-mod FaultLaws
+pub mod BitLemmas
+pub mod LaneLemmas
+pub mod MarkLemmas
+pub mod FineLemmas
+pub mod ScanLemmas
+mod MeaningLemmas
 pub mod CutLemmas
 pub mod OptionLemmas
 pub mod ReadingLemmas
 pub mod OctetLemmas
-mod AddressGrammar
-mod AddressPrinted
-pub mod AddressLengths
+mod AddressGrammarLemmas
+mod AddressPrintedLemmas
+pub mod AddressLengthLemmas
 pub mod AddressLemmas
-pub mod AddressBytes
-pub mod AddressFit
-pub mod AddressCanon
+pub mod AddressByteLemmas
+pub mod AddressFitLemmas
+pub mod AddressCanonLemmas
 pub mod RunLemmas
+pub mod SumLemmas

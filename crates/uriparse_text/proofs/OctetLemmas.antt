@@ -2,7 +2,6 @@
 use Rattle.std.proofs.Common.{◌≡◌, ℕ, zero, suc, ◌^◌, ◌<◌, ◌≤◌, List, [], ◌∷◌, length, get_or, decimal, refl, sym, ap, ◌∙◌, arith}
 use Rattle.std.specs.Str.Parse.{digits_value}
 use Rattle.std.specs.Net.Grammar.{IsDotted}
-use Rattle.std.specs.Net.Text.{dotted_text}
 use Rattle.std.proofs.lemmas.Fmt.{decimal_is_IsNumeral, decimal_nonempty, length-decimal-le, first_decimal, decimal-digits_value}
 use Rattle.std.proofs.lemmas.Str.Parse.{numerals_by_value, tells_digits}
 use Rattle.std.proofs.NetLemmas.Texts.{IsDotted-ipv4_text}

@@ -4,7 +4,7 @@ use Rattle.std.specs.Prelude.{Result, IfSome}
 use Rattle.std.specs.Option.{option_map}
 use Rattle.uriparse_text.specs.declared.parts.class.Class.{Class}
 use Rattle.uriparse_text.specs.Faults.{fault, IsIn}
-use Rattle.uriparse_text.specs.Readings.{unless_fault, reading_in, ◌>>=◌, of_piece, error_of, some_of, if_present, IfPresent}
+use Rattle.uriparse_text.specs.Readings.{unless_fault, reading_in, ◌>>=◌, of_piece, fault_in, some_of, if_present, IfPresent}
 use Rattle.uriparse_text.proofs.FaultLemmas.{no_fault}
 
 -- A reading is exact where it gives what the relation says.
@@ -28,13 +28,15 @@ exact_in {E} class error = record {
     by_fault t (Some b) e x h = cc
 
 -- a piece that may be absent
-pub present_again : {E A : Type 0} (Spells : List ℕ → A → Type 0) (read : List ℕ → Result A E) → IsExact Spells read → (o : Option (List ℕ)) (r : Option A) → IfPresent Spells o r → if_present read o ≡ Ok r
+pub present_again : {E A : Type 0} (Spells : List ℕ → A → Type 0) (read : List ℕ → Result A E) → IsExact Spells read → (o : Option (List ℕ)) (r : Option A)
+    → IfPresent Spells o r → if_present read o ≡ Ok r
 present_again Spells read exact None None h = refl
 present_again Spells read exact None (Some x) h = absurd h
 present_again Spells read exact (Some t) None h = absurd h
 present_again Spells read exact (Some t) (Some x) h = ap some_of (exact.again t x h)
 
-pub present_found : {E A : Type 0} (Spells : List ℕ → A → Type 0) (read : List ℕ → Result A E) → IsExact Spells read → (o : Option (List ℕ)) (r : Option A) → if_present read o ≡ Ok r → IfPresent Spells o r
+pub present_found : {E A : Type 0} (Spells : List ℕ → A → Type 0) (read : List ℕ → Result A E) → IsExact Spells read → (o : Option (List ℕ)) (r : Option A)
+    → if_present read o ≡ Ok r → IfPresent Spells o r
 present_found Spells read exact None None h = tt
 present_found Spells read exact None (Some x) h = cc
 present_found {E} {A} Spells read exact (Some t) r h = by_reading (read t) refl r h
@@ -49,7 +51,8 @@ pub texts_again : {E : Type 0} (class : Class) (error : ℕ → E) (o : Option (
 texts_again class error None h = refl
 texts_again class error (Some t) h = ap some_of ((exact_in class error).again t t (record { same = refl; fine = h }))
 
-pub texts_found : {E : Type 0} (class : Class) (error : ℕ → E) (o r : Option (List ℕ)) → if_present (reading_in class error) o ≡ Ok r → (r ≡ o) × IfSome r (IsIn class)
+pub texts_found : {E : Type 0} (class : Class) (error : ℕ → E) (o r : Option (List ℕ)) → if_present (reading_in class error) o ≡ Ok r
+    → (r ≡ o) × IfSome r (IsIn class)
 texts_found class error None r h = let p : r ≡ None = cc in (p, rw p tt)
 texts_found {E} class error (Some t) r h = by_reading (reading_in class error t) refl h
   where
@@ -69,6 +72,6 @@ bind_ok (Ok x) g y h = (x, refl, h)
 bind_ok (Err e) g y h = cc
 
 -- a reading either gives something or has a fault
-pub none_or : {E A : Type 0} (r : Result A E) → error_of r ≡ None → (x : A) × (r ≡ Ok x)
+pub none_or : {E A : Type 0} (r : Result A E) → fault_in r ≡ None → (x : A) × (r ≡ Ok x)
 none_or (Ok x) h = (x, refl)
 none_or (Err e) h = cc

@@ -1,13 +1,12 @@
 -- The front of a text that stays as it is in the canonical spelling.
-use Rattle.std.proofs.Common.{◌≡◌, ℕ, Bool, true, false, ◌||◌, ◌&&◌, not, cond, List, [], ◌∷◌, ◌++◌, refl, sym, ap, ◌∙◌, append_assoc}
+use Rattle.std.proofs.Common.{◌≡◌, ℕ, Bool, true, false, ◌&&◌, not, cond, List, [], ◌∷◌, ◌++◌, refl, sym, ap, ◌∙◌, append_assoc}
 use Rattle.std.specs.Prelude.{◌==◌}
 use Rattle.std.proofs.lemmas.Bool.{or_parts, not-false, eqb-true}
-use Rattle.uriparse_text.specs.declared.parts.token.Token.{Token}
 use Rattle.uriparse_text.specs.declared.parts.token.Token.TheVariants.{Byte}
 use Rattle.uriparse_text.specs.declared.parts.canonical.Case.{Case}
 use Rattle.uriparse_text.specs.Bytes.{percent, is_hex}
-use Rattle.uriparse_text.specs.Tokens.{tokens, spell, is_escape}
-use Rattle.uriparse_text.specs.Canon.{canonical, in_case, may_change, spelling}
+use Rattle.uriparse_text.specs.Tokens.{is_escape}
+use Rattle.uriparse_text.specs.Canon.{in_case, may_change, spelling}
 use Rattle.uriparse_text.specs.Cuts.{up_to, from_first}
 use Rattle.uriparse_text.proofs.TokenLemmas.{tokens-byte}
 use Rattle.uriparse_text.proofs.CanonLemmas.{spelling-cons}
@@ -36,5 +35,6 @@ spelling-run case (b ∷ t) = by_first (may_change case b) refl (spelling-run ca
     by_first false e h = spelling-stays case b t e ∙ ap (λ u. b ∷ u) h
 
 -- a token and the run behind it are written
-pub spelled_run : (case : Case) (done front rest later whole : List ℕ) → (done ++ spelling case rest ≡ whole) → spelling case rest ≡ front ++ spelling case later → (done ++ front) ++ spelling case later ≡ whole
+pub spelled_run : (case : Case) (done front rest later whole : List ℕ) → (done ++ spelling case rest ≡ whole)
+    → spelling case rest ≡ front ++ spelling case later → (done ++ front) ++ spelling case later ≡ whole
 spelled_run case done front rest later whole h e = append_assoc done front (spelling case later) ∙ ap (λ u. done ++ u) (sym e) ∙ h

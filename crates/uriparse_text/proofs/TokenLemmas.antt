@@ -1,5 +1,6 @@
 -- How a text is cut at its tokens.
-use Rattle.std.proofs.Common.{◌≡◌, ◌↔◌, ℕ, ◌≤◌, Bool, true, false, not, cond, ◌&&◌, List, [], ◌∷◌, ◌++◌, length, get_or, drop, refl, sym, ap, ◌∙◌, append_assoc, append-nil, arith}
+use Rattle.std.proofs.Common.{◌≡◌, ◌↔◌, ℕ, ◌≤◌, Bool, true, false, not, cond, ◌&&◌, List, [], ◌∷◌, ◌++◌, length, get_or, drop, refl, sym, ap, ◌∙◌, append_assoc}
+use Rattle.std.proofs.Common.{append-nil, arith}
 use Rattle.std.specs.Prelude.{◌==◌}
 use Rattle.std.specs.List.{flat_map, list_all}
 use Rattle.std.proofs.lemmas.Bool.{cond-true, cond-false, and_parts, and_from}
@@ -15,7 +16,8 @@ unfolding tokens
 tokens-nil = refl
 
 -- an escape is cut off as one token
-pub tokens-escape : (b : ℕ) (after : List ℕ) → is_escape b after ≡ true → tokens (b ∷ after) ≡ Escape (get_or after 0 0) (get_or after 1 0) ∷ tokens (drop 2 after)
+pub tokens-escape : (b : ℕ) (after : List ℕ) → is_escape b after ≡ true
+    → tokens (b ∷ after) ≡ Escape (get_or after 0 0) (get_or after 1 0) ∷ tokens (drop 2 after)
 unfolding tokens
 tokens-escape b [] is = cc
 tokens-escape b (c ∷ []) is = cc
@@ -81,9 +83,11 @@ spell-tokens (b ∷ c ∷ []) = refl
 spell-tokens (b ∷ high ∷ low ∷ rest) =
     at_front (is_escape b (high ∷ low ∷ rest)) refl (spell-tokens rest) (spell-tokens (high ∷ low ∷ rest))
   where
-    at_front : (v : Bool) → is_escape b (high ∷ low ∷ rest) ≡ v → flat_map spell (tokens rest) ≡ rest → flat_map spell (tokens (high ∷ low ∷ rest)) ≡ high ∷ low ∷ rest
+    at_front : (v : Bool) → is_escape b (high ∷ low ∷ rest) ≡ v → flat_map spell (tokens rest) ≡ rest
+        → flat_map spell (tokens (high ∷ low ∷ rest)) ≡ high ∷ low ∷ rest
         → flat_map spell (cond v (Escape high low ∷ tokens rest) (Byte b ∷ tokens (high ∷ low ∷ rest))) ≡ b ∷ high ∷ low ∷ rest
-    at_front true e f g = ap (λ x. x ∷ high ∷ low ∷ flat_map spell (tokens rest)) (sym (escape_at b (high ∷ low ∷ rest) e).sign) ∙ ap (λ x. b ∷ high ∷ low ∷ x) f
+    at_front true e f g = ap (λ x. x ∷ high ∷ low ∷ flat_map spell (tokens rest)) (sym (escape_at b (high ∷ low ∷ rest) e).sign)
+        ∙ ap (λ x. b ∷ high ∷ low ∷ x) f
     at_front false e f g = ap (λ x. b ∷ x) g
 
 -- a text cut at a border of tokens
@@ -104,7 +108,8 @@ digits-tokens (b ∷ c ∷ []) = refl
 digits-tokens (b ∷ high ∷ low ∷ rest) =
     at_front (is_escape b (high ∷ low ∷ rest)) refl (digits-tokens rest) (digits-tokens (high ∷ low ∷ rest))
   where
-    at_front : (v : Bool) → is_escape b (high ∷ low ∷ rest) ≡ v → list_all has_digits (tokens rest) ≡ true → list_all has_digits (tokens (high ∷ low ∷ rest)) ≡ true
+    at_front : (v : Bool) → is_escape b (high ∷ low ∷ rest) ≡ v → list_all has_digits (tokens rest) ≡ true
+        → list_all has_digits (tokens (high ∷ low ∷ rest)) ≡ true
         → list_all has_digits (cond v (Escape high low ∷ tokens rest) (Byte b ∷ tokens (high ∷ low ∷ rest))) ≡ true
     at_front true e f g = and_from _ _ (escape_at b (high ∷ low ∷ rest) e).digits f
     at_front false e f g = g

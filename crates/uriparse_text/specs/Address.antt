@@ -1,6 +1,7 @@
 -- The spellings of an address (RFC 3986, section 3.2.2), how a text is read, and the spelling that is printed
 -- (RFC 5952). An IPv4 address is seen as its four octets, an IPv6 address as its eight segments.
-use Rattle.std.specs.Prelude.{◌≡◌, ℕ, ◌+◌, ◌-◌, ◌^◌, ◌<◌, ◌≤◌, ◌⊎◌, Bool, ◌||◌, ◌==◌, List, [], ◌∷◌, ◌++◌, Option, length, take, drop, slice_index, replicate, codes}
+use Rattle.std.specs.Prelude.{◌≡◌, ℕ, ◌+◌, ◌-◌, ◌^◌, ◌<◌, ◌≤◌, ◌⊎◌, Bool, ◌||◌, ◌==◌, List, [], ◌∷◌, ◌++◌, Option, length, take, drop, slice_index, replicate}
+use Rattle.std.specs.Prelude.{codes}
 use Rattle.std.specs.Char.{is_ascii_digit}
 use Rattle.std.specs.Net.Addr.{segments_of, octets_of, IsIpv4Mapped}
 use Rattle.std.specs.Net.Grammar.{IsGroup, IsNumber}

@@ -19,7 +19,8 @@ abbrev pub in_case : Case → ℕ → ℕ
 in_case Kept b = b
 in_case Lowered b = to_ascii_lowercase b
 
--- An escape of an unreserved byte becomes that byte, another escape gets upper-case digits, and other bytes stay. Letters outside the escapes that are left are put in the case.
+-- An escape of an unreserved byte becomes that byte, another escape gets upper-case digits, and other bytes stay.
+-- Letters outside the escapes that are left are put in the case.
 abbrev pub canonical : Case → Token → Token
 canonical case (Byte b) = Byte (in_case case b)
 canonical case (Escape high low) =

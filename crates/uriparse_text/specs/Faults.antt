@@ -1,5 +1,6 @@
 -- Which texts are in a class, and the leftmost fault of one that isn't.
-use Rattle.std.specs.Prelude.{◌≡◌, ℕ, Bool, true, not, ◌&&◌, List, ◌∷◌, ◌++◌, Option}
+use Rattle.std.specs.Prelude.{◌≡◌, ℕ, ◌+◌, ◌<◌, ◌≤◌, Bool, true, not, ◌&&◌, ◌||◌, List, [], ◌∷◌, ◌++◌, drop, slice_index, false, Option}
+use Rattle.std.specs.Int.{bit_at}
 use Rattle.std.specs.Option.{option_map}
 use Rattle.std.specs.List.{flat_map, list_all, find}
 use Rattle.uriparse_text.specs.declared.parts.token.Token.{Token}
@@ -7,7 +8,7 @@ use Rattle.uriparse_text.specs.declared.parts.token.Token.TheVariants.{Byte, Esc
 use Rattle.uriparse_text.specs.declared.parts.class.Class.{Class}
 use Rattle.uriparse_text.specs.Bytes.{percent, is_hex}
 use Rattle.uriparse_text.specs.Classes.{is_plain}
-use Rattle.uriparse_text.specs.Tokens.{tokens, spell}
+use Rattle.uriparse_text.specs.Tokens.{tokens, spell, is_escape}
 
 -- the class has the token
 abbrev pub allows : Class → Token → Bool
@@ -29,6 +30,23 @@ first_byte (Escape high low) = percent
 -- the byte at which the first token stands that the class lacks: the leftmost fault
 unfoldable pub fault : Class → List ℕ → Option ℕ
 fault class text = option_map first_byte (find (λ t. not (allows class t)) (tokens text))
+
+-- ---- byte by byte, for a walk that passes over no digit
+
+-- a byte of the class or an escape begins the text, or it is empty
+abbrev pub begins_fine : Class → List ℕ → Bool
+begins_fine class [] = true
+begins_fine class (b ∷ after) = is_plain class b || is_escape b after
+
+-- so does each rest of the text from one place up to another
+abbrev pub AllFine : Class → List ℕ → ℕ → ℕ → Type 0
+AllFine class text from to = (k : ℕ) → from ≤ k → k < to → begins_fine class (drop k text) ≡ true
+
+-- of so many bytes from a place on, those with no mark are fine, and those with one aren't in the class
+abbrev pub AreInDoubt : Class → List ℕ → ℕ → ℕ → ℕ → Type 0
+AreInDoubt class text at n marks =
+    ((k : ℕ) → k < n → bit_at marks k ≡ 0 → begins_fine class (drop (at + k) text) ≡ true)
+    × ((k : ℕ) → bit_at marks k ≡ 1 → (k < n) × (is_plain class (slice_index text (at + k)) ≡ false))
 
 -- ---- the same in the standard's words
 

@@ -1,6 +1,7 @@
 pub mod Bytes
 pub mod Classes
 pub mod Tokens
+pub mod Marks
 pub mod Faults
 pub mod Canon
 pub mod Cuts

@@ -40,10 +40,10 @@ abbrev pub of_piece : {E F A : Type 0} → (E → F) → Result A E → Result A
 of_piece of (Ok x) = Ok x
 of_piece of (Err e) = Err (of e)
 
--- the fault of a reading
-abbrev pub error_of : {E A : Type 0} → Result A E → Option E
-error_of (Ok x) = None
-error_of (Err e) = Some e
+-- the fault that a reading gave, if it gave one
+abbrev pub fault_in : {E A : Type 0} → Result A E → Option E
+fault_in (Ok x) = None
+fault_in (Err e) = Some e
 
 -- what reading a piece gives that may be absent
 abbrev pub some_of : {E A : Type 0} → Result A E → Result (Option A) E

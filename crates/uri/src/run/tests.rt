@@ -1,11 +1,22 @@
 //! The commands' output and statuses.
 
-use super::run;
+use super::{refuse_arguments, run};
+use std::alloc::Global;
 use std::io::Write;
 use std::test::Fail;
 use std::{io, str};
 
 const USAGE: &str = "usage: uri COMMAND TEXT..\n";
+
+const HELP: &str = "\
+uri parse TEXT        the reference, and then each of its parts
+uri tail TEXT         path, query and fragment of a text, as it is and part by part
+uri normalize TEXT    the reference's normal form
+uri equal A B         `equal` or `different`
+uri resolve BASE REF  the target of the reference behind the base, which is a URI
+uri edit TEXT EDIT..  the reference with all edits made, from the left; an edit is scheme V, authority V, path V, query V, fragment V, drop-scheme, drop-authority, drop-query, drop-fragment or normalize
+uri help              these lines
+";
 
 // (the words with bars between them, the status, what is printed, what is said of a failure)
 const ROWS: [(&str, u8, &str, &str); 61] = [
@@ -172,6 +183,40 @@ fn answers_its_rows(rt: HostRuntime) -> Result<(), Fail> {
     }
     let mut out = Vec::new(alloc);
     assert_eq!(rt; run(alloc, &[], &mut out, &mut Full { room: 0 }), 2);
+    Ok(())
+}
+
+/// What the program prints for these words, where it ends with this status and says of no failure;
+/// else what it says.
+fn printed(alloc: Global, words: &[&str], status: u8) -> Vec<u8> {
+    let (mut out, mut err) = (Vec::new(alloc), Vec::new(alloc));
+    let ends = run(alloc, words, &mut out, &mut err);
+    if ends == status && err.is_empty() {
+        return out;
+    }
+    err
+}
+
+#[test]
+fn help_lists_the_commands(rt: HostRuntime) -> Result<(), Fail> {
+    let alloc = rt.alloc();
+    assert_eq!(rt; str::from_utf8(&printed(alloc, &["help"], 0))?, HELP);
+    assert_eq!(rt; str::from_utf8(&printed(alloc, &["--help"], 0))?, HELP);
+    assert_eq!(rt;
+        str::from_utf8(&printed(alloc, &["help", "parse"], 0))?,
+        USAGE
+    );
+    let parsed = printed(alloc, &["parse", "--help"], 0);
+    assert_eq!(rt; str::from_utf8(&parsed)?, "--help\npath=--help\n");
+    Ok(())
+}
+
+#[test]
+fn an_argument_that_is_no_text_is_refused(rt: HostRuntime) -> Result<(), Fail> {
+    let mut err = Vec::new(rt.alloc());
+    let error = io::Error::from(io::ErrorKind::InvalidData);
+    assert_eq!(rt; refuse_arguments(&error, &mut err), 1);
+    assert_eq!(rt; str::from_utf8(&err)?, "an argument is not UTF-8 text\n");
     Ok(())
 }
 

@@ -29,7 +29,7 @@ impl<'u> URI<'u> {
     /// ```
     /// let base = URI::try_from_str(alloc, "http://a/b/c/d;p?q")?;
     /// let reference = URIReference::try_from_str(alloc, "../g#s")?;
-    /// assert_eq!(base.resolve(alloc, &reference)?.to_string(alloc)?, "http://a/b/g#s");
+    /// assert_eq!(base.resolve(alloc, &reference)?.to_string(alloc)?.as_str(), "http://a/b/g#s");
     /// ```
     pub fn resolve<'a>(
         &'a self,

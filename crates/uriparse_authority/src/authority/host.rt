@@ -1,5 +1,5 @@
 //! A host: RFC 3986, section 3.2.2.
-ghost use Rattle.std.specs.Prelude.{◌≡◌, ◌↔◌, ◌≤◌, IsTrue, IsOk, IfOk, OnOk, OnErr, Some, bytes_eq, length, string_bytes, unwrap_or};
+ghost use Rattle.std.specs.Prelude.{◌≡◌, ◌↔◌, ◌≤◌, IsTrue, IsOk, IfOk, OnOk, OnErr, Some, bytes_eq, fold, length, string_bytes, unwrap_or};
 ghost use Rattle.std.proofs.Common.{rules};
 ghost use Rattle.std.specs.Ordering.{on};
 ghost use Rattle.std.specs.Cmp.Rules.{comparing, hashing};
@@ -28,7 +28,7 @@ use read::read_host;
 /// ```
 /// let host = Host::try_from_str("[::FFFF:1.2.3.4]")?;
 /// assert!(host.is_ipv6_address());
-/// assert_eq!(host.to_string(alloc)?, "[::ffff:1.2.3.4]");
+/// assert_eq!(host.to_string(alloc)?.as_str(), "[::ffff:1.2.3.4]");
 /// ```
 #[derive(Drop)]
 pub enum Host<'h> {
@@ -254,11 +254,14 @@ impl<'h> Eq for Host<'h> {
 }
 
 impl<'h> Hash for Host<'h> {
-    ghost hash_input = { λ h. spec.fed (spec.key h) };
+    ghost hash_input = { λ h. spec.fed_key (spec.key h) };
 
     ghost respects_eq = { Prim.search (hashing, rules) };
 
-    fn hash<H: Hasher>(&self, state: &mut H) {
+    fn hash<H: Hasher>(&self, state: &mut H)
+        ensures fed { state.new ≡ fold H.write state.old (spec.fed self.now) }
+        ensures key { state.new ≡ fold H.write state.old (spec.fed_key (spec.key self.now)) }
+    {
         match self {
             Host::IPv4Address(address) => {
                 state.write_u8(4);

@@ -85,7 +85,7 @@ impl<'a> Authority<'a> {
     /// ```
     /// let mut authority = Authority::try_from_str("%7eu@EXAMPLE.com:80")?;
     /// authority.normalize(alloc)?;
-    /// assert_eq!(authority.to_string(alloc)?, "~u@example.com:80");
+    /// assert_eq!(authority.to_string(alloc)?.as_str(), "~u@example.com:80");
     /// ```
     pub fn normalize(&mut self, alloc: Global) -> Result<(), AllocError>
         ensures ok { OnOk result (self.new ≡ canonical_authority self.old) }

@@ -11,7 +11,7 @@ use super::{
     Authority, AuthorityError, Host, HostError, Password, PasswordError, PortError, Username,
     UsernameError, parse_port,
 };
-use uriparse_text::parts::{behind_mark, split_at_mark};
+use uriparse_text::parts::{IsAny, behind_mark, first, split_at_mark};
 
 /// The user information, if there is an `@` behind it, and what stands behind the `@`; or none, and
 /// the text.
@@ -102,7 +102,11 @@ fn ends_authority(b: u8) -> bool
 fn end_of_authority(text: &[u8]) -> Option<usize>
     ensures { result ≡ position authority.ends_authority text.now }
 {
-    text.iter().position(|b| ends_authority(*b))
+    if text.len() < 16 {
+        return text.iter().position(|b| ends_authority(*b));
+    }
+    let found = first(&IsAny(b'/', b'?', b'#'), text);
+    (found < text.len()).then_some(found)
 }
 
 /// The authority that the text begins with, up to a `/`, `?` or `#`, and what follows it.

@@ -1,6 +1,6 @@
 //! How a text is cut into segments: one walk that finds the leftmost fault and counts, and one
 //! that cuts.
-ghost use Rattle.std.specs.Prelude.{◌≡◌, ◌<◌, IfOk, true, length};
+ghost use Rattle.std.specs.Prelude.{◌≡◌, ◌<◌, ◌≤◌, IfOk, true, length};
 ghost use Rattle.std.specs.List.{list_all, slice_split};
 ghost use Rattle.uriparse_text.specs.Readings.{unless_fault};
 ghost use Rattle.uriparse_path.specs.Segment as segment;
@@ -10,7 +10,7 @@ ghost use Rattle.uriparse_path.specs.Faults.{fault_within};
 use super::error::PathError;
 use super::segment::{Segment, fault_at};
 use std::alloc::{AllocError, Global};
-use uriparse_text::parts::{Class, is_escape};
+use uriparse_text::parts::{Class, Outside, is_escape, lowest, next_marks, without_lowest};
 
 /// Whether the text begins with a slash, and the text without it.
 pub(super) fn split_root(text: &[u8]) -> (bool, &[u8])
@@ -25,6 +25,18 @@ pub(super) fn split_root(text: &[u8]) -> (bool, &[u8])
 
 /// How many segments the text is cut into where so many may be, or its leftmost fault.
 pub(super) fn count_segments(limit: usize, text: &[u8]) -> Result<usize, PathError>
+    requires { 0 < limit }
+    ensures { let ps = slice_split is_slash text.now in result ≡ unless_fault (fault_within limit ps) (length ps) }
+{
+    if text.len() < 8 {
+        count_by_tokens(limit, text)
+    } else {
+        count_by_marks(limit, text)
+    }
+}
+
+/// The same for a short text, token by token.
+fn count_by_tokens(limit: usize, text: &[u8]) -> Result<usize, PathError>
     requires { 0 < limit }
     ensures { let ps = slice_split is_slash text.now in result ≡ unless_fault (fault_within limit ps) (length ps) }
 {
@@ -44,6 +56,36 @@ pub(super) fn count_segments(limit: usize, text: &[u8]) -> Result<usize, PathErr
         } else {
             return Err(fault_at(b));
         }
+    }
+    Ok(count)
+}
+
+/// The same for a longer one, by the marks of the bytes that are outside the class of a segment: each
+/// is a slash, begins an escape or is the fault.
+fn count_by_marks(limit: usize, text: &[u8]) -> Result<usize, PathError>
+    requires some { 0 < limit }
+    requires least { 8 ≤ length text.now }
+    ensures { let ps = slice_split is_slash text.now in result ≡ unless_fault (fault_within limit ps) (length ps) }
+{
+    let mut count = 1;
+    let mut at = 0;
+    'runs: while at < text.len() {
+        let (marks, len) = next_marks(&Outside(Class::Segment), text, at);
+        let mut left = marks;
+        'marks: while left != 0 {
+            let k = lowest(left);
+            let b = text[at + k];
+            if b == b'/' {
+                if count == limit {
+                    return Err(PathError::ExceededMaximumLength);
+                }
+                count += 1;
+            } else if !is_escape(b, &text[at + k + 1..]) {
+                return Err(fault_at(b));
+            }
+            left = without_lowest(left);
+        }
+        at += len;
     }
     Ok(count)
 }

@@ -29,7 +29,7 @@ use uriparse_text::query::Query;
 /// let mut builder = URIReference::builder();
 /// builder.try_path(alloc, b"/a")?;
 /// builder.try_query(Some(b"q"))?;
-/// assert_eq!(builder.build()?.to_string(alloc)?, "/a?q");
+/// assert_eq!(builder.build()?.to_string(alloc)?.as_str(), "/a?q");
 /// ```
 #[derive(Debug, Drop)]
 pub struct URIReferenceBuilder<'b> {

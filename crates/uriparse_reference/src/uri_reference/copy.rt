@@ -1,8 +1,41 @@
 //! Copies of a reference, whose lists of segments want memory.
-ghost use Rattle.std.specs.Prelude.{◌≡◌, IfOk};
+ghost use Rattle.std.specs.Prelude.{◌≡◌, IfOk, option_copied};
 
 use super::URIReference;
 use std::alloc::{AllocError, Global};
+use uriparse_authority::authority::Authority;
+use uriparse_scheme::scheme::Scheme;
+use uriparse_text::parts::{Kind, Text};
+
+/// The same scheme, if there is one, which borrows this one's text.
+pub(super) fn borrowed_scheme<'r>(scheme: Option<&'r Scheme<'_>>) -> Option<Scheme<'r>>
+    ensures { result ≡ option_copied scheme.entry }
+{
+    match scheme {
+        Some(scheme) => Some(scheme.as_borrowed()),
+        None => None,
+    }
+}
+
+/// The same authority, if there is one, which borrows this one's texts.
+pub(super) fn borrowed_authority<'r>(authority: Option<&'r Authority<'_>>) -> Option<Authority<'r>>
+    ensures { result ≡ option_copied authority.entry }
+{
+    match authority {
+        Some(authority) => Some(authority.as_borrowed()),
+        None => None,
+    }
+}
+
+/// The same query or fragment, if there is one, which borrows this one's text.
+pub(super) fn borrowed_text<'r, K: Kind>(text: Option<&'r Text<'_, K>>) -> Option<Text<'r, K>>
+    ensures { result ≡ option_copied text.entry }
+{
+    match text {
+        Some(text) => Some(text.as_borrowed()),
+        None => None,
+    }
+}
 
 impl<'r> URIReference<'r> {
     /// The same reference, whose parts borrow the texts of this one's. Memory is wanted once, for the
@@ -12,23 +45,11 @@ impl<'r> URIReference<'r> {
     {
         let path = self.path.to_borrowed(alloc)?;
         Ok(URIReference {
-            scheme: match &self.scheme {
-                Some(scheme) => Some(scheme.as_borrowed()),
-                None => None,
-            },
-            authority: match &self.authority {
-                Some(authority) => Some(authority.as_borrowed()),
-                None => None,
-            },
+            scheme: borrowed_scheme(self.scheme.as_ref()),
+            authority: borrowed_authority(self.authority.as_ref()),
             path,
-            query: match &self.query {
-                Some(query) => Some(query.as_borrowed()),
-                None => None,
-            },
-            fragment: match &self.fragment {
-                Some(fragment) => Some(fragment.as_borrowed()),
-                None => None,
-            },
+            query: borrowed_text(self.query.as_ref()),
+            fragment: borrowed_text(self.fragment.as_ref()),
         })
     }
 

@@ -17,7 +17,17 @@ use uriparse_scheme::scheme::Scheme;
 use uriparse_text::fragment::Fragment;
 use uriparse_text::query::Query;
 
-/// One change of a reference.
+/// One change of a reference, as [`apply_all`](URIReference::apply_all) makes it: what the setter of
+/// that name does, or [`normalize`](URIReference::normalize).
+///
+/// ```
+/// let mut reference = URIReference::try_from_str(alloc, "http://h/%7Ea#f")?;
+/// let mut edits = Vec::new(alloc);
+/// edits.push(Edit::Fragment(None))?;
+/// edits.push(Edit::Normalize)?;
+/// reference.apply_all(alloc, edits)?;
+/// assert_eq!(reference.to_string(alloc)?.as_str(), "http://h/~a");
+/// ```
 #[derive(Drop)]
 pub enum Edit<'e> {
     /// Sets the scheme, or takes it away.

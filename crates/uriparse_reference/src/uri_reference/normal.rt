@@ -98,7 +98,7 @@ impl<'r> URIReference<'r> {
     /// ```
     /// let mut reference = URIReference::try_from_str(alloc, "HTTP://H/a/../%7eb")?;
     /// reference.normalize(alloc)?;
-    /// assert_eq!(reference.to_string(alloc)?, "http://h/~b");
+    /// assert_eq!(reference.to_string(alloc)?.as_str(), "http://h/~b");
     /// ```
     pub fn normalize(&mut self, alloc: Global) -> Result<(), AllocError>
         ensures ok { OnOk result (self.new ≡ normal self.old) }

@@ -11,54 +11,14 @@ ghost use Rattle.uriparse_reference.specs.Reference.{Valid};
 ghost use Rattle.uriparse_reference.specs.Target.{is_empty, target};
 
 use super::URIReference;
+use super::copy::{borrowed_authority, borrowed_scheme, borrowed_text};
 use super::error::URIReferenceError;
 use std::alloc::Global;
 use uriparse_authority::authority::Authority;
 use uriparse_path::parts::{merged_path, remove_dots};
 use uriparse_path::path::{Path, PathError};
 use uriparse_scheme::scheme::Scheme;
-use uriparse_text::fragment::Fragment;
 use uriparse_text::query::Query;
-
-/// The same scheme, if there is one, which borrows this one's text.
-fn borrowed_scheme<'r>(scheme: Option<&'r Scheme<'_>>) -> Option<Scheme<'r>>
-    ensures { result ≡ option_copied scheme.entry }
-{
-    match scheme {
-        Some(scheme) => Some(scheme.as_borrowed()),
-        None => None,
-    }
-}
-
-/// The same authority, if there is one, which borrows this one's texts.
-fn borrowed_authority<'r>(authority: Option<&'r Authority<'_>>) -> Option<Authority<'r>>
-    ensures { result ≡ option_copied authority.entry }
-{
-    match authority {
-        Some(authority) => Some(authority.as_borrowed()),
-        None => None,
-    }
-}
-
-/// The same query, if there is one, which borrows this one's text.
-fn borrowed_query<'r>(query: Option<&'r Query<'_>>) -> Option<Query<'r>>
-    ensures { result ≡ option_copied query.entry }
-{
-    match query {
-        Some(query) => Some(query.as_borrowed()),
-        None => None,
-    }
-}
-
-/// The same fragment, if there is one, which borrows this one's text.
-fn borrowed_fragment<'r>(fragment: Option<&'r Fragment<'_>>) -> Option<Fragment<'r>>
-    ensures { result ≡ option_copied fragment.entry }
-{
-    match fragment {
-        Some(fragment) => Some(fragment.as_borrowed()),
-        None => None,
-    }
-}
 
 /// Whether the path's text is empty.
 fn is_empty(path: &Path<'_>) -> bool
@@ -112,11 +72,11 @@ fn target_query<'r>(
     ensures { result ≡ (if (is_some reference.now.scheme || is_some reference.now.authority) || not (is_empty (text reference.now.path)) then reference.now.query else option_or reference.now.query base.now.query) }
 {
     if has_front(reference) || !is_empty(reference.path()) {
-        return borrowed_query(reference.query());
+        return borrowed_text(reference.query());
     }
     match reference.query() {
         Some(query) => Some(query.as_borrowed()),
-        None => borrowed_query(base.query()),
+        None => borrowed_text(base.query()),
     }
 }
 
@@ -186,6 +146,6 @@ pub fn resolve<'r>(
         authority: target_authority(base, reference),
         path,
         query: target_query(base, reference),
-        fragment: borrowed_fragment(reference.fragment()),
+        fragment: borrowed_text(reference.fragment()),
     })
 }

@@ -55,9 +55,23 @@ fn row_named(text: &[u8]) -> Option<usize>
         .ok()
 }
 
-/// The registered scheme with this name, in any case.
-pub(super) fn registered_named(text: &[u8]) -> Option<RegisteredScheme>
+/// The registered scheme with this name, in any case, by a search of the table.
+fn searched_scheme(text: &[u8]) -> Option<RegisteredScheme>
     ensures { result ≡ spec.registered_named (str_to_ascii_lowercase text.now) }
 {
     all_schemes().get(row_named(text)?).copied()
+}
+
+/// The registered scheme with this name, in any case. The two that most texts have are tried before
+/// the table is searched.
+pub(super) fn registered_named(text: &[u8]) -> Option<RegisteredScheme>
+    ensures { result ≡ spec.registered_named (str_to_ascii_lowercase text.now) }
+{
+    if text.eq_ignore_ascii_case(b"https") {
+        return Some(RegisteredScheme::HTTPS);
+    }
+    if text.eq_ignore_ascii_case(b"http") {
+        return Some(RegisteredScheme::HTTP);
+    }
+    searched_scheme(text)
 }

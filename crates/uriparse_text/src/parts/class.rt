@@ -1,9 +1,11 @@
 //! The classes of bytes, by one table of flags: RFC 3986, sections 2.2, 2.3 and 3.2.1 to 3.5.
-ghost use Rattle.std.specs.Prelude.{◌≡◌};
+ghost use Rattle.std.specs.Prelude.{◌≡◌, ◌+◌, ◌≤◌, length, MatchOption, Some};
 ghost use Rattle.uriparse_text.specs.Bytes as spec;
 ghost use Rattle.uriparse_text.specs.Classes.{is_plain};
-ghost use Rattle.uriparse_text.specs.Faults.{fault};
+ghost use Rattle.uriparse_text.specs.Faults.{fault, AllFine, AreInDoubt};
 
+use super::bits::{lowest, without_lowest, without_triples};
+use super::scan::{Is, IsHex, Outside, marks_of_run, marks_of_short};
 use super::token::is_escape;
 
 /// Which bytes stand for themselves in a part. Escapes may stand in each.
@@ -93,8 +95,24 @@ impl Class {
 
 /// The byte of the leftmost fault: the first one at which no token of the class begins.
 ///
-/// It is `%` where an escape is broken. One walk over the text, and no memory.
+/// It is `%` where an escape is broken. One walk over the text, sixteen bytes at a time, and no
+/// memory.
+#[inline]
 pub fn fault_of(class: Class, text: &[u8]) -> Option<u8>
+    ensures { result ≡ fault class text.now }
+{
+    if text.len() < 8 {
+        fault_by_tokens(class, text)
+    } else if text.len() < 16 {
+        fault_of_short(class, text)
+    } else {
+        fault_by_runs(class, text)
+    }
+}
+
+/// The same for a short text, token by token.
+#[inline(always)]
+fn fault_by_tokens(class: Class, text: &[u8]) -> Option<u8>
     ensures { result ≡ fault class text.now }
 {
     let mut rest = text;
@@ -106,6 +124,79 @@ pub fn fault_of(class: Class, text: &[u8]) -> Option<u8>
         } else {
             return Some(b);
         }
+    }
+    None
+}
+
+/// The same for 8 to 16 bytes, all at once.
+#[inline(never)]
+fn fault_of_short(class: Class, text: &[u8]) -> Option<u8>
+    requires least { 8 ≤ length text.now }
+    requires most { length text.now ≤ 16 }
+    ensures { result ≡ fault class text.now }
+{
+    let outside = marks_of_short(&Outside(class), text);
+    if outside == 0 {
+        return None;
+    }
+    let signs = marks_of_short(&Is(b'%'), text);
+    let digits = marks_of_short(&IsHex, text);
+    let left = without_triples(outside, signs, digits);
+    fault_at_marks(class, text, 0, text.len(), left)
+}
+
+/// The same for sixteen bytes or more. The last run begins where the one before it ends or earlier.
+#[inline(never)]
+fn fault_by_runs(class: Class, text: &[u8]) -> Option<u8>
+    requires { 16 ≤ length text.now }
+    ensures { result ≡ fault class text.now }
+{
+    let len = text.len();
+    let mut at = 0;
+    'runs: while len - at > 16 {
+        if let Some(b) = fault_in(class, text, at, at) {
+            return Some(b);
+        }
+        at += 16;
+    }
+    fault_in(class, text, len - 16, at)
+}
+
+/// Of the sixteen bytes from `at` on, the leftmost fault among those from `from` on.
+#[inline(always)]
+fn fault_in(class: Class, text: &[u8], at: usize, from: usize) -> Option<u8>
+    requires least { at ≤ from }
+    requires most { from ≤ at + 16 }
+    requires room { at + 16 ≤ length text.now }
+    ensures { MatchOption result (AllFine class text.now from (at + 16)) (λ b. AllFine class text.now 0 from → fault class text.now ≡ Some b) }
+{
+    let outside = marks_of_run(&Outside(class), text, at, from);
+    if outside == 0 {
+        return None;
+    }
+    let signs = marks_of_run(&Is(b'%'), text, at, from);
+    let digits = marks_of_run(&IsHex, text, at, from);
+    let left = without_triples(outside, signs, digits);
+    fault_at_marks(class, text, from, at + 16 - from, left)
+}
+
+/// The leftmost fault among so many bytes, of which those with no mark are fine. An escape's digits
+/// stand for themselves in each class, so no byte has to be passed over.
+#[inline(always)]
+fn fault_at_marks(class: Class, text: &[u8], from: usize, len: usize, marks: u64) -> Option<u8>
+    requires short { len ≤ 16 }
+    requires room { from + len ≤ length text.now }
+    requires marks { AreInDoubt class text.now from len marks }
+    ensures { MatchOption result (AllFine class text.now from (from + len)) (λ b. AllFine class text.now 0 from → fault class text.now ≡ Some b) }
+{
+    let mut left = marks;
+    'marks: while left != 0 {
+        let k = lowest(left);
+        let b = text[from + k];
+        if !is_escape(b, &text[from + k + 1..]) {
+            return Some(b);
+        }
+        left = without_lowest(left);
     }
     None
 }

@@ -3,10 +3,14 @@ ghost use Rattle.std.specs.Prelude.{◌≡◌, ◌==◌, position};
 ghost use Rattle.std.specs.Option.{option_copied};
 ghost use Rattle.uriparse_text.specs.Cuts.{up_to, from_first, part};
 
+use super::scan::{Is, first};
+
+#[inline]
 fn place(text: &[u8], mark: u8) -> Option<usize>
     ensures { result ≡ position (λ b. b == mark) text.now }
 {
-    text.iter().position(|b| *b == mark)
+    let found = first(&Is(mark), text);
+    (found < text.len()).then_some(found)
 }
 
 /// The text up to the first such mark, and the rest, which begins with it.

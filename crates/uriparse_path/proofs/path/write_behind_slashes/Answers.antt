@@ -9,7 +9,8 @@ pub loop-segment-preserved : goal.loop-segment-preserved
 loop-segment-preserved g c =
     let i = c.loop-segment.segment-index in
     let l = c.args.segments.now in
-    let whole : (flat_map (λ s. slash ∷ s) (take i l) ++ slash ∷ []) ++ c.as_str.result.now ≡ flat_map (λ s. slash ∷ s) (take (i + 1) l) = grind (arith, common_steps) in
+    let whole : (flat_map (λ s. slash ∷ s) (take i l) ++ slash ∷ []) ++ c.as_str.result.now ≡ flat_map (λ s. slash ∷ s) (take (i + 1) l) =
+    grind (arith, common_steps) in
     record {
       plain = λ plain.
           let so_far = c.loop-segment.invariant.plain plain in

@@ -16,7 +16,8 @@ use Rattle.uriparse_reference.specs.Reading.{reading}
 use Rattle.uriparse_reference.proofs.laws.commutation_examples.Goals as goal
 
 pub returns : goal.returns
-unfolding read_ipv4 read_ipv6 read_octet read_number read_segment read_segments ipv4_reading ipv6_reading is_unreserved is_sub_delim spelling is_plain texts.fault tokens variants row_of authority.reading is_single_dot is_double_dot undot paths.fault max_segments relative_normal reading
+unfolding read_ipv4 read_ipv6 read_octet read_number read_segment read_segments ipv4_reading ipv6_reading is_unreserved is_sub_delim spelling is_plain
+    texts.fault tokens variants row_of authority.reading is_single_dot is_double_dot undot paths.fault max_segments relative_normal reading
 returns c = record {
   target = refl;
   target_again = refl;

@@ -1,4 +1,5 @@
-use Rattle.uriparse_reference.proofs.NormalLemmas.{normal_valid, normal_twice, normal_exactly, normal_no_longer, normal_kind, kept_whole}
+use Rattle.uriparse_reference.proofs.NormalFormLemmas.{normal_valid, normal_twice, normal_no_longer, normal_kind}
+use Rattle.uriparse_reference.proofs.NormalLemmas.{normal_exactly, kept_whole}
 use Rattle.uriparse_reference.proofs.laws.one_normal_form.Goals as goal
 
 pub returns : goal.returns

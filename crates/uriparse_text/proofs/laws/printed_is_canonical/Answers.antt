@@ -1,4 +1,4 @@
-use Rattle.uriparse_text.proofs.AddressCanon.{spelling-ipv4_text, spelling-ipv6_text, spelling-bracketed}
+use Rattle.uriparse_text.proofs.AddressCanonLemmas.{spelling-ipv4_text, spelling-ipv6_text, spelling-bracketed}
 use Rattle.uriparse_text.proofs.laws.printed_is_canonical.Goals as goal
 
 pub returns : goal.returns

@@ -8,5 +8,6 @@ use Rattle.uriparse_path.proofs.path.Path.eq_bytes.Goals as goal
 pub returns : goal.returns
 returns c =
     let alike = same_tokens Kept c.args.bytes.now (text c.args.self.now) c.walk.ensures.formed in
-    let walked : IsTrue c.same_walks.result ↔ (canonical_tokens Kept c.args.bytes.now ≡ canonical_tokens Kept (text c.args.self.now)) = rw (sym c.new.ensures, sym c.walk.ensures.tokens) c.same_walks.ensures in
+    let walked : IsTrue c.same_walks.result ↔ (canonical_tokens Kept c.args.bytes.now ≡ canonical_tokens Kept (text c.args.self.now)) =
+    rw (sym c.new.ensures, sym c.walk.ensures.tokens) c.same_walks.ensures in
     (λ h. alike.0 (walked.0 h), λ s. walked.1 (alike.1 s))

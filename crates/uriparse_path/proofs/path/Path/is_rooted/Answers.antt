@@ -7,4 +7,5 @@ pub returns-else-is_absolute : goal.returns-else-is_absolute
 returns-else-is_absolute c =
     c.hides_root.ensures
     ∙ ap hides_root c.segments.ensures.value
-    ∙ sym (rooted-text c.args.self.now c.segments.ensures.listed ∙ ap (λ v. v || hides_root c.args.self.now.segments) (sym c.is_absolute.ensures ∙ c.if-is_absolute.false))
+    ∙ sym (rooted-text c.args.self.now c.segments.ensures.listed
+    ∙ ap (λ v. v || hides_root c.args.self.now.segments) (sym c.is_absolute.ensures ∙ c.if-is_absolute.false))

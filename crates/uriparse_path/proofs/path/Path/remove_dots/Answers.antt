@@ -1,4 +1,4 @@
-use Rattle.std.proofs.Common.{◌≡◌, Bool, true, false, ◌&&◌, take, arith, sym, ap, subst, ◌∙◌}
+use Rattle.std.proofs.Common.{◌≡◌, false, ◌&&◌, take, arith, sym, ap, subst, ◌∙◌}
 use Rattle.uriparse_path.specs.Path.{PathParts, IsListed, IsCounted, hides_root}
 use Rattle.uriparse_path.specs.Dots.{has_dot_segment, without_dots}
 use Rattle.uriparse_path.proofs.ShieldLemmas.{Pass, shielded, twice, kept_shielded, room_left, counted_left, passed}
@@ -7,7 +7,8 @@ use Rattle.uriparse_path.proofs.path.Path.remove_dots.Goals as goal
 
 pub returns-then-not-has_dot_segment : goal.returns-then-not-has_dot_segment
 returns-then-not-has_dot_segment c =
-    let none : has_dot_segment c.args.self.now.segments ≡ false = ap has_dot_segment (sym c.segments.ensures.value) ∙ sym c.has_dot_segment.ensures ∙ c.if-not-has_dot_segment.true in
+    let none : has_dot_segment c.args.self.now.segments ≡ false = ap has_dot_segment (sym c.segments.ensures.value) ∙ sym c.has_dot_segment.ensures
+    ∙ c.if-not-has_dot_segment.true in
     kept_shielded c.args.shields c.args.self.now c.segments.ensures.listed none c.requires
 
 abbrev old : After-needs_shield-shielded → PathParts
@@ -30,7 +31,8 @@ pass c = record {
   spare = omega (arith, c.root_first-absolute.ensures.spare);
   no_longer = omega (arith, c.root_first-absolute.ensures.no_longer);
   need = c.needs_shield-shielded.ensures
-      ∙ ap (λ l. c.args.shields && twice (record { absolute = c.root_first-absolute.result.0; segments = take c.root_first-absolute.result.1 l })) c.deref.ensures.value;
+      ∙ ap (λ l. c.args.shields && twice (record { absolute = c.root_first-absolute.result.0; segments = take c.root_first-absolute.result.1 l }))
+      c.deref.ensures.value;
 }
 
 pub guard-requires-clause-room : goal.guard-requires-clause-room

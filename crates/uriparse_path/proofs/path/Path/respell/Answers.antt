@@ -1,11 +1,12 @@
-use Rattle.std.proofs.Common.{◌≡◌, true, false, drop, sym, ap, subst, ◌∙◌}
-use Rattle.uriparse_path.specs.Path.{PathParts, IsCounted, hides_root}
-use Rattle.uriparse_path.proofs.TextLemmas.{spelled-text, respelled_shown, respelled_absolute, respelled_hidden, counted, listed-respelled}
+use Rattle.std.proofs.Common.{◌≡◌, true, false, drop, sym, ap, ◌∙◌}
+use Rattle.uriparse_path.specs.Path.{hides_root}
+use Rattle.uriparse_path.proofs.TextLemmas.{spelled-text, respelled_shown, respelled_absolute, respelled_hidden}
 use Rattle.uriparse_path.proofs.path.Path.respell.Goals as goal
 
 pub returns-then-not-hides_root : goal.returns-then-not-hides_root
 returns-then-not-hides_root c =
-    let shown : hides_root c.args.self.now.segments ≡ false = ap hides_root (sym c.segments.ensures.value) ∙ sym c.hides_root.ensures ∙ c.if-not-hides_root.true in
+    let shown : hides_root c.args.self.now.segments ≡ false = ap hides_root (sym c.segments.ensures.value) ∙ sym c.hides_root.ensures
+    ∙ c.if-not-hides_root.true in
     sym (spelled-text c.args.self.now c.segments.ensures.listed ∙ respelled_shown c.args.self.now shown)
 
 pub returns-then-is_absolute : goal.returns-then-is_absolute
@@ -14,6 +15,8 @@ returns-then-is_absolute c =
 
 pub returns : goal.returns
 returns c =
-    let hidden : hides_root c.args.self.now.segments ≡ true = ap hides_root (sym c.segments.ensures.value) ∙ sym c.hides_root.ensures ∙ c.if-not-hides_root.false in
+    let hidden : hides_root c.args.self.now.segments ≡ true = ap hides_root (sym c.segments.ensures.value) ∙ sym c.hides_root.ensures
+    ∙ c.if-not-hides_root.false in
     ap (λ l. record { absolute = true; segments = l }) (c.remove.ensures.items ∙ ap (λ q. drop 1 q.segments) c.self.view_is)
-    ∙ sym (spelled-text c.args.self.now c.segments.ensures.listed ∙ respelled_hidden c.args.self.now hidden (sym c.is_absolute.ensures ∙ c.if-is_absolute.false))
+    ∙ sym (spelled-text c.args.self.now c.segments.ensures.listed
+    ∙ respelled_hidden c.args.self.now hidden (sym c.is_absolute.ensures ∙ c.if-is_absolute.false))

@@ -25,7 +25,8 @@ invariant_of-result c =
 pub returns-clause-answer : goal.returns-clause-answer
 returns-clause-answer c =
     let counted : answer MAX_SEGMENTS (unrooted c.args.bytes.now) ≡ Ok c.in_ok-count.count = search rules in
-    inl (rw (c.in_ok-segments.ensures, c.split_root-absolute.ensures.rest, c.split_root-absolute.ensures.root) (sym (accepted c.args.bytes.now c.in_ok-count.count counted)))
+    inl (rw (c.in_ok-segments.ensures, c.split_root-absolute.ensures.rest, c.split_root-absolute.ensures.root)
+    (sym (accepted c.args.bytes.now c.in_ok-count.count counted)))
 
 pub returns-in_err-count-clause-fault : goal.returns-in_err-count-clause-fault
 returns-in_err-count-clause-fault c =

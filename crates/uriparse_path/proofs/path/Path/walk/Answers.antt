@@ -1,6 +1,6 @@
-use Rattle.std.proofs.Common.{◌≡◌, sym, ap, ◌∙◌, flat_map, rules}
+use Rattle.std.proofs.Common.{◌≡◌, ap, ◌∙◌, flat_map, rules}
 use Rattle.uriparse_text.specs.declared.parts.canonical.Case.TheVariants.{Kept}
-use Rattle.uriparse_text.specs.Tokens.{spell, is_well_formed}
+use Rattle.uriparse_text.specs.Tokens.{spell}
 use Rattle.uriparse_text.specs.Canon.{canonical_tokens}
 use Rattle.uriparse_text.proofs.CanonLemmas.{spell-canonical}
 use Rattle.uriparse_path.specs.Path.{text}

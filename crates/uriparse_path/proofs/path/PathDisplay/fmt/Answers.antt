@@ -9,7 +9,8 @@ use Rattle.uriparse_path.proofs.path.PathDisplay.fmt.Goals.{then-self, else-self
 
 pub returns-in_ok-write_behind_slashes-clause-writes : goal.returns-in_ok-write_behind_slashes-clause-writes
 returns-in_ok-write_behind_slashes-clause-writes g c =
-    let whole : text c.args.self.now ≡ root c.self.inside.absolute ++ (c.in-Some.first.now ++ flat_map (λ s. slash ∷ s) c.in-Some.rest.now) = ap text (sym c.self.view_is) ∙ text-cons c.self.inside.absolute c.self.inside.segments.items c.in-Some.first.now c.in-Some.rest.now (search rules) in
+    let whole : text c.args.self.now ≡ root c.self.inside.absolute ++ (c.in-Some.first.now ++ flat_map (λ s. slash ∷ s) c.in-Some.rest.now) =
+    ap text (sym c.self.view_is) ∙ text-cons c.self.inside.absolute c.self.inside.segments.items c.in-Some.first.now c.in-Some.rest.now (search rules) in
     let first : c.if-self.write_str.now ≡ root c.self.inside.absolute = elim c.if-self.branch [
       | then-self w ↦ rw (w.if-self.true, w.write_str-is) refl
       | else-self w ↦ rw (w.if-self.false, w.write_str-is) refl
@@ -18,7 +19,8 @@ returns-in_ok-write_behind_slashes-clause-writes g c =
 
 pub returns-in_ok-write_behind_slashes-clause-styled : goal.returns-in_ok-write_behind_slashes-clause-styled
 returns-in_ok-write_behind_slashes-clause-styled g c flush ok =
-    let whole : text c.args.self.now ≡ root c.self.inside.absolute ++ (c.in-Some.first.now ++ flat_map (λ s. slash ∷ s) c.in-Some.rest.now) = ap text (sym c.self.view_is) ∙ text-cons c.self.inside.absolute c.self.inside.segments.items c.in-Some.first.now c.in-Some.rest.now (search rules) in
+    let whole : text c.args.self.now ≡ root c.self.inside.absolute ++ (c.in-Some.first.now ++ flat_map (λ s. slash ∷ s) c.in-Some.rest.now) =
+    ap text (sym c.self.view_is) ∙ text-cons c.self.inside.absolute c.self.inside.segments.items c.in-Some.first.now c.in-Some.rest.now (search rules) in
     let begins : c.if-self.write_str.now ≡ root c.self.inside.absolute = elim c.if-self.branch [
       | then-self w ↦ rw (w.if-self.true, w.write_str-is) refl
       | else-self w ↦ rw (w.if-self.false, w.write_str-is) refl

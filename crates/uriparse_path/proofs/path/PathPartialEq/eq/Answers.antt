@@ -7,5 +7,6 @@ use Rattle.uriparse_path.proofs.path.PathPartialEq.eq.Goals as goal
 
 pub returns : goal.returns
 returns c =
-    let walked : IsTrue c.same_walks.result ↔ (canonical_tokens Kept (text c.args.self.now) ≡ canonical_tokens Kept (text c.args.other.now)) = rw (sym c.walk.ensures.tokens, sym c.walk-2.ensures.tokens) c.same_walks.ensures in
+    let walked : IsTrue c.same_walks.result ↔ (canonical_tokens Kept (text c.args.self.now) ≡ canonical_tokens Kept (text c.args.other.now)) =
+    rw (sym c.walk.ensures.tokens, sym c.walk-2.ensures.tokens) c.same_walks.ensures in
     same_from_tokens Kept (text c.args.self.now) (text c.args.other.now) c.same_walks.result c.walk.ensures.formed c.walk-2.ensures.formed walked

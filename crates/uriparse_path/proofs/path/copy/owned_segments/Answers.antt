@@ -9,7 +9,8 @@ none_left (s ∷ l) h = absurd (omega (arith, h))
 pub loop-segment-preserved : goal.loop-segment-preserved
 loop-segment-preserved c =
     let i = c.loop-segment.invariant in
-    let count : length (into_iter_items c.loop-segment.segment-iterator) ≡ length (c.in-Some.segment ∷ into_iter_items c.next.new.self) = ap length c.in-Some.ensures.steps.0 in (
+    let count : length (into_iter_items c.loop-segment.segment-iterator) ≡ length (c.in-Some.segment ∷ into_iter_items c.next.new.self) =
+    ap length c.in-Some.ensures.steps.0 in (
       tt,
       tt,
       ap (λ v. v ++ into_iter_items c.next.new.self) (c.in_ok-push.ensures.items ∙ ap (λ x. c.loop-segment.owned.items ++ x ∷ []) c.in_ok-into_owned.ensures)
@@ -22,5 +23,6 @@ loop-segment-preserved c =
 pub returns : goal.returns
 returns c =
     let i = c.loop-segment.invariant in
-    let none : into_iter_items c.loop-segment.segment-iterator ≡ [] = none_left (into_iter_items c.loop-segment.segment-iterator) (i.3 ∙ c.in-None.ensures.steps.0) in
+    let none : into_iter_items c.loop-segment.segment-iterator ≡ [] =
+    none_left (into_iter_items c.loop-segment.segment-iterator) (i.3 ∙ c.in-None.ensures.steps.0) in
     sym (ap (λ l. c.loop-segment.owned.items ++ l) none ∙ append-nil c.loop-segment.owned.items) ∙ i.2

@@ -6,22 +6,39 @@ use Rattle.uriparse_path.proofs.path.dots.replay_segment.Goals as goal
 
 pub returns-then-not-is_last-2-clause-segments : goal.returns-then-not-is_last-2-clause-segments
 returns-then-not-is_last-2-clause-segments c =
-    rw c.saturating_sub-kept.ensures (double_skipped c.args.segments.now.items c.args.kept c.args.at c.index-2.result.now c.requires.order (omega arith) c.index-2.ensures (sym c.is_double_dot_segment.ensures ∙ c.if-is_double_dot_segment.true) (omega arith))
+    rw c.saturating_sub-kept.ensures (double_skipped c.args.segments.now.items c.args.kept c.args.at c.index-2.result.now c.requires.order (omega arith)
+    c.index-2.ensures (sym c.is_double_dot_segment.ensures ∙ c.if-is_double_dot_segment.true) (omega arith))
 
 pub returns-then-not-is_last-2-clause-root : goal.returns-then-not-is_last-2-clause-root
 returns-then-not-is_last-2-clause-root c =
-    let now : c.if-rooted.rooted ≡ (c.args.rooted || spec.is_one (take c.args.kept c.args.segments.now.items)) = elim c.if-rooted.branch [ then-rooted w ↦ w.rooted-is ∙ w.if-rooted.true ∙ sym (ap (λ v. v || spec.is_one (take c.args.kept c.args.segments.now.items)) w.if-rooted.true) | else-rooted w ↦ w.rooted-is ∙ sym (ap (λ v. v || spec.is_one (take c.args.kept c.args.segments.now.items)) w.if-rooted.false ∙ is_one-take c.args.segments.now.items c.args.kept (omega arith)) ] in
-    rw c.saturating_sub-kept.ensures (double_rooted c.args.segments.now.items c.args.kept c.args.at c.index-2.result.now c.requires.order (omega arith) c.index-2.ensures c.args.rooted c.if-rooted.rooted (sym c.is_double_dot_segment.ensures ∙ c.if-is_double_dot_segment.true) now)
+    let now : c.if-rooted.rooted ≡ (c.args.rooted || spec.is_one (take c.args.kept c.args.segments.now.items)) =
+    elim c.if-rooted.branch [
+      | then-rooted w ↦ w.rooted-is ∙ w.if-rooted.true
+          ∙ sym (ap (λ v. v || spec.is_one (take c.args.kept c.args.segments.now.items)) w.if-rooted.true)
+      | else-rooted w ↦ w.rooted-is
+          ∙ sym (ap (λ v. v || spec.is_one (take c.args.kept c.args.segments.now.items)) w.if-rooted.false
+          ∙ is_one-take c.args.segments.now.items c.args.kept (omega arith))
+    ] in
+    rw c.saturating_sub-kept.ensures (double_rooted c.args.segments.now.items c.args.kept c.args.at c.index-2.result.now c.requires.order (omega arith)
+    c.index-2.ensures c.args.rooted c.if-rooted.rooted (sym c.is_double_dot_segment.ensures ∙ c.if-is_double_dot_segment.true) now)
 
 pub returns-then-is_double_dot_segment-clause-segments :
     goal.returns-then-is_double_dot_segment-clause-segments
 returns-then-is_double_dot_segment-clause-segments c =
-    rw (c.saturating_sub-kept.ensures, c.empty-then-is_double_dot_segment.ensures) (double_last c.args.segments.now.items c.args.kept c.args.at c.index-2.result.now c.requires.order (omega arith) c.index-2.ensures (sym c.is_double_dot_segment.ensures ∙ c.if-is_double_dot_segment.true) (omega arith))
+    rw (c.saturating_sub-kept.ensures, c.empty-then-is_double_dot_segment.ensures)
+    (double_last c.args.segments.now.items c.args.kept c.args.at c.index-2.result.now c.requires.order (omega arith) c.index-2.ensures
+    (sym c.is_double_dot_segment.ensures ∙ c.if-is_double_dot_segment.true) (omega arith))
 
 pub returns-clause-segments : goal.returns-clause-segments
 returns-clause-segments c =
-    rw c.swap.ensures.items (other_replayed c.args.segments.now.items c.args.kept c.args.at c.index-2.result.now c.requires.order (omega arith) c.index-2.ensures (sym (c.is_single_dot_segment.ensures ∙ ap spec.is_single_dot (same_read c.args.segments.now.items c.args.at c.index.result.now c.index-2.result.now (omega arith) c.index.ensures c.index-2.ensures)) ∙ c.if-is_single_dot_segment.false) (sym c.is_double_dot_segment.ensures ∙ c.if-is_double_dot_segment.false))
+    rw c.swap.ensures.items (other_replayed c.args.segments.now.items c.args.kept c.args.at c.index-2.result.now c.requires.order (omega arith)
+    c.index-2.ensures (sym (c.is_single_dot_segment.ensures
+    ∙ ap spec.is_single_dot (same_read c.args.segments.now.items c.args.at c.index.result.now c.index-2.result.now (omega arith) c.index.ensures
+    c.index-2.ensures)) ∙ c.if-is_single_dot_segment.false) (sym c.is_double_dot_segment.ensures ∙ c.if-is_double_dot_segment.false))
 
 pub returns-clause-root : goal.returns-clause-root
 returns-clause-root c =
-    rw c.swap.ensures.items (other_rooted c.args.segments.now.items c.args.kept c.args.at c.index-2.result.now c.requires.order (omega arith) c.index-2.ensures c.args.rooted (sym (c.is_single_dot_segment.ensures ∙ ap spec.is_single_dot (same_read c.args.segments.now.items c.args.at c.index.result.now c.index-2.result.now (omega arith) c.index.ensures c.index-2.ensures)) ∙ c.if-is_single_dot_segment.false) (sym c.is_double_dot_segment.ensures ∙ c.if-is_double_dot_segment.false))
+    rw c.swap.ensures.items (other_rooted c.args.segments.now.items c.args.kept c.args.at c.index-2.result.now c.requires.order (omega arith)
+    c.index-2.ensures c.args.rooted (sym (c.is_single_dot_segment.ensures
+    ∙ ap spec.is_single_dot (same_read c.args.segments.now.items c.args.at c.index.result.now c.index-2.result.now (omega arith) c.index.ensures
+    c.index-2.ensures)) ∙ c.if-is_single_dot_segment.false) (sym c.is_double_dot_segment.ensures ∙ c.if-is_double_dot_segment.false))

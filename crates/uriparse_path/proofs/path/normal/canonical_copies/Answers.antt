@@ -9,11 +9,15 @@ pub loop-segment-preserved : goal.loop-segment-preserved
 loop-segment-preserved c = elim c.if-not-is_normalized.branch [
   | then-not-is_normalized+in_ok-to_normalized+in_ok-push w ↦
       ap (λ v. v.items ++ map canon (filter strays (drop (c.loop-segment.segment-index + 1) c.args.segments.now))) w.copies-is
-      ∙ ap (λ u. u ++ map canon (filter strays (drop (c.loop-segment.segment-index + 1) c.args.segments.now))) (w.in_ok-push.ensures.items ∙ ap (λ x. c.loop-segment.copies.items ++ x ∷ []) w.in_ok-to_normalized.ensures)
-      ∙ copied_more c.args.segments.now c.loop-segment.copies.items (map canon (filter strays c.args.segments.now)) c.loop-segment.segment-index c.segment-item.result c.loop-segment-test.true c.segment-item.is (λ e. false≢true (sym w.if-not-is_normalized.true ∙ c.is_normalized.ensures.1 e)) c.loop-segment.invariant
+      ∙ ap (λ u. u ++ map canon (filter strays (drop (c.loop-segment.segment-index + 1) c.args.segments.now))) (w.in_ok-push.ensures.items
+      ∙ ap (λ x. c.loop-segment.copies.items ++ x ∷ []) w.in_ok-to_normalized.ensures)
+      ∙ copied_more c.args.segments.now c.loop-segment.copies.items (map canon (filter strays c.args.segments.now)) c.loop-segment.segment-index
+      c.segment-item.result c.loop-segment-test.true c.segment-item.is (λ e. false≢true (sym w.if-not-is_normalized.true
+      ∙ c.is_normalized.ensures.1 e)) c.loop-segment.invariant
   | else-not-is_normalized w ↦
       ap (λ v. v.items ++ map canon (filter strays (drop (c.loop-segment.segment-index + 1) c.args.segments.now))) w.copies-is
-      ∙ copied_kept c.args.segments.now c.loop-segment.copies.items (map canon (filter strays c.args.segments.now)) c.loop-segment.segment-index c.segment-item.result c.loop-segment-test.true c.segment-item.is (c.is_normalized.ensures.0 w.if-not-is_normalized.false) c.loop-segment.invariant
+      ∙ copied_kept c.args.segments.now c.loop-segment.copies.items (map canon (filter strays c.args.segments.now)) c.loop-segment.segment-index
+      c.segment-item.result c.loop-segment-test.true c.segment-item.is (c.is_normalized.ensures.0 w.if-not-is_normalized.false) c.loop-segment.invariant
 ]
 
 pub returns-in_err-to_normalized-clause-takes_no_memory : goal.returns-in_err-to_normalized-clause-takes_no_memory

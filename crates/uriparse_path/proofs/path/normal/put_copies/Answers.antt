@@ -8,21 +8,37 @@ use Rattle.uriparse_path.proofs.path.normal.put_copies.Goals as goal
 pub loop-at-preserved-in-Some : goal.loop-at-preserved-in-Some
 loop-at-preserved-in-Some c =
     let differs : canon c.index.result.now ≡ c.index.result.now → ⊥ = λ e. false≢true (sym c.if-not-is_normalized.true ∙ c.is_normalized.ensures.1 e) in
-    let popped = pushed_same c.pop.new.self.items (map canon (filter strays (take (c.loop-at.at - 1) c.args.segments.now.items))) c.in-Some.copy (canon c.index.result.now)
-    (sym c.in-Some.ensures.items ∙ copies_less c.loop-at.segments.items c.args.segments.now.items c.loop-at.at (c.loop-at.at - 1) c.index.result.now (omega arith) (omega arith) (omega (arith, c.loop-at.invariant.long)) c.index.ensures c.loop-at.invariant.front c.loop-at.invariant.back c.loop-at.copies.items c.loop-at.invariant.copies differs) in
+    let popped = pushed_same c.pop.new.self.items (map canon (filter strays (take (c.loop-at.at - 1) c.args.segments.now.items))) c.in-Some.copy
+    (canon c.index.result.now)
+    (sym c.in-Some.ensures.items
+    ∙ copies_less c.loop-at.segments.items c.args.segments.now.items c.loop-at.at (c.loop-at.at - 1) c.index.result.now (omega arith) (omega arith)
+    (omega (arith, c.loop-at.invariant.long)) c.index.ensures c.loop-at.invariant.front c.loop-at.invariant.back c.loop-at.copies.items
+    c.loop-at.invariant.copies differs) in
     record {
       within = omega arith;
       long = c.put.ensures.len ∙ c.loop-at.invariant.long;
-      front = ap (take (c.loop-at.at - 1)) c.put.ensures.items ∙ front_more c.loop-at.segments.items c.args.segments.now.items c.loop-at.at (c.loop-at.at - 1) c.index.result.now (omega arith) (omega arith) (omega (arith, c.loop-at.invariant.long)) c.index.ensures c.loop-at.invariant.front c.loop-at.invariant.back c.in-Some.copy;
-      back = ap (drop (c.loop-at.at - 1)) c.put.ensures.items ∙ back_more c.loop-at.segments.items c.args.segments.now.items c.loop-at.at (c.loop-at.at - 1) c.index.result.now (omega arith) (omega arith) (omega (arith, c.loop-at.invariant.long)) c.index.ensures c.loop-at.invariant.front c.loop-at.invariant.back c.in-Some.copy popped.1;
+      front = ap (take (c.loop-at.at - 1)) c.put.ensures.items
+          ∙ front_more c.loop-at.segments.items c.args.segments.now.items c.loop-at.at (c.loop-at.at - 1) c.index.result.now (omega arith) (omega arith)
+          (omega (arith, c.loop-at.invariant.long)) c.index.ensures c.loop-at.invariant.front c.loop-at.invariant.back c.in-Some.copy;
+      back = ap (drop (c.loop-at.at - 1)) c.put.ensures.items
+          ∙ back_more c.loop-at.segments.items c.args.segments.now.items c.loop-at.at (c.loop-at.at - 1) c.index.result.now (omega arith) (omega arith)
+          (omega (arith, c.loop-at.invariant.long)) c.index.ensures c.loop-at.invariant.front c.loop-at.invariant.back c.in-Some.copy popped.1;
       copies = popped.0;
     }
 
 pub loop-at-preserved-in_default : goal.loop-at-preserved-in_default
 loop-at-preserved-in_default c =
     let differs : canon c.index.result.now ≡ c.index.result.now → ⊥ = λ e. false≢true (sym c.if-not-is_normalized.true ∙ c.is_normalized.ensures.1 e) in
-    let some = copies_less c.loop-at.segments.items c.args.segments.now.items c.loop-at.at (c.loop-at.at - 1) c.index.result.now (omega arith) (omega arith) (omega (arith, c.loop-at.invariant.long)) c.index.ensures c.loop-at.invariant.front c.loop-at.invariant.back c.loop-at.copies.items c.loop-at.invariant.copies differs in
-    absurd (omega (arith, ap length some, length-append (map canon (filter strays (take (c.loop-at.at - 1) c.args.segments.now.items))) (canon c.index.result.now ∷ []), c.in_default.ensures.cases.0))
+    let some = copies_less c.loop-at.segments.items c.args.segments.now.items c.loop-at.at (c.loop-at.at - 1) c.index.result.now (omega arith) (omega arith)
+    (omega (arith, c.loop-at.invariant.long)) c.index.ensures c.loop-at.invariant.front c.loop-at.invariant.back c.loop-at.copies.items
+    c.loop-at.invariant.copies differs in
+    absurd (omega (
+      arith,
+      ap length some,
+      length-append (map canon (filter strays (take (c.loop-at.at - 1) c.args.segments.now.items)))
+          (canon c.index.result.now ∷ []),
+      c.in_default.ensures.cases.0,
+    ))
 
 pub loop-at-preserved : goal.loop-at-preserved
 loop-at-preserved c =
@@ -30,9 +46,13 @@ loop-at-preserved c =
     record {
       within = omega arith;
       long = c.loop-at.invariant.long;
-      front = front_less c.loop-at.segments.items c.args.segments.now.items c.loop-at.at (c.loop-at.at - 1) c.index.result.now (omega arith) (omega arith) (omega (arith, c.loop-at.invariant.long)) c.index.ensures c.loop-at.invariant.front c.loop-at.invariant.back;
-      back = back_kept c.loop-at.segments.items c.args.segments.now.items c.loop-at.at (c.loop-at.at - 1) c.index.result.now (omega arith) (omega arith) (omega (arith, c.loop-at.invariant.long)) c.index.ensures c.loop-at.invariant.front c.loop-at.invariant.back same;
-      copies = copies_same c.loop-at.segments.items c.args.segments.now.items c.loop-at.at (c.loop-at.at - 1) c.index.result.now (omega arith) (omega arith) (omega (arith, c.loop-at.invariant.long)) c.index.ensures c.loop-at.invariant.front c.loop-at.invariant.back c.loop-at.copies.items c.loop-at.invariant.copies same;
+      front = front_less c.loop-at.segments.items c.args.segments.now.items c.loop-at.at (c.loop-at.at - 1) c.index.result.now (omega arith) (omega arith)
+          (omega (arith, c.loop-at.invariant.long)) c.index.ensures c.loop-at.invariant.front c.loop-at.invariant.back;
+      back = back_kept c.loop-at.segments.items c.args.segments.now.items c.loop-at.at (c.loop-at.at - 1) c.index.result.now (omega arith) (omega arith)
+          (omega (arith, c.loop-at.invariant.long)) c.index.ensures c.loop-at.invariant.front c.loop-at.invariant.back same;
+      copies = copies_same c.loop-at.segments.items c.args.segments.now.items c.loop-at.at (c.loop-at.at - 1) c.index.result.now (omega arith) (omega arith)
+          (omega (arith, c.loop-at.invariant.long)) c.index.ensures c.loop-at.invariant.front c.loop-at.invariant.back c.loop-at.copies.items
+          c.loop-at.invariant.copies same;
     }
 
 pub returns-then-is_empty : goal.returns-then-is_empty

@@ -14,4 +14,6 @@ invariant_of-result c =
     let is_authority : IfSome c.args.authority authority.Valid = search rules in
     let is_query : IfSome c.args.query IsQuery = search rules in
     let is_fragment : IfSome c.args.fragment IsFragment = search rules in
-    tested_parts given c.place-path.result c.has_scheme-has_scheme.result c.is_some-has_authority.result c.check_place.result c.in_ok-check_place.field-0 c.has_scheme-has_scheme.ensures.valid is_authority c.check_place.ensures.listed is_query is_fragment c.has_scheme-has_scheme.ensures.test c.is_some-has_authority.ensures c.check_place.ensures.answer passed c.place-path.ensures
+    tested_parts given c.place-path.result c.has_scheme-has_scheme.result c.is_some-has_authority.result c.check_place.result c.in_ok-check_place.field-0
+    c.has_scheme-has_scheme.ensures.valid is_authority c.check_place.ensures.listed is_query is_fragment c.has_scheme-has_scheme.ensures.test
+    c.is_some-has_authority.ensures c.check_place.ensures.answer passed c.place-path.ensures

@@ -6,7 +6,8 @@ use Rattle.uriparse_reference.proofs.uri_reference.URIReference.is_normalized.Go
 
 pub returns-clause-text : goal.returns-clause-text
 returns-clause-text c =
-    subst (λ v. (v ≡ true) ↔ (print (normal c.args.self.now) ≡ print c.args.self.now)) (sym c.is_normal.ensures.test) (normal_exactly c.args.self.now c.is_normal.ensures.valid)
+    subst (λ v. (v ≡ true) ↔ (print (normal c.args.self.now) ≡ print c.args.self.now)) (sym c.is_normal.ensures.test)
+    (normal_exactly c.args.self.now c.is_normal.ensures.valid)
 
 pub returns-clause-form : goal.returns-clause-form
 returns-clause-form c h = kept_whole c.args.self.now c.is_normal.ensures.valid (sym c.is_normal.ensures.test ∙ h)

@@ -1,6 +1,6 @@
 use Rattle.std.proofs.Common.{◌≡◌, sym, ap, ◌∙◌}
 use Rattle.uriparse_reference.specs.declared.uri_reference.edit.Edit.TheVariants as edits
-use Rattle.uriparse_reference.specs.Edits.{of_parts, edited}
+use Rattle.uriparse_reference.specs.Edits.{of_parts}
 use Rattle.uriparse_reference.proofs.EditLemmas.{build}
 use Rattle.uriparse_reference.proofs.RunLemmas.{edited_parts}
 use Rattle.uriparse_reference.proofs.uri_reference.URIReference.map_scheme.Goals as goal

@@ -7,7 +7,8 @@ use Rattle.uriparse_authority.specs.Authority as authority
 use Rattle.uriparse_reference.specs.declared.uri_reference.error.URIReferenceError.TheVariants as errors
 use Rattle.uriparse_reference.specs.Cuts.{scheme_text, authority_text, path_text, query_text, fragment_text}
 use Rattle.uriparse_reference.specs.Reading.{path_reading}
-use Rattle.uriparse_reference.proofs.ReferenceLemmas.{found, assembled, accepted, refused, refusal_is, path_reading_is, refused_fit, refused_query, refused_fragment, scheme_present, text_present}
+use Rattle.uriparse_reference.proofs.ReferenceLemmas.{found, assembled, accepted, refused, refusal_is, path_reading_is, refused_fit, refused_query}
+use Rattle.uriparse_reference.proofs.ReferenceLemmas.{refused_fragment, scheme_present, text_present}
 use Rattle.uriparse_reference.proofs.ValidLemmas.{valid}
 use Rattle.uriparse_reference.proofs.PieceLemmas.{refused_early, path_early, none_early}
 use Rattle.uriparse_reference.proofs.uri_reference.URIReference.read.Goals as goal
@@ -16,10 +17,14 @@ pub invariant_of-result : goal.invariant_of-result
 invariant_of-result c =
     let t = c.args.bytes.now in
     let i : of_piece errors.Authority (if_present authority.reading (authority_text t)) ≡ Ok c.in_ok-authority.authority = search rules in
-    let there : is_some (authority_text t) ≡ c.is_some-has_authority.result = ap is_some (sym c.cut-pieces.ensures.authority) ∙ text_present c.cut-pieces.result.authority ∙ sym c.is_some-has_authority.ensures in
-    let named : is_some (scheme_text t) ≡ c.is_some-has_scheme.result = scheme_present t ∙ ap is_some (sym c.cut-pieces.ensures.scheme) ∙ sym c.is_some-has_scheme.ensures in
+    let there : is_some (authority_text t) ≡ c.is_some-has_authority.result = ap is_some (sym c.cut-pieces.ensures.authority)
+    ∙ text_present c.cut-pieces.result.authority ∙ sym c.is_some-has_authority.ensures in
+    let named : is_some (scheme_text t) ≡ c.is_some-has_scheme.result = scheme_present t ∙ ap is_some (sym c.cut-pieces.ensures.scheme)
+    ∙ sym c.is_some-has_scheme.ensures in
     let path_was : c.read_path.result ≡ Ok c.in_ok-path.path = search rules in
-    let j : of_piece errors.Path (path_reading (is_some (authority_text t)) (path_text t)) ≡ Ok c.in_ok-path.path = ap (of_piece errors.Path) (path_reading_is t _ _ there c.cut-pieces.ensures.path) ∙ ⊎_elim (λ same. sym same ∙ path_was) (λ bad. absurd (cc)) c.read_path.ensures.answer in
+    let j : of_piece errors.Path (path_reading (is_some (authority_text t)) (path_text t)) ≡ Ok c.in_ok-path.path =
+    ap (of_piece errors.Path) (path_reading_is t _ _ there c.cut-pieces.ensures.path)
+    ∙ ⊎_elim (λ same. sym same ∙ path_was) (λ bad. absurd (cc)) c.read_path.ensures.answer in
     let rule = refusal_is t _ _ _ named there c.cut-pieces.ensures.path in
     let checked : c.check_path.result ≡ Ok c.in_ok-check_path.field-0 = search rules in
     let k = rule ∙ accepted _ _ (sym c.check_path.ensures ∙ checked) in
@@ -31,10 +36,14 @@ pub returns-in_err-check_path-clause-answer : goal.returns-in_err-check_path-cla
 returns-in_err-check_path-clause-answer c =
     let t = c.args.bytes.now in
     let i : of_piece errors.Authority (if_present authority.reading (authority_text t)) ≡ Ok c.in_ok-authority.authority = search rules in
-    let there : is_some (authority_text t) ≡ c.is_some-has_authority.result = ap is_some (sym c.cut-pieces.ensures.authority) ∙ text_present c.cut-pieces.result.authority ∙ sym c.is_some-has_authority.ensures in
-    let named : is_some (scheme_text t) ≡ c.is_some-has_scheme.result = scheme_present t ∙ ap is_some (sym c.cut-pieces.ensures.scheme) ∙ sym c.is_some-has_scheme.ensures in
+    let there : is_some (authority_text t) ≡ c.is_some-has_authority.result = ap is_some (sym c.cut-pieces.ensures.authority)
+    ∙ text_present c.cut-pieces.result.authority ∙ sym c.is_some-has_authority.ensures in
+    let named : is_some (scheme_text t) ≡ c.is_some-has_scheme.result = scheme_present t ∙ ap is_some (sym c.cut-pieces.ensures.scheme)
+    ∙ sym c.is_some-has_scheme.ensures in
     let path_was : c.read_path.result ≡ Ok c.in_ok-path.path = search rules in
-    let j : of_piece errors.Path (path_reading (is_some (authority_text t)) (path_text t)) ≡ Ok c.in_ok-path.path = ap (of_piece errors.Path) (path_reading_is t _ _ there c.cut-pieces.ensures.path) ∙ ⊎_elim (λ same. sym same ∙ path_was) (λ bad. absurd (cc)) c.read_path.ensures.answer in
+    let j : of_piece errors.Path (path_reading (is_some (authority_text t)) (path_text t)) ≡ Ok c.in_ok-path.path =
+    ap (of_piece errors.Path) (path_reading_is t _ _ there c.cut-pieces.ensures.path)
+    ∙ ⊎_elim (λ same. sym same ∙ path_was) (λ bad. absurd (cc)) c.read_path.ensures.answer in
     let rule = refusal_is t _ _ _ named there c.cut-pieces.ensures.path in
     let misfit : c.check_path.result ≡ Err c.in_err-check_path.field-0.0 = search rules in
     let answered : c.from_residual-in_err-check_path.result ≡ Err c.in_err-check_path.field-0.0 = search rules in
@@ -45,10 +54,14 @@ pub returns-in_err-query-clause-answer : goal.returns-in_err-query-clause-answer
 returns-in_err-query-clause-answer c =
     let t = c.args.bytes.now in
     let i : of_piece errors.Authority (if_present authority.reading (authority_text t)) ≡ Ok c.in_ok-authority.authority = search rules in
-    let there : is_some (authority_text t) ≡ c.is_some-has_authority.result = ap is_some (sym c.cut-pieces.ensures.authority) ∙ text_present c.cut-pieces.result.authority ∙ sym c.is_some-has_authority.ensures in
-    let named : is_some (scheme_text t) ≡ c.is_some-has_scheme.result = scheme_present t ∙ ap is_some (sym c.cut-pieces.ensures.scheme) ∙ sym c.is_some-has_scheme.ensures in
+    let there : is_some (authority_text t) ≡ c.is_some-has_authority.result = ap is_some (sym c.cut-pieces.ensures.authority)
+    ∙ text_present c.cut-pieces.result.authority ∙ sym c.is_some-has_authority.ensures in
+    let named : is_some (scheme_text t) ≡ c.is_some-has_scheme.result = scheme_present t ∙ ap is_some (sym c.cut-pieces.ensures.scheme)
+    ∙ sym c.is_some-has_scheme.ensures in
     let path_was : c.read_path.result ≡ Ok c.in_ok-path.path = search rules in
-    let j : of_piece errors.Path (path_reading (is_some (authority_text t)) (path_text t)) ≡ Ok c.in_ok-path.path = ap (of_piece errors.Path) (path_reading_is t _ _ there c.cut-pieces.ensures.path) ∙ ⊎_elim (λ same. sym same ∙ path_was) (λ bad. absurd (cc)) c.read_path.ensures.answer in
+    let j : of_piece errors.Path (path_reading (is_some (authority_text t)) (path_text t)) ≡ Ok c.in_ok-path.path =
+    ap (of_piece errors.Path) (path_reading_is t _ _ there c.cut-pieces.ensures.path)
+    ∙ ⊎_elim (λ same. sym same ∙ path_was) (λ bad. absurd (cc)) c.read_path.ensures.answer in
     let rule = refusal_is t _ _ _ named there c.cut-pieces.ensures.path in
     let checked : c.check_path.result ≡ Ok c.in_ok-check_path.field-0 = search rules in
     let k = rule ∙ accepted _ _ (sym c.check_path.ensures ∙ checked) in
@@ -60,10 +73,14 @@ pub returns-in_err-fragment-clause-answer : goal.returns-in_err-fragment-clause-
 returns-in_err-fragment-clause-answer c =
     let t = c.args.bytes.now in
     let i : of_piece errors.Authority (if_present authority.reading (authority_text t)) ≡ Ok c.in_ok-authority.authority = search rules in
-    let there : is_some (authority_text t) ≡ c.is_some-has_authority.result = ap is_some (sym c.cut-pieces.ensures.authority) ∙ text_present c.cut-pieces.result.authority ∙ sym c.is_some-has_authority.ensures in
-    let named : is_some (scheme_text t) ≡ c.is_some-has_scheme.result = scheme_present t ∙ ap is_some (sym c.cut-pieces.ensures.scheme) ∙ sym c.is_some-has_scheme.ensures in
+    let there : is_some (authority_text t) ≡ c.is_some-has_authority.result = ap is_some (sym c.cut-pieces.ensures.authority)
+    ∙ text_present c.cut-pieces.result.authority ∙ sym c.is_some-has_authority.ensures in
+    let named : is_some (scheme_text t) ≡ c.is_some-has_scheme.result = scheme_present t ∙ ap is_some (sym c.cut-pieces.ensures.scheme)
+    ∙ sym c.is_some-has_scheme.ensures in
     let path_was : c.read_path.result ≡ Ok c.in_ok-path.path = search rules in
-    let j : of_piece errors.Path (path_reading (is_some (authority_text t)) (path_text t)) ≡ Ok c.in_ok-path.path = ap (of_piece errors.Path) (path_reading_is t _ _ there c.cut-pieces.ensures.path) ∙ ⊎_elim (λ same. sym same ∙ path_was) (λ bad. absurd (cc)) c.read_path.ensures.answer in
+    let j : of_piece errors.Path (path_reading (is_some (authority_text t)) (path_text t)) ≡ Ok c.in_ok-path.path =
+    ap (of_piece errors.Path) (path_reading_is t _ _ there c.cut-pieces.ensures.path)
+    ∙ ⊎_elim (λ same. sym same ∙ path_was) (λ bad. absurd (cc)) c.read_path.ensures.answer in
     let rule = refusal_is t _ _ _ named there c.cut-pieces.ensures.path in
     let checked : c.check_path.result ≡ Ok c.in_ok-check_path.field-0 = search rules in
     let k = rule ∙ accepted _ _ (sym c.check_path.ensures ∙ checked) in
@@ -85,40 +102,53 @@ returns-in_err-path-clause-early c e known =
     let i : of_piece errors.Authority (if_present authority.reading (authority_text t)) ≡ Ok c.in_ok-authority.authority = search rules in
     let was : c.read_path.result ≡ Err c.in_err-path.field-0.0 = search rules in
     let answered : c.from_residual-in_err-path.result ≡ Err c.in_err-path.field-0.0 = search rules in
-    path_early t c.is_some-has_authority.result c.in_ok-authority.authority c.cut-pieces.result.path.now c.read_path.result _ c.in_err-path.field-0.0 e i c.cut-pieces.ensures.path c.read_path.ensures.fault was answered known
+    path_early t c.is_some-has_authority.result c.in_ok-authority.authority c.cut-pieces.result.path.now c.read_path.result _ c.in_err-path.field-0.0 e i
+    c.cut-pieces.ensures.path c.read_path.ensures.fault was answered known
 
 pub returns-in_err-check_path-clause-early : goal.returns-in_err-check_path-clause-early
 returns-in_err-check_path-clause-early c e known =
     let t = c.args.bytes.now in
     let i : of_piece errors.Authority (if_present authority.reading (authority_text t)) ≡ Ok c.in_ok-authority.authority = search rules in
-    let there : is_some (authority_text t) ≡ c.is_some-has_authority.result = ap is_some (sym c.cut-pieces.ensures.authority) ∙ text_present c.cut-pieces.result.authority ∙ sym c.is_some-has_authority.ensures in
+    let there : is_some (authority_text t) ≡ c.is_some-has_authority.result = ap is_some (sym c.cut-pieces.ensures.authority)
+    ∙ text_present c.cut-pieces.result.authority ∙ sym c.is_some-has_authority.ensures in
     let path_was : c.read_path.result ≡ Ok c.in_ok-path.path = search rules in
-    let j : of_piece errors.Path (path_reading (is_some (authority_text t)) (path_text t)) ≡ Ok c.in_ok-path.path = ap (of_piece errors.Path) (path_reading_is t _ _ there c.cut-pieces.ensures.path) ∙ ⊎_elim (λ same. sym same ∙ path_was) (λ bad. absurd (cc)) c.read_path.ensures.answer in
+    let j : of_piece errors.Path (path_reading (is_some (authority_text t)) (path_text t)) ≡ Ok c.in_ok-path.path =
+    ap (of_piece errors.Path) (path_reading_is t _ _ there c.cut-pieces.ensures.path)
+    ∙ ⊎_elim (λ same. sym same ∙ path_was) (λ bad. absurd (cc)) c.read_path.ensures.answer in
     none_early t (is_some (authority_text t)) c.in_ok-authority.authority c.in_ok-path.path _ e i j known
 
 pub returns-in_err-query-clause-early : goal.returns-in_err-query-clause-early
 returns-in_err-query-clause-early c e known =
     let t = c.args.bytes.now in
     let i : of_piece errors.Authority (if_present authority.reading (authority_text t)) ≡ Ok c.in_ok-authority.authority = search rules in
-    let there : is_some (authority_text t) ≡ c.is_some-has_authority.result = ap is_some (sym c.cut-pieces.ensures.authority) ∙ text_present c.cut-pieces.result.authority ∙ sym c.is_some-has_authority.ensures in
+    let there : is_some (authority_text t) ≡ c.is_some-has_authority.result = ap is_some (sym c.cut-pieces.ensures.authority)
+    ∙ text_present c.cut-pieces.result.authority ∙ sym c.is_some-has_authority.ensures in
     let path_was : c.read_path.result ≡ Ok c.in_ok-path.path = search rules in
-    let j : of_piece errors.Path (path_reading (is_some (authority_text t)) (path_text t)) ≡ Ok c.in_ok-path.path = ap (of_piece errors.Path) (path_reading_is t _ _ there c.cut-pieces.ensures.path) ∙ ⊎_elim (λ same. sym same ∙ path_was) (λ bad. absurd (cc)) c.read_path.ensures.answer in
+    let j : of_piece errors.Path (path_reading (is_some (authority_text t)) (path_text t)) ≡ Ok c.in_ok-path.path =
+    ap (of_piece errors.Path) (path_reading_is t _ _ there c.cut-pieces.ensures.path)
+    ∙ ⊎_elim (λ same. sym same ∙ path_was) (λ bad. absurd (cc)) c.read_path.ensures.answer in
     none_early t (is_some (authority_text t)) c.in_ok-authority.authority c.in_ok-path.path _ e i j known
 
 pub returns-in_err-fragment-clause-early : goal.returns-in_err-fragment-clause-early
 returns-in_err-fragment-clause-early c e known =
     let t = c.args.bytes.now in
     let i : of_piece errors.Authority (if_present authority.reading (authority_text t)) ≡ Ok c.in_ok-authority.authority = search rules in
-    let there : is_some (authority_text t) ≡ c.is_some-has_authority.result = ap is_some (sym c.cut-pieces.ensures.authority) ∙ text_present c.cut-pieces.result.authority ∙ sym c.is_some-has_authority.ensures in
+    let there : is_some (authority_text t) ≡ c.is_some-has_authority.result = ap is_some (sym c.cut-pieces.ensures.authority)
+    ∙ text_present c.cut-pieces.result.authority ∙ sym c.is_some-has_authority.ensures in
     let path_was : c.read_path.result ≡ Ok c.in_ok-path.path = search rules in
-    let j : of_piece errors.Path (path_reading (is_some (authority_text t)) (path_text t)) ≡ Ok c.in_ok-path.path = ap (of_piece errors.Path) (path_reading_is t _ _ there c.cut-pieces.ensures.path) ∙ ⊎_elim (λ same. sym same ∙ path_was) (λ bad. absurd (cc)) c.read_path.ensures.answer in
+    let j : of_piece errors.Path (path_reading (is_some (authority_text t)) (path_text t)) ≡ Ok c.in_ok-path.path =
+    ap (of_piece errors.Path) (path_reading_is t _ _ there c.cut-pieces.ensures.path)
+    ∙ ⊎_elim (λ same. sym same ∙ path_was) (λ bad. absurd (cc)) c.read_path.ensures.answer in
     none_early t (is_some (authority_text t)) c.in_ok-authority.authority c.in_ok-path.path _ e i j known
 
 pub returns-clause-early : goal.returns-clause-early
 returns-clause-early c e known =
     let t = c.args.bytes.now in
     let i : of_piece errors.Authority (if_present authority.reading (authority_text t)) ≡ Ok c.in_ok-authority.authority = search rules in
-    let there : is_some (authority_text t) ≡ c.is_some-has_authority.result = ap is_some (sym c.cut-pieces.ensures.authority) ∙ text_present c.cut-pieces.result.authority ∙ sym c.is_some-has_authority.ensures in
+    let there : is_some (authority_text t) ≡ c.is_some-has_authority.result = ap is_some (sym c.cut-pieces.ensures.authority)
+    ∙ text_present c.cut-pieces.result.authority ∙ sym c.is_some-has_authority.ensures in
     let path_was : c.read_path.result ≡ Ok c.in_ok-path.path = search rules in
-    let j : of_piece errors.Path (path_reading (is_some (authority_text t)) (path_text t)) ≡ Ok c.in_ok-path.path = ap (of_piece errors.Path) (path_reading_is t _ _ there c.cut-pieces.ensures.path) ∙ ⊎_elim (λ same. sym same ∙ path_was) (λ bad. absurd (cc)) c.read_path.ensures.answer in
+    let j : of_piece errors.Path (path_reading (is_some (authority_text t)) (path_text t)) ≡ Ok c.in_ok-path.path =
+    ap (of_piece errors.Path) (path_reading_is t _ _ there c.cut-pieces.ensures.path)
+    ∙ ⊎_elim (λ same. sym same ∙ path_was) (λ bad. absurd (cc)) c.read_path.ensures.answer in
     none_early t (is_some (authority_text t)) c.in_ok-authority.authority c.in_ok-path.path _ e i j known

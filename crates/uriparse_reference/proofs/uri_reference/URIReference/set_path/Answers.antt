@@ -5,7 +5,15 @@ use Rattle.uriparse_reference.proofs.uri_reference.URIReference.set_path.Goals a
 
 pub invariant_of-self : goal.invariant_of-self
 invariant_of-self c =
-    let old : Parts = record { scheme = c.self.inside.scheme; authority = c.self.inside.authority; path = c.self.inside.path; query = c.self.inside.query; fragment = c.self.inside.fragment } in
+    let old : Parts = record {
+      scheme = c.self.inside.scheme;
+      authority = c.self.inside.authority;
+      path = c.self.inside.path;
+      query = c.self.inside.query;
+      fragment = c.self.inside.fragment;
+    } in
     let passed : c.check_place.result ≡ Ok c.in_ok-check_place.field-0 = search rules in
     let put : c.replace-old.new.dest ≡ c.place.result = search rules in
-    tested_path old c.args.path c.replace-old.new.dest c.is_some.result c.is_some-has_authority.result c.check_place.result c.in_ok-check_place.field-0 c.self.invariant c.check_place.ensures.listed c.is_some.ensures c.is_some-has_authority.ensures c.check_place.ensures.answer passed (put ∙ c.place.ensures)
+    tested_path old c.args.path c.replace-old.new.dest c.is_some.result c.is_some-has_authority.result c.check_place.result c.in_ok-check_place.field-0
+    c.self.invariant c.check_place.ensures.listed c.is_some.ensures c.is_some-has_authority.ensures c.check_place.ensures.answer passed (put
+    ∙ c.place.ensures)

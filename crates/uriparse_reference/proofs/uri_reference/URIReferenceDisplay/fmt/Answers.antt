@@ -20,4 +20,5 @@ returns-clause-styled g c flush ok =
     (ap (λ q. joined (scheme_part parts) (authority_part parts) (text inside.path) q (option_copied c.map-2.result)) query
     ∙ ap (λ f. joined (scheme_part parts) (authority_part parts) (text inside.path) inside.query f) fragment
     ∙ ap print c.self.view_is)
-    (has_written_styled_append _ _ _ _ _ _ first (has_written_styled_append _ _ _ _ _ _ second (has_written_styled_append _ _ _ _ _ _ third (has_written_styled_append _ _ _ _ _ _ fourth fifth))))
+    (has_written_styled_append _ _ _ _ _ _ first
+    (has_written_styled_append _ _ _ _ _ _ second (has_written_styled_append _ _ _ _ _ _ third (has_written_styled_append _ _ _ _ _ _ fourth fifth))))

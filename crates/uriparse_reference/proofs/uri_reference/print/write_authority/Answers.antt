@@ -9,4 +9,5 @@ pub returns-in_ok-fmt-clause-styled : goal.returns-in_ok-fmt-clause-styled
 returns-in_ok-fmt-clause-styled g c flush ok =
     let first = c.in_ok-write_str.ensures.styled flush refl in
     let second = c.in_ok-fmt.ensures.styled first.flush refl in
-    has_written_styled_of_eq _ _ _ _ _ (sym (ap (λ o. behind_slashes (option_map authority.print o)) c.in-Some.is)) (has_written_styled_append _ _ _ _ _ _ first second)
+    has_written_styled_of_eq _ _ _ _ _ (sym (ap (λ o. behind_slashes (option_map authority.print o)) c.in-Some.is))
+    (has_written_styled_append _ _ _ _ _ _ first second)

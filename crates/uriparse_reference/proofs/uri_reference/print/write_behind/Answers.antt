@@ -15,5 +15,6 @@ returns-in_ok-write_str-2-clause-styled g c flush ok =
     let first = c.in_ok-write_str.ensures.styled flush refl in
     let second = c.in_ok-write_str-2.ensures.styled first.flush refl in
     has_written_styled_of_eq _ _ _ _ _
-    (ap (λ m. m ++ c.in-Some.text.now) (one_byte c.args.mark.now c.requires) ∙ sym (ap (λ o. behind (slice_index c.args.mark.now 0) (option_copied o)) c.in-Some.is))
+    (ap (λ m. m ++ c.in-Some.text.now) (one_byte c.args.mark.now c.requires)
+    ∙ sym (ap (λ o. behind (slice_index c.args.mark.now 0) (option_copied o)) c.in-Some.is))
     (has_written_styled_append _ _ _ _ _ _ first second)

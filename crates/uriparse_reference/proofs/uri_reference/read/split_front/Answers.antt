@@ -4,8 +4,10 @@ use Rattle.uriparse_reference.proofs.uri_reference.read.split_front.Goals as goa
 
 pub returns-clause-front : goal.returns-clause-front
 returns-clause-front c =
-    rw (c.split_at.ensures.front, c.unwrap_or.ensures, c.end_of_scheme.ensures, place_or_length ends_scheme c.args.text.now) (take_place ends_scheme c.args.text.now)
+    rw (c.split_at.ensures.front, c.unwrap_or.ensures, c.end_of_scheme.ensures, place_or_length ends_scheme c.args.text.now)
+    (take_place ends_scheme c.args.text.now)
 
 pub returns-clause-rest : goal.returns-clause-rest
 returns-clause-rest c =
-    rw (c.split_at.ensures.back, c.unwrap_or.ensures, c.end_of_scheme.ensures, place_or_length ends_scheme c.args.text.now) (drop_place ends_scheme c.args.text.now)
+    rw (c.split_at.ensures.back, c.unwrap_or.ensures, c.end_of_scheme.ensures, place_or_length ends_scheme c.args.text.now)
+    (drop_place ends_scheme c.args.text.now)

@@ -16,12 +16,12 @@ invariant_of-result c =
     let was : c.target_path.result ≡ Ok c.in_ok-path.path = search rules in
     let valid = c.target_path.ensures.valid in
     resolved_valid c.args.base.now c.args.reference.now c.target_scheme.result c.target_authority.result c.in_ok-path.path c.target_query.result
-    c.borrowed_fragment.result c.target_path.result c.target_path.ensures.answer was c.target_scheme.ensures c.target_authority.ensures
-    c.target_query.ensures (c.borrowed_fragment.ensures ∙ c.fragment.ensures) valid.0 valid.1 c.requires
+    c.borrowed_text.result c.target_path.result c.target_path.ensures.answer was c.target_scheme.ensures c.target_authority.ensures
+    c.target_query.ensures (c.borrowed_text.ensures ∙ c.fragment.ensures) valid.0 valid.1 c.requires
 
 pub returns-clause-answer : goal.returns-clause-answer
 returns-clause-answer c =
     let was : c.target_path.result ≡ Ok c.in_ok-path.path = search rules in
     resolved_answer c.args.base.now c.args.reference.now c.target_scheme.result c.target_authority.result c.in_ok-path.path c.target_query.result
-    c.borrowed_fragment.result c.target_path.result c.target_path.ensures.answer was c.target_scheme.ensures c.target_authority.ensures
-    c.target_query.ensures (c.borrowed_fragment.ensures ∙ c.fragment.ensures)
+    c.borrowed_text.result c.target_path.result c.target_path.ensures.answer was c.target_scheme.ensures c.target_authority.ensures
+    c.target_query.ensures (c.borrowed_text.ensures ∙ c.fragment.ensures)

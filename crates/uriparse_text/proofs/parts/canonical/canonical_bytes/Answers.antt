@@ -8,9 +8,11 @@ use Rattle.uriparse_text.proofs.parts.canonical.canonical_bytes.Goals as goal
 pub tokens-preserved : goal.tokens-preserved
 tokens-preserved c =
     ap (λ u. u ++ spec.spelling c.args.case c.split_run.result.1.now) c.in_ok-extend_from_slice.ensures.items
-    ∙ spelled_run c.args.case c.push_token.new.bytes.items c.split_run.result.0.now c.in-Some.after.now c.split_run.result.1.now (spec.spelling c.args.case c.args.text.now)
+    ∙ spelled_run c.args.case c.push_token.new.bytes.items c.split_run.result.0.now c.in-Some.after.now c.split_run.result.1.now
+    (spec.spelling c.args.case c.args.text.now)
     (ap (λ u. u ++ spec.spelling c.args.case c.in-Some.after.now) (c.in_ok-push_token.ensures ∙ ap (λ t. c.tokens.bytes.items ++ spell t) c.canonical.ensures)
-    ∙ spelled_more c.args.case c.tokens.bytes.items c.tokens.rest.now c.in-Some.after.now c.in-Some.token (spec.spelling c.args.case c.args.text.now) c.in-Some.ensures.cut c.tokens.invariant)
+    ∙ spelled_more c.args.case c.tokens.bytes.items c.tokens.rest.now c.in-Some.after.now c.in-Some.token (spec.spelling c.args.case c.args.text.now)
+    c.in-Some.ensures.cut c.tokens.invariant)
     c.split_run.ensures.spelled
 
 pub returns : goal.returns

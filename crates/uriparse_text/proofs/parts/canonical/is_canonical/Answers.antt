@@ -8,7 +8,8 @@ pub returns-then-ne : goal.returns-then-ne
 returns-then-ne c =
     let differs : spec.canonical c.args.case c.in-Some.token ≡ c.in-Some.token → ⊥ = search rules in (
       λ h. absurd (false≢true h),
-      λ h. absurd (canonical_never c.args.case c.tokens.rest.now c.in-Some.after.now c.in-Some.token c.in-Some.ensures.cut c.in-Some.ensures.spelled differs (c.tokens.invariant.1 h)),
+      λ h. absurd (canonical_never c.args.case c.tokens.rest.now c.in-Some.after.now c.in-Some.token c.in-Some.ensures.cut c.in-Some.ensures.spelled differs
+          (c.tokens.invariant.1 h)),
     )
 
 pub tokens-preserved : goal.tokens-preserved

@@ -12,7 +12,8 @@ use Rattle.uriparse.proofs.uri.resolve.URI.resolve.Goals as goal
 pub returns-in-Err-clause-answer : goal.returns-in-Err-clause-answer
 returns-in-Err-clause-answer c =
     refusal_told (target c.args.self.now c.args.reference.now) c.in-Err.error c.told.result c.told.ensures
-    (subst (λ p. Answers (references.Path paths.ExceededMaximumLength) (references.Path paths.OutOfMemory) (target p c.args.reference.now) (Err c.in-Err.error)) c.self.view_is c.in-Err.ensures.answer)
+    (subst (λ p. Answers (references.Path paths.ExceededMaximumLength) (references.Path paths.OutOfMemory) (target p c.args.reference.now)
+    (Err c.in-Err.error)) c.self.view_is c.in-Err.ensures.answer)
 
 pub returns-in-Err-clause-equal : goal.returns-in-Err-clause-equal
 returns-in-Err-clause-equal c b q v w e f =
@@ -26,6 +27,8 @@ pub returns-in-Ok-clause-commutes : goal.returns-in-Ok-clause-commutes
 returns-in-Ok-clause-commutes c m =
     let base : Parts = c.args.self.now in
     let scheme : is_some base.scheme ≡ true = subst (λ p. is_some p.scheme ≡ true) c.self.view_is c.self.invariant in
-    let answer = subst (λ p. Answers (references.Path paths.ExceededMaximumLength) (references.Path paths.OutOfMemory) (target p c.args.reference.now) (Ok c.in-Ok.target)) c.self.view_is c.in-Ok.ensures.answer in
-    let same = commutes_answered base c.args.reference.now c.in-Ok.target (subst Valid c.self.view_is c.resolve.ensures.valid.0) c.resolve.ensures.valid.1 scheme answer m in
+    let answer = subst (λ p. Answers (references.Path paths.ExceededMaximumLength) (references.Path paths.OutOfMemory) (target p c.args.reference.now)
+    (Ok c.in-Ok.target)) c.self.view_is c.in-Ok.ensures.answer in
+    let same = commutes_answered base c.args.reference.now c.in-Ok.target (subst Valid c.self.view_is c.resolve.ensures.valid.0) c.resolve.ensures.valid.1
+    scheme answer m in
     (same.0, same.1, ap normal c.of_checked.ensures ∙ same.2)

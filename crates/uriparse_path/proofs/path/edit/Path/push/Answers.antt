@@ -1,4 +1,4 @@
-use Rattle.std.proofs.Common.{◌≡◌, ◌<◌, ◌≤◌, length, Ok, subst, arith}
+use Rattle.std.proofs.Common.{◌<◌, ◌≤◌, length, Ok, subst, arith}
 use Rattle.uriparse_path.specs.Path.{max_segments}
 use Rattle.uriparse_path.proofs.ReadLemmas.{limit_is}
 use Rattle.uriparse_path.proofs.EditLemmas.{full_answer, pushed_answer, pushed_fault, counted_pushed}
@@ -12,14 +12,17 @@ pub returns-then-len-ge-MAX_SEGMENTS-clause-answer :
     goal.returns-then-len-ge-MAX_SEGMENTS-clause-answer
 returns-then-len-ge-MAX_SEGMENTS-clause-answer c =
     let at : 65535 ≤ length c.self.inside.segments.items = omega arith in
-    full_answer c.args.self.now (Ok c.args.segment) (subst (λ p. max_segments ≤ length p.segments) c.self.view_is (subst (λ n. n ≤ length c.self.inside.segments.items) limit_is at))
+    full_answer c.args.self.now (Ok c.args.segment)
+    (subst (λ p. max_segments ≤ length p.segments) c.self.view_is (subst (λ n. n ≤ length c.self.inside.segments.items) limit_is at))
 
 pub invariant_of-self : goal.invariant_of-self
-invariant_of-self c = counted_pushed c.self.inside.segments.items c.put_last.new.segments.items c.args.segment c.put_last.result c.self.invariant (room c) c.put_last.ensures
+invariant_of-self c = counted_pushed c.self.inside.segments.items c.put_last.new.segments.items c.args.segment c.put_last.result c.self.invariant (room c)
+    c.put_last.ensures
 
 pub returns-clause-answer : goal.returns-clause-answer
 returns-clause-answer c =
-    pushed_answer c.args.self.now c.self.inside.absolute c.self.inside.segments.items c.put_last.new.segments.items c.args.segment c.put_last.result c.self.view_is (room c) c.put_last.ensures
+    pushed_answer c.args.self.now c.self.inside.absolute c.self.inside.segments.items c.put_last.new.segments.items c.args.segment c.put_last.result
+    c.self.view_is (room c) c.put_last.ensures
 
 pub returns-clause-fault : goal.returns-clause-fault
 returns-clause-fault c =

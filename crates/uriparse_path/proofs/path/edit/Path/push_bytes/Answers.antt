@@ -13,13 +13,15 @@ pub returns-then-len-ge-MAX_SEGMENTS-clause-answer :
     goal.returns-then-len-ge-MAX_SEGMENTS-clause-answer
 returns-then-len-ge-MAX_SEGMENTS-clause-answer c =
     let at : 65535 ≤ length c.self.inside.segments.items = omega arith in
-    full_answer c.args.self.now (segment.reading c.args.bytes.now) (subst (λ p. max_segments ≤ length p.segments) c.self.view_is (subst (λ n. n ≤ length c.self.inside.segments.items) limit_is at))
+    full_answer c.args.self.now (segment.reading c.args.bytes.now)
+    (subst (λ p. max_segments ≤ length p.segments) c.self.view_is (subst (λ n. n ≤ length c.self.inside.segments.items) limit_is at))
 
 pub returns-then-len-ge-MAX_SEGMENTS-clause-fault :
     goal.returns-then-len-ge-MAX_SEGMENTS-clause-fault
 returns-then-len-ge-MAX_SEGMENTS-clause-fault c =
     let at : 65535 ≤ length c.self.inside.segments.items = omega arith in
-    full_fault c.args.self.now (segment.reading c.args.bytes.now) (subst (λ p. max_segments ≤ length p.segments) c.self.view_is (subst (λ n. n ≤ length c.self.inside.segments.items) limit_is at))
+    full_fault c.args.self.now (segment.reading c.args.bytes.now)
+    (subst (λ p. max_segments ≤ length p.segments) c.self.view_is (subst (λ n. n ≤ length c.self.inside.segments.items) limit_is at))
 
 room : (c : After-from_residual) → length c.args.self.now.segments < max_segments
 room c = subst (λ p. length p.segments < max_segments) c.self.view_is (subst (λ n. length c.self.inside.segments.items < n) limit_is (omega arith))
@@ -30,9 +32,11 @@ read c = sym c.try_from_bytes.ensures ∙ c.in_err-try_from_bytes.was
 pub returns-in_err-try_from_bytes-clause-answer : goal.returns-in_err-try_from_bytes-clause-answer
 returns-in_err-try_from_bytes-clause-answer c =
     let answered : c.from_residual.result ≡ Err c.in_err-try_from_bytes.field-0.0 = search rules in
-    subst (λ r. SettlesUnless OutOfMemory c.args.self.now c.args.self.now c.from_residual.result (pushing c.args.self.now r)) (sym (read c)) (refused_answer c.args.self.now c.in_err-try_from_bytes.field-0.0 c.from_residual.result (room c) answered)
+    subst (λ r. SettlesUnless OutOfMemory c.args.self.now c.args.self.now c.from_residual.result (pushing c.args.self.now r)) (sym (read c))
+    (refused_answer c.args.self.now c.in_err-try_from_bytes.field-0.0 c.from_residual.result (room c) answered)
 
 pub returns-in_err-try_from_bytes-clause-fault : goal.returns-in_err-try_from_bytes-clause-fault
 returns-in_err-try_from_bytes-clause-fault c =
     let answered : c.from_residual.result ≡ Err c.in_err-try_from_bytes.field-0.0 = search rules in
-    subst (λ r. IfErr (pushing c.args.self.now r) (λ e. c.from_residual.result ≡ Err e)) (sym (read c)) (refused_fault c.args.self.now c.in_err-try_from_bytes.field-0.0 c.from_residual.result (room c) answered)
+    subst (λ r. IfErr (pushing c.args.self.now r) (λ e. c.from_residual.result ≡ Err e)) (sym (read c))
+    (refused_fault c.args.self.now c.in_err-try_from_bytes.field-0.0 c.from_residual.result (room c) answered)

@@ -1,4 +1,4 @@
-use Rattle.std.proofs.Common.{sym, ap, ◌∙◌, slice_get, rules}
+use Rattle.std.proofs.Common.{ap, ◌∙◌, slice_get}
 use Rattle.uriparse_path.proofs.DotLemmas.{first_of_dots, none_of_dots}
 use Rattle.uriparse_path.proofs.path.segment.Segment.may_be_dots.Goals as goal
 

@@ -1,7 +1,7 @@
 -- What std's reader gives is the one address that the text spells.
 use Rattle.std.proofs.Common.{ℕ, List, ap, sym, Some}
 use Rattle.uriparse_text.specs.Address.{SpellsIpv6}
-use Rattle.uriparse_text.proofs.AddressGrammar.{spells_from_colon_hex, colon_hex_from_spells}
+use Rattle.uriparse_text.proofs.AddressGrammarLemmas.{spells_from_colon_hex, colon_hex_from_spells}
 use Rattle.uriparse_text.proofs.AddressLemmas.{SpellsIpv6-unique, ipv6_reading-spelled, ipv6_reading-none}
 use Rattle.uriparse_text.proofs.address.ipv6.Ipv6Addr.parse_bytes.Goals as goal
 
@@ -16,7 +16,8 @@ returns-in-Ok c =
 
 pub returns-in-Err : goal.returns-in-Err
 returns-in-Err c =
-    let never : (a : List ℕ) → ¬ (SpellsIpv6 c.args.bytes.now a) = λ a spelled. c.in-Err.ensures (record { segments = a }) (colon_hex_from_spells _ _ spelled) in
+    let never : (a : List ℕ) → ¬ (SpellsIpv6 c.args.bytes.now a) =
+    λ a spelled. c.in-Err.ensures (record { segments = a }) (colon_hex_from_spells _ _ spelled) in
     record {
       value = sym (ipv6_reading-none _ never);
       found = tt;

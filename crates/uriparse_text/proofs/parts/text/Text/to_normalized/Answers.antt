@@ -11,8 +11,12 @@ spelled_in class case text bytes spelled e is f = subst (λ u. IsIn class u) (sy
 
 pub from_utf8_unchecked-requires : goal.from_utf8_unchecked-requires
 from_utf8_unchecked-requires g c =
-    IsUtf8-in_class g.K.Kind.class c.in_ok-bytes.bytes.items (spelled_in g.K.Kind.class c.case.result c.args.self.now c.as_bytes.result.now c.in_ok-bytes.bytes.items c.as_bytes.ensures.value c.as_bytes.ensures.class c.in_ok-bytes.ensures)
+    IsUtf8-in_class g.K.Kind.class c.in_ok-bytes.bytes.items
+    (spelled_in g.K.Kind.class c.case.result c.args.self.now c.as_bytes.result.now c.in_ok-bytes.bytes.items c.as_bytes.ensures.value
+    c.as_bytes.ensures.class c.in_ok-bytes.ensures)
 
 pub invariant_of-result : goal.invariant_of-result
 invariant_of-result g c =
-    subst (λ v. IsIn g.K.Kind.class v.items) (sym c.from_utf8_unchecked.ensures.value) (spelled_in g.K.Kind.class c.case.result c.args.self.now c.as_bytes.result.now c.in_ok-bytes.bytes.items c.as_bytes.ensures.value c.as_bytes.ensures.class c.in_ok-bytes.ensures)
+    subst (λ v. IsIn g.K.Kind.class v.items) (sym c.from_utf8_unchecked.ensures.value)
+    (spelled_in g.K.Kind.class c.case.result c.args.self.now c.as_bytes.result.now c.in_ok-bytes.bytes.items c.as_bytes.ensures.value
+    c.as_bytes.ensures.class c.in_ok-bytes.ensures)

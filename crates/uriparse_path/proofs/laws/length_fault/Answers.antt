@@ -1,0 +1,5 @@
+use Rattle.uriparse_path.proofs.LimitLemmas.{limit_passed}
+use Rattle.uriparse_path.proofs.laws.length_fault.Goals as goal
+
+pub returns : goal.returns
+returns c = limit_passed

@@ -1,0 +1,6 @@
+use Rattle.std.proofs.Common.{refl}
+use Rattle.uriparse_reference.proofs.TargetLemmas.{merge_text, merge_path}
+use Rattle.uriparse_reference.proofs.laws.one_merge.Goals as goal
+
+pub returns : goal.returns
+returns c = record { text = merge_text; path = merge_path; row = refl }

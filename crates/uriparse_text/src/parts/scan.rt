@@ -1,0 +1,251 @@
+//! Searches that test sixteen bytes at a time.
+ghost use Rattle.std.specs.Prelude.{◌≡◌, ◌==◌, ◌+◌, ◌-◌, ◌<◌, ◌≤◌, ◌/◌, ◌||◌, ◌++◌, if◌then◌else◌, ℕ, Bool, not, map, length, slice_index, bit_and};
+ghost use Rattle.std.specs.List.{position_or_len};
+ghost use Rattle.std.specs.Simd.Lanes.{mask_l, chunk};
+ghost use Rattle.uriparse_text.specs.Bytes.{is_hex};
+ghost use Rattle.uriparse_text.specs.Classes.{is_plain};
+ghost use Rattle.uriparse_text.specs.Marks.{AreMarks};
+
+use super::bits::{joined_ends, shifted_down};
+use super::class::Class;
+use std::simd::prelude::*;
+
+/// A test of one byte, and of sixteen at once.
+pub trait ByteTest {
+    ghost passes: { Self → ℕ → Bool };
+
+    /// Whether the byte passes.
+    fn has(&self, b: u8) -> bool
+        ensures { result ≡ passes self.now b };
+
+    /// Bit k is set where lane k passes.
+    fn marks(&self, lanes: u8x16) -> u64
+        ensures { result ≡ mask_l (map (passes self.now) lanes) };
+}
+
+/// The byte is this one.
+#[derive(Clone, Copy, Debug)]
+pub struct Is(pub u8);
+
+impl ByteTest for Is {
+    ghost passes = { λ s b. b == s.0 };
+
+    #[inline(always)]
+    fn has(&self, b: u8) -> bool {
+        b == self.0
+    }
+
+    #[inline(always)]
+    fn marks(&self, lanes: u8x16) -> u64 {
+        lanes.simd_eq(u8x16::splat(self.0)).to_bitmask()
+    }
+}
+
+/// The byte is one of these three.
+#[derive(Clone, Copy, Debug)]
+pub struct IsAny(pub u8, pub u8, pub u8);
+
+#[inline(always)]
+fn ones_at(lanes: u8x16, byte: u8) -> u8x16
+    ensures { result ≡ map (λ b. if b == byte then 1 else 0) lanes }
+{
+    lanes
+        .simd_eq(u8x16::splat(byte))
+        .select(u8x16::splat(1), u8x16::splat(0))
+}
+
+impl ByteTest for IsAny {
+    ghost passes = { λ s b. b == s.0 || b == s.1 || b == s.2 };
+
+    #[inline(always)]
+    fn has(&self, b: u8) -> bool {
+        b == self.0 || b == self.1 || b == self.2
+    }
+
+    #[inline(always)]
+    fn marks(&self, lanes: u8x16) -> u64 {
+        let found = ones_at(lanes, self.0) | ones_at(lanes, self.1) | ones_at(lanes, self.2);
+        found.simd_ne(u8x16::splat(0)).to_bitmask()
+    }
+}
+
+/// The byte does not stand for itself in this class.
+#[derive(Clone, Copy, Debug)]
+pub struct Outside(pub Class);
+
+// Eight kinds of bytes, a bit each. A byte is of a kind where both tables have its bit: LOW at the
+// byte's low half, HIGH at its high half.
+//
+//   1  `A` to `O`, `a` to `o`
+//   2  `P` to `Z`, `_`
+//   4  `p` to `z`, `~`
+//   8  `!`, `$`, `&` to `.`
+//  16  the digits, `;`, `=`
+//  32  `:`
+//  64  `@`
+// 128  `/`, `?`
+const LOW: [u8; 16] = [
+    86, 31, 23, 23, 31, 23, 31, 31, 31, 31, 47, 25, 9, 25, 13, 131,
+];
+
+const HIGH: [u8; 16] = [0, 0, 136, 176, 65, 2, 1, 4, 0, 0, 0, 0, 0, 0, 0, 0];
+
+#[inline(always)]
+fn by_low(table: [u8; 16], lanes: u8x16) -> u8x16
+    ensures { result ≡ map (λ b. slice_index table (bit_and b 15)) lanes }
+{
+    u8x16::from_array(table).swizzle_dyn(lanes & u8x16::splat(15))
+}
+
+#[inline(always)]
+fn by_high(table: [u8; 16], lanes: u8x16) -> u8x16
+    ensures { result ≡ map (λ b. slice_index table (b / 16)) lanes }
+{
+    u8x16::from_array(table).swizzle_dyn(lanes >> u8x16::splat(4))
+}
+
+impl ByteTest for Outside {
+    ghost passes = { λ s b. not (is_plain s.0 b) };
+
+    #[inline(always)]
+    fn has(&self, b: u8) -> bool {
+        !self.0.has(b)
+    }
+
+    #[inline(always)]
+    fn marks(&self, lanes: u8x16) -> u64 {
+        let kinds: u8 = match self.0 {
+            Class::Name => 31,
+            Class::UserInfo => 63,
+            Class::Segment => 127,
+            Class::Query => 255,
+        };
+        let found = by_low(LOW, lanes) & by_high(HIGH, lanes) & u8x16::splat(kinds);
+        found.simd_eq(u8x16::splat(0)).to_bitmask()
+    }
+}
+
+/// The byte is a hexadecimal digit.
+#[derive(Clone, Copy, Debug)]
+pub struct IsHex;
+
+// Two kinds, in the same way: 1 the digits, 2 `A` to `F` and `a` to `f`.
+const HEX_LOW: [u8; 16] = [1, 3, 3, 3, 3, 3, 3, 1, 1, 1, 0, 0, 0, 0, 0, 0];
+
+const HEX_HIGH: [u8; 16] = [0, 0, 0, 1, 2, 0, 2, 0, 0, 0, 0, 0, 0, 0, 0, 0];
+
+impl ByteTest for IsHex {
+    ghost passes = { λ _ b. is_hex b };
+
+    #[inline(always)]
+    fn has(&self, b: u8) -> bool {
+        b.is_ascii_hexdigit()
+    }
+
+    #[inline(always)]
+    fn marks(&self, lanes: u8x16) -> u64 {
+        let found = by_low(HEX_LOW, lanes) & by_high(HEX_HIGH, lanes);
+        found.simd_ne(u8x16::splat(0)).to_bitmask()
+    }
+}
+
+/// The first eight bytes and then the last eight.
+#[inline(always)]
+fn ends(text: &[u8]) -> u8x16
+    requires { 8 ≤ length text.now }
+    ensures { result ≡ chunk 0 8 text.now ++ chunk (length text.now - 8) 8 text.now }
+{
+    let front = u8x8::from_slice(text);
+    let back = u8x8::from_slice(&text[text.len() - 8..]);
+    front.shuffle(back, [0, 1, 2, 3, 4, 5, 6, 7, 8, 9, 10, 11, 12, 13, 14, 15])
+}
+
+/// The marks of a text of 8 to 16 bytes.
+#[inline(always)]
+pub fn marks_of_short<T: ByteTest>(test: &T, text: &[u8]) -> u64
+    requires least { 8 ≤ length text.now }
+    requires most { length text.now ≤ 16 }
+    ensures { AreMarks (T.passes test.now) text.now 0 (length text.now) result }
+{
+    joined_ends(test.marks(ends(text)), text.len())
+}
+
+/// Of the sixteen bytes from `at` on, the marks of those from `from` on.
+#[inline(always)]
+pub fn marks_of_run<T: ByteTest>(test: &T, text: &[u8], at: usize, from: usize) -> u64
+    requires least { at ≤ from }
+    requires most { from ≤ at + 16 }
+    requires room { at + 16 ≤ length text.now }
+    ensures { AreMarks (T.passes test.now) text.now from (at + 16 - from) result }
+{
+    shifted_down(test.marks(u8x16::from_slice(&text[at..])), from - at)
+}
+
+/// The place of the first byte that passes, or the length.
+#[inline(always)]
+pub fn first<T: ByteTest>(test: &T, text: &[u8]) -> usize
+    ensures place { result ≡ position_or_len (T.passes test.now) text.now }
+    ensures within { result ≤ length text.now }
+{
+    let len = text.len();
+    if len < 16 {
+        return first_by_one(test, text);
+    }
+    let mut at = 0;
+    'blocks: while len - at > 16 {
+        let found = first_in(test, text, at);
+        if found < 16 {
+            return at + found;
+        }
+        at += 16;
+    }
+    len - 16 + first_in(test, text, len - 16)
+}
+
+/// The marks of the next sixteen bytes, or of those that are left, and how many those bytes are.
+#[inline(always)]
+pub fn next_marks<T: ByteTest>(test: &T, text: &[u8], at: usize) -> (u64, usize)
+    requires least { 8 ≤ length text.now }
+    requires within { at ≤ length text.now }
+    ensures marks { AreMarks (T.passes test.now) text.now at result.1 result.0 }
+    ensures room { at + result.1 ≤ length text.now }
+    ensures some { at < length text.now → 0 < result.1 }
+    ensures few { result.1 ≤ 16 }
+{
+    let len = text.len();
+    if len - at >= 16 {
+        (marks_of_run(test, text, at, at), 16)
+    } else if len >= 16 {
+        (marks_of_run(test, text, len - 16, at), len - at)
+    } else {
+        (shifted_down(marks_of_short(test, text), at), len - at)
+    }
+}
+
+/// The same for a short text, byte by byte.
+#[inline(always)]
+fn first_by_one<T: ByteTest>(test: &T, text: &[u8]) -> usize
+    ensures { result ≡ position_or_len (T.passes test.now) text.now }
+{
+    let mut at = 0;
+    'bytes: while at < text.len() {
+        if test.has(text[at]) {
+            return at;
+        }
+        at += 1;
+    }
+    at
+}
+
+/// How many of these sixteen bytes come before the first that passes.
+#[inline(always)]
+fn first_in<T: ByteTest>(test: &T, text: &[u8], at: usize) -> usize
+    requires { at + 16 ≤ length text.now }
+    ensures { result ≡ position_or_len (T.passes test.now) (chunk at 16 text.now) }
+{
+    let marks = test.marks(u8x16::from_slice(&text[at..]));
+    if marks == 0 {
+        return 16;
+    }
+    marks.trailing_zeros() as usize
+}

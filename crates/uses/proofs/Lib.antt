@@ -1,0 +1,4 @@
+pub mod ListLemmas
+pub mod ProxyLemmas
+pub mod RedirectLemmas
+pub mod RegistryLemmas

@@ -1,0 +1,72 @@
+-- What the answers of reading and resolving tell of a redirect.
+use Rattle.std.proofs.Common.{◌≡◌, ℕ, List, Option, Some, None, Ok, Err, inl, inr, refl, sym, ap, subst, ◌∙◌}
+use Rattle.std.specs.Prelude.{◌⊎◌, Result, IfOk, MatchOption}
+use Rattle.uriparse_text.specs.Readings.{IsUnless}
+use Rattle.uriparse_path.specs.declared.path.error.PathError.TheVariants.{ExceededMaximumLength, OutOfMemory}
+use Rattle.uriparse_authority.specs.Authority.{AuthorityParts}
+use Rattle.uriparse_reference.specs.declared.uri_reference.error.URIReferenceError.{URIReferenceError}
+use Rattle.uriparse_reference.specs.declared.uri_reference.error.URIReferenceError.TheVariants as references
+use Rattle.uriparse_reference.specs.Reference.{Parts, Spells}
+use Rattle.uriparse_reference.specs.Target.{target}
+use Rattle.uriparse.specs.declared.uri.error.URIError.{URIError}
+use Rattle.uriparse.specs.declared.uri.error.URIError.TheVariants as uris
+use Rattle.uses.specs.declared.redirects.RedirectError.{RedirectError}
+use Rattle.uses.specs.declared.redirects.RedirectError.TheVariants as errors
+use Rattle.uses.specs.Redirects.{GoesTo, IsAt, IsWant, IsUnlessWant, Follows}
+
+-- what resolving answers
+abbrev pub Resolves : Option Parts → Result Parts URIError → Type 0
+Resolves o r = MatchOption o (r ≡ Err (uris.Path ExceededMaximumLength)) (λ t. IsUnless (uris.Path OutOfMemory) r (Ok t))
+
+-- why there is no answer
+pub unresolved : (o : Option Parts) (e : URIError) → Resolves o (Err e)
+    → ((o ≡ None) × (e ≡ uris.Path ExceededMaximumLength)) ⊎ (e ≡ uris.Path OutOfMemory)
+unresolved None e h = inl (refl, cc)
+unresolved (Some t) e (inl h) = absurd (cc)
+unresolved (Some t) e (inr h) = inr (cc)
+
+-- the answer
+pub resolved : (o : Option Parts) (t : Parts) → Resolves o (Ok t) → o ≡ Some t
+resolved None t h = absurd (cc)
+resolved (Some u) t (inl h) = let same : t ≡ u = cc in ap Some (sym same)
+resolved (Some u) t (inr h) = absurd (cc)
+
+-- what is refused behind the target, if there is one
+pub untargeted : (o : Option Parts) (a : AuthorityParts) (e : URIError) → Resolves o (Err e) → Follows o a (Err (errors.Target e))
+untargeted o a e h = of_both (unresolved o e h)
+  where
+    of_both : ((o ≡ None) × (e ≡ uris.Path ExceededMaximumLength)) ⊎ (e ≡ uris.Path OutOfMemory) → Follows o a (Err (errors.Target e))
+    of_both (inl k) = inl k.0
+    of_both (inr k) = inr k
+
+-- what is followed is where the Location leads to
+pub followed : (request r : Parts) (location : List ℕ) (a : AuthorityParts) (answer : Result Parts RedirectError) → Spells location r
+    → Follows (target request r) a answer → IfOk answer (λ t. GoesTo request location t × IsAt a t)
+followed request r location a (Ok t) s h = ((r, s, h.0), h.1)
+followed request r location a (Err e) s h = tt
+
+-- an allowed target is answered
+allowed_at : (o : Option Parts) (t : Parts) (a : AuthorityParts) (answer : Result Parts RedirectError) → o ≡ Some t → IsAt a t → Follows o a answer
+    → IsUnlessWant answer t
+allowed_at o t a (Ok u) is at h = cc
+allowed_at o t a (Err errors.Memory) is at h = inl refl
+allowed_at o t a (Err errors.Elsewhere) is at h =
+    let same : t ≡ h.0 = cc in
+    absurd (h.2 (subst (IsAt a) same at))
+allowed_at o t a (Err (errors.Target e)) is at (inl h) = absurd (cc)
+allowed_at o t a (Err (errors.Target e)) is at (inr h) = inr (inr (ap errors.Target h))
+allowed_at o t a (Err (errors.Location e)) is at h = absurd h
+
+pub allowed : (request r : Parts) (location : List ℕ) (a : AuthorityParts) (answer : Result Parts RedirectError)
+    → ((p : Parts) → Spells location p → IsUnless (references.Path OutOfMemory) (Ok r) (Ok p))
+    → Follows (target request r) a answer → (t : Parts) → GoesTo request location t → IsAt a t → IsUnlessWant answer t
+allowed request r location a answer only h t g at = allowed_at (target request r) t a answer (of_one (only g.0 g.1)) at h
+  where
+    of_one : IsUnless (references.Path OutOfMemory) (Ok r) (Ok g.0) → target request r ≡ Some t
+    of_one (inl k) = let same : r ≡ g.0 = cc in ap (target request) same ∙ g.2
+    of_one (inr k) = absurd (cc)
+
+-- a Location that goes somewhere is refused for want of memory alone
+pub unread : (e : URIReferenceError) (p : Parts) → IsUnless (references.Path OutOfMemory) (Err e) (Ok p) → IsWant (errors.Location e)
+unread e p (inl h) = absurd (cc)
+unread e p (inr h) = let same : e ≡ references.Path OutOfMemory = cc in inr (inl (ap errors.Location same))

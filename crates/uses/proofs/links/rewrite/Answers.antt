@@ -1,0 +1,12 @@
+use Rattle.std.proofs.Common.{take}
+use Rattle.uriparse_reference.specs.Target.{target}
+use Rattle.uses.specs.Links.{IsRefusal}
+use Rattle.uses.proofs.ListLemmas.{all_have, in_place}
+use Rattle.uses.proofs.links.rewrite.Goals as goal
+
+pub returns-in-Err-clause-refused : goal.returns-in-Err-clause-refused
+returns-in-Err-clause-refused c = record {
+  before = all_have (target c.args.base.now) (take c.loop-index.index c.args.links.now) c.loop-index.targets.items c.loop-index.invariant;
+  here = in_place (λ link. IsRefusal c.args.base.now link c.in-Err.error) c.args.links.now c.loop-index.index c.index-links-index.result
+      c.loop-index-test.true c.index-links-index.is c.in-Err.ensures.err;
+}

@@ -1,0 +1,13 @@
+-- Equal URIs.
+use Rattle.std.specs.Prelude.{Bool, List, bytes_eq}
+use Rattle.std.specs.List.{list_any}
+use Rattle.uriparse_reference.specs.Reference.{Parts}
+use Rattle.uriparse_reference.specs.Key.{key}
+
+-- what `==` answers
+abbrev pub is_equal : Parts → Parts → Bool
+is_equal p q = bytes_eq (key p) (key q)
+
+-- one of the list equals this one
+abbrev pub is_among : List Parts → Parts → Bool
+is_among ps q = list_any (λ p. is_equal p q) ps

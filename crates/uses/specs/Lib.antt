@@ -1,0 +1,6 @@
+pub mod Equal
+pub mod Links
+pub mod Proxy
+pub mod Redirects
+pub mod Registry
+pub mod Schemas

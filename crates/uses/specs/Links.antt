@@ -1,0 +1,30 @@
+-- Where links lead to: RFC 3986, section 5.2.2.
+use Rattle.std.specs.Prelude.{◌≡◌, ◌⊎◌, ℕ, true, List, [], ◌∷◌, ◌++◌, Some, None, map, take, is_some, slice_get}
+use Rattle.std.specs.List.{list_all}
+use Rattle.std.specs.Option.{IsSomeAnd}
+use Rattle.uriparse_path.specs.declared.path.error.PathError.TheVariants.{ExceededMaximumLength, OutOfMemory}
+use Rattle.uriparse_reference.specs.Reference.{Parts}
+use Rattle.uriparse_reference.specs.Target.{target}
+use Rattle.uriparse.specs.declared.uri.error.URIError.{URIError}
+use Rattle.uriparse.specs.declared.uri.error.URIError.TheVariants.{Path}
+
+-- these are the links' targets, one for each and in order
+abbrev pub AreTargets : Parts → List Parts → List Parts → Type 0
+AreTargets base links targets = map (target base) links ≡ map Some targets
+
+-- Why a link is refused: it has no target, or memory was wanted.
+abbrev pub IsRefusal : Parts → Parts → URIError → Type 0
+IsRefusal base link error = ((target base link ≡ None) × (error ≡ Path ExceededMaximumLength)) ⊎ (error ≡ Path OutOfMemory)
+
+-- each of these links has a target
+abbrev pub HaveTargets : Parts → List Parts → Type 0
+HaveTargets base links = list_all (λ link. is_some (target base link)) links ≡ true
+
+-- The link at this index is refused, and each before it has a target.
+pub record IsRefused (base : Parts) (links : List Parts) (index : ℕ) (error : URIError) : Type 0 where
+  pub before : HaveTargets base (take index links)
+  pub here : IsSomeAnd (slice_get links index) (λ link. IsRefusal base link error)
+
+-- the link's target stands behind the others
+abbrev pub Gains : Parts → Parts → List Parts → List Parts → Type 0
+Gains base link old new = (t : Parts) × (target base link ≡ Some t) × (new ≡ old ++ t ∷ [])

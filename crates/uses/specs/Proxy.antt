@@ -1,0 +1,43 @@
+-- What a proxy can be asked for: RFC 9112, section 3.2.2.
+use Rattle.std.specs.Prelude.{◌≡◌, ◌⊎◌, ℕ, true, List, [], Some, None, IsSome, codes}
+use Rattle.std.specs.Option.{IsSomeAnd}
+use Rattle.std.specs.Str.{str_to_ascii_lowercase}
+use Rattle.uriparse_scheme.specs.declared.scheme.Scheme.{Scheme}
+use Rattle.uriparse_scheme.specs.Scheme as scheme
+use Rattle.uriparse_authority.specs.declared.authority.host.Host.TheVariants.{RegisteredName}
+use Rattle.uriparse_reference.specs.Reference.{Parts, Spells, host_of}
+use Rattle.uriparse.specs.declared.uri.error.URIError.TheVariants as uris
+use Rattle.uriparse.specs.Kinds.{fault_of}
+use Rattle.uriparse.specs.Uri.{told}
+use Rattle.uriparse_path.specs.declared.path.error.PathError.TheVariants.{OutOfMemory}
+use Rattle.uses.specs.declared.proxy.ProxyError.{ProxyError}
+use Rattle.uses.specs.declared.proxy.ProxyError.TheVariants as errors
+
+-- the scheme has this name, in any case
+abbrev pub IsNamed : List ℕ → Scheme → Type 0
+IsNamed name s = name ≡ str_to_ascii_lowercase (scheme.text s)
+
+abbrev pub IsWebScheme : Scheme → Type 0
+IsWebScheme s = IsNamed (codes "http") s ⊎ IsNamed (codes "https") s
+
+-- the URI has a host, which isn't the empty name
+abbrev pub HasHost : Parts → Type 0
+HasHost u = IsSomeAnd (host_of u) (λ h. h ≡ RegisteredName [] → ⊥)
+
+-- A URI of the web with a host, and without a fragment.
+pub record IsProxyTarget (u : Parts) : Type 0 where
+  pub web : IsSomeAnd u.scheme IsWebScheme
+  pub host : HasHost u
+  pub no_fragment : u.fragment ≡ None
+
+-- this is a reason for which the URI is no target
+abbrev pub IsReason : Parts → ProxyError → Type 0
+IsReason u (errors.Text e) = ⊥
+IsReason u errors.Fragment = IsSome u.fragment
+IsReason u errors.Scheme = IsSomeAnd u.scheme IsWebScheme → ⊥
+IsReason u errors.Host = HasHost u → ⊥
+
+-- why a text is refused: it spells no URI, memory was wanted, or it spells one that is no target
+abbrev pub Refuses : List ℕ → ProxyError → Type 0
+Refuses t (errors.Text e) = (fault_of true told uris.NotURI t ≡ Some e) ⊎ (e ≡ uris.Path OutOfMemory)
+Refuses t e = (u : Parts) × Spells t u × IsReason u e

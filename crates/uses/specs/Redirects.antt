@@ -1,0 +1,36 @@
+-- Where a redirect leads to, and whether that is allowed.
+use Rattle.std.specs.Prelude.{◌≡◌, ◌⊎◌, ⊤, ℕ, List, Option, Some, None, Result, Ok, Err}
+use Rattle.std.specs.Option.{IsSomeAnd}
+use Rattle.uriparse_path.specs.declared.path.error.PathError.TheVariants.{OutOfMemory}
+use Rattle.uriparse_authority.specs.Authority as authority
+use Rattle.uriparse_reference.specs.declared.uri_reference.error.URIReferenceError.TheVariants as references
+use Rattle.uriparse_reference.specs.Reference.{Parts, Spells}
+use Rattle.uriparse_reference.specs.Target.{target}
+use Rattle.uriparse.specs.declared.uri.error.URIError.TheVariants as uris
+use Rattle.uses.specs.declared.redirects.RedirectError.{RedirectError}
+use Rattle.uses.specs.declared.redirects.RedirectError.TheVariants as errors
+
+-- The text of a Location is a reference, and this is its target behind the request's URI.
+abbrev pub GoesTo : Parts → List ℕ → Parts → Type 0
+GoesTo request location t = (r : Parts) × Spells location r × (target request r ≡ Some t)
+
+-- It has an authority that equals the allowed one: they have one canonical text, and hosts of one kind.
+abbrev pub IsAt : authority.AuthorityParts → Parts → Type 0
+IsAt allowed t = IsSomeAnd t.authority (λ a. authority.key a ≡ authority.key allowed)
+
+-- memory was wanted
+abbrev pub IsWant : RedirectError → Type 0
+IsWant e = (e ≡ errors.Memory) ⊎ ((e ≡ errors.Location (references.Path OutOfMemory)) ⊎ (e ≡ errors.Target (uris.Path OutOfMemory)))
+
+-- this target is answered, or want of memory is
+abbrev pub IsUnlessWant : Result Parts RedirectError → Parts → Type 0
+IsUnlessWant (Ok u) t = u ≡ t
+IsUnlessWant (Err e) t = IsWant e
+
+-- Behind the target, if there is one: it is answered if it is at the allowed authority. Else it is refused.
+abbrev pub Follows : Option Parts → authority.AuthorityParts → Result Parts RedirectError → Type 0
+Follows o allowed (Ok t) = (o ≡ Some t) × IsAt allowed t
+Follows o allowed (Err errors.Memory) = ⊤
+Follows o allowed (Err errors.Elsewhere) = (t : Parts) × (o ≡ Some t) × (IsAt allowed t → ⊥)
+Follows o allowed (Err (errors.Target e)) = (o ≡ None) ⊎ (e ≡ uris.Path OutOfMemory)
+Follows o allowed (Err (errors.Location e)) = ⊥

@@ -1,0 +1,67 @@
+//! A link rewriter: what the links of a page lead to.
+ghost use Rattle.std.specs.Prelude.{◌≡◌, ◌++◌, ◌∷◌, [], IfOk, IfErr, MatchResult, OnOk};
+ghost use Rattle.uriparse_path.specs.declared.path.error.PathError.TheVariants.{OutOfMemory};
+ghost use Rattle.uses.specs.Links.{AreTargets, Gains, IsRefusal, IsRefused};
+
+use std::alloc::Global;
+use uriparse::{PathError, URI, URIError, URIReference};
+
+/// Where each link of a page leads to, in order: its target behind the page's base, RFC 3986,
+/// section 5.2.2. The targets borrow the texts of the base and the links.
+///
+/// The first link that has no target is refused by its index, since its path and the base's have
+/// too many segments together. Each target wants memory; where there is none, the link that wanted
+/// it is refused.
+///
+/// ```
+/// let base = URI::try_from_str(alloc, "http://a/b/c")?;
+/// let mut links = Vec::new(alloc);
+/// links.push(URIReference::try_from_str(alloc, "../d")?)?;
+/// links.push(URIReference::try_from_str(alloc, "?q")?)?;
+/// let targets = rewrite(alloc, &base, &links)?;
+/// assert_eq!(targets[0].to_string(alloc)?.as_str(), "http://a/d");
+/// assert_eq!(targets[1].to_string(alloc)?.as_str(), "http://a/b/c?q");
+/// ```
+pub fn rewrite<'l>(
+    alloc: Global,
+    base: &'l URI<'_>,
+    links: &'l [URIReference<'_>],
+) -> Result<Vec<URI<'l>>, (usize, URIError)>
+    ensures targets { IfOk result (λ ts. AreTargets base.now links.now ts.items) }
+    ensures refused { IfErr result (λ e. IsRefused base.now links.now e.0 e.1) }
+{
+    let mut targets = Vec::new(alloc);
+    for (index, link) in links.iter().enumerate() {
+        if let Err(error) = rewrite_one(alloc, base, link, &mut targets) {
+            return Err((index, error));
+        }
+    }
+    Ok(targets)
+}
+
+/// Puts the link's target behind the others.
+fn rewrite_one<'l>(
+    alloc: Global,
+    base: &'l URI<'_>,
+    link: &'l URIReference<'_>,
+    targets: &mut Vec<URI<'l>>,
+) -> Result<(), URIError>
+    ensures ok { OnOk result (Gains base.now link.now targets.old.items targets.new.items) }
+    ensures err { IfErr result (λ e. IsRefusal base.now link.now e) }
+{
+    match base.resolve(alloc, link) {
+        Ok(target) => {
+            put_last(targets, target)?;
+            Ok(())
+        }
+        Err(error) => Err(error),
+    }
+}
+
+/// Puts the target behind the others.
+fn put_last<'l>(targets: &mut Vec<URI<'l>>, target: URI<'l>) -> Result<(), PathError>
+    ensures { MatchResult result (λ _. targets.new.items ≡ targets.old.items ++ target.entry ∷ []) (λ e. e ≡ OutOfMemory) }
+{
+    targets.push(target)?;
+    Ok(())
+}

@@ -1,0 +1,103 @@
+//! A redirect checker: whether an answer's `Location` stays at an allowed authority.
+ghost use Rattle.std.specs.Prelude.{◌≡◌, ◌↔◌, IsTrue, IfOk, Err, Some};
+ghost use Rattle.uriparse_reference.specs.Reference.{Parts};
+ghost use Rattle.uriparse_reference.specs.Target.{target};
+ghost use Rattle.uses.specs.declared.redirects.RedirectError.TheVariants.{Elsewhere};
+ghost use Rattle.uses.specs.Redirects.{GoesTo, IsAt};
+ghost use Rattle.uses.specs.Redirects as spec;
+
+use std::alloc::{AllocError, Global};
+use thiserror::Error;
+use uriparse::{Authority, URI, URIError, URIReference, URIReferenceError};
+
+/// Why a redirect isn't followed.
+#[derive(Debug, Drop, Error)]
+pub enum RedirectError {
+    /// The `Location` is no reference.
+    #[error("location: {0}")]
+    Location(URIReferenceError),
+    /// The `Location` has no target behind the request's URI.
+    #[error("target: {0}")]
+    Target(URIError),
+    /// The target has no authority, or another than the allowed one.
+    #[error("the target is elsewhere")]
+    Elsewhere,
+    /// There is no memory for the target's own texts.
+    #[error("out of memory")]
+    Memory,
+}
+
+/// The URI that a redirect leads to: the `Location`, which may be relative, is resolved against the
+/// URI of the request, RFC 9110, section 10.2.2. It is followed only where the target's authority
+/// equals the allowed one, so `EXAMPLE.com` for `example.com`; another port or user is elsewhere.
+///
+/// ```
+/// let request = URI::try_from_str(alloc, "http://example.com/a")?;
+/// let allowed = Authority::try_from_str("example.com")?;
+/// let target = follow(alloc, &request, "//EXAMPLE.com/b", &allowed)?;
+/// assert_eq!(target.to_string(alloc)?.as_str(), "http://EXAMPLE.com/b");
+/// let elsewhere = follow(alloc, &request, "//example.com:8080/", &allowed);
+/// assert!(matches!(elsewhere, Err(RedirectError::Elsewhere)));
+/// ```
+pub fn follow(
+    alloc: Global,
+    request: &URI<'_>,
+    location: &str,
+    allowed: &Authority<'_>,
+) -> Result<URI<'static>, RedirectError>
+    // What is answered is where the redirect goes, and is allowed.
+    ensures followed { IfOk result (λ t. GoesTo request.now location.now t × IsAt allowed.now t) }
+
+    // What is allowed is followed, unless memory runs out.
+    ensures only { (t : Parts) → GoesTo request.now location.now t → IsAt allowed.now t → spec.IsUnlessWant result t }
+
+    // What is refused as elsewhere goes to another authority, or to none.
+    ensures elsewhere { result ≡ Err Elsewhere → (t : Parts) × GoesTo request.now location.now t × (IsAt allowed.now t → ⊥) }
+{
+    match URIReference::try_from_str(alloc, location) {
+        Ok(reference) => follow_to(alloc, request, &reference, allowed),
+        Err(error) => Err(RedirectError::Location(error)),
+    }
+}
+
+/// The same for a `Location` that was read.
+fn follow_to(
+    alloc: Global,
+    request: &URI<'_>,
+    location: &URIReference<'_>,
+    allowed: &Authority<'_>,
+) -> Result<URI<'static>, RedirectError>
+    ensures { spec.Follows (target request.now location.now) allowed.now result }
+{
+    match request.resolve(alloc, location) {
+        Ok(target) => own_if_at(alloc, target, allowed),
+        Err(error) => Err(RedirectError::Target(error)),
+    }
+}
+
+/// The target, if it is at the allowed authority.
+fn own_if_at(
+    alloc: Global,
+    target: URI<'_>,
+    allowed: &Authority<'_>,
+) -> Result<URI<'static>, RedirectError>
+    ensures { spec.Follows (Some target.entry) allowed.now result }
+{
+    if !is_at(&target, allowed) {
+        return Err(RedirectError::Elsewhere);
+    }
+    match target.into_owned(alloc) {
+        Ok(target) => Ok(target),
+        Err(AllocError) => Err(RedirectError::Memory),
+    }
+}
+
+/// Whether the URI has an authority that equals this one.
+fn is_at(uri: &URI<'_>, allowed: &Authority<'_>) -> bool
+    ensures { IsTrue result ↔ IsAt allowed.now uri.now }
+{
+    match uri.authority() {
+        Some(authority) => authority == allowed,
+        None => false,
+    }
+}

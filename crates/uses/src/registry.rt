@@ -1,0 +1,99 @@
+//! A registry of identifiers, none of which is in it twice.
+ghost use Rattle.std.specs.Prelude.{◌≡◌, ◌++◌, ◌∷◌, [], ◌⊎◌, OnOk, OnErr, Ok, Err, false, true};
+ghost use Rattle.uses.specs.Equal.{is_among};
+ghost use Rattle.uses.specs.declared.registry.RegistryError.TheVariants.{Taken, Memory};
+
+use std::alloc::{AllocFailed, Global};
+use std::marker::Model;
+use thiserror::Error;
+use uriparse::URI;
+
+/// Why an identifier isn't registered.
+#[derive(Debug, Drop, Error)]
+pub enum RegistryError {
+    /// An equal one is in the registry.
+    #[error("the identifier is taken")]
+    Taken,
+    #[error("out of memory")]
+    Memory,
+}
+
+impl<T: Drop> From<AllocFailed<T>> for RegistryError {
+    ghost from_gives = { λ _ e. e ≡ Memory };
+
+    fn from(_error: AllocFailed<T>) -> RegistryError {
+        RegistryError::Memory
+    }
+}
+
+/// Identifiers in the order in which they were registered. No two of them are equal: neither
+/// percent-encoding nor the case of letters, where it doesn't count, tells them apart.
+///
+/// ```
+/// let mut registry = Registry::new(alloc);
+/// registry.insert(URI::try_from_str(alloc, "urn:a:%7E")?)?;
+/// let again = registry.insert(URI::try_from_str(alloc, "URN:a:~")?);
+/// assert!(matches!(again, Err(RegistryError::Taken)) && registry.identifiers().len() == 1);
+/// ```
+#[derive(Drop)]
+pub struct Registry<'r> {
+    identifiers: Vec<URI<'r>>,
+}
+
+impl<'r> Model for Registry<'r> {
+    ghost use Rattle.std.specs.Prelude.{List};
+    ghost use Rattle.uriparse_reference.specs.Reference.{Parts};
+    ghost use Rattle.uses.specs.Registry.{AreDistinct};
+
+    ghost Value = { List Parts };
+
+    ghost view = { λ r. r.identifiers.items };
+
+    ghost invariant = { λ r. AreDistinct r.identifiers.items };
+}
+
+impl<'r> Registry<'r> {
+    ghost use Rattle.uses.specs.Registry.{AreDistinct};
+
+    /// An empty registry. Takes no memory.
+    pub fn new(alloc: Global) -> Registry<'r>
+        ensures { result ≡ [] }
+    {
+        Registry {
+            identifiers: Vec::new(alloc),
+        }
+    }
+
+    /// What is registered. Takes no memory.
+    pub fn identifiers(&self) -> &[URI<'r>]
+        ensures value { result.now ≡ self.now }
+        ensures distinct { AreDistinct self.now }
+    {
+        &self.identifiers
+    }
+
+    /// Whether an equal identifier is registered. Takes no memory.
+    pub fn contains(&self, identifier: &URI<'_>) -> bool
+        ensures { result ≡ is_among self.now identifier.now }
+    {
+        self.identifiers.iter().any(|known| known == identifier)
+    }
+
+    /// Registers the identifier behind the others.
+    ///
+    /// If an equal one is registered, it is [`Taken`](RegistryError::Taken), whatever memory there
+    /// is; if there is no memory, [`Memory`](RegistryError::Memory). The registry is unchanged then,
+    /// and the identifier is gone.
+    pub fn insert(&mut self, identifier: URI<'r>) -> Result<(), RegistryError>
+        ensures added { OnOk result (self.new ≡ self.old ++ identifier.entry ∷ []) }
+        ensures unchanged { OnErr result (self.new ≡ self.old) }
+        ensures taken { is_among self.old identifier.entry ≡ true → result ≡ Err Taken }
+        ensures free { is_among self.old identifier.entry ≡ false → (result ≡ Ok tt) ⊎ (result ≡ Err Memory) }
+    {
+        if self.contains(&identifier) {
+            return Err(RegistryError::Taken);
+        }
+        self.identifiers.push(identifier)?;
+        Ok(())
+    }
+}
