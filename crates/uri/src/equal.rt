@@ -11,7 +11,8 @@ fn equals_text(
     reference: &URIReference<'_>,
     text: &str,
 ) -> Result<bool, URIReferenceError> {
-    Ok(*reference == URIReference::try_from_str(alloc, text)?)
+    let other = URIReference::try_from_str(alloc, text)?;
+    Ok(*reference == other)
 }
 
 /// Prints whether the references are equal.

@@ -10,8 +10,9 @@ pub fn print_part<T: Display, O: Write>(
     part: Option<&T>,
     out: &mut O,
 ) -> Result<(), Failure> {
-    if let Some(part) = part {
-        writeln!(out, "{name}={part}")?;
-    }
+    let Some(part) = part else {
+        return Ok(());
+    };
+    writeln!(out, "{name}={part}")?;
     Ok(())
 }

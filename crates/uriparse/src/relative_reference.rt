@@ -57,7 +57,9 @@ impl Kind for WithoutScheme {
 ///
 /// Its parts borrow the text that it was read from, or own their texts. Two of them are equal where
 /// their hosts, if they have any, are of one kind and the canonical spellings of their texts agree.
-/// The calls that it shares with URIs are those of [`ReferenceOf`].
+/// Only the list of the path's segments takes memory, and a refused edit leaves it as it was.
+/// [`RelativeReferenceError`] says what is refused. The calls that it shares with URIs are those of
+/// [`ReferenceOf`].
 ///
 /// ```
 /// let reference = RelativeReference::try_from_str(alloc, "../a?q")?;

@@ -57,8 +57,10 @@ impl Kind for WithScheme {
 /// A URI: a reference that has a scheme. RFC 3986, section 3.
 ///
 /// Its parts borrow the text that it was read from, or own their texts. Two URIs are equal where their
-/// hosts, if they have any, are of one kind and the canonical spellings of their texts agree. The
-/// calls that it shares with relative references are those of [`ReferenceOf`].
+/// hosts, if they have any, are of one kind and the canonical spellings of their texts agree. Only
+/// the list of the path's segments takes memory, and a refused edit leaves the URI as it was.
+/// [`URIError`] says what is refused. The calls that it shares with relative references are those of
+/// [`ReferenceOf`].
 ///
 /// ```
 /// let uri = URI::try_from_str(alloc, "HTTP://h/%7Ea?q#f")?;

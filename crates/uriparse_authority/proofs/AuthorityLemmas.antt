@@ -10,7 +10,7 @@ use Rattle.std.proofs.lemmas.Bool.Decides.{same_from_decides}
 use Rattle.std.proofs.lemmas.Slice.Eq.{bytes_eq-Decides}
 use Rattle.std.proofs.lemmas.Grind.{fold-append}
 use Rattle.uriparse_text.specs.Bytes.{slash, colon, question_mark, number_sign, at_sign, right_bracket}
-use Rattle.uriparse_text.specs.Canon.{canon, fed_spelling}
+use Rattle.uriparse_text.specs.Canonical.{canonical, fed_text}
 use Rattle.uriparse_text.specs.declared.parts.class.Class.TheVariants as class
 use Rattle.uriparse_text.specs.Cuts.{lacks, none_pass, behind, ahead, before, after, front, rest, up_to, from_first, from_last, up_to_last}
 use Rattle.uriparse_text.specs.Readings.{◌>>=◌, of_piece, if_present, fault_in}
@@ -28,7 +28,7 @@ use Rattle.uriparse_authority.specs.Authority.{AuthorityParts, userinfo, joined,
 use Rattle.uriparse_authority.specs.Authority.{host_and_port_text, username_in, password_in, username_text, password_text, ends_host, colon_part, cut_port}
 use Rattle.uriparse_authority.specs.Authority.{cut_host, host_text, port_text, reading, ends_authority, rest_error, unless_rest, whole_reading, key, each_alike}
 use Rattle.uriparse_authority.specs.Authority.{fed, fed_pieces, fed_key}
-use Rattle.uriparse_authority.proofs.UserLemmas.{is_gen_delim, username_lacks, password_lacks, IsUsername-canon, IsPassword-canon}
+use Rattle.uriparse_authority.proofs.UserLemmas.{is_gen_delim, username_lacks, password_lacks, IsUsername-canonical, IsPassword-canonical}
 use Rattle.uriparse_authority.proofs.PortLemmas.{port_exact, port_printed, port_lacks, decimal_lacks, decimal_of_one_port}
 use Rattle.uriparse_authority.proofs.HostLemmas.{host_exact, host_valid, IsHostText, spelled_host, printed_host, canonical_host, host_text_lacks, no_port}
 use Rattle.uriparse_authority.proofs.HostLemmas.{host_alike, code_kind, fed_host}
@@ -160,20 +160,20 @@ printed_pieces p v =
       is_port = printed_port p.port v.is_port;
     }
 
-canonical_username : (u : Option (List ℕ)) → IfSome u username.IsUsername → IfSome (option_map canon u) username.IsUsername
+canonical_username : (u : Option (List ℕ)) → IfSome u username.IsUsername → IfSome (option_map canonical u) username.IsUsername
 canonical_username None is = tt
-canonical_username (Some t) is = IsUsername-canon t is
+canonical_username (Some t) is = IsUsername-canonical t is
 
-canonical_password : (w : Option (List ℕ)) → IfSome w password.IsPassword → IfSome (option_map canon w) password.IsPassword
+canonical_password : (w : Option (List ℕ)) → IfSome w password.IsPassword → IfSome (option_map canonical w) password.IsPassword
 canonical_password None is = tt
-canonical_password (Some t) is = IsPassword-canon t is
+canonical_password (Some t) is = IsPassword-canonical t is
 
-canonical_pair : (u w : Option (List ℕ)) → IsPaired u w → IsPaired (option_map canon u) (option_map canon w)
+canonical_pair : (u w : Option (List ℕ)) → IsPaired u w → IsPaired (option_map canonical u) (option_map canonical w)
 canonical_pair u None pair = tt
 canonical_pair (Some t) (Some w) pair = refl
 canonical_pair None (Some w) pair = absurd (cc)
 
-canonical_pieces : (p : AuthorityParts) → Valid p → ArePieces (option_map canon p.username) (option_map canon p.password) (host.canonical_text p.host)
+canonical_pieces : (p : AuthorityParts) → Valid p → ArePieces (option_map canonical p.username) (option_map canonical p.password) (host.canonical_text p.host)
     (option_map port.text p.port)
 canonical_pieces p v =
     record {
@@ -192,15 +192,16 @@ print_lacks p v = joined_lacks p.username p.password (host.text p.host) (option_
 
 pub canonical_lacks : (p : AuthorityParts) → Valid p → LacksEnds (canonical_text p)
 canonical_lacks p v =
-    joined_lacks (option_map canon p.username) (option_map canon p.password) (host.canonical_text p.host) (option_map port.text p.port) (canonical_pieces p v)
+    joined_lacks (option_map canonical p.username) (option_map canonical p.password) (host.canonical_text p.host) (option_map port.text p.port)
+    (canonical_pieces p v)
 
 pub print_cut : (p : AuthorityParts) → Valid p → IsCutInto (print p) p.username p.password (host.text p.host) (option_map port.text p.port)
 print_cut p v = cut_again (print p) p.username p.password (host.text p.host) (option_map port.text p.port) (printed_pieces p v) refl
 
-canonical_cut : (p : AuthorityParts) → Valid p → IsCutInto (canonical_text p) (option_map canon p.username) (option_map canon p.password)
+canonical_cut : (p : AuthorityParts) → Valid p → IsCutInto (canonical_text p) (option_map canonical p.username) (option_map canonical p.password)
     (host.canonical_text p.host) (option_map port.text p.port)
 canonical_cut p v =
-    cut_again (canonical_text p) (option_map canon p.username) (option_map canon p.password) (host.canonical_text p.host) (option_map port.text p.port)
+    cut_again (canonical_text p) (option_map canonical p.username) (option_map canonical p.password) (host.canonical_text p.host) (option_map port.text p.port)
     (canonical_pieces p v) refl
 
 -- ---- what is spelled so is read so
@@ -387,8 +388,8 @@ to_key p q e =
     let x = and_parts _ _ e in
     let y = and_parts _ _ x.1 in
     let z = and_parts _ _ y.1 in
-    let u = (same_option canon p.username q.username).0 x.0 in
-    let w = (same_option canon p.password q.password).0 y.0 in
+    let u = (same_option canonical p.username q.username).0 x.0 in
+    let w = (same_option canonical p.password q.password).0 y.0 in
     let keys = (bytes_eq-Decides (host.key p.host) (host.key q.host)).0 z.0 in
     let codes : host.kind_code (kind p) ≡ host.kind_code (kind q) = cc in
     let g : host.canonical_text p.host ≡ host.canonical_text q.host = cc in
@@ -402,8 +403,8 @@ from_key p q v w e =
     let x = canonical_cut p v in
     let y = canonical_cut q w in
     let g : host.canonical_text p.host ≡ host.canonical_text q.host = sym x.host ∙ ap host_text texts ∙ y.host in
-    and_from _ _ ((same_option canon p.username q.username).1 (sym x.username ∙ ap username_text texts ∙ y.username))
-    (and_from _ _ ((same_option canon p.password q.password).1 (sym x.password ∙ ap password_text texts ∙ y.password))
+    and_from _ _ ((same_option canonical p.username q.username).1 (sym x.username ∙ ap username_text texts ∙ y.username))
+    (and_from _ _ ((same_option canonical p.password q.password).1 (sym x.password ∙ ap password_text texts ∙ y.password))
     (and_from _ _ ((bytes_eq-Decides (host.key p.host) (host.key q.host)).1 (rw (codes, g) refl))
     ((same_port p.port q.port).1 (one_port p.port q.port v.is_port w.is_port (sym x.port ∙ ap port_text texts ∙ y.port)))))
 
@@ -426,9 +427,9 @@ fed_cut code t u w g n cut =
 -- the key alone tells it
 pub fed_parts : (p : AuthorityParts) → Valid p → fed_key (key p) ≡ fed p
 fed_parts p v =
-    fed_cut (host.kind_code (kind p)) (canonical_text p) (option_map canon p.username) (option_map canon p.password) (host.canonical_text p.host)
+    fed_cut (host.kind_code (kind p)) (canonical_text p) (option_map canonical p.username) (option_map canonical p.password) (host.canonical_text p.host)
     (option_map port.text p.port) (canonical_cut p v)
-    ∙ rw (fed_option canon fed_spelling p.username, fed_option canon fed_spelling p.password, fed_host p.host v.is_host, port_value p.port v.is_port) refl
+    ∙ rw (fed_option canonical fed_text p.username, fed_option canonical fed_text p.password, fed_host p.host v.is_host, port_value p.port v.is_port) refl
 
 pub feeds_key : {S : Type 0} (write : S → List ℕ → S) (s t : S) (p : AuthorityParts) → Valid p → t ≡ fold write s (fed p)
     → t ≡ fold write s (fed_key (key p))
@@ -436,14 +437,14 @@ feeds_key write s t p v e = e ∙ sym (ap (fold write s) (fed_parts p v))
 
 -- the parts are fed one after another
 pub fed_by_turns : {S : Type 0} (write : S → List ℕ → S) (s₀ s₁ s₂ s₃ s₄ : S) (p : AuthorityParts)
-    → s₁ ≡ fold write s₀ (option (λ t. fed_spelling (canon t)) p.username)
-    → s₂ ≡ fold write s₁ (option (λ t. fed_spelling (canon t)) p.password)
+    → s₁ ≡ fold write s₀ (option (λ t. fed_text (canonical t)) p.username)
+    → s₂ ≡ fold write s₁ (option (λ t. fed_text (canonical t)) p.password)
     → s₃ ≡ fold write s₂ (host.fed p.host)
     → s₄ ≡ fold write s₃ (option u16 p.port)
     → s₄ ≡ fold write s₀ (fed p)
 fed_by_turns write s₀ s₁ s₂ s₃ s₄ p a b c d =
-    let u : HashWrites = option (λ t. fed_spelling (canon t)) p.username in
-    let w : HashWrites = option (λ t. fed_spelling (canon t)) p.password in
+    let u : HashWrites = option (λ t. fed_text (canonical t)) p.username in
+    let w : HashWrites = option (λ t. fed_text (canonical t)) p.password in
     let g : HashWrites = host.fed p.host in
     let n : HashWrites = option u16 p.port in
     let all : fold write s₀ (u ++ (w ++ (g ++ n))) ≡ fold write (fold write (fold write (fold write s₀ u) w) g) n =

@@ -12,11 +12,11 @@ use Rattle.uriparse_text.specs.declared.parts.class.Class.TheVariants as class
 use Rattle.uriparse_text.specs.declared.parts.canonical.Case.TheVariants.{Lowered}
 use Rattle.uriparse_text.specs.Bytes.{left_bracket, right_bracket, colon, is_among}
 use Rattle.uriparse_text.specs.Faults.{fault}
-use Rattle.uriparse_text.specs.Canon.{canon_low}
+use Rattle.uriparse_text.specs.Canonical.{canonical_lowered}
 use Rattle.uriparse_text.specs.Cuts.{lacks}
 use Rattle.uriparse_text.specs.Address.{IsOctets, IsSegments, is_ipv6_byte, ipv4_reading, ipv6_reading, ipv4_text, ipv6_text}
 use Rattle.uriparse_text.proofs.FaultLemmas.{no_fault}
-use Rattle.uriparse_text.proofs.ClassLemmas.{IsIn-spelling}
+use Rattle.uriparse_text.proofs.ClassLemmas.{IsIn-canonical_in}
 use Rattle.uriparse_text.proofs.CutLemmas.{lacks_by, lacks-append, from_last-none, from_last-of, none_of_two}
 use Rattle.uriparse_text.specs.Readings.{reading_in}
 use Rattle.uriparse_text.proofs.ReadingLemmas.{IsExact, exact_in}
@@ -199,7 +199,7 @@ printed_host (RegisteredName n) v = inl v
 pub canonical_host : (h : Host) → Valid h → IsHostText (canonical_text h)
 canonical_host (IPv4Address a) v = printed_host (IPv4Address a) v
 canonical_host (IPv6Address a) v = printed_host (IPv6Address a) v
-canonical_host (RegisteredName n) v = inl (IsIn-spelling class.Name Lowered n v)
+canonical_host (RegisteredName n) v = inl (IsIn-canonical_in class.Name Lowered n v)
 
 -- it has none of the delimiters that stand in no name and no IPv6 address
 pub host_text_lacks : (b : ℕ) → is_gen_delim b ≡ true → is_ipv6_byte b ≡ false → not (left_bracket == b) ≡ true → not (right_bracket == b) ≡ true → (g : List ℕ)
@@ -240,7 +240,7 @@ bracketed-injective t u e = let o : Some t ≡ Some u = sym (closed-bracket t) �
 pub host_alike : (g h : Host) → Valid g → Valid h → text g ≡ text h → kind g ≡ kind h → canonical_text g ≡ canonical_text h
 host_alike (IPv4Address a) (IPv4Address b) v w e k = e
 host_alike (IPv6Address a) (IPv6Address b) v w e k = e
-host_alike (RegisteredName m) (RegisteredName n) v w e k = ap canon_low e
+host_alike (RegisteredName m) (RegisteredName n) v w e k = ap canonical_lowered e
 host_alike (IPv4Address a) (IPv6Address b) v w e k = absurd (cc)
 host_alike (IPv4Address a) (RegisteredName n) v w e k = absurd (cc)
 host_alike (IPv6Address a) (IPv4Address b) v w e k = absurd (cc)

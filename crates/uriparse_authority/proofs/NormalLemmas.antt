@@ -6,9 +6,9 @@ use Rattle.uriparse_text.specs.declared.parts.class.Class.{Class}
 use Rattle.uriparse_text.specs.declared.parts.class.Class.TheVariants.{Name, UserInfo}
 use Rattle.uriparse_text.specs.declared.parts.canonical.Case.TheVariants.{Kept, Lowered}
 use Rattle.uriparse_text.specs.Faults.{IsIn}
-use Rattle.uriparse_text.specs.Canon.{canon}
-use Rattle.uriparse_text.proofs.CanonLemmas.{spelling-spelling}
-use Rattle.uriparse_text.proofs.ClassLemmas.{well_formed-in_class, IsIn-spelling}
+use Rattle.uriparse_text.specs.Canonical.{canonical}
+use Rattle.uriparse_text.proofs.CanonicalLemmas.{canonical_in-canonical_in}
+use Rattle.uriparse_text.proofs.ClassLemmas.{well_formed-in_class, IsIn-canonical_in}
 use Rattle.uriparse_authority.specs.Authority.{AuthorityParts, IsPaired, Valid, joined, print, canonical_text, kind, username_text, password_text, host_text}
 use Rattle.uriparse_authority.specs.Authority.{port_text}
 use Rattle.uriparse_authority.specs.Host as host
@@ -23,13 +23,13 @@ use Rattle.uriparse_authority.specs.declared.authority.host.Host.TheVariants.{IP
 
 -- ---- texts that may be absent
 
-pub text_valid : (class : Class) (o : Option (List ℕ)) → IfSome o (λ t. IsIn class t) → IfSome (option_map canon o) (λ t. IsIn class t)
+pub text_valid : (class : Class) (o : Option (List ℕ)) → IfSome o (λ t. IsIn class t) → IfSome (option_map canonical o) (λ t. IsIn class t)
 text_valid class None h = tt
-text_valid class (Some t) h = IsIn-spelling class Kept t h
+text_valid class (Some t) h = IsIn-canonical_in class Kept t h
 
-pub text_twice : (class : Class) (o : Option (List ℕ)) → IfSome o (λ t. IsIn class t) → option_map canon (option_map canon o) ≡ option_map canon o
+pub text_twice : (class : Class) (o : Option (List ℕ)) → IfSome o (λ t. IsIn class t) → option_map canonical (option_map canonical o) ≡ option_map canonical o
 text_twice class None h = refl
-text_twice class (Some t) h = ap Some (spelling-spelling Kept t (well_formed-in_class class t h))
+text_twice class (Some t) h = ap Some (canonical_in-canonical_in Kept t (well_formed-in_class class t h))
 
 -- ---- hosts
 
@@ -46,22 +46,23 @@ host_kind-canonical (RegisteredName n) = refl
 pub host_valid_canonical : (h : Host) → host.Valid h → host.Valid (canonical_host h)
 host_valid_canonical (IPv4Address a) v = v
 host_valid_canonical (IPv6Address a) v = v
-host_valid_canonical (RegisteredName n) v = IsIn-spelling Name Lowered n v
+host_valid_canonical (RegisteredName n) v = IsIn-canonical_in Name Lowered n v
 
 pub host_twice : (h : Host) → host.Valid h → canonical_host (canonical_host h) ≡ canonical_host h
 host_twice (IPv4Address a) v = refl
 host_twice (IPv6Address a) v = refl
-host_twice (RegisteredName n) v = ap RegisteredName (spelling-spelling Lowered n (well_formed-in_class Name n v))
+host_twice (RegisteredName n) v = ap RegisteredName (canonical_in-canonical_in Lowered n (well_formed-in_class Name n v))
 
 -- ---- authorities
 
-paired : (u w : Option (List ℕ)) → IsPaired u w → IsPaired (option_map canon u) (option_map canon w)
+paired : (u w : Option (List ℕ)) → IsPaired u w → IsPaired (option_map canonical u) (option_map canonical w)
 paired u None h = tt
 paired (Some u) (Some w) h = refl
 paired None (Some w) h = h
 
 pub print-canonical : (a : AuthorityParts) → print (canonical_authority a) ≡ canonical_text a
-print-canonical a = ap (λ g. joined (option_map canon a.username) (option_map canon a.password) g (option_map port.text a.port)) (host_text-canonical a.host)
+print-canonical a = ap (λ g. joined (option_map canonical a.username) (option_map canonical a.password) g (option_map port.text a.port))
+    (host_text-canonical a.host)
 
 pub kind-canonical : (a : AuthorityParts) → kind (canonical_authority a) ≡ kind a
 kind-canonical a = host_kind-canonical a.host
@@ -78,11 +79,21 @@ valid_canonical a v =
 
 pub canonical_twice : (a : AuthorityParts) → Valid a → canonical_authority (canonical_authority a) ≡ canonical_authority a
 canonical_twice a v =
-    ap (λ u. record { username = u; password = option_map canon (option_map canon a.password); host = canonical_host (canonical_host a.host); port = a.port })
+    ap (λ u. record {
+      username = u;
+      password = option_map canonical (option_map canonical a.password);
+      host = canonical_host (canonical_host a.host);
+      port = a.port;
+    })
     (text_twice Name a.username v.is_username)
-    ∙ ap (λ w. record { username = option_map canon a.username; password = w; host = canonical_host (canonical_host a.host); port = a.port })
+    ∙ ap (λ w. record { username = option_map canonical a.username; password = w; host = canonical_host (canonical_host a.host); port = a.port })
     (text_twice UserInfo a.password v.is_password)
-    ∙ ap (λ h. record { username = option_map canon a.username; password = option_map canon a.password; host = h; port = a.port }) (host_twice a.host v.is_host)
+    ∙ ap (λ h. record {
+      username = option_map canonical a.username;
+      password = option_map canonical a.password;
+      host = h;
+      port = a.port;
+    }) (host_twice a.host v.is_host)
 
 host_kept : (h : Host) → host.text (canonical_host h) ≡ host.text h → canonical_host h ≡ h
 host_kept (IPv4Address a) e = refl
@@ -90,10 +101,10 @@ host_kept (IPv6Address a) e = refl
 host_kept (RegisteredName n) e = ap RegisteredName e
 
 -- an authority whose parts are canonical is its normal form
-pub canonical_of_parts : (a : AuthorityParts) → option_map canon a.username ≡ a.username → option_map canon a.password ≡ a.password
+pub canonical_of_parts : (a : AuthorityParts) → option_map canonical a.username ≡ a.username → option_map canonical a.password ≡ a.password
     → host.text (canonical_host a.host) ≡ host.text a.host → canonical_authority a ≡ a
 canonical_of_parts a u w h =
-    ap (λ t. record { username = t; password = option_map canon a.password; host = canonical_host a.host; port = a.port }) u
+    ap (λ t. record { username = t; password = option_map canonical a.password; host = canonical_host a.host; port = a.port }) u
     ∙ ap (λ t. record { username = a.username; password = t; host = canonical_host a.host; port = a.port }) w
     ∙ ap (λ t. record { username = a.username; password = a.password; host = t; port = a.port }) (host_kept a.host h)
 

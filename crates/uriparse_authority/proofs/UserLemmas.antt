@@ -6,9 +6,9 @@ use Rattle.uriparse_text.specs.declared.parts.class.Class.TheVariants as class
 use Rattle.uriparse_text.specs.declared.parts.canonical.Case.TheVariants.{Kept}
 use Rattle.uriparse_text.specs.Bytes.{colon, percent, is_among, is_hex, is_unreserved, is_sub_delim}
 use Rattle.uriparse_text.specs.Classes.{is_plain}
-use Rattle.uriparse_text.specs.Canon.{canon}
+use Rattle.uriparse_text.specs.Canonical.{canonical}
 use Rattle.uriparse_text.specs.Cuts.{lacks}
-use Rattle.uriparse_text.proofs.ClassLemmas.{IsIn-spelling}
+use Rattle.uriparse_text.proofs.ClassLemmas.{IsIn-canonical_in}
 use Rattle.uriparse_text.proofs.CutLemmas.{lacks-in_class}
 use Rattle.uriparse_authority.specs.Username as username
 use Rattle.uriparse_authority.specs.Password as password
@@ -45,8 +45,8 @@ password_lacks b h other t is =
 
 -- ---- canonical spellings
 
-pub IsUsername-canon : (t : List ℕ) → username.IsUsername t → username.IsUsername (canon t)
-IsUsername-canon t is = IsIn-spelling class.Name Kept t is
+pub IsUsername-canonical : (t : List ℕ) → username.IsUsername t → username.IsUsername (canonical t)
+IsUsername-canonical t is = IsIn-canonical_in class.Name Kept t is
 
-pub IsPassword-canon : (t : List ℕ) → password.IsPassword t → password.IsPassword (canon t)
-IsPassword-canon t is = IsIn-spelling class.UserInfo Kept t is
+pub IsPassword-canonical : (t : List ℕ) → password.IsPassword t → password.IsPassword (canonical t)
+IsPassword-canonical t is = IsIn-canonical_in class.UserInfo Kept t is

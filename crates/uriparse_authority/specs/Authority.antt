@@ -5,7 +5,7 @@ use Rattle.std.specs.Option.{option_map, option_and_then, option_eq}
 use Rattle.std.specs.Ordering.{on}
 use Rattle.std.specs.Hash.{HashWrites, option, u16}
 use Rattle.uriparse_text.specs.Bytes.{slash, colon, question_mark, number_sign, at_sign, right_bracket}
-use Rattle.uriparse_text.specs.Canon.{canon, fed_spelling}
+use Rattle.uriparse_text.specs.Canonical.{canonical, fed_text}
 use Rattle.uriparse_text.specs.Cuts.{behind, ahead, before, after, front, rest, up_to, from_first, from_last, up_to_last}
 use Rattle.uriparse_text.specs.Readings.{◌>>=◌, of_piece, if_present, fault_in}
 use Rattle.uriparse_authority.specs.Username as username
@@ -66,7 +66,7 @@ print p = joined p.username p.password (host.text p.host) (option_map port.text 
 
 -- its text with each part in canonical spelling
 abbrev pub canonical_text : AuthorityParts → List ℕ
-canonical_text p = joined (option_map canon p.username) (option_map canon p.password) (host.canonical_text p.host) (option_map port.text p.port)
+canonical_text p = joined (option_map canonical p.username) (option_map canonical p.password) (host.canonical_text p.host) (option_map port.text p.port)
 
 abbrev pub kind : AuthorityParts → host.Kind
 kind p = host.kind p.host
@@ -159,24 +159,24 @@ key p = host.kind_code (kind p) ∷ canonical_text p
 -- whether each part is spelled like the other's, and the hosts are of one kind
 abbrev pub each_alike : AuthorityParts → AuthorityParts → Bool
 each_alike p q =
-    option_eq (on canon bytes_eq) p.username q.username
-    && (option_eq (on canon bytes_eq) p.password q.password
+    option_eq (on canonical bytes_eq) p.username q.username
+    && (option_eq (on canonical bytes_eq) p.password q.password
     && (bytes_eq (host.key p.host) (host.key q.host)
     && option_eq ◌==◌ p.port q.port))
 
 -- what a hasher is fed: each part in turn
 abbrev pub fed : AuthorityParts → HashWrites
 fed p =
-    option (λ t. fed_spelling (canon t)) p.username
-    ++ (option (λ t. fed_spelling (canon t)) p.password
+    option (λ t. fed_text (canonical t)) p.username
+    ++ (option (λ t. fed_text (canonical t)) p.password
     ++ (host.fed p.host
     ++ option u16 p.port))
 
 -- the same, told by the key alone: for these pieces of the canonical text, with the code of the host's kind
 abbrev pub fed_pieces : ℕ → Option (List ℕ) → Option (List ℕ) → List ℕ → Option (List ℕ) → HashWrites
 fed_pieces code username password host_piece port_piece =
-    option fed_spelling username
-    ++ (option fed_spelling password
+    option fed_text username
+    ++ (option fed_text password
     ++ (host.fed_key (code ∷ host_piece)
     ++ option u16 (port.value_of (unwrap_or port_piece []))))
 

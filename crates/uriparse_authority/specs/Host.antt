@@ -7,7 +7,7 @@ use Rattle.std.specs.Hash.{HashWrites, slice, u8, u16}
 use Rattle.uriparse_text.specs.declared.parts.class.Class.TheVariants as class
 use Rattle.uriparse_text.specs.Bytes.{left_bracket, right_bracket, colon, is_among, is_hex, is_unreserved, is_sub_delim}
 use Rattle.uriparse_text.specs.Faults.{fault}
-use Rattle.uriparse_text.specs.Canon.{canon_low, fed_spelling}
+use Rattle.uriparse_text.specs.Canonical.{canonical_lowered, fed_text}
 use Rattle.uriparse_text.specs.Address.{IsOctets, IsSegments, SpellsIpv4, SpellsIpv6, is_ipv6_byte, ipv4_reading, ipv6_reading, ipv4_text, ipv6_text}
 use Rattle.uriparse_text.specs.declared.address.IpAddr.{IpAddr}
 use Rattle.uriparse_text.specs.declared.address.IpAddr.TheVariants as ip
@@ -60,7 +60,7 @@ text (RegisteredName n) = n
 abbrev pub canonical_text : Host → List ℕ
 canonical_text (IPv4Address a) = ipv4_text a
 canonical_text (IPv6Address a) = bracketed (ipv6_text a)
-canonical_text (RegisteredName n) = canon_low n
+canonical_text (RegisteredName n) = canonical_lowered n
 
 abbrev pub Valid : Host → Type 0
 Valid (IPv4Address a) = IsOctets a
@@ -151,7 +151,7 @@ key h = kind_code (kind h) ∷ canonical_text h
 abbrev pub fed : Host → HashWrites
 fed (IPv4Address a) = u8 (kind_code V4) ++ slice u8 a
 fed (IPv6Address a) = u8 (kind_code V6) ++ slice u16 a
-fed (RegisteredName n) = u8 (kind_code Name) ++ fed_spelling (canon_low n)
+fed (RegisteredName n) = u8 (kind_code Name) ++ fed_text (canonical_lowered n)
 
 abbrev pub fed_read : Result Host HostError → HashWrites
 fed_read (Ok h) = fed h
@@ -160,4 +160,4 @@ fed_read (Err e) = []
 -- the same, told by the key alone: for a name its canonical spelling, else what is fed for the address that is read again
 abbrev pub fed_key : List ℕ → HashWrites
 fed_key [] = []
-fed_key (code ∷ t) = if code == kind_code Name then u8 code ++ fed_spelling t else fed_read (reading t)
+fed_key (code ∷ t) = if code == kind_code Name then u8 code ++ fed_text t else fed_read (reading t)

@@ -40,8 +40,10 @@ use username::empty_username;
 /// The authority of a reference, without its `//`: a user name and a password if there are any, the
 /// host, and a port if there is one. RFC 3986, section 3.2.
 ///
-/// A password stands only with a user name, which may be empty. The parts borrow the text that they
-/// were read from, or own their texts. Two authorities are equal where their hosts are of one kind
+/// A password stands only with a user name, which may be empty; a port is at most 65535, and an empty
+/// one is none. The parts borrow the text that they were read from, or own their texts. Its readers
+/// take no memory; [`AuthorityError`] says what they refuse. A refused edit leaves it as it was. Two
+/// authorities are equal where their hosts are of one kind
 /// and their canonical spellings agree.
 ///
 /// ```

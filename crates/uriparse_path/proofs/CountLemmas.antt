@@ -1,5 +1,6 @@
 -- One walk over a text that counts its segments and finds its leftmost fault.
-use Rattle.std.proofs.Common.{zero, suc, get_or, subst, ◌≡◌, ◌≢◌, ℕ, ◌+◌, ◌-◌, ◌<◌, ◌≤◌, true, false, List, [], ◌∷◌, length, drop, Ok, Err, refl, sym, ap, ◌∙◌, inl, inr, arith}
+use Rattle.std.proofs.Common.{zero, suc, get_or, subst, ◌≡◌, ◌≢◌, ℕ, ◌+◌, ◌-◌, ◌<◌, ◌≤◌, true, false, List, [], ◌∷◌, length, drop}
+use Rattle.std.proofs.Common.{Ok, Err, refl, sym, ap, ◌∙◌, inl, inr, arith}
 use Rattle.std.specs.Prelude.{Result, not}
 use Rattle.std.proofs.lemmas.Bool.{cases_lt}
 use Rattle.std.specs.List.{slice_split}
@@ -9,7 +10,7 @@ use Rattle.std.proofs.lemmas.Nat.Bits.{bit_at-zero}
 use Rattle.uriparse_text.specs.declared.parts.class.Class.TheVariants.{Segment}
 use Rattle.uriparse_text.specs.Classes.{is_plain}
 use Rattle.uriparse_text.specs.Tokens.{is_escape}
-use Rattle.uriparse_text.specs.Marks.{IsLowest, AreMarks}
+use Rattle.uriparse_text.specs.Marks.{AreMarks}
 use Rattle.uriparse_text.proofs.FineLemmas.{unset_is_plain, set_is_outside}
 use Rattle.uriparse_text.specs.Readings.{unless_fault}
 use Rattle.uriparse_path.specs.declared.path.error.PathError.{PathError}
@@ -87,20 +88,24 @@ counted_end limit t count is =
 
 -- ---- by marks
 
-pub counted_sign : (limit : ℕ) (t : List ℕ) (count b : ℕ) (after : List ℕ) → IsCounted limit t count (b ∷ after) → is_escape b after ≡ true → IsCounted limit t count after
+pub counted_sign : (limit : ℕ) (t : List ℕ) (count b : ℕ) (after : List ℕ) → IsCounted limit t count (b ∷ after) → is_escape b after ≡ true
+    → IsCounted limit t count after
 counted_sign limit t count b after is escape =
     counted_along limit t count (b ∷ after) after is (behind_sign (limit - count) b after escape)
 
-counted_plains : (limit : ℕ) (t : List ℕ) (count i n : ℕ) → IsCounted limit t count (drop i t) → i + n ≤ length t → ((j : ℕ) → i ≤ j → j < i + n → is_plain Segment (get_or t j 0) ≡ true) → IsCounted limit t count (drop (i + n) t)
+counted_plains : (limit : ℕ) (t : List ℕ) (count i n : ℕ) → IsCounted limit t count (drop i t) → i + n ≤ length t
+    → ((j : ℕ) → i ≤ j → j < i + n → is_plain Segment (get_or t j 0) ≡ true) → IsCounted limit t count (drop (i + n) t)
 counted_plains limit t count i zero is room plain =
     let same : i ≡ i + 0 = omega arith in subst (λ j. IsCounted limit t count (drop j t)) same is
 counted_plains limit t count i (suc n) is room plain =
     let before = counted_plains limit t count i n is (omega arith) (λ j low high. plain j low (omega arith)) in
     let next : i + n + 1 ≡ i + suc n = omega arith in
     subst (λ j. IsCounted limit t count (drop j t)) next
-    (counted_plain limit t count (get_or t (i + n) 0) (drop (i + n + 1) t) (subst (IsCounted limit t count) (drop_more t (i + n) 0 (omega arith)) before) (plain (i + n) (omega arith) (omega arith)))
+    (counted_plain limit t count (get_or t (i + n) 0) (drop (i + n + 1) t)
+    (subst (IsCounted limit t count) (drop_more t (i + n) 0 (omega arith)) before) (plain (i + n) (omega arith) (omega arith)))
 
-counted_up_to : (limit : ℕ) (t : List ℕ) (count i to : ℕ) → IsCounted limit t count (drop i t) → i ≤ to → to ≤ length t → ((j : ℕ) → i ≤ j → j < to → is_plain Segment (get_or t j 0) ≡ true) → IsCounted limit t count (drop to t)
+counted_up_to : (limit : ℕ) (t : List ℕ) (count i to : ℕ) → IsCounted limit t count (drop i t) → i ≤ to → to ≤ length t
+    → ((j : ℕ) → i ≤ j → j < to → is_plain Segment (get_or t j 0) ≡ true) → IsCounted limit t count (drop to t)
 counted_up_to limit t count i to is le room plain =
     let place : i + (to - i) ≡ to = omega arith in
     subst (λ j. IsCounted limit t count (drop j t)) place (counted_plains limit t count i (to - i) is (omega arith) (λ j low high. plain j low (omega arith)))
@@ -127,14 +132,17 @@ run_begins limit t at n count left room is are = record {
   waiting = λ k set. let w = set_is_outside Segment t at n left k are set in (omega arith, w.0, w.1);
 }
 
-run_plain : (limit : ℕ) (t : List ℕ) (at n count left to : ℕ) → IsRun limit t at n count left → to ≤ n → ((k : ℕ) → k < to → bit_at left k ≡ 0) → (is : IsRun limit t at n count left) → (j : ℕ) → is.here ≤ j → j < at + to → is_plain Segment (get_or t j 0) ≡ true
+run_plain : (limit : ℕ) (t : List ℕ) (at n count left to : ℕ) → IsRun limit t at n count left → to ≤ n
+    → ((k : ℕ) → k < to → bit_at left k ≡ 0) → (is : IsRun limit t at n count left)
+    → (j : ℕ) → is.here ≤ j → j < at + to → is_plain Segment (get_or t j 0) ≡ true
 run_plain limit t at n count left to _ short unset is j from below =
     let low = is.low in
     let place : at + (j - at) ≡ j = omega arith in
     subst (λ i. is_plain Segment (get_or t i 0) ≡ true) place (is.passed (j - at) (omega arith) (omega arith) (unset (j - at) (omega arith)))
 
 -- up to the lowest bit
-pub run_to : (limit : ℕ) (t : List ℕ) (at n count left k : ℕ) → IsRun limit t at n count left → bit_at left k ≡ 1 → ((j : ℕ) → j < k → bit_at left j ≡ 0) → IsCounted limit t count (get_or t (at + k) 0 ∷ drop (at + k + 1) t)
+pub run_to : (limit : ℕ) (t : List ℕ) (at n count left k : ℕ) → IsRun limit t at n count left → bit_at left k ≡ 1
+    → ((j : ℕ) → j < k → bit_at left j ≡ 0) → IsCounted limit t count (get_or t (at + k) 0 ∷ drop (at + k + 1) t)
 run_to limit t at n count left k is set below =
     let w = is.waiting k set in
     let from = w.0 in
@@ -143,7 +151,8 @@ run_to limit t at n count left k is set below =
     subst (IsCounted limit t count) (drop_more t (at + k) 0 (omega arith))
     (counted_up_to limit t count is.here (at + k) is.counted from (omega arith) (run_plain limit t at n count left k is (omega arith) below is))
 
-pub run_on : (limit : ℕ) (t : List ℕ) (at n count more left k next : ℕ) → IsRun limit t at n count left → bit_at left k ≡ 1 → ((j : ℕ) → j < k → bit_at left j ≡ 0)
+pub run_on : (limit : ℕ) (t : List ℕ) (at n count more left k next : ℕ) → IsRun limit t at n count left → bit_at left k ≡ 1
+    → ((j : ℕ) → j < k → bit_at left j ≡ 0)
     → ((j : ℕ) → j ≢ k → bit_at next j ≡ bit_at left j) → ((j : ℕ) → bit_at next j ≡ 1 → bit_at left j ≡ 1) → bit_at next k ≡ 0
     → IsCounted limit t more (drop (at + k + 1) t) → IsRun limit t at n more next
 run_on limit t at n count more left k next is set below kept no_more cleared counted =

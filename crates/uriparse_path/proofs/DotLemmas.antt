@@ -14,63 +14,63 @@ use Rattle.uriparse_text.specs.declared.parts.class.Class.TheVariants.{Segment}
 use Rattle.uriparse_text.specs.declared.parts.canonical.Case.TheVariants.{Kept}
 use Rattle.uriparse_text.specs.Bytes.{dot, slash, colon, percent, is_hex, is_unreserved}
 use Rattle.uriparse_text.specs.Tokens.{tokens, spell, has_digits}
-use Rattle.uriparse_text.specs.Canon.{canonical, escaped_byte, spelling, canon, SpellsAlike}
+use Rattle.uriparse_text.specs.Canonical.{canonical_token, escaped_byte, canonical_in, canonical, SpellsAlike}
 use Rattle.uriparse_text.specs.Cuts.{lacks}
 use Rattle.uriparse_text.proofs.TokenLemmas.{spell-tokens, digits-tokens}
-use Rattle.uriparse_text.proofs.CanonLemmas.{upper_digit, by_escaped, spell-canonical, spelling-spelling}
+use Rattle.uriparse_text.proofs.CanonicalLemmas.{upper_digit, by_escaped, spell-canonical_token, canonical_in-canonical_in}
 use Rattle.uriparse_text.proofs.ClassLemmas.{well_formed-in_class}
 use Rattle.uriparse_text.proofs.CutLemmas.{other_byte}
-use Rattle.uriparse_text.proofs.RunLemmas.{spelling-stays}
+use Rattle.uriparse_text.proofs.RunLemmas.{canonical_in-stays}
 use Rattle.uriparse_path.specs.Segment.{is_segment}
 use Rattle.uriparse_path.specs.Dots.{is_single_dot, is_double_dot, is_dot_segment, LacksSlash}
 use Rattle.uriparse_path.specs.Relative.{has_colon}
-use Rattle.uriparse_path.proofs.CanonicalLemmas.{canon-nil}
+use Rattle.uriparse_path.proofs.CanonicalLemmas.{canonical-nil}
 
 -- ---- what the tests say
 
 bytes_same : (s t : List ℕ) → bytes_eq s t ≡ true → s ≡ t
 bytes_same s t h = (bytes_eq-Decides s t).0 h
 
-pub single_is : (s : List ℕ) → is_single_dot s ≡ true → canon s ≡ dot ∷ []
+pub single_is : (s : List ℕ) → is_single_dot s ≡ true → canonical s ≡ dot ∷ []
 unfolding is_single_dot
-single_is s h = bytes_same (canon s) (dot ∷ []) h
+single_is s h = bytes_same (canonical s) (dot ∷ []) h
 
-pub double_is : (s : List ℕ) → is_double_dot s ≡ true → canon s ≡ dot ∷ dot ∷ []
+pub double_is : (s : List ℕ) → is_double_dot s ≡ true → canonical s ≡ dot ∷ dot ∷ []
 unfolding is_double_dot
-double_is s h = bytes_same (canon s) (dot ∷ dot ∷ []) h
+double_is s h = bytes_same (canonical s) (dot ∷ dot ∷ []) h
 
-pub single_of : (s : List ℕ) → canon s ≡ dot ∷ [] → is_single_dot s ≡ true
+pub single_of : (s : List ℕ) → canonical s ≡ dot ∷ [] → is_single_dot s ≡ true
 unfolding is_single_dot
-single_of s e = (bytes_eq-Decides (canon s) (dot ∷ [])).1 e
+single_of s e = (bytes_eq-Decides (canonical s) (dot ∷ [])).1 e
 
-pub double_of : (s : List ℕ) → canon s ≡ dot ∷ dot ∷ [] → is_double_dot s ≡ true
+pub double_of : (s : List ℕ) → canonical s ≡ dot ∷ dot ∷ [] → is_double_dot s ≡ true
 unfolding is_double_dot
-double_of s e = (bytes_eq-Decides (canon s) (dot ∷ dot ∷ [])).1 e
+double_of s e = (bytes_eq-Decides (canonical s) (dot ∷ dot ∷ [])).1 e
 
-pub canon-dot : canon (dot ∷ []) ≡ dot ∷ []
-unfolding spelling tokens
-canon-dot = refl
+pub canonical-dot : canonical (dot ∷ []) ≡ dot ∷ []
+unfolding canonical_in tokens
+canonical-dot = refl
 
-canon-dots : canon (dot ∷ dot ∷ []) ≡ dot ∷ dot ∷ []
-unfolding spelling tokens
-canon-dots = refl
+canonical-dots : canonical (dot ∷ dot ∷ []) ≡ dot ∷ dot ∷ []
+unfolding canonical_in tokens
+canonical-dots = refl
 
 -- ---- the tests by comparing
 
 pub single_by : (s : List ℕ) (r : Bool) → (IsTrue r ↔ SpellsAlike Kept (dot ∷ []) s) → r ≡ is_single_dot s
 unfolding tokens
 single_by s r h = one_answer r (is_single_dot s) h (
-  λ k. record { formed = refl; same = canon-dot ∙ sym (single_is s k) },
+  λ k. record { formed = refl; same = canonical-dot ∙ sym (single_is s k) },
   λ is. single_of s (sym is.same
-      ∙ canon-dot),
+      ∙ canonical-dot),
 )
 
 pub double_by : (s : List ℕ) (r : Bool) → (IsTrue r ↔ SpellsAlike Kept (dot ∷ dot ∷ []) s) → r ≡ is_double_dot s
 unfolding tokens
 double_by s r h = one_answer r (is_double_dot s) h (
-  λ k. record { formed = refl; same = canon-dots ∙ sym (double_is s k) },
+  λ k. record { formed = refl; same = canonical-dots ∙ sym (double_is s k) },
   λ is. double_of s (sym is.same
-      ∙ canon-dots),
+      ∙ canonical-dots),
 )
 
 pub not_both : (s : List ℕ) → is_double_dot s ≡ true → is_single_dot s ≡ false
@@ -82,21 +82,21 @@ not_both s h = by_single (is_single_dot s) refl
 
 pub empty_single : is_single_dot [] ≡ false
 unfolding is_single_dot
-empty_single = ap (λ u. bytes_eq u (dot ∷ [])) canon-nil
+empty_single = ap (λ u. bytes_eq u (dot ∷ [])) canonical-nil
 
 pub empty_double : is_double_dot [] ≡ false
 unfolding is_double_dot
-empty_double = ap (λ u. bytes_eq u (dot ∷ dot ∷ [])) canon-nil
+empty_double = ap (λ u. bytes_eq u (dot ∷ dot ∷ [])) canonical-nil
 
 pub empty_no_dot : is_dot_segment [] ≡ false
 empty_no_dot = rw (empty_single, empty_double) refl
 
 -- ---- what a segment of dots begins with
 
-single_or_double : (s : List ℕ) → is_dot_segment s ≡ true → (canon s ≡ dot ∷ []) ⊎ (canon s ≡ dot ∷ dot ∷ [])
+single_or_double : (s : List ℕ) → is_dot_segment s ≡ true → (canonical s ≡ dot ∷ []) ⊎ (canonical s ≡ dot ∷ dot ∷ [])
 single_or_double s h = by_single (is_single_dot s) refl h
   where
-    by_single : (v : Bool) → is_single_dot s ≡ v → (v || is_double_dot s) ≡ true → (canon s ≡ dot ∷ []) ⊎ (canon s ≡ dot ∷ dot ∷ [])
+    by_single : (v : Bool) → is_single_dot s ≡ v → (v || is_double_dot s) ≡ true → (canonical s ≡ dot ∷ []) ⊎ (canonical s ≡ dot ∷ dot ∷ [])
     by_single true e k = inl (single_is s e)
     by_single false e k = inr (double_is s k)
 
@@ -106,8 +106,8 @@ b-is-b b = eq-eqb b b refl
 pub dots_begin : (b : ℕ) (t : List ℕ) → is_dot_segment (b ∷ t) ≡ true → (b == dot || b == percent) ≡ true
 dots_begin b t h = by_escape (b == percent) refl
   where
-    stays : (b == percent) ≡ false → canon (b ∷ t) ≡ b ∷ canon t
-    stays e = spelling-stays Kept b t (ap (λ v. v || not (b == b)) e ∙ ap not (b-is-b b))
+    stays : (b == percent) ≡ false → canonical (b ∷ t) ≡ b ∷ canonical t
+    stays e = canonical_in-stays Kept b t (ap (λ v. v || not (b == b)) e ∙ ap not (b-is-b b))
 
     is_dot : (b == percent) ≡ false → b ≡ dot
     is_dot e = ⊎_elim (λ k. let same = stays e in cc) (λ k. let same = stays e in cc) (single_or_double (b ∷ t) h)
@@ -143,7 +143,7 @@ no_double s r h e = by_double (is_double_dot s) refl
 -- ---- single and double
 
 pub dot_single : is_single_dot (dot ∷ []) ≡ true
-dot_single = single_of (dot ∷ []) canon-dot
+dot_single = single_of (dot ∷ []) canonical-dot
 
 pub neither : (s : List ℕ) → is_dot_segment s ≡ false → (is_single_dot s ≡ false) × (is_double_dot s ≡ false)
 neither s h = or_parts (is_single_dot s) (is_double_dot s) h
@@ -163,33 +163,33 @@ dot_some (b ∷ s) h = omega arith
 
 -- ---- the canonical spelling of a segment
 
-pub single-canon : (s : List ℕ) → is_segment s ≡ true → is_single_dot (canon s) ≡ is_single_dot s
+pub single-canonical : (s : List ℕ) → is_segment s ≡ true → is_single_dot (canonical s) ≡ is_single_dot s
 unfolding is_single_dot
-single-canon s h = ap (λ u. bytes_eq u (dot ∷ [])) (spelling-spelling Kept s (well_formed-in_class Segment s h))
+single-canonical s h = ap (λ u. bytes_eq u (dot ∷ [])) (canonical_in-canonical_in Kept s (well_formed-in_class Segment s h))
 
-pub double-canon : (s : List ℕ) → is_segment s ≡ true → is_double_dot (canon s) ≡ is_double_dot s
+pub double-canonical : (s : List ℕ) → is_segment s ≡ true → is_double_dot (canonical s) ≡ is_double_dot s
 unfolding is_double_dot
-double-canon s h = ap (λ u. bytes_eq u (dot ∷ dot ∷ [])) (spelling-spelling Kept s (well_formed-in_class Segment s h))
+double-canonical s h = ap (λ u. bytes_eq u (dot ∷ dot ∷ [])) (canonical_in-canonical_in Kept s (well_formed-in_class Segment s h))
 
-pub dot-canon : (s : List ℕ) → is_segment s ≡ true → is_dot_segment (canon s) ≡ is_dot_segment s
-dot-canon s h = rw (single-canon s h, double-canon s h) refl
+pub dot-canonical : (s : List ℕ) → is_segment s ≡ true → is_dot_segment (canonical s) ≡ is_dot_segment s
+dot-canonical s h = rw (single-canonical s h, double-canonical s h) refl
 
-empty_tokens : (ts : List Token) → flat_map spell (map (canonical Kept) ts) ≡ [] → flat_map spell ts ≡ []
+empty_tokens : (ts : List Token) → flat_map spell (map (canonical_token Kept) ts) ≡ [] → flat_map spell ts ≡ []
 empty_tokens [] h = refl
 empty_tokens (Byte b ∷ ts) h = cc
 empty_tokens (Escape high low ∷ ts) h =
-    let no : flat_map spell (map (canonical Kept) (Escape high low ∷ ts)) ≡ []
-    → ⊥ = by_escaped Kept high low (λ t. spell t ++ flat_map spell (map (canonical Kept) ts) ≡ [] → ⊥) (λ e k. cc) (λ e k. cc) in
+    let no : flat_map spell (map (canonical_token Kept) (Escape high low ∷ ts)) ≡ []
+    → ⊥ = by_escaped Kept high low (λ t. spell t ++ flat_map spell (map (canonical_token Kept) ts) ≡ [] → ⊥) (λ e k. cc) (λ e k. cc) in
     absurd (no h)
 
 -- only the empty text has an empty canonical spelling
-pub canon-empty : (s : List ℕ) → canon s ≡ [] → s ≡ []
-canon-empty s h = sym (spell-tokens s) ∙ empty_tokens (tokens s) (spell-canonical Kept s ∙ h)
+pub canonical-empty : (s : List ℕ) → canonical s ≡ [] → s ≡ []
+canonical-empty s h = sym (spell-tokens s) ∙ empty_tokens (tokens s) (spell-canonical_token Kept s ∙ h)
 
 -- ---- a byte that neither stands in an escape nor for one stays where it is
 
 module _ (c : ℕ) (plain : is_unreserved c ≡ false) (digit : is_hex c ≡ false) (sign : (percent == c) ≡ false) where
-  lacks_token : (t : Token) → has_digits t ≡ true → lacks c (spell (canonical Kept t)) ≡ lacks c (spell t)
+  lacks_token : (t : Token) → has_digits t ≡ true → lacks c (spell (canonical_token Kept t)) ≡ lacks c (spell t)
   lacks_token (Byte b) h = refl
   lacks_token (Escape high low) h =
       let both = and_parts _ _ h in
@@ -201,15 +201,15 @@ module _ (c : ℕ) (plain : is_unreserved c ≡ false) (digit : is_hex c ≡ fal
       (and_from _ _ (other_byte is_hex c _ digit (upper_digit low both.1)) refl)))
       ∙ sym raw
 
-  lacks_tokens : (ts : List Token) → list_all has_digits ts ≡ true → lacks c (flat_map spell (map (canonical Kept) ts)) ≡ lacks c (flat_map spell ts)
+  lacks_tokens : (ts : List Token) → list_all has_digits ts ≡ true → lacks c (flat_map spell (map (canonical_token Kept) ts)) ≡ lacks c (flat_map spell ts)
   lacks_tokens [] h = refl
   lacks_tokens (t ∷ ts) h =
       let both = and_parts _ _ h in
-      list_all-append (λ b. not (b == c)) (spell (canonical Kept t)) (flat_map spell (map (canonical Kept) ts))
+      list_all-append (λ b. not (b == c)) (spell (canonical_token Kept t)) (flat_map spell (map (canonical_token Kept) ts))
       ∙ rw (lacks_token t both.0, lacks_tokens ts both.1) (sym (list_all-append (λ b. not (b == c)) (spell t) (flat_map spell ts)))
 
-  lacks-canon : (s : List ℕ) → lacks c (canon s) ≡ lacks c s
-  lacks-canon s = ap (lacks c) (sym (spell-canonical Kept s)) ∙ lacks_tokens (tokens s) (digits-tokens s) ∙ ap (lacks c) (spell-tokens s)
+  lacks-canonical : (s : List ℕ) → lacks c (canonical s) ≡ lacks c s
+  lacks-canonical s = ap (lacks c) (sym (spell-canonical_token Kept s)) ∙ lacks_tokens (tokens s) (digits-tokens s) ∙ ap (lacks c) (spell-tokens s)
 
 slash_reserved : is_unreserved slash ≡ false
 unfolding is_unreserved
@@ -219,8 +219,8 @@ colon_reserved : is_unreserved colon ≡ false
 unfolding is_unreserved
 colon_reserved = refl
 
-lacks_slash-canon : (s : List ℕ) → lacks slash (canon s) ≡ lacks slash s
-lacks_slash-canon s = lacks-canon slash slash_reserved refl refl s
+lacks_slash-canonical : (s : List ℕ) → lacks slash (canonical s) ≡ lacks slash s
+lacks_slash-canonical s = lacks-canonical slash slash_reserved refl refl s
 
 pub has-lacks : (c : ℕ) (s : List ℕ) → list_any (λ b. b == c) s ≡ not (lacks c s)
 has-lacks c [] = refl
@@ -230,14 +230,14 @@ has-lacks c (b ∷ s) = by_byte (b == c) (has-lacks c s)
     by_byte true h = refl
     by_byte false h = h
 
-pub has_colon-canon : (s : List ℕ) → has_colon (canon s) ≡ has_colon s
-has_colon-canon s = has-lacks colon (canon s) ∙ ap not (lacks-canon colon colon_reserved refl refl s) ∙ sym (has-lacks colon s)
+pub has_colon-canonical : (s : List ℕ) → has_colon (canonical s) ≡ has_colon s
+has_colon-canonical s = has-lacks colon (canonical s) ∙ ap not (lacks-canonical colon colon_reserved refl refl s) ∙ sym (has-lacks colon s)
 
 pub single_lacks_slash : (s : List ℕ) → is_single_dot s ≡ true → LacksSlash s
-single_lacks_slash s h = sym (lacks_slash-canon s) ∙ ap (lacks slash) (single_is s h)
+single_lacks_slash s h = sym (lacks_slash-canonical s) ∙ ap (lacks slash) (single_is s h)
 
 pub double_lacks_slash : (s : List ℕ) → is_double_dot s ≡ true → LacksSlash s
-double_lacks_slash s h = sym (lacks_slash-canon s) ∙ ap (lacks slash) (double_is s h)
+double_lacks_slash s h = sym (lacks_slash-canonical s) ∙ ap (lacks slash) (double_is s h)
 
 pub dot_lacks_slash : (s : List ℕ) → is_dot_segment s ≡ true → LacksSlash s
 dot_lacks_slash s h = by_single (is_single_dot s) refl

@@ -12,7 +12,7 @@ use Rattle.uriparse_path.specs.Relative.{filled, put, put_all, reduced, relative
 use Rattle.uriparse_path.specs.Normal.{climbs_first}
 use Rattle.uriparse_path.proofs.TextLemmas.{is_listed, counted}
 use Rattle.uriparse_path.proofs.DotLemmas.{not_both, no_dot}
-use Rattle.uriparse_path.proofs.CanonicalLemmas.{length-canon}
+use Rattle.uriparse_path.proofs.CanonicalLemmas.{length-canonical}
 use Rattle.uriparse_path.proofs.ReduceLemmas.{leads_iff, put_all-append, put_single}
 use Rattle.uriparse_path.proofs.RelativeLemmas.{reduced_climbs, shaped, relative_is, each_shaped, climbing_kept, some_filled}
 
@@ -171,7 +171,7 @@ length_shaped (s ∷ l) some h =
     subst (λ u. length (shaped u) ≤ length u) (sym is.whole) (length_pushed is.front is.last (sym (ap hides_root is.whole) ∙ h))
 
 pub length_relative : (l : List (List ℕ)) → 0 < length l → hides_root l ≡ false → length (relative_normal l) ≤ length l
-length_relative l some h = rw (relative_is l, length-canon (shaped l)) (length_shaped l some h)
+length_relative l some h = rw (relative_is l, length-canonical (shaped l)) (length_shaped l some h)
 
 -- the end alone is no longer than the whole
 pub length_closed_end : (l : List (List ℕ)) → 0 < length l → hides_root l ≡ false → length (closed (is_last is_dot_segment l) (reduced l)) ≤ length l

@@ -18,7 +18,9 @@ mod PassLemmas
 mod PutLemmas
 mod CopyLemmas
 mod CountLemmas
+mod CutLemmas
 mod EditLemmas
 mod ElementLemmas
 pub mod ReadLemmas
 pub mod LimitLemmas
+pub mod AlikeLemmas

@@ -14,9 +14,10 @@ use Rattle.uriparse_path.proofs.DotLemmas.{empty_single, empty_double, dot_singl
 use Rattle.uriparse_path.proofs.ReduceLemmas.{put_all-append, put_plain}
 use Rattle.uriparse_path.proofs.RelativeLemmas.{shaped}
 use Rattle.uriparse_path.proofs.LengthLemmas.{last_push, Pushed, pushed}
-use Rattle.uriparse_path.proofs.NormalLemmas.{listed_replayed, pnormal_dots, pnormal_plain, spelled_canon_undot, respelled-canonical, replay_kept, rooted_kept}
+use Rattle.uriparse_path.proofs.NormalLemmas.{listed_replayed, pnormal_dots, pnormal_plain, spelled_canonical_undot, respelled-canonical, replay_kept}
+use Rattle.uriparse_path.proofs.NormalLemmas.{rooted_kept}
 use Rattle.uriparse_path.proofs.NormalLemmas.{has_dot-respelled, none_plain, plain_replayed, length_replay, length_cut}
-use Rattle.uriparse_path.proofs.CommuteLemmas.{replayed-canon, canonical_twice}
+use Rattle.uriparse_path.proofs.CommuteLemmas.{replayed-canonical, canonical_twice}
 
 -- ---- the directory behind which the segments come out, the last one's empty segment left out
 
@@ -276,7 +277,7 @@ pub undotted_twice : (p : PathParts) → IsListed p.segments → undotted (undot
 undotted_twice p is = undotted_kept (undotted p) (no_dots_undotted p is) ∙ respelled_twice (replayed p)
 
 pub undotted-canonical : (p : PathParts) → IsListed p.segments → undotted (canonical_path p) ≡ canonical_path (undotted p)
-undotted-canonical p is = ap respelled (replayed-canon p is.each) ∙ respelled-canonical (replayed p)
+undotted-canonical p is = ap respelled (replayed-canonical p is.each) ∙ respelled-canonical (replayed p)
 
 pub canonical_path_twice : (p : PathParts) → IsListed p.segments → canonical_path (canonical_path p) ≡ canonical_path p
 canonical_path_twice p is = ap (λ l. record { absolute = p.absolute; segments = l }) (canonical_twice p.segments is.each)
@@ -286,7 +287,7 @@ pub pnormal_is : (p : PathParts) (r : Bool) → IsListed p.segments → respelle
 pnormal_is p r is h e = by_dots (has_dot_segment p.segments) refl
   where
     by_dots : (v : Bool) → has_dot_segment p.segments ≡ v → pnormal p r ≡ canonical_path (undotted p)
-    by_dots true k = pnormal_dots p r e k ∙ spelled_canon_undot p is
+    by_dots true k = pnormal_dots p r e k ∙ spelled_canonical_undot p is
     by_dots false k = pnormal_plain p r e k ∙ sym (ap canonical_path (undotted_kept p k ∙ h))
 
 pub dot_undotted : (a : Bool) (l : List (List ℕ)) → 0 < length l

@@ -5,7 +5,7 @@ use Rattle.std.specs.List.{list_all, slice_split, join_with_byte}
 use Rattle.std.proofs.lemmas.Bool.{false≢true, not-true, and_parts, and_from, or_parts}
 use Rattle.std.proofs.lemmas.List.Folds.{list_all-append}
 use Rattle.uriparse_text.specs.Bytes.{slash}
-use Rattle.uriparse_text.specs.Canon.{canon}
+use Rattle.uriparse_text.specs.Canonical.{canonical}
 use Rattle.uriparse_path.specs.Segment.{is_segment}
 use Rattle.uriparse_path.specs.Path.{PathParts, IsListed, text, is_slash, is_rooted, pieces, spelled, hides_root, respelled}
 use Rattle.uriparse_path.specs.Dots.{is_single_dot, is_double_dot, is_dot_segment, has_dot_segment, all_but_last, replay, rooted_after, replayed, undot}
@@ -13,10 +13,10 @@ use Rattle.uriparse_path.specs.Dots.{without_dots}
 use Rattle.uriparse_path.specs.Relative.{is_first, has_colon, relative_normal}
 use Rattle.uriparse_path.specs.Normal.{canonical_path, stays_relative, pnormal, is_canonical, climbs_first, is_guarded, is_normal}
 use Rattle.uriparse_path.proofs.TextLemmas.{text-spelled, spelled-text, listed-respelled, pieces-segments, lacks_slash, rooted-relative}
-use Rattle.uriparse_path.proofs.CanonicalLemmas.{canon-nil, canon-text, length-canon, listed-canonical, is_rooted-canon}
+use Rattle.uriparse_path.proofs.CanonicalLemmas.{canonical-nil, canonical-text, length-canonical, listed-canonical, is_rooted-canonical}
 use Rattle.uriparse_path.proofs.DotLemmas.{empty_no_dot, no_dot}
 use Rattle.uriparse_path.proofs.ReplayLemmas.{AreClean, replay_some, once_rooted, undot-text}
-use Rattle.uriparse_path.proofs.RelativeLemmas.{colon_relative, all_canonical_same, all_canonical-canon, has_dot-canon, hides-canon, hides_relative}
+use Rattle.uriparse_path.proofs.RelativeLemmas.{colon_relative, all_canonical_same, all_canonical-canonical, has_dot-canonical, hides-canonical, hides_relative}
 use Rattle.uriparse_path.proofs.RelativeLemmas.{each_relative, some_relative, relative_iff, relative_twice, empty_segment}
 use Rattle.uriparse_path.proofs.LengthLemmas.{length_relative}
 
@@ -191,24 +191,25 @@ length_without_dots p is = by_dots (has_dot_segment p.segments)
 pub pnormal_relative : (p : PathParts) (r : Bool) → stays_relative p r ≡ true → pnormal p r ≡ record { absolute = false; segments = relative_normal p.segments }
 pnormal_relative p r h =
     ap (λ v. cond v (record { absolute = false; segments = relative_normal p.segments })
-    (cond (has_dot_segment p.segments) (spelled (canon (undot (text p)))) (canonical_path p))) h
+    (cond (has_dot_segment p.segments) (spelled (canonical (undot (text p)))) (canonical_path p))) h
 
-pub pnormal_dots : (p : PathParts) (r : Bool) → stays_relative p r ≡ false → has_dot_segment p.segments ≡ true → pnormal p r ≡ spelled (canon (undot (text p)))
+pub pnormal_dots : (p : PathParts) (r : Bool) → stays_relative p r ≡ false → has_dot_segment p.segments ≡ true →
+    pnormal p r ≡ spelled (canonical (undot (text p)))
 pnormal_dots p r h k =
     ap (λ v. cond v (record { absolute = false; segments = relative_normal p.segments })
-    (cond (has_dot_segment p.segments) (spelled (canon (undot (text p)))) (canonical_path p))) h
-    ∙ ap (λ v. cond v (spelled (canon (undot (text p)))) (canonical_path p)) k
+    (cond (has_dot_segment p.segments) (spelled (canonical (undot (text p)))) (canonical_path p))) h
+    ∙ ap (λ v. cond v (spelled (canonical (undot (text p)))) (canonical_path p)) k
 
 pub pnormal_plain : (p : PathParts) (r : Bool) → stays_relative p r ≡ false → has_dot_segment p.segments ≡ false → pnormal p r ≡ canonical_path p
 pnormal_plain p r h k =
     ap (λ v. cond v (record { absolute = false; segments = relative_normal p.segments })
-    (cond (has_dot_segment p.segments) (spelled (canon (undot (text p)))) (canonical_path p))) h
-    ∙ ap (λ v. cond v (spelled (canon (undot (text p)))) (canonical_path p)) k
+    (cond (has_dot_segment p.segments) (spelled (canonical (undot (text p)))) (canonical_path p))) h
+    ∙ ap (λ v. cond v (spelled (canonical (undot (text p)))) (canonical_path p)) k
 
 -- what holds of each case holds of the normal form
 by_case : (p : PathParts) (r : Bool) (P : PathParts → Type 0)
     → (stays_relative p r ≡ true → P (record { absolute = false; segments = relative_normal p.segments }))
-    → (stays_relative p r ≡ false → has_dot_segment p.segments ≡ true → P (spelled (canon (undot (text p)))))
+    → (stays_relative p r ≡ false → has_dot_segment p.segments ≡ true → P (spelled (canonical (undot (text p)))))
     → (stays_relative p r ≡ false → has_dot_segment p.segments ≡ false → P (canonical_path p))
     → P (pnormal p r)
 by_case p r P f g h = by_tests (stays_relative p r) refl (has_dot_segment p.segments) refl
@@ -225,15 +226,15 @@ respelled-canonical p = by_shape p.absolute p.segments
         → respelled (canonical_path (record { absolute = a; segments = l })) ≡ canonical_path (respelled (record { absolute = a; segments = l }))
     by_shape true l = refl
     by_shape false [] = refl
-    by_shape false ([] ∷ []) = rw canon-nil refl
-    by_shape false ([] ∷ r ∷ l) = rw canon-nil refl
-    by_shape false ((b ∷ s) ∷ l) = rw (hides-canon ((b ∷ s) ∷ l)) refl
+    by_shape false ([] ∷ []) = rw canonical-nil refl
+    by_shape false ([] ∷ r ∷ l) = rw canonical-nil refl
+    by_shape false ((b ∷ s) ∷ l) = rw (hides-canonical ((b ∷ s) ∷ l)) refl
 
 -- the case with dot segments, segment by segment
-pub spelled_canon_undot : (p : PathParts) → IsListed p.segments → spelled (canon (undot (text p))) ≡ canonical_path (respelled (replayed p))
-spelled_canon_undot p is =
-    ap (λ t. spelled (canon t)) (undot_path p is)
-    ∙ ap spelled (canon-text (replayed p) (listed_replayed p is))
+pub spelled_canonical_undot : (p : PathParts) → IsListed p.segments → spelled (canonical (undot (text p))) ≡ canonical_path (respelled (replayed p))
+spelled_canonical_undot p is =
+    ap (λ t. spelled (canonical t)) (undot_path p is)
+    ∙ ap spelled (canonical-text (replayed p) (listed_replayed p is))
     ∙ spelled-text (canonical_path (replayed p)) (listed-canonical (replay [] p.segments) (listed_replayed p is))
     ∙ respelled-canonical (replayed p)
 
@@ -272,7 +273,7 @@ pub listed_pnormal : (p : PathParts) (r : Bool) → IsListed p.segments → IsLi
 listed_pnormal p r is = by_case p r (λ q. IsListed q.segments)
     (λ e. let rel = relative p r is e in let no_longer = length_relative p.segments is.some rel.shown in
     record { some = some_relative p.segments; short = omega (arith, is.short, no_longer); each = each_relative p.segments is.each })
-    (λ e k. subst (λ q. IsListed q.segments) (sym (spelled_canon_undot p is))
+    (λ e k. subst (λ q. IsListed q.segments) (sym (spelled_canonical_undot p is))
     (listed-canonical (respelled (replayed p)).segments (listed-respelled (replayed p) (listed_replayed p is))))
     (λ e k. listed-canonical p.segments is)
 
@@ -280,8 +281,8 @@ pub length_pnormal : (p : PathParts) (r : Bool) → IsListed p.segments → leng
 length_pnormal p r is = by_case p r (λ q. length q.segments ≤ length p.segments)
     (λ e. length_relative p.segments is.some (relative p r is e).shown)
     (λ e k. let a = length_replay [] p.segments in let b = length-respelled (replayed p) in
-    omega (arith, ap (λ q. length q.segments) (spelled_canon_undot p is), length-canon (respelled (replayed p)).segments, a, b))
-    (λ e k. let a = length-canon p.segments in omega (arith, a))
+    omega (arith, ap (λ q. length q.segments) (spelled_canonical_undot p is), length-canonical (respelled (replayed p)).segments, a, b))
+    (λ e k. let a = length-canonical p.segments in omega (arith, a))
 
 -- ---- which paths are left as they are
 
@@ -299,10 +300,10 @@ text_same false x y h k e = joined_same x y h.some k.some h.each k.each e
 has_dots-text : (p : PathParts) → IsListed p.segments → has_dot_segment (spelled (text p)).segments ≡ has_dot_segment p.segments
 has_dots-text p is = ap (λ q. has_dot_segment q.segments) (spelled-text p is) ∙ has_dot-respelled p
 
-pub none_in_normal : (p : PathParts) → IsListed p.segments → has_dot_segment (spelled (canon (undot (text p)))).segments ≡ false
+pub none_in_normal : (p : PathParts) → IsListed p.segments → has_dot_segment (spelled (canonical (undot (text p)))).segments ≡ false
 none_in_normal p is =
-    ap (λ q. has_dot_segment q.segments) (spelled_canon_undot p is)
-    ∙ has_dot-canon (respelled (replayed p)).segments (listed-respelled (replayed p) (listed_replayed p is)).each
+    ap (λ q. has_dot_segment q.segments) (spelled_canonical_undot p is)
+    ∙ has_dot-canonical (respelled (replayed p)).segments (listed-respelled (replayed p) (listed_replayed p is)).each
     ∙ has_dot-respelled (replayed p)
     ∙ none_plain (replay [] p.segments) (plain_replayed p is)
 
@@ -314,7 +315,7 @@ pub normal_iff : (p : PathParts) (r : Bool) → IsListed p.segments → (is_norm
 normal_iff p r is = by_case p r (λ q. (is_normal p r ≡ true) ↔ (text q ≡ text p))
     (λ e. subst (λ v. (is_normal_by v p ≡ true) ↔ (text (record { absolute = false; segments = relative_normal p.segments }) ≡ text p)) (sym e)
     (by_flag p.absolute p.segments is (relative p r is e).flag (relative p r is e).shown))
-    (λ e k. subst (λ v. (is_normal_by v p ≡ true) ↔ (text (spelled (canon (undot (text p)))) ≡ text p)) (sym e) (never k))
+    (λ e k. subst (λ v. (is_normal_by v p ≡ true) ↔ (text (spelled (canonical (undot (text p)))) ≡ text p)) (sym e) (never k))
     (λ e k. subst (λ v. (is_normal_by v p ≡ true) ↔ (text (canonical_path p) ≡ text p)) (sym e) (spelled_itself k))
   where
     by_flag : (a : Bool) (l : List (List ℕ)) → IsListed l → a ≡ false → hides_root l ≡ false
@@ -330,10 +331,10 @@ normal_iff p r is = by_case p r (λ q. (is_normal p r ≡ true) ↔ (text q ≡ 
           λ e. both.1 (text_same false (relative_normal l) l listed is e),
         )
 
-    never : has_dot_segment p.segments ≡ true → (is_normal_by false p ≡ true) ↔ (text (spelled (canon (undot (text p)))) ≡ text p)
+    never : has_dot_segment p.segments ≡ true → (is_normal_by false p ≡ true) ↔ (text (spelled (canonical (undot (text p)))) ≡ text p)
     never k = (
       λ g. absurd (false≢true (sym (ap not k) ∙ (and_parts (list_all is_canonical p.segments) (not (has_dot_segment p.segments)) g).1)),
-      λ e. absurd (false≢true (sym (none_in_normal p is) ∙ ap (λ t. has_dot_segment (spelled t).segments) (sym (text-spelled (canon (undot (text p)))) ∙ e)
+      λ e. absurd (false≢true (sym (none_in_normal p is) ∙ ap (λ t. has_dot_segment (spelled t).segments) (sym (text-spelled (canonical (undot (text p)))) ∙ e)
           ∙ has_dots-text p is ∙ k)),
     )
 
@@ -341,8 +342,8 @@ normal_iff p r is = by_case p r (λ q. (is_normal p r ≡ true) ↔ (text q ≡ 
     spelled_itself k = (
       λ g. ap (λ m. text (record { absolute = p.absolute; segments = m }))
           (all_canonical_same p.segments (and_parts (list_all is_canonical p.segments) (not (has_dot_segment p.segments)) g).0),
-      λ e. and_from _ _ (sym (ap (list_all is_canonical) (text_same p.absolute (map canon p.segments) p.segments (listed-canonical p.segments is) is e))
-          ∙ all_canonical-canon p.segments is.each) (ap not k),
+      λ e. and_from _ _ (sym (ap (list_all is_canonical) (text_same p.absolute (map canonical p.segments) p.segments (listed-canonical p.segments is) is e))
+          ∙ all_canonical-canonical p.segments is.each) (ap not k),
     )
 
 -- ---- the normal form of a normal form
@@ -368,17 +369,18 @@ pnormal_twice p r is = by_case p r (λ q. pnormal q r ≡ q)
     rooted-text (record { absolute = false; segments = relative_normal p.segments }) listed ∙ hides_relative p.segments in
     pnormal_relative (record { absolute = false; segments = relative_normal p.segments }) r (and_from _ _ (relative p r is e).asked (ap not shown))
     ∙ ap (λ m. record { absolute = false; segments = m }) (relative_twice p.segments is.each))
-    (λ e k. settled (spelled (canon (undot (text p)))) r
-    (still_not_relative r (is_rooted (text p)) (is_rooted (text (spelled (canon (undot (text p)))))) e
-    (λ h. ap is_rooted (text-spelled (canon (undot (text p)))) ∙ is_rooted-canon (undot (text p)) ∙ rooted_undot (text p) h))
+    (λ e k. settled (spelled (canonical (undot (text p)))) r
+    (still_not_relative r (is_rooted (text p)) (is_rooted (text (spelled (canonical (undot (text p)))))) e
+    (λ h. ap is_rooted (text-spelled (canonical (undot (text p)))) ∙ is_rooted-canonical (undot (text p)) ∙ rooted_undot (text p) h))
     (none_in_normal p is)
-    (ap (λ q. list_all is_canonical q.segments) (spelled_canon_undot p is)
-    ∙ all_canonical-canon (respelled (replayed p)).segments (listed-respelled (replayed p) (listed_replayed p is)).each))
+    (ap (λ q. list_all is_canonical q.segments) (spelled_canonical_undot p is)
+    ∙ all_canonical-canonical (respelled (replayed p)).segments (listed-respelled (replayed p) (listed_replayed p is)).each))
     (λ e k. settled (canonical_path p) r
-    (still_not_relative r (is_rooted (text p)) (is_rooted (text (canonical_path p))) e (λ h. ap is_rooted (sym (canon-text p is)) ∙ is_rooted-canon (text p)
+    (still_not_relative r (is_rooted (text p)) (is_rooted (text (canonical_path p))) e (λ h. ap is_rooted (sym (canonical-text p is))
+    ∙ is_rooted-canonical (text p)
     ∙ h))
-    (has_dot-canon p.segments is.each ∙ k)
-    (all_canonical-canon p.segments is.each))
+    (has_dot-canonical p.segments is.each ∙ k)
+    (all_canonical-canonical p.segments is.each))
 
 -- ---- what the path of a text, and an absolute path, keeps of that
 
@@ -390,23 +392,24 @@ pnormal_spelled p r is h = by_case p r (λ q. spelled (text q) ≡ q)
       absolute = false;
       segments = relative_normal p.segments;
     })) (hides_relative p.segments))
-    (λ e k. ap spelled (text-spelled (canon (undot (text p)))))
+    (λ e k. ap spelled (text-spelled (canonical (undot (text p)))))
     (λ e k. spelled-text (canonical_path p) (listed-canonical p.segments is) ∙ respelled-canonical p ∙ ap canonical_path (sym (spelled-text p is) ∙ h))
 
 pub pnormal_absolute : (p : PathParts) (r : Bool) → IsListed p.segments → p.absolute ≡ true → (pnormal p r).absolute ≡ true
 pnormal_absolute p r is h = by_case p r (λ q. q.absolute ≡ true)
     (λ e. absurd (false≢true (sym (relative p r is e).flag ∙ h)))
-    (λ e k. is_rooted-canon (undot (text p)) ∙ rooted_undot (text p) (rooted-text p is ∙ ap (λ v. v || hides_root p.segments) h))
+    (λ e k. is_rooted-canonical (undot (text p)) ∙ rooted_undot (text p) (rooted-text p is ∙ ap (λ v. v || hides_root p.segments) h))
     (λ e k. h)
 
 -- a path that is left as it is keeps its parts
 pub normal_kept : (p : PathParts) (r : Bool) → IsListed p.segments → is_normal p r ≡ true → pnormal p r ≡ p
 normal_kept p r is n = by_case p r (λ q. text q ≡ text p → q ≡ p)
     (λ e g. by_flag p.absolute p.segments is (relative p r is e).flag (relative p r is e).shown g)
-    (λ e k g. absurd (false≢true (sym (none_in_normal p is) ∙ ap (λ t. has_dot_segment (spelled t).segments) (sym (text-spelled (canon (undot (text p)))) ∙ g)
+    (λ e k g. absurd (false≢true (sym (none_in_normal p is)
+    ∙ ap (λ t. has_dot_segment (spelled t).segments) (sym (text-spelled (canonical (undot (text p)))) ∙ g)
     ∙ has_dots-text p is ∙ k)))
     (λ e k g. ap (λ m. record { absolute = p.absolute; segments = m })
-    (text_same p.absolute (map canon p.segments) p.segments (listed-canonical p.segments is) is g))
+    (text_same p.absolute (map canonical p.segments) p.segments (listed-canonical p.segments is) is g))
     ((normal_iff p r is).0 n)
   where
     by_flag : (a : Bool) (l : List (List ℕ)) → IsListed l → a ≡ false → hides_root l ≡ false
@@ -423,8 +426,8 @@ normal_kept p r is n = by_case p r (λ q. text q ≡ text p → q ≡ p)
 pub pnormal_rooted : (p : PathParts) (r : Bool) → IsListed p.segments → is_rooted (text p) ≡ true → is_rooted (text (pnormal p r)) ≡ true
 pnormal_rooted p r is h = by_case p r (λ q. is_rooted (text q) ≡ true)
     (λ e. absurd (false≢true (sym (not-true (is_rooted (text p)) (and_parts r (not (is_rooted (text p))) e).1) ∙ h)))
-    (λ e k. ap is_rooted (text-spelled (canon (undot (text p)))) ∙ is_rooted-canon (undot (text p)) ∙ rooted_undot (text p) h)
-    (λ e k. ap is_rooted (sym (canon-text p is)) ∙ is_rooted-canon (text p) ∙ h)
+    (λ e k. ap is_rooted (text-spelled (canonical (undot (text p)))) ∙ is_rooted-canonical (undot (text p)) ∙ rooted_undot (text p) h)
+    (λ e k. ap is_rooted (sym (canonical-text p is)) ∙ is_rooted-canonical (text p) ∙ h)
 
 pub pnormal_rootless : (p : PathParts) → IsListed p.segments → is_rooted (text p) ≡ false → is_rooted (text (pnormal p true)) ≡ false
 pnormal_rootless p is h =

@@ -12,11 +12,11 @@ use Rattle.uriparse_text.specs.Bytes.{is_unreserved}
 use Rattle.uriparse_text.specs.Classes.{is_plain}
 use Rattle.uriparse_text.specs.Faults.{allows}
 use Rattle.uriparse_text.specs.Tokens.{tokens}
-use Rattle.uriparse_text.specs.Canon.{canon}
+use Rattle.uriparse_text.specs.Canonical.{canonical}
 use Rattle.uriparse_text.proofs.TokenLemmas.{tokens-nil}
 use Rattle.uriparse_text.specs.declared.parts.class.Class.TheVariants.{Segment}
 use Rattle.uriparse_text.specs.declared.parts.canonical.Case.TheVariants.{Kept}
-use Rattle.uriparse_text.proofs.CanonLemmas.{spelling-spelling}
+use Rattle.uriparse_text.proofs.CanonicalLemmas.{canonical_in-canonical_in}
 use Rattle.uriparse_text.proofs.ClassLemmas.{well_formed-in_class}
 use Rattle.uriparse_path.specs.Segment.{is_segment}
 use Rattle.uriparse_path.specs.Path.{hides_root}
@@ -24,9 +24,9 @@ use Rattle.uriparse_path.specs.Dots.{is_single_dot, is_double_dot, is_dot_segmen
 use Rattle.uriparse_path.specs.Relative.{single, pair, done, IsIrreducible, is_last, is_first, closed, has_colon, needs_guard, guarded}
 use Rattle.uriparse_path.specs.Relative.{filled, put, put_all, reduced, relative_normal}
 use Rattle.uriparse_path.specs.Normal.{is_canonical, climbs_first, is_guarded}
-use Rattle.uriparse_path.proofs.DotLemmas.{not_both, neither, no_dot, single_dot, double_dot, empty_double, empty_no_dot, dot_single, canon-dot, single_is}
-use Rattle.uriparse_path.proofs.DotLemmas.{single-canon, double-canon, dot-canon, canon-empty, has_colon-canon}
-use Rattle.uriparse_path.proofs.CanonicalLemmas.{canon-nil, each-canon, length-canon}
+use Rattle.uriparse_path.proofs.DotLemmas.{not_both, neither, no_dot, single_dot, double_dot, empty_double, empty_no_dot, dot_single, canonical-dot, single_is}
+use Rattle.uriparse_path.proofs.DotLemmas.{single-canonical, double-canonical, dot-canonical, canonical-empty, has_colon-canonical}
+use Rattle.uriparse_path.proofs.CanonicalLemmas.{canonical-nil, each-canonical, length-canonical}
 use Rattle.uriparse_path.proofs.ReduceLemmas.{leads_iff}
 
 -- ---- lists from which nothing is deleted
@@ -108,53 +108,53 @@ reduced_climbs l = climbs_of (reduced l) ((leads_iff l (reduced l)).1 refl).1
 
 -- ---- canonical spelling changes no test
 
-canonical_same : (s : List ℕ) → is_canonical s ≡ true → canon s ≡ s
-canonical_same s h = (bytes_eq-Decides (canon s) s).0 h
+canonical_same : (s : List ℕ) → is_canonical s ≡ true → canonical s ≡ s
+canonical_same s h = (bytes_eq-Decides (canonical s) s).0 h
 
-pub all_canonical_same : (l : List (List ℕ)) → list_all is_canonical l ≡ true → map canon l ≡ l
+pub all_canonical_same : (l : List (List ℕ)) → list_all is_canonical l ≡ true → map canonical l ≡ l
 all_canonical_same [] h = refl
 all_canonical_same (s ∷ l) h = let both = and_parts _ _ h in rw (canonical_same s both.0, all_canonical_same l both.1) refl
 
-pub canon-canon : (s : List ℕ) → is_segment s ≡ true → canon (canon s) ≡ canon s
-canon-canon s h = spelling-spelling Kept s (well_formed-in_class Segment s h)
+pub canonical-canonical : (s : List ℕ) → is_segment s ≡ true → canonical (canonical s) ≡ canonical s
+canonical-canonical s h = canonical_in-canonical_in Kept s (well_formed-in_class Segment s h)
 
-pub all_canonical-canon : (l : List (List ℕ)) → list_all is_segment l ≡ true → list_all is_canonical (map canon l) ≡ true
-all_canonical-canon [] h = refl
-all_canonical-canon (s ∷ l) h = let both = and_parts _ _ h in
-    and_from _ _ ((bytes_eq-Decides (canon (canon s)) (canon s)).1 (canon-canon s both.0)) (all_canonical-canon l both.1)
+pub all_canonical-canonical : (l : List (List ℕ)) → list_all is_segment l ≡ true → list_all is_canonical (map canonical l) ≡ true
+all_canonical-canonical [] h = refl
+all_canonical-canonical (s ∷ l) h = let both = and_parts _ _ h in
+    and_from _ _ ((bytes_eq-Decides (canonical (canonical s)) (canonical s)).1 (canonical-canonical s both.0)) (all_canonical-canonical l both.1)
 
-pub has_dot-canon : (l : List (List ℕ)) → list_all is_segment l ≡ true → has_dot_segment (map canon l) ≡ has_dot_segment l
-has_dot-canon [] h = refl
-has_dot-canon (s ∷ l) h = let both = and_parts _ _ h in rw (dot-canon s both.0, has_dot-canon l both.1) refl
+pub has_dot-canonical : (l : List (List ℕ)) → list_all is_segment l ≡ true → has_dot_segment (map canonical l) ≡ has_dot_segment l
+has_dot-canonical [] h = refl
+has_dot-canonical (s ∷ l) h = let both = and_parts _ _ h in rw (dot-canonical s both.0, has_dot-canonical l both.1) refl
 
-climbs-canon : (l : List (List ℕ)) → list_all is_segment l ≡ true → climbs_first (map canon l) ≡ climbs_first l
-climbs-canon [] h = refl
-climbs-canon (s ∷ l) h =
+climbs-canonical : (l : List (List ℕ)) → list_all is_segment l ≡ true → climbs_first (map canonical l) ≡ climbs_first l
+climbs-canonical [] h = refl
+climbs-canonical (s ∷ l) h =
     let both = and_parts _ _ h in
-    rw (double-canon s both.0, single-canon s both.0, climbs-canon l both.1, has_dot-canon l both.1) refl
+    rw (double-canonical s both.0, single-canonical s both.0, climbs-canonical l both.1, has_dot-canonical l both.1) refl
 
-pub hides-canon : (l : List (List ℕ)) → hides_root (map canon l) ≡ hides_root l
-hides-canon [] = refl
-hides-canon ([] ∷ []) = rw canon-nil refl
-hides-canon ([] ∷ r ∷ l) = rw canon-nil refl
-hides-canon ((b ∷ s) ∷ l) = by_text (canon (b ∷ s)) refl (map canon l)
+pub hides-canonical : (l : List (List ℕ)) → hides_root (map canonical l) ≡ hides_root l
+hides-canonical [] = refl
+hides-canonical ([] ∷ []) = rw canonical-nil refl
+hides-canonical ([] ∷ r ∷ l) = rw canonical-nil refl
+hides-canonical ((b ∷ s) ∷ l) = by_text (canonical (b ∷ s)) refl (map canonical l)
   where
-    by_text : (u : List ℕ) → canon (b ∷ s) ≡ u → (k : List (List ℕ)) → hides_root (u ∷ k) ≡ false
-    by_text [] e k = let no : b ∷ s ≡ [] = canon-empty (b ∷ s) e in cc
+    by_text : (u : List ℕ) → canonical (b ∷ s) ≡ u → (k : List (List ℕ)) → hides_root (u ∷ k) ≡ false
+    by_text [] e k = let no : b ∷ s ≡ [] = canonical-empty (b ∷ s) e in cc
     by_text (c ∷ u) e k = refl
 
-first_colon-canon : (l : List (List ℕ)) → is_first has_colon (map canon l) ≡ is_first has_colon l
-first_colon-canon [] = refl
-first_colon-canon (s ∷ l) = has_colon-canon s
+first_colon-canonical : (l : List (List ℕ)) → is_first has_colon (map canonical l) ≡ is_first has_colon l
+first_colon-canonical [] = refl
+first_colon-canonical (s ∷ l) = has_colon-canonical s
 
-pub guard-canon : (old new : List (List ℕ)) → needs_guard (map canon old) (map canon new) ≡ needs_guard old new
-guard-canon old new = rw (hides-canon new, first_colon-canon new, first_colon-canon old) refl
+pub guard-canonical : (old new : List (List ℕ)) → needs_guard (map canonical old) (map canonical new) ≡ needs_guard old new
+guard-canonical old new = rw (hides-canonical new, first_colon-canonical new, first_colon-canonical old) refl
 
-guarded-canon : (l : List (List ℕ)) → list_all is_segment l ≡ true → is_guarded (map canon l) ≡ is_guarded l
-guarded-canon [] h = refl
-guarded-canon (s ∷ l) h =
+guarded-canonical : (l : List (List ℕ)) → list_all is_segment l ≡ true → is_guarded (map canonical l) ≡ is_guarded l
+guarded-canonical [] h = refl
+guarded-canonical (s ∷ l) h =
     let both = and_parts _ _ h in
-    rw (single-canon s both.0, climbs-canon l both.1) (ap (λ v. is_single_dot s && climbs_first l && v) (guard-canon (s ∷ l) l))
+    rw (single-canonical s both.0, climbs-canonical l both.1) (ap (λ v. is_single_dot s && climbs_first l && v) (guard-canonical (s ∷ l) l))
 
 -- ---- each normal form passes the test
 
@@ -209,7 +209,7 @@ settled_guarded old new h = by_guard (needs_guard old new) refl
 abbrev pub shaped : List (List ℕ) → List (List ℕ)
 shaped l = filled (guarded l (closed (is_last is_dot_segment l) (reduced l)))
 
-pub relative_is : (l : List (List ℕ)) → relative_normal l ≡ map canon (shaped l)
+pub relative_is : (l : List (List ℕ)) → relative_normal l ≡ map canonical (shaped l)
 unfolding relative_normal
 relative_is l = refl
 
@@ -229,7 +229,7 @@ hides_shaped l = by_guard (needs_guard l (closed (is_last is_dot_segment l) (red
     by_guard false c e = hides_filled c (or_parts (hides_root c) (is_first has_colon c && not (is_first has_colon l)) e).0
 
 pub hides_relative : (l : List (List ℕ)) → hides_root (relative_normal l) ≡ false
-hides_relative l = ap hides_root (relative_is l) ∙ hides-canon (shaped l) ∙ hides_shaped l
+hides_relative l = ap hides_root (relative_is l) ∙ hides-canonical (shaped l) ∙ hides_shaped l
 
 -- ---- what holds of each segment, of the empty one and of "." holds of those of a normal form
 
@@ -369,15 +369,15 @@ settled_kept (s ∷ l) some h c k = relative_is (s ∷ l) ∙ by_climbs (climbs_
     second true b x e = cc
     second false b x e = x
 
-    by_climbs : (v : Bool) → climbs_first (s ∷ l) ≡ v → map canon (shaped (s ∷ l)) ≡ s ∷ l
-    by_climbs true e = ap (map canon) (climbing_kept (s ∷ l) some h e) ∙ all_canonical_same (s ∷ l) c
+    by_climbs : (v : Bool) → climbs_first (s ∷ l) ≡ v → map canonical (shaped (s ∷ l)) ≡ s ∷ l
+    by_climbs true e = ap (map canonical) (climbing_kept (s ∷ l) some h e) ∙ all_canonical_same (s ∷ l) c
     by_climbs false e =
         let g = and_parts (is_single_dot s && climbs_first l) (needs_guard (s ∷ l) l) (second (climbs_first (s ∷ l)) (is_guarded (s ∷ l)) k e) in
         let both = and_parts (is_single_dot s) (climbs_first l) g.0 in
         let own = and_parts (is_canonical s) (list_all is_canonical l) c in
         let plain : s ≡ dot ∷ [] = sym (canonical_same s own.0) ∙ single_is s both.0 in
-        ap (map canon) (guarded_kept s l both.0 both.1 g.1)
-        ∙ ap (λ u. u ∷ map canon l) canon-dot
+        ap (map canonical) (guarded_kept s l both.0 both.1 g.1)
+        ∙ ap (λ u. u ∷ map canonical l) canonical-dot
         ∙ ap (λ u. (dot ∷ []) ∷ u) (all_canonical_same l own.1)
         ∙ ap (λ u. u ∷ l) (sym plain)
 
@@ -385,20 +385,20 @@ settled_kept (s ∷ l) some h c k = relative_is (s ∷ l) ∙ by_climbs (climbs_
 pub settled_relative : (l : List (List ℕ)) → list_all is_segment l ≡ true → is_settled (relative_normal l) ≡ true
 settled_relative l h =
     let each : list_all is_segment (shaped l) ≡ true = each_shaped l h in
-    ap is_settled (relative_is l) ∙ rw (climbs-canon (shaped l) each, guarded-canon (shaped l) each) (settled_shaped l)
+    ap is_settled (relative_is l) ∙ rw (climbs-canonical (shaped l) each, guarded-canonical (shaped l) each) (settled_shaped l)
 
 pub canonical_relative : (l : List (List ℕ)) → list_all is_segment l ≡ true → list_all is_canonical (relative_normal l) ≡ true
-canonical_relative l h = ap (list_all is_canonical) (relative_is l) ∙ all_canonical-canon (shaped l) (each_shaped l h)
+canonical_relative l h = ap (list_all is_canonical) (relative_is l) ∙ all_canonical-canonical (shaped l) (each_shaped l h)
 
 pub each_relative : (l : List (List ℕ)) → list_all is_segment l ≡ true → list_all is_segment (relative_normal l) ≡ true
-each_relative l h = ap (list_all is_segment) (relative_is l) ∙ each-canon (shaped l) (each_shaped l h)
+each_relative l h = ap (list_all is_segment) (relative_is l) ∙ each-canonical (shaped l) (each_shaped l h)
 
 pub some_filled : (c : List (List ℕ)) → 0 < length (filled c)
 some_filled [] = omega arith
 some_filled (s ∷ c) = omega arith
 
 pub some_relative : (l : List (List ℕ)) → 0 < length (relative_normal l)
-some_relative l = rw (relative_is l, length-canon (shaped l)) (some_filled (guarded l (closed (is_last is_dot_segment l) (reduced l))))
+some_relative l = rw (relative_is l, length-canonical (shaped l)) (some_filled (guarded l (closed (is_last is_dot_segment l) (reduced l))))
 
 pub relative_iff : (l : List (List ℕ)) → 0 < length l → hides_root l ≡ false → list_all is_segment l ≡ true
     → ((list_all is_canonical l && is_settled l) ≡ true) ↔ (relative_normal l ≡ l)
@@ -432,4 +432,4 @@ colon_shaped l h = by_guard (needs_guard l (closed (is_last is_dot_segment l) (r
     by_guard false c e = colon_filled c (own (is_first has_colon c) (or_parts (hides_root c) (is_first has_colon c && not (is_first has_colon l)) e).1)
 
 pub colon_relative : (l : List (List ℕ)) → is_first has_colon l ≡ false → is_first has_colon (relative_normal l) ≡ false
-colon_relative l h = ap (is_first has_colon) (relative_is l) ∙ first_colon-canon (shaped l) ∙ colon_shaped l h
+colon_relative l h = ap (is_first has_colon) (relative_is l) ∙ first_colon-canonical (shaped l) ∙ colon_shaped l h

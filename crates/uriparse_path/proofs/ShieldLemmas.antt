@@ -8,7 +8,7 @@ use Rattle.std.proofs.lemmas.List.{length-take-le}
 use Rattle.std.proofs.lemmas.Slice.Eq.{bytes_eq-Decides}
 use Rattle.uriparse_text.specs.Bytes.{is_unreserved}
 use Rattle.uriparse_text.specs.Tokens.{tokens}
-use Rattle.uriparse_text.specs.Canon.{spelling}
+use Rattle.uriparse_text.specs.Canonical.{canonical_in}
 use Rattle.uriparse_text.specs.Bytes.{dot}
 use Rattle.uriparse_path.specs.Path.{PathParts, IsListed, IsCounted, text, spelled, hides_root, respelled}
 use Rattle.uriparse_path.specs.Dots.{has_dot_segment, replay, replayed, rooted_after, undot, without_dots}
@@ -150,7 +150,7 @@ relative_stays v p r is e = shown_stays v (pnormal p r) (listed_pnormal p r is) 
     ∙ hides_relative p.segments)
 
 dot_canonical : is_canonical (dot ∷ []) ≡ true
-unfolding spelling tokens is_unreserved
+unfolding canonical_in tokens is_unreserved
 dot_canonical = refl
 
 -- the path of a normal form has canonical segments

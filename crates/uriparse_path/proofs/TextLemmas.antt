@@ -10,9 +10,9 @@ use Rattle.uriparse_text.specs.Bytes.{slash, percent, is_hex}
 use Rattle.uriparse_text.specs.Classes.{is_plain}
 use Rattle.uriparse_text.specs.Cuts.{lacks}
 use Rattle.uriparse_text.specs.Tokens.{is_token, is_well_formed}
-use Rattle.uriparse_text.specs.Canon.{canonical, canonical_tokens}
+use Rattle.uriparse_text.specs.Canonical.{canonical_token, canonical_tokens}
 use Rattle.uriparse_text.proofs.TokenLemmas.{tokens-spell, tokens-nil, well_formed-append}
-use Rattle.uriparse_text.proofs.CanonLemmas.{canonical_tokens-append, canonical_tokens-empty}
+use Rattle.uriparse_text.proofs.CanonicalLemmas.{canonical_tokens-append, canonical_tokens-empty}
 use Rattle.uriparse_text.proofs.ClassLemmas.{well_formed-in_class, bytes-in_class}
 use Rattle.uriparse_text.proofs.CutLemmas.{lacks-append, lacks-in_class}
 use Rattle.uriparse_path.specs.Segment.{is_segment}
@@ -59,7 +59,7 @@ pub tokens-behind : (ss : List (List ℕ)) → list_all is_segment ss ≡ true
 tokens-behind [] h = canonical_tokens-empty Kept [] refl
 tokens-behind (s ∷ ss) h =
     let both = and_parts _ _ h in
-    ap (map (canonical Kept)) (tokens-spell (Byte slash) (s ++ flat_map (λ r. slash ∷ r) ss) refl)
+    ap (map (canonical_token Kept)) (tokens-spell (Byte slash) (s ++ flat_map (λ r. slash ∷ r) ss) refl)
     ∙ ap (λ x. Byte slash ∷ x) (canonical_tokens-append Kept s (flat_map (λ r. slash ∷ r) ss) (well_formed-in_class Segment s both.0)
     ∙ ap (λ x. canonical_tokens Kept s ++ x) (tokens-behind ss both.1))
 

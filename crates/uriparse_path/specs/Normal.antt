@@ -2,14 +2,14 @@
 use Rattle.std.specs.Prelude.{ℕ, Bool, true, false, ◌&&◌, ◌||◌, not, if◌then◌else◌, List, [], ◌∷◌, map, bytes_eq}
 use Rattle.std.specs.List.{list_all}
 use Rattle.uriparse_text.specs.Bytes.{dot}
-use Rattle.uriparse_text.specs.Canon.{canon}
+use Rattle.uriparse_text.specs.Canonical.{canonical}
 use Rattle.uriparse_path.specs.Path.{PathParts, hides_root, text, is_rooted, spelled}
 use Rattle.uriparse_path.specs.Dots.{is_single_dot, is_double_dot, has_dot_segment, undot}
 use Rattle.uriparse_path.specs.Relative.{needs_guard, relative_normal}
 
 -- the same path with each segment in canonical spelling
 abbrev pub canonical_path : PathParts → PathParts
-canonical_path p = record { absolute = p.absolute; segments = map canon p.segments }
+canonical_path p = record { absolute = p.absolute; segments = map canonical p.segments }
 
 -- the path is normalised as one that a base comes before
 abbrev pub stays_relative : PathParts → Bool → Bool
@@ -19,13 +19,13 @@ stays_relative p as_reference = as_reference && not (is_rooted (text p))
 abbrev pub pnormal : PathParts → Bool → PathParts
 pnormal p as_reference =
     if stays_relative p as_reference then record { absolute = false; segments = relative_normal p.segments }
-    else if has_dot_segment p.segments then spelled (canon (undot (text p)))
+    else if has_dot_segment p.segments then spelled (canonical (undot (text p)))
     else canonical_path p
 
 -- ---- which paths are left as they are
 
 abbrev pub is_canonical : List ℕ → Bool
-is_canonical s = bytes_eq (canon s) s
+is_canonical s = bytes_eq (canonical s) s
 
 -- ".." first, as often as it may be, and then no dot segment
 abbrev pub climbs_first : List (List ℕ) → Bool

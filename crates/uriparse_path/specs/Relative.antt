@@ -2,7 +2,7 @@
 use Rattle.std.specs.Prelude.{◌≡◌, ℕ, Bool, true, false, ◌==◌, ◌&&◌, ◌||◌, not, if◌then◌else◌, List, [], ◌∷◌, ◌++◌, map, reverse}
 use Rattle.std.specs.List.{list_any}
 use Rattle.uriparse_text.specs.Bytes.{dot, colon}
-use Rattle.uriparse_text.specs.Canon.{canon}
+use Rattle.uriparse_text.specs.Canonical.{canonical}
 use Rattle.uriparse_path.specs.Path.{hides_root}
 use Rattle.uriparse_path.specs.Dots.{is_single_dot, is_double_dot, is_dot_segment}
 
@@ -65,7 +65,7 @@ ended old new = filled (guarded old (closed (is_last is_dot_segment old) new))
 
 -- the same, each in canonical spelling
 abbrev pub finished : List (List ℕ) → List (List ℕ) → List (List ℕ)
-finished old new = map canon (ended old new)
+finished old new = map canonical (ended old new)
 
 -- n is the normal form of the relative path's segments l
 pub record IsRelNormal (l n : List (List ℕ)) : Type 0 where

@@ -3,7 +3,7 @@
 ghost use Rattle.std.specs.Prelude.{◌≡◌, ◌≤◌, ◌↔◌, ◌∷◌, ℕ, List, Bool, None, Some, Ok, Err, codes, length, map, true, false};
 ghost use Rattle.std.specs.List.{list_all, slice_split, join_with_byte};
 ghost use Rattle.uriparse_text.specs.Bytes.{slash};
-ghost use Rattle.uriparse_text.specs.Canon.{canon};
+ghost use Rattle.uriparse_text.specs.Canonical.{canonical};
 ghost use Rattle.uriparse_path.specs.Segment.{is_segment};
 ghost use Rattle.uriparse_path.specs.Path.{PathParts, IsListed, IsPath, max_segments, is_slash, is_rooted, pieces, text, spelled, respelled};
 ghost use Rattle.uriparse_path.specs.Faults.{PassesLimit, fault};
@@ -61,7 +61,7 @@ pub fn one_text_without_dots()
 /// Canonical spelling may come before or after: it changes neither which text is left without dot
 /// segments, but for its spelling, nor a normal form.
 pub fn spelling_before_or_after()
-    ensures dots { (t : List ℕ) → IsPath t → undot (canon t) ≡ canon (undot t) }
+    ensures dots { (t : List ℕ) → IsPath t → undot (canonical t) ≡ canonical (undot t) }
     ensures normal { (p : PathParts) (r : Bool) → IsListed p.segments → pnormal (canonical_path p) r ≡ pnormal p r }
 {}
 
@@ -102,7 +102,7 @@ pub fn normal_form_in_place()
 {}
 
 /// Texts, and what is left of them without dot segments. Dots may be escaped.
-#[tactic(auto, unfolding(crate::specs::Dots::undot, crate::specs::Dots::is_single_dot, crate::specs::Dots::is_double_dot, crate::specs::Relative::relative_normal, uriparse_text::specs::Canon::spelling, uriparse_text::specs::Tokens::tokens, uriparse_text::specs::Bytes::is_unreserved))]
+#[tactic(auto, unfolding(crate::specs::Dots::undot, crate::specs::Dots::is_single_dot, crate::specs::Dots::is_double_dot, crate::specs::Relative::relative_normal, uriparse_text::specs::Canonical::canonical_in, uriparse_text::specs::Tokens::tokens, uriparse_text::specs::Bytes::is_unreserved))]
 pub fn examples_without_dot_segments()
     ensures two_levels { undot (codes "/a/b/c/./../../g") ≡ codes "/a/g" }
     ensures past_the_start { undot (codes "a/../..") ≡ codes "/" }
@@ -116,7 +116,7 @@ pub fn examples_without_dot_segments()
 {}
 
 /// Texts of paths, and those of their normal forms in a reference without a scheme.
-#[tactic(auto, unfolding(crate::specs::Dots::undot, crate::specs::Dots::is_single_dot, crate::specs::Dots::is_double_dot, crate::specs::Relative::relative_normal, uriparse_text::specs::Canon::spelling, uriparse_text::specs::Tokens::tokens, uriparse_text::specs::Bytes::is_unreserved))]
+#[tactic(auto, unfolding(crate::specs::Dots::undot, crate::specs::Dots::is_single_dot, crate::specs::Dots::is_double_dot, crate::specs::Relative::relative_normal, uriparse_text::specs::Canonical::canonical_in, uriparse_text::specs::Tokens::tokens, uriparse_text::specs::Bytes::is_unreserved))]
 pub fn examples_of_relative_normal_forms()
     ensures single { text (pnormal (spelled (codes ".")) true) ≡ codes "" }
     ensures double { text (pnormal (spelled (codes "..")) true) ≡ codes ".." }
@@ -146,7 +146,7 @@ pub fn examples_of_relative_normal_forms()
 {}
 
 /// Texts of paths, and those of their normal forms elsewhere.
-#[tactic(auto, unfolding(crate::specs::Dots::undot, crate::specs::Dots::is_single_dot, crate::specs::Dots::is_double_dot, crate::specs::Relative::relative_normal, uriparse_text::specs::Canon::spelling, uriparse_text::specs::Tokens::tokens, uriparse_text::specs::Bytes::is_unreserved))]
+#[tactic(auto, unfolding(crate::specs::Dots::undot, crate::specs::Dots::is_single_dot, crate::specs::Dots::is_double_dot, crate::specs::Relative::relative_normal, uriparse_text::specs::Canonical::canonical_in, uriparse_text::specs::Tokens::tokens, uriparse_text::specs::Bytes::is_unreserved))]
 pub fn examples_of_other_normal_forms()
     ensures single { text (pnormal (spelled (codes ".")) false) ≡ codes "" }
     ensures double { text (pnormal (spelled (codes "..")) false) ≡ codes "" }
@@ -165,7 +165,7 @@ pub fn examples_of_other_normal_forms()
 {}
 
 /// What edits make of paths.
-#[tactic(auto, unfolding(crate::specs::Dots::undot, crate::specs::Dots::is_single_dot, crate::specs::Dots::is_double_dot, crate::specs::Relative::relative_normal, uriparse_text::specs::Canon::spelling, uriparse_text::specs::Tokens::tokens, uriparse_text::specs::Bytes::is_unreserved, crate::specs::Path::max_segments, uriparse_text::specs::Faults::fault, uriparse_text::specs::Classes::is_plain, uriparse_text::specs::Bytes::is_sub_delim))]
+#[tactic(auto, unfolding(crate::specs::Dots::undot, crate::specs::Dots::is_single_dot, crate::specs::Dots::is_double_dot, crate::specs::Relative::relative_normal, uriparse_text::specs::Canonical::canonical_in, uriparse_text::specs::Tokens::tokens, uriparse_text::specs::Bytes::is_unreserved, crate::specs::Path::max_segments, uriparse_text::specs::Faults::fault, uriparse_text::specs::Classes::is_plain, uriparse_text::specs::Bytes::is_sub_delim))]
 pub fn examples_of_edits()
     ensures last_of_two { text (popped (spelled (codes "a/b"))) ≡ codes "a" }
     ensures only_one { text (popped (spelled (codes "/a"))) ≡ codes "/" }

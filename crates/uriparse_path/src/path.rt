@@ -9,9 +9,9 @@ ghost use Rattle.uriparse_text.specs.declared.parts.canonical.Case.TheVariants a
 ghost use Rattle.uriparse_text.specs.Bytes.{colon, slash};
 ghost use Rattle.uriparse_text.specs.Cuts.{lacks, up_to};
 ghost use Rattle.uriparse_text.specs.Tokens.{spell, is_well_formed};
-ghost use Rattle.uriparse_text.specs.Canon.{canon, canonical_tokens, fed_spelling, SpellsAlike};
+ghost use Rattle.uriparse_text.specs.Canonical.{canonical, canonical_tokens, fed_text, SpellsAlike};
 ghost use Rattle.uriparse_text.specs.Readings.{IsUnless};
-ghost use Rattle.uriparse_path.specs.Path.{IsListed, has_two_slashes, hides_root, is_rooted, is_slash, made_absolute, spelled, text};
+ghost use Rattle.uriparse_path.specs.Path.{IsListed, has_two_slashes, hides_root, is_rooted, is_slash, made_absolute, respelled, spelled, text};
 ghost use Rattle.uriparse_path.specs.Faults.{reading};
 ghost use Rattle.uriparse_path.specs.Dots.{without_dots};
 ghost use Rattle.uriparse_path.specs.Edits.{shield};
@@ -56,10 +56,13 @@ pub struct PathOf<S> {
     segments: Vec<S>,
 }
 
-/// A path: whether it begins with a slash, and its segments, of which there is at least one.
+/// A path: whether it begins with a slash, and its segments, of which there are at least one and at
+/// most [`MAX_SEGMENTS`]. RFC 3986, section 3.3.
 ///
 /// Its text is `/` if it is absolute, then the segments joined by `/`. So the empty path has one
-/// empty segment. Two paths are equal where the canonical spellings of their texts are.
+/// empty segment. The segments borrow the text that was read, or own their texts; their list takes
+/// memory, and no call without `alloc` does. An edit that is refused leaves the path as it was. Two
+/// paths are equal where the canonical spellings of their texts are.
 ///
 /// ```
 /// let path = Path::try_from_str(alloc, "/a/%7Eb")?;
@@ -186,7 +189,7 @@ impl<'p> Path<'p> {
 
     /// Puts canonical copies in the place of the segments that aren't canonical.
     fn put_canonical(&mut self, copies: Vec<Segment<'p>>)
-        requires { copies.items ≡ map canon (filter (λ s. not (is_canonical s)) self.old.segments) }
+        requires { copies.items ≡ map canonical (filter (λ s. not (is_canonical s)) self.old.segments) }
         ensures { self.new ≡ canonical_path self.old }
     {
         put_copies(&mut self.segments, copies);
@@ -327,10 +330,23 @@ impl<'p> Path<'p> {
         }
     }
 
+    /// The flag and the segments of the path that this one's text spells.
+    fn shown(&self) -> (bool, &[Segment<'p>])
+        ensures absolute { result.0 ≡ (respelled self.now).absolute }
+        ensures segments { result.1.now ≡ (respelled self.now).segments }
+        ensures listed { IsListed self.now.segments }
+    {
+        let segments = self.segments();
+        if !self.absolute && hides_root(segments) {
+            return (true, &segments[1..]);
+        }
+        (self.absolute, segments)
+    }
+
     /// The cursor at the start of the path's text.
     fn walk(&self) -> PathWalk<'_>
         ensures tokens { result ≡ canonical_tokens case.Kept (text self.now) }
-        ensures bytes { flat_map spell result ≡ canon (text self.now) }
+        ensures bytes { flat_map spell result ≡ canonical (text self.now) }
         ensures formed { is_well_formed (text self.now) ≡ true }
     {
         PathWalk::new(self.absolute, self.segments())
@@ -352,12 +368,14 @@ impl<'p> Path<'p> {
 }
 
 impl<'p> PartialEq for Path<'p> {
-    ghost eq = { on (λ p. canon (text p)) bytes_eq };
+    ghost eq = { on (λ p. canonical (text p)) bytes_eq };
 
     ghost laws = { Prim.search (comparing, rules) };
 
     fn eq(&self, other: &Path<'p>) -> bool {
-        same_walks(self.walk(), other.walk())
+        let (absolute, segments) = self.shown();
+        let (other_absolute, other_segments) = other.shown();
+        absolute == other_absolute && segments == other_segments
     }
 }
 
@@ -366,7 +384,7 @@ impl<'p> Eq for Path<'p> {
 }
 
 impl<'p> Hash for Path<'p> {
-    ghost hash_input = { λ p. fed_spelling (canon (text p)) };
+    ghost hash_input = { λ p. fed_text (canonical (text p)) };
 
     ghost respects_eq = { Prim.search (hashing, rules) };
 

@@ -4,15 +4,15 @@ use Rattle.std.specs.Prelude.{is_some, is_none, nat_le}
 use Rattle.std.specs.Option.{option_map, option_or}
 use Rattle.std.proofs.lemmas.Bool.{false≢true}
 use Rattle.std.proofs.lemmas.List.{map-append}
-use Rattle.uriparse_text.specs.Canon.{canon}
+use Rattle.uriparse_text.specs.Canonical.{canonical}
 use Rattle.uriparse_path.specs.Path.{PathParts, IsListed, max_segments, text, is_rooted, pieces, respelled, has_two_slashes}
 use Rattle.uriparse_path.specs.Dots.{all_but_last}
 use Rattle.uriparse_path.specs.Normal.{canonical_path, pnormal}
-use Rattle.uriparse_path.proofs.CanonicalLemmas.{canon-nil, canon-text, length-canon, listed-canonical, is_rooted-canon}
-use Rattle.uriparse_path.proofs.DotLemmas.{canon-dot, canon-empty}
-use Rattle.uriparse_path.proofs.RelativeLemmas.{hides-canon}
+use Rattle.uriparse_path.proofs.CanonicalLemmas.{canonical-nil, canonical-text, length-canonical, listed-canonical, is_rooted-canonical}
+use Rattle.uriparse_path.proofs.DotLemmas.{canonical-dot, canonical-empty}
+use Rattle.uriparse_path.proofs.RelativeLemmas.{hides-canonical}
 use Rattle.uriparse_path.proofs.NormalLemmas.{respelled-canonical}
-use Rattle.uriparse_path.proofs.CommuteLemmas.{cut-canon, pnormal-canon}
+use Rattle.uriparse_path.proofs.CommuteLemmas.{cut-canonical, pnormal-canonical}
 use Rattle.uriparse_path.proofs.MergeLemmas.{undotted, listed_undotted, undotted-canonical, respelled_twice}
 use Rattle.uriparse_path.specs.Dots.{replayed}
 use Rattle.uriparse_authority.specs.Authority as authority
@@ -40,9 +40,9 @@ pub record Alike (p q : Parts) : Type 0 where
   pub schemes : option_map scheme.canonical_text p.scheme ≡ option_map scheme.canonical_text q.scheme
   pub authorities : option_map authority.canonical_text p.authority ≡ option_map authority.canonical_text q.authority
   pub paths : canonical_path p.path ≡ canonical_path q.path
-  pub texts : canon (text p.path) ≡ canon (text q.path)
-  pub queries : option_map canon p.query ≡ option_map canon q.query
-  pub fragments : option_map canon p.fragment ≡ option_map canon q.fragment
+  pub texts : canonical (text p.path) ≡ canonical (text q.path)
+  pub queries : option_map canonical p.query ≡ option_map canonical q.query
+  pub fragments : option_map canonical p.fragment ≡ option_map canonical q.fragment
   pub kinds : option_map authority.kind p.authority ≡ option_map authority.kind q.authority
 
 pub canonical_formed : (p : PathParts) → respelled p ≡ p → respelled (canonical_path p) ≡ canonical_path p
@@ -55,13 +55,13 @@ alike_of p q v w s =
     let e = s.spelling in
     let i = fits_of p v in
     let j = fits_of q w in
-    let t : canon (text p.path) ≡ canon (text q.path) = sym x.path ∙ ap path_text e ∙ y.path in
+    let t : canonical (text p.path) ≡ canonical (text q.path) = sym x.path ∙ ap path_text e ∙ y.path in
     record {
       schemes = sym x.scheme ∙ ap scheme_text e ∙ y.scheme;
       authorities = sym x.authority ∙ ap authority_text e ∙ y.authority;
       paths = same_path (canonical_path p.path) (canonical_path q.path) (listed-canonical p.path.segments i.listed) (canonical_formed p.path i.formed)
           (listed-canonical q.path.segments j.listed) (canonical_formed q.path j.formed)
-          (sym (canon-text p.path i.listed) ∙ t ∙ canon-text q.path j.listed);
+          (sym (canonical-text p.path i.listed) ∙ t ∙ canonical-text q.path j.listed);
       texts = t;
       queries = sym x.query ∙ ap query_text e ∙ y.query;
       fragments = sym x.fragment ∙ ap fragment_text e ∙ y.fragment;
@@ -85,7 +85,7 @@ shielded_some (Some a) (Some b) q h = refl
 two-canonical : (q : PathParts) → IsListed q.segments → respelled q ≡ q → has_two_slashes (text (canonical_path q)) ≡ has_two_slashes (text q)
 two-canonical q is h =
     two_slashes (canonical_path q) (listed-canonical q.segments is) (canonical_formed q h)
-    ∙ ap (λ v. q.absolute && v) (hides-canon q.segments)
+    ∙ ap (λ v. q.absolute && v) (hides-canonical q.segments)
     ∙ sym (two_slashes q is h)
 
 pub shielded-canonical : (a : Option AuthorityParts) (q : PathParts) → IsListed q.segments → respelled q ≡ q
@@ -95,7 +95,7 @@ shielded-canonical None q is h = by_test (has_two_slashes (text q))
     ∙ ap (λ v. cond v (dotted (canonical_path q)) (canonical_path q)) (sym (two-canonical q is h))
   where
     by_test : (v : Bool) → canonical_path (cond v (dotted q) q) ≡ cond v (dotted (canonical_path q)) (canonical_path q)
-    by_test true = ap (λ u. record { absolute = q.absolute; segments = u ∷ map canon q.segments }) canon-dot
+    by_test true = ap (λ u. record { absolute = q.absolute; segments = u ∷ map canonical q.segments }) canonical-dot
     by_test false = refl
 
 -- ---- what the target is made of
@@ -107,22 +107,24 @@ made_same : (s r : Option Scheme) (a b : Option AuthorityParts) (p q : PathParts
     → IsListed p.segments → respelled p ≡ p → IsListed q.segments → respelled q ≡ q
     → Fits (is_some a) (shielded a p) → Fits (is_some b) (shielded b q)
     → canonical_path p ≡ canonical_path q
-    → option_map canon x ≡ option_map canon y → option_map canon f ≡ option_map canon g
+    → option_map canonical x ≡ option_map canonical y → option_map canonical f ≡ option_map canonical g
     → Same (target_of s a p x f) (target_of r b q y g)
 made_same s r a b p q x y f g es ea ek is i js j fp fq ep ex ef =
-    let t : canon (text (shielded a p)) ≡ canon (text (shielded b q)) =
-    canon-text (shielded a p) fp.listed
+    let t : canonical (text (shielded a p)) ≡ canonical (text (shielded b q)) =
+    canonical-text (shielded a p) fp.listed
     ∙ ap text (shielded-canonical a p is i ∙ ap (shielded a) ep
     ∙ shielded_some a b (canonical_path q) (same_some authority.canonical_text authority.canonical_text a b ea) ∙ sym (shielded-canonical b q js j))
-    ∙ sym (canon-text (shielded b q) fq.listed) in
+    ∙ sym (canonical-text (shielded b q) fq.listed) in
     record {
       spelling =
-          ap (λ u. joined u (option_map authority.canonical_text a) (canon (text (shielded a p))) (option_map canon x) (option_map canon f)) es
-          ∙ ap (λ u. joined (option_map scheme.canonical_text r) u (canon (text (shielded a p))) (option_map canon x) (option_map canon f)) ea
-          ∙ ap (λ u. joined (option_map scheme.canonical_text r) (option_map authority.canonical_text b) u (option_map canon x) (option_map canon f)) t
-          ∙ ap (λ u. joined (option_map scheme.canonical_text r) (option_map authority.canonical_text b) (canon (text (shielded b q))) u (option_map canon f))
+          ap (λ u. joined u (option_map authority.canonical_text a) (canonical (text (shielded a p))) (option_map canonical x) (option_map canonical f)) es
+          ∙ ap (λ u. joined (option_map scheme.canonical_text r) u (canonical (text (shielded a p))) (option_map canonical x) (option_map canonical f)) ea
+          ∙ ap (λ u. joined (option_map scheme.canonical_text r) (option_map authority.canonical_text b) u (option_map canonical x) (option_map canonical f)) t
+          ∙ ap (λ u. joined (option_map scheme.canonical_text r) (option_map authority.canonical_text b) (canonical (text (shielded b q))) u
+          (option_map canonical f))
           ex
-          ∙ ap (λ u. joined (option_map scheme.canonical_text r) (option_map authority.canonical_text b) (canon (text (shielded b q))) (option_map canon y) u)
+          ∙ ap (λ u. joined (option_map scheme.canonical_text r) (option_map authority.canonical_text b) (canonical (text (shielded b q)))
+          (option_map canonical y) u)
           ef;
       kinds = ek;
     }
@@ -134,7 +136,7 @@ undotted_same : (s r : Option Scheme) (a b : Option AuthorityParts) (t u : List 
     → dots_removed t ≡ undotted m → dots_removed u ≡ undotted n
     → Fits (is_some a) m → Fits (is_some b) n
     → canonical_path m ≡ canonical_path n
-    → option_map canon x ≡ option_map canon y → option_map canon f ≡ option_map canon g
+    → option_map canonical x ≡ option_map canonical y → option_map canonical f ≡ option_map canonical g
     → Same (target_of s a (dots_removed t) x f) (target_of r b (dots_removed u) y g)
 undotted_same s r a b t u m n x y f g es ea ek i j is js e ex ef =
     let same : Same (target_of s a (undotted m) x f) (target_of r b (undotted n) y g) =
@@ -146,17 +148,17 @@ undotted_same s r a b t u m n x y f g es ea ek i j is js e ex ef =
 
 pub merged-canonical : (p q : PathParts) → canonical_path (merged p q) ≡ merged (canonical_path p) (canonical_path q)
 merged-canonical p q =
-    ap (λ l. record { absolute = p.absolute; segments = l }) (map-append canon (all_but_last p.segments) q.segments)
-    ∙ ap (λ l. record { absolute = p.absolute; segments = l ++ map canon q.segments }) (sym (cut-canon p.segments))
+    ap (λ l. record { absolute = p.absolute; segments = l }) (map-append canonical (all_but_last p.segments) q.segments)
+    ∙ ap (λ l. record { absolute = p.absolute; segments = l ++ map canonical q.segments }) (sym (cut-canonical p.segments))
 
 -- ---- the tests
 
-pub empty-canon : (t : List ℕ) → is_empty (canon t) ≡ is_empty t
-empty-canon [] = ap is_empty canon-nil
-empty-canon (b ∷ t) = by_text (canon (b ∷ t)) refl
+pub empty-canonical : (t : List ℕ) → is_empty (canonical t) ≡ is_empty t
+empty-canonical [] = ap is_empty canonical-nil
+empty-canonical (b ∷ t) = by_text (canonical (b ∷ t)) refl
   where
-    by_text : (u : List ℕ) → canon (b ∷ t) ≡ u → is_empty u ≡ false
-    by_text [] e = let no : b ∷ t ≡ [] = canon-empty (b ∷ t) e in absurd (cc)
+    by_text : (u : List ℕ) → canonical (b ∷ t) ≡ u → is_empty u ≡ false
+    by_text [] e = let no : b ∷ t ≡ [] = canonical-empty (b ∷ t) e in absurd (cc)
     by_text (c ∷ u) e = refl
 
 -- ---- equal in, equal out
@@ -179,10 +181,10 @@ same_targets b c r q vb vc vr vq sb sr =
     e2 = sym (same_some authority.canonical_text authority.canonical_text r.authority q.authority ref.authorities)
 
     e3 : is_empty (text q.path) ≡ is_empty (text r.path)
-    e3 = sym (empty-canon (text q.path)) ∙ ap is_empty (sym ref.texts) ∙ empty-canon (text r.path)
+    e3 = sym (empty-canonical (text q.path)) ∙ ap is_empty (sym ref.texts) ∙ empty-canonical (text r.path)
 
     e4 : is_rooted (text q.path) ≡ is_rooted (text r.path)
-    e4 = sym (is_rooted-canon (text q.path)) ∙ ap is_rooted (sym ref.texts) ∙ is_rooted-canon (text r.path)
+    e4 = sym (is_rooted-canonical (text q.path)) ∙ ap is_rooted (sym ref.texts) ∙ is_rooted-canonical (text r.path)
 
     other : target c q ≡ chosen (is_some r.scheme) (is_some r.authority) (is_empty (text r.path)) (is_rooted (text r.path)) c q
     other =
@@ -221,8 +223,8 @@ same_targets b c r q vb vc vr vq sb sr =
         let same : canonical_path (merged b.path r.path) ≡ canonical_path (merged c.path q.path) = merged-canonical b.path r.path
         ∙ ap (λ p. merged p (canonical_path r.path)) base.paths ∙ ap (λ p. merged (canonical_path c.path) p) ref.paths
         ∙ sym (merged-canonical c.path q.path) in
-        let long : length (merged b.path r.path).segments ≡ length (merged c.path q.path).segments = sym (length-canon (merged b.path r.path).segments)
-        ∙ ap (λ p. length p.segments) same ∙ length-canon (merged c.path q.path).segments in
+        let long : length (merged b.path r.path).segments ≡ length (merged c.path q.path).segments = sym (length-canonical (merged b.path r.path).segments)
+        ∙ ap (λ p. length p.segments) same ∙ length-canonical (merged c.path q.path).segments in
         let too : nat_le (length (pieces (merge c q))) max_segments ≡ z = ap (λ k. nat_le k max_segments) (n ∙ sym long ∙ sym m) ∙ e in
         subst (λ w. AreSame (cond z (Some (target_of b.scheme b.authority (dots_removed (merge b r)) r.query r.fragment)) None)
         (cond w (Some (target_of c.scheme c.authority (dots_removed (merge c q)) q.query q.fragment)) None)) (sym too)
@@ -255,7 +257,8 @@ same_targets b c r q vb vc vr vq sb sr =
         (subst (λ p. Fits (is_some b.authority) p) (sym (shielded_fits b.authority b.path fb)) fb)
         (subst (λ p. Fits (is_some c.authority) p) (sym (shielded_fits c.authority c.path fc)) fc)
         base.paths
-        (map_or r.query b.query ∙ ap (λ o. option_or o (option_map canon b.query)) ref.queries ∙ ap (λ o. option_or (option_map canon q.query) o) base.queries
+        (map_or r.query b.query ∙ ap (λ o. option_or o (option_map canonical b.query)) ref.queries
+        ∙ ap (λ o. option_or (option_map canonical q.query) o) base.queries
         ∙ sym (map_or q.query c.query))
         ref.fragments
     by_tests false e false i false j true k =
@@ -273,8 +276,8 @@ same_normal p q v w s =
     let j = fits_of q w in
     let r : is_none p.scheme ≡ is_none q.scheme = same_none scheme.canonical_text scheme.canonical_text p.scheme q.scheme is.schemes in
     let h : pnormal p.path (is_none p.scheme) ≡ pnormal q.path (is_none q.scheme) =
-    sym (pnormal-canon p.path (is_none p.scheme) i.listed) ∙ ap (λ u. pnormal u (is_none p.scheme)) is.paths
-    ∙ pnormal-canon q.path (is_none p.scheme) j.listed ∙ ap (pnormal q.path) r in
+    sym (pnormal-canonical p.path (is_none p.scheme) i.listed) ∙ ap (λ u. pnormal u (is_none p.scheme)) is.paths
+    ∙ pnormal-canonical q.path (is_none p.scheme) j.listed ∙ ap (pnormal q.path) r in
     let t : text (normal p).path ≡ text (normal q).path = ap text (ap (shielded p.authority) h
     ∙ shielded_some p.authority q.authority (pnormal q.path (is_none q.scheme))
     (same_some authority.canonical_text authority.canonical_text p.authority q.authority is.authorities)) in (

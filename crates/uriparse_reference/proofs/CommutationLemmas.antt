@@ -10,18 +10,18 @@ use Rattle.std.proofs.lemmas.List.{map-append}
 use Rattle.uriparse_text.specs.declared.parts.class.Class.TheVariants.{Query}
 use Rattle.uriparse_text.specs.Bytes.{dot}
 use Rattle.uriparse_text.specs.Query.{IsQuery}
-use Rattle.uriparse_text.specs.Canon.{canon}
+use Rattle.uriparse_text.specs.Canonical.{canonical}
 use Rattle.uriparse_path.specs.Segment.{is_segment}
 use Rattle.uriparse_path.specs.Path.{PathParts, IsListed, max_segments, text, is_rooted, pieces, respelled}
 use Rattle.uriparse_path.specs.Dots.{is_double_dot, all_but_last, replay, rooted_after}
 use Rattle.uriparse_path.specs.Relative.{is_last, relative_normal}
 use Rattle.uriparse_path.specs.Normal.{canonical_path, stays_relative, pnormal}
-use Rattle.uriparse_path.proofs.CanonicalLemmas.{length-canon}
-use Rattle.uriparse_path.proofs.DotLemmas.{double-canon}
+use Rattle.uriparse_path.proofs.CanonicalLemmas.{length-canonical}
+use Rattle.uriparse_path.proofs.DotLemmas.{double-canonical}
 use Rattle.uriparse_path.proofs.ReplayLemmas.{once_rooted}
 use Rattle.uriparse_path.proofs.RelativeLemmas.{each_reduced, some_relative}
 use Rattle.uriparse_path.proofs.NormalLemmas.{listed_replayed, listed_pnormal, pnormal_relative, pnormal_absolute, pnormal_rootless}
-use Rattle.uriparse_path.proofs.CommuteLemmas.{replay-canon, last-canon, shaped-canon, cut-canon, canonical_twice}
+use Rattle.uriparse_path.proofs.CommuteLemmas.{replay-canonical, last-canonical, shaped-canonical, cut-canonical, canonical_twice}
 use Rattle.uriparse_path.proofs.MergeLemmas.{merged_same, dot_gone, undotted}
 use Rattle.uriparse_path.proofs.MergeLemmas.{pnormal_is}
 use Rattle.uriparse_authority.specs.Authority.{AuthorityParts}
@@ -59,18 +59,18 @@ cut_shielded (Some a) q n h k = refl
 cut_shielded None q n h k =
     shielded_cases q (λ p. replay [] (all_but_last p.segments ++ n) ≡ replay [] (all_but_last q.segments ++ n)) (λ e. cut_dot q.segments n h k) (λ e. refl)
 
-some_canon : (l : List (List ℕ)) → 0 < length l → 0 < length (map canon l)
-some_canon l h = omega (arith, length-canon l, h)
+some_canonical : (l : List (List ℕ)) → 0 < length l → 0 < length (map canonical l)
+some_canonical l h = omega (arith, length-canonical l, h)
 
 -- the segments of the target's normal form, from those of the normal forms
 merged_lists : (b r : List (List ℕ)) → IsListed b → IsListed r → list_all is_segment (all_but_last b ++ r) ≡ true → is_last is_double_dot b ≡ false
-    → map canon (replay [] (all_but_last b ++ r)) ≡ replay [] (all_but_last (map canon (replay [] b)) ++ relative_normal r)
+    → map canonical (replay [] (all_but_last b ++ r)) ≡ replay [] (all_but_last (map canonical (replay [] b)) ++ relative_normal r)
 merged_lists b r is js each h =
-    sym (replay-canon [] (all_but_last b ++ r) each)
-    ∙ ap (replay []) (map-append canon (all_but_last b) r ∙ ap (λ l. l ++ map canon r) (sym (cut-canon b)))
-    ∙ merged_same (map canon b) (map canon r) (last-canon is_double_dot double-canon b is.each ∙ h) (some_canon r js.some)
-    ∙ ap (λ l. replay [] (all_but_last (replay [] (map canon b)) ++ l)) (shaped-canon r js.each (each_reduced r js.each))
-    ∙ ap (λ l. replay [] (all_but_last l ++ relative_normal r)) (replay-canon [] b is.each)
+    sym (replay-canonical [] (all_but_last b ++ r) each)
+    ∙ ap (replay []) (map-append canonical (all_but_last b) r ∙ ap (λ l. l ++ map canonical r) (sym (cut-canonical b)))
+    ∙ merged_same (map canonical b) (map canonical r) (last-canonical is_double_dot double-canonical b is.each ∙ h) (some_canonical r js.some)
+    ∙ ap (λ l. replay [] (all_but_last (replay [] (map canonical b)) ++ l)) (shaped-canonical r js.each (each_reduced r js.each))
+    ∙ ap (λ l. replay [] (all_but_last l ++ relative_normal r)) (replay-canonical [] b is.each)
 
 -- the normal form of a path that is merged
 relative_path : (a : Option AuthorityParts) (p : PathParts) → Fits false p → is_rooted (text p) ≡ false → is_some a ≡ false
@@ -87,18 +87,18 @@ settled_merged : (a : Option AuthorityParts) (p q : PathParts) (r : Bool) → Fi
     → settled (merged (shielded a (pnormal p r)) (make false (relative_normal q.segments))) ≡ settled (merged p q)
 settled_merged a p q r is js short flag last =
     let n = relative_normal q.segments in
-    let base : pnormal p r ≡ make true (map canon (replay [] p.segments)) = pnormal_is p r is.listed is.formed (absolute_stays p r flag)
+    let base : pnormal p r ≡ make true (map canonical (replay [] p.segments)) = pnormal_is p r is.listed is.formed (absolute_stays p r flag)
     ∙ ap canonical_path (undotted_rooted p flag) in
     let m = merged p q in
     let fit = fits_merged (is_some a) p q is js short in
     let whole : replay [] (all_but_last (shielded a (pnormal p r)).segments ++ relative_normal q.segments)
-    ≡ map canon (replay [] (all_but_last p.segments ++ q.segments)) =
+    ≡ map canonical (replay [] (all_but_last p.segments ++ q.segments)) =
     cut_shielded a (pnormal p r) (relative_normal q.segments) (listed_pnormal p r is.listed).some (some_relative q.segments)
     ∙ ap (λ u. replay [] (all_but_last u.segments ++ relative_normal q.segments)) base
     ∙ sym (merged_lists p.segments q.segments is.listed js.listed fit.listed.each last) in
     ap canonical_path (undotted_rooted (merged (shielded a (pnormal p r)) (make false (relative_normal q.segments))) (shielded_flag a (pnormal p r)
     ∙ pnormal_absolute p r is.listed flag))
-    ∙ ap (λ l. make true (map canon l)) whole
+    ∙ ap (λ l. make true (map canonical l)) whole
     ∙ ap (make true) (canonical_twice (replay [] (all_but_last p.segments ++ q.segments)) (listed_replayed (merged p q) fit.listed).each)
     ∙ sym (ap canonical_path (undotted_rooted (merged p q) flag))
 
@@ -218,17 +218,18 @@ commutes b r t v w h premise given =
         ∙ shielded_map canonical_authority b.authority (pnormal (normal b).path (is_none (normal b).scheme))
         ∙ ap (λ z. shielded b.authority (pnormal (normal b).path z)) (none_map canonical_scheme b.scheme)
         ∙ path_twice b v in
-        let queries : option_map canon (option_or (normal r).query (normal b).query) ≡ option_map canon (option_or r.query b.query) =
-        ap (option_map canon) (sym (map_or r.query b.query))
+        let queries : option_map canonical (option_or (normal r).query (normal b).query) ≡ option_map canonical (option_or r.query b.query) =
+        ap (option_map canonical) (sym (map_or r.query b.query))
         ∙ text_twice Query (option_or r.query b.query) (or_valid IsQuery r.query b.query w.is_query v.is_query) in (
           u,
           other false false true (is_rooted (text (normal r).path)) e i (empty_normal_path e i j) refl,
           ap normal (sym (same_given _ _ g))
-              ∙ ap (λ p. build (normal b).scheme (normal b).authority p (option_map canon (option_or r.query b.query)) (normal r).fragment) (own ∙ sym again)
+              ∙ ap (λ p. build (normal b).scheme (normal b).authority p (option_map canonical (option_or r.query b.query)) (normal r).fragment) (own
+              ∙ sym again)
               ∙ sym (ap (λ y. build y (normal u).authority (normal u).path (normal u).query (normal u).fragment) (scheme_twice b.scheme v.is_scheme)
               ∙ ap (λ y. build (normal b).scheme y (normal u).path (normal u).query (normal u).fragment) (authority_twice b.authority v.is_authority)
               ∙ ap (λ y. build (normal b).scheme (normal b).authority (normal u).path y (normal u).fragment) queries
-              ∙ ap (λ y. build (normal b).scheme (normal b).authority (normal u).path (option_map canon (option_or r.query b.query)) y)
+              ∙ ap (λ y. build (normal b).scheme (normal b).authority (normal u).path (option_map canonical (option_or r.query b.query)) y)
               (text_twice Query r.fragment w.is_fragment)),
         )
 

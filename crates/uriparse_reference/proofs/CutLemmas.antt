@@ -1,16 +1,19 @@
 -- How the text of a reference is cut, and that a text which is joined from pieces is cut into them.
-use Rattle.std.proofs.Common.{◌≡◌, ℕ, Bool, true, false, cond, List, [], ◌∷◌, ◌++◌, drop, Option, Some, None, Ok, refl, sym, ap, ◌∙◌, append-nil, append_assoc}
-use Rattle.std.proofs.Common.{◌&&◌, ◌||◌, inl, inr, arith}
+use Rattle.std.proofs.Common.{◌≡◌, ℕ, ◌+◌, Bool, true, false, cond, List, [], ◌∷◌, ◌++◌, drop, length, take, Option, Some, None, Ok, refl, sym, ap, ◌∙◌}
+use Rattle.std.proofs.Common.{append-nil, append_assoc, ◌&&◌, ◌||◌, inl, inr, arith}
 use Rattle.std.specs.Prelude.{◌⊎◌, not, ◌==◌, IfSome, Err, is_some, unwrap_or}
 use Rattle.std.specs.Option.{option_map}
-use Rattle.std.specs.List.{list_all}
+use Rattle.std.specs.List.{list_all, position_or_len}
+use Rattle.std.specs.Str.{bytes_eq}
+use Rattle.std.specs.Cmp.Lexicographic.{same_text}
 use Rattle.std.proofs.lemmas.Bool.{false≢true, eqb-true, and_parts, and_from}
 use Rattle.std.proofs.lemmas.Bool.Decides.{nat_tests}
+use Rattle.std.proofs.lemmas.List.{take-append-drop}
 use Rattle.std.proofs.lemmas.List.Folds.{list_all-append}
 use Rattle.uriparse_text.specs.declared.parts.class.Class.TheVariants.{Query}
 use Rattle.uriparse_text.specs.Bytes.{slash, colon, question_mark, number_sign, is_unreserved, is_sub_delim}
 use Rattle.uriparse_text.specs.Classes.{is_plain}
-use Rattle.uriparse_text.specs.Cuts.{lacks, none_pass, behind, before, after, rest, up_to, from_first}
+use Rattle.uriparse_text.specs.Cuts.{lacks, none_pass, behind, before, after, rest, part, up_to, from_first}
 use Rattle.uriparse_text.specs.Query.{IsQuery}
 use Rattle.uriparse_text.proofs.CutLemmas.{weaker, up_to-none, from_first-head, lacks_by, lacks-append, lacks-behind, lacks-in_class, cut-whole, up_to-append}
 use Rattle.uriparse_text.proofs.CutLemmas.{from_first-append, before_of, after_of, front_of}
@@ -19,15 +22,19 @@ use Rattle.uriparse_path.proofs.TextLemmas.{lacks-path}
 use Rattle.uriparse_authority.specs.Authority.{ends_authority, colon_part}
 use Rattle.uriparse_authority.proofs.AuthorityLemmas.{LacksEnds}
 use Rattle.uriparse_scheme.specs.declared.scheme.Scheme.{Scheme}
+use Rattle.uriparse_scheme.specs.declared.scheme.Scheme.TheVariants.{Registered}
+use Rattle.uriparse_scheme.specs.declared.scheme.registered.RegisteredScheme.{RegisteredScheme}
+use Rattle.uriparse_scheme.specs.Registered.{name_of}
+use Rattle.uriparse_scheme.proofs.TableLemmas.{name_is_scheme}
 use Rattle.uriparse_scheme.specs.declared.scheme.error.SchemeError.{SchemeError}
 use Rattle.uriparse_scheme.specs.Scheme as scheme
 use Rattle.uriparse_scheme.proofs.SchemeLemmas as schemes
 use Rattle.uriparse_scheme.proofs.GrammarLemmas as grammar
 use Rattle.uriparse_reference.specs.declared.uri_reference.error.URIReferenceError.TheVariants as errors
 use Rattle.uriparse_reference.specs.Reference.{behind_slashes, joined, is_abempty, is_noscheme, path_refusal}
-use Rattle.uriparse_reference.specs.Cuts.{if_scheme, scheme_text, ends_scheme, unless_scheme, after_scheme, cut_authority, authority_text, cut_left}
+use Rattle.uriparse_reference.specs.Cuts.{if_scheme, scheme_text, ends_scheme, unless_scheme, after_scheme, cut_authority, authority_text, without_authority}
 use Rattle.uriparse_reference.specs.Cuts.{after_authority}
-use Rattle.uriparse_reference.specs.Cuts.{path_text, query_text, fragment_text}
+use Rattle.uriparse_reference.specs.Cuts.{path_text, query_text, fragment_text, ends_path, tail_query, tail_fragment}
 
 pub head_is : (a b : Bool) → (a && b) ≡ true → a ≡ true
 head_is a b h = (and_parts a b h).0
@@ -142,7 +149,7 @@ ends_there (b ∷ h) q f k = (rw k refl, rw k refl)
 
 pub authority_of : (v : Bool) (a : Option (List ℕ)) (h : List ℕ) (q f : Option (List ℕ)) → IfSome a (λ t. none_pass ends_authority t ≡ true)
     → IfSome a (λ _. is_abempty h ≡ true) → path_refusal v (is_some a) h ≡ None
-    → (cut_authority (behind_slashes a ++ (h ++ tail q f)) ≡ a) × (cut_left (behind_slashes a ++ (h ++ tail q f)) ≡ h ++ tail q f)
+    → (cut_authority (behind_slashes a ++ (h ++ tail q f)) ≡ a) × (without_authority (behind_slashes a ++ (h ++ tail q f)) ≡ h ++ tail q f)
 authority_of v None h q f i b k =
     let n : has_two_slashes (h ++ tail q f) ≡ false = two_append h (tail q f) (tail_rooted q f) ∙ no_slashes v h k in (
       ap (λ v. cond v (Some (up_to ends_authority (drop 2 (h ++ tail q f)))) None) n,
@@ -208,7 +215,7 @@ cut_again t s a h q f are whole =
     let b = scheme_of s a h q f are.is_scheme are.fit in
     let c = authority_of (is_some s) a h q f are.is_authority are.abempty are.fit in
     let d = tail_of h q f are.is_path are.is_query in
-    let left_over : after_authority t ≡ h ++ tail q f = ap after_authority whole ∙ ap cut_left b.1 ∙ c.1 in
+    let left_over : after_authority t ≡ h ++ tail q f = ap after_authority whole ∙ ap without_authority b.1 ∙ c.1 in
     record {
       scheme = ap scheme_text whole ∙ b.0;
       authority = ap authority_text whole ∙ ap cut_authority b.1 ∙ c.0;
@@ -307,3 +314,68 @@ scheme_there t u s e h =
       scheme = ap Some is.value ∙ sym (ap (option_map scheme.named) some);
       rest = sym (ap (λ o. unless_scheme o t (rest colon t)) some ∙ ap (λ o. unwrap_or o t) e);
     }
+
+-- a registered scheme's name and a colon begin the text
+pub registered_there : (s : RegisteredScheme) (t u : List ℕ) → t ≡ name_of s ++ colon ∷ u → IsSchemeCut t (Some (Registered s)) u
+registered_there s t u e =
+    let name = name_of s in
+    let colonless : lacks colon name ≡ true = scheme_colon name (name_is_scheme s) in
+    scheme_there t u (Registered s) (ap (after colon) e ∙ after_of colon name (Some u) refl colonless)
+    (ap scheme.reading (ap (before colon) e ∙ before_of colon name (Some u) refl colonless)
+    ∙ (schemes.reads name (Registered s)).1 (schemes.spells_back (Registered s) tt))
+
+-- a text without the bytes that it begins with
+pub stripped : (t front u : List ℕ) → bytes_eq (take (length front) t) front ≡ true → u ≡ drop (length front) t → t ≡ front ++ u
+stripped t front u h e =
+    sym (take-append-drop (length front) t) ∙ ap (λ f. f ++ drop (length front) t) (same_text (take (length front) t) front (sym h))
+    ∙ ap (λ r. front ++ r) (sym e)
+
+-- ---- the path, by one cut at the first `?` or `#`
+
+pub ends_same : (t : List ℕ) → position_or_len (λ b. b == question_mark || b == number_sign || b == number_sign) t ≡ position_or_len ends_path t
+ends_same [] = refl
+ends_same (b ∷ t) = at_byte (b == question_mark) (b == number_sign) (ends_same t)
+  where
+    at_byte : (v w : Bool) → position_or_len (λ b. b == question_mark || b == number_sign || b == number_sign) t ≡ position_or_len ends_path t
+        → cond (not (v || w || w)) (1 + position_or_len (λ b. b == question_mark || b == number_sign || b == number_sign) t) 0
+        ≡ cond (not (v || w)) (1 + position_or_len ends_path t) 0
+    at_byte true w h = refl
+    at_byte false true h = refl
+    at_byte false false h = ap (λ n. 1 + n) h
+
+pub path_cut : (u : List ℕ) → up_to ends_path u ≡ before question_mark (before number_sign u)
+path_cut [] = refl
+path_cut (b ∷ u) = at_byte (b == question_mark) refl (b == number_sign) refl (path_cut u)
+  where
+    at_byte : (v : Bool) → (b == question_mark) ≡ v → (w : Bool) → (b == number_sign) ≡ w → up_to ends_path u ≡ before question_mark (before number_sign u)
+        → cond (v || w) [] (b ∷ up_to ends_path u) ≡ before question_mark (cond w [] (b ∷ before number_sign u))
+    at_byte true e true f h = refl
+    at_byte true e false f h = rw e refl
+    at_byte false e true f h = refl
+    at_byte false e false f h = rw e (ap (λ l. b ∷ l) h)
+
+pub query_cut : (u : List ℕ) → tail_query (from_first ends_path u) ≡ after question_mark (before number_sign u)
+query_cut [] = refl
+query_cut (b ∷ u) = at_byte (b == question_mark) refl (b == number_sign) refl (query_cut u)
+  where
+    at_byte : (v : Bool) → (b == question_mark) ≡ v → (w : Bool) → (b == number_sign) ≡ w
+        → tail_query (from_first ends_path u) ≡ after question_mark (before number_sign u)
+        → tail_query (cond (v || w) (b ∷ u) (from_first ends_path u)) ≡ after question_mark (cond w [] (b ∷ before number_sign u))
+    at_byte true e true f h =
+        let same : question_mark ≡ number_sign = sym (eqb-true b question_mark e) ∙ eqb-true b number_sign f in absurd (omega (arith, same))
+    at_byte true e false f h = rw e refl
+    at_byte false e true f h = rw e refl
+    at_byte false e false f h = rw e h
+
+pub fragment_cut : (u : List ℕ) → tail_fragment (from_first ends_path u) ≡ after number_sign u
+fragment_cut [] = refl
+fragment_cut (b ∷ u) = at_byte (b == question_mark) refl (b == number_sign) refl (fragment_cut u)
+  where
+    at_byte : (v : Bool) → (b == question_mark) ≡ v → (w : Bool) → (b == number_sign) ≡ w
+        → tail_fragment (from_first ends_path u) ≡ after number_sign u
+        → tail_fragment (cond (v || w) (b ∷ u) (from_first ends_path u)) ≡ part (cond w (b ∷ u) (from_first (λ c. c == number_sign) u))
+    at_byte true e true f h =
+        let same : question_mark ≡ number_sign = sym (eqb-true b question_mark e) ∙ eqb-true b number_sign f in absurd (omega (arith, same))
+    at_byte true e false f h = rw e refl
+    at_byte false e true f h = rw (e, f) refl
+    at_byte false e false f h = h

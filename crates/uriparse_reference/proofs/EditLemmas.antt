@@ -134,7 +134,7 @@ valid_fragment p f v i = record {
 -- ---- edits are replaced parts
 
 abbrev pub build : Option Scheme → Option AuthorityParts → PathParts → Option (List ℕ) → Option (List ℕ) → Parts
-build s a h q f = record { scheme = s; authority = a; path = h; query = q; fragment = f }
+build scheme authority path query fragment = record { scheme = scheme; authority = authority; path = path; query = query; fragment = fragment }
 
 -- a valid reference's path is in its place
 pub placed_same : (p : Parts) → Valid p → placed (is_some p.authority) p.path ≡ p.path

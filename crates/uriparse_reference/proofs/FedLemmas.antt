@@ -4,7 +4,7 @@ use Rattle.std.specs.Prelude.{IfSome}
 use Rattle.std.specs.Option.{option_map}
 use Rattle.std.specs.Hash.{HashWrites, option}
 use Rattle.std.proofs.lemmas.Grind.{fold-append}
-use Rattle.uriparse_text.specs.Canon.{canon, fed_spelling}
+use Rattle.uriparse_text.specs.Canonical.{canonical, fed_text}
 use Rattle.uriparse_text.proofs.OptionLemmas.{fed_option}
 use Rattle.uriparse_path.specs.Path.{PathParts, IsPath, is_slash, is_rooted, has_two_slashes}
 use Rattle.uriparse_path.specs.Path as path
@@ -44,13 +44,13 @@ fed_cut code t s a h q f cut =
 pub fed_parts : (p : Parts) → Valid p → fed_key (key p) ≡ fed p
 fed_parts p v =
     fed_cut (kind_code (kind p)) (canonical_text p) (option_map scheme.canonical_text p.scheme) (option_map authority.canonical_text p.authority)
-    (canon (path.text p.path)) (option_map canon p.query) (option_map canon p.fragment) (canonical_cut p v)
+    (canonical (path.text p.path)) (option_map canonical p.query) (option_map canonical p.fragment) (canonical_cut p v)
     ∙ rw (
-      fed_option scheme.canonical_text fed_spelling p.scheme,
+      fed_option scheme.canonical_text fed_text p.scheme,
       fed_authority p.authority,
       fed_held p.authority v.is_authority,
-      fed_option canon fed_spelling p.query,
-      fed_option canon fed_spelling p.fragment,
+      fed_option canonical fed_text p.query,
+      fed_option canonical fed_text p.fragment,
     ) refl
 
 pub feeds_key : {S : Type 0} (write : S → List ℕ → S) (s t : S) (p : Parts) → Valid p → t ≡ fold write s (fed p) → t ≡ fold write s (fed_key (key p))
@@ -67,17 +67,17 @@ fed_in_turn write s a b c d e =
 
 -- the parts are fed one after another
 pub fed_by_turns : {S : Type 0} (write : S → List ℕ → S) (s₀ s₁ s₂ s₃ s₄ s₅ : S) (p : Parts) → Valid p
-    → s₁ ≡ fold write s₀ (option (λ s. fed_spelling (scheme.canonical_text s)) p.scheme)
+    → s₁ ≡ fold write s₀ (option (λ s. fed_text (scheme.canonical_text s)) p.scheme)
     → s₂ ≡ fold write s₁ (option (λ a. authority.fed_key (authority.key a)) p.authority)
-    → s₃ ≡ fold write s₂ (fed_spelling (canon (path.text p.path)))
-    → s₄ ≡ fold write s₃ (option (λ q. fed_spelling (canon q)) p.query)
-    → s₅ ≡ fold write s₄ (option (λ f. fed_spelling (canon f)) p.fragment)
+    → s₃ ≡ fold write s₂ (fed_text (canonical (path.text p.path)))
+    → s₄ ≡ fold write s₃ (option (λ q. fed_text (canonical q)) p.query)
+    → s₅ ≡ fold write s₄ (option (λ f. fed_text (canonical f)) p.fragment)
     → s₅ ≡ fold write s₀ (fed p)
 fed_by_turns write s₀ s₁ s₂ s₃ s₄ s₅ p v a b c d e =
     let held : s₂ ≡ fold write s₁ (option authority.fed p.authority) = b ∙ ap (fold write s₁) (fed_held p.authority v.is_authority) in
     rw (e, d, c, held, a) (fed_in_turn write s₀
-    (option (λ s. fed_spelling (scheme.canonical_text s)) p.scheme)
+    (option (λ s. fed_text (scheme.canonical_text s)) p.scheme)
     (option authority.fed p.authority)
-    (fed_spelling (canon (path.text p.path)))
-    (option (λ q. fed_spelling (canon q)) p.query)
-    (option (λ f. fed_spelling (canon f)) p.fragment))
+    (fed_text (canonical (path.text p.path)))
+    (option (λ q. fed_text (canonical q)) p.query)
+    (option (λ f. fed_text (canonical f)) p.fragment))

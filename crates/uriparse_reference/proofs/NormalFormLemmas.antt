@@ -118,4 +118,4 @@ normal_twice p v =
     ∙ ap (λ f. build (normal p).scheme (normal p).authority (normal p).path (normal p).query f) (text_twice Query p.fragment v.is_fragment)
   where
     build : Option Scheme → Option AuthorityParts → PathParts → Option (List ℕ) → Option (List ℕ) → Parts
-    build s a h q f = record { scheme = s; authority = a; path = h; query = q; fragment = f }
+    build scheme authority path query fragment = record { scheme = scheme; authority = authority; path = path; query = query; fragment = fragment }

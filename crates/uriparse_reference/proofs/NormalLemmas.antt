@@ -7,7 +7,7 @@ use Rattle.std.specs.List.{list_all}
 use Rattle.std.proofs.lemmas.Bool.{false≢true, and_parts, and_from}
 use Rattle.std.proofs.lemmas.Slice.Eq.{bytes_eq-Decides}
 use Rattle.uriparse_text.specs.Bytes.{dot}
-use Rattle.uriparse_text.specs.Canon.{canon}
+use Rattle.uriparse_text.specs.Canonical.{canonical}
 use Rattle.uriparse_path.specs.Segment.{is_segment}
 use Rattle.uriparse_path.specs.Path.{PathParts, IsListed, text, spelled, hides_root, respelled, has_two_slashes}
 use Rattle.uriparse_path.specs.Normal.{canonical_path, stays_relative, pnormal}
@@ -115,7 +115,7 @@ normal_exactly p v = (there, back)
         let x = and_parts (option_eq bytes_eq (option_map scheme.canonical_text p.scheme) (scheme_part p)) _ h in
         let y = and_parts (option_eq bytes_eq (option_map authority.canonical_text p.authority) (authority_part p)) _ x.1 in
         let z = and_parts (is_normal_path p.authority p.path (is_none p.scheme)) _ y.1 in
-        let w = and_parts (option_eq bytes_eq (option_map canon p.query) p.query) _ z.1 in
+        let w = and_parts (option_eq bytes_eq (option_map canonical p.query) p.query) _ z.1 in
         let s : scheme_part (normal p) ≡ scheme_part p = scheme-text p.scheme ∙ (same_texts _ _).0 x.0 in
         let a : authority_part (normal p) ≡ authority_part p = authority-print p.authority ∙ (same_texts _ _).0 y.0 in
         let t : text (normal p).path ≡ text p.path = (path_iff p.authority p.path (is_none p.scheme) (fits_of p v)).0 z.0 in
@@ -158,7 +158,7 @@ kept_whole p v h =
     ∙ ap (λ u. build p.scheme p.authority p.path p.query u) f
   where
     build : Option Scheme → Option AuthorityParts → PathParts → Option (List ℕ) → Option (List ℕ) → Parts
-    build s a h q f = record { scheme = s; authority = a; path = h; query = q; fragment = f }
+    build scheme authority path query fragment = record { scheme = scheme; authority = authority; path = path; query = query; fragment = fragment }
 
 -- ---- what takes no memory
 
@@ -203,7 +203,7 @@ made_is p s a h q f es ea eh eq ef =
     ∙ ap (λ u. build (normal p).scheme (normal p).authority (normal p).path (normal p).query u) ef
   where
     build : Option Scheme → Option AuthorityParts → PathParts → Option (List ℕ) → Option (List ℕ) → Parts
-    build s a h q f = record { scheme = s; authority = a; path = h; query = q; fragment = f }
+    build scheme authority path query fragment = record { scheme = scheme; authority = authority; path = path; query = query; fragment = fragment }
 
 -- ---- valid references that print alike
 
@@ -232,4 +232,4 @@ printed_alike p q v w e k =
     ∙ ap (λ u. build q.scheme q.authority q.path q.query u) (sym x.fragment ∙ ap fragment_text e ∙ y.fragment)
   where
     build : Option Scheme → Option AuthorityParts → PathParts → Option (List ℕ) → Option (List ℕ) → Parts
-    build s a h q f = record { scheme = s; authority = a; path = h; query = q; fragment = f }
+    build scheme authority path query fragment = record { scheme = scheme; authority = authority; path = path; query = query; fragment = fragment }

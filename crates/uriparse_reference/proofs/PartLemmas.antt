@@ -4,7 +4,7 @@ use Rattle.std.specs.Prelude.{IfSome, is_some, is_none, bytes_eq}
 use Rattle.std.specs.Option.{option_map, option_eq, option_or}
 use Rattle.std.proofs.lemmas.Bool.{false≢true}
 use Rattle.std.proofs.lemmas.Slice.Eq.{bytes_eq-Decides}
-use Rattle.uriparse_text.specs.Canon.{canon}
+use Rattle.uriparse_text.specs.Canonical.{canonical}
 use Rattle.uriparse_authority.specs.Authority as authority
 use Rattle.uriparse_authority.specs.Authority.{AuthorityParts, IsPaired}
 use Rattle.uriparse_authority.specs.Normal.{canonical_authority}
@@ -45,7 +45,7 @@ pub none_map : {A B : Type 0} (f : A → B) (o : Option A) → is_none (option_m
 none_map f None = refl
 none_map f (Some x) = refl
 
-pub map_or : (x y : Option (List ℕ)) → option_map canon (option_or x y) ≡ option_or (option_map canon x) (option_map canon y)
+pub map_or : (x y : Option (List ℕ)) → option_map canonical (option_or x y) ≡ option_or (option_map canonical x) (option_map canonical y)
 map_or None y = refl
 map_or (Some x) y = refl
 

@@ -11,9 +11,9 @@ use Rattle.uriparse_path.specs.Relative.{is_first, has_colon}
 use Rattle.uriparse_path.specs.Normal.{stays_relative, pnormal}
 use Rattle.uriparse_path.proofs.SplitLemmas.{joined-behind}
 use Rattle.uriparse_path.proofs.TextLemmas.{spelled-text, lacks_slash}
-use Rattle.uriparse_path.proofs.CanonicalLemmas.{length-canon}
+use Rattle.uriparse_path.proofs.CanonicalLemmas.{length-canonical}
 use Rattle.uriparse_path.proofs.DotLemmas.{has-lacks}
-use Rattle.uriparse_path.proofs.RelativeLemmas.{dot_segment, hides-canon, hides_relative}
+use Rattle.uriparse_path.proofs.RelativeLemmas.{dot_segment, hides-canonical, hides_relative}
 use Rattle.uriparse_path.proofs.NormalLemmas.{rooted-text, listed_pnormal, length_pnormal, pnormal_spelled, pnormal_absolute, pnormal_relative, pnormal_colon}
 use Rattle.uriparse_path.proofs.MergeLemmas.{undotted, pnormal_is, dot_undotted, room}
 use Rattle.uriparse_authority.specs.Authority as authority
@@ -236,9 +236,9 @@ pnormal_room p r is h = by_case (stays_relative p r) refl
     by_case true e = absurd (false≢true (sym (hides_relative p.segments) ∙ ap (λ q. hides_root q.segments) (sym (pnormal_relative p r e)) ∙ h))
     by_case false e =
         let same = pnormal_is p r is.listed is.formed e in
-        let hidden : hides_root (undotted p).segments ≡ true = sym (hides-canon (undotted p).segments) ∙ ap (λ q. hides_root q.segments) (sym same) ∙ h in
+        let hidden : hides_root (undotted p).segments ≡ true = sym (hides-canonical (undotted p).segments) ∙ ap (λ q. hides_root q.segments) (sym same) ∙ h in
         let k = room p (is.shown refl) hidden in
-        omega (arith, ap (λ q. length q.segments) same, length-canon (undotted p).segments, k)
+        omega (arith, ap (λ q. length q.segments) same, length-canonical (undotted p).segments, k)
 
 pub length_shielded : (a : Option AuthorityParts) (p : PathParts) (r : Bool) → Fits (is_some a) p
     → length (shielded a (pnormal p r)).segments ≤ length p.segments

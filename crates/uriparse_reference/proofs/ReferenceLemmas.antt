@@ -28,9 +28,8 @@ use Rattle.uriparse_path.specs.declared.path.error.PathError.TheVariants.{OutOfM
 use Rattle.uriparse_reference.specs.declared.uri_reference.error.URIReferenceError.{URIReferenceError}
 use Rattle.uriparse_reference.specs.declared.uri_reference.error.URIReferenceError.TheVariants as errors
 use Rattle.uriparse_reference.specs.Reference.{Parts, behind_slashes, joined, is_abempty, path_refusal, path_of, Spells}
-use Rattle.uriparse_reference.specs.Cuts.{if_scheme, scheme_text, unless_scheme, after_scheme, cut_authority, authority_text, cut_left, after_authority}
-use Rattle.uriparse_reference.specs.Cuts.{path_text}
-use Rattle.uriparse_reference.specs.Cuts.{query_text, fragment_text}
+use Rattle.uriparse_reference.specs.Cuts.{if_scheme, scheme_text, unless_scheme, after_scheme, cut_authority, authority_text, without_authority}
+use Rattle.uriparse_reference.specs.Cuts.{after_authority, path_text, query_text, fragment_text}
 use Rattle.uriparse_reference.specs.Reading.{path_reading, reading, fault}
 use Rattle.uriparse_reference.proofs.CutLemmas.{tail, ArePieces, cut_again}
 
@@ -115,7 +114,7 @@ two_slashes (b ∷ u) h = at_slash (is_slash b) refl h
     at_slash true e h = ap (λ x. slash ∷ x) (second u h) ∙ ap (λ x. x ∷ u) (sym (eqb-true b slash e))
     at_slash false e h = absurd (false≢true h)
 
-pub authority_whole : (u : List ℕ) → behind_slashes (cut_authority u) ++ cut_left u ≡ u
+pub authority_whole : (u : List ℕ) → behind_slashes (cut_authority u) ++ without_authority u ≡ u
 authority_whole u = at_test (has_two_slashes u) refl
   where
     at_test : (v : Bool) → has_two_slashes u ≡ v

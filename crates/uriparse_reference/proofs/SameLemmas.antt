@@ -14,15 +14,15 @@ use Rattle.uriparse_text.specs.declared.parts.canonical.Case.TheVariants.{Kept}
 use Rattle.uriparse_text.specs.Bytes.{colon, is_hex, is_unreserved}
 use Rattle.uriparse_text.specs.Cuts.{lacks, up_to}
 use Rattle.uriparse_text.specs.Tokens.{tokens, spell, has_digits}
-use Rattle.uriparse_text.specs.Canon.{canonical, escaped_byte, canon}
+use Rattle.uriparse_text.specs.Canonical.{canonical_token, escaped_byte, canonical}
 use Rattle.uriparse_text.specs.Query.{IsQuery}
 use Rattle.uriparse_text.proofs.OptionLemmas.{same_option}
 use Rattle.uriparse_text.proofs.TokenLemmas.{spell-tokens, digits-tokens}
-use Rattle.uriparse_text.proofs.CanonLemmas.{by_escaped, spell-canonical, upper_digit}
-use Rattle.uriparse_text.proofs.ClassLemmas.{IsIn-spelling}
+use Rattle.uriparse_text.proofs.CanonicalLemmas.{by_escaped, spell-canonical_token, upper_digit}
+use Rattle.uriparse_text.proofs.ClassLemmas.{IsIn-canonical_in}
 use Rattle.uriparse_path.specs.Path.{PathParts, IsPath, is_slash, is_rooted, has_two_slashes}
 use Rattle.uriparse_path.specs.Path as path
-use Rattle.uriparse_path.proofs.CanonicalLemmas.{is_path-canon, is_rooted-canon, has_two_slashes-canon}
+use Rattle.uriparse_path.proofs.CanonicalLemmas.{is_path-canonical, is_rooted-canonical, has_two_slashes-canonical}
 use Rattle.uriparse_authority.specs.Authority as authority
 use Rattle.uriparse_authority.specs.Authority.{AuthorityParts}
 use Rattle.uriparse_authority.specs.Host as host
@@ -32,7 +32,7 @@ use Rattle.uriparse_authority.proofs.AuthorityLemmas.{LacksEnds}
 use Rattle.uriparse_scheme.specs.declared.scheme.Scheme.{Scheme}
 use Rattle.uriparse_scheme.specs.Scheme as scheme
 use Rattle.uriparse_scheme.proofs.SchemeLemmas as schemes
-use Rattle.uriparse_scheme.proofs.GrammarLemmas.{is_scheme-canon_low}
+use Rattle.uriparse_scheme.proofs.GrammarLemmas.{is_scheme-canonical_lowered}
 use Rattle.uriparse_reference.specs.Reference.{Parts, is_abempty, is_noscheme, path_refusal, Valid, Same, scheme_part, authority_part, print, canonical_text}
 use Rattle.uriparse_reference.specs.Reference.{kind}
 use Rattle.uriparse_reference.specs.Cuts.{scheme_text, authority_text, path_text, query_text, fragment_text}
@@ -63,21 +63,23 @@ past_byte : (b : ℕ) (u v : List ℕ) → is_noscheme u ≡ is_noscheme v → i
 past_byte b u v e = elim (is_slash b) as (λ w. lacks colon (cond w [] (b ∷ up_to is_slash u)) ≡ lacks colon (cond w [] (b ∷ up_to is_slash v)))
     [ true ↦ refl | false ↦ ap (λ w. not (b == colon) && w) e ]
 
-noscheme-tokens : (ts : List Token) → list_all has_digits ts ≡ true → is_noscheme (flat_map spell (map (canonical Kept) ts)) ≡ is_noscheme (flat_map spell ts)
+noscheme-tokens : (ts : List Token) → list_all has_digits ts ≡ true →
+    is_noscheme (flat_map spell (map (canonical_token Kept) ts)) ≡ is_noscheme (flat_map spell ts)
 noscheme-tokens [] h = refl
-noscheme-tokens (Byte b ∷ ts) h = past_byte b (flat_map spell (map (canonical Kept) ts)) (flat_map spell ts) (noscheme-tokens ts h)
+noscheme-tokens (Byte b ∷ ts) h = past_byte b (flat_map spell (map (canonical_token Kept) ts)) (flat_map spell ts) (noscheme-tokens ts h)
 noscheme-tokens (Escape high low ∷ ts) h =
     let both = and_parts _ _ h in
     let digits = and_parts _ _ both.0 in
-    by_escaped Kept high low (λ t. is_noscheme (spell t ++ flat_map spell (map (canonical Kept) ts)) ≡ is_noscheme (flat_map spell (map (canonical Kept) ts)))
-    (λ e. past_plain (escaped_byte high low) (flat_map spell (map (canonical Kept) ts)) e)
-    (λ e. past_escape (to_ascii_uppercase high) (to_ascii_uppercase low) (flat_map spell (map (canonical Kept) ts)) (upper_digit high digits.0)
+    by_escaped Kept high low (λ t. is_noscheme (spell t ++ flat_map spell (map (canonical_token Kept) ts)) ≡ is_noscheme (flat_map spell (map
+    (canonical_token Kept) ts)))
+    (λ e. past_plain (escaped_byte high low) (flat_map spell (map (canonical_token Kept) ts)) e)
+    (λ e. past_escape (to_ascii_uppercase high) (to_ascii_uppercase low) (flat_map spell (map (canonical_token Kept) ts)) (upper_digit high digits.0)
     (upper_digit low digits.1))
     ∙ noscheme-tokens ts both.1
     ∙ sym (past_escape high low (flat_map spell ts) digits.0 digits.1)
 
-noscheme-canon : (h : List ℕ) → is_noscheme (canon h) ≡ is_noscheme h
-noscheme-canon h = ap is_noscheme (sym (spell-canonical Kept h)) ∙ noscheme-tokens (tokens h) (digits-tokens h) ∙ ap is_noscheme (spell-tokens h)
+noscheme-canonical : (h : List ℕ) → is_noscheme (canonical h) ≡ is_noscheme h
+noscheme-canonical h = ap is_noscheme (sym (spell-canonical_token Kept h)) ∙ noscheme-tokens (tokens h) (digits-tokens h) ∙ ap is_noscheme (spell-tokens h)
 
 abbrev is_empty : List ℕ → Bool
 is_empty [] = true
@@ -91,18 +93,18 @@ empty-token : (t : Token) (u : List ℕ) → is_empty (spell t ++ u) ≡ false
 empty-token (Byte b) u = refl
 empty-token (Escape high low) u = refl
 
-empty-tokens : (ts : List Token) → is_empty (flat_map spell (map (canonical Kept) ts)) ≡ is_empty (flat_map spell ts)
+empty-tokens : (ts : List Token) → is_empty (flat_map spell (map (canonical_token Kept) ts)) ≡ is_empty (flat_map spell ts)
 empty-tokens [] = refl
-empty-tokens (t ∷ ts) = empty-token (canonical Kept t) (flat_map spell (map (canonical Kept) ts)) ∙ sym (empty-token t (flat_map spell ts))
+empty-tokens (t ∷ ts) = empty-token (canonical_token Kept t) (flat_map spell (map (canonical_token Kept) ts)) ∙ sym (empty-token t (flat_map spell ts))
 
-abempty-canon : (h : List ℕ) → is_abempty (canon h) ≡ is_abempty h
-abempty-canon h =
-    let e : is_empty (canon h) ≡ is_empty h = ap is_empty (sym (spell-canonical Kept h)) ∙ empty-tokens (tokens h) ∙ ap is_empty (spell-tokens h) in
-    abempty-by (canon h) ∙ ap (λ v. v || is_rooted (canon h)) e ∙ ap (λ v. is_empty h || v) (is_rooted-canon h) ∙ sym (abempty-by h)
+abempty-canonical : (h : List ℕ) → is_abempty (canonical h) ≡ is_abempty h
+abempty-canonical h =
+    let e : is_empty (canonical h) ≡ is_empty h = ap is_empty (sym (spell-canonical_token Kept h)) ∙ empty-tokens (tokens h) ∙ ap is_empty (spell-tokens h) in
+    abempty-by (canonical h) ∙ ap (λ v. v || is_rooted (canonical h)) e ∙ ap (λ v. is_empty h || v) (is_rooted-canonical h) ∙ sym (abempty-by h)
 
-refusal-canon : (v w : Bool) (h : List ℕ) → path_refusal v w (canon h) ≡ path_refusal v w h
-refusal-canon v true h = refl
-refusal-canon v false h = rw (has_two_slashes-canon h, noscheme-canon h) refl
+refusal-canonical : (v w : Bool) (h : List ℕ) → path_refusal v w (canonical h) ≡ path_refusal v w h
+refusal-canonical v true h = refl
+refusal-canonical v false h = rw (has_two_slashes-canonical h, noscheme-canonical h) refl
 
 -- ---- the printed and the canonical text are cut into the parts' own texts
 
@@ -112,7 +114,7 @@ scheme_is (Some s) v = schemes.is_scheme-text s v
 
 scheme_canonical : (s : Option Scheme) → IfSome s scheme.Valid → IfSome (option_map scheme.canonical_text s) (λ t. scheme.is_scheme t ≡ true)
 scheme_canonical None v = tt
-scheme_canonical (Some s) v = is_scheme-canon_low (scheme.text s) (schemes.is_scheme-text s v)
+scheme_canonical (Some s) v = is_scheme-canonical_lowered (scheme.text s) (schemes.is_scheme-text s v)
 
 authority_lacks : (a : Option AuthorityParts) → IfSome a authority.Valid → IfSome (option_map authority.print a) LacksEnds
 authority_lacks None v = tt
@@ -122,9 +124,9 @@ authority_canonical : (a : Option AuthorityParts) → IfSome a authority.Valid �
 authority_canonical None v = tt
 authority_canonical (Some a) v = authorities.canonical_lacks a v
 
-query_canonical : (q : Option (List ℕ)) → IfSome q IsQuery → IfSome (option_map canon q) IsQuery
+query_canonical : (q : Option (List ℕ)) → IfSome q IsQuery → IfSome (option_map canonical q) IsQuery
 query_canonical None v = tt
-query_canonical (Some q) v = IsIn-spelling Query Kept q v
+query_canonical (Some q) v = IsIn-canonical_in Query Kept q v
 
 pub print_cut : (p : Parts) → Valid p → IsCutInto (print p) (scheme_part p) (authority_part p) (path.text p.path) p.query p.fragment
 print_cut p v = cut_again (print p) (scheme_part p) (authority_part p) (path.text p.path) p.query p.fragment (record {
@@ -137,16 +139,16 @@ print_cut p v = cut_again (print p) (scheme_part p) (authority_part p) (path.tex
 }) refl
 
 pub canonical_cut : (p : Parts) → Valid p
-    → IsCutInto (canonical_text p) (option_map scheme.canonical_text p.scheme) (option_map authority.canonical_text p.authority) (canon (path.text p.path))
-    (option_map canon p.query) (option_map canon p.fragment)
+    → IsCutInto (canonical_text p) (option_map scheme.canonical_text p.scheme) (option_map authority.canonical_text p.authority) (canonical (path.text p.path))
+    (option_map canonical p.query) (option_map canonical p.fragment)
 canonical_cut p v = cut_again (canonical_text p) (option_map scheme.canonical_text p.scheme) (option_map authority.canonical_text p.authority)
-    (canon (path.text p.path)) (option_map canon p.query) (option_map canon p.fragment) (record {
+    (canonical (path.text p.path)) (option_map canonical p.query) (option_map canonical p.fragment) (record {
       is_scheme = scheme_canonical p.scheme v.is_scheme;
       is_authority = authority_canonical p.authority v.is_authority;
-      is_path = is_path-canon (path.text p.path) (valid_placed p v).is_path;
-      abempty = present authority.canonical_text p.authority (λ there. abempty-canon (path.text p.path) ∙ (valid_placed p v).abempty there);
+      is_path = is_path-canonical (path.text p.path) (valid_placed p v).is_path;
+      abempty = present authority.canonical_text p.authority (λ there. abempty-canonical (path.text p.path) ∙ (valid_placed p v).abempty there);
       fit = rw (mapped scheme.canonical_text p.scheme, mapped authority.canonical_text p.authority)
-          (refusal-canon (is_some p.scheme) (is_some p.authority) (path.text p.path) ∙ v.fit);
+          (refusal-canonical (is_some p.scheme) (is_some p.authority) (path.text p.path) ∙ v.fit);
       is_query = query_canonical p.query v.is_query;
     }) refl
 
@@ -234,9 +236,9 @@ to_key p q e =
     let w = and_parts _ _ z.1 in
     let s = (same_option scheme.canonical_text p.scheme q.scheme).0 x.0 in
     let a = (authority_keys p.authority q.authority).0 ((same_option authority.key p.authority q.authority).0 y.0) in
-    let h = (bytes_eq-Decides (canon (path.text p.path)) (canon (path.text q.path))).0 z.0 in
-    let r = (same_option canon p.query q.query).0 w.0 in
-    let f = (same_option canon p.fragment q.fragment).0 w.1 in
+    let h = (bytes_eq-Decides (canonical (path.text p.path)) (canonical (path.text q.path))).0 z.0 in
+    let r = (same_option canonical p.query q.query).0 w.0 in
+    let f = (same_option canonical p.fragment q.fragment).0 w.1 in
     rw (a.1, s, a.0, h, r, f) refl
 
 from_key : (p q : Parts) → Valid p → Valid q → key p ≡ key q → IsTrue (each_alike p q)
@@ -249,9 +251,9 @@ from_key p q v w e =
     ∙ y.authority in
     and_from _ _ ((same_option scheme.canonical_text p.scheme q.scheme).1 (sym x.scheme ∙ ap scheme_text texts ∙ y.scheme))
     (and_from _ _ ((same_option authority.key p.authority q.authority).1 ((authority_keys p.authority q.authority).1 (a, codes)))
-    (and_from _ _ ((bytes_eq-Decides (canon (path.text p.path)) (canon (path.text q.path))).1 (sym x.path ∙ ap path_text texts ∙ y.path))
-    (and_from _ _ ((same_option canon p.query q.query).1 (sym x.query ∙ ap query_text texts ∙ y.query))
-    ((same_option canon p.fragment q.fragment).1 (sym x.fragment ∙ ap fragment_text texts ∙ y.fragment)))))
+    (and_from _ _ ((bytes_eq-Decides (canonical (path.text p.path)) (canonical (path.text q.path))).1 (sym x.path ∙ ap path_text texts ∙ y.path))
+    (and_from _ _ ((same_option canonical p.query q.query).1 (sym x.query ∙ ap query_text texts ∙ y.query))
+    ((same_option canonical p.fragment q.fragment).1 (sym x.fragment ∙ ap fragment_text texts ∙ y.fragment)))))
 
 pub tested : (p q : Parts) → Valid p → Valid q → each_alike p q ≡ bytes_eq (key p) (key q)
 tested p q v w = same_from_decides (each_alike p q) (bytes_eq (key p) (key q)) (to_key p q, from_key p q v w) (bytes_eq-Decides (key p) (key q))

@@ -7,12 +7,12 @@ use Rattle.std.proofs.lemmas.Bool.{false≢true, and_from}
 use Rattle.uriparse_text.specs.declared.parts.class.Class.TheVariants.{Query}
 use Rattle.uriparse_text.specs.Query.{IsQuery}
 use Rattle.uriparse_text.specs.Fragment.{IsFragment}
-use Rattle.uriparse_text.specs.Canon.{canon}
+use Rattle.uriparse_text.specs.Canonical.{canonical}
 use Rattle.uriparse_path.specs.Path.{PathParts, IsListed, max_segments, text}
 use Rattle.uriparse_path.specs.Dots.{replayed}
 use Rattle.uriparse_path.specs.Normal.{canonical_path, stays_relative, pnormal}
 use Rattle.uriparse_path.specs.Normal as path
-use Rattle.uriparse_path.proofs.CanonicalLemmas.{canon-nil}
+use Rattle.uriparse_path.proofs.CanonicalLemmas.{canonical-nil}
 use Rattle.uriparse_path.proofs.DotLemmas.{empty_single, empty_double}
 use Rattle.uriparse_path.proofs.RelativeLemmas.{empty_segment}
 use Rattle.uriparse_path.proofs.NormalLemmas.{listed_pnormal, normal_kept}
@@ -38,7 +38,7 @@ abbrev pub settled : PathParts → PathParts
 settled p = canonical_path (undotted p)
 
 abbrev pub build : Option Scheme → Option AuthorityParts → PathParts → Option (List ℕ) → Option (List ℕ) → Parts
-build s a h q f = record { scheme = s; authority = a; path = h; query = q; fragment = f }
+build scheme authority path query fragment = record { scheme = scheme; authority = authority; path = path; query = query; fragment = fragment }
 
 -- ---- the normal form of a target
 
@@ -58,9 +58,9 @@ made_path a m r h is =
 
 pub normal_made : (s : Option Scheme) (a : Option AuthorityParts) (m : PathParts) (x f : Option (List ℕ)) → is_some s ≡ true → Fits (is_some a) m
     → normal (target_of s a (undotted m) x f) ≡ build (option_map canonical_scheme s) (option_map canonical_authority a) (shielded a (settled m))
-    (option_map canon x) (option_map canon f)
+    (option_map canonical x) (option_map canonical f)
 normal_made s a m x f h is =
-    ap (λ p. build (option_map canonical_scheme s) (option_map canonical_authority a) p (option_map canon x) (option_map canon f))
+    ap (λ p. build (option_map canonical_scheme s) (option_map canonical_authority a) p (option_map canonical x) (option_map canonical f))
     (made_path a m (is_none s) (with_scheme s h) is)
 
 -- targets of paths with one normal form have one normal form
@@ -68,26 +68,28 @@ pub same_made : (s : Option Scheme) (a : Option AuthorityParts) (t u : List ℕ)
     → IfSome s scheme.Valid → IfSome a authority.Valid → IfSome x IsQuery → IfSome f IsFragment
     → dots_removed t ≡ undotted m → dots_removed u ≡ undotted n → Fits (is_some a) m → Fits (is_some a) n → settled n ≡ settled m
     → normal (target_of s a (dots_removed t) x f)
-    ≡ normal (target_of (option_map canonical_scheme s) (option_map canonical_authority a) (dots_removed u) (option_map canon x) (option_map canon f))
+    ≡ normal (target_of (option_map canonical_scheme s) (option_map canonical_authority a) (dots_removed u) (option_map canonical x) (option_map canonical f))
 same_made s a t u m n x f h vs va vx vf i j is js e =
     let a' = option_map canonical_authority a in
     let s' = option_map canonical_scheme s in
-    let x' = option_map canon x in
-    let f' = option_map canon f in
+    let x' = option_map canonical x in
+    let f' = option_map canonical f in
     ap (λ p. normal (target_of s a p x f)) i
     ∙ normal_made s a m x f h is
-    ∙ sym (ap (λ p. normal (target_of (option_map canonical_scheme s) (option_map canonical_authority a) p (option_map canon x) (option_map canon f))) j
-    ∙ normal_made (option_map canonical_scheme s) (option_map canonical_authority a) n (option_map canon x) (option_map canon f) (some_map canonical_scheme s
+    ∙ sym (ap (λ p. normal (target_of (option_map canonical_scheme s) (option_map canonical_authority a) p (option_map canonical x) (option_map canonical f))) j
+    ∙ normal_made (option_map canonical_scheme s) (option_map canonical_authority a) n (option_map canonical x) (option_map canonical f)
+    (some_map canonical_scheme s
     ∙ h) (subst (λ v. Fits v n) (sym (some_map canonical_authority a)) js)
     ∙ ap (λ y. build y (option_map canonical_authority (option_map canonical_authority a)) (shielded (option_map canonical_authority a) (settled n))
-    (option_map canon (option_map canon x)) (option_map canon (option_map canon f))) (scheme_twice s vs)
-    ∙ ap (λ y. build (option_map canonical_scheme s) y (shielded (option_map canonical_authority a) (settled n)) (option_map canon (option_map canon x))
-    (option_map canon (option_map canon f))) (authority_twice a va)
-    ∙ ap (λ y. build (option_map canonical_scheme s) (option_map canonical_authority a) y (option_map canon (option_map canon x))
-    (option_map canon (option_map canon f))) (shielded_map canonical_authority a (settled n) ∙ ap (shielded a) e)
-    ∙ ap (λ y. build (option_map canonical_scheme s) (option_map canonical_authority a) (shielded a (settled m)) y (option_map canon (option_map canon f)))
+    (option_map canonical (option_map canonical x)) (option_map canonical (option_map canonical f))) (scheme_twice s vs)
+    ∙ ap (λ y. build (option_map canonical_scheme s) y (shielded (option_map canonical_authority a) (settled n)) (option_map canonical (option_map canonical x))
+    (option_map canonical (option_map canonical f))) (authority_twice a va)
+    ∙ ap (λ y. build (option_map canonical_scheme s) (option_map canonical_authority a) y (option_map canonical (option_map canonical x))
+    (option_map canonical (option_map canonical f))) (shielded_map canonical_authority a (settled n) ∙ ap (shielded a) e)
+    ∙ ap (λ y. build (option_map canonical_scheme s) (option_map canonical_authority a) (shielded a (settled m)) y (option_map canonical
+    (option_map canonical f)))
     (text_twice Query x vx)
-    ∙ ap (λ y. build (option_map canonical_scheme s) (option_map canonical_authority a) (shielded a (settled m)) (option_map canon x) y)
+    ∙ ap (λ y. build (option_map canonical_scheme s) (option_map canonical_authority a) (shielded a (settled m)) (option_map canonical x) y)
     (text_twice Query f vf))
 
 -- ---- a path that was normalised before
@@ -118,7 +120,7 @@ empty_path p is h = same_path p (make false ([] ∷ [])) is.listed is.formed (re
     nothing (b ∷ t) h = absurd (false≢true h)
 
 pub empty_normal : path.is_normal (make false ([] ∷ [])) true ≡ true
-empty_normal = rw (canon-nil, empty_double, empty_single) refl
+empty_normal = rw (canonical-nil, empty_double, empty_single) refl
 
 pub still_empty : (a : Option AuthorityParts) (p : PathParts) → Fits false p → is_empty (text p) ≡ true → is_some a ≡ false
     → is_empty (text (shielded a (pnormal p true))) ≡ true

@@ -2,7 +2,7 @@
 use Rattle.std.specs.Prelude.{ℕ, Bool, List, Option, Some, None, Result, Ok, Err, bytes_eq}
 use Rattle.std.specs.Option.{option_eq}
 use Rattle.std.specs.Ordering.{eq_of_both, on}
-use Rattle.uriparse_text.specs.Canon.{canon}
+use Rattle.uriparse_text.specs.Canonical.{canonical}
 use Rattle.uriparse_text.specs.Readings.{◌>>=◌, if_present, of_piece}
 use Rattle.uriparse_text.specs.Query as query
 use Rattle.uriparse_text.specs.Fragment as fragment
@@ -37,9 +37,9 @@ abbrev pub alike : Held → Held → Bool
 alike =
     eq_of_both (on (λ (h : Held). h.scheme) (option_eq (on scheme.canonical_text bytes_eq)))
     (eq_of_both (on (λ (h : Held). h.authority) (option_eq (on authority.key bytes_eq)))
-    (eq_of_both (on (λ (h : Held). h.path) (option_eq (on (λ (p : PathParts). canon (text p)) bytes_eq)))
-    (eq_of_both (on (λ (h : Held). h.query) (option_eq (on canon bytes_eq)))
-    (on (λ (h : Held). h.fragment) (option_eq (on canon bytes_eq))))))
+    (eq_of_both (on (λ (h : Held). h.path) (option_eq (on (λ (p : PathParts). canonical (text p)) bytes_eq)))
+    (eq_of_both (on (λ (h : Held). h.query) (option_eq (on canonical bytes_eq)))
+    (on (λ (h : Held). h.fragment) (option_eq (on canonical bytes_eq))))))
 
 -- The same parts with the one that a text spells, or with none where no text is given, or else why the text spells none.
 abbrev pub scheme_read : Held → Option (List ℕ) → Result Held URIReferenceError

@@ -1,5 +1,5 @@
 -- How the text of a reference is cut into its pieces: RFC 3986, sections 3 and 4.1.
-use Rattle.std.specs.Prelude.{ℕ, Bool, ◌==◌, ◌||◌, if◌then◌else◌, List, Option, Some, None, drop}
+use Rattle.std.specs.Prelude.{ℕ, Bool, ◌==◌, ◌||◌, if◌then◌else◌, List, [], ◌∷◌, Option, Some, None, drop}
 use Rattle.uriparse_text.specs.Bytes.{colon, question_mark, number_sign}
 use Rattle.uriparse_text.specs.Cuts.{front, rest, before, after, up_to, from_first}
 use Rattle.uriparse_path.specs.Path.{has_two_slashes}
@@ -34,11 +34,12 @@ cut_authority u = if has_two_slashes u then Some (up_to ends_authority (drop 2 u
 abbrev pub authority_text : List ℕ → Option (List ℕ)
 authority_text t = cut_authority (after_scheme t)
 
-abbrev pub cut_left : List ℕ → List ℕ
-cut_left u = if has_two_slashes u then from_first ends_authority (drop 2 u) else u
+-- what follows that authority, or all where there is none
+abbrev pub without_authority : List ℕ → List ℕ
+without_authority u = if has_two_slashes u then from_first ends_authority (drop 2 u) else u
 
 abbrev pub after_authority : List ℕ → List ℕ
-after_authority t = cut_left (after_scheme t)
+after_authority t = without_authority (after_scheme t)
 
 -- The fragment is behind the first "#", the query behind the first "?" before that, and the path is left.
 abbrev pub path_text : List ℕ → List ℕ
@@ -49,3 +50,16 @@ query_text t = after question_mark (before number_sign (after_authority t))
 
 abbrev pub fragment_text : List ℕ → Option (List ℕ)
 fragment_text t = after number_sign (after_authority t)
+
+-- The same by one cut at the first "?" or "#", which the path runs to.
+abbrev pub ends_path : ℕ → Bool
+ends_path b = b == question_mark || b == number_sign
+
+-- the query and the fragment of what that cut leaves
+abbrev pub tail_query : List ℕ → Option (List ℕ)
+tail_query [] = None
+tail_query (b ∷ r) = if b == question_mark then Some (before number_sign r) else None
+
+abbrev pub tail_fragment : List ℕ → Option (List ℕ)
+tail_fragment [] = None
+tail_fragment (b ∷ r) = if b == question_mark then after number_sign r else if b == number_sign then Some r else None

@@ -3,7 +3,7 @@ use Rattle.std.specs.Prelude.{ℕ, Bool, ◌&&◌, List, [], ◌∷◌, ◌++◌
 use Rattle.std.specs.Option.{option_eq}
 use Rattle.std.specs.Ordering.{on}
 use Rattle.std.specs.Hash.{HashWrites, option}
-use Rattle.uriparse_text.specs.Canon.{canon, fed_spelling}
+use Rattle.uriparse_text.specs.Canonical.{canonical, fed_text}
 use Rattle.uriparse_path.specs.Path as path
 use Rattle.uriparse_authority.specs.Authority as authority
 use Rattle.uriparse_authority.specs.Host as host
@@ -23,20 +23,20 @@ key p = kind_code (kind p) ∷ canonical_text p
 -- what a hasher is fed: each part in turn
 abbrev pub fed : Parts → HashWrites
 fed p =
-    option (λ s. fed_spelling (scheme.canonical_text s)) p.scheme
+    option (λ s. fed_text (scheme.canonical_text s)) p.scheme
     ++ (option authority.fed p.authority
-    ++ (fed_spelling (canon (path.text p.path))
-    ++ (option (λ t. fed_spelling (canon t)) p.query
-    ++ option (λ t. fed_spelling (canon t)) p.fragment)))
+    ++ (fed_text (canonical (path.text p.path))
+    ++ (option (λ t. fed_text (canonical t)) p.query
+    ++ option (λ t. fed_text (canonical t)) p.fragment)))
 
 -- the same, told by the key alone: for these pieces of the canonical text, with the code of the host's kind
 abbrev pub fed_pieces : ℕ → Option (List ℕ) → Option (List ℕ) → List ℕ → Option (List ℕ) → Option (List ℕ) → HashWrites
 fed_pieces code scheme_piece authority_piece path_piece query_piece fragment_piece =
-    option fed_spelling scheme_piece
+    option fed_text scheme_piece
     ++ (option (λ t. authority.fed_key (code ∷ t)) authority_piece
-    ++ (fed_spelling path_piece
-    ++ (option fed_spelling query_piece
-    ++ option fed_spelling fragment_piece)))
+    ++ (fed_text path_piece
+    ++ (option fed_text query_piece
+    ++ option fed_text fragment_piece)))
 
 abbrev pub fed_key : List ℕ → HashWrites
 fed_key [] = []
@@ -47,6 +47,6 @@ abbrev pub each_alike : Parts → Parts → Bool
 each_alike p q =
     option_eq (on scheme.canonical_text bytes_eq) p.scheme q.scheme
     && (option_eq (on authority.key bytes_eq) p.authority q.authority
-    && (bytes_eq (canon (path.text p.path)) (canon (path.text q.path))
-    && (option_eq (on canon bytes_eq) p.query q.query
-    && option_eq (on canon bytes_eq) p.fragment q.fragment)))
+    && (bytes_eq (canonical (path.text p.path)) (canonical (path.text q.path))
+    && (option_eq (on canonical bytes_eq) p.query q.query
+    && option_eq (on canonical bytes_eq) p.fragment q.fragment)))

@@ -1,7 +1,7 @@
 -- Normal forms of references: RFC 3986, section 6.2.2.
 use Rattle.std.specs.Prelude.{Bool, ◌&&◌, Option, Some, None, is_none, bytes_eq}
 use Rattle.std.specs.Option.{option_map, option_eq}
-use Rattle.uriparse_text.specs.Canon.{canon}
+use Rattle.uriparse_text.specs.Canonical.{canonical}
 use Rattle.uriparse_path.specs.Edits.{shield}
 use Rattle.uriparse_path.specs.Path.{PathParts}
 use Rattle.uriparse_path.specs.Normal as path
@@ -23,8 +23,8 @@ normal p = record {
   scheme = option_map canonical_scheme p.scheme;
   authority = option_map canonical_authority p.authority;
   path = shielded p.authority (path.pnormal p.path (is_none p.scheme));
-  query = option_map canon p.query;
-  fragment = option_map canon p.fragment;
+  query = option_map canonical p.query;
+  fragment = option_map canonical p.fragment;
 }
 
 -- ---- which references are left as they are
@@ -39,8 +39,8 @@ is_normal p =
     option_eq bytes_eq (option_map scheme.canonical_text p.scheme) (scheme_part p)
     && (option_eq bytes_eq (option_map authority.canonical_text p.authority) (authority_part p)
     && (is_normal_path p.authority p.path (is_none p.scheme)
-    && (option_eq bytes_eq (option_map canon p.query) p.query
-    && option_eq bytes_eq (option_map canon p.fragment) p.fragment)))
+    && (option_eq bytes_eq (option_map canonical p.query) p.query
+    && option_eq bytes_eq (option_map canonical p.fragment) p.fragment)))
 
 -- ---- copies that are made before one is put in place
 

@@ -2,7 +2,7 @@
 use Rattle.std.specs.Prelude.{◌≡◌, ℕ, Bool, true, false, not, ◌&&◌, ◌||◌, if◌then◌else◌, List, [], ◌∷◌, ◌++◌, Option, Some, None, IfSome, is_some}
 use Rattle.std.specs.Option.{option_map, option_and_then, IsSomeAnd}
 use Rattle.uriparse_text.specs.Bytes.{slash, colon, question_mark, number_sign}
-use Rattle.uriparse_text.specs.Canon.{canon}
+use Rattle.uriparse_text.specs.Canonical.{canonical}
 use Rattle.uriparse_text.specs.Cuts.{lacks, behind, ahead, up_to}
 use Rattle.uriparse_text.specs.Readings.{IfPresent}
 use Rattle.uriparse_text.specs.Query.{IsQuery}
@@ -127,8 +127,8 @@ print p = joined (scheme_part p) (authority_part p) (path.text p.path) p.query p
 -- its text with each part in canonical spelling
 abbrev pub canonical_text : Parts → List ℕ
 canonical_text p =
-    joined (option_map scheme.canonical_text p.scheme) (option_map authority.canonical_text p.authority) (canon (path.text p.path))
-    (option_map canon p.query) (option_map canon p.fragment)
+    joined (option_map scheme.canonical_text p.scheme) (option_map authority.canonical_text p.authority) (canonical (path.text p.path))
+    (option_map canonical p.query) (option_map canonical p.fragment)
 
 -- the kind of its host, if it has one
 abbrev pub kind : Parts → Option host.Kind

@@ -20,8 +20,9 @@ use uriparse_authority::parts::most_authority_bytes;
 use uriparse_path::parts::most_path_bytes;
 use uriparse_path::path::Path;
 use uriparse_scheme::scheme::Scheme;
-use uriparse_text::fragment::Fragment;
-use uriparse_text::query::Query;
+use uriparse_text::fragment::{Fragment, FragmentKind};
+use uriparse_text::parts::read_text_if;
+use uriparse_text::query::{Query, QueryKind};
 
 mod builder;
 mod copy;
@@ -37,7 +38,7 @@ pub use builder::URIReferenceBuilder;
 pub use edit::Edit;
 pub use error::URIReferenceError;
 use print::{write_authority, write_behind, write_scheme};
-use read::{check_path, cut, read_authority_if, read_fragment_if, read_path, read_query_if};
+use read::{check_path, cut, read_authority_if, read_path};
 
 /// A URI reference, seen as its five parts: a URI or a relative reference. RFC 3986, section 4.1.
 ///
@@ -258,8 +259,8 @@ impl<'r> URIReference<'r> {
         let authority = read_authority_if(pieces.authority)?;
         let path = read_path(alloc, has_authority, pieces.path)?;
         check_path(has_scheme, has_authority, pieces.path)?;
-        let query = read_query_if(pieces.query)?;
-        let fragment = read_fragment_if(pieces.fragment)?;
+        let query = read_text_if::<QueryKind>(pieces.query)?;
+        let fragment = read_text_if::<FragmentKind>(pieces.fragment)?;
         Ok(URIReference {
             scheme: pieces.scheme,
             authority,

@@ -13,9 +13,9 @@ use Rattle.uriparse_text.specs.declared.parts.token.Token.TheVariants.{Byte}
 use Rattle.uriparse_text.specs.declared.parts.canonical.Case.TheVariants.{Lowered}
 use Rattle.uriparse_text.specs.Bytes.{percent}
 use Rattle.uriparse_text.specs.Tokens.{tokens, spell, is_token, is_well_formed}
-use Rattle.uriparse_text.specs.Canon.{canonical, canonical_tokens, canon_low, spelling}
+use Rattle.uriparse_text.specs.Canonical.{canonical_token, canonical_tokens, canonical_lowered, canonical_in}
 use Rattle.uriparse_text.proofs.TokenLemmas.{tokens-nil, tokens-spell}
-use Rattle.uriparse_text.proofs.CanonLemmas.{spell-canonical}
+use Rattle.uriparse_text.proofs.CanonicalLemmas.{spell-canonical_token}
 use Rattle.uriparse_scheme.specs.Grammar.{is_scheme_byte, is_scheme}
 
 byte_is_ascii : (b : ℕ) → is_scheme_byte b ≡ true → b < 128
@@ -60,15 +60,15 @@ pub well_formed-scheme : (t : List ℕ) → is_scheme t ≡ true → is_well_for
 well_formed-scheme t h =
     let each = scheme_bytes t h in ap (list_all is_token) (single t each) ∙ single_formed t each
 
-lowered : (t : List ℕ) → flat_map spell (map (canonical Lowered) (map Byte t)) ≡ str_to_ascii_lowercase t
+lowered : (t : List ℕ) → flat_map spell (map (canonical_token Lowered) (map Byte t)) ≡ str_to_ascii_lowercase t
 lowered [] = refl
 lowered (b ∷ t) = ap (λ u. to_ascii_lowercase b ∷ u) (lowered t)
 
 -- the canonical spelling of a scheme is the scheme in lower case
-pub canon_low_of_scheme : (t : List ℕ) → is_scheme t ≡ true → canon_low t ≡ str_to_ascii_lowercase t
-unfolding spelling
-canon_low_of_scheme t h =
-    ap (λ ts. flat_map spell (map (canonical Lowered) ts)) (single t (scheme_bytes t h)) ∙ lowered t
+pub canonical_low_of_scheme : (t : List ℕ) → is_scheme t ≡ true → canonical_lowered t ≡ str_to_ascii_lowercase t
+unfolding canonical_in
+canonical_low_of_scheme t h =
+    ap (λ ts. flat_map spell (map (canonical_token Lowered) ts)) (single t (scheme_bytes t h)) ∙ lowered t
 
 -- ---- in lower case it is a scheme
 
@@ -90,18 +90,18 @@ is_scheme-lowered (b ∷ t) h =
     let both = and_parts (is_ascii_alphabetic b) (list_all is_scheme_byte t) h in
     and_from _ _ (letter-lowered b both.0) (bytes-lowered t both.1)
 
-pub is_scheme-canon_low : (t : List ℕ) → is_scheme t ≡ true → is_scheme (canon_low t) ≡ true
-is_scheme-canon_low t h = ap is_scheme (canon_low_of_scheme t h) ∙ is_scheme-lowered t h
+pub is_scheme-canonical_lowered : (t : List ℕ) → is_scheme t ≡ true → is_scheme (canonical_lowered t) ≡ true
+is_scheme-canonical_lowered t h = ap is_scheme (canonical_low_of_scheme t h) ∙ is_scheme-lowered t h
 
 -- a test of the texts in lower case is one of the canonical spellings
 pub same_from_lowered : (left right : List ℕ) (r : Bool) → is_scheme left ≡ true → is_scheme right ≡ true →
-    (IsTrue r ↔ (str_to_ascii_lowercase left ≡ str_to_ascii_lowercase right)) → r ≡ bytes_eq (canon_low left) (canon_low right)
+    (IsTrue r ↔ (str_to_ascii_lowercase left ≡ str_to_ascii_lowercase right)) → r ≡ bytes_eq (canonical_lowered left) (canonical_lowered right)
 same_from_lowered left right r h k iff =
-    let l = canon_low_of_scheme left h in
-    let m = canon_low_of_scheme right k in
-    same_from_decides r (bytes_eq (canon_low left) (canon_low right)) (λ e. l ∙ iff.0 e ∙ sym m, λ e. iff.1 (sym l ∙ e ∙ m))
-    (bytes_eq-Decides (canon_low left) (canon_low right))
+    let l = canonical_low_of_scheme left h in
+    let m = canonical_low_of_scheme right k in
+    same_from_decides r (bytes_eq (canonical_lowered left) (canonical_lowered right)) (λ e. l ∙ iff.0 e ∙ sym m, λ e. iff.1 (sym l ∙ e ∙ m))
+    (bytes_eq-Decides (canonical_lowered left) (canonical_lowered right))
 
 -- what a walk over a text in lower case spells
-pub walked : (text : List ℕ) → flat_map spell (canonical_tokens Lowered text) ≡ canon_low text
-walked text = spell-canonical Lowered text
+pub walked : (text : List ℕ) → flat_map spell (canonical_tokens Lowered text) ≡ canonical_lowered text
+walked text = spell-canonical_token Lowered text

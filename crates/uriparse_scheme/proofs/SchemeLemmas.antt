@@ -40,8 +40,8 @@ use Rattle.uriparse_scheme.specs.Unregistered as unregistered
 use Rattle.uriparse_scheme.specs.Registered.{registered_named, name_of}
 use Rattle.uriparse_scheme.specs.Grammar.{is_scheme_byte, is_scheme, IsUnregistered}
 use Rattle.uriparse_scheme.specs.Scheme.{Valid, registered_or, named, text, canonical_text, Spells, fault, reading, BeginsWithNoLetter, HasStrayByte}
-use Rattle.uriparse_text.specs.Canon.{canon_low}
-use Rattle.uriparse_scheme.proofs.GrammarLemmas.{canon_low_of_scheme}
+use Rattle.uriparse_text.specs.Canonical.{canonical_lowered}
+use Rattle.uriparse_scheme.proofs.GrammarLemmas.{canonical_low_of_scheme}
 use Rattle.uriparse_scheme.proofs.TableLemmas.{name_is_scheme, named-name, named_iff, canonical_name}
 
 -- ---- no fault
@@ -69,12 +69,12 @@ pub valid_spelled : (t : List ℕ) (s : Scheme) → Spells t s → Valid s
 valid_spelled t s spells = subst Valid (sym spells.value) (valid_or t (registered_named (str_to_ascii_lowercase t)) refl spells.grammar)
 
 canonical_or : (t : List ℕ) (o : Option RegisteredScheme) → registered_named (str_to_ascii_lowercase t) ≡ o → is_scheme t ≡ true →
-    canonical_text (registered_or t o) ≡ canon_low t
-canonical_or t (Some s) e h = canonical_name s ∙ sym ((named_iff t s).0 e) ∙ sym (canon_low_of_scheme t h)
+    canonical_text (registered_or t o) ≡ canonical_lowered t
+canonical_or t (Some s) e h = canonical_name s ∙ sym ((named_iff t s).0 e) ∙ sym (canonical_low_of_scheme t h)
 canonical_or t None e h = refl
 
 -- a scheme has the canonical spelling of each text that spells it
-pub canonical_spelled : (t : List ℕ) (s : Scheme) → Spells t s → canonical_text s ≡ canon_low t
+pub canonical_spelled : (t : List ℕ) (s : Scheme) → Spells t s → canonical_text s ≡ canonical_lowered t
 canonical_spelled t s spells = ap canonical_text spells.value ∙ canonical_or t (registered_named (str_to_ascii_lowercase t)) refl spells.grammar
 
 -- a valid scheme's text spells it

@@ -12,14 +12,14 @@ use Rattle.std.proofs.lemmas.List.{get_or-map, length-map}
 use Rattle.std.proofs.lemmas.List.Folds.{find_at}
 use Rattle.std.proofs.lemmas.Option.{slice_get_within, get_or_from_slice_get}
 use Rattle.std.proofs.lemmas.Slice.Eq.{bytes_eq-Decides}
-use Rattle.uriparse_text.specs.Canon.{canon_low}
+use Rattle.uriparse_text.specs.Canonical.{canonical_lowered}
 use Rattle.uriparse_scheme.specs.declared.scheme.registered.RegisteredScheme.{RegisteredScheme}
 use Rattle.uriparse_scheme.specs.declared.scheme.registered.RegisteredScheme.TheVariants.{Microsoft}
 use Rattle.uriparse_scheme.specs.declared.scheme.microsoft.MicrosoftScheme.TheVariants.{MSWord}
 use Rattle.uriparse_scheme.specs.SchemeTable.{row_of, variants}
 use Rattle.uriparse_scheme.specs.Registered.{names, registered_named, name_of}
 use Rattle.uriparse_scheme.specs.Grammar.{is_scheme}
-use Rattle.uriparse_scheme.proofs.GrammarLemmas.{canon_low_of_scheme}
+use Rattle.uriparse_scheme.proofs.GrammarLemmas.{canonical_low_of_scheme}
 use Rattle.uriparse_scheme.proofs.SortedLemmas.{names_sorted, sorted_at}
 
 -- ---- each row, one by one: the first clause splits the rest into a case a row
@@ -42,8 +42,8 @@ lowered-name s = refl
 
 -- ---- what follows
 
-pub canonical_name : (s : RegisteredScheme) → canon_low (name_of s) ≡ name_of s
-canonical_name s = canon_low_of_scheme (name_of s) (name_is_scheme s) ∙ lowered-name s
+pub canonical_name : (s : RegisteredScheme) → canonical_lowered (name_of s) ≡ name_of s
+canonical_name s = canonical_low_of_scheme (name_of s) (name_is_scheme s) ∙ lowered-name s
 
 -- the name of a registered scheme names it
 pub named-name : (s : RegisteredScheme) → registered_named (str_to_ascii_lowercase (name_of s)) ≡ Some s
@@ -55,8 +55,8 @@ same_name a b e =
     let both : Some a ≡ Some b = sym (named_itself a) ∙ ap registered_named e ∙ named_itself b in cc
 
 -- a test of names is one of canonical spellings
-pub same_from_names : (a b : RegisteredScheme) → bytes_eq (name_of a) (name_of b) ≡ bytes_eq (canon_low (name_of a)) (canon_low (name_of b))
-same_from_names a b = ap (λ n. bytes_eq n (name_of b)) (sym (canonical_name a)) ∙ ap (bytes_eq (canon_low (name_of a))) (sym (canonical_name b))
+pub same_from_names : (a b : RegisteredScheme) → bytes_eq (name_of a) (name_of b) ≡ bytes_eq (canonical_lowered (name_of a)) (canonical_lowered (name_of b))
+same_from_names a b = ap (λ n. bytes_eq n (name_of b)) (sym (canonical_name a)) ∙ ap (bytes_eq (canonical_lowered (name_of a))) (sym (canonical_name b))
 
 -- what is found passes
 passes : {A : Type 0} (p : A → Bool) (xs : List A) (x : A) → find p xs ≡ Some x → p x ≡ true

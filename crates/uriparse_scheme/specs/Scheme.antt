@@ -3,7 +3,7 @@ use Rattle.std.specs.Prelude.{◌≡◌, ℕ, ⊤, true, false, not, List, [], �
 use Rattle.std.specs.Char.{is_ascii_alphabetic}
 use Rattle.std.specs.List.{list_all}
 use Rattle.std.specs.Str.{str_to_ascii_lowercase}
-use Rattle.uriparse_text.specs.Canon.{canon_low}
+use Rattle.uriparse_text.specs.Canonical.{canonical_lowered}
 use Rattle.uriparse_text.specs.Readings.{unless_fault}
 use Rattle.uriparse_scheme.specs.declared.scheme.registered.RegisteredScheme.{RegisteredScheme}
 use Rattle.uriparse_scheme.specs.declared.scheme.Scheme.{Scheme}
@@ -36,7 +36,7 @@ text (Unregistered spelling) = spelling
 
 -- the canonical spelling: letters are lower case
 abbrev pub canonical_text : Scheme → List ℕ
-canonical_text s = canon_low (text s)
+canonical_text s = canonical_lowered (text s)
 
 abbrev pub status : Scheme → SchemeStatus
 status (Registered s) = status_of s

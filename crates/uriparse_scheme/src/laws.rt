@@ -6,7 +6,7 @@ ghost use Rattle.std.specs.Ordering.{nat_cmp};
 ghost use Rattle.std.specs.Str.{str_to_ascii_lowercase};
 ghost use Rattle.std.specs.List.Sorted.{IsStrictlySortedBy};
 ghost use Rattle.uriparse_text.specs.Tokens.{is_well_formed};
-ghost use Rattle.uriparse_text.specs.Canon.{canon_low};
+ghost use Rattle.uriparse_text.specs.Canonical.{canonical_lowered};
 ghost use Rattle.uriparse_scheme.specs.declared.scheme.registered.RegisteredScheme.{RegisteredScheme};
 ghost use Rattle.uriparse_scheme.specs.declared.scheme.registered.RegisteredScheme.TheVariants.{AAA, ACCT, HTTP, MicrosoftWindowsCameraMultiPicker, Microsoft, Z3950, Z3950S};
 ghost use Rattle.uriparse_scheme.specs.declared.scheme.microsoft.MicrosoftScheme.TheVariants.{MSGameBarServices, MSWord};
@@ -49,8 +49,8 @@ pub fn one_unregistered_reading()
 /// which is that of the value that the text spells.
 pub fn canonical_is_lower_case()
     ensures formed { (t : List ℕ) → is_scheme t ≡ true → is_well_formed t ≡ true }
-    ensures lowered { (t : List ℕ) → is_scheme t ≡ true → canon_low t ≡ str_to_ascii_lowercase t }
-    ensures spelled { (t : List ℕ) (s : Scheme) → Spells t s → canonical_text s ≡ canon_low t }
+    ensures lowered { (t : List ℕ) → is_scheme t ≡ true → canonical_lowered t ≡ str_to_ascii_lowercase t }
+    ensures spelled { (t : List ℕ) (s : Scheme) → Spells t s → canonical_text s ≡ canonical_lowered t }
 {}
 
 /// The names of the table rise, so no two rows have one name, and are schemes in lower case. Each

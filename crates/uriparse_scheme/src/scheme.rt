@@ -4,7 +4,7 @@ ghost use Rattle.std.proofs.Common.{rules};
 ghost use Rattle.std.specs.Ordering.{on};
 ghost use Rattle.std.specs.Str.{str_to_ascii_lowercase};
 ghost use Rattle.std.specs.Cmp.Rules.{comparing, hashing};
-ghost use Rattle.uriparse_text.specs.Canon.{fed_spelling};
+ghost use Rattle.uriparse_text.specs.Canonical.{fed_text};
 ghost use Rattle.uriparse_scheme.specs.Scheme as spec;
 ghost use Rattle.uriparse_scheme.specs.Normal.{canonical_scheme};
 
@@ -38,7 +38,8 @@ pub use unregistered::UnregisteredScheme;
 ///
 /// Its text is a letter, and then letters, digits, `+`, `-` and `.`. A registered scheme is read in
 /// any case, takes no memory, and prints in lower case; each has a constant. Another keeps its
-/// spelling, which it borrows from the text that it was read from, or owns. Two schemes are equal
+/// spelling, which it borrows from the text that it was read from, or owns. Its readers take no
+/// memory; [`SchemeError`] says what they refuse. Two schemes are equal
 /// where their texts differ at most in the case of letters, and equal ones feed a hasher the same
 /// bytes: section 6.2.2.1.
 ///
@@ -199,7 +200,7 @@ impl<'s> Eq for Scheme<'s> {
 }
 
 impl<'s> Hash for Scheme<'s> {
-    ghost hash_input = { λ s. fed_spelling (spec.canonical_text s) };
+    ghost hash_input = { λ s. fed_text (spec.canonical_text s) };
 
     ghost respects_eq = { Prim.search (hashing, rules) };
 

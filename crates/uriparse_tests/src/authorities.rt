@@ -1,10 +1,9 @@
 //! Authorities.
 
-use crate::answer::{Answer, printed, said, shown, told, word};
+use crate::answer::{Answer, add, printed, said, shown, told, words};
 use crate::component::{same, same_as};
 use crate::hosts::kind_of;
 use std::alloc::{AllocError, Global};
-use std::fmt::{Display, Write};
 use uriparse::authority::parse_port;
 use uriparse::{Authority, AuthorityError, Host, Password, Username};
 
@@ -14,15 +13,6 @@ fn copied(alloc: Global, authority: &Authority<'_>) -> Answer {
 
 fn compared(alloc: Global, left: &Authority<'_>, right: &str) -> Answer {
     same_as(alloc, left, Authority::try_from_bytes(right.as_bytes()))
-}
-
-/// Adds the part behind its name, if there is one, and behind a space if there is a text before.
-pub fn add<T: Display>(text: &mut String, name: &str, part: Option<&T>) -> Result<(), AllocError> {
-    if let Some(part) = part {
-        let space = if text.is_empty() { "" } else { " " };
-        write!(text, "{space}{name}={part}")?;
-    }
-    Ok(())
 }
 
 /// Adds the parts.
@@ -46,7 +36,7 @@ fn listed(alloc: Global, authority: &Authority<'_>) -> Answer {
     }
     let mut parts = String::new(alloc);
     add_authority(&mut parts, authority)?;
-    Ok(parts)
+    said(alloc, parts.as_str().trim_start())
 }
 
 /// The answer to a question about this authority.
@@ -65,35 +55,48 @@ fn swap_username<'t>(
     authority: &mut Authority<'t>,
     name: Option<Username<'t>>,
 ) -> Result<(), AuthorityError> {
-    authority.map_username(|old| if old.is_some() { name } else { old })
+    authority.map_username(|old| old.and(name))
 }
 
 fn fill_password<'t>(
     authority: &mut Authority<'t>,
     word: Option<Password<'t>>,
 ) -> Result<(), AuthorityError> {
-    authority.map_password(|old| if old.is_none() { word } else { old })
+    authority.map_password(|old| old.or(word))
 }
 
 fn swap_name<'t>(authority: &mut Authority<'t>, host: Host<'t>) -> Result<(), AuthorityError> {
     authority.map_host(|old| if old.is_registered_name() { host } else { old })
 }
 
-/// Changes the user information as it is named.
-fn change_user<'t>(
+fn change_username<'t>(
     authority: &mut Authority<'t>,
     command: &str,
     other: &'t str,
 ) -> Result<(), AuthorityError> {
-    match command {
-        "set-username" => authority.set_username(Username::try_from_str(other).ok()),
-        "drop-username" => authority.set_username(None),
-        "swap-username" => swap_username(authority, Username::try_from_str(other).ok()),
-        "swap-username-for-none" => swap_username(authority, None),
-        "set-password" => authority.set_password(Password::try_from_str(other).ok()),
-        "drop-password" => authority.set_password(None),
-        _ => fill_password(authority, Password::try_from_str(other).ok()),
+    let name = match command {
+        "drop-username" | "swap-username-for-none" => None,
+        _ => Username::try_from_str(other).ok(),
+    };
+    if command.starts_with("swap") {
+        return swap_username(authority, name);
     }
+    authority.set_username(name)
+}
+
+fn change_password<'t>(
+    authority: &mut Authority<'t>,
+    command: &str,
+    other: &'t str,
+) -> Result<(), AuthorityError> {
+    let word = match command {
+        "drop-password" => None,
+        _ => Password::try_from_str(other).ok(),
+    };
+    if command == "fill-password" {
+        return fill_password(authority, word);
+    }
+    authority.set_password(word)
 }
 
 fn change_host<'t>(
@@ -123,7 +126,10 @@ fn change<'t>(authority: &mut Authority<'t>, command: &str, other: &'t str) -> b
     match command {
         "set-port" | "drop-port" | "map-port-8-to-9" => change_port(authority, command, other),
         "set-host" | "swap-name" => change_host(authority, command, other).is_ok(),
-        _ => change_user(authority, command, other).is_ok(),
+        "set-password" | "drop-password" | "fill-password" => {
+            change_password(authority, command, other).is_ok()
+        }
+        _ => change_username(authority, command, other).is_ok(),
     }
 }
 
@@ -165,22 +171,19 @@ fn authority_of_password<'t>(alloc: Global, word: &'t str, host: &'t str) -> Ans
 }
 
 /// The text of the normal form, or "normal" where the authority is that already.
-fn normalized(alloc: Global, authority: Authority<'_>) -> Answer {
-    let mut authority = authority;
+fn normalized(alloc: Global, authority: &mut Authority<'_>) -> Answer {
     let was_normal = authority.is_normalized();
     authority.normalize(alloc)?;
-    if !authority.is_normalized() {
-        return said(alloc, "not normal");
+    match (was_normal, authority.is_normalized()) {
+        (_, false) => said(alloc, "not normal"),
+        (true, true) => said(alloc, "normal"),
+        (false, true) => authority.to_string(alloc),
     }
-    if was_normal {
-        return said(alloc, "normal");
-    }
-    authority.to_string(alloc)
 }
 
 fn normal_authority(alloc: Global, text: &str) -> Answer {
     match Authority::try_from_str(text) {
-        Ok(authority) => normalized(alloc, authority),
+        Ok(mut authority) => normalized(alloc, &mut authority),
         Err(why) => printed(alloc, why),
     }
 }
@@ -194,9 +197,7 @@ fn authority(alloc: Global, command: &str, text: &str, other: &str) -> Answer {
 
 /// The answer to a question about authorities.
 pub fn answer(alloc: Global, asked: &str) -> Answer {
-    let (command, rest) = word(asked);
-    let (text, rest) = word(rest);
-    let (other, _) = word(rest);
+    let (command, text, other) = words(asked);
     match command {
         "authority-of-its-parts" => authority_of_its_parts(alloc, text),
         "authority-of-password" => authority_of_password(alloc, text, other),

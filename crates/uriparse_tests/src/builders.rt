@@ -1,10 +1,7 @@
 //! Builders of references, URIs and relative references.
 
-use crate::answer::{Answer, said, verdict, word};
-use crate::kinds::made;
-use crate::references::refused;
-use crate::relatives::{made_relative, relative_refused};
-use crate::uris::{made_uri, uri_refused};
+use crate::answer::{Answer, refused, said, verdict, word};
+use crate::reference::made;
 use std::alloc::Global;
 use uriparse::{
     RelativeReference, RelativeReferenceBuilder, RelativeReferenceError, URI, URIBuilder, URIError,
@@ -89,28 +86,25 @@ fn give_relative<'t>(
 }
 
 /// What is built of the texts.
-fn build(alloc: Global, texts: Texts<'_>) -> Answer {
+fn build<'t>(alloc: Global, texts: Texts<'t>) -> Result<URIReference<'t>, URIReferenceError> {
     let mut builder = URIReference::builder();
-    match give(alloc, &mut builder, texts) {
-        Ok(()) => made(alloc, builder.build()),
-        Err(why) => refused(alloc, why),
-    }
+    give(alloc, &mut builder, texts)?;
+    builder.build()
 }
 
-fn build_uri(alloc: Global, texts: Texts<'_>) -> Answer {
+fn build_uri<'t>(alloc: Global, texts: Texts<'t>) -> Result<URI<'t>, URIError> {
     let mut builder = URI::builder();
-    match give_uri(alloc, &mut builder, texts) {
-        Ok(()) => made_uri(alloc, builder.build()),
-        Err(why) => uri_refused(alloc, why),
-    }
+    give_uri(alloc, &mut builder, texts)?;
+    builder.build()
 }
 
-fn build_relative(alloc: Global, texts: Texts<'_>) -> Answer {
+fn build_relative<'t>(
+    alloc: Global,
+    texts: Texts<'t>,
+) -> Result<RelativeReference<'t>, RelativeReferenceError> {
     let mut builder = RelativeReference::builder();
-    match give_relative(alloc, &mut builder, texts) {
-        Ok(()) => made_relative(alloc, builder.build()),
-        Err(why) => relative_refused(alloc, why),
-    }
+    give_relative(alloc, &mut builder, texts)?;
+    builder.build()
 }
 
 /// Whether a text that is no such part is refused for each part.
@@ -136,12 +130,10 @@ fn give_and_refuse<'t>(
 }
 
 /// What is built of the texts after others were refused.
-fn after_refusals(alloc: Global, texts: Texts<'_>) -> Answer {
+fn after_refusals<'t>(alloc: Global, texts: Texts<'t>) -> Result<URI<'t>, URIError> {
     let mut builder = URI::builder();
-    match give_and_refuse(alloc, &mut builder, texts) {
-        Ok(()) => made_uri(alloc, builder.build()),
-        Err(why) => uri_refused(alloc, why),
-    }
+    give_and_refuse(alloc, &mut builder, texts)?;
+    builder.build()
 }
 
 /// The reference built again by the plain calls.
@@ -248,10 +240,10 @@ fn of_reference(alloc: Global, command: &str, text: &str, other: &str) -> Answer
 fn of_uri(alloc: Global, command: &str, text: &str) -> Answer {
     match URI::try_from_str(alloc, text) {
         Ok(uri) => match command {
-            "uri-calls" => made_uri(alloc, uri_by_calls(uri)),
-            _ => made_uri(alloc, uri_by_chain(uri)),
+            "uri-calls" => made(alloc, uri_by_calls(uri)),
+            _ => made(alloc, uri_by_chain(uri)),
         },
-        Err(why) => uri_refused(alloc, why),
+        Err(why) => refused(alloc, why),
     }
 }
 
@@ -259,10 +251,18 @@ fn of_uri(alloc: Global, command: &str, text: &str) -> Answer {
 fn of_relative(alloc: Global, command: &str, text: &str) -> Answer {
     match RelativeReference::try_from_str(alloc, text) {
         Ok(relative) => match command {
-            "relative-calls" => made_relative(alloc, relative_by_calls(relative)),
-            _ => made_relative(alloc, relative_by_chain(relative)),
+            "relative-calls" => made(alloc, relative_by_calls(relative)),
+            _ => made(alloc, relative_by_chain(relative)),
         },
-        Err(why) => relative_refused(alloc, why),
+        Err(why) => refused(alloc, why),
+    }
+}
+
+/// What is built of a URI's texts.
+fn of_texts<'t>(alloc: Global, command: &str, texts: Texts<'t>) -> Result<URI<'t>, URIError> {
+    match command {
+        "build-uri" => build_uri(alloc, texts),
+        _ => after_refusals(alloc, texts),
     }
 }
 
@@ -271,10 +271,9 @@ pub fn answer(alloc: Global, asked: &str) -> Answer {
     let (command, rest) = word(asked);
     let (text, others) = word(rest);
     match command {
-        "build" => build(alloc, split_texts(rest)),
-        "build-uri" => build_uri(alloc, split_texts(rest)),
-        "build-relative" => build_relative(alloc, split_texts(rest)),
-        "after-refusals" => after_refusals(alloc, split_texts(rest)),
+        "build" => made(alloc, build(alloc, split_texts(rest))),
+        "build-uri" | "after-refusals" => made(alloc, of_texts(alloc, command, split_texts(rest))),
+        "build-relative" => made(alloc, build_relative(alloc, split_texts(rest))),
         "calls" | "chain" | "builders" => of_reference(alloc, command, text, word(others).0),
         "uri-calls" | "uri-chain" => of_uri(alloc, command, text),
         "relative-calls" | "relative-chain" => of_relative(alloc, command, text),

@@ -44,24 +44,21 @@ pub fn read<T: Component, E: Display + Drop>(alloc: Global, answer: Result<T, E>
     }
 }
 
-/// The text of the normal form of what was read, or "normal" where it is that already.
-fn normalized<T: Component>(alloc: Global, value: T) -> Answer {
-    let mut value = value;
+/// The text of the normal form, or "normal" where the value is that already.
+fn normalized<T: Component>(alloc: Global, value: &mut T) -> Answer {
     let was_normal = value.is_normal();
     value.make_normal(alloc)?;
-    if !value.is_normal() {
-        return said(alloc, "not normal");
+    match (was_normal, value.is_normal()) {
+        (_, false) => said(alloc, "not normal"),
+        (true, true) => said(alloc, "normal"),
+        (false, true) => told(alloc, value),
     }
-    if was_normal {
-        return said(alloc, "normal");
-    }
-    told(alloc, &value)
 }
 
-/// The same, or the refusal.
+/// The same of what was read, or the refusal.
 pub fn normal<T: Component, E: Display + Drop>(alloc: Global, answer: Result<T, E>) -> Answer {
     match answer {
-        Ok(value) => normalized(alloc, value),
+        Ok(mut value) => normalized(alloc, &mut value),
         Err(why) => printed(alloc, why),
     }
 }

@@ -1,6 +1,6 @@
 //! Segments, queries and fragments.
 
-use crate::answer::{Answer, said, word};
+use crate::answer::{Answer, said, words};
 use crate::component::{compared, normal, read};
 use std::alloc::Global;
 use uriparse::{Fragment, Query, Segment};
@@ -41,9 +41,7 @@ fn dots(alloc: Global, text: &str) -> Answer {
 
 /// The answer to a question about these parts.
 pub fn answer(alloc: Global, asked: &str) -> Answer {
-    let (command, rest) = word(asked);
-    let (text, rest) = word(rest);
-    let (other, _) = word(rest);
+    let (command, text, other) = words(asked);
     match command {
         "segment" => read(alloc, Segment::try_from_str(text)),
         "segments" => segments(alloc, text, other),

@@ -3,7 +3,7 @@
 
 use crate::answer::printed;
 use crate::component::Component;
-use crate::references::compared;
+use crate::reference::compared;
 use std::alloc::{AllocError, Global};
 use std::test::Fail;
 use uriparse::{Authority, Host, URIReference, URIReferenceError};
@@ -25,14 +25,11 @@ fn is_scheme(text: &[u8]) -> bool {
 
 /// The text before the first of these bytes, and from there on.
 fn cut<'t>(text: &'t [u8], stops: &[u8]) -> (&'t [u8], &'t [u8]) {
-    let end = text
-        .iter()
-        .position(|b| stops.contains(b))
-        .unwrap_or(text.len());
-    (
-        text.get(..end).unwrap_or(text),
-        text.get(end..).unwrap_or(&[]),
-    )
+    let end = text.iter().position(|b| stops.contains(b));
+    match text.split_at_checked(end.unwrap_or(text.len())) {
+        Some(cut) => cut,
+        None => (text, b""),
+    }
 }
 
 /// The byte of the first fault in a text that may have these bytes besides unreserved ones,
@@ -71,11 +68,9 @@ struct AuthorityPieces<'t> {
 
 /// The host and, behind the last colon that no closing bracket follows, the port.
 fn cut_port(text: &[u8]) -> (&[u8], Option<&[u8]>) {
-    let Some(at) = text.iter().rposition(|b| b":]".contains(b)) else {
-        return (text, None);
-    };
-    match text.get(at..) {
-        Some([b':', port @ ..]) => (text.get(..at).unwrap_or(text), Some(port)),
+    let end = text.iter().rposition(|b| b":]".contains(b));
+    match text.split_at_checked(end.unwrap_or(text.len())) {
+        Some((host, [b':', port @ ..])) => (host, Some(port)),
         _ => (text, None),
     }
 }

@@ -1,6 +1,6 @@
 //! Hosts and addresses.
 
-use crate::answer::{Answer, printed, said, shown, word};
+use crate::answer::{Answer, printed, said, shown, words};
 use crate::component::same_as;
 use std::alloc::Global;
 use uriparse::{Host, IpAddr, Ipv4Addr, Ipv6Addr};
@@ -49,22 +49,19 @@ fn host(alloc: Global, command: &str, text: &str, other: &str) -> Answer {
 }
 
 /// The kind and the text of the normal form, or "normal" where the host is that already.
-fn normalized(alloc: Global, host: Host<'_>) -> Answer {
-    let mut host = host;
+fn normalized(alloc: Global, host: &mut Host<'_>) -> Answer {
     let was_normal = host.is_normalized();
     host.normalize(alloc)?;
-    if !host.is_normalized() {
-        return said(alloc, "not normal");
+    match (was_normal, host.is_normalized()) {
+        (_, false) => said(alloc, "not normal"),
+        (true, true) => said(alloc, "normal"),
+        (false, true) => told(alloc, host),
     }
-    if was_normal {
-        return said(alloc, "normal");
-    }
-    told(alloc, &host)
 }
 
 fn normal_host(alloc: Global, text: &str) -> Answer {
     match Host::try_from_str(text) {
-        Ok(host) => normalized(alloc, host),
+        Ok(mut host) => normalized(alloc, &mut host),
         Err(why) => printed(alloc, why),
     }
 }
@@ -113,9 +110,7 @@ fn host_of_address(alloc: Global, text: &str) -> Answer {
 
 /// The answer to a question about hosts.
 pub fn answer(alloc: Global, asked: &str) -> Answer {
-    let (command, rest) = word(asked);
-    let (text, rest) = word(rest);
-    let (other, _) = word(rest);
+    let (command, text, other) = words(asked);
     match command {
         "normal-host" => normal_host(alloc, text),
         "ipv4" => ipv4(alloc, text),

@@ -32,6 +32,8 @@ mod path_edits;
 #[cfg(test)]
 mod paths;
 #[cfg(test)]
+mod reference;
+#[cfg(test)]
 mod reference_edits;
 #[cfg(test)]
 mod references;

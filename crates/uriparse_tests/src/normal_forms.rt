@@ -1,9 +1,10 @@
 //! Normal forms of references.
 
-use crate::answer::{Answer, said, word};
-use crate::references::{refused, told};
+use crate::answer::{Answer, refused, said, shows, words};
+use crate::reference::told;
+use crate::reference_edits::edits;
 use std::alloc::{AllocError, Global};
-use uriparse::{Edit, Fragment, PathError, Query, URIReference, URIReferenceError};
+use uriparse::{Edit, URIReference};
 
 /// Whether the reference is in normal form.
 fn is_normal(alloc: Global, reference: &URIReference<'_>) -> Answer {
@@ -17,28 +18,26 @@ fn is_normal(alloc: Global, reference: &URIReference<'_>) -> Answer {
     )
 }
 
+/// Whether the reference is in normal form, and can be brought into it.
+fn is_settled(alloc: Global, reference: &mut URIReference<'_>) -> bool {
+    reference.is_normalized() && reference.normalize(alloc).is_ok()
+}
+
 /// The text of a normal form, which is to be in normal form, and to stay as it is.
-fn settled<'t>(alloc: Global, new: URIReference<'t>) -> Answer {
-    let mut reference = new;
-    let text = told(alloc, &reference)?;
-    if reference.is_normalized() && reference.normalize(alloc).is_ok() {
-        let again = told(alloc, &reference)?;
-        if again == text {
-            return Ok(text);
-        }
+fn settled(alloc: Global, reference: &mut URIReference<'_>) -> Answer {
+    let text = told(alloc, reference)?;
+    if is_settled(alloc, reference) && shows(alloc, reference, text.as_str())? {
+        return Ok(text);
     }
     said(alloc, "no normal form")
 }
 
-/// The text of the reference's normal form. After a refusal the reference is to be as it was.
-fn normalized<'t>(alloc: Global, old: URIReference<'t>, text: &str) -> Answer {
-    let mut reference = old;
-    let printed = told(alloc, &reference)?;
+/// The text of the reference's normal form. After a refusal the reference is to print as before.
+fn normalized(alloc: Global, reference: &mut URIReference<'_>, printed: &str) -> Answer {
     if reference.normalize(alloc).is_ok() {
         return settled(alloc, reference);
     }
-    let kept = told(alloc, &reference)?;
-    if kept == printed && !text.is_empty() {
+    if shows(alloc, reference, printed)? {
         return Err(AllocError);
     }
     said(alloc, "refused and changed")
@@ -46,36 +45,32 @@ fn normalized<'t>(alloc: Global, old: URIReference<'t>, text: &str) -> Answer {
 
 /// A query, the normal form and a fragment, one after another. Where the normal form wants memory and
 /// there is none, the reference is to have the query alone.
-fn normalized_by_edits<'t>(alloc: Global, old: URIReference<'t>) -> Answer {
-    let mut reference = old;
-    let mut edits = Vec::with_capacity(alloc, 3)?;
-    edits.push(Edit::Query(Query::try_from_str("q%7e").ok()))?;
-    edits.push(Edit::Normalize)?;
-    edits.push(Edit::Fragment(Fragment::try_from_str("f%7e").ok()))?;
-    let answer = reference.apply_all(alloc, edits);
-    let now = told(alloc, &reference)?;
-    match answer {
-        Ok(()) => Ok(now),
-        Err((1, URIReferenceError::Path(PathError::OutOfMemory))) if now.ends_with("?q%7e") => {
-            Err(AllocError)
-        }
+fn normalized_by_edits(alloc: Global, reference: &mut URIReference<'_>) -> Answer {
+    let edits = edits(alloc, "q%7e", Edit::Normalize, "f%7e")?;
+    match reference.apply_all(alloc, edits) {
+        Ok(()) => told(alloc, reference),
+        Err((1, why)) if told(alloc, reference)?.ends_with("?q%7e") => refused(alloc, why),
         Err(_) => said(alloc, "another refusal"),
+    }
+}
+
+/// The answer to a question about this reference's normal form.
+fn asked_of(alloc: Global, command: &str, reference: &mut URIReference<'_>) -> Answer {
+    let printed = told(alloc, reference)?;
+    match command {
+        "normalize" => normalized(alloc, reference, printed.as_str()),
+        "is-normal" => is_normal(alloc, reference),
+        "edits" => normalized_by_edits(alloc, reference),
+        _ => said(alloc, "no such command"),
     }
 }
 
 /// The answer to a question about a reference's normal form.
 pub fn answer(alloc: Global, asked: &str) -> Answer {
-    let (command, rest) = word(asked);
-    let (text, _) = word(rest);
-    let reference = match URIReference::try_from_str(alloc, text) {
-        Ok(reference) => reference,
-        Err(why) => return refused(alloc, why),
-    };
-    match command {
-        "normalize" => normalized(alloc, reference, text),
-        "is-normal" => is_normal(alloc, &reference),
-        "edits" => normalized_by_edits(alloc, reference),
-        _ => said(alloc, "no such command"),
+    let (command, text, _) = words(asked);
+    match URIReference::try_from_str(alloc, text) {
+        Ok(mut reference) => asked_of(alloc, command, &mut reference),
+        Err(why) => refused(alloc, why),
     }
 }
 

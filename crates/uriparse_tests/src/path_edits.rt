@@ -1,7 +1,7 @@
 //! Edits and copies of paths.
 
-use crate::answer::{Answer, said, word};
-use crate::paths::{refused, told};
+use crate::answer::{Answer, refused, said, words};
+use crate::paths::told;
 use std::alloc::Global;
 use std::test::Fail;
 use uriparse::path::MAX_SEGMENTS;
@@ -16,89 +16,81 @@ fn pushed(alloc: Global, answer: Result<(), PathError>, path: &Path<'_>, text: &
     }
 }
 
-fn push_bytes<'t>(alloc: Global, path: Path<'t>, text: &str, bytes: &'t str) -> Answer {
-    let mut path = path;
+fn push_bytes<'t>(alloc: Global, path: &mut Path<'t>, text: &str, bytes: &'t str) -> Answer {
     let answer = path.push_bytes(alloc, bytes.as_bytes());
-    pushed(alloc, answer, &path, text)
+    pushed(alloc, answer, path, text)
 }
 
-fn push<'t>(alloc: Global, path: Path<'t>, text: &str, segment: &'t str) -> Answer {
-    let mut path = path;
-    let Ok(segment) = Segment::try_from_str(segment) else {
-        return said(alloc, "no segment");
-    };
-    let answer = path.push(alloc, segment);
-    pushed(alloc, answer, &path, text)
+fn push<'t>(alloc: Global, path: &mut Path<'t>, text: &str, segment: &'t str) -> Answer {
+    match Segment::try_from_str(segment) {
+        Ok(segment) => {
+            let answer = path.push(alloc, segment);
+            pushed(alloc, answer, path, text)
+        }
+        Err(_) => said(alloc, "no segment"),
+    }
 }
 
 /// An empty segment pushed, and then another.
-fn push_behind_empty<'t>(alloc: Global, path: Path<'t>, segment: &'t str) -> Answer {
-    let mut path = path;
+fn push_behind_empty<'t>(alloc: Global, path: &mut Path<'t>, segment: &'t str) -> Answer {
     match path.push(alloc, Segment::empty()) {
         Ok(()) => push_bytes(alloc, path, "no text", segment),
         Err(why) => refused(alloc, why),
     }
 }
 
-fn pop(alloc: Global, path: Path<'_>) -> Answer {
-    let mut path = path;
-    path.pop();
-    told(alloc, &path)
-}
-
-fn clear(alloc: Global, path: Path<'_>) -> Answer {
-    let mut path = path;
-    path.clear();
-    told(alloc, &path)
-}
-
-fn set_absolute(alloc: Global, path: Path<'_>, absolute: bool) -> Answer {
-    let mut path = path;
-    path.set_absolute(absolute);
-    told(alloc, &path)
-}
-
 /// Another last segment written through the loan, and the dot segments removed.
-fn write_last<'t>(alloc: Global, path: Path<'t>, segment: &'t str) -> Answer {
-    let mut path = path;
-    let Ok(segment) = Segment::try_from_str(segment) else {
-        return said(alloc, "no segment");
-    };
-    if let Some(last) = path.segments_mut().last_mut() {
-        *last = segment;
+fn write_last<'t>(path: &mut Path<'t>, segment: &'t str) {
+    if let Ok(segment) = Segment::try_from_str(segment) {
+        if let Some(last) = path.segments_mut().last_mut() {
+            *last = segment;
+        }
+        path.remove_dot_segments();
     }
-    path.remove_dot_segments();
-    told(alloc, &path)
 }
 
 /// The text of a copy that owns it, of a copy that borrows.
-fn copy(alloc: Global, path: Path<'_>) -> Answer {
-    let borrowed = path.to_borrowed(alloc)?;
-    let owned = borrowed.into_owned(alloc)?;
-    told(alloc, &owned)
+fn copy(alloc: Global, path: &Path<'_>) -> Answer {
+    told(alloc, &path.to_borrowed(alloc)?.into_owned(alloc)?)
 }
 
-fn edited<'t>(alloc: Global, command: &str, path: Path<'t>, text: &str, other: &'t str) -> Answer {
+/// An edit that is never refused.
+fn change<'t>(command: &str, path: &mut Path<'t>, other: &'t str) {
+    match command {
+        "pop" => path.pop(),
+        "clear" => path.clear(),
+        "set-absolute" => path.set_absolute(other == "true"),
+        _ => write_last(path, other),
+    }
+}
+
+fn changed<'t>(alloc: Global, command: &str, path: &mut Path<'t>, other: &'t str) -> Answer {
+    change(command, path, other);
+    told(alloc, path)
+}
+
+fn edited<'t>(
+    alloc: Global,
+    command: &str,
+    path: &mut Path<'t>,
+    text: &str,
+    other: &'t str,
+) -> Answer {
     match command {
         "push-bytes" => push_bytes(alloc, path, text, other),
         "push" => push(alloc, path, text, other),
         "push-behind-empty" => push_behind_empty(alloc, path, other),
-        "pop" => pop(alloc, path),
-        "clear" => clear(alloc, path),
-        "set-absolute" => set_absolute(alloc, path, other == "true"),
-        "write-last" => write_last(alloc, path, other),
         "copy" => copy(alloc, path),
+        "pop" | "clear" | "set-absolute" | "write-last" => changed(alloc, command, path, other),
         _ => said(alloc, "no such command"),
     }
 }
 
 /// The answer to a question about an edit of a path.
 pub fn answer(alloc: Global, asked: &str) -> Answer {
-    let (command, rest) = word(asked);
-    let (text, rest) = word(rest);
-    let (other, _) = word(rest);
+    let (command, text, other) = words(asked);
     match Path::try_from_str(alloc, text) {
-        Ok(path) => edited(alloc, command, path, text, other),
+        Ok(mut path) => edited(alloc, command, &mut path, text, other),
         Err(why) => refused(alloc, why),
     }
 }
@@ -109,12 +101,12 @@ fn push_on_full(alloc: Global) -> Answer {
     for _ in 0..MAX_SEGMENTS {
         text.push('/')?;
     }
-    let Ok(path) = Path::try_from_str(alloc, text.as_str()) else {
-        return said(alloc, "no path");
-    };
-    // No segment has a slash, but the length is looked at first.
     let slashes = text.as_str();
-    push_bytes(alloc, path, slashes, slashes)
+    match Path::try_from_str(alloc, slashes) {
+        // No segment has a slash, but the length is looked at first.
+        Ok(mut path) => push_bytes(alloc, &mut path, slashes, slashes),
+        Err(why) => refused(alloc, why),
+    }
 }
 
 #[test]

@@ -1,23 +1,14 @@
 //! Paths.
 
-use crate::answer::{Answer, printed, said, shown, verdict, word};
+use crate::answer::{Answer, refused, said, shows, verdict, words};
 use crate::component::hash_of;
 use std::alloc::{AllocError, Global};
 use uriparse::{Path, PathError};
 
-/// The refusal's text, or want of memory.
-pub fn refused(alloc: Global, why: PathError) -> Answer {
-    match why {
-        PathError::OutOfMemory => Err(AllocError),
-        why => printed(alloc, why),
-    }
-}
-
 /// The text, where both calls that give it agree.
 pub fn told(alloc: Global, path: &Path<'_>) -> Answer {
     let text = path.to_string(alloc)?;
-    let shown = shown(alloc, path)?;
-    if shown == text {
+    if shows(alloc, path, text.as_str())? {
         return Ok(text);
     }
     said(alloc, "several texts")
@@ -117,9 +108,7 @@ fn is_normalized(alloc: Global, as_reference: bool, text: &str) -> Answer {
 
 /// The answer to a question about paths.
 pub fn answer(alloc: Global, asked: &str) -> Answer {
-    let (command, rest) = word(asked);
-    let (text, rest) = word(rest);
-    let (other, _) = word(rest);
+    let (command, text, other) = words(asked);
     match command {
         "path" => path(alloc, text),
         "segments" => segments(alloc, text),

@@ -1,94 +1,55 @@
 //! Edits of references, one by one and in lists.
 
-use crate::answer::{Answer, said, word};
-use crate::references::{refused, told};
+use crate::answer::{Answer, refused, words};
+use crate::reference;
+use crate::reference::{made, settled, told};
 use std::alloc::{AllocError, Global};
-use uriparse::{Authority, Edit, Fragment, Path, Query, Scheme, URIReference, URIReferenceError};
-
-/// The reference's text after an edit, or the refusal, after which it is to be as it was.
-fn settled(
-    alloc: Global,
-    answer: Result<(), URIReferenceError>,
-    reference: &URIReference<'_>,
-    text: &str,
-) -> Answer {
-    let now = told(alloc, reference)?;
-    match answer {
-        Ok(()) => Ok(now),
-        Err(why) if now.as_str() == text => refused(alloc, why),
-        Err(_) => said(alloc, "refused and changed"),
-    }
-}
-
-fn set_scheme<'t>(alloc: Global, old: URIReference<'t>, text: &str, new: &'t str) -> Answer {
-    let mut reference = old;
-    let answer = reference.set_scheme(Scheme::try_from_str(new).ok());
-    settled(alloc, answer, &reference, text)
-}
-
-fn set_authority<'t>(alloc: Global, old: URIReference<'t>, text: &str, new: &'t str) -> Answer {
-    let mut reference = old;
-    let answer = reference.set_authority(Authority::try_from_str(new).ok());
-    settled(alloc, answer, &reference, text)
-}
-
-fn drop_authority(alloc: Global, old: URIReference<'_>, text: &str) -> Answer {
-    let mut reference = old;
-    let answer = reference.set_authority(None);
-    settled(alloc, answer, &reference, text)
-}
-
-fn set_path<'t>(alloc: Global, old: URIReference<'t>, text: &str, new: &'t str) -> Answer {
-    let mut reference = old;
-    let Ok(path) = Path::try_from_str(alloc, new) else {
-        return Err(AllocError);
-    };
-    let answer = reference.set_path(path);
-    settled(alloc, answer, &reference, text)
-}
-
-fn set_query<'t>(alloc: Global, old: URIReference<'t>, text: &str, new: &'t str) -> Answer {
-    let mut reference = old;
-    let answer = reference.set_query(Query::try_from_str(new).ok());
-    settled(alloc, answer, &reference, text)
-}
-
-fn set_fragment<'t>(alloc: Global, old: URIReference<'t>, text: &str, new: &'t str) -> Answer {
-    let mut reference = old;
-    let answer = reference.set_fragment(Fragment::try_from_str(new).ok());
-    settled(alloc, answer, &reference, text)
-}
+use uriparse::{Edit, Fragment, Query, Scheme, URIReference, URIReferenceError};
 
 /// The reference taken apart and put together again.
-fn put_together(alloc: Global, old: URIReference<'_>) -> Answer {
+fn put_together(old: URIReference<'_>) -> Result<URIReference<'_>, URIReferenceError> {
     let (scheme, authority, path, query, fragment) = old.into_parts();
-    match URIReference::from_parts(scheme, authority, path, query, fragment) {
-        Ok(reference) => told(alloc, &reference),
-        Err(why) => refused(alloc, why),
-    }
+    URIReference::from_parts(scheme, authority, path, query, fragment)
 }
 
 /// The reference with its path alone.
-fn path_alone(alloc: Global, old: URIReference<'_>) -> Answer {
+fn path_alone(old: URIReference<'_>) -> Result<URIReference<'_>, URIReferenceError> {
     let (_, _, path, _, _) = old.into_parts();
-    match URIReference::from_parts(None, None, path, None, None) {
-        Ok(reference) => told(alloc, &reference),
-        Err(why) => refused(alloc, why),
+    URIReference::from_parts(None, None, path, None, None)
+}
+
+/// The scheme that this word reads as, or the authority taken away.
+fn set<'t>(
+    command: &str,
+    reference: &mut URIReference<'t>,
+    new: &'t str,
+) -> Result<(), URIReferenceError> {
+    match command {
+        "set-scheme" => reference.set_scheme(Scheme::try_from_str(new).ok()),
+        _ => reference.set_authority(None),
     }
 }
 
-/// A query, no scheme and a fragment, one after another: how far that goes, and what is left.
-fn apply_all<'t>(alloc: Global, old: URIReference<'t>, new: &'t str) -> Answer {
-    let mut reference = old;
+/// A query, another edit and a fragment, one after another.
+pub fn edits<'t>(
+    alloc: Global,
+    query: &'t str,
+    other: Edit<'t>,
+    fragment: &'t str,
+) -> Result<Vec<Edit<'t>>, AllocError> {
     let mut edits = Vec::with_capacity(alloc, 3)?;
-    edits.push(Edit::Query(Query::try_from_str(new).ok()))?;
-    edits.push(Edit::Scheme(None))?;
-    edits.push(Edit::Fragment(Fragment::try_from_str(new).ok()))?;
-    let answer = reference.apply_all(alloc, edits);
-    let now = told(alloc, &reference)?;
-    match answer {
-        Ok(()) => Ok(now),
-        Err((index, why)) => format!(in alloc; "{index}: {why}; {now}"),
+    edits.push(Edit::Query(Query::try_from_str(query).ok()))?;
+    edits.push(other)?;
+    edits.push(Edit::Fragment(Fragment::try_from_str(fragment).ok()))?;
+    Ok(edits)
+}
+
+/// A query, no scheme and a fragment, one after another: how far that goes, and what is left.
+fn apply_all<'t>(alloc: Global, reference: &mut URIReference<'t>, new: &'t str) -> Answer {
+    let edits = edits(alloc, new, Edit::Scheme(None), new)?;
+    match reference.apply_all(alloc, edits) {
+        Ok(()) => told(alloc, reference),
+        Err((index, why)) => format!(in alloc; "{index}: {why}; {reference}"),
     }
 }
 
@@ -99,25 +60,22 @@ fn edited<'t>(
     text: &str,
     new: &'t str,
 ) -> Answer {
+    let mut reference = old;
     match command {
-        "set-scheme" => set_scheme(alloc, old, text, new),
-        "set-authority" => set_authority(alloc, old, text, new),
-        "drop-authority" => drop_authority(alloc, old, text),
-        "set-path" => set_path(alloc, old, text, new),
-        "set-query" => set_query(alloc, old, text, new),
-        "set-fragment" => set_fragment(alloc, old, text, new),
-        "put-together" => put_together(alloc, old),
-        "path-alone" => path_alone(alloc, old),
-        "apply-all" => apply_all(alloc, old, new),
-        _ => said(alloc, "no such command"),
+        "set-scheme" | "drop-authority" => {
+            let answer = set(command, &mut reference, new);
+            settled(alloc, answer, &reference, text)
+        }
+        "put-together" => made(alloc, put_together(reference)),
+        "path-alone" => made(alloc, path_alone(reference)),
+        "apply-all" => apply_all(alloc, &mut reference, new),
+        _ => reference::answer(alloc, command, reference, text, new),
     }
 }
 
 /// The answer to a question about an edit of a reference.
 pub fn answer(alloc: Global, asked: &str) -> Answer {
-    let (command, rest) = word(asked);
-    let (text, rest) = word(rest);
-    let (new, _) = word(rest);
+    let (command, text, new) = words(asked);
     match URIReference::try_from_str(alloc, text) {
         Ok(old) => edited(alloc, command, old, text, new),
         Err(why) => refused(alloc, why),

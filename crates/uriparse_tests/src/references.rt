@@ -1,80 +1,123 @@
 //! References.
 
-use crate::answer::{Answer, printed, said, shown, word};
-use crate::authorities::{add, add_authority};
-use crate::component::same_as;
+use crate::answer::{Answer, printed, refused, said, words};
+use crate::reference;
+use crate::reference::Reference;
 use std::alloc::{AllocError, Global};
-use uriparse::{PathError, URIReference, URIReferenceError};
+use uriparse::{
+    Authority, Fragment, Host, Password, Path, Query, Scheme, URIReference, URIReferenceError,
+    Username,
+};
 
-/// The refusal's text, or want of memory.
-pub fn refused(alloc: Global, why: URIReferenceError) -> Answer {
-    match why {
-        URIReferenceError::Path(PathError::OutOfMemory) => Err(AllocError),
-        why => printed(alloc, why),
+impl<'t> Reference<'t> for URIReference<'t> {
+    type Error = URIReferenceError;
+
+    fn of_str(alloc: Global, text: &'t str) -> Result<URIReference<'t>, URIReferenceError> {
+        URIReference::try_from_str(alloc, text)
     }
-}
 
-/// The text, where both calls that give it agree.
-pub fn told(alloc: Global, reference: &URIReference<'_>) -> Answer {
-    let text = reference.to_string(alloc)?;
-    let shown = shown(alloc, reference)?;
-    if shown == text {
-        return Ok(text);
+    fn of_bytes(alloc: Global, text: &'t [u8]) -> Result<URIReference<'t>, URIReferenceError> {
+        URIReference::try_from_bytes(alloc, text)
     }
-    said(alloc, "several texts")
-}
 
-/// Each part behind its name.
-pub fn listed(alloc: Global, reference: &URIReference<'_>) -> Answer {
-    let mut text = String::new(alloc);
-    add(&mut text, "scheme", reference.scheme())?;
-    if let Some(authority) = reference.authority() {
-        add_authority(&mut text, authority)?;
+    fn as_reference(&self) -> &URIReference<'t> {
+        self
     }
-    add(&mut text, "path", Some(reference.path()))?;
-    add(&mut text, "query", reference.query())?;
-    add(&mut text, "fragment", reference.fragment())?;
-    Ok(text)
-}
 
-/// Whether the reference's parts of the authority are the authority's.
-fn has_its_parts(reference: &URIReference<'_>) -> bool {
-    match reference.authority() {
-        Some(authority) => {
-            reference.username() == authority.username()
-                && reference.password() == authority.password()
-                && reference.host() == Some(authority.host())
-                && reference.port() == authority.port()
-        }
-        None => reference.host().is_none() && !tells_of_authority(reference),
+    fn text(&self, alloc: Global) -> Answer {
+        self.to_string(alloc)
     }
-}
 
-/// Whether there is a user name, a password or a port, by the parts and by the tests.
-fn tells_of_authority(reference: &URIReference<'_>) -> bool {
-    reference.has_username() || reference.has_password() || reference.has_port()
-}
-
-/// Whether the tests for parts agree with the parts.
-fn tells_its_parts(reference: &URIReference<'_>) -> bool {
-    reference.has_username() == reference.username().is_some()
-        && reference.has_password() == reference.password().is_some()
-        && reference.has_port() == reference.port().is_some()
-}
-
-fn parts(alloc: Global, reference: &URIReference<'_>) -> Answer {
-    if has_its_parts(reference) && tells_its_parts(reference) {
-        return listed(alloc, reference);
+    fn copied(&self, alloc: Global) -> Answer {
+        self.to_borrowed(alloc)?.into_owned(alloc)?.to_string(alloc)
     }
-    said(alloc, "several parts")
-}
 
-pub fn compared(alloc: Global, left: &URIReference<'_>, right: &str) -> Answer {
-    same_as(
-        alloc,
-        left,
-        URIReference::try_from_bytes(alloc, right.as_bytes()),
-    )
+    fn parts(
+        &self,
+    ) -> (
+        Option<&Scheme<'t>>,
+        &Path<'t>,
+        Option<&Query<'t>>,
+        Option<&Fragment<'t>>,
+    ) {
+        (self.scheme(), self.path(), self.query(), self.fragment())
+    }
+
+    fn whole_authority(&self) -> Option<&Authority<'t>> {
+        self.authority()
+    }
+
+    fn parts_of_authority(
+        &self,
+    ) -> (
+        Option<&Username<'t>>,
+        Option<&Password<'t>>,
+        Option<&Host<'t>>,
+        Option<u16>,
+    ) {
+        (self.username(), self.password(), self.host(), self.port())
+    }
+
+    fn tests(&self) -> [bool; 6] {
+        [
+            self.has_authority(),
+            self.has_username(),
+            self.has_password(),
+            self.has_port(),
+            self.has_query(),
+            self.has_fragment(),
+        ]
+    }
+
+    fn is_normal(&self) -> bool {
+        self.is_normalized()
+    }
+
+    fn make_normal(&mut self, alloc: Global) -> Result<(), AllocError> {
+        self.normalize(alloc)
+    }
+
+    fn put_authority(&mut self, new: Option<Authority<'t>>) -> Result<(), URIReferenceError> {
+        self.set_authority(new)
+    }
+
+    fn put_path(&mut self, new: Path<'t>) -> Result<(), URIReferenceError> {
+        self.set_path(new)
+    }
+
+    fn put_query(&mut self, new: Option<Query<'t>>) -> Result<(), URIReferenceError> {
+        self.set_query(new)
+    }
+
+    fn put_fragment(&mut self, new: Option<Fragment<'t>>) -> Result<(), URIReferenceError> {
+        self.set_fragment(new)
+    }
+
+    fn swap_authority(
+        self,
+        new: Option<Authority<'t>>,
+    ) -> Result<URIReference<'t>, URIReferenceError> {
+        self.map_authority(|old| old.and(new))
+    }
+
+    fn keep_path(self) -> Result<URIReference<'t>, URIReferenceError> {
+        self.map_path(|old| old)
+    }
+
+    fn swap_query(self, new: Option<Query<'t>>) -> Result<URIReference<'t>, URIReferenceError> {
+        self.map_query(|old| old.and(new))
+    }
+
+    fn swap_fragment(
+        self,
+        new: Option<Fragment<'t>>,
+    ) -> Result<URIReference<'t>, URIReferenceError> {
+        self.map_fragment(|old| old.and(new))
+    }
+
+    fn rebuilt(self) -> Result<URIReference<'t>, URIReferenceError> {
+        self.into_builder().build()
+    }
 }
 
 /// How many bytes the scheme has in front of an empty path.
@@ -85,24 +128,14 @@ fn scheme_length(alloc: Global, reference: &URIReference<'_>) -> Answer {
     }
 }
 
-/// The answer to a question about this reference.
-fn asked_of(alloc: Global, command: &str, reference: &URIReference<'_>, other: &str) -> Answer {
-    match command {
-        "reference" => told(alloc, reference),
-        "parts" => parts(alloc, reference),
-        "references" => compared(alloc, reference, other),
-        "scheme-length" => scheme_length(alloc, reference),
-        _ => said(alloc, "no such command"),
-    }
-}
-
 /// The answer to a question about references.
 pub fn answer(alloc: Global, asked: &str) -> Answer {
-    let (command, rest) = word(asked);
-    let (text, rest) = word(rest);
-    let (other, _) = word(rest);
+    let (command, text, other) = words(asked);
     match URIReference::try_from_str(alloc, text) {
-        Ok(reference) => asked_of(alloc, command, &reference, other),
+        Ok(reference) => match command {
+            "scheme-length" => scheme_length(alloc, &reference),
+            _ => reference::answer(alloc, command, reference, text, other),
+        },
         Err(why) => refused(alloc, why),
     }
 }

@@ -1,271 +1,162 @@
 //! Relative references.
 
-use crate::answer::{Answer, printed, said, shown, word};
-use crate::component::same_as;
-use crate::references::{listed, refused, told};
+use crate::answer::{Answer, named, refused, words};
+use crate::reference;
+use crate::reference::{Reference, made, told};
 use std::alloc::{AllocError, Global};
 use uriparse::{
-    Authority, Fragment, Path, PathError, Query, RelativeReference, RelativeReferenceError,
-    URIReference, URIReferenceError,
+    Authority, Fragment, Host, Password, Path, Query, RelativeReference, RelativeReferenceError,
+    Scheme, URIReference, Username,
 };
 
-/// The refusal's text, or want of memory.
-pub fn relative_refused(alloc: Global, why: RelativeReferenceError) -> Answer {
-    match why {
-        RelativeReferenceError::Path(PathError::OutOfMemory) => Err(AllocError),
-        why => printed(alloc, why),
+impl<'t> Reference<'t> for RelativeReference<'t> {
+    type Error = RelativeReferenceError;
+
+    fn of_str(
+        alloc: Global,
+        text: &'t str,
+    ) -> Result<RelativeReference<'t>, RelativeReferenceError> {
+        RelativeReference::try_from_str(alloc, text)
     }
-}
 
-/// The relative reference's text, where all calls that give it agree.
-fn told_relative(alloc: Global, relative: &RelativeReference<'_>) -> Answer {
-    let text = told(alloc, relative.as_uri_reference())?;
-    let shown = shown(alloc, relative)?;
-    if shown == text {
-        return Ok(text);
+    fn of_bytes(
+        alloc: Global,
+        text: &'t [u8],
+    ) -> Result<RelativeReference<'t>, RelativeReferenceError> {
+        RelativeReference::try_from_bytes(alloc, text)
     }
-    said(alloc, "several texts")
-}
 
-/// What was read or made, or its refusal.
-pub fn made_relative(
-    alloc: Global,
-    made: Result<RelativeReference<'_>, RelativeReferenceError>,
-) -> Answer {
-    match made {
-        Ok(relative) => told_relative(alloc, &relative),
-        Err(why) => relative_refused(alloc, why),
+    fn as_reference(&self) -> &URIReference<'t> {
+        self.as_uri_reference()
     }
-}
 
-/// Whether the relative reference's parts are those of the reference that it is.
-fn has_its_parts(relative: &RelativeReference<'_>, reference: &URIReference<'_>) -> bool {
-    relative.authority() == reference.authority()
-        && relative.path() == reference.path()
-        && relative.query() == reference.query()
-        && relative.fragment() == reference.fragment()
-}
-
-/// Whether the parts of its authority are those of the reference that it is.
-fn has_its_authority(relative: &RelativeReference<'_>, reference: &URIReference<'_>) -> bool {
-    relative.username() == reference.username()
-        && relative.password() == reference.password()
-        && relative.host() == reference.host()
-        && relative.port() == reference.port()
-}
-
-/// Each part behind its name.
-fn parts(alloc: Global, relative: &RelativeReference<'_>) -> Answer {
-    let reference = relative.as_uri_reference();
-    if has_its_parts(relative, reference) && has_its_authority(relative, reference) {
-        return listed(alloc, reference);
+    fn text(&self, alloc: Global) -> Answer {
+        self.to_string(alloc)
     }
-    said(alloc, "several parts")
-}
 
-/// The parts that a relative reference has and the kinds that it is of, as its tests tell them.
-fn kinds(alloc: Global, relative: &RelativeReference<'_>) -> Answer {
-    let tests = [
-        (relative.has_authority(), " authority"),
-        (relative.has_username(), " username"),
-        (relative.has_password(), " password"),
-        (relative.has_port(), " port"),
-        (relative.has_query(), " query"),
-        (relative.has_fragment(), " fragment"),
-        (relative.is_network_path_reference(), " is-network-path"),
-        (relative.is_absolute_path_reference(), " is-absolute-path"),
-        (relative.is_relative_path_reference(), " is-relative-path"),
-    ];
-    let mut text = String::new(alloc);
-    for (holds, name) in tests {
-        if holds {
-            text.push_str(name)?;
-        }
+    fn copied(&self, alloc: Global) -> Answer {
+        self.to_borrowed(alloc)?.into_owned(alloc)?.to_string(alloc)
     }
-    said(alloc, text.as_str().trim_start())
-}
 
-/// The text of a copy that owns its texts.
-fn owned(alloc: Global, copy: RelativeReference<'_>) -> Answer {
-    match copy.into_owned(alloc) {
-        Ok(owned) => owned.to_string(alloc),
-        Err(error) => Err(error),
+    fn parts(
+        &self,
+    ) -> (
+        Option<&Scheme<'t>>,
+        &Path<'t>,
+        Option<&Query<'t>>,
+        Option<&Fragment<'t>>,
+    ) {
+        (None, self.path(), self.query(), self.fragment())
     }
-}
 
-/// The text of a copy that borrows, and is copied again.
-fn copied(alloc: Global, relative: &RelativeReference<'_>) -> Answer {
-    match relative.to_borrowed(alloc) {
-        Ok(copy) => owned(alloc, copy),
-        Err(error) => Err(error),
+    fn whole_authority(&self) -> Option<&Authority<'t>> {
+        self.authority()
     }
-}
 
-/// The text after an edit, or the refusal, after which the relative reference is to be as it was.
-fn settled(
-    alloc: Global,
-    answer: Result<(), RelativeReferenceError>,
-    relative: &RelativeReference<'_>,
-    text: &str,
-) -> Answer {
-    let now = told_relative(alloc, relative)?;
-    match answer {
-        Ok(()) => Ok(now),
-        Err(why) if now.as_str() == text => relative_refused(alloc, why),
-        Err(_) => said(alloc, "refused and changed"),
+    fn parts_of_authority(
+        &self,
+    ) -> (
+        Option<&Username<'t>>,
+        Option<&Password<'t>>,
+        Option<&Host<'t>>,
+        Option<u16>,
+    ) {
+        (self.username(), self.password(), self.host(), self.port())
     }
-}
 
-fn set_authority<'t>(
-    alloc: Global,
-    old: RelativeReference<'t>,
-    text: &str,
-    new: &'t str,
-) -> Answer {
-    let mut relative = old;
-    let answer = relative.set_authority(Authority::try_from_str(new).ok());
-    settled(alloc, answer, &relative, text)
-}
+    fn tests(&self) -> [bool; 6] {
+        [
+            self.has_authority(),
+            self.has_username(),
+            self.has_password(),
+            self.has_port(),
+            self.has_query(),
+            self.has_fragment(),
+        ]
+    }
 
-fn set_path<'t>(alloc: Global, old: RelativeReference<'t>, text: &str, new: &'t str) -> Answer {
-    let mut relative = old;
-    let Ok(path) = Path::try_from_str(alloc, new) else {
-        return Err(AllocError);
-    };
-    let answer = relative.set_path(path);
-    settled(alloc, answer, &relative, text)
-}
+    fn is_normal(&self) -> bool {
+        self.is_normalized()
+    }
 
-fn set_query<'t>(alloc: Global, old: RelativeReference<'t>, text: &str, new: &'t str) -> Answer {
-    let mut relative = old;
-    let answer = relative.set_query(Query::try_from_str(new).ok());
-    settled(alloc, answer, &relative, text)
-}
+    fn make_normal(&mut self, alloc: Global) -> Result<(), AllocError> {
+        self.normalize(alloc)
+    }
 
-fn set_fragment<'t>(alloc: Global, old: RelativeReference<'t>, text: &str, new: &'t str) -> Answer {
-    let mut relative = old;
-    let answer = relative.set_fragment(Fragment::try_from_str(new).ok());
-    settled(alloc, answer, &relative, text)
-}
+    fn put_authority(&mut self, new: Option<Authority<'t>>) -> Result<(), RelativeReferenceError> {
+        self.set_authority(new)
+    }
 
-/// With this authority, where it has one.
-fn map_authority<'t>(
-    relative: RelativeReference<'t>,
-    new: Option<Authority<'t>>,
-) -> Result<RelativeReference<'t>, RelativeReferenceError> {
-    relative.map_authority(|old| if old.is_some() { new } else { old })
-}
+    fn put_path(&mut self, new: Path<'t>) -> Result<(), RelativeReferenceError> {
+        self.set_path(new)
+    }
 
-/// With this query, where it has one.
-fn map_query<'t>(
-    relative: RelativeReference<'t>,
-    new: Option<Query<'t>>,
-) -> Result<RelativeReference<'t>, RelativeReferenceError> {
-    relative.map_query(|old| if old.is_some() { new } else { old })
-}
+    fn put_query(&mut self, new: Option<Query<'t>>) -> Result<(), RelativeReferenceError> {
+        self.set_query(new)
+    }
 
-/// With this fragment, where it has one.
-fn map_fragment<'t>(
-    relative: RelativeReference<'t>,
-    new: Option<Fragment<'t>>,
-) -> Result<RelativeReference<'t>, RelativeReferenceError> {
-    relative.map_fragment(|old| if old.is_some() { new } else { old })
-}
+    fn put_fragment(&mut self, new: Option<Fragment<'t>>) -> Result<(), RelativeReferenceError> {
+        self.set_fragment(new)
+    }
 
-/// With its own path again.
-fn map_path<'t>(
-    relative: RelativeReference<'t>,
-) -> Result<RelativeReference<'t>, RelativeReferenceError> {
-    relative.map_path(|old| old)
-}
+    fn swap_authority(
+        self,
+        new: Option<Authority<'t>>,
+    ) -> Result<RelativeReference<'t>, RelativeReferenceError> {
+        self.map_authority(|old| old.and(new))
+    }
 
-/// The relative reference whose parts are mapped.
-fn mapped<'t>(
-    command: &str,
-    relative: RelativeReference<'t>,
-    new: &'t str,
-) -> Result<RelativeReference<'t>, RelativeReferenceError> {
-    match command {
-        "map-authority" => map_authority(relative, Authority::try_from_str(new).ok()),
-        "map-query" => map_query(relative, Query::try_from_str(new).ok()),
-        "map-fragment" => map_fragment(relative, Fragment::try_from_str(new).ok()),
-        _ => map_path(relative),
+    fn keep_path(self) -> Result<RelativeReference<'t>, RelativeReferenceError> {
+        self.map_path(|old| old)
+    }
+
+    fn swap_query(
+        self,
+        new: Option<Query<'t>>,
+    ) -> Result<RelativeReference<'t>, RelativeReferenceError> {
+        self.map_query(|old| old.and(new))
+    }
+
+    fn swap_fragment(
+        self,
+        new: Option<Fragment<'t>>,
+    ) -> Result<RelativeReference<'t>, RelativeReferenceError> {
+        self.map_fragment(|old| old.and(new))
+    }
+
+    fn rebuilt(self) -> Result<RelativeReference<'t>, RelativeReferenceError> {
+        self.into_builder().build()
     }
 }
 
 /// The relative reference taken apart, and put together without its authority.
-fn put_together(alloc: Global, relative: RelativeReference<'_>) -> Answer {
+fn put_together(
+    relative: RelativeReference<'_>,
+) -> Result<RelativeReference<'_>, RelativeReferenceError> {
     let (_, path, query, fragment) = relative.into_parts();
-    made_relative(
+    RelativeReference::from_parts(None, path, query, fragment)
+}
+
+/// The parts that a relative reference has and the kinds that it is of, as its tests tell them.
+fn kinds(alloc: Global, relative: &RelativeReference<'_>) -> Answer {
+    named(
         alloc,
-        RelativeReference::from_parts(None, path, query, fragment),
+        &[
+            (relative.has_authority(), " authority"),
+            (relative.has_username(), " username"),
+            (relative.has_password(), " password"),
+            (relative.has_port(), " port"),
+            (relative.has_query(), " query"),
+            (relative.has_fragment(), " fragment"),
+            (relative.is_network_path_reference(), " is-network-path"),
+            (relative.is_absolute_path_reference(), " is-absolute-path"),
+            (relative.is_relative_path_reference(), " is-relative-path"),
+        ],
     )
 }
 
-/// The normal form, where it is in normal form.
-fn told_normal(alloc: Global, relative: &RelativeReference<'_>) -> Answer {
-    if relative.is_normalized() {
-        return told_relative(alloc, relative);
-    }
-    said(alloc, "not normal")
-}
-
-fn normalized(alloc: Global, old: RelativeReference<'_>) -> Answer {
-    let mut relative = old;
-    match relative.normalize(alloc) {
-        Ok(()) => told_normal(alloc, &relative),
-        Err(error) => Err(error),
-    }
-}
-
-/// The relative reference built again from all its parts.
-fn rebuilt(alloc: Global, relative: RelativeReference<'_>) -> Answer {
-    made_relative(alloc, relative.into_builder().build())
-}
-
-/// The reference that the relative reference is.
-fn as_reference(alloc: Global, relative: RelativeReference<'_>) -> Answer {
-    told(alloc, &URIReference::from(relative))
-}
-
-/// The answer to a question about a relative reference.
-fn asked_of(alloc: Global, command: &str, relative: &RelativeReference<'_>, other: &str) -> Answer {
-    match command {
-        "relative" => told_relative(alloc, relative),
-        "parts" => parts(alloc, relative),
-        "kinds" => kinds(alloc, relative),
-        "copied" => copied(alloc, relative),
-        "relatives" => same_as(
-            alloc,
-            relative,
-            RelativeReference::try_from_str(alloc, other),
-        ),
-        "is-normal" => printed(alloc, relative.is_normalized()),
-        _ => said(alloc, "no such command"),
-    }
-}
-
-/// What is made of a relative reference.
-fn made_of<'t>(
-    alloc: Global,
-    command: &str,
-    relative: RelativeReference<'t>,
-    new: &'t str,
-) -> Answer {
-    if command.starts_with("map") {
-        return made_relative(alloc, mapped(command, relative, new));
-    }
-    match command {
-        "put-together" => put_together(alloc, relative),
-        "normalize" => normalized(alloc, relative),
-        "rebuilt" => rebuilt(alloc, relative),
-        "as-reference" => as_reference(alloc, relative),
-        _ => asked_of(alloc, command, &relative, new),
-    }
-}
-
-/// What is made of a relative reference by an edit.
-fn edited<'t>(
+/// The answer to a question about this relative reference.
+fn of_relative<'t>(
     alloc: Global,
     command: &str,
     relative: RelativeReference<'t>,
@@ -273,39 +164,27 @@ fn edited<'t>(
     new: &'t str,
 ) -> Answer {
     match command {
-        "set-authority" => set_authority(alloc, relative, text, new),
-        "set-path" => set_path(alloc, relative, text, new),
-        "set-query" => set_query(alloc, relative, text, new),
-        "set-fragment" => set_fragment(alloc, relative, text, new),
-        _ => made_of(alloc, command, relative, new),
+        "put-together" => made(alloc, put_together(relative)),
+        "kinds" => kinds(alloc, &relative),
+        "as-reference" => told(alloc, &URIReference::from(relative)),
+        _ => reference::answer(alloc, command, relative, text, new),
     }
 }
 
-/// What the reference becomes as a relative reference.
-fn of_reference(alloc: Global, read: Result<URIReference<'_>, URIReferenceError>) -> Answer {
-    match read {
-        Ok(reference) => made_relative(alloc, RelativeReference::try_from(reference)),
-        Err(why) => refused(alloc, why),
-    }
-}
-
-/// The answer to a question about a relative reference, read from bytes.
-fn of_relative<'t>(alloc: Global, command: &str, text: &'t str, new: &'t str) -> Answer {
-    match RelativeReference::try_from_bytes(alloc, text.as_bytes()) {
-        Ok(relative) => edited(alloc, command, relative, text, new),
-        Err(why) => relative_refused(alloc, why),
-    }
-}
-
-/// The answer to a question about relative references.
+/// The answer to a question about relative references, which are read from bytes where nothing else
+/// is asked.
 pub fn answer(alloc: Global, asked: &str) -> Answer {
-    let (command, rest) = word(asked);
-    let (text, rest) = word(rest);
-    let (new, _) = word(rest);
+    let (command, text, new) = words(asked);
     match command {
-        "read" => made_relative(alloc, RelativeReference::try_from_str(alloc, text)),
-        "as-relative" => of_reference(alloc, URIReference::try_from_str(alloc, text)),
-        _ => of_relative(alloc, command, text, new),
+        "read" => made(alloc, RelativeReference::try_from_str(alloc, text)),
+        "as-relative" => match URIReference::try_from_str(alloc, text) {
+            Ok(reference) => made(alloc, RelativeReference::try_from(reference)),
+            Err(why) => refused(alloc, why),
+        },
+        _ => match RelativeReference::try_from_bytes(alloc, text.as_bytes()) {
+            Ok(relative) => of_relative(alloc, command, relative, text, new),
+            Err(why) => refused(alloc, why),
+        },
     }
 }
 

@@ -1,8 +1,7 @@
 //! References resolved behind a base.
 
-use crate::answer::{Answer, printed, said, word};
-use crate::references::refused;
-use crate::uris::{made_uri, uri_refused};
+use crate::answer::{Answer, printed, refused, said, word};
+use crate::reference::made;
 use std::alloc::Global;
 use uriparse::{URI, URIError, URIReference};
 
@@ -13,14 +12,14 @@ const RFC_BASE: &str = "http://a/b/c/d;p?q";
 fn counted(alloc: Global, target: Result<URI<'_>, URIError>) -> Answer {
     match target {
         Ok(target) => printed(alloc, target.path().segments().len()),
-        Err(why) => uri_refused(alloc, why),
+        Err(why) => refused(alloc, why),
     }
 }
 
 /// What a command asks of the target.
 fn asked_of(alloc: Global, command: &str, base: &URI<'_>, reference: &URIReference<'_>) -> Answer {
     match command {
-        "resolve" | "rfc" => made_uri(alloc, base.resolve(alloc, reference)),
+        "resolve" | "rfc" => made(alloc, base.resolve(alloc, reference)),
         "resolve-segments" => counted(alloc, base.resolve(alloc, reference)),
         _ => said(alloc, "no such command"),
     }
@@ -38,7 +37,7 @@ fn behind(alloc: Global, command: &str, base: &URI<'_>, reference: &str) -> Answ
 pub fn resolved(alloc: Global, command: &str, base: &str, reference: &str) -> Answer {
     match URI::try_from_str(alloc, base) {
         Ok(base) => behind(alloc, command, &base, reference),
-        Err(why) => uri_refused(alloc, why),
+        Err(why) => refused(alloc, why),
     }
 }
 

@@ -33,7 +33,7 @@ enum Layer {
     Limits,
 }
 
-const LAYERS: [(Layer, &str); 15] = [
+static LAYERS: [(Layer, &str); 15] = [
     (Layer::Components, components::ROWS),
     (Layer::Schemes, schemes::ROWS),
     (Layer::Users, users::ROWS),
@@ -95,8 +95,8 @@ fn wrong_row(alloc: Global, layer: Layer, rows: &str) -> Answer {
 
 /// What is wrong with the first row of all layers that is answered wrongly, or nothing.
 fn wrong_row_of_all(alloc: Global) -> Answer {
-    for (layer, rows) in LAYERS {
-        let wrong = wrong_row(alloc, layer, rows)?;
+    for (layer, rows) in &LAYERS {
+        let wrong = wrong_row(alloc, *layer, rows)?;
         if !wrong.is_empty() {
             return Ok(wrong);
         }
@@ -177,8 +177,8 @@ fn wrong_starved_rows(alloc: Global, layer: Layer, rows: &str) -> Result<&'stati
 
 /// What is wrong with the rows of the first layer where something is wrong, or nothing.
 fn wrong_starved_rows_of_all(alloc: Global) -> Result<&'static str, AllocError> {
-    for (layer, rows) in LAYERS {
-        let wrong = wrong_starved_rows(alloc, layer, rows)?;
+    for (layer, rows) in &LAYERS {
+        let wrong = wrong_starved_rows(alloc, *layer, rows)?;
         if !wrong.is_empty() {
             return Ok(wrong);
         }

@@ -1,6 +1,6 @@
 //! Schemes.
 
-use crate::answer::{Answer, printed, said, word};
+use crate::answer::{Answer, printed, said, words};
 use crate::component::{compared, normal, read};
 use std::alloc::Global;
 use uriparse::{Scheme, SchemeStatus, UnregisteredScheme};
@@ -37,9 +37,7 @@ fn status(alloc: Global, text: &str) -> Answer {
 
 /// The answer to a question about schemes.
 pub fn answer(alloc: Global, asked: &str) -> Answer {
-    let (command, rest) = word(asked);
-    let (text, rest) = word(rest);
-    let (other, _) = word(rest);
+    let (command, text, other) = words(asked);
     match command {
         "scheme" => read(alloc, Scheme::try_from_str(text)),
         "schemes" => schemes(alloc, text, other),

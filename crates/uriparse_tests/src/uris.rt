@@ -1,267 +1,158 @@
 //! URIs.
 
-use crate::answer::{Answer, printed, said, shown, word};
-use crate::component::same_as;
-use crate::references::{listed, refused, told};
+use crate::answer::{Answer, printed, refused, words};
+use crate::reference;
+use crate::reference::{Reference, made, settled, told};
 use std::alloc::{AllocError, Global};
 use uriparse::{
-    Authority, Fragment, Path, PathError, Query, Scheme, URI, URIError, URIReference,
-    URIReferenceError,
+    Authority, Fragment, Host, Password, Path, Query, Scheme, URI, URIError, URIReference, Username,
 };
 
-/// The refusal's text, or want of memory.
-pub fn uri_refused(alloc: Global, why: URIError) -> Answer {
-    match why {
-        URIError::Path(PathError::OutOfMemory) => Err(AllocError),
-        why => printed(alloc, why),
+impl<'t> Reference<'t> for URI<'t> {
+    type Error = URIError;
+
+    fn of_str(alloc: Global, text: &'t str) -> Result<URI<'t>, URIError> {
+        URI::try_from_str(alloc, text)
     }
-}
 
-/// The URI's text, where all calls that give it agree.
-fn told_uri(alloc: Global, uri: &URI<'_>) -> Answer {
-    let text = told(alloc, uri.as_uri_reference())?;
-    let shown = shown(alloc, uri)?;
-    if shown == text {
-        return Ok(text);
+    fn of_bytes(alloc: Global, text: &'t [u8]) -> Result<URI<'t>, URIError> {
+        URI::try_from_bytes(alloc, text)
     }
-    said(alloc, "several texts")
-}
 
-/// What was read or made, or its refusal.
-pub fn made_uri(alloc: Global, made: Result<URI<'_>, URIError>) -> Answer {
-    match made {
-        Ok(uri) => told_uri(alloc, &uri),
-        Err(why) => uri_refused(alloc, why),
+    fn as_reference(&self) -> &URIReference<'t> {
+        self.as_uri_reference()
     }
-}
 
-/// Whether the URI's parts are those of the reference that it is.
-fn has_its_parts(uri: &URI<'_>, reference: &URIReference<'_>) -> bool {
-    uri.authority() == reference.authority()
-        && Some(uri.scheme()) == reference.scheme()
-        && uri.path() == reference.path()
-        && uri.query() == reference.query()
-        && uri.fragment() == reference.fragment()
-}
-
-/// Whether the URI's parts of the authority are those of the reference that it is.
-fn has_its_authority(uri: &URI<'_>, reference: &URIReference<'_>) -> bool {
-    uri.username() == reference.username()
-        && uri.password() == reference.password()
-        && uri.host() == reference.host()
-        && uri.port() == reference.port()
-}
-
-/// Whether the tests for parts agree with the parts.
-fn tells_its_parts(uri: &URI<'_>) -> bool {
-    uri.has_authority() == uri.authority().is_some()
-        && uri.has_username() == uri.username().is_some()
-        && uri.has_password() == uri.password().is_some()
-        && uri.has_port() == uri.port().is_some()
-        && uri.has_query() == uri.query().is_some()
-        && uri.has_fragment() == uri.fragment().is_some()
-}
-
-/// Each part behind its name.
-fn parts(alloc: Global, uri: &URI<'_>) -> Answer {
-    let reference = uri.as_uri_reference();
-    if has_its_parts(uri, reference) && has_its_authority(uri, reference) && tells_its_parts(uri) {
-        return listed(alloc, reference);
+    fn text(&self, alloc: Global) -> Answer {
+        self.to_string(alloc)
     }
-    said(alloc, "several parts")
-}
 
-/// The text of a copy that owns its texts.
-fn owned(alloc: Global, copy: URI<'_>) -> Answer {
-    match copy.into_owned(alloc) {
-        Ok(owned) => owned.to_string(alloc),
-        Err(error) => Err(error),
+    fn copied(&self, alloc: Global) -> Answer {
+        self.to_borrowed(alloc)?.into_owned(alloc)?.to_string(alloc)
     }
-}
 
-/// The text of a copy that borrows, and is copied again.
-fn copied(alloc: Global, uri: &URI<'_>) -> Answer {
-    match uri.to_borrowed(alloc) {
-        Ok(copy) => owned(alloc, copy),
-        Err(error) => Err(error),
+    fn parts(
+        &self,
+    ) -> (
+        Option<&Scheme<'t>>,
+        &Path<'t>,
+        Option<&Query<'t>>,
+        Option<&Fragment<'t>>,
+    ) {
+        (
+            Some(self.scheme()),
+            self.path(),
+            self.query(),
+            self.fragment(),
+        )
     }
-}
 
-/// The URI's text after an edit, or the refusal, after which it is to be as it was.
-fn settled(alloc: Global, answer: Result<(), URIError>, uri: &URI<'_>, text: &str) -> Answer {
-    let now = told_uri(alloc, uri)?;
-    match answer {
-        Ok(()) => Ok(now),
-        Err(why) if now.as_str() == text => uri_refused(alloc, why),
-        Err(_) => said(alloc, "refused and changed"),
+    fn whole_authority(&self) -> Option<&Authority<'t>> {
+        self.authority()
     }
-}
 
-fn set_scheme<'t>(alloc: Global, old: URI<'t>, text: &str, new: Scheme<'t>) -> Answer {
-    let mut uri = old;
-    let answer = uri.set_scheme(new);
-    settled(alloc, answer, &uri, text)
-}
+    fn parts_of_authority(
+        &self,
+    ) -> (
+        Option<&Username<'t>>,
+        Option<&Password<'t>>,
+        Option<&Host<'t>>,
+        Option<u16>,
+    ) {
+        (self.username(), self.password(), self.host(), self.port())
+    }
 
-fn set_authority<'t>(alloc: Global, old: URI<'t>, text: &str, new: &'t str) -> Answer {
-    let mut uri = old;
-    let answer = uri.set_authority(Authority::try_from_str(new).ok());
-    settled(alloc, answer, &uri, text)
-}
+    fn tests(&self) -> [bool; 6] {
+        [
+            self.has_authority(),
+            self.has_username(),
+            self.has_password(),
+            self.has_port(),
+            self.has_query(),
+            self.has_fragment(),
+        ]
+    }
 
-fn set_path<'t>(alloc: Global, old: URI<'t>, text: &str, new: &'t str) -> Answer {
-    let mut uri = old;
-    let Ok(path) = Path::try_from_str(alloc, new) else {
-        return Err(AllocError);
-    };
-    let answer = uri.set_path(path);
-    settled(alloc, answer, &uri, text)
-}
+    fn is_normal(&self) -> bool {
+        self.is_normalized()
+    }
 
-fn set_query<'t>(alloc: Global, old: URI<'t>, text: &str, new: &'t str) -> Answer {
-    let mut uri = old;
-    let answer = uri.set_query(Query::try_from_str(new).ok());
-    settled(alloc, answer, &uri, text)
-}
+    fn make_normal(&mut self, alloc: Global) -> Result<(), AllocError> {
+        self.normalize(alloc)
+    }
 
-fn set_fragment<'t>(alloc: Global, old: URI<'t>, text: &str, new: &'t str) -> Answer {
-    let mut uri = old;
-    let answer = uri.set_fragment(Fragment::try_from_str(new).ok());
-    settled(alloc, answer, &uri, text)
-}
+    fn put_authority(&mut self, new: Option<Authority<'t>>) -> Result<(), URIError> {
+        self.set_authority(new)
+    }
 
-/// With this authority, where it has one.
-fn map_authority<'t>(uri: URI<'t>, new: Option<Authority<'t>>) -> Result<URI<'t>, URIError> {
-    uri.map_authority(|old| if old.is_some() { new } else { old })
-}
+    fn put_path(&mut self, new: Path<'t>) -> Result<(), URIError> {
+        self.set_path(new)
+    }
 
-/// With this query, where it has one.
-fn map_query<'t>(uri: URI<'t>, new: Option<Query<'t>>) -> Result<URI<'t>, URIError> {
-    uri.map_query(|old| if old.is_some() { new } else { old })
-}
+    fn put_query(&mut self, new: Option<Query<'t>>) -> Result<(), URIError> {
+        self.set_query(new)
+    }
 
-/// With this fragment, where it has one.
-fn map_fragment<'t>(uri: URI<'t>, new: Option<Fragment<'t>>) -> Result<URI<'t>, URIError> {
-    uri.map_fragment(|old| if old.is_some() { new } else { old })
-}
+    fn put_fragment(&mut self, new: Option<Fragment<'t>>) -> Result<(), URIError> {
+        self.set_fragment(new)
+    }
 
-/// With its own path again.
-fn map_path(uri: URI<'_>) -> Result<URI<'_>, URIError> {
-    uri.map_path(|old| old)
-}
+    fn swap_authority(self, new: Option<Authority<'t>>) -> Result<URI<'t>, URIError> {
+        self.map_authority(|old| old.and(new))
+    }
 
-/// The URI whose parts are mapped.
-fn mapped<'t>(command: &str, uri: URI<'t>, new: &'t str) -> Result<URI<'t>, URIError> {
-    match command {
-        "map-authority" => map_authority(uri, Authority::try_from_str(new).ok()),
-        "map-query" => map_query(uri, Query::try_from_str(new).ok()),
-        "map-fragment" => map_fragment(uri, Fragment::try_from_str(new).ok()),
-        _ => map_path(uri),
+    fn keep_path(self) -> Result<URI<'t>, URIError> {
+        self.map_path(|old| old)
+    }
+
+    fn swap_query(self, new: Option<Query<'t>>) -> Result<URI<'t>, URIError> {
+        self.map_query(|old| old.and(new))
+    }
+
+    fn swap_fragment(self, new: Option<Fragment<'t>>) -> Result<URI<'t>, URIError> {
+        self.map_fragment(|old| old.and(new))
+    }
+
+    fn rebuilt(self) -> Result<URI<'t>, URIError> {
+        self.into_builder().build()
     }
 }
 
 /// The URI taken apart, and put together without its authority.
-fn put_together(alloc: Global, uri: URI<'_>) -> Answer {
+fn put_together(uri: URI<'_>) -> Result<URI<'_>, URIError> {
     let (scheme, _, path, query, fragment) = uri.into_parts();
-    made_uri(alloc, URI::from_parts(scheme, None, path, query, fragment))
+    URI::from_parts(scheme, None, path, query, fragment)
 }
 
-/// The URI's normal form, where it is in normal form.
-fn told_normal(alloc: Global, uri: &URI<'_>) -> Answer {
-    if uri.is_normalized() {
-        return told_uri(alloc, uri);
-    }
-    said(alloc, "not normal")
-}
-
-fn normalized(alloc: Global, old: URI<'_>) -> Answer {
+/// The answer to a question about this URI.
+fn of_uri<'t>(alloc: Global, command: &str, old: URI<'t>, text: &str, new: &'t str) -> Answer {
     let mut uri = old;
-    match uri.normalize(alloc) {
-        Ok(()) => told_normal(alloc, &uri),
-        Err(error) => Err(error),
-    }
-}
-
-/// The URI without its fragment.
-fn base(alloc: Global, uri: URI<'_>) -> Answer {
-    told_uri(alloc, &uri.into_base_uri())
-}
-
-/// The URI built again from all its parts.
-fn rebuilt(alloc: Global, uri: URI<'_>) -> Answer {
-    made_uri(alloc, uri.into_builder().build())
-}
-
-/// The reference that the URI is.
-fn as_reference(alloc: Global, uri: URI<'_>) -> Answer {
-    told(alloc, &URIReference::from(uri))
-}
-
-/// The answer to a question about a URI.
-fn asked_of(alloc: Global, command: &str, uri: &URI<'_>, other: &str) -> Answer {
     match command {
-        "uri" => told_uri(alloc, uri),
-        "parts" => parts(alloc, uri),
-        "copied" => copied(alloc, uri),
-        "uris" => same_as(alloc, uri, URI::try_from_str(alloc, other)),
+        "put-together" => made(alloc, put_together(uri)),
+        "set-scheme" => {
+            let answer = uri.set_scheme(Scheme::HTTPS);
+            settled(alloc, answer, &uri, text)
+        }
+        "base" => told(alloc, &uri.into_base_uri()),
+        "as-reference" => told(alloc, &URIReference::from(uri)),
         "is-base" => printed(alloc, uri.can_be_a_base()),
-        "is-normal" => printed(alloc, uri.is_normalized()),
-        _ => said(alloc, "no such command"),
+        _ => reference::answer(alloc, command, uri, text, new),
     }
 }
 
-/// What is made of a URI.
-fn made_of<'t>(alloc: Global, command: &str, uri: URI<'t>, new: &'t str) -> Answer {
-    if command.starts_with("map") {
-        return made_uri(alloc, mapped(command, uri, new));
-    }
-    match command {
-        "put-together" => put_together(alloc, uri),
-        "normalize" => normalized(alloc, uri),
-        "base" => base(alloc, uri),
-        "rebuilt" => rebuilt(alloc, uri),
-        "as-reference" => as_reference(alloc, uri),
-        _ => asked_of(alloc, command, &uri, new),
-    }
-}
-
-/// What is made of a URI by an edit.
-fn edited<'t>(alloc: Global, command: &str, uri: URI<'t>, text: &str, new: &'t str) -> Answer {
-    match command {
-        "set-scheme" => set_scheme(alloc, uri, text, Scheme::HTTPS),
-        "set-authority" => set_authority(alloc, uri, text, new),
-        "set-path" => set_path(alloc, uri, text, new),
-        "set-query" => set_query(alloc, uri, text, new),
-        "set-fragment" => set_fragment(alloc, uri, text, new),
-        _ => made_of(alloc, command, uri, new),
-    }
-}
-
-/// What the reference becomes as a URI.
-fn of_reference(alloc: Global, read: Result<URIReference<'_>, URIReferenceError>) -> Answer {
-    match read {
-        Ok(reference) => made_uri(alloc, URI::try_from(reference)),
-        Err(why) => refused(alloc, why),
-    }
-}
-
-/// The answer to a question about a URI, read from bytes.
-fn of_uri<'t>(alloc: Global, command: &str, text: &'t str, new: &'t str) -> Answer {
-    match URI::try_from_bytes(alloc, text.as_bytes()) {
-        Ok(uri) => edited(alloc, command, uri, text, new),
-        Err(why) => uri_refused(alloc, why),
-    }
-}
-
-/// The answer to a question about URIs.
+/// The answer to a question about URIs, which are read from bytes where nothing else is asked.
 pub fn answer(alloc: Global, asked: &str) -> Answer {
-    let (command, rest) = word(asked);
-    let (text, rest) = word(rest);
-    let (new, _) = word(rest);
+    let (command, text, new) = words(asked);
     match command {
-        "read" => made_uri(alloc, URI::try_from_str(alloc, text)),
-        "as-uri" => of_reference(alloc, URIReference::try_from_str(alloc, text)),
-        _ => of_uri(alloc, command, text, new),
+        "read" => made(alloc, URI::try_from_str(alloc, text)),
+        "as-uri" => match URIReference::try_from_str(alloc, text) {
+            Ok(reference) => made(alloc, URI::try_from(reference)),
+            Err(why) => refused(alloc, why),
+        },
+        _ => match URI::try_from_bytes(alloc, text.as_bytes()) {
+            Ok(uri) => of_uri(alloc, command, uri, text, new),
+            Err(why) => refused(alloc, why),
+        },
     }
 }
 

@@ -1,6 +1,6 @@
 //! User names, passwords, registered names and ports.
 
-use crate::answer::{Answer, printed, said, word};
+use crate::answer::{Answer, printed, said, words};
 use crate::component::{compared, normal, read};
 use std::alloc::Global;
 use uriparse::authority::parse_port;
@@ -31,9 +31,7 @@ fn port(alloc: Global, text: &str) -> Answer {
 
 /// The answer to a question about these parts.
 pub fn answer(alloc: Global, asked: &str) -> Answer {
-    let (command, rest) = word(asked);
-    let (text, rest) = word(rest);
-    let (other, _) = word(rest);
+    let (command, text, other) = words(asked);
     match command {
         "username" => read(alloc, Username::try_from_str(text)),
         "usernames" => usernames(alloc, text, other),

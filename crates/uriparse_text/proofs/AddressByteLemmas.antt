@@ -1,5 +1,8 @@
 -- The bytes that a spelling of an address is made of, and what follows from them.
-use Rattle.std.proofs.Common.{◌≡◌, ℕ, Bool, true, false, List, [], ◌∷◌, ◌++◌, inl, inr, refl, arith, lt-ltb}
+use Rattle.std.proofs.Common.{◌≡◌, ℕ, ◌<◌, Bool, true, false, List, [], ◌∷◌, ◌++◌, length, get_or, inl, inr, refl, sym, ◌∙◌, arith, lt-ltb}
+use Rattle.std.specs.Prelude.{IsTrue, not, ◌==◌}
+use Rattle.std.specs.Char.{is_ascii_digit}
+use Rattle.std.proofs.lemmas.Bool.{false≢true, and_parts, not-true}
 use Rattle.std.specs.List.{list_all}
 use Rattle.std.specs.Str.Parse.{AllDigits}
 use Rattle.std.proofs.lemmas.Bool.Decides.{nat_tests}
@@ -8,7 +11,7 @@ use Rattle.std.proofs.lemmas.List.Elements.{All-weaker}
 use Rattle.std.proofs.lemmas.List.Sums.{list_all-from_AllPass}
 use Rattle.std.proofs.NetLemmas.Alphabet.{IsDigitOrDot, All-ipv4_text}
 use Rattle.uriparse_text.specs.declared.parts.class.Class.TheVariants.{Name}
-use Rattle.uriparse_text.specs.Bytes.{colon, is_unreserved}
+use Rattle.uriparse_text.specs.Bytes.{colon, dot, is_unreserved}
 use Rattle.uriparse_text.specs.Classes.{is_plain}
 use Rattle.uriparse_text.specs.Cuts.{lacks}
 use Rattle.uriparse_text.specs.Faults.{IsIn}
@@ -90,3 +93,12 @@ ipv4_byte_plain b h = grind (arith, nat_tests)
 pub IsIn-SpellsIpv4 : (text a : List ℕ) → SpellsIpv4 text a → IsIn Name text
 IsIn-SpellsIpv4 text a h =
     IsIn-plain Name text (weaker is_ipv4_byte (is_plain Name) ipv4_byte_plain text (SpellsIpv4-bytes text a h))
+
+-- no address begins with another byte
+pub never_begins : (text : List ℕ) → 0 < length text → is_ipv4_byte (get_or text 0 0) ≡ false → (a : List ℕ) → ¬ (SpellsIpv4 text a)
+never_begins [] some other a spelled = absurd (omega arith)
+never_begins (b ∷ rest) some other a spelled =
+    false≢true (sym other ∙ (and_parts (is_ipv4_byte b) (list_all is_ipv4_byte rest) (SpellsIpv4-bytes (b ∷ rest) a spelled)).0)
+
+pub no_ipv4_byte : (b : ℕ) → is_ascii_digit b ≡ false → IsTrue (not (b == dot)) → is_ipv4_byte b ≡ false
+no_ipv4_byte b digit other = rw digit (not-true (b == dot) other)

@@ -19,9 +19,9 @@ use Rattle.uriparse_text.specs.Bytes.{percent, is_hex, is_unreserved, is_sub_del
 use Rattle.uriparse_text.specs.Classes.{is_plain}
 use Rattle.uriparse_text.specs.Tokens.{tokens, spell, is_token, is_well_formed}
 use Rattle.uriparse_text.specs.Faults.{allows, IsIn}
-use Rattle.uriparse_text.specs.Canon.{canonical, in_case, spelling}
+use Rattle.uriparse_text.specs.Canonical.{canonical_token, in_case, canonical_in}
 use Rattle.uriparse_text.proofs.TokenLemmas.{spell-tokens}
-use Rattle.uriparse_text.proofs.CanonLemmas.{by_escaped, upper_digit, tokens-spelling}
+use Rattle.uriparse_text.proofs.CanonicalLemmas.{by_escaped, upper_digit, tokens-canonical_in}
 use Rattle.uriparse_text.proofs.FaultLemmas.{percent_not_plain}
 
 -- ---- bytes
@@ -66,9 +66,9 @@ is_token-allows class (Byte b) h = by_test (b == percent) refl
 is_token-allows class (Escape high low) h = h
 
 -- what a class has, it has in canonical form
-allows-canonical : (class : Class) (case : Case) (t : Token) → allows class t ≡ true → allows class (canonical case t) ≡ true
-allows-canonical class case (Byte b) h = in_case_plain class case b h
-allows-canonical class case (Escape high low) h =
+allows-canonical_token : (class : Class) (case : Case) (t : Token) → allows class t ≡ true → allows class (canonical_token case t) ≡ true
+allows-canonical_token class case (Byte b) h = in_case_plain class case b h
+allows-canonical_token class case (Escape high low) h =
     let both = and_parts _ _ h in
     by_escaped case high low (λ t. allows class t ≡ true)
     (λ e. in_case_plain class case _ (unreserved_plain class _ e))
@@ -94,15 +94,16 @@ all_tokens-allowed class ts h = each (allows class) is_token (is_token-allows cl
 pub well_formed-in_class : (class : Class) (text : List ℕ) → IsIn class text → is_well_formed text ≡ true
 well_formed-in_class class text h = all_tokens-allowed class (tokens text) h
 
-all_canonical : (class : Class) (case : Case) (ts : List Token) → list_all (allows class) ts ≡ true → list_all (allows class) (map (canonical case) ts) ≡ true
+all_canonical : (class : Class) (case : Case) (ts : List Token) → list_all (allows class) ts ≡ true →
+    list_all (allows class) (map (canonical_token case) ts) ≡ true
 all_canonical class case [] h = refl
 all_canonical class case (t ∷ ts) h =
-    let both = and_parts _ _ h in and_from _ _ (allows-canonical class case t both.0) (all_canonical class case ts both.1)
+    let both = and_parts _ _ h in and_from _ _ (allows-canonical_token class case t both.0) (all_canonical class case ts both.1)
 
 -- a canonical spelling is in the class of its text
-pub IsIn-spelling : (class : Class) (case : Case) (text : List ℕ) → IsIn class text → IsIn class (spelling case text)
-IsIn-spelling class case text h =
-    ap (list_all (allows class)) (tokens-spelling case text (well_formed-in_class class text h)) ∙ all_canonical class case (tokens text) h
+pub IsIn-canonical_in : (class : Class) (case : Case) (text : List ℕ) → IsIn class text → IsIn class (canonical_in case text)
+IsIn-canonical_in class case text h =
+    ap (list_all (allows class)) (tokens-canonical_in case text (well_formed-in_class class text h)) ∙ all_canonical class case (tokens text) h
 
 tokens_ascii : (class : Class) (ts : List Token) → list_all (allows class) ts ≡ true → All (λ b. b < 128) (flat_map spell ts)
 tokens_ascii class [] h = All-nil (λ b. b < 128)

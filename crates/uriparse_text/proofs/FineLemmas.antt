@@ -1,6 +1,7 @@
 -- The leftmost fault, byte by byte: an escape's digits stand for themselves in each class, so the walk needn't pass
 -- over them.
-use Rattle.std.proofs.Common.{◌≡◌, ◌≢◌, ℕ, zero, suc, ◌+◌, ◌-◌, ◌<◌, ◌≤◌, cond, eqb, Option, Bool, true, false, List, [], ◌∷◌, length, drop, get_or, Some, None, refl, sym, ap, subst, ◌∙◌, ◌||◌, arith, inl, inr}
+use Rattle.std.proofs.Common.{◌≡◌, ◌≢◌, ℕ, zero, suc, ◌+◌, ◌-◌, ◌<◌, ◌≤◌, cond, eqb, Option, Some, None, Bool, true, false, ◌||◌, List, [], ◌∷◌}
+use Rattle.std.proofs.Common.{length, drop, get_or, refl, sym, ap, subst, ◌∙◌, arith, inl, inr}
 use Rattle.std.specs.Prelude.{not, MatchOption, ◌==◌}
 use Rattle.std.specs.Int.{bit_at}
 use Rattle.std.proofs.lemmas.Bool.{and_from, and_parts, cases_lt, eqb-true, eqb-false}
@@ -41,6 +42,28 @@ fault-begins_fine class b after h = by_test (is_plain class b) refl h
     by_test true e k = fault-plain class b after e
     by_test false e k = fault-escape class b after k ∙ sym (fault-digits class b after k)
 
+or_true : (v w : Bool) → w ≡ true → (v || w) ≡ true
+or_true true w h = refl
+or_true false w h = h
+
+-- a byte of the class, or an escape
+pub fine_plain : (class : Class) (b : ℕ) (after : List ℕ) → is_plain class b ≡ true → begins_fine class (b ∷ after) ≡ true
+fine_plain class b after plain = rw plain refl
+
+pub fine_escape : (class : Class) (b : ℕ) (after : List ℕ) → is_escape b after ≡ true → begins_fine class (b ∷ after) ≡ true
+fine_escape class b after escape = or_true (is_plain class b) (is_escape b after) escape
+
+-- at a place: a byte of the class, an escape, or the fault
+module _ (class : Class) (text : List ℕ) (at : ℕ) (within : at < length text) (same : fault class (drop at text) ≡ fault class text) where
+  pub fault-past : begins_fine class (get_or text at 0 ∷ drop (at + 1) text) ≡ true → fault class (drop (at + 1) text) ≡ fault class text
+  fault-past fine =
+      sym (fault-begins_fine class (get_or text at 0) (drop (at + 1) text) fine) ∙ ap (fault class) (sym (drop_more text at 0 within)) ∙ same
+
+  pub fault-there : is_plain class (get_or text at 0) ≡ false → is_escape (get_or text at 0) (drop (at + 1) text) ≡ false
+      → fault class text ≡ Some (get_or text at 0)
+  fault-there plain never =
+      sym same ∙ ap (fault class) (drop_more text at 0 within) ∙ fault-here class (get_or text at 0) (drop (at + 1) text) plain never
+
 -- fine bytes at the front can be passed over
 fault-drop : (class : Class) (text : List ℕ) (j : ℕ) → AllFine class text 0 j → fault class (drop j text) ≡ fault class text
 fault-drop class text zero fine = refl
@@ -58,15 +81,12 @@ pub record AreLeft (class : Class) (text : List ℕ) (at n left : ℕ) : Type 0 
   pub waiting : (k : ℕ) → bit_at left k ≡ 1 → (k < n) × (is_plain class (get_or text (at + k) 0) ≡ false)
 
 is_fine_plain : (class : Class) (text : List ℕ) (i : ℕ) → i < length text → is_plain class (get_or text i 0) ≡ true → begins_fine class (drop i text) ≡ true
-is_fine_plain class text i within plain = ap (begins_fine class) (drop_more text i 0 within) ∙ rw plain refl
+is_fine_plain class text i within plain = ap (begins_fine class) (drop_more text i 0 within) ∙ fine_plain class (get_or text i 0) (drop (i + 1) text) plain
 
-or_true : (v w : Bool) → w ≡ true → (v || w) ≡ true
-or_true true w h = refl
-or_true false w h = h
-
-is_fine_escape : (class : Class) (text : List ℕ) (i : ℕ) → i < length text → is_escape (get_or text i 0) (drop (i + 1) text) ≡ true → begins_fine class (drop i text) ≡ true
+is_fine_escape : (class : Class) (text : List ℕ) (i : ℕ) → i < length text → is_escape (get_or text i 0) (drop (i + 1) text) ≡ true
+    → begins_fine class (drop i text) ≡ true
 is_fine_escape class text i within escape =
-    ap (begins_fine class) (drop_more text i 0 within) ∙ or_true (is_plain class (get_or text i 0)) _ escape
+    ap (begins_fine class) (drop_more text i 0 within) ∙ fine_escape class (get_or text i 0) (drop (i + 1) text) escape
 
 abbrev outside : Class → ℕ → Bool
 outside class b = not (is_plain class b)
@@ -100,7 +120,8 @@ module _ (class : Class) (text : List ℕ) (at n : ℕ) (room : at + n ≤ lengt
   pub none_outside : (m : ℕ) → AreMarks (outside class) text at n m → m ≡ 0 → AllFine class text at (at + n)
   none_outside m are none k from before =
       let place : at + (k - at) ≡ k = omega arith in
-      subst (λ i. begins_fine class (drop i text) ≡ true) place (marked_outside m (k - at) are (omega arith) (ap (λ x. bit_at x (k - at)) none ∙ bit_at-zero (k - at)))
+      subst (λ i. begins_fine class (drop i text) ≡ true) place
+      (marked_outside m (k - at) are (omega arith) (ap (λ x. bit_at x (k - at)) none ∙ bit_at-zero (k - at)))
 
   escape_is_fine : (signs digits k : ℕ) → AreMarks (λ b. b == percent) text at n signs → AreMarks is_hex text at n digits
       → bit_at signs k ≡ 1 → bit_at digits (1 + k) ≡ 1 → bit_at digits (2 + k) ≡ 1 → begins_fine class (drop (at + k) text) ≡ true
@@ -111,16 +132,22 @@ module _ (class : Class) (text : List ℕ) (at n : ℕ) (room : at + n ≤ lengt
       let short = l.0 in
       let second : at + (1 + k) ≡ at + k + 1 = omega arith in
       let third : at + (2 + k) ≡ at + k + 1 + 1 = omega arith in
-      let behind : drop (at + k + 1) text ≡ get_or text (at + k + 1) 0 ∷ get_or text (at + k + 1 + 1) 0 ∷ drop (at + k + 1 + 1 + 1) text = drop_more text (at + k + 1) 0 (omega arith) ∙ ap (λ r. get_or text (at + k + 1) 0 ∷ r) (drop_more text (at + k + 1 + 1) 0 (omega arith)) in
-      let digits_are = and_from _ _ (and_from _ _ s.1 (ap (λ i. is_hex (get_or text i 0)) (sym second) ∙ h.1)) (ap (λ i. is_hex (get_or text i 0)) (sym third) ∙ l.1) in
+      let behind : drop (at + k + 1) text ≡ get_or text (at + k + 1) 0 ∷ get_or text (at + k + 1 + 1) 0 ∷ drop (at + k + 1 + 1 + 1) text =
+      drop_more text (at + k + 1) 0 (omega arith)
+      ∙ ap (λ r. get_or text (at + k + 1) 0 ∷ r) (drop_more text (at + k + 1 + 1) 0 (omega arith)) in
+      let digits_are =
+      and_from _ _ (and_from _ _ s.1 (ap (λ i. is_hex (get_or text i 0)) (sym second) ∙ h.1))
+      (ap (λ i. is_hex (get_or text i 0)) (sym third) ∙ l.1) in
       is_fine_escape class text (at + k) (omega arith) (ap (is_escape (get_or text (at + k) 0)) behind ∙ digits_are)
 
   -- a byte outside the class is in doubt unless it is a sign that two digits follow
-  pub in_doubt : (outs signs digits left : ℕ) → n ≤ 16 → AreMarks (outside class) text at n outs → AreMarks (λ b. b == percent) text at n signs → AreMarks is_hex text at n digits
+  pub in_doubt : (outs signs digits left : ℕ) → n ≤ 16 → AreMarks (outside class) text at n outs
+      → AreMarks (λ b. b == percent) text at n signs → AreMarks is_hex text at n digits
       → ((k : ℕ) → bit_at left k ≡ 1 → bit_at outs k ≡ 1)
       → ((k : ℕ) → k < 64 → bit_at left k ≡ 0 → bit_at outs k ≡ 1 → (bit_at signs k ≡ 1) × (bit_at digits (1 + k) ≡ 1) × (bit_at digits (2 + k) ≡ 1))
       → AreInDoubt class text at n left
-  in_doubt outs signs digits left short out_marks sign_marks digit_marks no_more gone = (fine, λ k set. set_is_outside class text at n outs k out_marks (no_more k set))
+  in_doubt outs signs digits left short out_marks sign_marks digit_marks no_more gone =
+      (fine, λ k set. set_is_outside class text at n outs k out_marks (no_more k set))
     where
       fine : (k : ℕ) → k < n → bit_at left k ≡ 0 → begins_fine class (drop (at + k) text) ≡ true
       fine k h unset = elim (cases_lt (bit_at outs k) 1) [
@@ -156,7 +183,8 @@ module _ (class : Class) (text : List ℕ) (at n : ℕ) (room : at + n ≤ lengt
   none_left is = fine_from 0 n is (omega arith) (λ j _. bit_at-zero j)
 
   -- none does
-  pub fault_left : (left k : ℕ) → AreLeft class text at n left → bit_at left k ≡ 1 → ((j : ℕ) → j < k → bit_at left j ≡ 0) → is_escape (get_or text (at + k) 0) (drop (at + k + 1) text) ≡ false
+  pub fault_left : (left k : ℕ) → AreLeft class text at n left → bit_at left k ≡ 1 → ((j : ℕ) → j < k → bit_at left j ≡ 0)
+      → is_escape (get_or text (at + k) 0) (drop (at + k + 1) text) ≡ false
       → AllFine class text 0 at → fault class text ≡ Some (get_or text (at + k) 0)
   fault_left left k is set below never fine =
       let w = is.waiting k set in
@@ -168,7 +196,8 @@ pub all_fine_end : (class : Class) (text : List ℕ) → AllFine class text 0 (l
 all_fine_end class text fine =
     sym (fault-drop class text (length text) fine) ∙ ap (fault class) (drop_of_length-le text (omega arith)) ∙ fault-nil class
 
-pub last_run : (class : Class) (text : List ℕ) (at to : ℕ) (o : Option ℕ) → MatchOption o (AllFine class text at to) (λ b. AllFine class text 0 at → fault class text ≡ Some b)
+pub last_run : (class : Class) (text : List ℕ) (at to : ℕ) (o : Option ℕ)
+    → MatchOption o (AllFine class text at to) (λ b. AllFine class text 0 at → fault class text ≡ Some b)
     → AllFine class text 0 at → to ≡ length text → o ≡ fault class text
 last_run class text at to None h fine end =
     sym (all_fine_end class text (all_fine_then class text at (length text) fine (λ k from before. h k from (omega arith))))

@@ -1,16 +1,21 @@
 -- What operations on sixteen bytes say of each byte.
-use Rattle.std.proofs.Common.{◌≡◌, ℕ, zero, suc, ◌+◌, ◌*◌, ◌/◌, ◌%◌, ◌^◌, ◌<◌, Bool, true, false, cond, eqb, List, [], ◌∷◌, map, length, get_or, replicate, bit_and, bit_or, ◌||◌, refl, sym, ap, ◌∙◌, arith, w8, Fits}
+use Rattle.std.proofs.Common.{◌≡◌, ℕ, zero, suc, ◌+◌, ◌*◌, ◌/◌, ◌%◌, ◌^◌, ◌<◌, Bool, true, false, cond, eqb, ◌||◌, List, [], ◌∷◌, map, length, get_or}
+use Rattle.std.proofs.Common.{replicate, bit_and, bit_or, refl, sym, ap, ◌∙◌, arith, w8, Fits}
 use Rattle.std.specs.Prelude.{not}
 use Rattle.std.specs.Simd.Lanes.{zip2, sel_l, mask_l, top, Each1}
 use Rattle.std.proofs.lemmas.Bool.{agree_below_at}
 use Rattle.std.proofs.lemmas.List.{get_or-map, length-map, ext_get_or}
 use Rattle.std.proofs.lemmas.Nat.{and_le_r}
-use Rattle.std.proofs.lemmas.Simd.{Each1-all, Each1-weaker, Each1-zip2, Each2-splat, below_from_Fits, length-zip2, zip2_splat, zip2_of_maps, splat_is_map, tops_compared, map-map, bitmask_splat, swz_l, SwzOk, SwzOk-from_below, length-swz_l, get_or-swz_l_below}
+use Rattle.std.proofs.lemmas.Simd.{Each1-all, Each1-weaker, Each1-zip2, Each2-splat, below_from_Fits, length-zip2, zip2_splat, zip2_of_maps, splat_is_map}
+use Rattle.std.proofs.lemmas.Simd.{tops_compared, map-map, bitmask_splat, swz_l, SwzOk, SwzOk-from_below, length-swz_l, get_or-swz_l_below}
 use Rattle.uriparse_text.specs.declared.parts.class.Class.{Class}
 use Rattle.uriparse_text.specs.declared.parts.class.Class.TheVariants.{Name, UserInfo, Segment, Query}
+use Rattle.uriparse_text.specs.declared.parts.canonical.Case.TheVariants.{Kept, Lowered}
+use Rattle.uriparse_text.specs.declared.parts.run.TheConstants.{CHANGE_LOW, CHANGE_HIGH}
 use Rattle.uriparse_text.specs.declared.parts.scan.TheConstants.{LOW, HIGH, HEX_LOW, HEX_HIGH}
 use Rattle.uriparse_text.specs.Bytes.{is_hex, is_unreserved, is_sub_delim}
 use Rattle.uriparse_text.specs.Classes.{is_plain}
+use Rattle.uriparse_text.specs.Canonical.{may_change}
 
 abbrev pub AreLanes : List ℕ → Type 0
 AreLanes v = (length v ≡ 16) × Each1 (Fits w8) v
@@ -39,7 +44,8 @@ high_ok v fits =
     (Each1-zip2 high (λ j. j < 16) v (replicate 16 4) (Each2-splat (λ a b. high a b < 16) v 16 4 small))
 
 -- a table of sixteen, read at a place below 16 that each byte gives
-looked_up : (t : List ℕ) (g : ℕ → ℕ) (v js : List ℕ) → AreLanes v → js ≡ map g v → ((x : ℕ) → x < 256 → g x < 16) → swz_l w8 16 t 0 js ≡ map (λ x. get_or t (g x) 0) v
+looked_up : (t : List ℕ) (g : ℕ → ℕ) (v js : List ℕ) → AreLanes v → js ≡ map g v → ((x : ℕ) → x < 256 → g x < 16)
+    → swz_l w8 16 t 0 js ≡ map (λ x. get_or t (g x) 0) v
 looked_up t g v js fits e small =
     let long : length js ≡ 16 = ap length e ∙ length-map v g ∙ fits.0 in
     ext_get_or 0 _ _ (length-swz_l w8 16 t 0 js ∙ long ∙ sym (length-map v (λ x. get_or t (g x) 0) ∙ fits.0)) (λ i h.
@@ -92,37 +98,61 @@ query_kinds b small = agree_below_at (of_none 255) (outside Query) 256 b refl sm
 
 pub class_marks : (kinds : ℕ) (class : Class) (v lows highs : List ℕ) → AreLanes v → ((b : ℕ) → b < 256 → of_none kinds b ≡ outside class b)
     → lows ≡ map (λ b. get_or LOW (bit_and b 15) 0) v → highs ≡ map (λ b. get_or HIGH (b / 16) 0) v
-    → mask_l (map (top 7) (zip2 (λ a b. cond (eqb a b) 255 0) (zip2 bit_and (zip2 bit_and lows highs) (replicate 16 kinds)) (replicate 16 0))) % 2 ^ 64 ≡ mask_l (map (outside class) v)
+    → mask_l (map (top 7) (zip2 (λ a b. cond (eqb a b) 255 0) (zip2 bit_and (zip2 bit_and lows highs) (replicate 16 kinds)) (replicate 16 0))) % 2 ^ 64
+    ≡ mask_l (map (outside class) v)
 class_marks kinds class v lows highs fits same l h =
-    let both : zip2 bit_and lows highs ≡ map (λ b. bit_and (get_or LOW (bit_and b 15) 0) (get_or HIGH (b / 16) 0)) v = zip2_of_maps bit_and (λ b. get_or LOW (bit_and b 15) 0) (λ b. get_or HIGH (b / 16) 0) v l h in
-    let all : zip2 bit_and (zip2 bit_and lows highs) (replicate 16 kinds) ≡ map (λ b. bit_and (bit_and (get_or LOW (bit_and b 15) 0) (get_or HIGH (b / 16) 0)) kinds) v = zip2_of_maps bit_and (λ b. bit_and (get_or LOW (bit_and b 15) 0) (get_or HIGH (b / 16) 0)) (λ _. kinds) v both (splat_is_map v 16 kinds fits.0) in
+    let both : zip2 bit_and lows highs ≡ map (λ b. bit_and (get_or LOW (bit_and b 15) 0) (get_or HIGH (b / 16) 0)) v =
+    zip2_of_maps bit_and (λ b. get_or LOW (bit_and b 15) 0) (λ b. get_or HIGH (b / 16) 0) v l h in
+    let all : zip2 bit_and (zip2 bit_and lows highs) (replicate 16 kinds)
+    ≡ map (λ b. bit_and (bit_and (get_or LOW (bit_and b 15) 0) (get_or HIGH (b / 16) 0)) kinds) v =
+    zip2_of_maps bit_and (λ b. bit_and (get_or LOW (bit_and b 15) 0) (get_or HIGH (b / 16) 0)) (λ _. kinds) v both
+    (splat_is_map v 16 kinds fits.0) in
     let long : length (zip2 bit_and (zip2 bit_and lows highs) (replicate 16 kinds)) ≡ 16 = ap length all ∙ length-map v _ ∙ fits.0 in
     bitmask_splat w8 eqb (zip2 bit_and (zip2 bit_and lows highs) (replicate 16 kinds)) 16 0 long (omega arith)
     ∙ ap mask_l (ap (map (λ x. eqb x 0)) all ∙ map-map (λ x. eqb x 0) _ v ∙ same_tests (of_none kinds) (outside class) same v fits.1)
 
 -- ---- hexadecimal digits
 
+-- a byte that has a kind by two tables passes the test
+pub marks_by_tables : (table other : List ℕ) (p : ℕ → Bool) → ((b : ℕ) → b < 256 →
+    not (eqb (bit_and (get_or table (bit_and b 15) 0) (get_or other (b / 16) 0)) 0) ≡ p b)
+    → (v lows highs : List ℕ) → AreLanes v → lows ≡ map (λ b. get_or table (bit_and b 15) 0) v → highs ≡ map (λ b. get_or other (b / 16) 0) v
+    → mask_l (map (top 7) (zip2 (λ a b. cond (not (eqb a b)) 255 0) (zip2 bit_and lows highs) (replicate 16 0))) % 2 ^ 64 ≡ mask_l (map p v)
+marks_by_tables table other p same v lows highs fits l h =
+    let kinds : ℕ → ℕ = λ b. bit_and (get_or table (bit_and b 15) 0) (get_or other (b / 16) 0) in
+    let both : zip2 bit_and lows highs ≡ map kinds v = zip2_of_maps bit_and (λ b. get_or table (bit_and b 15) 0) (λ b. get_or other (b / 16) 0) v l h in
+    let long : length (zip2 bit_and lows highs) ≡ 16 = ap length both ∙ length-map v _ ∙ fits.0 in
+    bitmask_splat w8 (λ a b. not (eqb a b)) (zip2 bit_and lows highs) 16 0 long (omega arith)
+    ∙ ap mask_l (ap (map (λ x. not (eqb x 0))) both ∙ map-map (λ x. not (eqb x 0)) _ v ∙ same_tests (λ b. not (eqb (kinds b) 0)) p same v fits.1)
+
 abbrev hex_kinds : ℕ → ℕ
 hex_kinds b = bit_and (get_or HEX_LOW (bit_and b 15) 0) (get_or HEX_HIGH (b / 16) 0)
 
-hex_kind : (b : ℕ) → b < 256 → not (eqb (hex_kinds b) 0) ≡ is_hex b
+pub hex_kind : (b : ℕ) → b < 256 → not (eqb (hex_kinds b) 0) ≡ is_hex b
 hex_kind b small = agree_below_at (λ b. not (eqb (hex_kinds b) 0)) is_hex 256 b refl small
 
-pub hex_marks : (v lows highs : List ℕ) → AreLanes v → lows ≡ map (λ b. get_or HEX_LOW (bit_and b 15) 0) v → highs ≡ map (λ b. get_or HEX_HIGH (b / 16) 0) v
-    → mask_l (map (top 7) (zip2 (λ a b. cond (not (eqb a b)) 255 0) (zip2 bit_and lows highs) (replicate 16 0))) % 2 ^ 64 ≡ mask_l (map is_hex v)
-hex_marks v lows highs fits l h =
-    let both : zip2 bit_and lows highs ≡ map hex_kinds v = zip2_of_maps bit_and (λ b. get_or HEX_LOW (bit_and b 15) 0) (λ b. get_or HEX_HIGH (b / 16) 0) v l h in
-    let long : length (zip2 bit_and lows highs) ≡ 16 = ap length both ∙ length-map v _ ∙ fits.0 in
-    bitmask_splat w8 (λ a b. not (eqb a b)) (zip2 bit_and lows highs) 16 0 long (omega arith)
-    ∙ ap mask_l (ap (map (λ x. not (eqb x 0))) both ∙ map-map (λ x. not (eqb x 0)) _ v ∙ same_tests (λ b. not (eqb (hex_kinds b) 0)) is_hex hex_kind v fits.1)
+-- ---- bytes that may change in a canonical spelling
+
+abbrev change_kinds : ℕ → ℕ
+change_kinds b = bit_and (get_or CHANGE_LOW (bit_and b 15) 0) (get_or CHANGE_HIGH (b / 16) 0)
+
+pub change_kind : (b : ℕ) → b < 256 → not (eqb (change_kinds b) 0) ≡ may_change Lowered b
+change_kind b small = agree_below_at (λ b. not (eqb (change_kinds b) 0)) (may_change Lowered) 256 b refl small
+
+pub kept_marks : (v : List ℕ) → AreLanes v → mask_l (map (λ b. eqb b 37) v) ≡ mask_l (map (may_change Kept) v)
+kept_marks v fits = ap mask_l (same_tests (λ b. eqb b 37) (may_change Kept) (λ b small. agree_below_at (λ b. eqb b 37)
+    (may_change Kept) 256 b refl small) v fits.1)
 
 -- ---- one of three bytes
 
-select_each : (t : ℕ → ℕ → Bool) (x y z : ℕ) (v : List ℕ) → sel_l (zip2 t v (replicate (length v) x)) (replicate (length v) y) (replicate (length v) z) ≡ map (λ b. cond (t b x) y z) v
+select_each : (t : ℕ → ℕ → Bool) (x y z : ℕ) (v : List ℕ)
+    → sel_l (zip2 t v (replicate (length v) x)) (replicate (length v) y) (replicate (length v) z) ≡ map (λ b. cond (t b x) y z) v
 select_each t x y z [] = refl
 select_each t x y z (b ∷ v) = ap (λ l. cond (t b x) y z ∷ l) (select_each t x y z v)
 
-pub ones_where : (v : List ℕ) (x : ℕ) → AreLanes v → sel_l {A = ℕ} (map (top 7) (zip2 (λ a b. cond (eqb a b) 255 0) v (replicate 16 x))) (replicate 16 1) (replicate 16 0) ≡ map (λ b. cond (eqb b x) 1 0) v
+pub ones_where : (v : List ℕ) (x : ℕ) → AreLanes v
+    → sel_l {A = ℕ} (map (top 7) (zip2 (λ a b. cond (eqb a b) 255 0) v (replicate 16 x))) (replicate 16 1) (replicate 16 0)
+    ≡ map (λ b. cond (eqb b x) 1 0) v
 ones_where v x fits =
     ap (λ ms. sel_l {A = ℕ} ms (replicate 16 1) (replicate 16 0)) (tops_compared w8 eqb v (replicate 16 x))
     ∙ ap (λ n. sel_l {A = ℕ} (zip2 eqb v (replicate n x)) (replicate n 1) (replicate n 0)) (sym fits.0)
@@ -141,11 +171,15 @@ any_one false true false = refl
 any_one false false true = refl
 any_one false false false = refl
 
-pub any_marks : (x y z : ℕ) (v xs ys zs : List ℕ) → AreLanes v → xs ≡ map (λ b. one (eqb b x)) v → ys ≡ map (λ b. one (eqb b y)) v → zs ≡ map (λ b. one (eqb b z)) v
-    → mask_l (map (top 7) (zip2 (λ a b. cond (not (eqb a b)) 255 0) (zip2 bit_or (zip2 bit_or xs ys) zs) (replicate 16 0))) % 2 ^ 64 ≡ mask_l (map (λ b. eqb b x || eqb b y || eqb b z) v)
+pub any_marks : (x y z : ℕ) (v xs ys zs : List ℕ) → AreLanes v
+    → xs ≡ map (λ b. one (eqb b x)) v → ys ≡ map (λ b. one (eqb b y)) v → zs ≡ map (λ b. one (eqb b z)) v
+    → mask_l (map (top 7) (zip2 (λ a b. cond (not (eqb a b)) 255 0) (zip2 bit_or (zip2 bit_or xs ys) zs) (replicate 16 0))) % 2 ^ 64
+    ≡ mask_l (map (λ b. eqb b x || eqb b y || eqb b z) v)
 any_marks x y z v xs ys zs fits e f g =
-    let two : zip2 bit_or xs ys ≡ map (λ b. bit_or (one (eqb b x)) (one (eqb b y))) v = zip2_of_maps bit_or (λ b. one (eqb b x)) (λ b. one (eqb b y)) v e f in
-    let all : zip2 bit_or (zip2 bit_or xs ys) zs ≡ map (λ b. bit_or (bit_or (one (eqb b x)) (one (eqb b y))) (one (eqb b z))) v = zip2_of_maps bit_or (λ b. bit_or (one (eqb b x)) (one (eqb b y))) (λ b. one (eqb b z)) v two g in
+    let two : zip2 bit_or xs ys ≡ map (λ b. bit_or (one (eqb b x)) (one (eqb b y))) v =
+    zip2_of_maps bit_or (λ b. one (eqb b x)) (λ b. one (eqb b y)) v e f in
+    let all : zip2 bit_or (zip2 bit_or xs ys) zs ≡ map (λ b. bit_or (bit_or (one (eqb b x)) (one (eqb b y))) (one (eqb b z))) v =
+    zip2_of_maps bit_or (λ b. bit_or (one (eqb b x)) (one (eqb b y))) (λ b. one (eqb b z)) v two g in
     let long : length (zip2 bit_or (zip2 bit_or xs ys) zs) ≡ 16 = ap length all ∙ length-map v _ ∙ fits.0 in
     bitmask_splat w8 (λ a b. not (eqb a b)) (zip2 bit_or (zip2 bit_or xs ys) zs) 16 0 long (omega arith)
     ∙ ap mask_l (ap (map (λ a. not (eqb a 0))) all ∙ map-map (λ a. not (eqb a 0)) _ v ∙ same_tests _ _ (λ b _. any_one (eqb b x) (eqb b y) (eqb b z)) v fits.1)

@@ -1,6 +1,6 @@
 pub mod TokenLemmas
 pub mod FaultLemmas
-pub mod CanonLemmas
+pub mod CanonicalLemmas
 pub mod ClassLemmas
 pub mod BitLemmas
 pub mod LaneLemmas
@@ -18,6 +18,7 @@ pub mod AddressLengthLemmas
 pub mod AddressLemmas
 pub mod AddressByteLemmas
 pub mod AddressFitLemmas
-pub mod AddressCanonLemmas
+pub mod AddressCanonicalLemmas
 pub mod RunLemmas
 pub mod SumLemmas
+pub mod AlikeLemmas

@@ -1,9 +1,13 @@
 -- Marks of a text's bytes, from those of its lanes.
-use Rattle.std.proofs.Common.{◌≡◌, ℕ, ◌+◌, ◌-◌, ◌^◌, ◌<◌, ◌≤◌, Bool, true, false, cond, List, ◌++◌, map, length, get_or, refl, sym, ap, ◌∙◌, arith, inl, inr, length-append}
+use Rattle.std.proofs.Common.{◌≡◌, ℕ, ◌+◌, ◌-◌, ◌^◌, ◌<◌, ◌≤◌, Bool, true, false, cond, List, ◌++◌, map, length, get_or}
+use Rattle.std.proofs.Common.{refl, sym, ap, ◌∙◌, arith, inl, inr, length-append}
 use Rattle.std.specs.Int.{bit_at}
+use Rattle.std.specs.List.{position_or_len}
 use Rattle.std.specs.Simd.Lanes.{mask_l, chunk}
 use Rattle.std.proofs.lemmas.Bool.{cases_lt}
 use Rattle.std.proofs.lemmas.List.{get_or-map, get_or_past, length-map, get_or_append_left, get_or-append_right}
+use Rattle.std.proofs.lemmas.List.Sums.{position_or_len_is}
+use Rattle.std.proofs.lemmas.Nat.Bits.{bit_at-zero}
 use Rattle.std.proofs.lemmas.Simd.{bit_mask_l, mask_l-lt, length-chunk, get_or-chunk}
 use Rattle.uriparse_text.specs.Marks.{AreMarks}
 
@@ -39,9 +43,11 @@ module _ (p : ℕ → Bool) where
         inside : (k : ℕ) → k < length text → bit_at marks k ≡ cond (p (get_or text (0 + k) 0)) 1 0
         inside k h = elim (cases_lt k w) [
           | inl in_front ↦ low k in_front ∙ bits k (omega arith)
-              ∙ ap (λ b. cond (p b) 1 0) (get_or_append_left front back 0 k (omega (arith, length-chunk 0 w text (omega arith))) ∙ get_or-chunk 0 w text k 0 in_front)
+              ∙ ap (λ b. cond (p b) 1 0) (get_or_append_left front back 0 k (omega (arith, length-chunk 0 w text (omega arith)))
+              ∙ get_or-chunk 0 w text k 0 in_front)
           | inr in_back ↦ high k in_back ∙ bits (w + w + w - length text + (k - w)) (omega arith)
-              ∙ ap (λ b. cond (p b) 1 0) (get_or-append_right front back w (w + w + w - length text + (k - w)) 0 (length-chunk 0 w text (omega arith)) (omega arith)
+              ∙ ap (λ b. cond (p b) 1 0)
+              (get_or-append_right front back w (w + w + w - length text + (k - w)) 0 (length-chunk 0 w text (omega arith)) (omega arith)
               ∙ get_or-chunk (length text - w) w text (w + w + w - length text + (k - w) - w) 0 (omega arith)
               ∙ (let place : length text - w + (w + w + w - length text + (k - w) - w) ≡ 0 + k = omega arith in ap (λ i. get_or text i 0) place))
         ]
@@ -93,3 +99,32 @@ module _ (p : ℕ → Bool) where
     | inl h ↦ (h, is_set (p (get_or text (at + k) 0)) (sym (are.0 k h) ∙ set))
     | inr h ↦ absurd (omega (arith, are.1 k h, set))
   ]
+
+  is_unset : (v : Bool) → ◌≡◌ {A = ℕ} (cond v 1 0) 0 → v ≡ false
+  is_unset true h = absurd (omega arith)
+  is_unset false h = refl
+
+  -- a byte without one doesn't
+  pub unmarked : (text : List ℕ) (at n m : ℕ) → AreMarks p text at n m → (k : ℕ) → k < n → bit_at m k ≡ 0 → p (get_or text (at + k) 0) ≡ false
+  unmarked text at n m are k h unset = is_unset (p (get_or text (at + k) 0)) (sym (are.0 k h) ∙ unset)
+
+  unmarked_front : (text : List ℕ) (m : ℕ) → AreMarks p text 0 (length text) m → (k : ℕ) → k < length text → bit_at m k ≡ 0 → p (get_or text k 0) ≡ false
+  unmarked_front text m are k h unset =
+      let place : k ≡ 0 + k = omega arith in
+      ap (λ i. p (get_or text i 0)) place ∙ unmarked text 0 (length text) m are k h unset
+
+  -- the lowest mark of a text's bytes is that of the first that passes
+  pub first_marked : (text : List ℕ) (m : ℕ) → AreMarks p text 0 (length text) m → (k : ℕ) → bit_at m k ≡ 1 → ((j : ℕ) → j < k → bit_at m j ≡ 0)
+      → k ≡ position_or_len p text
+  first_marked text m are k set below =
+      let w = marked text 0 (length text) m are k set in
+      let within = w.0 in
+      let place : k ≡ 0 + k = omega arith in
+      sym (position_or_len_is p text k 0 (omega arith) (λ j h. unmarked_front text m are j (omega arith) (below j h))
+      (λ _. ap (λ i. p (get_or text i 0)) place ∙ w.1))
+
+  -- and where there is none, no byte passes
+  pub none_marked : (text : List ℕ) (m : ℕ) → AreMarks p text 0 (length text) m → m ≡ 0 → length text ≡ position_or_len p text
+  none_marked text m are none =
+      sym (position_or_len_is p text (length text) 0 (omega arith)
+      (λ j h. unmarked_front text m are j h (ap (λ x. bit_at x j) none ∙ bit_at-zero j)) (λ h. absurd (omega arith)))

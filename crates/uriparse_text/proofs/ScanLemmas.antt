@@ -33,7 +33,8 @@ found_nowhere p text at is past =
     sym (position_or_len_is p text at 0 is.within is.fail (λ h. absurd (omega arith)))
 
 -- a run of sixteen that begins at or before the place that is reached
-pub run_passed : (p : ℕ → Bool) (text : List ℕ) (seen at n : ℕ) → NoneBefore p text seen → at ≤ seen → at + 16 ≤ length text → n ≡ position_or_len p (chunk at 16 text) → NoneBefore p text (at + n)
+pub run_passed : (p : ℕ → Bool) (text : List ℕ) (seen at n : ℕ) → NoneBefore p text seen → at ≤ seen → at + 16 ≤ length text
+    → n ≡ position_or_len p (chunk at 16 text) → NoneBefore p text (at + n)
 run_passed p text seen at n is before room counted =
     let short : n ≤ 16 = run_in_chunk_le p text at 16 n 0 room counted in
     record {
@@ -44,19 +45,22 @@ run_passed p text seen at n is before room counted =
       ];
     }
 
-pub found_in_run : (p : ℕ → Bool) (text : List ℕ) (seen at n : ℕ) → NoneBefore p text seen → at ≤ seen → at + 16 ≤ length text → n ≡ position_or_len p (chunk at 16 text) → n < 16 → at + n ≡ position_or_len p text
+pub found_in_run : (p : ℕ → Bool) (text : List ℕ) (seen at n : ℕ) → NoneBefore p text seen → at ≤ seen → at + 16 ≤ length text
+    → n ≡ position_or_len p (chunk at 16 text) → n < 16 → at + n ≡ position_or_len p text
 found_in_run p text seen at n is before room counted found =
     found_here p text (at + n) (run_passed p text seen at n is before room counted) (run_in_chunk_stops p text at 16 n 0 room counted found)
 
 -- the last run
-pub found_at_end : (p : ℕ → Bool) (text : List ℕ) (seen at n : ℕ) → NoneBefore p text seen → at ≤ seen → at + 16 ≡ length text → n ≡ position_or_len p (chunk at 16 text) → at + n ≡ position_or_len p text
+pub found_at_end : (p : ℕ → Bool) (text : List ℕ) (seen at n : ℕ) → NoneBefore p text seen → at ≤ seen → at + 16 ≡ length text
+    → n ≡ position_or_len p (chunk at 16 text) → at + n ≡ position_or_len p text
 found_at_end p text seen at n is before room counted =
     elim (cases_lt n 16) [
       | inl found ↦ found_in_run p text seen at n is before (omega arith) counted found
       | inr none ↦ found_nowhere p text (at + n) (run_passed p text seen at n is before (omega arith) counted) (omega arith)
     ]
 
-pub run_empty : (p : ℕ → Bool) (text : List ℕ) (at n : ℕ) → NoneBefore p text at → at + 16 ≤ length text → n ≡ position_or_len p (chunk at 16 text) → 16 ≤ n → NoneBefore p text (at + 16)
+pub run_empty : (p : ℕ → Bool) (text : List ℕ) (at n : ℕ) → NoneBefore p text at → at + 16 ≤ length text
+    → n ≡ position_or_len p (chunk at 16 text) → 16 ≤ n → NoneBefore p text (at + 16)
 run_empty p text at n is room counted none =
     let short : n ≤ 16 = run_in_chunk_le p text at 16 n 0 room counted in
     let full : n ≡ 16 = omega arith in

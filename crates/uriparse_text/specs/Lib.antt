@@ -3,10 +3,11 @@ pub mod Classes
 pub mod Tokens
 pub mod Marks
 pub mod Faults
-pub mod Canon
+pub mod Canonical
 pub mod Cuts
 pub mod Readings
 pub mod Query
 pub mod Fragment
 pub mod Address
 pub mod IpAddr
+pub mod Alike

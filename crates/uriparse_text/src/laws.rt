@@ -10,7 +10,7 @@ ghost use Rattle.uriparse_text.specs.declared.parts.canonical.Case.TheVariants a
 ghost use Rattle.uriparse_text.specs.Bytes.{left_bracket, right_bracket};
 ghost use Rattle.uriparse_text.specs.Tokens.{is_well_formed, spell, IsConcatenation};
 ghost use Rattle.uriparse_text.specs.Faults.{fault, IsIn, IsOfClass, HasFaultAt};
-ghost use Rattle.uriparse_text.specs.Canon.{canonical, spelling};
+ghost use Rattle.uriparse_text.specs.Canonical.{canonical_token, canonical_in};
 ghost use Rattle.uriparse_text.specs.Cuts.{lacks};
 ghost use Rattle.uriparse_text.specs.Address.{IsOctets, IsSegments, SpellsIpv4, SpellsIpv6, ipv4_text, ipv6_text, ipv4_reading, ipv6_reading, IsPrintedIpv6, is_ipv4_byte, is_ipv6_byte};
 
@@ -31,10 +31,10 @@ pub fn one_list_of_tokens()
 /// The canonical spelling of a concatenation of tokens is that of its tokens; it is in the classes
 /// of its text, and its own canonical spelling.
 pub fn one_canonical_spelling()
-    ensures tokens { (case : Case) (ts : List Token) (text : List ℕ) → IsConcatenation ts text → spelling case text ≡ flat_map (λ t. spell (canonical case t)) ts }
-    ensures border { (case : Case) (front rest : List ℕ) → is_well_formed front ≡ true → spelling case (front ++ rest) ≡ spelling case front ++ spelling case rest }
-    ensures twice { (case : Case) (text : List ℕ) → is_well_formed text ≡ true → spelling case (spelling case text) ≡ spelling case text }
-    ensures class { (class : Class) (case : Case) (text : List ℕ) → IsIn class text → IsIn class (spelling case text) }
+    ensures tokens { (case : Case) (ts : List Token) (text : List ℕ) → IsConcatenation ts text → canonical_in case text ≡ flat_map (λ t. spell (canonical_token case t)) ts }
+    ensures border { (case : Case) (front rest : List ℕ) → is_well_formed front ≡ true → canonical_in case (front ++ rest) ≡ canonical_in case front ++ canonical_in case rest }
+    ensures twice { (case : Case) (text : List ℕ) → is_well_formed text ≡ true → canonical_in case (canonical_in case text) ≡ canonical_in case text }
+    ensures class { (class : Class) (case : Case) (text : List ℕ) → IsIn class text → IsIn class (canonical_in case text) }
 {}
 
 /// The reading of a text is the address that it spells by the grammar, if it spells one.
@@ -78,9 +78,9 @@ pub fn one_printed_text()
 
 /// The printed text of an address is its own canonical spelling, and so it is between brackets.
 pub fn printed_is_canonical()
-    ensures ipv4 { (case : Case) (a : List ℕ) → IsOctets a → spelling case (ipv4_text a) ≡ ipv4_text a }
-    ensures ipv6 { (case : Case) (a : List ℕ) → IsSegments a → spelling case (ipv6_text a) ≡ ipv6_text a }
-    ensures bracketed { (case : Case) (a : List ℕ) → IsSegments a → spelling case (left_bracket ∷ ipv6_text a ++ right_bracket ∷ []) ≡ left_bracket ∷ ipv6_text a ++ right_bracket ∷ [] }
+    ensures ipv4 { (case : Case) (a : List ℕ) → IsOctets a → canonical_in case (ipv4_text a) ≡ ipv4_text a }
+    ensures ipv6 { (case : Case) (a : List ℕ) → IsSegments a → canonical_in case (ipv6_text a) ≡ ipv6_text a }
+    ensures bracketed { (case : Case) (a : List ℕ) → IsSegments a → canonical_in case (left_bracket ∷ ipv6_text a ++ right_bracket ∷ []) ≡ left_bracket ∷ ipv6_text a ++ right_bracket ∷ [] }
 {}
 
 /// Texts of addresses, and what they are read as.
@@ -103,10 +103,10 @@ pub fn examples_of_addresses()
 {}
 
 /// Texts, and their canonical spellings or faults.
-#[tactic(auto, unfolding(crate::specs::Canon::spelling, crate::specs::Tokens::tokens, crate::specs::Faults::fault, crate::specs::Classes::is_plain, crate::specs::Bytes::is_unreserved, crate::specs::Bytes::is_sub_delim))]
+#[tactic(auto, unfolding(crate::specs::Canonical::canonical_in, crate::specs::Tokens::tokens, crate::specs::Faults::fault, crate::specs::Classes::is_plain, crate::specs::Bytes::is_unreserved, crate::specs::Bytes::is_sub_delim))]
 pub fn examples_of_texts()
-    ensures kept { spelling case.Kept (codes "%4a%2fK%7e") ≡ codes "J%2FK~" }
-    ensures lowered { spelling case.Lowered (codes "%4a%2fK%7e") ≡ codes "j%2Fk~" }
+    ensures kept { canonical_in case.Kept (codes "%4a%2fK%7e") ≡ codes "J%2FK~" }
+    ensures lowered { canonical_in case.Lowered (codes "%4a%2fK%7e") ≡ codes "j%2Fk~" }
     ensures no_fault { fault class.Query (codes "azAZ09-._~!$&'()*+,;=:@/?%00") ≡ None }
     ensures broken_escape { fault class.Query (codes "%41%4g ") ≡ Some 37 }
     ensures hash { fault class.Query (codes "a#%") ≡ Some 35 }

@@ -1,23 +1,25 @@
 //! What the crates above build their own parts from. Users have no need of it.
 
+mod alike;
 mod bits;
 mod canonical;
 mod class;
 mod copy;
 mod cut;
+mod digit;
 mod print;
+mod run;
 mod scan;
 mod text;
 mod token;
 
+pub use alike::same_spelling;
 pub use bits::{lowest, without_lowest};
-pub use canonical::{
-    Case, TextWalk, Walk, canonical_bytes, feed_walk, is_canonical, same_spelling, same_walks,
-};
+pub use canonical::{Case, TextWalk, Walk, canonical_bytes, feed_walk, is_canonical, same_walks};
 pub use class::{Class, fault_of, is_unreserved};
 pub use copy::{canonical_copy, is_canonical_part, put_copy};
-pub use cut::{behind_mark, split_at_mark};
+pub use cut::{split_at_mark, without_mark};
 pub use print::write_short;
 pub use scan::{ByteTest, Is, IsAny, Outside, first, next_marks};
-pub use text::{Kind, Text};
+pub use text::{Kind, Text, read_text_if};
 pub use token::{Token, is_escape, split_token};

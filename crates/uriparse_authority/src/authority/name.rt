@@ -5,7 +5,7 @@ ghost use Rattle.std.specs.Ordering.{on};
 ghost use Rattle.std.specs.Cmp.Rules.{comparing, hashing};
 ghost use Rattle.uriparse_text.specs.declared.parts.class.Class.TheVariants as class;
 ghost use Rattle.uriparse_text.specs.declared.parts.canonical.Case.TheVariants as case;
-ghost use Rattle.uriparse_text.specs.Canon.{canon_low, fed_spelling, SpellsAlike};
+ghost use Rattle.uriparse_text.specs.Canonical.{canonical_lowered, fed_text, SpellsAlike};
 ghost use Rattle.uriparse_text.specs.Readings.{reading_in};
 ghost use Rattle.uriparse_authority.specs.Name as spec;
 
@@ -49,8 +49,10 @@ impl Kind for NameKind {
 /// A registered name: a text of unreserved bytes, escapes and sub-delimiters, which may be empty.
 /// RFC 3986, section 3.2.2. No reader takes the text of an IPv4 address for one.
 ///
-/// It borrows the text that it was read from, or owns its text. Two names are equal where their
-/// canonical spellings are.
+/// It borrows the text that it was read from, or owns its text. Its readers take no memory and refuse
+/// a text of other bytes or with a broken escape, and that of an IPv4 address, by the one
+/// [`RegisteredNameError`]. Two names are equal where their canonical spellings are, in which letters
+/// are lower case.
 ///
 /// ```
 /// let name = RegisteredName::try_from_str("EXAMPLE.com")?;
@@ -143,14 +145,14 @@ impl<'n> RegisteredName<'n> {
 
     /// Whether the name is its own canonical spelling, in which letters are lower case. Takes no memory.
     pub fn is_normalized(&self) -> bool
-        ensures { IsTrue result ↔ (canon_low self.now ≡ self.now) }
+        ensures { IsTrue result ↔ (canonical_lowered self.now ≡ self.now) }
     {
         self.text.is_normalized()
     }
 
     /// A name that owns the canonical spelling of this one. Wants memory.
     pub(super) fn to_normalized(&self, alloc: Global) -> Result<RegisteredName<'static>, AllocError>
-        ensures { IfOk result (λ n. n ≡ canon_low self.now) }
+        ensures { IfOk result (λ n. n ≡ canonical_lowered self.now) }
     {
         Ok(RegisteredName {
             text: self.text.to_normalized(alloc)?,
@@ -161,9 +163,9 @@ impl<'n> RegisteredName<'n> {
     /// name, also where it spells an IPv4 address then. Memory is wanted only where they differ; where
     /// there is none, the name is kept.
     pub fn normalize(&mut self, alloc: Global) -> Result<(), AllocError>
-        ensures ok { OnOk result (self.new ≡ canon_low self.old) }
+        ensures ok { OnOk result (self.new ≡ canonical_lowered self.old) }
         ensures err { OnErr result (self.new ≡ self.old) }
-        ensures takes_no_memory { canon_low self.old ≡ self.old → IsOk result }
+        ensures takes_no_memory { canonical_lowered self.old ≡ self.old → IsOk result }
     {
         self.text.normalize(alloc)
     }
@@ -185,7 +187,7 @@ impl<'n> RegisteredName<'n> {
 }
 
 impl<'n> PartialEq for RegisteredName<'n> {
-    ghost eq = { on canon_low bytes_eq };
+    ghost eq = { on canonical_lowered bytes_eq };
 
     ghost laws = { Prim.search (comparing, rules) };
 
@@ -199,7 +201,7 @@ impl<'n> Eq for RegisteredName<'n> {
 }
 
 impl<'n> Hash for RegisteredName<'n> {
-    ghost hash_input = { λ n. fed_spelling (canon_low n) };
+    ghost hash_input = { λ n. fed_text (canonical_lowered n) };
 
     ghost respects_eq = { Prim.search (hashing, rules) };
 

@@ -1,7 +1,7 @@
 //! Normal forms of authorities: RFC 3986, sections 3.2 and 6.2.2.
 ghost use Rattle.std.specs.Prelude.{◌≡◌, ◌↔◌, IsTrue, IsOk, IfOk, OnOk, OnErr, unwrap_or};
 ghost use Rattle.std.specs.Option.{option_map};
-ghost use Rattle.uriparse_text.specs.Canon.{spelling};
+ghost use Rattle.uriparse_text.specs.Canonical.{canonical_in};
 ghost use Rattle.uriparse_authority.specs.Authority.{print};
 ghost use Rattle.uriparse_authority.specs.Normal.{AreCanonicalCopies, canonical_authority};
 
@@ -56,7 +56,7 @@ pub fn put_copies(authority: &mut Authority<'_>, copies: CanonicalCopies)
 
 /// Whether a part is its own canonical spelling, if it is there.
 fn is_canonical_part<K: Kind>(part: &Option<Text<'_, K>>) -> bool
-    ensures { IsTrue result ↔ (option_map (spelling K.case) part.now ≡ part.now) }
+    ensures { IsTrue result ↔ (option_map (canonical_in K.case) part.now ≡ part.now) }
 {
     match part {
         Some(text) => text.is_normalized(),

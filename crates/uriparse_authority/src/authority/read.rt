@@ -2,16 +2,12 @@
 ghost use Rattle.std.specs.Prelude.{◌≡◌, position};
 ghost use Rattle.std.specs.Option.{option_copied};
 ghost use Rattle.uriparse_text.specs.Cuts.{up_to, from_first};
-ghost use Rattle.uriparse_text.specs.Readings.{if_present};
-ghost use Rattle.uriparse_authority.specs.Username as username;
-ghost use Rattle.uriparse_authority.specs.Password as password;
 ghost use Rattle.uriparse_authority.specs.Authority as authority;
 
-use super::{
-    Authority, AuthorityError, Host, HostError, Password, PasswordError, PortError, Username,
-    UsernameError, parse_port,
-};
-use uriparse_text::parts::{IsAny, behind_mark, first, split_at_mark};
+use super::password::PasswordKind;
+use super::username::UsernameKind;
+use super::{Authority, AuthorityError, Host, HostError, PortError, parse_port};
+use uriparse_text::parts::{IsAny, first, read_text_if, split_at_mark, without_mark};
 
 /// The user information, if there is an `@` behind it, and what stands behind the `@`; or none, and
 /// the text.
@@ -20,7 +16,7 @@ fn split_userinfo(text: &[u8]) -> (Option<&[u8]>, &[u8])
     ensures host_and_port { result.1.now ≡ authority.host_and_port_text text.now }
 {
     let (userinfo, rest) = split_at_mark(text, b'@');
-    match behind_mark(rest) {
+    match without_mark(rest) {
         Some(host_and_port) => (Some(userinfo), host_and_port),
         None => (None, text),
     }
@@ -35,7 +31,7 @@ fn split_password(userinfo: Option<&[u8]>) -> (Option<&[u8]>, Option<&[u8]>)
         return (None, None);
     };
     let (username, rest) = split_at_mark(userinfo, b':');
-    (Some(username), behind_mark(rest))
+    (Some(username), without_mark(rest))
 }
 
 /// The host and, behind the last `:` that no `]` follows, the port.
@@ -57,26 +53,6 @@ fn split_port(text: &[u8]) -> (&[u8], Option<&[u8]>)
     (text, None)
 }
 
-/// Reads the user name, if there is one.
-fn read_username(text: Option<&[u8]>) -> Result<Option<Username<'_>>, UsernameError>
-    ensures { result ≡ if_present username.reading (option_copied text.entry) }
-{
-    match text {
-        Some(text) => Ok(Some(Username::try_from_bytes(text)?)),
-        None => Ok(None),
-    }
-}
-
-/// Reads the password, if there is one.
-fn read_password(text: Option<&[u8]>) -> Result<Option<Password<'_>>, PasswordError>
-    ensures { result ≡ if_present password.reading (option_copied text.entry) }
-{
-    match text {
-        Some(text) => Ok(Some(Password::try_from_bytes(text)?)),
-        None => Ok(None),
-    }
-}
-
 /// Reads an authority, whose parts borrow the bytes. It takes no memory.
 #[tactic(auto, unfolding(crate::specs::Authority::reading))]
 pub fn read_authority(bytes: &[u8]) -> Result<Authority<'_>, AuthorityError>
@@ -85,8 +61,8 @@ pub fn read_authority(bytes: &[u8]) -> Result<Authority<'_>, AuthorityError>
     let (userinfo, host_and_port) = split_userinfo(bytes);
     let (username, password) = split_password(userinfo);
     let (host, port) = split_port(host_and_port);
-    let username = read_username(username)?;
-    let password = read_password(password)?;
+    let username = read_text_if::<UsernameKind>(username)?;
+    let password = read_text_if::<PasswordKind>(password)?;
     let host = Host::try_from_bytes(host)?;
     let port = parse_port(port.unwrap_or(b""))?;
     Authority::from_parts(username, password, host, port)

@@ -2,7 +2,7 @@
 ghost use Rattle.std.specs.Prelude.{◌≡◌, ◌+◌, ◌<◌, ◌≤◌, ◌∷◌, ◌&&◌, ◌||◌, [], true, false, not, if◌then◌else◌, IfOk, IsOk, filter, map, length, take, drop, reverse, slice_set, vec_len};
 ghost use Rattle.std.specs.List.{list_all};
 ghost use Rattle.uriparse_text.specs.Bytes.{dot};
-ghost use Rattle.uriparse_text.specs.Canon.{canon};
+ghost use Rattle.uriparse_text.specs.Canonical.{canonical};
 ghost use Rattle.uriparse_path.specs.Path as path;
 ghost use Rattle.uriparse_path.specs.Dots as dots;
 ghost use Rattle.uriparse_path.specs.Relative as relative;
@@ -233,7 +233,7 @@ pub(super) fn canonical_copies(
     alloc: Global,
     segments: &[Segment<'_>],
 ) -> Result<Vec<Segment<'static>>, AllocError>
-    ensures copies { IfOk result (λ v. v.items ≡ map canon (filter (λ s. not (spec.is_canonical s)) segments.now)) }
+    ensures copies { IfOk result (λ v. v.items ≡ map canonical (filter (λ s. not (spec.is_canonical s)) segments.now)) }
     ensures takes_no_memory { list_all spec.is_canonical segments.now ≡ true → IsOk result }
 {
     let mut copies = Vec::new(alloc);
@@ -256,8 +256,8 @@ fn put<'s>(segments: &mut Vec<Segment<'s>>, at: usize, segment: Segment<'s>)
 
 /// Puts these copies in the place of the segments that aren't canonical.
 pub(super) fn put_copies<'s>(segments: &mut Vec<Segment<'s>>, copies: Vec<Segment<'s>>)
-    requires { copies.items ≡ map canon (filter (λ s. not (spec.is_canonical s)) segments.old.items) }
-    ensures { segments.new.items ≡ map canon segments.old.items }
+    requires { copies.items ≡ map canonical (filter (λ s. not (spec.is_canonical s)) segments.old.items) }
+    ensures { segments.new.items ≡ map canonical segments.old.items }
 {
     if copies.is_empty() {
         return;

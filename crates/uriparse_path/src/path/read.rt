@@ -10,7 +10,7 @@ ghost use Rattle.uriparse_path.specs.Faults.{fault_within};
 use super::error::PathError;
 use super::segment::{Segment, fault_at};
 use std::alloc::{AllocError, Global};
-use uriparse_text::parts::{Class, Outside, is_escape, lowest, next_marks, without_lowest};
+use uriparse_text::parts::{Class, Is, Outside, is_escape, lowest, next_marks, without_lowest};
 
 /// Whether the text begins with a slash, and the text without it.
 pub(super) fn split_root(text: &[u8]) -> (bool, &[u8])
@@ -99,9 +99,53 @@ pub(super) fn split_segments<'p>(
     requires { list_all segment.is_segment (slice_split is_slash text.now) ≡ true }
     ensures { IfOk result (λ v. v.items ≡ slice_split is_slash text.now) }
 {
+    if text.len() < 8 {
+        split_by_one(alloc, count, text)
+    } else {
+        split_by_marks(alloc, count, text)
+    }
+}
+
+/// The same for a short text, byte by byte.
+fn split_by_one<'p>(
+    alloc: Global,
+    count: usize,
+    text: &'p [u8],
+) -> Result<Vec<Segment<'p>>, AllocError>
+    requires { list_all segment.is_segment (slice_split is_slash text.now) ≡ true }
+    ensures { IfOk result (λ v. v.items ≡ slice_split is_slash text.now) }
+{
     let mut segments = Vec::with_capacity(alloc, count)?;
     for piece in text.split(|b| *b == b'/') {
         segments.push(Segment::of_checked(piece))?;
     }
+    Ok(segments)
+}
+
+/// The same for a longer one, by the marks of its slashes: each ends a segment.
+fn split_by_marks<'p>(
+    alloc: Global,
+    count: usize,
+    text: &'p [u8],
+) -> Result<Vec<Segment<'p>>, AllocError>
+    requires each { list_all segment.is_segment (slice_split is_slash text.now) ≡ true }
+    requires least { 8 ≤ length text.now }
+    ensures { IfOk result (λ v. v.items ≡ slice_split is_slash text.now) }
+{
+    let mut segments = Vec::with_capacity(alloc, count)?;
+    let mut start = 0;
+    let mut at = 0;
+    'runs: while at < text.len() {
+        let (marks, len) = next_marks(&Is(b'/'), text, at);
+        let mut left = marks;
+        'marks: while left != 0 {
+            let end = at + lowest(left);
+            segments.push(Segment::of_checked(&text[start..end]))?;
+            start = end + 1;
+            left = without_lowest(left);
+        }
+        at += len;
+    }
+    segments.push(Segment::of_checked(&text[start..]))?;
     Ok(segments)
 }

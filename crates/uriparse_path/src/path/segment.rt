@@ -7,7 +7,7 @@ ghost use Rattle.std.specs.Cmp.Rules.{comparing, hashing};
 ghost use Rattle.uriparse_text.specs.declared.parts.class.Class.TheVariants as class;
 ghost use Rattle.uriparse_text.specs.declared.parts.canonical.Case.TheVariants as case;
 ghost use Rattle.uriparse_text.specs.Bytes.{dot};
-ghost use Rattle.uriparse_text.specs.Canon.{canon, canonical_tokens, fed_spelling, SpellsAlike};
+ghost use Rattle.uriparse_text.specs.Canonical.{canonical, canonical_tokens, fed_text, SpellsAlike};
 ghost use Rattle.uriparse_path.specs.Segment as spec;
 ghost use Rattle.uriparse_path.specs.Dots as dots;
 ghost use Rattle.uriparse_path.specs.Relative as relative;
@@ -64,10 +64,13 @@ impl Kind for SegmentKind {
     }
 }
 
-/// A segment of a path, without slashes: a text of `pchar`, which may be empty.
+/// A segment of a path, without slashes: a text of `pchar`, which may be empty. RFC 3986, section
+/// 3.3.
 ///
-/// It borrows the text that it was read from, or owns its text. Two segments are equal where their
-/// canonical spellings are.
+/// It borrows the text that it was read from, or owns its text. Its readers take no memory and refuse
+/// the leftmost fault: [`InvalidPercentEncoding`](PathError::InvalidPercentEncoding) at a `%` without
+/// two hexadecimal digits behind it, else [`InvalidCharacter`](PathError::InvalidCharacter), as at a
+/// slash. Two segments are equal where their canonical spellings are.
 ///
 /// ```
 /// let segment = Segment::try_from_str("%4a")?;
@@ -219,14 +222,14 @@ impl<'s> Segment<'s> {
 
     /// Whether the segment is its own canonical spelling.
     pub fn is_normalized(&self) -> bool
-        ensures { IsTrue result ↔ (canon self.now ≡ self.now) }
+        ensures { IsTrue result ↔ (canonical self.now ≡ self.now) }
     {
         self.text.is_normalized()
     }
 
     /// A segment that owns the canonical spelling of this one.
     pub(super) fn to_normalized(&self, alloc: Global) -> Result<Segment<'static>, AllocError>
-        ensures { IfOk result (λ s. s ≡ canon self.now) }
+        ensures { IfOk result (λ s. s ≡ canonical self.now) }
     {
         Ok(Segment {
             text: self.text.to_normalized(alloc)?,
@@ -236,9 +239,9 @@ impl<'s> Segment<'s> {
     /// Puts the canonical spelling in the segment's place. Takes memory only where they differ;
     /// where there is none, the segment is kept.
     pub fn normalize(&mut self, alloc: Global) -> Result<(), AllocError>
-        ensures ok { OnOk result (self.new ≡ canon self.old) }
+        ensures ok { OnOk result (self.new ≡ canonical self.old) }
         ensures err { OnErr result (self.new ≡ self.old) }
-        ensures takes_no_memory { canon self.old ≡ self.old → IsOk result }
+        ensures takes_no_memory { canonical self.old ≡ self.old → IsOk result }
     {
         self.text.normalize(alloc)
     }
@@ -267,7 +270,7 @@ impl<'s> Segment<'s> {
 }
 
 impl<'s> PartialEq for Segment<'s> {
-    ghost eq = { on canon bytes_eq };
+    ghost eq = { on canonical bytes_eq };
 
     ghost laws = { Prim.search (comparing, rules) };
 
@@ -281,7 +284,7 @@ impl<'s> Eq for Segment<'s> {
 }
 
 impl<'s> Hash for Segment<'s> {
-    ghost hash_input = { λ s. fed_spelling (canon s) };
+    ghost hash_input = { λ s. fed_text (canonical s) };
 
     ghost respects_eq = { Prim.search (hashing, rules) };
 

@@ -1,7 +1,7 @@
 //! The cursor over a path, which takes it as one text: its flag, its separators, its segments.
 ghost use Rattle.std.specs.Prelude.{◌≡◌, ◌∷◌, [], MatchOption};
 ghost use Rattle.uriparse_text.specs.declared.parts.canonical.Case.TheVariants as case;
-ghost use Rattle.uriparse_text.specs.Canon.{canonical_tokens};
+ghost use Rattle.uriparse_text.specs.Canonical.{canonical_tokens};
 ghost use Rattle.uriparse_path.specs.Path.{IsListed, text};
 
 use super::segment::Segment;
@@ -21,7 +21,7 @@ impl<'w> Model for PathWalk<'w> {
     ghost use Rattle.uriparse_text.specs.declared.parts.token.Token.TheVariants.{Byte};
     ghost use Rattle.uriparse_text.specs.declared.parts.canonical.Case.TheVariants.{Kept};
     ghost use Rattle.uriparse_text.specs.Bytes.{slash};
-    ghost use Rattle.uriparse_text.specs.Canon.{canonical_tokens};
+    ghost use Rattle.uriparse_text.specs.Canonical.{canonical_tokens};
 
     ghost Value = { List Token };
 

@@ -10,15 +10,15 @@ ghost use Rattle.uriparse_reference.specs.declared.uri_reference.error.URIRefere
 
 use super::URIReference;
 use super::error::URIReferenceError;
-use super::read::{read_fragment_if, read_query_if};
 use std::alloc::Global;
 use std::marker::Model;
 use std::mem;
 use uriparse_authority::authority::Authority;
 use uriparse_path::path::Path;
 use uriparse_scheme::scheme::Scheme;
-use uriparse_text::fragment::Fragment;
-use uriparse_text::query::Query;
+use uriparse_text::fragment::{Fragment, FragmentKind};
+use uriparse_text::parts::read_text_if;
+use uriparse_text::query::{Query, QueryKind};
 
 /// The parts of a reference that were given so far. Only the path has to be given before it is built.
 ///
@@ -202,7 +202,7 @@ impl<'b> URIReferenceBuilder<'b> {
     pub fn try_query(&mut self, query: Option<&'b [u8]>) -> Result<(), URIReferenceError>
         ensures { Settles self.old self.new result (query_read self.old (option_copied query.entry)) }
     {
-        let query = read_query_if(query)?;
+        let query = read_text_if::<QueryKind>(query)?;
         self.query(query);
         Ok(())
     }
@@ -212,7 +212,7 @@ impl<'b> URIReferenceBuilder<'b> {
     pub fn try_fragment(&mut self, fragment: Option<&'b [u8]>) -> Result<(), URIReferenceError>
         ensures { Settles self.old self.new result (fragment_read self.old (option_copied fragment.entry)) }
     {
-        let fragment = read_fragment_if(fragment)?;
+        let fragment = read_text_if::<FragmentKind>(fragment)?;
         self.fragment(fragment);
         Ok(())
     }

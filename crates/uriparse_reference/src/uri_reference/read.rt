@@ -1,8 +1,6 @@
 //! How the text of a reference is cut and its pieces are read: RFC 3986, sections 3 and 4.
 ghost use Rattle.std.specs.Prelude.{◌≡◌, IsErr, position, ◌||◌, ◌&&◌, not, ℕ, Option, List, drop, is_some, true, false, MatchOption};
 ghost use Rattle.std.specs.Option.{option_copied, option_map};
-ghost use Rattle.uriparse_text.specs.Query as query;
-ghost use Rattle.uriparse_text.specs.Fragment as fragment;
 ghost use Rattle.uriparse_text.specs.Readings.{if_present, of_piece, unless_fault, IsUnless};
 ghost use Rattle.uriparse_authority.specs.Authority as authority;
 ghost use Rattle.uriparse_authority.specs.Authority.{colon_part};
@@ -10,7 +8,7 @@ ghost use Rattle.uriparse_text.specs.Cuts.{up_to, from_first};
 ghost use Rattle.uriparse_path.specs.Faults as paths;
 ghost use Rattle.uriparse_path.specs.Path.{has_two_slashes};
 ghost use Rattle.uriparse_scheme.specs.Scheme.{named};
-ghost use Rattle.uriparse_reference.specs.Cuts.{ends_scheme, scheme_text, after_scheme, cut_authority, cut_left, authority_text, path_text, query_text, fragment_text};
+ghost use Rattle.uriparse_reference.specs.Cuts.{ends_scheme, scheme_text, after_scheme, cut_authority, without_authority, authority_text, path_text, query_text, fragment_text, ends_path, tail_query, tail_fragment};
 ghost use Rattle.uriparse_path.specs.declared.path.error.PathError.TheVariants.{OutOfMemory};
 ghost use Rattle.uriparse_reference.specs.declared.uri_reference.error.URIReferenceError.TheVariants as errors;
 ghost use Rattle.uriparse_reference.specs.Reading.{path_reading};
@@ -23,9 +21,7 @@ use uriparse_authority::parts::{read_authority, split_rest};
 use uriparse_path::parts::into_absolute;
 use uriparse_path::path::Path;
 use uriparse_scheme::scheme::Scheme;
-use uriparse_text::fragment::Fragment;
-use uriparse_text::parts::{behind_mark, split_at_mark};
-use uriparse_text::query::Query;
+use uriparse_text::parts::{IsAny, first, split_at_mark, without_mark};
 
 /// A `:` ends a scheme, and behind a `/`, `?` or `#` none ends.
 fn ends_scheme(b: u8) -> bool
@@ -59,8 +55,23 @@ fn behind_colon(rest: &[u8]) -> Option<&[u8]>
     }
 }
 
-/// The scheme that the text begins with, and what stands behind its colon; or none, and the text.
+/// The scheme that the text begins with, and what stands behind its colon; or none, and the text. The
+/// two that most texts have are told by their bytes, with no search.
 fn split_scheme(text: &[u8]) -> (Option<Scheme<'_>>, &[u8])
+    ensures scheme { result.0 ≡ option_map named (scheme_text text.now) }
+    ensures rest { result.1.now ≡ after_scheme text.now }
+{
+    if let Some(behind) = text.strip_prefix(b"https:") {
+        return (Some(Scheme::HTTPS), behind);
+    }
+    if let Some(behind) = text.strip_prefix(b"http:") {
+        return (Some(Scheme::HTTP), behind);
+    }
+    split_any_scheme(text)
+}
+
+/// The same, by a search for the colon.
+fn split_any_scheme(text: &[u8]) -> (Option<Scheme<'_>>, &[u8])
     ensures scheme { result.0 ≡ option_map named (scheme_text text.now) }
     ensures rest { result.1.now ≡ after_scheme text.now }
 {
@@ -88,13 +99,36 @@ fn behind_two_slashes(text: &[u8]) -> Option<&[u8]>
 /// the text.
 fn split_authority(text: &[u8]) -> (Option<&[u8]>, &[u8])
     ensures authority { option_copied result.0 ≡ cut_authority text.now }
-    ensures rest { result.1.now ≡ cut_left text.now }
+    ensures rest { result.1.now ≡ without_authority text.now }
 {
     let Some(behind) = behind_two_slashes(text) else {
         return (None, text);
     };
     let (authority, rest) = split_rest(behind);
     (Some(authority), rest)
+}
+
+/// The text up to the first `?` or `#`, and the rest, which begins with it.
+fn split_path(text: &[u8]) -> (&[u8], &[u8])
+    ensures front { result.0.now ≡ up_to ends_path text.now }
+    ensures rest { result.1.now ≡ from_first ends_path text.now }
+{
+    text.split_at(first(&IsAny(b'?', b'#', b'#'), text))
+}
+
+/// The query and the fragment that a rest holds, which begins with a `?` or a `#`, if there is one.
+fn split_tail(rest: &[u8]) -> (Option<&[u8]>, Option<&[u8]>)
+    ensures query { option_copied result.0 ≡ tail_query rest.now }
+    ensures fragment { option_copied result.1 ≡ tail_fragment rest.now }
+{
+    match rest {
+        [b'?', behind @ ..] => {
+            let (query, rest) = split_at_mark(behind, b'#');
+            (Some(query), without_mark(rest))
+        }
+        [b'#', behind @ ..] => (None, Some(behind)),
+        _ => (None, None),
+    }
 }
 
 /// The pieces of a text. Only the scheme is read yet, since its text alone tells whether it is one.
@@ -117,14 +151,14 @@ pub(super) fn cut(text: &[u8]) -> Pieces<'_>
 {
     let (scheme, rest) = split_scheme(text);
     let (authority, rest) = split_authority(rest);
-    let (front, fragment) = split_at_mark(rest, b'#');
-    let (path, query) = split_at_mark(front, b'?');
+    let (path, rest) = split_path(rest);
+    let (query, fragment) = split_tail(rest);
     Pieces {
         scheme,
         authority,
         path,
-        query: behind_mark(query),
-        fragment: behind_mark(fragment),
+        query,
+        fragment,
     }
 }
 
@@ -179,26 +213,4 @@ pub(super) fn read_path(
     } else {
         path
     })
-}
-
-/// Reads the query, if there is one.
-pub(super) fn read_query_if(text: Option<&[u8]>) -> Result<Option<Query<'_>>, URIReferenceError>
-    ensures { result ≡ of_piece errors.Query (if_present query.reading (option_copied text.entry)) }
-{
-    match text {
-        Some(text) => Ok(Some(Query::try_from_bytes(text)?)),
-        None => Ok(None),
-    }
-}
-
-/// Reads the fragment, if there is one.
-pub(super) fn read_fragment_if(
-    text: Option<&[u8]>,
-) -> Result<Option<Fragment<'_>>, URIReferenceError>
-    ensures { result ≡ of_piece errors.Fragment (if_present fragment.reading (option_copied text.entry)) }
-{
-    match text {
-        Some(text) => Ok(Some(Fragment::try_from_bytes(text)?)),
-        None => Ok(None),
-    }
 }

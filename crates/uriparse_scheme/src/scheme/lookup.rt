@@ -3,7 +3,7 @@ ghost use Rattle.std.specs.Prelude.{◌≡◌, true, bytes_eq};
 ghost use Rattle.std.proofs.Common.{rules};
 ghost use Rattle.std.specs.Ordering.{on};
 ghost use Rattle.std.specs.Cmp.Rules.{comparing, hashing};
-ghost use Rattle.uriparse_text.specs.Canon.{canon_low, fed_spelling};
+ghost use Rattle.uriparse_text.specs.Canonical.{canonical_lowered, fed_text};
 ghost use Rattle.uriparse_scheme.specs.declared.scheme.registered.RegisteredScheme.TheVariants.{Microsoft};
 ghost use Rattle.uriparse_scheme.specs.Registered as spec;
 ghost use Rattle.uriparse_scheme.specs.Grammar.{is_scheme};
@@ -34,7 +34,7 @@ impl RegisteredScheme {
 }
 
 impl PartialEq for RegisteredScheme {
-    ghost eq = { on (λ s. canon_low (spec.name_of s)) bytes_eq };
+    ghost eq = { on (λ s. canonical_lowered (spec.name_of s)) bytes_eq };
 
     ghost laws = { Prim.search (comparing, rules) };
 
@@ -48,7 +48,7 @@ impl Eq for RegisteredScheme {
 }
 
 impl Hash for RegisteredScheme {
-    ghost hash_input = { λ s. fed_spelling (canon_low (spec.name_of s)) };
+    ghost hash_input = { λ s. fed_text (canonical_lowered (spec.name_of s)) };
 
     ghost respects_eq = { Prim.search (hashing, rules) };
 
@@ -66,7 +66,7 @@ impl fmt::Debug for RegisteredScheme {
 }
 
 impl PartialEq for MicrosoftScheme {
-    ghost eq = { on (λ s. canon_low (spec.name_of (Microsoft s))) bytes_eq };
+    ghost eq = { on (λ s. canonical_lowered (spec.name_of (Microsoft s))) bytes_eq };
 
     ghost laws = { Prim.search (comparing, rules) };
 
@@ -80,7 +80,7 @@ impl Eq for MicrosoftScheme {
 }
 
 impl Hash for MicrosoftScheme {
-    ghost hash_input = { λ s. fed_spelling (canon_low (spec.name_of (Microsoft s))) };
+    ghost hash_input = { λ s. fed_text (canonical_lowered (spec.name_of (Microsoft s))) };
 
     ghost respects_eq = { Prim.search (hashing, rules) };
 

@@ -1,7 +1,7 @@
 //! Comparing and hashing schemes by their canonical spelling, with no memory: RFC 3986, section
 //! 6.2.2.1.
 ghost use Rattle.std.specs.Prelude.{◌≡◌, true, fold, bytes_eq};
-ghost use Rattle.uriparse_text.specs.Canon.{canon_low, fed_spelling};
+ghost use Rattle.uriparse_text.specs.Canonical.{canonical_lowered, fed_text};
 ghost use Rattle.uriparse_scheme.specs.Grammar.{is_scheme};
 
 use std::hash::Hasher;
@@ -11,7 +11,7 @@ use uriparse_text::parts::{Case, TextWalk, feed_walk};
 pub(super) fn same_lowered(left: &[u8], right: &[u8]) -> bool
     requires left { is_scheme left.now ≡ true }
     requires right { is_scheme right.now ≡ true }
-    ensures { result ≡ bytes_eq (canon_low left.now) (canon_low right.now) }
+    ensures { result ≡ bytes_eq (canonical_lowered left.now) (canonical_lowered right.now) }
 {
     left.eq_ignore_ascii_case(right)
 }
@@ -19,7 +19,7 @@ pub(super) fn same_lowered(left: &[u8], right: &[u8]) -> bool
 /// Feeds a scheme in lower case to the hasher, byte by byte, and then 0xFF.
 #[tactic(auto, using(crate::proofs::GrammarLemmas::walked))]
 pub(super) fn feed_lowered<H: Hasher>(bytes: &[u8], state: &mut H)
-    ensures { state.new ≡ fold H.write state.old (fed_spelling (canon_low bytes.now)) }
+    ensures { state.new ≡ fold H.write state.old (fed_text (canonical_lowered bytes.now)) }
 {
     feed_walk(TextWalk::new(Case::Lowered, bytes), state);
 }

@@ -4,7 +4,7 @@ ghost use Rattle.std.proofs.Common.{rules};
 ghost use Rattle.std.specs.Ordering.{on};
 ghost use Rattle.std.specs.Str.{str_to_ascii_lowercase};
 ghost use Rattle.std.specs.Cmp.Rules.{comparing, hashing};
-ghost use Rattle.uriparse_text.specs.Canon.{canon_low, fed_spelling};
+ghost use Rattle.uriparse_text.specs.Canonical.{canonical_lowered, fed_text};
 ghost use Rattle.uriparse_scheme.specs.Grammar as grammar;
 ghost use Rattle.uriparse_scheme.specs.Unregistered.{reading};
 
@@ -23,8 +23,15 @@ use uriparse_text::parts::{Case, canonical_bytes, is_canonical};
 /// no case is the name of a registered scheme. RFC 3986, section 3.1.
 ///
 /// It borrows the text that it was read from, or owns its text, and keeps its spelling until it is
-/// normalized. Two of them are equal where they differ at most in the case of letters, and equal
-/// ones feed a hasher the same bytes: section 6.2.2.1.
+/// normalized. Its readers take no memory and refuse any other text by the one
+/// [`UnregisteredSchemeError`]. Two of them are equal where they differ at most in the case of
+/// letters, and equal ones feed a hasher the same bytes: section 6.2.2.1.
+///
+/// ```
+/// let scheme = UnregisteredScheme::try_from_str("X-Files")?;
+/// assert!(scheme.eq_str("x-files") && scheme.as_str() == "X-Files");
+/// assert!(UnregisteredScheme::try_from_str("HTTP").is_err());
+/// ```
 #[derive(Drop)]
 pub struct UnregisteredScheme<'s> {
     text: CowStr<'s>,
@@ -121,7 +128,7 @@ impl<'s> UnregisteredScheme<'s> {
     /// Whether the text is its canonical spelling, which is the text in lower case: RFC 3986, section
     /// 6.2.2.1. Takes no memory.
     pub fn is_normalized(&self) -> bool
-        ensures { IsTrue result ↔ (canon_low self.now ≡ self.now) }
+        ensures { IsTrue result ↔ (canonical_lowered self.now ≡ self.now) }
     {
         is_canonical(Case::Lowered, self.as_bytes())
     }
@@ -129,9 +136,9 @@ impl<'s> UnregisteredScheme<'s> {
     /// Puts the text in lower case: RFC 3986, section 6.2.2.1. Wants memory only where that changes
     /// it; where there is none, the scheme is unchanged. A second call changes nothing.
     pub fn normalize(&mut self, alloc: Global) -> Result<(), AllocError>
-        ensures ok { OnOk result (self.new ≡ canon_low self.old) }
+        ensures ok { OnOk result (self.new ≡ canonical_lowered self.old) }
         ensures err { OnErr result (self.new ≡ self.old) }
-        ensures takes_no_memory { canon_low self.old ≡ self.old → IsOk result }
+        ensures takes_no_memory { canonical_lowered self.old ≡ self.old → IsOk result }
     {
         if self.is_normalized() {
             return Ok(());
@@ -145,7 +152,7 @@ impl<'s> UnregisteredScheme<'s> {
         &self,
         alloc: Global,
     ) -> Result<UnregisteredScheme<'static>, AllocError>
-        ensures { IfOk result (λ s. s ≡ canon_low self.now) }
+        ensures { IfOk result (λ s. s ≡ canonical_lowered self.now) }
     {
         let bytes = canonical_bytes(alloc, Case::Lowered, self.as_bytes())?;
         Ok(UnregisteredScheme {
@@ -170,7 +177,7 @@ impl<'s> UnregisteredScheme<'s> {
 }
 
 impl<'s> PartialEq for UnregisteredScheme<'s> {
-    ghost eq = { on canon_low bytes_eq };
+    ghost eq = { on canonical_lowered bytes_eq };
 
     ghost laws = { Prim.search (comparing, rules) };
 
@@ -184,7 +191,7 @@ impl<'s> Eq for UnregisteredScheme<'s> {
 }
 
 impl<'s> Hash for UnregisteredScheme<'s> {
-    ghost hash_input = { λ s. fed_spelling (canon_low s) };
+    ghost hash_input = { λ s. fed_text (canonical_lowered s) };
 
     ghost respects_eq = { Prim.search (hashing, rules) };
 

@@ -1,5 +1,5 @@
 //! IPv4 addresses: `IPv4address` of RFC 3986, section 3.2.2.
-ghost use Rattle.std.specs.Prelude.{◌≡◌, ℕ, List, [], ◌∷◌, Some, IfSome};
+ghost use Rattle.std.specs.Prelude.{◌≡◌, ℕ, List, [], ◌∷◌, Some, IfSome, IsTrue};
 ghost use Rattle.uriparse_text.specs.Address.{IsOctets, SpellsIpv4, ipv4_text, ipv4_reading};
 
 use crate::parts::write_short;
@@ -31,6 +31,16 @@ impl Model for Ipv4Addr {
     ghost inverse = { λ octets. record { octets = octets } };
 }
 
+/// Whether the text begins with a byte that no address has, as most names do.
+fn begins_as_name(bytes: &[u8]) -> bool
+    ensures { IsTrue result → (a : List ℕ) → ¬ (SpellsIpv4 bytes.now a) }
+{
+    match bytes {
+        [b, ..] => !b.is_ascii_digit() && *b != b'.',
+        [] => false,
+    }
+}
+
 impl Ipv4Addr {
     /// The address `a.b.c.d`.
     pub fn new(a: u8, b: u8, c: u8, d: u8) -> Ipv4Addr
@@ -56,6 +66,9 @@ impl Ipv4Addr {
         ensures found { IfSome result (SpellsIpv4 bytes.now) }
         ensures only { (a : List ℕ) → SpellsIpv4 bytes.now a → result ≡ Some a }
     {
+        if begins_as_name(bytes) {
+            return None;
+        }
         match net::Ipv4Addr::parse_ascii(bytes) {
             Ok(address) => Some(Ipv4Addr {
                 octets: address.octets(),

@@ -1,12 +1,14 @@
-//! Canonical spelling, token by token and with no memory: RFC 3986, sections 6.2.2.1 and 6.2.2.2.
-ghost use Rattle.std.specs.Prelude.{◌≡◌, ◌∷◌, ◌++◌, ◌<◌, ◌↔◌, [], List, IsTrue, IfOk, OnOk, MatchOption, true, fold, flat_map, position};
+//! Canonical spelling: RFC 3986, sections 6.2.2.1 and 6.2.2.2.
+ghost use Rattle.std.specs.Prelude.{◌≡◌, ◌∷◌, ◌++◌, ◌<◌, ◌↔◌, [], List, IsTrue, IfOk, OnOk, MatchOption, true, fold, flat_map, map};
 ghost use Rattle.std.specs.Char.{digit_value};
 ghost use Rattle.std.specs.Hash as fed;
 ghost use Rattle.uriparse_text.specs.Bytes.{is_hex};
 ghost use Rattle.uriparse_text.specs.Tokens.{has_digits, is_well_formed, spell};
-ghost use Rattle.uriparse_text.specs.Canon as spec;
+ghost use Rattle.uriparse_text.specs.Canonical as spec;
 
 use super::class::is_unreserved;
+use super::digit::hex_value;
+use super::run::split_run;
 use super::token::{Token, split_token};
 use std::alloc::{AllocError, Global};
 use std::hash::Hasher;
@@ -23,7 +25,7 @@ pub enum Case {
 
 impl Case {
     #[inline]
-    fn of(self, b: u8) -> u8
+    pub(super) fn of(self, b: u8) -> u8
         ensures { result ≡ spec.in_case self b }
     {
         match self {
@@ -33,24 +35,12 @@ impl Case {
     }
 }
 
-fn hex_value(digit: u8) -> u8
-    requires { is_hex digit ≡ true }
-    ensures value { result ≡ digit_value digit }
-    ensures small { result < 16 }
-{
-    match digit {
-        b'0'..=b'9' => digit - b'0',
-        b'A'..=b'F' => digit - b'A' + 10,
-        _ => digit - b'a' + 10,
-    }
-}
-
 impl Token {
     /// The token's canonical form.
     #[inline]
     pub fn canonical(self, case: Case) -> Token
         requires { has_digits self ≡ true }
-        ensures { result ≡ spec.canonical case self }
+        ensures { result ≡ spec.canonical_token case self }
     {
         match self {
             Token::Byte(b) => Token::Byte(case.of(b)),
@@ -90,7 +80,7 @@ impl<'t> Model for TextWalk<'t> {
 
     ghost Value = { List Token };
 
-    ghost use Rattle.uriparse_text.specs.Canon.{canonical_tokens};
+    ghost use Rattle.uriparse_text.specs.Canonical.{canonical_tokens};
 
     ghost view = { λ w. canonical_tokens w.case w.text.now };
 }
@@ -135,14 +125,6 @@ pub fn same_walks<L: Walk + Drop, R: Walk + Drop>(left: L, right: R) -> bool
     right.next_token().is_none()
 }
 
-/// Whether the bytes are tokens whose canonical spelling is that of the text.
-pub fn same_spelling(case: Case, bytes: &[u8], text: &[u8]) -> bool
-    requires { is_well_formed text.now ≡ true }
-    ensures { IsTrue result ↔ spec.SpellsAlike case bytes.now text.now }
-{
-    bytes == text || same_walks(TextWalk::new(case, bytes), TextWalk::new(case, text))
-}
-
 fn feed_token<H: Hasher>(token: Token, state: &mut H)
     ensures { state.new ≡ fold H.write state.old (flat_map fed.u8 (spell token)) }
 {
@@ -158,7 +140,7 @@ fn feed_token<H: Hasher>(token: Token, state: &mut H)
 
 /// Feeds the bytes of the tokens that the cursor gives to the hasher, and then 0xFF.
 pub fn feed_walk<T: Walk + Drop, H: Hasher>(walk: T, state: &mut H)
-    ensures { state.new ≡ fold H.write state.old (spec.fed_spelling (flat_map spell (T.tokens_left walk))) }
+    ensures { state.new ≡ fold H.write state.old (spec.fed_text (flat_map spell (T.tokens_left walk))) }
 {
     let mut walk = walk;
     'tokens: while let Some(token) = walk.next_token() {
@@ -169,32 +151,17 @@ pub fn feed_walk<T: Walk + Drop, H: Hasher>(walk: T, state: &mut H)
 
 /// Whether the text is its own canonical spelling. It is walked to the first token that isn't.
 pub fn is_canonical(case: Case, text: &[u8]) -> bool
-    ensures { IsTrue result ↔ (spec.spelling case text.now ≡ text.now) }
+    ensures { IsTrue result ↔ (spec.canonical_in case text.now ≡ text.now) }
 {
-    let mut rest = text;
+    let (_, mut rest) = split_run(case, text);
     'tokens: while let Some((token, after)) = split_token(rest) {
         if token.canonical(case) != token {
             return false;
         }
-        rest = after;
+        let (_, later) = split_run(case, after);
+        rest = later;
     }
     true
-}
-
-/// The place of the first byte that may not stay as it is in a canonical spelling.
-fn first_change(case: Case, text: &[u8]) -> Option<usize>
-    ensures { result ≡ position (spec.may_change case) text.now }
-{
-    text.iter().position(|b| *b == b'%' || case.of(*b) != *b)
-}
-
-/// The longest run in front whose bytes stay as they are in the canonical spelling, and the rest.
-fn split_run(case: Case, text: &[u8]) -> (&[u8], &[u8])
-    ensures whole { text.now ≡ result.0.now ++ result.1.now }
-    ensures spelled { spec.spelling case text.now ≡ result.0.now ++ spec.spelling case result.1.now }
-{
-    let place = first_change(case, text).unwrap_or(text.len());
-    text.split_at(place)
 }
 
 fn push_token(bytes: &mut Vec<u8>, token: Token) -> Result<(), AllocError>
@@ -209,7 +176,7 @@ fn push_token(bytes: &mut Vec<u8>, token: Token) -> Result<(), AllocError>
 /// The canonical spelling of a text, whose room is asked for once. Runs that stay as they are, are
 /// copied whole.
 pub fn canonical_bytes(alloc: Global, case: Case, text: &[u8]) -> Result<Vec<u8>, AllocError>
-    ensures { IfOk result (λ v. v.items ≡ spec.spelling case text.now) }
+    ensures { IfOk result (λ v. v.items ≡ spec.canonical_in case text.now) }
 {
     let mut bytes = Vec::with_capacity(alloc, text.len())?;
     let mut rest = text;

@@ -102,7 +102,7 @@ pub fn fault_of(class: Class, text: &[u8]) -> Option<u8>
     ensures { result ≡ fault class text.now }
 {
     if text.len() < 8 {
-        fault_by_tokens(class, text)
+        fault_by_one(class, text)
     } else if text.len() < 16 {
         fault_of_short(class, text)
     } else {
@@ -110,20 +110,19 @@ pub fn fault_of(class: Class, text: &[u8]) -> Option<u8>
     }
 }
 
-/// The same for a short text, token by token.
+/// The same for a short text, byte by byte. An escape's digits stand for themselves in each class, so
+/// no byte has to be passed over.
 #[inline(always)]
-fn fault_by_tokens(class: Class, text: &[u8]) -> Option<u8>
+fn fault_by_one(class: Class, text: &[u8]) -> Option<u8>
     ensures { result ≡ fault class text.now }
 {
-    let mut rest = text;
-    'tokens: while let Some((&b, after)) = rest.split_first() {
-        if class.has(b) {
-            rest = after;
-        } else if is_escape(b, after) {
-            rest = &after[2..];
-        } else {
+    let mut at = 0;
+    'bytes: while at < text.len() {
+        let b = text[at];
+        if !class.has(b) && !is_escape(b, &text[at + 1..]) {
             return Some(b);
         }
+        at += 1;
     }
     None
 }
@@ -180,8 +179,7 @@ fn fault_in(class: Class, text: &[u8], at: usize, from: usize) -> Option<u8>
     fault_at_marks(class, text, from, at + 16 - from, left)
 }
 
-/// The leftmost fault among so many bytes, of which those with no mark are fine. An escape's digits
-/// stand for themselves in each class, so no byte has to be passed over.
+/// The leftmost fault among so many bytes, of which those with no mark are fine.
 #[inline(always)]
 fn fault_at_marks(class: Class, text: &[u8], from: usize, len: usize, marks: u64) -> Option<u8>
     requires short { len ≤ 16 }

@@ -1,7 +1,7 @@
 //! Canonical copies of parts, made before any of them is put in place.
 ghost use Rattle.std.specs.Prelude.{◌≡◌, IfOk, IsOk, bytes_eq};
 ghost use Rattle.std.specs.Option.{option_eq, option_map, option_or};
-ghost use Rattle.uriparse_text.specs.Canon.{spelling};
+ghost use Rattle.uriparse_text.specs.Canonical.{canonical_in};
 
 use super::text::{Kind, Text};
 use std::alloc::{AllocError, Global};
@@ -12,8 +12,8 @@ pub fn canonical_copy<K: Kind>(
     alloc: Global,
     part: &Option<Text<'_, K>>,
 ) -> Result<Option<Text<'static, K>>, AllocError>
-    ensures copy { IfOk result (λ copy. option_or copy part.now ≡ option_map (spelling K.case) part.now) }
-    ensures takes_no_memory { option_map (spelling K.case) part.now ≡ part.now → IsOk result }
+    ensures copy { IfOk result (λ copy. option_or copy part.now ≡ option_map (canonical_in K.case) part.now) }
+    ensures takes_no_memory { option_map (canonical_in K.case) part.now ≡ part.now → IsOk result }
 {
     match part {
         Some(text) => {
@@ -37,7 +37,7 @@ pub fn put_copy<'t, K: Kind>(part: &mut Option<Text<'t, K>>, copy: Option<Text<'
 
 /// Whether a part is its own canonical spelling, if it is there. Takes no memory.
 pub fn is_canonical_part<K: Kind>(part: &Option<Text<'_, K>>) -> bool
-    ensures { result ≡ option_eq bytes_eq (option_map (spelling K.case) part.now) part.now }
+    ensures { result ≡ option_eq bytes_eq (option_map (canonical_in K.case) part.now) part.now }
 {
     match part {
         Some(text) => text.is_normalized(),

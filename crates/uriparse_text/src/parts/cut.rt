@@ -25,7 +25,7 @@ pub fn split_at_mark(text: &[u8], mark: u8) -> (&[u8], &[u8])
 
 /// What stands behind the mark that a rest begins with, if there is one.
 #[inline]
-pub fn behind_mark(rest: &[u8]) -> Option<&[u8]>
+pub fn without_mark(rest: &[u8]) -> Option<&[u8]>
     ensures { option_copied result ≡ part rest.now }
 {
     match rest {

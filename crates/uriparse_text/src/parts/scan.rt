@@ -6,7 +6,7 @@ ghost use Rattle.uriparse_text.specs.Bytes.{is_hex};
 ghost use Rattle.uriparse_text.specs.Classes.{is_plain};
 ghost use Rattle.uriparse_text.specs.Marks.{AreMarks};
 
-use super::bits::{joined_ends, shifted_down};
+use super::bits::{joined_ends, lowest, shifted_down};
 use super::class::Class;
 use std::simd::prelude::*;
 
@@ -91,14 +91,14 @@ const LOW: [u8; 16] = [
 const HIGH: [u8; 16] = [0, 0, 136, 176, 65, 2, 1, 4, 0, 0, 0, 0, 0, 0, 0, 0];
 
 #[inline(always)]
-fn by_low(table: [u8; 16], lanes: u8x16) -> u8x16
+pub(super) fn by_low(table: [u8; 16], lanes: u8x16) -> u8x16
     ensures { result ≡ map (λ b. slice_index table (bit_and b 15)) lanes }
 {
     u8x16::from_array(table).swizzle_dyn(lanes & u8x16::splat(15))
 }
 
 #[inline(always)]
-fn by_high(table: [u8; 16], lanes: u8x16) -> u8x16
+pub(super) fn by_high(table: [u8; 16], lanes: u8x16) -> u8x16
     ensures { result ≡ map (λ b. slice_index table (b / 16)) lanes }
 {
     u8x16::from_array(table).swizzle_dyn(lanes >> u8x16::splat(4))
@@ -188,9 +188,36 @@ pub fn first<T: ByteTest>(test: &T, text: &[u8]) -> usize
     ensures within { result ≤ length text.now }
 {
     let len = text.len();
-    if len < 16 {
-        return first_by_one(test, text);
+    if len < 8 {
+        first_by_one(test, text)
+    } else if len < 16 {
+        first_of_short(test, text)
+    } else {
+        first_by_runs(test, text)
     }
+}
+
+/// The same for 8 to 16 bytes, all at once.
+#[inline(always)]
+fn first_of_short<T: ByteTest>(test: &T, text: &[u8]) -> usize
+    requires least { 8 ≤ length text.now }
+    requires most { length text.now ≤ 16 }
+    ensures { result ≡ position_or_len (T.passes test.now) text.now }
+{
+    let marks = marks_of_short(test, text);
+    if marks == 0 {
+        return text.len();
+    }
+    lowest(marks)
+}
+
+/// The same for sixteen bytes or more. The last run begins where the one before it ends or earlier.
+#[inline(always)]
+fn first_by_runs<T: ByteTest>(test: &T, text: &[u8]) -> usize
+    requires { 16 ≤ length text.now }
+    ensures { result ≡ position_or_len (T.passes test.now) text.now }
+{
+    let len = text.len();
     let mut at = 0;
     'blocks: while len - at > 16 {
         let found = first_in(test, text, at);

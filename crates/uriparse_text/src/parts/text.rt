@@ -1,16 +1,18 @@
 //! A text whose tokens are in one class: what user names, segments, queries and the like share.
 ghost use Rattle.std.specs.Prelude.{◌≡◌, ◌↔◌, ℕ, List, IsTrue, IfOk, OnOk, OnErr, IsOk, Some, true, bytes_eq, string_bytes, flat_map};
 ghost use Rattle.std.proofs.Common.{rules};
+ghost use Rattle.std.specs.Option.{option_copied};
 ghost use Rattle.std.specs.Ordering.{on};
 ghost use Rattle.std.specs.Cmp.Rules.{comparing, hashing};
 ghost use Rattle.uriparse_text.specs.declared.parts.class.Class.{Class};
 ghost use Rattle.uriparse_text.specs.declared.parts.canonical.Case.{Case};
 ghost use Rattle.uriparse_text.specs.Tokens.{spell, is_well_formed};
 ghost use Rattle.uriparse_text.specs.Faults.{IsIn};
-ghost use Rattle.uriparse_text.specs.Canon.{canonical_tokens, spelling, fed_spelling, SpellsAlike};
-ghost use Rattle.uriparse_text.specs.Readings.{reading_in};
+ghost use Rattle.uriparse_text.specs.Canonical.{canonical_tokens, canonical_in, fed_text, SpellsAlike};
+ghost use Rattle.uriparse_text.specs.Readings.{if_present, reading_in};
 
-use super::canonical::{Case, TextWalk, canonical_bytes, feed_walk, is_canonical, same_spelling};
+use super::alike::same_spelling;
+use super::canonical::{Case, TextWalk, canonical_bytes, feed_walk, is_canonical};
 use super::class::{Class, fault_of};
 use std::alloc::{AllocError, Global};
 use std::borrow::CowStr;
@@ -155,14 +157,14 @@ impl<'t, K: Kind> Text<'t, K> {
 
     /// Whether the text is its own canonical spelling. Takes no memory.
     pub fn is_normalized(&self) -> bool
-        ensures { IsTrue result ↔ (spelling K.case self.now ≡ self.now) }
+        ensures { IsTrue result ↔ (canonical_in K.case self.now ≡ self.now) }
     {
         is_canonical(K::case(), self.as_bytes())
     }
 
     /// A text that owns the canonical spelling of this one. Wants memory.
     pub fn to_normalized(&self, alloc: Global) -> Result<Text<'static, K>, AllocError>
-        ensures { IfOk result (λ t. t ≡ spelling K.case self.now) }
+        ensures { IfOk result (λ t. t ≡ canonical_in K.case self.now) }
     {
         let bytes = canonical_bytes(alloc, K::case(), self.as_bytes())?;
         Ok(Text {
@@ -174,9 +176,9 @@ impl<'t, K: Kind> Text<'t, K> {
     /// Puts the canonical spelling in the text's place; it is its own canonical spelling. Memory is
     /// wanted only where they differ, room for the text once; where there is none, the text is kept.
     pub fn normalize(&mut self, alloc: Global) -> Result<(), AllocError>
-        ensures ok { OnOk result (self.new ≡ spelling K.case self.old) }
+        ensures ok { OnOk result (self.new ≡ canonical_in K.case self.old) }
         ensures err { OnErr result (self.new ≡ self.old) }
-        ensures takes_no_memory { spelling K.case self.old ≡ self.old → IsOk result }
+        ensures takes_no_memory { canonical_in K.case self.old ≡ self.old → IsOk result }
     {
         if self.is_normalized() {
             return Ok(());
@@ -188,7 +190,7 @@ impl<'t, K: Kind> Text<'t, K> {
     /// The cursor at the start of the text.
     pub fn walk(&self) -> TextWalk<'_>
         ensures tokens { result ≡ canonical_tokens K.case self.now }
-        ensures bytes { flat_map spell result ≡ spelling K.case self.now }
+        ensures bytes { flat_map spell result ≡ canonical_in K.case self.now }
     {
         TextWalk::new(K::case(), self.as_bytes())
     }
@@ -210,7 +212,7 @@ impl<'t, K: Kind> Text<'t, K> {
 }
 
 impl<'t, K: Kind> PartialEq for Text<'t, K> {
-    ghost eq = { on (spelling K.case) bytes_eq };
+    ghost eq = { on (canonical_in K.case) bytes_eq };
 
     ghost laws = { Prim.search (comparing, rules) };
 
@@ -224,7 +226,7 @@ impl<'t, K: Kind> Eq for Text<'t, K> {
 }
 
 impl<'t, K: Kind> Hash for Text<'t, K> {
-    ghost hash_input = { λ t. fed_spelling (spelling K.case t) };
+    ghost hash_input = { λ t. fed_text (canonical_in K.case t) };
 
     ghost respects_eq = { Prim.search (hashing, rules) };
 
@@ -247,5 +249,15 @@ impl<'t, K: Kind> fmt::Display for Text<'t, K> {
 impl<'t, K: Kind> fmt::Debug for Text<'t, K> {
     fn fmt<W: fmt::Write>(&self, f: &mut fmt::Formatter<W>) -> fmt::Result {
         f.debug_tuple(K::name()).field(&self.as_str()).finish()
+    }
+}
+
+/// Reads a text of this kind, if there is one.
+pub fn read_text_if<'t, K: Kind>(text: Option<&'t [u8]>) -> Result<Option<Text<'t, K>>, K::Error>
+    ensures { result ≡ if_present (reading_in K.class K.error_of) (option_copied text.entry) }
+{
+    match text {
+        Some(text) => Ok(Some(Text::try_from_bytes(text)?)),
+        None => Ok(None),
     }
 }

@@ -2,7 +2,7 @@ use Rattle.std.proofs.Common.{refl}
 use Rattle.std.specs.Net.Reader.{read_ipv4, read_ipv6, read_octet, read_number, read_segment, read_segments}
 use Rattle.uriparse_text.specs.Address.{ipv4_reading, ipv6_reading}
 use Rattle.uriparse_text.specs.Bytes.{is_unreserved, is_sub_delim}
-use Rattle.uriparse_text.specs.Canon.{spelling}
+use Rattle.uriparse_text.specs.Canonical.{canonical_in}
 use Rattle.uriparse_text.specs.Classes.{is_plain}
 use Rattle.uriparse_text.specs.Faults as texts
 use Rattle.uriparse_text.specs.Tokens.{tokens}
@@ -16,7 +16,7 @@ use Rattle.uriparse_reference.specs.Reading.{reading}
 use Rattle.uriparse_reference.proofs.laws.target_examples.Goals as goal
 
 pub returns : goal.returns
-unfolding read_ipv4 read_ipv6 read_octet read_number read_segment read_segments ipv4_reading ipv6_reading is_unreserved is_sub_delim spelling is_plain
+unfolding read_ipv4 read_ipv6 read_octet read_number read_segment read_segments ipv4_reading ipv6_reading is_unreserved is_sub_delim canonical_in is_plain
     texts.fault tokens variants row_of authority.reading is_single_dot is_double_dot undot paths.fault max_segments relative_normal reading
 returns c = record {
   normal = refl;

@@ -1,4 +1,4 @@
-use Rattle.uriparse_scheme.proofs.GrammarLemmas.{canon_low_of_scheme, well_formed-scheme}
+use Rattle.uriparse_scheme.proofs.GrammarLemmas.{canonical_low_of_scheme, well_formed-scheme}
 use Rattle.uriparse_scheme.proofs.SchemeLemmas.{canonical_spelled}
 use Rattle.uriparse_scheme.proofs.laws.canonical_is_lower_case.Goals as goal
 
@@ -6,7 +6,7 @@ pub returns-clause-formed : goal.returns-clause-formed
 returns-clause-formed c = well_formed-scheme
 
 pub returns-clause-lowered : goal.returns-clause-lowered
-returns-clause-lowered c = canon_low_of_scheme
+returns-clause-lowered c = canonical_low_of_scheme
 
 pub returns-clause-spelled : goal.returns-clause-spelled
 returns-clause-spelled c = canonical_spelled

@@ -1,5 +1,5 @@
 use Rattle.std.proofs.Common.{refl}
-use Rattle.uriparse_text.specs.Canon.{spelling}
+use Rattle.uriparse_text.specs.Canonical.{canonical_in}
 use Rattle.uriparse_text.specs.Tokens.{tokens}
 use Rattle.uriparse_scheme.specs.SchemeTable.{row_of, variants}
 use Rattle.uriparse_scheme.specs.Scheme.{fault}
@@ -70,7 +70,7 @@ unfolding row_of
 returns-clause-printed c = refl
 
 pub returns-clause-normal : goal.returns-clause-normal
-unfolding spelling tokens
+unfolding canonical_in tokens
 returns-clause-normal c = refl
 
 pub returns-clause-permanent : goal.returns-clause-permanent

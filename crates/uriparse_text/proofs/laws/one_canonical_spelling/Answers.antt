@@ -1,6 +1,6 @@
-use Rattle.uriparse_text.proofs.CanonLemmas.{spelling-concatenation, spelling-append, spelling-spelling}
-use Rattle.uriparse_text.proofs.ClassLemmas.{IsIn-spelling}
+use Rattle.uriparse_text.proofs.CanonicalLemmas.{canonical_in-concatenation, canonical_in-append, canonical_in-canonical_in}
+use Rattle.uriparse_text.proofs.ClassLemmas.{IsIn-canonical_in}
 use Rattle.uriparse_text.proofs.laws.one_canonical_spelling.Goals as goal
 
 pub returns : goal.returns
-returns c = record { tokens = spelling-concatenation; border = spelling-append; twice = spelling-spelling; class = IsIn-spelling }
+returns c = record { tokens = canonical_in-concatenation; border = canonical_in-append; twice = canonical_in-canonical_in; class = IsIn-canonical_in }

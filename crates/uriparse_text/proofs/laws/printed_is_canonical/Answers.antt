@@ -1,5 +1,5 @@
-use Rattle.uriparse_text.proofs.AddressCanonLemmas.{spelling-ipv4_text, spelling-ipv6_text, spelling-bracketed}
+use Rattle.uriparse_text.proofs.AddressCanonicalLemmas.{canonical_in-ipv4_text, canonical_in-ipv6_text, canonical_in-bracketed}
 use Rattle.uriparse_text.proofs.laws.printed_is_canonical.Goals as goal
 
 pub returns : goal.returns
-returns c = record { ipv4 = spelling-ipv4_text; ipv6 = spelling-ipv6_text; bracketed = spelling-bracketed }
+returns c = record { ipv4 = canonical_in-ipv4_text; ipv6 = canonical_in-ipv6_text; bracketed = canonical_in-bracketed }

@@ -1,7 +1,7 @@
 use Rattle.std.proofs.Common.{◌≡◌, ◌↔◌, IsTrue, sym}
 use Rattle.uriparse_text.specs.declared.parts.canonical.Case.TheVariants.{Kept}
-use Rattle.uriparse_text.specs.Canon.{canonical_tokens}
-use Rattle.uriparse_text.proofs.CanonLemmas.{same_tokens}
+use Rattle.uriparse_text.specs.Canonical.{canonical_tokens}
+use Rattle.uriparse_text.proofs.CanonicalLemmas.{same_tokens}
 use Rattle.uriparse_path.specs.Path.{text}
 use Rattle.uriparse_path.proofs.path.Path.eq_bytes.Goals as goal
 

@@ -1,14 +1,14 @@
 use Rattle.std.proofs.Common.{◌≡◌, sym, ap, ◌∙◌, map, not, true, false}
 use Rattle.std.proofs.lemmas.Bool.{and_parts, or_parts, not-true}
-use Rattle.uriparse_text.specs.Canon.{canon}
+use Rattle.uriparse_text.specs.Canonical.{canonical}
 use Rattle.uriparse_path.specs.Path.{PathParts, IsListed, hides_root, is_rooted, text}
 use Rattle.uriparse_path.specs.Dots.{without_dots}
 use Rattle.uriparse_path.specs.Relative.{ended, reduced}
 use Rattle.uriparse_path.specs.Normal.{canonical_path, stays_relative}
-use Rattle.uriparse_path.proofs.CanonicalLemmas.{canon-text, is_rooted-canon, listed-canonical}
-use Rattle.uriparse_path.proofs.RelativeLemmas.{each_reduced, hides-canon}
+use Rattle.uriparse_path.proofs.CanonicalLemmas.{canonical-text, is_rooted-canonical, listed-canonical}
+use Rattle.uriparse_path.proofs.RelativeLemmas.{each_reduced, hides-canonical}
 use Rattle.uriparse_path.proofs.NormalLemmas.{pnormal_relative, rooted-text}
-use Rattle.uriparse_path.proofs.CommuteLemmas.{shaped-canon, pnormal_without_dots}
+use Rattle.uriparse_path.proofs.CommuteLemmas.{shaped-canonical, pnormal_without_dots}
 use Rattle.uriparse_path.proofs.ShieldLemmas.{shielded, relative_stays}
 use Rattle.uriparse_path.proofs.path.Path.put_normal.Goals as goal
 
@@ -18,8 +18,8 @@ shape_relative-requires c =
     let p : PathParts = c.args.self.now in
     let listed : IsListed p.segments = c.segments.ensures.listed in
     let asked = and_parts c.args.as_reference (not (is_rooted (text p))) (sym c.stays_relative-stays_relative.ensures ∙ c.if-stays_relative.true) in
-    let parts = or_parts p.absolute (hides_root (map canon p.segments))
-    (sym (rooted-text (canonical_path p) (listed-canonical p.segments listed)) ∙ ap is_rooted (sym (canon-text p listed)) ∙ is_rooted-canon (text p)
+    let parts = or_parts p.absolute (hides_root (map canonical p.segments))
+    (sym (rooted-text (canonical_path p) (listed-canonical p.segments listed)) ∙ ap is_rooted (sym (canonical-text p listed)) ∙ is_rooted-canonical (text p)
     ∙ not-true (is_rooted (text p)) asked.1) in
     record {
       relative = ap (λ q. q.absolute) c.put_canonical.ensures ∙ parts.0;
@@ -33,13 +33,13 @@ returns-then-stays_relative-clause-ok c =
     let relative : stays_relative p c.args.as_reference ≡ true = sym c.stays_relative-stays_relative.ensures ∙ c.if-stays_relative.true in
     c.shape_relative.ensures
     ∙ ap (λ q. record { absolute = false; segments = ended q.segments (reduced q.segments) }) c.put_canonical.ensures
-    ∙ ap (λ l. record { absolute = false; segments = l }) (shaped-canon p.segments listed.each (each_reduced p.segments listed.each))
+    ∙ ap (λ l. record { absolute = false; segments = l }) (shaped-canonical p.segments listed.each (each_reduced p.segments listed.each))
     ∙ sym (pnormal_relative p c.args.as_reference relative)
     ∙ sym (relative_stays c.args.shields p c.args.as_reference listed relative)
 
 -- canonical segments hide a root where these do
 pub remove_dots-requires : goal.remove_dots-requires
-remove_dots-requires c h = ap (λ q. hides_root q.segments) c.put_canonical.ensures ∙ hides-canon c.args.self.now.segments ∙ c.requires h
+remove_dots-requires c h = ap (λ q. hides_root q.segments) c.put_canonical.ensures ∙ hides-canonical c.args.self.now.segments ∙ c.requires h
 
 pub returns-else-stays_relative-clause-ok : goal.returns-else-stays_relative-clause-ok
 returns-else-stays_relative-clause-ok c =

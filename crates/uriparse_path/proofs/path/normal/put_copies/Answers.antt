@@ -1,15 +1,15 @@
 use Rattle.std.proofs.Common.{◌-◌, ◌∷◌, [], arith, sym, ap, ◌∙◌, map, filter, take, drop, length, length-append, ◌≡◌, vec_len}
 use Rattle.std.proofs.lemmas.Bool.{false≢true}
 use Rattle.std.proofs.lemmas.Bool.Decides.{Decides-eqb}
-use Rattle.uriparse_text.specs.Canon.{canon}
+use Rattle.uriparse_text.specs.Canonical.{canonical}
 use Rattle.uriparse_path.proofs.CopyLemmas.{strays, pushed_same, front_less, front_more, back_kept, back_more, copies_same, copies_less, none_strays, nothing}
 use Rattle.uriparse_path.proofs.path.normal.put_copies.Goals as goal
 
 pub loop-at-preserved-in-Some : goal.loop-at-preserved-in-Some
 loop-at-preserved-in-Some c =
-    let differs : canon c.index.result.now ≡ c.index.result.now → ⊥ = λ e. false≢true (sym c.if-not-is_normalized.true ∙ c.is_normalized.ensures.1 e) in
-    let popped = pushed_same c.pop.new.self.items (map canon (filter strays (take (c.loop-at.at - 1) c.args.segments.now.items))) c.in-Some.copy
-    (canon c.index.result.now)
+    let differs : canonical c.index.result.now ≡ c.index.result.now → ⊥ = λ e. false≢true (sym c.if-not-is_normalized.true ∙ c.is_normalized.ensures.1 e) in
+    let popped = pushed_same c.pop.new.self.items (map canonical (filter strays (take (c.loop-at.at - 1) c.args.segments.now.items))) c.in-Some.copy
+    (canonical c.index.result.now)
     (sym c.in-Some.ensures.items
     ∙ copies_less c.loop-at.segments.items c.args.segments.now.items c.loop-at.at (c.loop-at.at - 1) c.index.result.now (omega arith) (omega arith)
     (omega (arith, c.loop-at.invariant.long)) c.index.ensures c.loop-at.invariant.front c.loop-at.invariant.back c.loop-at.copies.items
@@ -28,21 +28,21 @@ loop-at-preserved-in-Some c =
 
 pub loop-at-preserved-in_default : goal.loop-at-preserved-in_default
 loop-at-preserved-in_default c =
-    let differs : canon c.index.result.now ≡ c.index.result.now → ⊥ = λ e. false≢true (sym c.if-not-is_normalized.true ∙ c.is_normalized.ensures.1 e) in
+    let differs : canonical c.index.result.now ≡ c.index.result.now → ⊥ = λ e. false≢true (sym c.if-not-is_normalized.true ∙ c.is_normalized.ensures.1 e) in
     let some = copies_less c.loop-at.segments.items c.args.segments.now.items c.loop-at.at (c.loop-at.at - 1) c.index.result.now (omega arith) (omega arith)
     (omega (arith, c.loop-at.invariant.long)) c.index.ensures c.loop-at.invariant.front c.loop-at.invariant.back c.loop-at.copies.items
     c.loop-at.invariant.copies differs in
     absurd (omega (
       arith,
       ap length some,
-      length-append (map canon (filter strays (take (c.loop-at.at - 1) c.args.segments.now.items)))
-          (canon c.index.result.now ∷ []),
+      length-append (map canonical (filter strays (take (c.loop-at.at - 1) c.args.segments.now.items)))
+          (canonical c.index.result.now ∷ []),
       c.in_default.ensures.cases.0,
     ))
 
 pub loop-at-preserved : goal.loop-at-preserved
 loop-at-preserved c =
-    let same : canon c.index.result.now ≡ c.index.result.now = c.is_normalized.ensures.0 c.if-not-is_normalized.false in
+    let same : canonical c.index.result.now ≡ c.index.result.now = c.is_normalized.ensures.0 c.if-not-is_normalized.false in
     record {
       within = omega arith;
       long = c.loop-at.invariant.long;

@@ -11,27 +11,36 @@ tokens-init c = counted_start c.args.limit c.args.text.now c.requires
 pub tokens-preserved-then-has : goal.tokens-preserved-then-has
 tokens-preserved-then-has c =
     let front : c.tokens.rest.now ≡ c.in-Some.field-0-0.now ∷ c.in-Some.after.now = search rules in
-    counted_plain c.args.limit c.args.text.now c.tokens.count c.in-Some.field-0-0.now c.in-Some.after.now (subst (IsCounted c.args.limit c.args.text.now c.tokens.count) front c.tokens.invariant) (cc)
+    let reached = subst (IsCounted c.args.limit c.args.text.now c.tokens.count) front c.tokens.invariant in
+    counted_plain c.args.limit c.args.text.now c.tokens.count c.in-Some.field-0-0.now c.in-Some.after.now reached (cc)
 
 pub returns-then-count-limit : goal.returns-then-count-limit
 returns-then-count-limit c =
     let front : c.tokens.rest.now ≡ c.in-Some.field-0-0.now ∷ c.in-Some.after.now = search rules in
-    counted_full c.args.limit c.args.text.now c.tokens.count c.in-Some.field-0-0.now c.in-Some.after.now (subst (IsCounted c.args.limit c.args.text.now c.tokens.count) front c.tokens.invariant) (eq-eqb _ _ c.if-b-eq47.true) c.if-count-limit.true
+    let reached = subst (IsCounted c.args.limit c.args.text.now c.tokens.count) front c.tokens.invariant in
+    counted_full c.args.limit c.args.text.now c.tokens.count c.in-Some.field-0-0.now c.in-Some.after.now reached (eq-eqb _ _ c.if-b-eq47.true)
+    c.if-count-limit.true
 
 pub tokens-preserved-then-b-eq47 : goal.tokens-preserved-then-b-eq47
 tokens-preserved-then-b-eq47 c =
     let front : c.tokens.rest.now ≡ c.in-Some.field-0-0.now ∷ c.in-Some.after.now = search rules in
-    counted_slash c.args.limit c.args.text.now c.tokens.count c.in-Some.field-0-0.now c.in-Some.after.now (subst (IsCounted c.args.limit c.args.text.now c.tokens.count) front c.tokens.invariant) (eq-eqb _ _ c.if-b-eq47.true) c.if-count-limit.false
+    let reached = subst (IsCounted c.args.limit c.args.text.now c.tokens.count) front c.tokens.invariant in
+    counted_slash c.args.limit c.args.text.now c.tokens.count c.in-Some.field-0-0.now c.in-Some.after.now reached (eq-eqb _ _ c.if-b-eq47.true)
+    c.if-count-limit.false
 
 pub tokens-preserved : goal.tokens-preserved
 tokens-preserved c =
     let front : c.tokens.rest.now ≡ c.in-Some.field-0-0.now ∷ c.in-Some.after.now = search rules in
-    rw (take_rest c.in-Some.after.now 2) (counted_escape c.args.limit c.args.text.now c.tokens.count c.in-Some.field-0-0.now c.in-Some.after.now (subst (IsCounted c.args.limit c.args.text.now c.tokens.count) front c.tokens.invariant) (cc))
+    let reached = subst (IsCounted c.args.limit c.args.text.now c.tokens.count) front c.tokens.invariant in
+    rw (take_rest c.in-Some.after.now 2)
+    (counted_escape c.args.limit c.args.text.now c.tokens.count c.in-Some.field-0-0.now c.in-Some.after.now reached (cc))
 
 pub returns-else-is_escape : goal.returns-else-is_escape
 returns-else-is_escape c =
     let front : c.tokens.rest.now ≡ c.in-Some.field-0-0.now ∷ c.in-Some.after.now = search rules in
-    ap Err c.fault_at.ensures ∙ counted_fault c.args.limit c.args.text.now c.tokens.count c.in-Some.field-0-0.now c.in-Some.after.now (subst (IsCounted c.args.limit c.args.text.now c.tokens.count) front c.tokens.invariant) (cc) (ne_eqb _ _ c.if-b-eq47.false) (cc)
+    let reached = subst (IsCounted c.args.limit c.args.text.now c.tokens.count) front c.tokens.invariant in
+    ap Err c.fault_at.ensures
+    ∙ counted_fault c.args.limit c.args.text.now c.tokens.count c.in-Some.field-0-0.now c.in-Some.after.now reached (cc) (ne_eqb _ _ c.if-b-eq47.false) (cc)
 
 pub returns : goal.returns
 returns c =

@@ -28,8 +28,10 @@ invariant_of-result c =
     let rule = refusal_is t _ _ _ named there c.cut-pieces.ensures.path in
     let checked : c.check_path.result ≡ Ok c.in_ok-check_path.field-0 = search rules in
     let k = rule ∙ accepted _ _ (sym c.check_path.ensures ∙ checked) in
-    let l : of_piece errors.Query (if_present query.reading (query_text t)) ≡ Ok c.in_ok-query.query = search rules in
-    let m : of_piece errors.Fragment (if_present fragment.reading (fragment_text t)) ≡ Ok c.in_ok-fragment.fragment = search rules in
+    let query_read : if_present query.reading (query_text t) ≡ Ok c.in_ok-query.query = search rules in
+    let l = ap (of_piece errors.Query) query_read in
+    let fragment_read : if_present fragment.reading (fragment_text t) ≡ Ok c.in_ok-fragment.fragment = search rules in
+    let m = ap (of_piece errors.Fragment) fragment_read in
     rw c.cut-pieces.ensures.scheme (valid t _ (found t _ (assembled t _ _ _ _ i j k l m)))
 
 pub returns-in_err-check_path-clause-answer : goal.returns-in_err-check_path-clause-answer
@@ -65,9 +67,10 @@ returns-in_err-query-clause-answer c =
     let rule = refusal_is t _ _ _ named there c.cut-pieces.ensures.path in
     let checked : c.check_path.result ≡ Ok c.in_ok-check_path.field-0 = search rules in
     let k = rule ∙ accepted _ _ (sym c.check_path.ensures ∙ checked) in
-    let answered : c.from_residual-in_err-query.result ≡ Err c.in_err-query.field-0.0 = search rules in
-    let l : of_piece errors.Query (if_present query.reading (query_text t)) ≡ Err c.in_err-query.field-0.0 = search rules in
-    inl (answered ∙ sym (refused_query t c.in_ok-authority.authority c.in_ok-path.path c.in_err-query.field-0.0 i j k l))
+    let answered : c.from_residual-in_err-query.result ≡ Err (errors.Query c.in_err-query.field-0.0) = search rules in
+    let query_fault : if_present query.reading (query_text t) ≡ Err c.in_err-query.field-0.0 = search rules in
+    let l = ap (of_piece errors.Query) query_fault in
+    inl (answered ∙ sym (refused_query t c.in_ok-authority.authority c.in_ok-path.path (errors.Query c.in_err-query.field-0.0) i j k l))
 
 pub returns-in_err-fragment-clause-answer : goal.returns-in_err-fragment-clause-answer
 returns-in_err-fragment-clause-answer c =
@@ -84,10 +87,17 @@ returns-in_err-fragment-clause-answer c =
     let rule = refusal_is t _ _ _ named there c.cut-pieces.ensures.path in
     let checked : c.check_path.result ≡ Ok c.in_ok-check_path.field-0 = search rules in
     let k = rule ∙ accepted _ _ (sym c.check_path.ensures ∙ checked) in
-    let l : of_piece errors.Query (if_present query.reading (query_text t)) ≡ Ok c.in_ok-query.query = search rules in
-    let answered : c.from_residual-in_err-fragment.result ≡ Err c.in_err-fragment.field-0.0 = search rules in
-    let m : of_piece errors.Fragment (if_present fragment.reading (fragment_text t)) ≡ Err c.in_err-fragment.field-0.0 = search rules in
-    inl (answered ∙ sym (refused_fragment t c.in_ok-authority.authority c.in_ok-path.path c.in_ok-query.query c.in_err-fragment.field-0.0 i j k l m))
+    let query_was : c.read_text_if.result ≡ Ok c.in_ok-query.query = search rules in
+    let query_read : if_present query.reading (query_text t) ≡ Ok c.in_ok-query.query = ap (if_present query.reading) (sym c.cut-pieces.ensures.query)
+    ∙ sym c.read_text_if.ensures ∙ query_was in
+    let l = ap (of_piece errors.Query) query_read in
+    let answered : c.from_residual-in_err-fragment.result ≡ Err (errors.Fragment c.in_err-fragment.field-0.0) = search rules in
+    let fragment_was : c.read_text_if-2.result ≡ Err c.in_err-fragment.field-0.0 = search rules in
+    let fragment_fault : if_present fragment.reading (fragment_text t) ≡ Err c.in_err-fragment.field-0.0 = ap (if_present fragment.reading)
+    (sym c.cut-pieces.ensures.fragment) ∙ sym c.read_text_if-2.ensures ∙ fragment_was in
+    let m = ap (of_piece errors.Fragment) fragment_fault in
+    inl (answered ∙ sym (refused_fragment t c.in_ok-authority.authority c.in_ok-path.path c.in_ok-query.query
+    (errors.Fragment c.in_err-fragment.field-0.0) i j k l m))
 
 pub returns-in_err-authority-clause-early : goal.returns-in_err-authority-clause-early
 returns-in_err-authority-clause-early c e known =

@@ -1,29 +1,21 @@
-use Rattle.std.proofs.Common.{◌≡◌, None, Some, Ok, Err, ap, ◌∙◌, rules}
-use Rattle.uriparse_text.specs.Cuts.{up_to, from_first}
-use Rattle.uriparse_scheme.specs.Scheme.{reading}
-use Rattle.uriparse_authority.specs.Authority.{colon_part}
-use Rattle.uriparse_reference.specs.Cuts.{ends_scheme}
-use Rattle.uriparse_reference.proofs.CutLemmas.{front_no_scheme, front_colon, without_scheme, no_scheme_there, scheme_there}
+use Rattle.std.proofs.Common.{◌∷◌, []}
+use Rattle.uriparse_scheme.specs.declared.scheme.registered.RegisteredScheme.TheVariants.{HTTP, HTTPS}
+use Rattle.uriparse_scheme.specs.SchemeTable.{row_of}
+use Rattle.uriparse_reference.proofs.CutLemmas.{registered_there, stripped}
 use Rattle.uriparse_reference.proofs.uri_reference.read.split_scheme.Goals as goal
 
-pub returns-in_default : goal.returns-in_default
-returns-in_default c =
-    let none : colon_part (from_first ends_scheme c.args.text.now) ≡ None = search rules in
-    let cut = without_scheme c.args.text.now (front_no_scheme c.args.text.now none) in
+pub returns-in-Some : goal.returns-in-Some
+unfolding row_of
+returns-in-Some c =
+    let cases = c.in-Some.ensures.cases in
+    let cut = registered_there HTTPS c.args.text.now c.in-Some.behind.now
+    (stripped c.args.text.now (104 ∷ 116 ∷ 116 ∷ 112 ∷ 115 ∷ 58 ∷ []) c.in-Some.behind.now cases.0 cases.1) in
     record { scheme = cut.scheme; rest = cut.rest }
 
-pub returns-in-Ok : goal.returns-in-Ok
-returns-in-Ok c =
-    let some : colon_part (from_first ends_scheme c.args.text.now) ≡ Some c.in-Some.behind.now = search rules in
-    let front = front_colon c.args.text.now c.in-Some.behind.now some in
-    let read : reading (up_to ends_scheme c.args.text.now) ≡ Ok c.in-Ok.scheme = search rules in
-    let cut = scheme_there c.args.text.now c.in-Some.behind.now c.in-Ok.scheme front.1 (ap reading front.0 ∙ read) in
-    record { scheme = cut.scheme; rest = cut.rest }
-
-pub returns-in-Err : goal.returns-in-Err
-returns-in-Err c =
-    let some : colon_part (from_first ends_scheme c.args.text.now) ≡ Some c.in-Some.behind.now = search rules in
-    let front = front_colon c.args.text.now c.in-Some.behind.now some in
-    let refused : reading (up_to ends_scheme c.args.text.now) ≡ Err c.in-Err.field-0 = search rules in
-    let cut = no_scheme_there c.args.text.now c.in-Some.behind.now c.in-Err.field-0 front.1 (ap reading front.0 ∙ refused) in
+pub returns-in-Some-strip_prefix : goal.returns-in-Some-strip_prefix
+unfolding row_of
+returns-in-Some-strip_prefix c =
+    let cases = c.in-Some-strip_prefix.ensures.cases in
+    let cut = registered_there HTTP c.args.text.now c.in-Some-strip_prefix.behind.now
+    (stripped c.args.text.now (104 ∷ 116 ∷ 116 ∷ 112 ∷ 58 ∷ []) c.in-Some-strip_prefix.behind.now cases.0 cases.1) in
     record { scheme = cut.scheme; rest = cut.rest }

@@ -6,7 +6,9 @@ use Rattle.uriparse_text.proofs.BitLemmas.{bit_at_shr}
 use Rattle.uriparse_text.proofs.parts.bits.without_triples.Goals as goal
 
 pub returns-clause-no_more : goal.returns-clause-no_more
-returns-clause-no_more c k h = omega (arith, bit_at_and c.args.m (bit_not w64 (bit_and (bit_and c.args.first (c.args.later / 2 ^ 1)) (c.args.later / 2 ^ 2))) k, bit_at-lt c.args.m k, h)
+returns-clause-no_more c k h =
+    let triples = bit_and (bit_and c.args.first (c.args.later / 2 ^ 1)) (c.args.later / 2 ^ 2) in
+    omega (arith, bit_at_and c.args.m (bit_not w64 triples) k, bit_at-lt c.args.m k, h)
 
 pub returns-clause-gone : goal.returns-clause-gone
 returns-clause-gone c k short unset set =

@@ -1,5 +1,5 @@
 use Rattle.std.proofs.Common.{sym, ◌∙◌}
-use Rattle.uriparse_text.proofs.CanonLemmas.{feeds_token, feeds_end}
+use Rattle.uriparse_text.proofs.CanonicalLemmas.{feeds_token, feeds_end}
 use Rattle.uriparse_text.proofs.parts.canonical.feed_walk.Goals as goal
 
 pub tokens-preserved : goal.tokens-preserved

@@ -8,5 +8,7 @@ returns c =
     let text = c.args.text.now in
     let front = chunk 0 8 text in
     let back = chunk (length text - 8) 8 text in
-    let both : length (front ++ back) ≡ 16 = omega (arith, c.requires, length-append front back, length-chunk 0 8 text (omega (arith, c.requires)), length-chunk (length text - 8) 8 text (omega (arith, c.requires))) in
+    let front_long = length-chunk 0 8 text (omega (arith, c.requires)) in
+    let back_long = length-chunk (length text - 8) 8 text (omega (arith, c.requires)) in
+    let both : length (front ++ back) ≡ 16 = omega (arith, c.requires, length-append front back, front_long, back_long) in
     pick_l_whole 0 (front ++ back) 16 both

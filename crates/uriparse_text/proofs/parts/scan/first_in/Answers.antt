@@ -6,7 +6,9 @@ use Rattle.uriparse_text.proofs.parts.scan.first_in.Goals as goal
 pub returns-then-marks-eq0 : goal.returns-then-marks-eq0
 returns-then-marks-eq0 g c =
     let p = g.T.ByteTest.passes c.args.test.now in
-    sym (leading_from_mask_l p (chunk c.args.at 16 c.args.text.now) (sym c.marks-marks.ensures ∙ c.if-marks-eq0.true) ∙ length-chunk c.args.at 16 c.args.text.now c.requires)
+    let text = c.args.text.now in
+    sym (leading_from_mask_l p (chunk c.args.at 16 text) (sym c.marks-marks.ensures ∙ c.if-marks-eq0.true)
+    ∙ length-chunk c.args.at 16 text c.requires)
 
 pub returns : goal.returns
 returns g c =

@@ -1,6 +1,6 @@
 use Rattle.std.proofs.Common.{◌≡◌, ◌∷◌, [], sym, ◌∙◌, refl, rules}
 use Rattle.uriparse_text.specs.declared.parts.canonical.Case.TheVariants.{Kept}
-use Rattle.uriparse_text.proofs.CanonLemmas.{canonical_tokens-empty}
+use Rattle.uriparse_text.proofs.CanonicalLemmas.{canonical_tokens-empty}
 use Rattle.uriparse_path.proofs.path.walk.PathWalkWalk.next_token.Goals as goal
 
 pub returns-in_default-split_segment : goal.returns-in_default-split_segment

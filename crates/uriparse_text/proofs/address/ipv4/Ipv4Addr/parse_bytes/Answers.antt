@@ -22,3 +22,12 @@ returns-in-Err c =
       found = tt;
       only = λ a spelled. absurd (never a spelled);
     }
+
+pub returns-then-begins_as_name : goal.returns-then-begins_as_name
+returns-then-begins_as_name c =
+    let never = c.begins_as_name.ensures c.if-begins_as_name.true in
+    record {
+      value = sym (ipv4_reading-none _ never);
+      found = tt;
+      only = λ a spelled. absurd (never a spelled);
+    }

@@ -1,5 +1,5 @@
 use Rattle.std.proofs.Common.{◌≡◌, [], sym, ◌∙◌, rules}
-use Rattle.uriparse_text.proofs.CanonLemmas.{canonical_tokens-empty}
+use Rattle.uriparse_text.proofs.CanonicalLemmas.{canonical_tokens-empty}
 use Rattle.uriparse_text.proofs.parts.canonical.TextWalkWalk.next_token.Goals as goal
 
 pub returns-in_default : goal.returns-in_default

@@ -2,12 +2,13 @@ use Rattle.std.proofs.Common.{◌≡◌, ℕ, List, sym, ap, subst, ◌∙◌}
 use Rattle.uriparse_text.specs.declared.parts.class.Class.{Class}
 use Rattle.uriparse_text.specs.declared.parts.canonical.Case.{Case}
 use Rattle.uriparse_text.specs.Faults.{IsIn}
-use Rattle.uriparse_text.specs.Canon.{spelling}
-use Rattle.uriparse_text.proofs.ClassLemmas.{IsUtf8-in_class, IsIn-spelling}
+use Rattle.uriparse_text.specs.Canonical.{canonical_in}
+use Rattle.uriparse_text.proofs.ClassLemmas.{IsUtf8-in_class, IsIn-canonical_in}
 use Rattle.uriparse_text.proofs.parts.text.Text.to_normalized.Goals as goal
 
-spelled_in : (class : Class) (case : Case) (text bytes spelled : List ℕ) → bytes ≡ text → IsIn class text → spelled ≡ spelling case bytes → IsIn class spelled
-spelled_in class case text bytes spelled e is f = subst (λ u. IsIn class u) (sym (f ∙ ap (spelling case) e)) (IsIn-spelling class case text is)
+spelled_in : (class : Class) (case : Case) (text bytes spelled : List ℕ) → bytes ≡ text → IsIn class text → spelled ≡ canonical_in case bytes →
+    IsIn class spelled
+spelled_in class case text bytes spelled e is f = subst (λ u. IsIn class u) (sym (f ∙ ap (canonical_in case) e)) (IsIn-canonical_in class case text is)
 
 pub from_utf8_unchecked-requires : goal.from_utf8_unchecked-requires
 from_utf8_unchecked-requires g c =

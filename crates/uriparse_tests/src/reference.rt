@@ -1,0 +1,294 @@
+//! What the references of all three types have in common, by their names in [`Reference`].
+
+use crate::answer::{Answer, add, printed, refused, said, shows};
+use crate::authorities::add_authority;
+use crate::component::same_as;
+use std::alloc::{AllocError, Global};
+use std::fmt::Display;
+use std::hash::Hash;
+use uriparse::{Authority, Fragment, Host, Password, Path, Query, Scheme, URIReference, Username};
+
+/// The calls that references of each type have.
+pub trait Reference<'t>: Display + Drop + Eq + Hash + Sized {
+    type Error: Display + Drop;
+
+    /// `try_from_str`.
+    fn of_str(alloc: Global, text: &'t str) -> Result<Self, Self::Error>;
+
+    /// `try_from_bytes`.
+    fn of_bytes(alloc: Global, text: &'t [u8]) -> Result<Self, Self::Error>;
+
+    /// `as_uri_reference`, or the reference itself.
+    fn as_reference(&self) -> &URIReference<'t>;
+
+    /// `to_string`.
+    fn text(&self, alloc: Global) -> Answer;
+
+    /// `to_borrowed`, `into_owned` and `to_string`.
+    fn copied(&self, alloc: Global) -> Answer;
+
+    /// `scheme`, `path`, `query` and `fragment`.
+    fn parts(
+        &self,
+    ) -> (
+        Option<&Scheme<'t>>,
+        &Path<'t>,
+        Option<&Query<'t>>,
+        Option<&Fragment<'t>>,
+    );
+
+    /// `authority`.
+    fn whole_authority(&self) -> Option<&Authority<'t>>;
+
+    /// `username`, `password`, `host` and `port`.
+    fn parts_of_authority(
+        &self,
+    ) -> (
+        Option<&Username<'t>>,
+        Option<&Password<'t>>,
+        Option<&Host<'t>>,
+        Option<u16>,
+    );
+
+    /// `has_authority`, `has_username`, `has_password`, `has_port`, `has_query` and `has_fragment`.
+    fn tests(&self) -> [bool; 6];
+
+    /// `is_normalized`.
+    fn is_normal(&self) -> bool;
+
+    /// `normalize`.
+    fn make_normal(&mut self, alloc: Global) -> Result<(), AllocError>;
+
+    /// `set_authority`.
+    fn put_authority(&mut self, new: Option<Authority<'t>>) -> Result<(), Self::Error>;
+
+    /// `set_path`.
+    fn put_path(&mut self, new: Path<'t>) -> Result<(), Self::Error>;
+
+    /// `set_query`.
+    fn put_query(&mut self, new: Option<Query<'t>>) -> Result<(), Self::Error>;
+
+    /// `set_fragment`.
+    fn put_fragment(&mut self, new: Option<Fragment<'t>>) -> Result<(), Self::Error>;
+
+    /// `map_authority`, to this authority where there is one.
+    fn swap_authority(self, new: Option<Authority<'t>>) -> Result<Self, Self::Error>;
+
+    /// `map_path`, to the path that it has.
+    fn keep_path(self) -> Result<Self, Self::Error>;
+
+    /// `map_query`, to this query where there is one.
+    fn swap_query(self, new: Option<Query<'t>>) -> Result<Self, Self::Error>;
+
+    /// `map_fragment`, to this fragment where there is one.
+    fn swap_fragment(self, new: Option<Fragment<'t>>) -> Result<Self, Self::Error>;
+
+    /// `into_builder` and `build`.
+    fn rebuilt(self) -> Result<Self, Self::Error>;
+}
+
+/// Whether the value and the reference that it is both print this text.
+fn both_show<'t, T: Reference<'t>>(
+    alloc: Global,
+    value: &T,
+    text: &str,
+) -> Result<bool, AllocError> {
+    Ok(shows(alloc, value, text)? && shows(alloc, value.as_reference(), text)?)
+}
+
+/// The text, where all calls that give it agree.
+pub fn told<'t, T: Reference<'t>>(alloc: Global, value: &T) -> Answer {
+    let text = value.text(alloc)?;
+    if both_show(alloc, value, text.as_str())? {
+        return Ok(text);
+    }
+    said(alloc, "several texts")
+}
+
+/// What was read or made, or its refusal.
+pub fn made<'t, T: Reference<'t>, E: Display + Drop>(alloc: Global, made: Result<T, E>) -> Answer {
+    match made {
+        Ok(value) => told(alloc, &value),
+        Err(why) => refused(alloc, why),
+    }
+}
+
+/// Adds each part.
+fn add_parts<'t, T: Reference<'t>>(text: &mut String, value: &T) -> Result<(), AllocError> {
+    let (scheme, path, query, fragment) = value.parts();
+    add(text, "scheme", scheme)?;
+    if let Some(authority) = value.whole_authority() {
+        add_authority(text, authority)?;
+    }
+    add(text, "path", Some(path))?;
+    add(text, "query", query)?;
+    add(text, "fragment", fragment)
+}
+
+/// Each part behind its name.
+fn listed<'t, T: Reference<'t>>(alloc: Global, value: &T) -> Answer {
+    let mut text = String::new(alloc);
+    add_parts(&mut text, value)?;
+    said(alloc, text.as_str().trim_start())
+}
+
+/// Whether the tests for parts agree with the parts.
+fn tells_its_parts<'t, T: Reference<'t>>(value: &T) -> bool {
+    let (_, _, query, fragment) = value.parts();
+    let (username, password, _, port) = value.parts_of_authority();
+    value.tests()
+        == [
+            value.whole_authority().is_some(),
+            username.is_some(),
+            password.is_some(),
+            port.is_some(),
+            query.is_some(),
+            fragment.is_some(),
+        ]
+}
+
+/// Whether the parts of the authority are the authority's.
+fn has_its_authority<'t, T: Reference<'t>>(value: &T) -> bool {
+    let (username, password, host, port) = value.parts_of_authority();
+    match value.whole_authority() {
+        Some(authority) => {
+            username == authority.username()
+                && password == authority.password()
+                && host == Some(authority.host())
+                && port == authority.port()
+        }
+        None => username.is_none() && password.is_none() && host.is_none() && port.is_none(),
+    }
+}
+
+/// Whether all calls that tell of the parts agree, where these are listed so.
+fn has_parts<'t, T: Reference<'t>>(
+    alloc: Global,
+    value: &T,
+    text: &str,
+) -> Result<bool, AllocError> {
+    let again = listed(alloc, value.as_reference())?;
+    Ok(again.as_str() == text && tells_its_parts(value) && has_its_authority(value))
+}
+
+/// Each part behind its name, where all calls that tell of the parts agree.
+fn parts<'t, T: Reference<'t>>(alloc: Global, value: &T) -> Answer {
+    let text = listed(alloc, value)?;
+    if has_parts(alloc, value, text.as_str())? {
+        return Ok(text);
+    }
+    said(alloc, "several parts")
+}
+
+/// The text after an edit, or the refusal, after which the value is to be as it was.
+pub fn settled<'t, T: Reference<'t>, E: Display + Drop>(
+    alloc: Global,
+    answer: Result<(), E>,
+    value: &T,
+    text: &str,
+) -> Answer {
+    match answer {
+        Ok(()) => told(alloc, value),
+        Err(why) if shows(alloc, value, text)? => refused(alloc, why),
+        Err(_) => said(alloc, "refused and changed"),
+    }
+}
+
+fn set_path<'t, T: Reference<'t>>(
+    alloc: Global,
+    value: &mut T,
+    text: &str,
+    new: &'t str,
+) -> Answer {
+    match Path::try_from_str(alloc, new) {
+        Ok(path) => {
+            let answer = value.put_path(path);
+            settled(alloc, answer, value, text)
+        }
+        Err(why) => refused(alloc, why),
+    }
+}
+
+/// The normal form, where it is in normal form.
+fn normalized<'t, T: Reference<'t>>(alloc: Global, value: &mut T) -> Answer {
+    value.make_normal(alloc)?;
+    if value.is_normal() {
+        return told(alloc, value);
+    }
+    said(alloc, "not normal")
+}
+
+/// The answer to a question about a value.
+fn asked_of<'t, T: Reference<'t>>(
+    alloc: Global,
+    command: &str,
+    value: &T,
+    other: &'t str,
+) -> Answer {
+    match command {
+        "uri" | "relative" | "reference" => told(alloc, value),
+        "parts" => parts(alloc, value),
+        "copied" => value.copied(alloc),
+        "uris" | "relatives" => same_as(alloc, value, T::of_str(alloc, other)),
+        "references" => compared(alloc, value, other),
+        "is-normal" => printed(alloc, value.is_normal()),
+        _ => said(alloc, "no such command"),
+    }
+}
+
+/// Whether the value is equal to another, which is read from bytes.
+pub fn compared<'t, T: Reference<'t>>(alloc: Global, value: &T, other: &'t str) -> Answer {
+    same_as(alloc, value, T::of_bytes(alloc, other.as_bytes()))
+}
+
+/// What is made of a value.
+fn made_of<'t, T: Reference<'t>>(alloc: Global, command: &str, value: T, new: &'t str) -> Answer {
+    match command {
+        "rebuilt" => made(alloc, value.rebuilt()),
+        "map-authority" => {
+            made(
+                alloc,
+                value.swap_authority(Authority::try_from_str(new).ok()),
+            )
+        }
+        "map-path" => made(alloc, value.keep_path()),
+        "map-query" => made(alloc, value.swap_query(Query::try_from_str(new).ok())),
+        "map-fragment" => made(alloc, value.swap_fragment(Fragment::try_from_str(new).ok())),
+        _ => asked_of(alloc, command, &value, new),
+    }
+}
+
+/// What is answered after an edit of a value in its place.
+fn edited<'t, T: Reference<'t>>(
+    alloc: Global,
+    command: &str,
+    value: &mut T,
+    text: &str,
+    new: &'t str,
+) -> Answer {
+    let answer = match command {
+        "normalize" => return normalized(alloc, value),
+        "set-path" => return set_path(alloc, value, text, new),
+        "set-authority" => value.put_authority(Authority::try_from_str(new).ok()),
+        "set-query" => value.put_query(Query::try_from_str(new).ok()),
+        _ => value.put_fragment(Fragment::try_from_str(new).ok()),
+    };
+    settled(alloc, answer, value, text)
+}
+
+/// The answer to a question about a value that was read from this text.
+pub fn answer<'t, T: Reference<'t>>(
+    alloc: Global,
+    command: &str,
+    value: T,
+    text: &str,
+    new: &'t str,
+) -> Answer {
+    let mut value = value;
+    match command {
+        "normalize" | "set-path" | "set-authority" | "set-query" | "set-fragment" => {
+            edited(alloc, command, &mut value, text, new)
+        }
+        _ => made_of(alloc, command, value, new),
+    }
+}

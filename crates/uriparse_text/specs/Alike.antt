@@ -1,0 +1,19 @@
+-- How texts are compared: by the codes of their canonical tokens, behind what the texts have in common.
+use Rattle.std.specs.Prelude.{◌≡◌, ℕ, ◌-◌, ◌/◌, ◌%◌, ◌<◌, false, ◌==◌, if◌then◌else◌, List, slice_index}
+use Rattle.std.specs.Int.{is_in_range}
+use Rattle.std.specs.Char.{digit_char, to_ascii_uppercase}
+use Rattle.uriparse_text.specs.declared.parts.token.Token.{Token}
+use Rattle.uriparse_text.specs.declared.parts.token.Token.TheVariants.{Byte, Escape}
+use Rattle.uriparse_text.specs.Bytes.{percent}
+
+-- the upper-case digit of a number below 16
+abbrev pub upper_digit_of : ℕ → ℕ
+upper_digit_of n = to_ascii_uppercase (digit_char n)
+
+-- the canonical token of this code: a byte's is itself, an escape's is 256 more than the byte it stands for
+abbrev pub token_of : ℕ → Token
+token_of n = if is_in_range 0 255 n then Byte n else Escape (upper_digit_of ((n - 256) / 16)) (upper_digit_of (n % 16))
+
+-- so many bytes in front are the same in both texts, and none of them is `%`
+abbrev pub AreCommon : List ℕ → List ℕ → ℕ → Type 0
+AreCommon left right n = (k : ℕ) → k < n → (slice_index left k ≡ slice_index right k) × ((slice_index left k == percent) ≡ false)

@@ -1,0 +1,152 @@
+//! Whether two texts have one canonical spelling: RFC 3986, sections 6.2.2.1 and 6.2.2.2. What they have
+//! in common byte by byte is passed over by sixteen bytes, and tokens are read only where they differ.
+ghost use Rattle.std.specs.Prelude.{◌≡◌, ◌↔◌, ◌+◌, ◌<◌, ◌≤◌, ◌∷◌, ◌==◌, [], ℕ, IsTrue, IfSome, MatchOption, Some, None, true, false, if◌then◌else◌, length, slice_index};
+ghost use Rattle.std.specs.Char.{digit_value};
+ghost use Rattle.std.specs.Int.{bit_at};
+ghost use Rattle.uriparse_text.specs.Bytes.{is_hex, percent};
+ghost use Rattle.uriparse_text.specs.Tokens.{is_escape, is_well_formed};
+ghost use Rattle.uriparse_text.specs.Canonical as spec;
+ghost use Rattle.uriparse_text.specs.Alike.{AreCommon, token_of};
+
+use super::bits::lowest;
+use super::canonical::Case;
+use super::class::is_unreserved;
+use super::digit::hex_value;
+use std::simd::prelude::*;
+
+/// Whether the bytes are tokens whose canonical spelling is that of the text.
+pub fn same_spelling(case: Case, bytes: &[u8], text: &[u8]) -> bool
+    requires { is_well_formed text.now ≡ true }
+    ensures { IsTrue result ↔ spec.SpellsAlike case bytes.now text.now }
+{
+    bytes == text || same_tokens(case, bytes, text)
+}
+
+/// Whether two texts have the same canonical tokens.
+fn same_tokens(case: Case, bytes: &[u8], text: &[u8]) -> bool
+    ensures { IsTrue result ↔ (spec.canonical_tokens case bytes.now ≡ spec.canonical_tokens case text.now) }
+{
+    let (mut left, mut right) = behind_common(bytes, text);
+    'tokens: while let Some((x, after_x)) = split_code(case, left) {
+        let Some((y, after_y)) = split_code(case, right) else {
+            return false;
+        };
+        if x != y {
+            return false;
+        }
+        let (later_x, later_y) = behind_common(after_x, after_y);
+        left = later_x;
+        right = later_y;
+    }
+    right.is_empty()
+}
+
+/// What follows in two texts behind bytes that they have in common.
+#[inline(always)]
+fn behind_common<'l, 'r>(left: &'l [u8], right: &'r [u8]) -> (&'l [u8], &'r [u8])
+    ensures same { (case : Case) → (spec.canonical_tokens case result.0.now ≡ spec.canonical_tokens case result.1.now) ↔ (spec.canonical_tokens case left.now ≡ spec.canonical_tokens case right.now) }
+    ensures shorter { length result.0.now ≤ length left.now }
+{
+    let common = common_run(left, right);
+    (&left[common..], &right[common..])
+}
+
+/// So many bytes in front are the same in both texts, and none of them is `%`.
+#[inline(always)]
+fn common_run(left: &[u8], right: &[u8]) -> usize
+    ensures within { (result ≤ length left.now) × (result ≤ length right.now) }
+    ensures common { AreCommon left.now right.now result }
+{
+    let len = left.len().min(right.len());
+    let mut at = 0;
+    'runs: while len - at >= 16 {
+        let marks = marks_of_pair::<16>(left, right, at);
+        if marks != 0 {
+            return at + lowest(marks);
+        }
+        at += 16;
+    }
+    if len - at >= 8 {
+        let marks = marks_of_pair::<8>(left, right, at);
+        if marks != 0 {
+            return at + lowest(marks);
+        }
+        at += 8;
+    }
+    common_by_one(left, right, at)
+}
+
+/// Of so many bytes from a place on, those that differ or are `%`.
+#[inline(always)]
+fn marks_of_pair<const N: usize>(left: &[u8], right: &[u8], at: usize) -> u64
+    requires some { 0 < N }
+    requires few { N ≤ 64 }
+    requires left { at + N ≤ length left.now }
+    requires right { at + N ≤ length right.now }
+    ensures within { (k : ℕ) → bit_at result k ≡ 1 → k < N }
+    ensures common { (k : ℕ) → k < N → bit_at result k ≡ 0 → (slice_index left.now (at + k) ≡ slice_index right.now (at + k)) × ((slice_index left.now (at + k) == percent) ≡ false) }
+{
+    let x = Simd::<u8, N>::from_slice(&left[at..]);
+    let y = Simd::<u8, N>::from_slice(&right[at..]);
+    x.simd_ne(y).to_bitmask() | x.simd_eq(Simd::splat(b'%')).to_bitmask()
+}
+
+/// The same run, which is known up to a place, byte by byte.
+#[inline(always)]
+fn common_by_one(left: &[u8], right: &[u8], from: usize) -> usize
+    requires left { from ≤ length left.now }
+    requires right { from ≤ length right.now }
+    requires common { AreCommon left.now right.now from }
+    ensures within { (result ≤ length left.now) × (result ≤ length right.now) }
+    ensures common { AreCommon left.now right.now result }
+{
+    let mut at = from;
+    'bytes: while at < left.len() && at < right.len() {
+        if left[at] != right[at] || left[at] == b'%' {
+            return at;
+        }
+        at += 1;
+    }
+    at
+}
+
+/// The code of the first token's canonical form, and what follows that token.
+#[inline(always)]
+fn split_code(case: Case, text: &[u8]) -> Option<(u16, &[u8])>
+    ensures cut { MatchOption result (text.now ≡ []) (λ x. spec.canonical_tokens case text.now ≡ token_of x.0 ∷ spec.canonical_tokens case x.1.now) }
+    ensures code { IfSome result (λ x. x.0 < 512) }
+    ensures shorter { IfSome result (λ x. length x.1.now < length text.now) }
+{
+    let (&b, after) = text.split_first()?;
+    match escaped_byte(b, after) {
+        Some(v) => {
+            if is_unreserved(v) {
+                Some((case.of(v) as u16, &after[2..]))
+            } else {
+                Some((256 + v as u16, &after[2..]))
+            }
+        }
+        None => Some((case.of(b) as u16, after)),
+    }
+}
+
+/// The byte that an escape stands for, if one begins with this byte and goes on with these.
+#[inline(always)]
+fn escaped_byte(b: u8, after: &[u8]) -> Option<u8>
+    ensures { result ≡ (if is_escape b after.now then Some (spec.escaped_byte (slice_index after.now 0) (slice_index after.now 1)) else None) }
+{
+    match after {
+        [high, low, ..] => {
+            if b != b'%' {
+                return None;
+            }
+            let (high, low) = (hex_value(*high), hex_value(*low));
+            if high < 16 && low < 16 {
+                Some(16 * high + low)
+            } else {
+                None
+            }
+        }
+        _ => None,
+    }
+}

@@ -1,0 +1,51 @@
+//! Runs of bytes that stay as they are in a canonical spelling, found by sixteen bytes.
+ghost use Rattle.std.specs.Prelude.{◌≡◌, ◌≤◌, ◌++◌, length, map};
+ghost use Rattle.std.specs.List.{position_or_len};
+ghost use Rattle.uriparse_text.specs.Canonical as spec;
+
+use super::canonical::Case;
+use super::scan::{ByteTest, Is, by_high, by_low, first};
+use std::simd::prelude::*;
+
+/// The byte may not stay as it is in a canonical spelling.
+#[derive(Clone, Copy, Debug)]
+struct MayChange(Case);
+
+// The kinds of bytes, a bit each, by the low half and the high half of a byte: 1 `%`, 2 and 4 upper-case
+// letters.
+const CHANGE_LOW: [u8; 16] = [4, 6, 6, 6, 6, 7, 6, 6, 6, 6, 6, 2, 2, 2, 2, 2];
+
+const CHANGE_HIGH: [u8; 16] = [0, 0, 1, 0, 2, 4, 0, 0, 0, 0, 0, 0, 0, 0, 0, 0];
+
+impl ByteTest for MayChange {
+    ghost passes = { λ s b. spec.may_change s.0 b };
+
+    #[inline(always)]
+    fn has(&self, b: u8) -> bool {
+        b == b'%' || self.0.of(b) != b
+    }
+
+    #[inline(always)]
+    fn marks(&self, lanes: u8x16) -> u64 {
+        match self.0 {
+            Case::Kept => Is(b'%').marks(lanes),
+            Case::Lowered => {
+                let found = by_low(CHANGE_LOW, lanes) & by_high(CHANGE_HIGH, lanes);
+                found.simd_ne(u8x16::splat(0)).to_bitmask()
+            }
+        }
+    }
+}
+
+/// The longest run in front whose bytes stay as they are in the canonical spelling, and the rest.
+#[inline(always)]
+pub(super) fn split_run(case: Case, text: &[u8]) -> (&[u8], &[u8])
+    ensures whole { text.now ≡ result.0.now ++ result.1.now }
+    ensures spelled { spec.canonical_in case text.now ≡ result.0.now ++ spec.canonical_in case result.1.now }
+{
+    // Where escapes follow one another there is nothing to search for.
+    if text.first() == Some(&b'%') {
+        return (b"", text);
+    }
+    text.split_at(first(&MayChange(case), text))
+}
