@@ -30,7 +30,7 @@ canonical-root : (a : Bool) (t : List ℕ) → canonical (root a ++ t) ≡ root 
 canonical-root true t = canonical-slash t
 canonical-root false t = refl
 
-canonical-behind : (ss : List (List ℕ)) → list_all is_segment ss ≡ true →
+pub canonical-behind : (ss : List (List ℕ)) → list_all is_segment ss ≡ true →
     canonical (flat_map (λ s. slash ∷ s) ss) ≡ flat_map (λ s. slash ∷ s) (map canonical ss)
 canonical-behind [] h = canonical-nil
 canonical-behind (s ∷ ss) h =

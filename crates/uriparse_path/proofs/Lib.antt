@@ -2,6 +2,7 @@ pub mod SplitLemmas
 pub mod FaultLemmas
 pub mod TextLemmas
 pub mod CanonicalLemmas
+mod FeedLemmas
 pub mod DotLemmas
 pub mod StepLemmas
 pub mod ReplayLemmas

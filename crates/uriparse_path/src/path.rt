@@ -1,10 +1,11 @@
 //! A path: RFC 3986, section 3.3.
-ghost use Rattle.std.specs.Prelude.{◌≡◌, ◌≤◌, ◌⊎◌, ◌↔◌, ◌∷◌, length, IsTrue, IfOk, OnOk, OnErr, IsOk, IsErr, Some, true, false, if◌then◌else◌, not, map, filter, bytes_eq, string_bytes};
+ghost use Rattle.std.specs.Prelude.{◌≡◌, ◌≤◌, ◌⊎◌, ◌↔◌, ◌∷◌, ◌++◌, fold, length, IsTrue, IfOk, OnOk, OnErr, IsOk, IsErr, Some, true, false, if◌then◌else◌, not, map, filter, bytes_eq, string_bytes};
 ghost use Rattle.std.proofs.Common.{rules};
 ghost use Rattle.std.specs.Ordering.{on};
 ghost use Rattle.std.specs.Cmp.Rules.{comparing, hashing};
 ghost use Rattle.std.specs.Fmt.{WritesOnOk, WritesStyledOnOk};
 ghost use Rattle.std.specs.List.{flat_map, list_all};
+ghost use Rattle.std.specs.Hash as fed;
 ghost use Rattle.uriparse_text.specs.declared.parts.canonical.Case.TheVariants as case;
 ghost use Rattle.uriparse_text.specs.Bytes.{colon, slash};
 ghost use Rattle.uriparse_text.specs.Cuts.{lacks, up_to};
@@ -23,7 +24,7 @@ use std::fmt;
 use std::fmt::Write;
 use std::hash::{Hash, Hasher};
 use std::marker::Model;
-use uriparse_text::parts::{Case, TextWalk, feed_walk, same_walks};
+use uriparse_text::parts::{Case, TextWalk, feed_spelling, same_walks};
 
 mod copy;
 mod dots;
@@ -343,6 +344,21 @@ impl<'p> Path<'p> {
         (self.absolute, segments)
     }
 
+    /// What stands before all slashes in the path's text, and the segments that stand behind one each.
+    #[inline]
+    fn split_front(&self) -> (&[u8], &[Segment<'p>])
+        ensures { canonical (text self.now) ≡ canonical result.0.now ++ flat_map (λ s. slash ∷ canonical s) result.1.now }
+    {
+        let segments = self.segments();
+        if self.is_absolute() {
+            return (b"", segments);
+        }
+        match segments.split_first() {
+            Some((first, later)) => (first.as_bytes(), later),
+            None => (b"", segments),
+        }
+    }
+
     /// The cursor at the start of the path's text.
     fn walk(&self) -> PathWalk<'_>
         ensures tokens { result ≡ canonical_tokens case.Kept (text self.now) }
@@ -389,7 +405,21 @@ impl<'p> Hash for Path<'p> {
     ghost respects_eq = { Prim.search (hashing, rules) };
 
     fn hash<H: Hasher>(&self, state: &mut H) {
-        feed_walk(self.walk(), state);
+        let (front, behind) = self.split_front();
+        feed_spelling(Case::Kept, front, state);
+        feed_behind_slashes(behind, state);
+        state.write_u8(0xff);
+    }
+}
+
+/// Feeds a slash and the segment's canonical spelling to the hasher, for each segment.
+#[inline]
+fn feed_behind_slashes<H: Hasher>(segments: &[Segment<'_>], state: &mut H)
+    ensures { state.new ≡ fold H.write state.old (flat_map (λ s. flat_map fed.u8 (slash ∷ canonical s)) segments.now) }
+{
+    for segment in segments {
+        state.write_u8(b'/');
+        feed_spelling(Case::Kept, segment.as_bytes(), state);
     }
 }
 

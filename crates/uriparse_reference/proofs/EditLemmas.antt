@@ -1,7 +1,7 @@
 -- What an edit makes is valid.
-use Rattle.std.proofs.Common.{◌≡◌, ℕ, ◌+◌, suc, arith, Bool, true, false, cond, List, [], ◌∷◌, length, Option, Some, None, refl, sym, ap, ◌∙◌, subst, ◌||◌}
-use Rattle.std.specs.Prelude.{IfSome, is_some, Result, Ok}
-use Rattle.uriparse_text.specs.Readings.{unless_fault}
+use Rattle.std.proofs.Common.{◌≡◌, ℕ, ◌+◌, suc, arith, Bool, true, false, cond, List, [], ◌∷◌, length, Option, Some, None, refl, sym, ap, ◌∙◌, subst, ◌||◌, inl}
+use Rattle.std.specs.Prelude.{IfSome, is_some, Result, Ok, Err, MatchResult}
+use Rattle.uriparse_text.specs.Readings.{unless_fault, Settles}
 use Rattle.uriparse_text.specs.Query.{IsQuery}
 use Rattle.uriparse_text.specs.Fragment.{IsFragment}
 use Rattle.uriparse_path.specs.Path as path
@@ -15,6 +15,7 @@ use Rattle.uriparse_reference.specs.declared.uri_reference.error.URIReferenceErr
 use Rattle.uriparse_reference.specs.declared.uri_reference.error.URIReferenceError.TheVariants as errors
 use Rattle.uriparse_reference.specs.Reference.{Parts, Valid, path_refusal, is_noscheme}
 use Rattle.uriparse_reference.specs.declared.uri_reference.edit.Edit.{Edit}
+use Rattle.uriparse_reference.specs.declared.uri_reference.edit.Edit.TheVariants as edits
 use Rattle.uriparse_reference.specs.Edits.{placed, refusal, of_parts, edited, IsRefused, Run, ends, stops, goes}
 use Rattle.uriparse_reference.proofs.ValidLemmas.{HasPlace, placed_text, same_path}
 use Rattle.uriparse_reference.proofs.ReferenceLemmas.{accepted}
@@ -176,6 +177,36 @@ pub tested_parts : (p : Parts) (g : PathParts) (b d : Bool) (r : Result (Unit {0
 tested_parts p g b d r x s a i q f e h k l m =
     subst (λ u. Valid (record p { path = u })) (sym (m ∙ ap (λ u. placed u p.path) h))
     (valid_parts p s a i q f (no_refusal (is_some p.scheme) (is_some p.authority) b d (path.text p.path) r x e h k l))
+
+-- ---- an authority is set
+
+pub edited_some : (p : Parts) (o : Option AuthorityParts) (h : PathParts) → is_some o ≡ true → h ≡ path.made_absolute p.path
+    → edited p (edits.Authority o) ≡ Ok (build p.scheme o h p.query p.fragment)
+edited_some p None h k e = cc
+edited_some p (Some a) h k e = ap (λ g. Ok (build p.scheme (Some a) g p.query p.fragment)) (sym e)
+
+pub valid_some : (p : Parts) (o : Option AuthorityParts) (h : PathParts) → is_some o ≡ true → h ≡ path.made_absolute p.path → Valid p
+    → IfSome o authority.Valid → Valid (build p.scheme o h p.query p.fragment)
+valid_some p None h k e v i = cc
+valid_some p (Some a) h k e v i = subst (λ g. Valid (build p.scheme (Some a) g p.query p.fragment)) (sym e) (valid_authority p a v i)
+
+pub edited_none : (p : Parts) (o : Option AuthorityParts) → is_some o ≡ false → path_refusal (is_some p.scheme) false (path.text p.path) ≡ None
+    → edited p (edits.Authority o) ≡ Ok (build p.scheme o p.path p.query p.fragment)
+edited_none p None h k = accepts p (record p { authority = None }) (record p { authority = None }) _ k refl
+edited_none p (Some a) h k = cc
+
+pub valid_none : (p : Parts) (o : Option AuthorityParts) → is_some o ≡ false → path_refusal (is_some p.scheme) false (path.text p.path) ≡ None → Valid p
+    → Valid (build p.scheme o p.path p.query p.fragment)
+valid_none p None h k v = valid_no_authority p v k
+valid_none p (Some a) h k v = cc
+
+-- ---- an edit of a list
+
+-- what its setter promises is what a list of edits wants
+pub settled : (old new : Parts) (d e : Edit) (r : Result (Unit {0}) URIReferenceError) → d ≡ e → Settles old new r (edited old e)
+    → MatchResult r (λ _. edited old d ≡ Ok new) (λ x. IsRefused old d x × (new ≡ old))
+settled old new d e (Ok u) same h = ap (edited old) same ∙ h
+settled old new d e (Err x) same h = (inl (ap (edited old) same ∙ h.0), h.1)
 
 -- ---- lists of edits
 

@@ -13,9 +13,8 @@ use Rattle.uriparse_authority.specs.Authority.{AuthorityParts, ends_authority}
 use Rattle.uriparse_scheme.specs.Scheme as scheme
 use Rattle.uriparse_reference.specs.declared.uri_reference.error.URIReferenceError.{URIReferenceError}
 use Rattle.uriparse_reference.specs.declared.uri_reference.error.URIReferenceError.TheVariants as errors
-use Rattle.uriparse_reference.specs.Reference.{path_of}
 use Rattle.uriparse_reference.specs.Cuts.{if_scheme, scheme_text, after_scheme, authority_text, after_authority, path_text, query_text}
-use Rattle.uriparse_reference.specs.Reading.{path_reading, early_fault}
+use Rattle.uriparse_reference.specs.Reading.{tail_reading, early_fault}
 
 -- ---- what the pieces lack
 
@@ -56,32 +55,22 @@ refused_early t r x e h k f =
     let same : x ≡ e = cc in
     k ∙ ap Err same
 
--- behind one that is read, a path's fault is the early one
-early_path : (t : List ℕ) (a : Option AuthorityParts) → of_piece errors.Authority (if_present authority.reading (authority_text t)) ≡ Ok a
-    → early_fault t ≡ fault_in (of_piece errors.Path (path.reading (path_text t)))
-early_path t a h = ap (λ r. fault_in (r >>= λ _. of_piece errors.Path (path.reading (path_text t)))) h
-
--- a path with a fault is answered it
-pub path_early : {A : Type 0} (t : List ℕ) (w : Bool) (a : Option AuthorityParts) (u : List ℕ) (s : Result PathParts URIReferenceError)
-    (r : Result A URIReferenceError) (x e : URIReferenceError)
-    → of_piece errors.Authority (if_present authority.reading (authority_text t)) ≡ Ok a
-    → u ≡ path_text t → (IsErr (path.reading u) → s ≡ of_piece errors.Path (path_reading w u)) → s ≡ Err x → r ≡ Err x → early_fault t ≡ Some e → r ≡ Err e
-path_early t w a u s r x e h at fault k l f =
-    by_reading (path.reading u) fault (ap (λ v. fault_in (of_piece errors.Path (path.reading v))) at ∙ sym (early_path t a h) ∙ f)
+-- behind one that is read, the early fault is the path's, and it is what follows the authority answers
+pub tail_early : (t : List ℕ) (v w : Bool) (a : Option AuthorityParts) (u : List ℕ) (e : URIReferenceError)
+    → of_piece errors.Authority (if_present authority.reading (authority_text t)) ≡ Ok a → u ≡ after_authority t → early_fault t ≡ Some e
+    → IsErr (path.reading (before question_mark (before number_sign u))) × (tail_reading v w u ≡ Err e)
+unfolding tail_reading
+tail_early t v w a u e h at f =
+    let h_text = before question_mark (before number_sign u) in
+    by_reading (path.reading h_text) refl
+    (ap (λ l. fault_in (of_piece errors.Path (path.reading (before question_mark (before number_sign l))))) at
+    ∙ sym (ap (λ r. fault_in (r >>= λ _. of_piece errors.Path (path.reading (path_text t)))) h) ∙ f)
   where
-    by_reading : (o : Result PathParts PathError) → (IsErr o → s ≡ of_piece errors.Path (o >>= λ _. Ok (path_of w u)))
-        → fault_in (of_piece errors.Path o) ≡ Some e → r ≡ Err e
-    by_reading (Ok y) g i = cc
-    by_reading (Err y) g i = let told : s ≡ Err (errors.Path y) = g refl in let same : errors.Path y ≡ e = cc in let own : x ≡ errors.Path y = cc in l
-        ∙ ap Err (own ∙ same)
-
--- behind an authority and a path that are read, there is no early fault
-pub none_early : {A : Type 0} (t : List ℕ) (w : Bool) (a : Option AuthorityParts) (h : PathParts) (r : Result A URIReferenceError) (e : URIReferenceError)
-    → of_piece errors.Authority (if_present authority.reading (authority_text t)) ≡ Ok a → of_piece errors.Path (path_reading w (path_text t)) ≡ Ok h
-    → early_fault t ≡ Some e → r ≡ Err e
-none_early t w a h r e i j f = by_reading (path.reading (path_text t)) j (sym (early_path t a i) ∙ f)
-  where
-    by_reading : (o : Result PathParts PathError) → of_piece errors.Path (o >>= λ _. Ok (path_of w (path_text t))) ≡ Ok h
-        → fault_in (of_piece errors.Path o) ≡ Some e → r ≡ Err e
-    by_reading (Ok y) k l = cc
-    by_reading (Err y) k l = cc
+    by_reading : (o : Result PathParts PathError) → path.reading (before question_mark (before number_sign u)) ≡ o
+        → fault_in (of_piece errors.Path (path.reading (before question_mark (before number_sign u)))) ≡ Some e
+        → IsErr (path.reading (before question_mark (before number_sign u))) × (tail_reading v w u ≡ Err e)
+    by_reading (Ok y) g k = let none : None ≡ Some e = ap (λ o. fault_in (of_piece errors.Path o)) (sym g) ∙ k in absurd (cc)
+    by_reading (Err y) g k =
+        let same : Some (errors.Path y) ≡ Some e = ap (λ o. fault_in (of_piece errors.Path o)) (sym g) ∙ k in
+        let own : errors.Path y ≡ e = cc in
+        (rw g refl, rw g (ap Err own))

@@ -30,8 +30,12 @@ use Rattle.uriparse_reference.specs.declared.uri_reference.error.URIReferenceErr
 use Rattle.uriparse_reference.specs.Reference.{Parts, behind_slashes, joined, is_abempty, path_refusal, path_of, Spells}
 use Rattle.uriparse_reference.specs.Cuts.{if_scheme, scheme_text, unless_scheme, after_scheme, cut_authority, authority_text, without_authority}
 use Rattle.uriparse_reference.specs.Cuts.{after_authority, path_text, query_text, fragment_text}
-use Rattle.uriparse_reference.specs.Reading.{path_reading, reading, fault}
+use Rattle.uriparse_reference.specs.Reading.{path_reading, tail_reading, reading, fault}
 use Rattle.uriparse_reference.proofs.CutLemmas.{tail, ArePieces, cut_again}
+
+-- a path, a query and a fragment
+abbrev Tail : Type 0
+Tail = PathParts × Option (List ℕ) × Option (List ℕ)
 
 -- ---- what is spelled so is read so
 
@@ -63,12 +67,8 @@ pub refusal_is : (t : List ℕ) (v w : Bool) (h : List ℕ) → is_some (scheme_
 refusal_is t v w h e f g =
     ap (λ u. path_refusal u (is_some (authority_text t)) (path_text t)) e ∙ ap (λ u. path_refusal v u (path_text t)) f ∙ ap (path_refusal v w) (sym g)
 
-pub path_reading_is : (t : List ℕ) (w : Bool) (h : List ℕ) → is_some (authority_text t) ≡ w → h ≡ path_text t
-    → path_reading (is_some (authority_text t)) (path_text t) ≡ path_reading w h
-path_reading_is t w h f g = ap (λ u. path_reading u (path_text t)) f ∙ ap (path_reading w) (sym g)
-
 pub again : (t : List ℕ) (p : Parts) → Spells t p → reading t ≡ Ok p
-unfolding reading
+unfolding reading tail_reading
 again t p s =
     let cut = cut_again t s.scheme_text s.authority_text s.path_text p.query p.fragment (spelled_pieces t p s) s.whole in
     let sc = cut.scheme in
@@ -198,15 +198,26 @@ pub refused : (o : Option URIReferenceError) (e : URIReferenceError) → unless_
 refused None e h = cc
 refused (Some x) e h = cc
 
+-- the parts of what was read of an authority and of what follows it
+tail_parts : (s : Option Scheme) (a : Option AuthorityParts) (h : PathParts) (q f : Option (List ℕ)) (r : Tail) (p : Parts)
+    → ◌≡◌ {A = Result Tail URIReferenceError} (Ok (h, q, f)) (Ok r)
+    → ◌≡◌ {A = Result Parts URIReferenceError} (Ok (record { scheme = s; authority = a; path = r.0; query = r.1; fragment = r.2 })) (Ok p)
+    → record { scheme = s; authority = a; path = h; query = q; fragment = f } ≡ p
+tail_parts s a h q f r p e g =
+    let tail : (h, q, f) ≡ r = cc in
+    let whole : record { scheme = s; authority = a; path = r.0; query = r.1; fragment = r.2 } ≡ p = cc in
+    ap (λ (x : Tail). record { scheme = s; authority = a; path = x.0; query = x.1; fragment = x.2 }) tail ∙ whole
+
 pub found : (t : List ℕ) (p : Parts) → reading t ≡ Ok p → Spells t p
-unfolding reading
+unfolding reading tail_reading
 found t p k =
     let x = bind_ok (of_piece errors.Authority (if_present authority.reading (authority_text t))) _ p k in
-    let y = bind_ok (of_piece errors.Path (path_reading (is_some (authority_text t)) (path_text t))) _ p x.2 in
-    let z = bind_ok (unless_fault {A = Unit {0}} (path_refusal (is_some (scheme_text t)) (is_some (authority_text t)) (path_text t)) tt) _ p y.2 in
-    let v = bind_ok (of_piece errors.Query (if_present query.reading (query_text t))) _ p z.2 in
-    let w = bind_ok (of_piece errors.Fragment (if_present fragment.reading (fragment_text t))) _ p v.2 in
-    let e : record { scheme = option_map scheme.named (scheme_text t); authority = x.0; path = y.0; query = v.0; fragment = w.0 } ≡ p = cc (w.2) in
+    let u = bind_ok (tail_reading (is_some (scheme_text t)) (is_some (authority_text t)) (after_authority t)) _ p x.2 in
+    let y = bind_ok (of_piece errors.Path (path_reading (is_some (authority_text t)) (path_text t))) _ u.0 u.1 in
+    let z = bind_ok (unless_fault {A = Unit {0}} (path_refusal (is_some (scheme_text t)) (is_some (authority_text t)) (path_text t)) tt) _ u.0 y.2 in
+    let v = bind_ok (of_piece errors.Query (if_present query.reading (query_text t))) _ u.0 z.2 in
+    let w = bind_ok (of_piece errors.Fragment (if_present fragment.reading (fragment_text t))) _ u.0 v.2 in
+    let e = tail_parts (option_map scheme.named (scheme_text t)) x.0 y.0 v.0 w.0 u.0 p w.2 u.2 in
     subst (λ q. Spells t q) e (spells_cuts t x.0 y.0 z.0 v.0 w.0 (piece_found errors.Authority _ x.0 x.1) (piece_found errors.Path _ y.0 y.1) z.1
     (piece_found errors.Query _ v.0 v.1) (piece_found errors.Fragment _ w.0 w.1))
 
@@ -229,13 +240,10 @@ authority_back (Some a) h k = authorities.back a h k
 
 pub assembled : (t : List ℕ) (a : Option AuthorityParts) (h : PathParts) (q f : Option (List ℕ))
     → of_piece errors.Authority (if_present authority.reading (authority_text t)) ≡ Ok a
-    → of_piece errors.Path (path_reading (is_some (authority_text t)) (path_text t)) ≡ Ok h
-    → path_refusal (is_some (scheme_text t)) (is_some (authority_text t)) (path_text t) ≡ None
-    → of_piece errors.Query (if_present query.reading (query_text t)) ≡ Ok q
-    → of_piece errors.Fragment (if_present fragment.reading (fragment_text t)) ≡ Ok f
+    → tail_reading (is_some (scheme_text t)) (is_some (authority_text t)) (after_authority t) ≡ Ok (h, q, f)
     → reading t ≡ Ok (record { scheme = option_map scheme.named (scheme_text t); authority = a; path = h; query = q; fragment = f })
 unfolding reading
-assembled t a h q f i j k l m = rw (i, j, k, l, m) refl
+assembled t a h q f i j = rw (i, j) refl
 
 pub scheme_present : (t : List ℕ) → is_some (scheme_text t) ≡ is_some (option_map scheme.named (scheme_text t))
 scheme_present t = by_option (scheme_text t)
@@ -247,6 +255,15 @@ scheme_present t = by_option (scheme_text t)
 pub text_present : (o : Option (Bor (List ℕ))) → is_some (option_copied o) ≡ is_some o
 text_present None = refl
 text_present (Some s) = refl
+
+-- the reading of what follows the authority, by what the pieces before it are
+pub tail_is : (t : List ℕ) (s : Option Scheme) (v w : Bool) (u : List ℕ) → s ≡ option_map scheme.named (scheme_text t) → v ≡ is_some s
+    → is_some (authority_text t) ≡ w → u ≡ after_authority t
+    → tail_reading (is_some (scheme_text t)) (is_some (authority_text t)) (after_authority t) ≡ tail_reading v w u
+tail_is t s v w u e f g h =
+    let there : is_some (scheme_text t) ≡ v = scheme_present t ∙ ap is_some (sym e) ∙ sym f in
+    ap (λ x. tail_reading x (is_some (authority_text t)) (after_authority t)) there ∙ ap (λ x. tail_reading v x (after_authority t)) g
+    ∙ ap (tail_reading v w) (sym h)
 
 -- ---- what an answer by the reading tells in the grammar's words
 
@@ -260,32 +277,8 @@ found_only t (Err e) (inr h) = (tt, (λ q s. inr h), inr (let same : e ≡ error
 
 -- ---- where a piece is refused, and those before it are read
 
-pub refused_path : (t : List ℕ) (a : Option AuthorityParts) (e : URIReferenceError)
+pub refused_tail : (t : List ℕ) (a : Option AuthorityParts) (e : URIReferenceError)
     → of_piece errors.Authority (if_present authority.reading (authority_text t)) ≡ Ok a
-    → of_piece errors.Path (path_reading (is_some (authority_text t)) (path_text t)) ≡ Err e → reading t ≡ Err e
+    → tail_reading (is_some (scheme_text t)) (is_some (authority_text t)) (after_authority t) ≡ Err e → reading t ≡ Err e
 unfolding reading
-refused_path t a e i j = rw (i, j) refl
-
-pub refused_fit : (t : List ℕ) (a : Option AuthorityParts) (h : PathParts) (e : URIReferenceError)
-    → of_piece errors.Authority (if_present authority.reading (authority_text t)) ≡ Ok a
-    → of_piece errors.Path (path_reading (is_some (authority_text t)) (path_text t)) ≡ Ok h
-    → path_refusal (is_some (scheme_text t)) (is_some (authority_text t)) (path_text t) ≡ Some e → reading t ≡ Err e
-unfolding reading
-refused_fit t a h e i j k = rw (i, j, k) refl
-
-pub refused_query : (t : List ℕ) (a : Option AuthorityParts) (h : PathParts) (e : URIReferenceError)
-    → of_piece errors.Authority (if_present authority.reading (authority_text t)) ≡ Ok a
-    → of_piece errors.Path (path_reading (is_some (authority_text t)) (path_text t)) ≡ Ok h
-    → path_refusal (is_some (scheme_text t)) (is_some (authority_text t)) (path_text t) ≡ None
-    → of_piece errors.Query (if_present query.reading (query_text t)) ≡ Err e → reading t ≡ Err e
-unfolding reading
-refused_query t a h e i j k l = rw (i, j, k, l) refl
-
-pub refused_fragment : (t : List ℕ) (a : Option AuthorityParts) (h : PathParts) (q : Option (List ℕ)) (e : URIReferenceError)
-    → of_piece errors.Authority (if_present authority.reading (authority_text t)) ≡ Ok a
-    → of_piece errors.Path (path_reading (is_some (authority_text t)) (path_text t)) ≡ Ok h
-    → path_refusal (is_some (scheme_text t)) (is_some (authority_text t)) (path_text t) ≡ None
-    → of_piece errors.Query (if_present query.reading (query_text t)) ≡ Ok q
-    → of_piece errors.Fragment (if_present fragment.reading (fragment_text t)) ≡ Err e → reading t ≡ Err e
-unfolding reading
-refused_fragment t a h q e i j k l m = rw (i, j, k, l, m) refl
+refused_tail t a e i j = rw (i, j) refl

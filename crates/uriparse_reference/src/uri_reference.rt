@@ -1,9 +1,14 @@
 //! A URI reference: RFC 3986, section 4.1.
-ghost use Rattle.std.specs.Prelude.{◌≡◌, ◌⊎◌, ℕ, List, IfOk, IfErr, Ok, Err, Some, bytes_eq, fold, is_some, option_copied, string_bytes};
+ghost use Rattle.std.specs.Prelude.{◌≡◌, ◌⊎◌, ◌&&◌, ℕ, List, IfOk, IfErr, Ok, Err, Some, bytes_eq, fold, is_some, option_copied, string_bytes};
 ghost use Rattle.std.proofs.Common.{rules};
+ghost use Rattle.std.specs.Option.{option_eq};
 ghost use Rattle.std.specs.Ordering.{on};
 ghost use Rattle.std.specs.Cmp.Rules.{comparing, hashing};
+ghost use Rattle.uriparse_text.specs.Canonical.{canonical};
 ghost use Rattle.uriparse_text.specs.Readings.{IsUnless};
+ghost use Rattle.uriparse_scheme.specs.Scheme as schemes;
+ghost use Rattle.uriparse_authority.specs.Authority as authorities;
+ghost use Rattle.uriparse_path.specs.Path.{text};
 ghost use Rattle.uriparse_path.specs.declared.path.error.PathError.TheVariants.{OutOfMemory};
 ghost use Rattle.uriparse_reference.specs.declared.uri_reference.error.URIReferenceError.TheVariants as errors;
 ghost use Rattle.uriparse_reference.specs.Key.{each_alike, fed, fed_key, key};
@@ -20,9 +25,8 @@ use uriparse_authority::parts::most_authority_bytes;
 use uriparse_path::parts::most_path_bytes;
 use uriparse_path::path::Path;
 use uriparse_scheme::scheme::Scheme;
-use uriparse_text::fragment::{Fragment, FragmentKind};
-use uriparse_text::parts::read_text_if;
-use uriparse_text::query::{Query, QueryKind};
+use uriparse_text::fragment::Fragment;
+use uriparse_text::query::Query;
 
 mod builder;
 mod copy;
@@ -38,7 +42,7 @@ pub use builder::URIReferenceBuilder;
 pub use edit::Edit;
 pub use error::URIReferenceError;
 use print::{write_authority, write_behind, write_scheme};
-use read::{check_path, cut, read_authority_if, read_path};
+use read::{read_authority_if, read_tail, split_authority, split_scheme};
 
 /// A URI reference, seen as its five parts: a URI or a relative reference. RFC 3986, section 4.1.
 ///
@@ -235,16 +239,31 @@ impl<'r> URIReference<'r> {
         Ok(text)
     }
 
-    /// Whether each part is spelled like the other's.
+    /// Whether scheme, fragment and query are each spelled like the other's.
+    fn has_ends_alike(&self, other: &URIReference<'r>) -> bool
+        ensures valid { Valid self.now × Valid other.now }
+        ensures test { result ≡ (option_eq (on schemes.canonical_text bytes_eq) self.now.scheme other.now.scheme && (option_eq (on canonical bytes_eq) self.now.fragment other.now.fragment && option_eq (on canonical bytes_eq) self.now.query other.now.query)) }
+    {
+        self.scheme == other.scheme && self.fragment == other.fragment && self.query == other.query
+    }
+
+    /// Whether authority and path are each spelled like the other's.
+    fn has_middle_alike(&self, other: &URIReference<'r>) -> bool
+        ensures { result ≡ (option_eq (on authorities.key bytes_eq) self.now.authority other.now.authority && bytes_eq (canonical (text self.now.path)) (canonical (text other.now.path))) }
+    {
+        self.authority == other.authority && self.path == other.path
+    }
+
+    /// Whether each part is spelled like the other's. The shortest ones are compared first.
     fn is_each_alike(&self, other: &URIReference<'r>) -> bool
         ensures test { result ≡ each_alike self.now other.now }
         ensures valid { Valid self.now × Valid other.now }
     {
-        self.scheme == other.scheme
-            && self.authority == other.authority
-            && self.path == other.path
-            && self.query == other.query
-            && self.fragment == other.fragment
+        let ends = self.has_ends_alike(other);
+        if !ends {
+            return false;
+        }
+        self.has_middle_alike(other)
     }
 
     /// Reads by the cuts of the text.
@@ -253,16 +272,13 @@ impl<'r> URIReference<'r> {
         ensures answer { IsUnless (errors.Path OutOfMemory) result (reading bytes.now) }
         ensures early { (e : URIReferenceError) → early_fault bytes.now ≡ Some e → result ≡ Err e }
     {
-        let pieces = cut(bytes);
-        let has_scheme = pieces.scheme.is_some();
-        let has_authority = pieces.authority.is_some();
-        let authority = read_authority_if(pieces.authority)?;
-        let path = read_path(alloc, has_authority, pieces.path)?;
-        check_path(has_scheme, has_authority, pieces.path)?;
-        let query = read_text_if::<QueryKind>(pieces.query)?;
-        let fragment = read_text_if::<FragmentKind>(pieces.fragment)?;
+        let (scheme, rest) = split_scheme(bytes);
+        let (authority, rest) = split_authority(rest);
+        let has_authority = authority.is_some();
+        let authority = read_authority_if(authority)?;
+        let (path, query, fragment) = read_tail(alloc, scheme.is_some(), has_authority, rest)?;
         Ok(URIReference {
-            scheme: pieces.scheme,
+            scheme,
             authority,
             path,
             query,

@@ -13,9 +13,8 @@ use Rattle.uriparse_text.specs.declared.parts.token.Token.TheVariants.{Byte}
 use Rattle.uriparse_text.specs.declared.parts.canonical.Case.TheVariants.{Lowered}
 use Rattle.uriparse_text.specs.Bytes.{percent}
 use Rattle.uriparse_text.specs.Tokens.{tokens, spell, is_token, is_well_formed}
-use Rattle.uriparse_text.specs.Canonical.{canonical_token, canonical_tokens, canonical_lowered, canonical_in}
+use Rattle.uriparse_text.specs.Canonical.{canonical_token, canonical_lowered, canonical_in}
 use Rattle.uriparse_text.proofs.TokenLemmas.{tokens-nil, tokens-spell}
-use Rattle.uriparse_text.proofs.CanonicalLemmas.{spell-canonical_token}
 use Rattle.uriparse_scheme.specs.Grammar.{is_scheme_byte, is_scheme}
 
 byte_is_ascii : (b : ℕ) → is_scheme_byte b ≡ true → b < 128
@@ -101,7 +100,3 @@ same_from_lowered left right r h k iff =
     let m = canonical_low_of_scheme right k in
     same_from_decides r (bytes_eq (canonical_lowered left) (canonical_lowered right)) (λ e. l ∙ iff.0 e ∙ sym m, λ e. iff.1 (sym l ∙ e ∙ m))
     (bytes_eq-Decides (canonical_lowered left) (canonical_lowered right))
-
--- what a walk over a text in lower case spells
-pub walked : (text : List ℕ) → flat_map spell (canonical_tokens Lowered text) ≡ canonical_lowered text
-walked text = spell-canonical_token Lowered text

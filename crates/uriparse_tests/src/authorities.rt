@@ -1,8 +1,8 @@
 //! Authorities.
 
-use crate::answer::{Answer, add, printed, said, shown, told, words};
-use crate::component::{same, same_as};
 use crate::hosts::kind_of;
+use rows::answer::{Answer, add, printed, said, shown, told, words};
+use rows::same::{same, same_as};
 use std::alloc::{AllocError, Global};
 use uriparse::authority::parse_port;
 use uriparse::{Authority, AuthorityError, Host, Password, Username};
@@ -11,16 +11,29 @@ fn copied(alloc: Global, authority: &Authority<'_>) -> Answer {
     authority.as_borrowed().into_owned(alloc)?.to_string(alloc)
 }
 
+fn borrowed(alloc: Global, authority: &Authority<'_>) -> Answer {
+    let copy = authority.as_borrowed();
+    same(alloc, authority, &copy)
+}
+
 fn compared(alloc: Global, left: &Authority<'_>, right: &str) -> Answer {
     same_as(alloc, left, Authority::try_from_bytes(right.as_bytes()))
 }
 
-/// Adds the parts.
-pub fn add_authority(text: &mut String, authority: &Authority<'_>) -> Result<(), AllocError> {
-    add(text, "username", authority.username())?;
-    add(text, "password", authority.password())?;
-    add(text, kind_of(authority.host()), Some(authority.host()))?;
-    add(text, "port", authority.port().as_ref())
+/// Adds the parts that there are.
+pub fn add_authority(
+    text: &mut String,
+    username: Option<&Username<'_>>,
+    password: Option<&Password<'_>>,
+    host: Option<&Host<'_>>,
+    port: Option<u16>,
+) -> Result<(), AllocError> {
+    add(text, "username", username)?;
+    add(text, "password", password)?;
+    if let Some(host) = host {
+        add(text, kind_of(host), Some(host))?;
+    }
+    add(text, "port", port.as_ref())
 }
 
 /// Whether the tests for parts agree with the parts.
@@ -30,13 +43,25 @@ fn has_its_parts(authority: &Authority<'_>) -> bool {
         && authority.has_port() == authority.port().is_some()
 }
 
+/// The parts behind their names.
+pub fn listed_authority(alloc: Global, authority: &Authority<'_>) -> Answer {
+    let mut text = String::new(alloc);
+    add_authority(
+        &mut text,
+        authority.username(),
+        authority.password(),
+        Some(authority.host()),
+        authority.port(),
+    )?;
+    said(alloc, text.as_str().trim_start())
+}
+
+/// The same, where the tests for parts agree with the parts.
 fn listed(alloc: Global, authority: &Authority<'_>) -> Answer {
-    if !has_its_parts(authority) {
-        return said(alloc, "several parts");
+    if has_its_parts(authority) {
+        return listed_authority(alloc, authority);
     }
-    let mut parts = String::new(alloc);
-    add_authority(&mut parts, authority)?;
-    said(alloc, parts.as_str().trim_start())
+    said(alloc, "several parts")
 }
 
 /// The answer to a question about this authority.
@@ -44,7 +69,7 @@ fn asked_of(alloc: Global, command: &str, authority: &Authority<'_>, other: &str
     match command {
         "authority" => shown(alloc, authority),
         "authorities" => compared(alloc, authority, other),
-        "borrowed-authority" => same(alloc, authority, &authority.as_borrowed()),
+        "borrowed-authority" => borrowed(alloc, authority),
         "copied-authority" => copied(alloc, authority),
         "parts-of-authority" => listed(alloc, authority),
         _ => said(alloc, "no such command"),
@@ -111,12 +136,19 @@ fn change_host<'t>(
     }
 }
 
+fn nine_for_eight(port: Option<u16>) -> Option<u16> {
+    match port {
+        Some(8) => Some(9),
+        _ => None,
+    }
+}
+
 /// Changes the port as it is named, and answers whether the port that is answered is set.
 fn change_port(authority: &mut Authority<'_>, command: &str, other: &str) -> bool {
     let port = match command {
         "set-port" => authority.set_port(parse_port(other.as_bytes()).unwrap_or(None)),
         "drop-port" => authority.set_port(None),
-        _ => authority.map_port(|old| if old == Some(8) { Some(9) } else { None }),
+        _ => authority.map_port(nine_for_eight),
     };
     port == authority.port()
 }

@@ -1,7 +1,7 @@
 //! Builders of references, URIs and relative references.
 
-use crate::answer::{Answer, refused, said, verdict, word};
 use crate::reference::made;
+use rows::answer::{Answer, refused, said, verdict, word};
 use std::alloc::Global;
 use uriparse::{
     RelativeReference, RelativeReferenceBuilder, RelativeReferenceError, URI, URIBuilder, URIError,
@@ -88,14 +88,14 @@ fn give_relative<'t>(
 /// What is built of the texts.
 fn build<'t>(alloc: Global, texts: Texts<'t>) -> Result<URIReference<'t>, URIReferenceError> {
     let mut builder = URIReference::builder();
-    give(alloc, &mut builder, texts)?;
-    builder.build()
+    let given = give(alloc, &mut builder, texts);
+    given.and(builder.build())
 }
 
 fn build_uri<'t>(alloc: Global, texts: Texts<'t>) -> Result<URI<'t>, URIError> {
     let mut builder = URI::builder();
-    give_uri(alloc, &mut builder, texts)?;
-    builder.build()
+    let given = give_uri(alloc, &mut builder, texts);
+    given.and(builder.build())
 }
 
 fn build_relative<'t>(
@@ -103,8 +103,8 @@ fn build_relative<'t>(
     texts: Texts<'t>,
 ) -> Result<RelativeReference<'t>, RelativeReferenceError> {
     let mut builder = RelativeReference::builder();
-    give_relative(alloc, &mut builder, texts)?;
-    builder.build()
+    let given = give_relative(alloc, &mut builder, texts);
+    given.and(builder.build())
 }
 
 /// Whether a text that is no such part is refused for each part.
@@ -123,17 +123,17 @@ fn give_and_refuse<'t>(
     texts: Texts<'t>,
 ) -> Result<(), URIError> {
     give_uri(alloc, builder, texts)?;
-    if refuses(alloc, builder) {
-        return Ok(());
+    match refuses(alloc, builder) {
+        true => Ok(()),
+        false => Err(URIError::NotURI),
     }
-    Err(URIError::NotURI)
 }
 
 /// What is built of the texts after others were refused.
 fn after_refusals<'t>(alloc: Global, texts: Texts<'t>) -> Result<URI<'t>, URIError> {
     let mut builder = URI::builder();
-    give_and_refuse(alloc, &mut builder, texts)?;
-    builder.build()
+    let given = give_and_refuse(alloc, &mut builder, texts);
+    given.and(builder.build())
 }
 
 /// The reference built again by the plain calls.

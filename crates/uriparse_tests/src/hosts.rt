@@ -1,7 +1,7 @@
 //! Hosts and addresses.
 
-use crate::answer::{Answer, printed, said, shown, words};
-use crate::component::same_as;
+use rows::answer::{Answer, printed, said, shown, words};
+use rows::same::same_as;
 use std::alloc::Global;
 use uriparse::{Host, IpAddr, Ipv4Addr, Ipv6Addr};
 

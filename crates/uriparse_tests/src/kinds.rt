@@ -1,7 +1,7 @@
 //! Kinds of references, and their copies.
 
-use crate::answer::{Answer, named, refused, words};
 use crate::reference;
+use rows::answer::{Answer, named, refused, words};
 use std::alloc::Global;
 use uriparse::URIReference;
 

@@ -1,10 +1,10 @@
 //! Normal forms of references.
 
-use crate::answer::{Answer, refused, said, shows, words};
 use crate::reference::told;
 use crate::reference_edits::edits;
+use rows::answer::{Answer, refused, said, shows, words};
 use std::alloc::{AllocError, Global};
-use uriparse::{Edit, URIReference};
+use uriparse::{Edit, URIReference, URIReferenceError};
 
 /// Whether the reference is in normal form.
 fn is_normal(alloc: Global, reference: &URIReference<'_>) -> Answer {
@@ -43,14 +43,23 @@ fn normalized(alloc: Global, reference: &mut URIReference<'_>, printed: &str) ->
     said(alloc, "refused and changed")
 }
 
+/// What the refusal says of an edit with this index after which this text is left.
+fn refused_edit(alloc: Global, (index, why): (usize, URIReferenceError), left: &str) -> Answer {
+    if index == 1 && left.ends_with("?q%7e") {
+        return refused(alloc, why);
+    }
+    said(alloc, "another refusal")
+}
+
 /// A query, the normal form and a fragment, one after another. Where the normal form wants memory and
 /// there is none, the reference is to have the query alone.
 fn normalized_by_edits(alloc: Global, reference: &mut URIReference<'_>) -> Answer {
     let edits = edits(alloc, "q%7e", Edit::Normalize, "f%7e")?;
-    match reference.apply_all(alloc, edits) {
-        Ok(()) => told(alloc, reference),
-        Err((1, why)) if told(alloc, reference)?.ends_with("?q%7e") => refused(alloc, why),
-        Err(_) => said(alloc, "another refusal"),
+    let answer = reference.apply_all(alloc, edits);
+    let text = told(alloc, reference)?;
+    match answer {
+        Ok(()) => Ok(text),
+        Err(refusal) => refused_edit(alloc, refusal, text.as_str()),
     }
 }
 

@@ -1,8 +1,8 @@
 //! What the references of all three types have in common, by their names in [`Reference`].
 
-use crate::answer::{Answer, add, printed, refused, said, shows};
-use crate::authorities::add_authority;
-use crate::component::same_as;
+use crate::authorities::{add_authority, listed_authority};
+use rows::answer::{Answer, add, printed, refused, said, shows};
+use rows::same::same_as;
 use std::alloc::{AllocError, Global};
 use std::fmt::Display;
 use std::hash::Hash;
@@ -93,7 +93,9 @@ fn both_show<'t, T: Reference<'t>>(
     value: &T,
     text: &str,
 ) -> Result<bool, AllocError> {
-    Ok(shows(alloc, value, text)? && shows(alloc, value.as_reference(), text)?)
+    let own = shows(alloc, value, text)?;
+    let inner = shows(alloc, value.as_reference(), text)?;
+    Ok(own && inner)
 }
 
 /// The text, where all calls that give it agree.
@@ -113,13 +115,17 @@ pub fn made<'t, T: Reference<'t>, E: Display + Drop>(alloc: Global, made: Result
     }
 }
 
-/// Adds each part.
-fn add_parts<'t, T: Reference<'t>>(text: &mut String, value: &T) -> Result<(), AllocError> {
-    let (scheme, path, query, fragment) = value.parts();
+/// Adds the scheme and the parts of the authority.
+fn add_front<'t, T: Reference<'t>>(text: &mut String, value: &T) -> Result<(), AllocError> {
+    let (scheme, _, _, _) = value.parts();
+    let (username, password, host, port) = value.parts_of_authority();
     add(text, "scheme", scheme)?;
-    if let Some(authority) = value.whole_authority() {
-        add_authority(text, authority)?;
-    }
+    add_authority(text, username, password, host, port)
+}
+
+/// Adds the path and what is behind it.
+fn add_back<'t, T: Reference<'t>>(text: &mut String, value: &T) -> Result<(), AllocError> {
+    let (_, path, query, fragment) = value.parts();
     add(text, "path", Some(path))?;
     add(text, "query", query)?;
     add(text, "fragment", fragment)
@@ -128,7 +134,8 @@ fn add_parts<'t, T: Reference<'t>>(text: &mut String, value: &T) -> Result<(), A
 /// Each part behind its name.
 fn listed<'t, T: Reference<'t>>(alloc: Global, value: &T) -> Answer {
     let mut text = String::new(alloc);
-    add_parts(&mut text, value)?;
+    add_front(&mut text, value)?;
+    add_back(&mut text, value)?;
     said(alloc, text.as_str().trim_start())
 }
 
@@ -147,17 +154,11 @@ fn tells_its_parts<'t, T: Reference<'t>>(value: &T) -> bool {
         ]
 }
 
-/// Whether the parts of the authority are the authority's.
-fn has_its_authority<'t, T: Reference<'t>>(value: &T) -> bool {
-    let (username, password, host, port) = value.parts_of_authority();
+/// The text of the whole authority, or an empty one.
+fn authority_text<'t, T: Reference<'t>>(alloc: Global, value: &T) -> Answer {
     match value.whole_authority() {
-        Some(authority) => {
-            username == authority.username()
-                && password == authority.password()
-                && host == Some(authority.host())
-                && port == authority.port()
-        }
-        None => username.is_none() && password.is_none() && host.is_none() && port.is_none(),
+        Some(authority) => listed_authority(alloc, authority),
+        None => said(alloc, ""),
     }
 }
 
@@ -168,7 +169,8 @@ fn has_parts<'t, T: Reference<'t>>(
     text: &str,
 ) -> Result<bool, AllocError> {
     let again = listed(alloc, value.as_reference())?;
-    Ok(again.as_str() == text && tells_its_parts(value) && has_its_authority(value))
+    let authority = authority_text(alloc, value)?;
+    Ok(again.as_str() == text && text.contains(authority.as_str()) && tells_its_parts(value))
 }
 
 /// Each part behind its name, where all calls that tell of the parts agree.
@@ -258,6 +260,15 @@ fn made_of<'t, T: Reference<'t>>(alloc: Global, command: &str, value: T, new: &'
     }
 }
 
+/// The part that is named put into a value.
+fn put<'t, T: Reference<'t>>(value: &mut T, command: &str, new: &'t str) -> Result<(), T::Error> {
+    match command {
+        "set-authority" => value.put_authority(Authority::try_from_str(new).ok()),
+        "set-query" => value.put_query(Query::try_from_str(new).ok()),
+        _ => value.put_fragment(Fragment::try_from_str(new).ok()),
+    }
+}
+
 /// What is answered after an edit of a value in its place.
 fn edited<'t, T: Reference<'t>>(
     alloc: Global,
@@ -266,14 +277,14 @@ fn edited<'t, T: Reference<'t>>(
     text: &str,
     new: &'t str,
 ) -> Answer {
-    let answer = match command {
-        "normalize" => return normalized(alloc, value),
-        "set-path" => return set_path(alloc, value, text, new),
-        "set-authority" => value.put_authority(Authority::try_from_str(new).ok()),
-        "set-query" => value.put_query(Query::try_from_str(new).ok()),
-        _ => value.put_fragment(Fragment::try_from_str(new).ok()),
-    };
-    settled(alloc, answer, value, text)
+    match command {
+        "normalize" => normalized(alloc, value),
+        "set-path" => set_path(alloc, value, text, new),
+        _ => {
+            let answer = put(value, command, new);
+            settled(alloc, answer, value, text)
+        }
+    }
 }
 
 /// The answer to a question about a value that was read from this text.

@@ -1,8 +1,8 @@
 //! Edits of references, one by one and in lists.
 
-use crate::answer::{Answer, refused, words};
 use crate::reference;
 use crate::reference::{made, settled, told};
+use rows::answer::{Answer, refused, words};
 use std::alloc::{AllocError, Global};
 use uriparse::{Edit, Fragment, Query, Scheme, URIReference, URIReferenceError};
 
@@ -37,11 +37,9 @@ pub fn edits<'t>(
     other: Edit<'t>,
     fragment: &'t str,
 ) -> Result<Vec<Edit<'t>>, AllocError> {
-    let mut edits = Vec::with_capacity(alloc, 3)?;
-    edits.push(Edit::Query(Query::try_from_str(query).ok()))?;
-    edits.push(other)?;
-    edits.push(Edit::Fragment(Fragment::try_from_str(fragment).ok()))?;
-    Ok(edits)
+    let query = Edit::Query(Query::try_from_str(query).ok());
+    let fragment = Edit::Fragment(Fragment::try_from_str(fragment).ok());
+    Ok(vec![in alloc; query, other, fragment]?)
 }
 
 /// A query, no scheme and a fragment, one after another: how far that goes, and what is left.
@@ -53,19 +51,27 @@ fn apply_all<'t>(alloc: Global, reference: &mut URIReference<'t>, new: &'t str) 
     }
 }
 
-fn edited<'t>(
+/// What is answered after an edit that only a reference has.
+fn set_in_place<'t>(
     alloc: Global,
     command: &str,
-    old: URIReference<'t>,
+    mut reference: URIReference<'t>,
     text: &str,
     new: &'t str,
 ) -> Answer {
-    let mut reference = old;
+    let answer = set(command, &mut reference, new);
+    settled(alloc, answer, &reference, text)
+}
+
+fn edited<'t>(
+    alloc: Global,
+    command: &str,
+    mut reference: URIReference<'t>,
+    text: &str,
+    new: &'t str,
+) -> Answer {
     match command {
-        "set-scheme" | "drop-authority" => {
-            let answer = set(command, &mut reference, new);
-            settled(alloc, answer, &reference, text)
-        }
+        "set-scheme" | "drop-authority" => set_in_place(alloc, command, reference, text, new),
         "put-together" => made(alloc, put_together(reference)),
         "path-alone" => made(alloc, path_alone(reference)),
         "apply-all" => apply_all(alloc, &mut reference, new),

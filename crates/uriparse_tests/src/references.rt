@@ -1,8 +1,8 @@
 //! References.
 
-use crate::answer::{Answer, printed, refused, said, words};
 use crate::reference;
 use crate::reference::Reference;
+use rows::answer::{Answer, printed, refused, said, words};
 use std::alloc::{AllocError, Global};
 use uriparse::{
     Authority, Fragment, Host, Password, Path, Query, Scheme, URIReference, URIReferenceError,

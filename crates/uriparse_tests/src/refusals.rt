@@ -1,6 +1,6 @@
 //! What refusals say. One that holds another says what that says.
 
-use crate::answer::{printed, said};
+use rows::answer::{printed, said};
 use std::alloc::Global;
 use std::fmt::Display;
 use std::test::Fail;

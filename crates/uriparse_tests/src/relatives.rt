@@ -1,8 +1,8 @@
 //! Relative references.
 
-use crate::answer::{Answer, named, refused, words};
 use crate::reference;
 use crate::reference::{Reference, made, told};
+use rows::answer::{Answer, named, refused, words};
 use std::alloc::{AllocError, Global};
 use uriparse::{
     Authority, Fragment, Host, Password, Path, Query, RelativeReference, RelativeReferenceError,
@@ -155,6 +155,11 @@ fn kinds(alloc: Global, relative: &RelativeReference<'_>) -> Answer {
     )
 }
 
+fn as_reference(alloc: Global, relative: RelativeReference<'_>) -> Answer {
+    let reference = URIReference::from(relative);
+    told(alloc, &reference)
+}
+
 /// The answer to a question about this relative reference.
 fn of_relative<'t>(
     alloc: Global,
@@ -166,7 +171,7 @@ fn of_relative<'t>(
     match command {
         "put-together" => made(alloc, put_together(relative)),
         "kinds" => kinds(alloc, &relative),
-        "as-reference" => told(alloc, &URIReference::from(relative)),
+        "as-reference" => as_reference(alloc, relative),
         _ => reference::answer(alloc, command, relative, text, new),
     }
 }

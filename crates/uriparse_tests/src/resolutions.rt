@@ -1,7 +1,7 @@
 //! References resolved behind a base.
 
-use crate::answer::{Answer, printed, refused, said, word};
 use crate::reference::made;
+use rows::answer::{Answer, printed, refused, said, word};
 use std::alloc::Global;
 use uriparse::{URI, URIError, URIReference};
 

@@ -1,8 +1,8 @@
 //! URIs.
 
-use crate::answer::{Answer, printed, refused, words};
 use crate::reference;
 use crate::reference::{Reference, made, settled, told};
+use rows::answer::{Answer, printed, refused, words};
 use std::alloc::{AllocError, Global};
 use uriparse::{
     Authority, Fragment, Host, Password, Path, Query, Scheme, URI, URIError, URIReference, Username,
@@ -124,17 +124,34 @@ fn put_together(uri: URI<'_>) -> Result<URI<'_>, URIError> {
     URI::from_parts(scheme, None, path, query, fragment)
 }
 
-/// The answer to a question about this URI.
-fn of_uri<'t>(alloc: Global, command: &str, old: URI<'t>, text: &str, new: &'t str) -> Answer {
-    let mut uri = old;
-    match command {
-        "put-together" => made(alloc, put_together(uri)),
-        "set-scheme" => {
-            let answer = uri.set_scheme(Scheme::HTTPS);
+/// Another scheme set.
+fn set_scheme<'t>(alloc: Global, mut uri: URI<'t>, text: &str, new: &'t str) -> Answer {
+    match Scheme::try_from_str(new) {
+        Ok(scheme) => {
+            let answer = uri.set_scheme(scheme);
             settled(alloc, answer, &uri, text)
         }
-        "base" => told(alloc, &uri.into_base_uri()),
-        "as-reference" => told(alloc, &URIReference::from(uri)),
+        Err(why) => refused(alloc, why),
+    }
+}
+
+fn base(alloc: Global, uri: URI<'_>) -> Answer {
+    let base = uri.into_base_uri();
+    told(alloc, &base)
+}
+
+fn as_reference(alloc: Global, uri: URI<'_>) -> Answer {
+    let reference = URIReference::from(uri);
+    told(alloc, &reference)
+}
+
+/// The answer to a question about this URI.
+fn of_uri<'t>(alloc: Global, command: &str, uri: URI<'t>, text: &str, new: &'t str) -> Answer {
+    match command {
+        "put-together" => made(alloc, put_together(uri)),
+        "set-scheme" => set_scheme(alloc, uri, text, new),
+        "base" => base(alloc, uri),
+        "as-reference" => as_reference(alloc, uri),
         "is-base" => printed(alloc, uri.can_be_a_base()),
         _ => reference::answer(alloc, command, uri, text, new),
     }
@@ -186,7 +203,7 @@ base s: -> s:
 rebuilt http://u@h/a?q#f -> http://u@h/a?q#f
 put-together s://h/a?q#f -> s:/a?q#f
 put-together s://h//a -> absolute path URI starts with two slashes
-set-scheme s:a:b -> https:a:b
+set-scheme s:a:b https -> https:a:b
 set-authority s:a h -> s://h/a
 set-authority http://h//x ' ' -> absolute path URI starts with two slashes
 set-path s:a x:y -> s:x:y

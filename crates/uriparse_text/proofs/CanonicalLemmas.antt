@@ -21,22 +21,6 @@ use Rattle.uriparse_text.proofs.TokenLemmas.{tokens-nil, tokens_of_concatenation
 pub canonical_tokens-empty : (case : Case) (text : List ℕ) → text ≡ [] → canonical_tokens case text ≡ []
 canonical_tokens-empty case text e = ap (canonical_tokens case) e ∙ ap (map (canonical_token case)) tokens-nil
 
--- one token more is fed before the rest
-pub feeds_token : {S : Type 0} (write : S → List ℕ → S) (s : S) (ts : List Token) (t : Token) (rest : List Token) → ts ≡ t ∷ rest
-    → fold write s (fed_text (flat_map spell ts)) ≡ fold write (fold write s (flat_map fed.u8 (spell t))) (fed_text (flat_map spell rest))
-unfolding fed_text
-feeds_token write s ts t rest e =
-    let regroup : (spell t ++ flat_map spell rest) ++ 255 ∷ [] ≡ spell t ++ (flat_map spell rest ++ 255 ∷ []) =
-    append_assoc (spell t) (flat_map spell rest) (255 ∷ []) in
-    ap (λ us. fold write s (flat_map fed.u8 (flat_map spell us ++ 255 ∷ []))) e
-    ∙ ap (λ bytes. fold write s (flat_map fed.u8 bytes)) regroup
-    ∙ ap (fold write s) (flat_map-append fed.u8 (spell t) (flat_map spell rest ++ 255 ∷ []))
-    ∙ fold-append write s (flat_map fed.u8 (spell t)) (flat_map fed.u8 (flat_map spell rest ++ 255 ∷ []))
-
-pub feeds_end : {S : Type 0} (write : S → List ℕ → S) (s : S) → fold write s (fed_text (flat_map spell [])) ≡ fold write s (fed.u8 255)
-unfolding fed_text
-feeds_end write s = refl
-
 -- ---- one token
 
 pub upper_digit : (b : ℕ) → is_hex b ≡ true → is_hex (to_ascii_uppercase b) ≡ true
@@ -189,6 +173,24 @@ pub canonical_in-cons : (case : Case) (rest after : List ℕ) (t : Token) → to
     → canonical_in case rest ≡ spell (canonical_token case t) ++ canonical_in case after
 unfolding canonical_in
 canonical_in-cons case rest after t e = ap (λ ts. flat_map spell (map (canonical_token case) ts)) e
+
+-- one token's bytes are fed before those of the rest
+pub feeds_token : {S : Type 0} (write : S → List ℕ → S) (s : S) (case : Case) (rest after : List ℕ) (t : Token) → tokens rest ≡ t ∷ tokens after
+    → fold write s (flat_map fed.u8 (canonical_in case rest))
+    ≡ fold write (fold write s (flat_map fed.u8 (spell (canonical_token case t)))) (flat_map fed.u8 (canonical_in case after))
+feeds_token write s case rest after t e =
+    let first = spell (canonical_token case t) in
+    let later = canonical_in case after in
+    ap (λ bytes. fold write s (flat_map fed.u8 bytes)) (canonical_in-cons case rest after t e)
+    ∙ ap (fold write s) (flat_map-append fed.u8 first later)
+    ∙ fold-append write s (flat_map fed.u8 first) (flat_map fed.u8 later)
+
+-- a text's bytes are fed, and then the end
+pub feeds_text : {S : Type 0} (write : S → List ℕ → S) (s : S) (bytes : List ℕ)
+    → fold write s (fed_text bytes) ≡ fold write (fold write s (flat_map fed.u8 bytes)) (fed.u8 255)
+unfolding fed_text
+feeds_text write s bytes =
+    ap (fold write s) (flat_map-append fed.u8 bytes (255 ∷ [])) ∙ fold-append write s (flat_map fed.u8 bytes) (flat_map fed.u8 (255 ∷ []))
 
 cancel : (t : Token) (x y : List ℕ) → spell t ++ x ≡ spell t ++ y → x ≡ y
 cancel (Byte b) x y h = cc

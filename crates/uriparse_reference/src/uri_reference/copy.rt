@@ -4,8 +4,11 @@ ghost use Rattle.std.specs.Prelude.{◌≡◌, IfOk, option_copied};
 use super::URIReference;
 use std::alloc::{AllocError, Global};
 use uriparse_authority::authority::Authority;
+use uriparse_path::path::Path;
 use uriparse_scheme::scheme::Scheme;
+use uriparse_text::fragment::Fragment;
 use uriparse_text::parts::{Kind, Text};
+use uriparse_text::query::Query;
 
 /// The same scheme, if there is one, which borrows this one's text.
 pub(super) fn borrowed_scheme<'r>(scheme: Option<&'r Scheme<'_>>) -> Option<Scheme<'r>>
@@ -37,6 +40,78 @@ pub(super) fn borrowed_text<'r, K: Kind>(text: Option<&'r Text<'_, K>>) -> Optio
     }
 }
 
+/// The same scheme, if there is one, which owns its text.
+fn owned_scheme(
+    alloc: Global,
+    scheme: Option<Scheme<'_>>,
+) -> Result<Option<Scheme<'static>>, AllocError>
+    ensures { IfOk result (λ s. s ≡ scheme.entry) }
+{
+    match scheme {
+        Some(scheme) => Ok(Some(scheme.into_owned(alloc)?)),
+        None => Ok(None),
+    }
+}
+
+/// The same authority, if there is one, which owns its texts.
+fn owned_authority(
+    alloc: Global,
+    authority: Option<Authority<'_>>,
+) -> Result<Option<Authority<'static>>, AllocError>
+    ensures { IfOk result (λ a. a ≡ authority.entry) }
+{
+    match authority {
+        Some(authority) => Ok(Some(authority.into_owned(alloc)?)),
+        None => Ok(None),
+    }
+}
+
+/// The same query or fragment, if there is one, which owns its text.
+fn owned_text<K: Kind>(
+    alloc: Global,
+    text: Option<Text<'_, K>>,
+) -> Result<Option<Text<'static, K>>, AllocError>
+    ensures { IfOk result (λ t. t ≡ text.entry) }
+{
+    match text {
+        Some(text) => Ok(Some(text.into_owned(alloc)?)),
+        None => Ok(None),
+    }
+}
+
+/// The same scheme and authority, which own their texts.
+fn owned_front(
+    alloc: Global,
+    scheme: Option<Scheme<'_>>,
+    authority: Option<Authority<'_>>,
+) -> Result<(Option<Scheme<'static>>, Option<Authority<'static>>), AllocError>
+    ensures { IfOk result (λ x. (x.0 ≡ scheme.entry) × (x.1 ≡ authority.entry)) }
+{
+    let scheme = owned_scheme(alloc, scheme)?;
+    Ok((scheme, owned_authority(alloc, authority)?))
+}
+
+/// The same path, query and fragment, which own their texts.
+fn owned_tail(
+    alloc: Global,
+    path: Path<'_>,
+    query: Option<Query<'_>>,
+    fragment: Option<Fragment<'_>>,
+) -> Result<
+    (
+        Path<'static>,
+        Option<Query<'static>>,
+        Option<Fragment<'static>>,
+    ),
+    AllocError,
+>
+    ensures { IfOk result (λ x. (x.0 ≡ path.entry) × (x.1 ≡ query.entry) × (x.2 ≡ fragment.entry)) }
+{
+    let query = owned_text(alloc, query)?;
+    let fragment = owned_text(alloc, fragment)?;
+    Ok((path.into_owned(alloc)?, query, fragment))
+}
+
 impl<'r> URIReference<'r> {
     /// The same reference, whose parts borrow the texts of this one's. Memory is wanted once, for the
     /// list of segments.
@@ -59,26 +134,12 @@ impl<'r> URIReference<'r> {
         ensures { IfOk result (λ r. r ≡ self.entry) }
     {
         let (scheme, authority, path, query, fragment) = self.into_parts();
-        let scheme = match scheme {
-            Some(scheme) => Some(scheme.into_owned(alloc)?),
-            None => None,
-        };
-        let authority = match authority {
-            Some(authority) => Some(authority.into_owned(alloc)?),
-            None => None,
-        };
-        let query = match query {
-            Some(query) => Some(query.into_owned(alloc)?),
-            None => None,
-        };
-        let fragment = match fragment {
-            Some(fragment) => Some(fragment.into_owned(alloc)?),
-            None => None,
-        };
+        let (scheme, authority) = owned_front(alloc, scheme, authority)?;
+        let (path, query, fragment) = owned_tail(alloc, path, query, fragment)?;
         Ok(URIReference {
             scheme,
             authority,
-            path: path.into_owned(alloc)?,
+            path,
             query,
             fragment,
         })

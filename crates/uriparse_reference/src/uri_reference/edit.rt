@@ -172,12 +172,11 @@ impl<'r> URIReference<'r> {
     ) -> Result<(), URIReferenceError>
         ensures { Settles self.old self.new result (edited self.old (edits.Authority authority.entry)) }
     {
-        if authority.is_none() {
+        if authority.is_some() {
+            self.path.set_absolute(true);
+        } else {
             check_place(self.scheme.is_some(), false, &self.path)?;
-            self.authority = None;
-            return Ok(());
         }
-        self.path.set_absolute(true);
         self.authority = authority;
         Ok(())
     }
@@ -299,8 +298,8 @@ impl<'r> URIReference<'r> {
     {
         let mut reference = self;
         let old = reference.query.take();
-        reference.set_query(make(old))?;
-        Ok(reference)
+        let answer = reference.set_query(make(old));
+        answer.and(Ok(reference))
     }
 
     /// Sets what the closure makes of the fragment.
@@ -312,7 +311,7 @@ impl<'r> URIReference<'r> {
     {
         let mut reference = self;
         let old = reference.fragment.take();
-        reference.set_fragment(make(old))?;
-        Ok(reference)
+        let answer = reference.set_fragment(make(old));
+        answer.and(Ok(reference))
     }
 }

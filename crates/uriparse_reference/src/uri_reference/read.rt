@@ -1,17 +1,18 @@
 //! How the text of a reference is cut and its pieces are read: RFC 3986, sections 3 and 4.
 ghost use Rattle.std.specs.Prelude.{◌≡◌, IsErr, position, ◌||◌, ◌&&◌, not, ℕ, Option, List, drop, is_some, true, false, MatchOption};
 ghost use Rattle.std.specs.Option.{option_copied, option_map};
+ghost use Rattle.uriparse_text.specs.Bytes.{question_mark, number_sign};
 ghost use Rattle.uriparse_text.specs.Readings.{if_present, of_piece, unless_fault, IsUnless};
 ghost use Rattle.uriparse_authority.specs.Authority as authority;
 ghost use Rattle.uriparse_authority.specs.Authority.{colon_part};
-ghost use Rattle.uriparse_text.specs.Cuts.{up_to, from_first};
+ghost use Rattle.uriparse_text.specs.Cuts.{up_to, from_first, before, after};
 ghost use Rattle.uriparse_path.specs.Faults as paths;
 ghost use Rattle.uriparse_path.specs.Path.{has_two_slashes};
 ghost use Rattle.uriparse_scheme.specs.Scheme.{named};
-ghost use Rattle.uriparse_reference.specs.Cuts.{ends_scheme, scheme_text, after_scheme, cut_authority, without_authority, authority_text, path_text, query_text, fragment_text, ends_path, tail_query, tail_fragment};
+ghost use Rattle.uriparse_reference.specs.Cuts.{ends_scheme, scheme_text, after_scheme, cut_authority, without_authority};
 ghost use Rattle.uriparse_path.specs.declared.path.error.PathError.TheVariants.{OutOfMemory};
 ghost use Rattle.uriparse_reference.specs.declared.uri_reference.error.URIReferenceError.TheVariants as errors;
-ghost use Rattle.uriparse_reference.specs.Reading.{path_reading};
+ghost use Rattle.uriparse_reference.specs.Reading.{path_reading, tail_reading};
 ghost use Rattle.uriparse_reference.specs.Reference.{is_noscheme, path_refusal};
 
 use super::error::URIReferenceError;
@@ -21,7 +22,9 @@ use uriparse_authority::parts::{read_authority, split_rest};
 use uriparse_path::parts::into_absolute;
 use uriparse_path::path::Path;
 use uriparse_scheme::scheme::Scheme;
-use uriparse_text::parts::{IsAny, first, split_at_mark, without_mark};
+use uriparse_text::fragment::{Fragment, FragmentKind};
+use uriparse_text::parts::{IsAny, first, read_text_if, split_at_mark, without_mark};
+use uriparse_text::query::{Query, QueryKind};
 
 /// A `:` ends a scheme, and behind a `/`, `?` or `#` none ends.
 fn ends_scheme(b: u8) -> bool
@@ -57,7 +60,7 @@ fn behind_colon(rest: &[u8]) -> Option<&[u8]>
 
 /// The scheme that the text begins with, and what stands behind its colon; or none, and the text. The
 /// two that most texts have are told by their bytes, with no search.
-fn split_scheme(text: &[u8]) -> (Option<Scheme<'_>>, &[u8])
+pub(super) fn split_scheme(text: &[u8]) -> (Option<Scheme<'_>>, &[u8])
     ensures scheme { result.0 ≡ option_map named (scheme_text text.now) }
     ensures rest { result.1.now ≡ after_scheme text.now }
 {
@@ -97,7 +100,7 @@ fn behind_two_slashes(text: &[u8]) -> Option<&[u8]>
 
 /// The authority that the text begins with behind two slashes, and what follows it; or none, and
 /// the text.
-fn split_authority(text: &[u8]) -> (Option<&[u8]>, &[u8])
+pub(super) fn split_authority(text: &[u8]) -> (Option<&[u8]>, &[u8])
     ensures authority { option_copied result.0 ≡ cut_authority text.now }
     ensures rest { result.1.now ≡ without_authority text.now }
 {
@@ -108,59 +111,27 @@ fn split_authority(text: &[u8]) -> (Option<&[u8]>, &[u8])
     (Some(authority), rest)
 }
 
-/// The text up to the first `?` or `#`, and the rest, which begins with it.
-fn split_path(text: &[u8]) -> (&[u8], &[u8])
-    ensures front { result.0.now ≡ up_to ends_path text.now }
-    ensures rest { result.1.now ≡ from_first ends_path text.now }
+/// The path, which runs to the first `?` or `#`; the query behind a `?`, and the fragment behind the
+/// first `#`.
+fn split_tail(text: &[u8]) -> (&[u8], Option<&[u8]>, Option<&[u8]>)
+    ensures path { result.0.now ≡ before question_mark (before number_sign text.now) }
+    ensures query { option_copied result.1 ≡ after question_mark (before number_sign text.now) }
+    ensures fragment { option_copied result.2 ≡ after number_sign text.now }
 {
-    text.split_at(first(&IsAny(b'?', b'#', b'#'), text))
-}
-
-/// The query and the fragment that a rest holds, which begins with a `?` or a `#`, if there is one.
-fn split_tail(rest: &[u8]) -> (Option<&[u8]>, Option<&[u8]>)
-    ensures query { option_copied result.0 ≡ tail_query rest.now }
-    ensures fragment { option_copied result.1 ≡ tail_fragment rest.now }
-{
+    // Two marks end a path, and the test takes three: one is named twice.
+    let (path, rest) = text.split_at(first(&IsAny(b'?', b'#', b'#'), text));
     match rest {
         [b'?', behind @ ..] => {
             let (query, rest) = split_at_mark(behind, b'#');
-            (Some(query), without_mark(rest))
+            (path, Some(query), without_mark(rest))
         }
-        [b'#', behind @ ..] => (None, Some(behind)),
-        _ => (None, None),
+        [b'#', behind @ ..] => (path, None, Some(behind)),
+        _ => (path, None, None),
     }
 }
 
-/// The pieces of a text. Only the scheme is read yet, since its text alone tells whether it is one.
-#[derive(Drop)]
-pub(super) struct Pieces<'r> {
-    pub(super) scheme: Option<Scheme<'r>>,
-    pub(super) authority: Option<&'r [u8]>,
-    pub(super) path: &'r [u8],
-    pub(super) query: Option<&'r [u8]>,
-    pub(super) fragment: Option<&'r [u8]>,
-}
-
-/// Cuts a text into its pieces.
-pub(super) fn cut(text: &[u8]) -> Pieces<'_>
-    ensures scheme { result.scheme ≡ option_map named (scheme_text text.now) }
-    ensures authority { option_copied result.authority ≡ authority_text text.now }
-    ensures path { result.path.now ≡ path_text text.now }
-    ensures query { option_copied result.query ≡ query_text text.now }
-    ensures fragment { option_copied result.fragment ≡ fragment_text text.now }
-{
-    let (scheme, rest) = split_scheme(text);
-    let (authority, rest) = split_authority(rest);
-    let (path, rest) = split_path(rest);
-    let (query, fragment) = split_tail(rest);
-    Pieces {
-        scheme,
-        authority,
-        path,
-        query,
-        fragment,
-    }
-}
+/// A path, a query and a fragment.
+type Tail<'r> = (Path<'r>, Option<Query<'r>>, Option<Fragment<'r>>);
 
 /// Whether no colon stands in the first segment.
 fn lacks_colon_segment(path: &[u8]) -> bool
@@ -171,11 +142,7 @@ fn lacks_colon_segment(path: &[u8]) -> bool
 }
 
 /// Refuses a path that may not stand with a scheme or without one, and behind an authority or not.
-pub(super) fn check_path(
-    has_scheme: bool,
-    has_authority: bool,
-    path: &[u8],
-) -> Result<(), URIReferenceError>
+fn check_path(has_scheme: bool, has_authority: bool, path: &[u8]) -> Result<(), URIReferenceError>
     ensures { result ≡ unless_fault (path_refusal has_scheme has_authority path.now) tt }
 {
     match path {
@@ -199,11 +166,7 @@ pub(super) fn read_authority_if(
 }
 
 /// Reads the path, which is absolute behind an authority.
-pub(super) fn read_path(
-    alloc: Global,
-    has_authority: bool,
-    text: &[u8],
-) -> Result<Path<'_>, URIReferenceError>
+fn read_path(alloc: Global, has_authority: bool, text: &[u8]) -> Result<Path<'_>, URIReferenceError>
     ensures answer { IsUnless (errors.Path OutOfMemory) result (of_piece errors.Path (path_reading has_authority text.now)) }
     ensures fault { IsErr (paths.reading text.now) → result ≡ of_piece errors.Path (path_reading has_authority text.now) }
 {
@@ -213,4 +176,23 @@ pub(super) fn read_path(
     } else {
         path
     })
+}
+
+/// Reads what follows the authority: the path, the query and the fragment.
+#[tactic(auto, unfolding(crate::specs::Reading::tail_reading))]
+pub(super) fn read_tail(
+    alloc: Global,
+    has_scheme: bool,
+    has_authority: bool,
+    text: &[u8],
+) -> Result<Tail<'_>, URIReferenceError>
+    ensures answer { IsUnless (errors.Path OutOfMemory) result (tail_reading has_scheme has_authority text.now) }
+    ensures fault { IsErr (paths.reading (before question_mark (before number_sign text.now))) → result ≡ tail_reading has_scheme has_authority text.now }
+{
+    let (path, query, fragment) = split_tail(text);
+    let read = read_path(alloc, has_authority, path)?;
+    check_path(has_scheme, has_authority, path)?;
+    let query = read_text_if::<QueryKind>(query)?;
+    let fragment = read_text_if::<FragmentKind>(fragment)?;
+    Ok((read, query, fragment))
 }

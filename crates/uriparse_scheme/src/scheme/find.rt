@@ -62,16 +62,31 @@ fn searched_scheme(text: &[u8]) -> Option<RegisteredScheme>
     all_schemes().get(row_named(text)?).copied()
 }
 
-/// The registered scheme with this name, in any case. The two that most texts have are tried before
-/// the table is searched.
+/// The one scheme of those that most texts have whose name has this length and this first letter.
+fn frequent(text: &[u8]) -> Option<RegisteredScheme> {
+    let first = text.first()?.to_ascii_lowercase();
+    match (text.len(), first) {
+        (5, b'h') => Some(RegisteredScheme::HTTPS),
+        (4, b'h') => Some(RegisteredScheme::HTTP),
+        (4, b'd') => Some(RegisteredScheme::Data),
+        (4, b'f') => Some(RegisteredScheme::File),
+        (3, b'f') => Some(RegisteredScheme::FTP),
+        (6, b'm') => Some(RegisteredScheme::MailTo),
+        (3, b't') => Some(RegisteredScheme::Tel),
+        (3, b'u') => Some(RegisteredScheme::URN),
+        (2, b'w') => Some(RegisteredScheme::WS),
+        (3, b'w') => Some(RegisteredScheme::WSS),
+        _ => None,
+    }
+}
+
+/// The registered scheme with this name, in any case. One of those that most texts have is tried
+/// before the table is searched.
 pub(super) fn registered_named(text: &[u8]) -> Option<RegisteredScheme>
     ensures { result ≡ spec.registered_named (str_to_ascii_lowercase text.now) }
 {
-    if text.eq_ignore_ascii_case(b"https") {
-        return Some(RegisteredScheme::HTTPS);
+    match frequent(text) {
+        Some(scheme) if text.eq_ignore_ascii_case(scheme.name().as_bytes()) => Some(scheme),
+        _ => searched_scheme(text),
     }
-    if text.eq_ignore_ascii_case(b"http") {
-        return Some(RegisteredScheme::HTTP);
-    }
-    searched_scheme(text)
 }

@@ -5,7 +5,7 @@ ghost use Rattle.uriparse_text.specs.Canonical.{canonical_lowered, fed_text};
 ghost use Rattle.uriparse_scheme.specs.Grammar.{is_scheme};
 
 use std::hash::Hasher;
-use uriparse_text::parts::{Case, TextWalk, feed_walk};
+use uriparse_text::parts::{Case, feed_text};
 
 /// Whether two schemes differ at most in the case of letters.
 pub(super) fn same_lowered(left: &[u8], right: &[u8]) -> bool
@@ -17,9 +17,8 @@ pub(super) fn same_lowered(left: &[u8], right: &[u8]) -> bool
 }
 
 /// Feeds a scheme in lower case to the hasher, byte by byte, and then 0xFF.
-#[tactic(auto, using(crate::proofs::GrammarLemmas::walked))]
 pub(super) fn feed_lowered<H: Hasher>(bytes: &[u8], state: &mut H)
     ensures { state.new ≡ fold H.write state.old (fed_text (canonical_lowered bytes.now)) }
 {
-    feed_walk(TextWalk::new(Case::Lowered, bytes), state);
+    feed_text(Case::Lowered, bytes, state);
 }

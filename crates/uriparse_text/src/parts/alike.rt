@@ -15,6 +15,7 @@ use super::digit::hex_value;
 use std::simd::prelude::*;
 
 /// Whether the bytes are tokens whose canonical spelling is that of the text.
+#[inline]
 pub fn same_spelling(case: Case, bytes: &[u8], text: &[u8]) -> bool
     requires { is_well_formed text.now ≡ true }
     ensures { IsTrue result ↔ spec.SpellsAlike case bytes.now text.now }
@@ -23,6 +24,7 @@ pub fn same_spelling(case: Case, bytes: &[u8], text: &[u8]) -> bool
 }
 
 /// Whether two texts have the same canonical tokens.
+#[inline(never)]
 fn same_tokens(case: Case, bytes: &[u8], text: &[u8]) -> bool
     ensures { IsTrue result ↔ (spec.canonical_tokens case bytes.now ≡ spec.canonical_tokens case text.now) }
 {

@@ -125,6 +125,7 @@ pub fn same_walks<L: Walk + Drop, R: Walk + Drop>(left: L, right: R) -> bool
     right.next_token().is_none()
 }
 
+#[inline(always)]
 fn feed_token<H: Hasher>(token: Token, state: &mut H)
     ensures { state.new ≡ fold H.write state.old (flat_map fed.u8 (spell token)) }
 {
@@ -138,22 +139,45 @@ fn feed_token<H: Hasher>(token: Token, state: &mut H)
     }
 }
 
-/// Feeds the bytes of the tokens that the cursor gives to the hasher, and then 0xFF.
-pub fn feed_walk<T: Walk + Drop, H: Hasher>(walk: T, state: &mut H)
-    ensures { state.new ≡ fold H.write state.old (spec.fed_text (flat_map spell (T.tokens_left walk))) }
+/// Feeds the bytes of the text's canonical spelling to the hasher, one by one.
+#[inline(always)]
+pub fn feed_spelling<H: Hasher>(case: Case, text: &[u8], state: &mut H)
+    ensures { state.new ≡ fold H.write state.old (flat_map fed.u8 (spec.canonical_in case text.now)) }
 {
-    let mut walk = walk;
-    'tokens: while let Some(token) = walk.next_token() {
-        feed_token(token, state);
+    let mut rest = text;
+    'tokens: while let Some((token, after)) = split_token(rest) {
+        feed_token(token.canonical(case), state);
+        rest = after;
     }
+}
+
+/// The same, and then 0xFF.
+#[inline]
+pub fn feed_text<H: Hasher>(case: Case, text: &[u8], state: &mut H)
+    ensures { state.new ≡ fold H.write state.old (spec.fed_text (spec.canonical_in case text.now)) }
+{
+    feed_spelling(case, text, state);
     state.write_u8(0xff);
 }
 
 /// Whether the text is its own canonical spelling. It is walked to the first token that isn't.
+#[inline]
 pub fn is_canonical(case: Case, text: &[u8]) -> bool
     ensures { IsTrue result ↔ (spec.canonical_in case text.now ≡ text.now) }
 {
-    let (_, mut rest) = split_run(case, text);
+    let (_, rest) = split_run(case, text);
+    if rest.is_empty() {
+        return true;
+    }
+    begins_canonical(case, rest)
+}
+
+/// The same for a text that may begin with a token that isn't canonical.
+#[inline(never)]
+fn begins_canonical(case: Case, text: &[u8]) -> bool
+    ensures { IsTrue result ↔ (spec.canonical_in case text.now ≡ text.now) }
+{
+    let mut rest = text;
     'tokens: while let Some((token, after)) = split_token(rest) {
         if token.canonical(case) != token {
             return false;

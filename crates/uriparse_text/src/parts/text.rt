@@ -12,7 +12,7 @@ ghost use Rattle.uriparse_text.specs.Canonical.{canonical_tokens, canonical_in, 
 ghost use Rattle.uriparse_text.specs.Readings.{if_present, reading_in};
 
 use super::alike::same_spelling;
-use super::canonical::{Case, TextWalk, canonical_bytes, feed_walk, is_canonical};
+use super::canonical::{Case, TextWalk, canonical_bytes, feed_text, is_canonical};
 use super::class::{Class, fault_of};
 use std::alloc::{AllocError, Global};
 use std::borrow::CowStr;
@@ -231,7 +231,7 @@ impl<'t, K: Kind> Hash for Text<'t, K> {
     ghost respects_eq = { Prim.search (hashing, rules) };
 
     fn hash<H: Hasher>(&self, state: &mut H) {
-        feed_walk(self.walk(), state);
+        feed_text(K::case(), self.as_bytes(), state);
     }
 }
 

@@ -14,8 +14,11 @@ pub enum Token {
 pub fn is_escape(b: u8, after: &[u8]) -> bool
     ensures { result ≡ spec.is_escape b after.now }
 {
+    if b != b'%' {
+        return false;
+    }
     match after {
-        [high, low, ..] => b == b'%' && high.is_ascii_hexdigit() && low.is_ascii_hexdigit(),
+        [high, low, ..] => high.is_ascii_hexdigit() && low.is_ascii_hexdigit(),
         _ => false,
     }
 }

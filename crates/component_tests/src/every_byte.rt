@@ -1,0 +1,289 @@
+//! A reference with each of its bytes replaced by each of the 256 values, against a slow reading
+//! that goes by the classes of bytes as they are spelled out here.
+
+use crate::component::Component;
+use rows::answer::printed;
+use rows::same::same_as;
+use std::alloc::{AllocError, Global};
+use std::test::Fail;
+use uriparse::{Authority, Host, URIReference, URIReferenceError};
+
+fn is_scheme(text: &[u8]) -> bool {
+    matches!(text, [b'a'..=b'z' | b'A'..=b'Z', ..])
+        && text
+            .iter()
+            .all(|b| b.is_ascii_alphanumeric() || b"+-.".contains(b))
+}
+
+/// The text before the first of these bytes, and from there on.
+fn cut<'t>(text: &'t [u8], stops: &[u8]) -> (&'t [u8], &'t [u8]) {
+    let end = text.iter().position(|b| stops.contains(b));
+    match text.split_at_checked(end.unwrap_or(text.len())) {
+        Some(cut) => cut,
+        None => (text, b""),
+    }
+}
+
+/// Whether a rest begins with an escape, or with a byte that is unreserved, a sub-delimiter or one of
+/// these.
+fn is_fine(rest: &[u8], more: &[u8]) -> bool {
+    match rest {
+        [b'%', high, low, ..] => high.is_ascii_hexdigit() && low.is_ascii_hexdigit(),
+        [b, ..] => {
+            b.is_ascii_alphanumeric() || b"-._~!$&'()*+,;=".contains(b) || more.contains(b)
+        }
+        [] => true,
+    }
+}
+
+/// The byte of the first fault in a text that may have these bytes besides unreserved ones,
+/// sub-delimiters and escapes.
+fn fault(text: &[u8], more: &[u8]) -> Option<u8> {
+    for i in 0..text.len() {
+        let rest = text.get(i..)?;
+        if !is_fine(rest, more) {
+            return rest.first().copied();
+        }
+    }
+    None
+}
+
+/// What is said of a fault, where a percent sign begins no escape and where a byte is astray.
+fn said_of(fault: Option<u8>, broken: &'static str, astray: &'static str) -> Option<&'static str> {
+    match fault {
+        Some(b'%') => Some(broken),
+        Some(_) => Some(astray),
+        None => None,
+    }
+}
+
+/// The pieces of a text.
+#[derive(Clone, Copy)]
+struct Pieces<'t> {
+    scheme: Option<&'t [u8]>,
+    authority: Option<AuthorityPieces<'t>>,
+    path: &'t [u8],
+    query: Option<&'t [u8]>,
+    fragment: Option<&'t [u8]>,
+}
+
+/// The pieces of an authority. The port is the text behind its colon.
+#[derive(Clone, Copy)]
+struct AuthorityPieces<'t> {
+    username: Option<&'t [u8]>,
+    password: Option<&'t [u8]>,
+    host: &'t [u8],
+    port: Option<&'t [u8]>,
+}
+
+/// The host and, behind the last colon that no closing bracket follows, the port.
+fn cut_port(text: &[u8]) -> (&[u8], Option<&[u8]>) {
+    let end = text.iter().rposition(|b| b":]".contains(b));
+    match text.split_at_checked(end.unwrap_or(text.len())) {
+        Some((host, [b':', port @ ..])) => (host, Some(port)),
+        _ => (text, None),
+    }
+}
+
+fn cut_authority(text: &[u8]) -> AuthorityPieces<'_> {
+    let (front, rest) = cut(text, b"@");
+    let (user, right) = match rest {
+        [b'@', behind @ ..] => (Some(front), behind),
+        _ => (None, text),
+    };
+    let (username, password) = match user {
+        Some(user) => {
+            let (name, rest) = cut(user, b":");
+            (Some(name), rest.get(1..))
+        }
+        None => (None, None),
+    };
+    let (host, port) = cut_port(right);
+    AuthorityPieces {
+        username,
+        password,
+        host,
+        port,
+    }
+}
+
+fn cut_up(text: &[u8]) -> Pieces<'_> {
+    let (front, rest) = cut(text, b":");
+    let (scheme, rest) = match rest {
+        [b':', behind @ ..] if is_scheme(front) => (Some(front), behind),
+        _ => (None, text),
+    };
+    let (authority, rest) = match rest {
+        [b'/', b'/', behind @ ..] => {
+            let (authority, rest) = cut(behind, b"/?#");
+            (Some(cut_authority(authority)), rest)
+        }
+        _ => (None, rest),
+    };
+    let (front, fragment) = cut(rest, b"#");
+    let (path, query) = cut(front, b"?");
+    Pieces {
+        scheme,
+        authority,
+        path,
+        query: query.get(1..),
+        fragment: fragment.get(1..),
+    }
+}
+
+/// The number that the digits write, if there are any.
+fn port_number(digits: &[u8]) -> Result<Option<u16>, &'static str> {
+    let mut number = None;
+    for digit in digits {
+        if !matches!(digit, b'0'..=b'9') {
+            return Err("invalid port character");
+        }
+        let ones = u16::from(digit.wrapping_sub(b'0'));
+        let tens = number.unwrap_or(0u16).checked_mul(10);
+        number = tens.and_then(|tens| tens.checked_add(ones));
+        if number.is_none() {
+            return Err("port overflow");
+        }
+    }
+    Ok(number)
+}
+
+/// What is said of the authority's first faulty part. No host of the texts that are tried has
+/// three points, or both brackets, so each is to be a name.
+fn authority_refusal(pieces: &AuthorityPieces<'_>) -> Option<&'static str> {
+    let username = said_of(
+        fault(pieces.username.unwrap_or(&[]), b""),
+        "invalid username percent encoding",
+        "invalid username character",
+    );
+    let password = said_of(
+        fault(pieces.password.unwrap_or(&[]), b":"),
+        "invalid password percent encoding",
+        "invalid password character",
+    );
+    let name = "invalid host IPv4 or registered name character";
+    let host = said_of(fault(pieces.host, b""), name, name);
+    let port = port_number(pieces.port.unwrap_or(&[])).err();
+    username.or(password).or(host).or(port)
+}
+
+/// What is said of a path of these pieces that begins as a scheme would.
+fn colon_refusal(pieces: &Pieces<'_>) -> Option<&'static str> {
+    let bare = pieces.scheme.is_none() && pieces.authority.is_none();
+    if bare && cut(pieces.path, b"/").0.contains(&b':') {
+        return Some("schemeless path URI reference starts with colon segment");
+    }
+    None
+}
+
+/// What is said of the first faulty part behind the authority.
+fn tail_refusal(pieces: &Pieces<'_>) -> Option<&'static str> {
+    let path = said_of(
+        fault(pieces.path, b":@/"),
+        "invalid path percent encoding",
+        "invalid path character",
+    );
+    let query = said_of(
+        fault(pieces.query.unwrap_or(&[]), b":@/?"),
+        "invalid query percent encoding",
+        "invalid query character",
+    );
+    let fragment = said_of(
+        fault(pieces.fragment.unwrap_or(&[]), b":@/?"),
+        "invalid fragment percent encoding",
+        "invalid fragment character",
+    );
+    path.or(colon_refusal(pieces)).or(query).or(fragment)
+}
+
+fn refusal(pieces: &Pieces<'_>) -> Option<&'static str> {
+    if let Some(authority) = &pieces.authority {
+        if let Some(said) = authority_refusal(authority) {
+            return Some(said);
+        }
+    }
+    tail_refusal(pieces)
+}
+
+/// The text of a part.
+fn bytes_of<T: Component>(part: Option<&T>) -> Option<&[u8]> {
+    match part {
+        Some(part) => Some(part.told("").bytes),
+        None => None,
+    }
+}
+
+/// Whether the authority is of these pieces, which have no fault.
+fn is_authority(authority: &Authority<'_>, pieces: &AuthorityPieces<'_>) -> bool {
+    let Host::RegisteredName(name) = authority.host() else {
+        return false;
+    };
+    name.as_bytes() == pieces.host
+        && bytes_of(authority.username()) == pieces.username
+        && bytes_of(authority.password()) == pieces.password
+        && port_number(pieces.port.unwrap_or(&[])) == Ok(authority.port())
+}
+
+fn has_authority(reference: &URIReference<'_>, pieces: &Pieces<'_>) -> bool {
+    match (reference.authority(), &pieces.authority) {
+        (Some(authority), Some(pieces)) => is_authority(authority, pieces),
+        (None, None) => true,
+        _ => false,
+    }
+}
+
+/// Whether the reference is of these pieces, which have no fault, with this text of its path.
+fn is_reference(reference: &URIReference<'_>, path: &[u8], pieces: &Pieces<'_>) -> bool {
+    let rooted = pieces.authority.is_some() && pieces.path.is_empty();
+    path == (if rooted { b"/" } else { pieces.path })
+        && bytes_of(reference.scheme()) == pieces.scheme
+        && bytes_of(reference.query()) == pieces.query
+        && bytes_of(reference.fragment()) == pieces.fragment
+        && has_authority(reference, pieces)
+}
+
+/// Whether the reference is of these pieces, and what it prints is read as an equal one.
+fn holds(
+    alloc: Global,
+    reference: &URIReference<'_>,
+    pieces: &Pieces<'_>,
+) -> Result<bool, AllocError> {
+    let path = reference.path().to_string(alloc)?;
+    let printed = reference.to_string(alloc)?;
+    let again = URIReference::try_from_str(alloc, printed.as_str());
+    let same = same_as(alloc, reference, again)?;
+    Ok(
+        refusal(pieces).is_none()
+            && is_reference(reference, path.as_bytes(), pieces)
+            && same.as_str() == "equal",
+    )
+}
+
+/// Whether this is what is said of the pieces' first fault.
+fn is_said(alloc: Global, why: URIReferenceError, pieces: &Pieces<'_>) -> Result<bool, AllocError> {
+    let said = printed(alloc, why)?;
+    Ok(said.as_str() == refusal(pieces).unwrap_or(""))
+}
+
+/// Whether the library reads the text as the slow reading, and what it prints as the same.
+fn is_right(alloc: Global, text: &[u8]) -> Result<bool, AllocError> {
+    match URIReference::try_from_bytes(alloc, text) {
+        Ok(reference) => holds(alloc, &reference, &cut_up(text)),
+        Err(why) => is_said(alloc, why, &cut_up(text)),
+    }
+}
+
+#[test]
+fn reads_as_the_slow_reading(rt: HostRuntime) -> Result<(), Fail> {
+    for at in 0..17 {
+        for value in 0..=255u8 {
+            let mut text = *b"s://u:p@h:1/a?q#f";
+            if let Some(byte) = text.get_mut(at) {
+                *byte = value;
+            }
+            let right = is_right(rt.alloc(), &text)?;
+            assert!(rt; right, "byte {at} replaced by {value}");
+        }
+    }
+    Ok(())
+}

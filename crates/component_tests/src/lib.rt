@@ -1,0 +1,30 @@
+//! Tests of the parts of references: vectors from RFC 3986 and worked by hand, each public function
+//! once, and requests for memory that are refused; and of one reference with each byte replaced.
+#![tactic(auto)]
+
+#[cfg(test)]
+mod component;
+#[cfg(test)]
+mod components;
+#[cfg(test)]
+mod constants;
+#[cfg(test)]
+mod every_byte;
+#[cfg(test)]
+mod hashing;
+#[cfg(test)]
+mod layers;
+#[cfg(test)]
+mod long;
+#[cfg(test)]
+mod memory;
+#[cfg(test)]
+mod path_edits;
+#[cfg(test)]
+mod paths;
+#[cfg(test)]
+mod scheme_rows;
+#[cfg(test)]
+mod schemes;
+#[cfg(test)]
+mod users;

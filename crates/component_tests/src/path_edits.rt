@@ -1,0 +1,148 @@
+//! Edits and copies of paths.
+
+use crate::paths::told;
+use rows::answer::{Answer, refused, said, words};
+use std::alloc::Global;
+use std::test::Fail;
+use uriparse::path::MAX_SEGMENTS;
+use uriparse::{Path, PathError, Segment};
+
+/// The path's text after a push, or the refusal, after which the path is to be as it was.
+fn pushed(alloc: Global, answer: Result<(), PathError>, path: &Path<'_>, text: &str) -> Answer {
+    match answer {
+        Ok(()) => told(alloc, path),
+        Err(why) if path.eq_str(text) => refused(alloc, why),
+        Err(_) => said(alloc, "refused and changed"),
+    }
+}
+
+fn push_bytes<'t>(alloc: Global, path: &mut Path<'t>, text: &str, bytes: &'t str) -> Answer {
+    let answer = path.push_bytes(alloc, bytes.as_bytes());
+    pushed(alloc, answer, path, text)
+}
+
+fn push<'t>(alloc: Global, path: &mut Path<'t>, text: &str, segment: &'t str) -> Answer {
+    match Segment::try_from_str(segment) {
+        Ok(segment) => {
+            let answer = path.push(alloc, segment);
+            pushed(alloc, answer, path, text)
+        }
+        Err(_) => said(alloc, "no segment"),
+    }
+}
+
+/// An empty segment pushed, and then another.
+fn push_behind_empty<'t>(alloc: Global, path: &mut Path<'t>, segment: &'t str) -> Answer {
+    match path.push(alloc, Segment::empty()) {
+        Ok(()) => push_bytes(alloc, path, "no text", segment),
+        Err(why) => refused(alloc, why),
+    }
+}
+
+/// Another last segment written through the loan, and the dot segments removed.
+fn write_last<'t>(path: &mut Path<'t>, segment: &'t str) {
+    if let Ok(segment) = Segment::try_from_str(segment) {
+        if let Some(last) = path.segments_mut().last_mut() {
+            *last = segment;
+        }
+        path.remove_dot_segments();
+    }
+}
+
+/// The text of a copy that owns it, of a copy that borrows.
+fn copy(alloc: Global, path: &Path<'_>) -> Answer {
+    told(alloc, &path.to_borrowed(alloc)?.into_owned(alloc)?)
+}
+
+/// An edit that is never refused.
+fn change<'t>(command: &str, path: &mut Path<'t>, other: &'t str) {
+    match command {
+        "pop" => path.pop(),
+        "clear" => path.clear(),
+        "set-absolute" => path.set_absolute(other == "true"),
+        _ => write_last(path, other),
+    }
+}
+
+fn changed<'t>(alloc: Global, command: &str, path: &mut Path<'t>, other: &'t str) -> Answer {
+    change(command, path, other);
+    told(alloc, path)
+}
+
+fn edited<'t>(
+    alloc: Global,
+    command: &str,
+    path: &mut Path<'t>,
+    text: &str,
+    other: &'t str,
+) -> Answer {
+    match command {
+        "push-bytes" => push_bytes(alloc, path, text, other),
+        "push" => push(alloc, path, text, other),
+        "push-behind-empty" => push_behind_empty(alloc, path, other),
+        "copy" => copy(alloc, path),
+        "pop" | "clear" | "set-absolute" | "write-last" => changed(alloc, command, path, other),
+        _ => said(alloc, "no such command"),
+    }
+}
+
+/// The answer to a question about an edit of a path.
+pub fn answer(alloc: Global, asked: &str) -> Answer {
+    let (command, text, other) = words(asked);
+    match Path::try_from_str(alloc, text) {
+        Ok(mut path) => edited(alloc, command, &mut path, text, other),
+        Err(why) => refused(alloc, why),
+    }
+}
+
+/// What a push on a path answers that has as many segments as it may have.
+fn push_on_full(alloc: Global) -> Answer {
+    let mut text = String::new(alloc);
+    for _ in 0..MAX_SEGMENTS {
+        text.push('/')?;
+    }
+    let slashes = text.as_str();
+    match Path::try_from_str(alloc, slashes) {
+        // No segment has a slash, but the length is looked at first.
+        Ok(mut path) => push_bytes(alloc, &mut path, slashes, slashes),
+        Err(why) => refused(alloc, why),
+    }
+}
+
+#[test]
+fn a_full_path_takes_no_segment(rt: HostRuntime) -> Result<(), Fail> {
+    assert_eq!(rt;
+        push_on_full(rt.alloc())?.as_str(),
+        "exceeded maximum path length"
+    );
+    Ok(())
+}
+
+pub const ROWS: &str = "\
+push-bytes a %7e -> a/%7e
+push-bytes a a/b -> invalid path character
+push-bytes a %4 -> invalid path percent encoding
+push-bytes '' x -> x
+push-bytes / x -> /x
+push-bytes '' '' -> /
+push-bytes a '' -> a/
+push-bytes a/ b -> a//b
+push a %7e -> a/%7e
+push '' x -> x
+push /a b -> /a/b
+push-behind-empty '' x -> //x
+push-behind-empty a b -> a//b
+pop a/b -> a
+pop /a -> /
+pop a -> ''
+pop a//b -> a/
+clear /a/b -> /
+clear a/b -> ''
+set-absolute a true -> /a
+set-absolute /a false -> a
+set-absolute // false -> /
+write-last a/b/c .. -> a/
+write-last a/b d -> a/d
+write-last /a/b %2E%2e -> /
+copy '' -> ''
+copy /a/%7eb//c -> /a/%7eb//c";

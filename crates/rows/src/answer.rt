@@ -1,0 +1,118 @@
+//! What a question is made of, and what answers are made with.
+
+use std::alloc::{AllocError, Global};
+use std::fmt::{Display, Write};
+
+/// What is answered, or want of memory.
+pub type Answer = Result<String, AllocError>;
+
+/// The first word of a line, and what is behind it.
+pub fn word(line: &str) -> (&str, &str) {
+    match line.strip_prefix('\'') {
+        Some(quoted) => {
+            let (word, rest) = quoted.split_once('\'').unwrap_or((quoted, ""));
+            (word, rest.trim_start())
+        }
+        None => line.split_once(' ').unwrap_or((line, "")),
+    }
+}
+
+/// The first three words of a line.
+pub fn words(line: &str) -> (&str, &str, &str) {
+    let (first, rest) = word(line);
+    let (second, rest) = word(rest);
+    (first, second, word(rest).0)
+}
+
+/// What a line asks about a long text: its command, and the three words that the text is made of, of
+/// which the second is repeated so many times.
+pub fn split_long(line: &str) -> (&str, &str, usize, &str, &str) {
+    let (command, rest) = word(line);
+    let (front, rest) = word(rest);
+    let (count, rest) = word(rest);
+    let (middle, rest) = word(rest);
+    let count = count.parse().unwrap_or(0);
+    (command, front, count, middle, word(rest).0)
+}
+
+/// A word so many times.
+pub fn repeated(alloc: Global, count: usize, word: &str) -> Answer {
+    let mut text = String::new(alloc);
+    for _ in 0..count {
+        text.push_str(word)?;
+    }
+    Ok(text)
+}
+
+/// An answer of this text.
+pub fn said(alloc: Global, text: &str) -> Answer {
+    String::from_str(alloc, text)
+}
+
+/// What a value or a refusal prints.
+pub fn printed<T: Display + Drop>(alloc: Global, value: T) -> Answer {
+    format!(in alloc; "{value}")
+}
+
+/// Whether a value prints this text, which no option of the formatter changes.
+pub fn shows<T: Display>(alloc: Global, value: &T, text: &str) -> Result<bool, AllocError> {
+    let plain = format!(in alloc; "{value}")?;
+    let styled = format!(in alloc; "{value:>70.3}")?;
+    Ok(plain.as_str() == text && styled.as_str() == text)
+}
+
+/// What a value prints, which no option of the formatter changes.
+pub fn shown<T: Display>(alloc: Global, value: &T) -> Answer {
+    let text = format!(in alloc; "{value}")?;
+    if shows(alloc, value, text.as_str())? {
+        return Ok(text);
+    }
+    said(alloc, "another text under options")
+}
+
+/// What a refusal says, or want of memory where it is that.
+pub fn refused<E: Display + Drop>(alloc: Global, why: E) -> Answer {
+    let text = printed(alloc, why)?;
+    if text.as_str() == "out of memory" {
+        return Err(AllocError);
+    }
+    Ok(text)
+}
+
+/// Adds the part behind a space and its name, if there is one.
+pub fn add<T: Display>(text: &mut String, name: &str, part: Option<&T>) -> Result<(), AllocError> {
+    let Some(part) = part else {
+        return Ok(());
+    };
+    write!(text, " {name}={part}")
+}
+
+/// The names of the tests that hold.
+pub fn named(alloc: Global, tests: &[(bool, &str)]) -> Answer {
+    let mut text = String::new(alloc);
+    for (holds, name) in tests {
+        if *holds {
+            text.push_str(name)?;
+        }
+    }
+    said(alloc, text.as_str().trim_start())
+}
+
+/// What is printed by what was read or made, or by the refusal.
+pub fn told<T: Display + Drop, E: Display + Drop>(alloc: Global, made: Result<T, E>) -> Answer {
+    match made {
+        Ok(value) => printed(alloc, value),
+        Err(why) => printed(alloc, why),
+    }
+}
+
+/// Whether two values are equal, by several tests that are to agree.
+pub fn verdict(alloc: Global, tests: &[bool]) -> Answer {
+    if tests.iter().all(|same| *same) {
+        return said(alloc, "equal");
+    }
+    if tests.iter().any(|same| *same) {
+        return said(alloc, "equal by some tests alone");
+    }
+    said(alloc, "different")
+}

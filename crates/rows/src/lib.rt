@@ -1,0 +1,14 @@
+//! Rows of questions and answers, for tests.
+//!
+//! A row is `COMMAND WORD.. -> ANSWER`. A word in quotes may be empty and may have spaces; an empty
+//! answer is written as two quotes. Each layer of a library has a text of rows, one short function a
+//! command, and one `match` that finds it.
+#![tactic(auto)]
+
+pub mod answer;
+mod ask;
+pub mod same;
+mod starved;
+
+pub use ask::{Layer, wrong_row, wrong_row_of_all};
+pub use starved::{complaint, wrong_starved_row_of_all};

@@ -1,0 +1,86 @@
+//! The rows of each layer, with ample memory and where it is refused.
+
+use crate::{
+    authorities, builders, hosts, kinds, limits, normal_forms, reference_edits, references,
+    relatives, resolutions, uris,
+};
+use rows::answer::Answer;
+use rows::{Layer, wrong_row, wrong_row_of_all, wrong_starved_row_of_all};
+use std::alloc::Global;
+use std::test::Fail;
+
+#[derive(Clone, Copy)]
+enum Part {
+    Hosts,
+    Authorities,
+    References,
+    ReferenceEdits,
+    NormalForms,
+    Resolutions,
+    Kinds,
+    Uris,
+    Relatives,
+    Builders,
+    Limits,
+}
+
+impl Layer for Part {
+    fn rows(&self) -> &'static str {
+        match self {
+            Part::Hosts => hosts::ROWS,
+            Part::Authorities => authorities::ROWS,
+            Part::References => references::ROWS,
+            Part::ReferenceEdits => reference_edits::ROWS,
+            Part::NormalForms => normal_forms::ROWS,
+            Part::Resolutions => resolutions::ROWS,
+            Part::Kinds => kinds::ROWS,
+            Part::Uris => uris::ROWS,
+            Part::Relatives => relatives::ROWS,
+            Part::Builders => builders::ROWS,
+            Part::Limits => limits::ROWS,
+        }
+    }
+
+    fn answer(&self, alloc: Global, asked: &str) -> Answer {
+        match self {
+            Part::Hosts => hosts::answer(alloc, asked),
+            Part::Authorities => authorities::answer(alloc, asked),
+            Part::References => references::answer(alloc, asked),
+            Part::ReferenceEdits => reference_edits::answer(alloc, asked),
+            Part::NormalForms => normal_forms::answer(alloc, asked),
+            Part::Resolutions => resolutions::answer(alloc, asked),
+            Part::Kinds => kinds::answer(alloc, asked),
+            Part::Uris => uris::answer(alloc, asked),
+            Part::Relatives => relatives::answer(alloc, asked),
+            Part::Builders => builders::answer(alloc, asked),
+            Part::Limits => limits::answer(alloc, asked),
+        }
+    }
+}
+
+// Long texts want more memory than the runs in which it is refused have.
+static STARVED: [Part; 10] = [
+    Part::Hosts,
+    Part::Authorities,
+    Part::References,
+    Part::ReferenceEdits,
+    Part::NormalForms,
+    Part::Resolutions,
+    Part::Kinds,
+    Part::Uris,
+    Part::Relatives,
+    Part::Builders,
+];
+
+#[test]
+fn each_row_is_answered(rt: HostRuntime) -> Result<(), Fail> {
+    assert_eq!(rt; wrong_row_of_all(rt.alloc(), &STARVED)?.as_str(), "");
+    assert_eq!(rt; wrong_row(rt.alloc(), &Part::Limits)?.as_str(), "");
+    Ok(())
+}
+
+#[test]
+fn each_starved_row_is_answered(rt: HostRuntime) -> Result<(), Fail> {
+    assert_eq!(rt; wrong_starved_row_of_all(rt.alloc(), &STARVED)?, "");
+    Ok(())
+}
