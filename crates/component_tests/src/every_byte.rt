@@ -48,15 +48,6 @@ fn fault(text: &[u8], more: &[u8]) -> Option<u8> {
     None
 }
 
-/// What is said of a fault, where a percent sign begins no escape and where a byte is astray.
-fn said_of(fault: Option<u8>, broken: &'static str, astray: &'static str) -> Option<&'static str> {
-    match fault {
-        Some(b'%') => Some(broken),
-        Some(_) => Some(astray),
-        None => None,
-    }
-}
-
 /// The pieces of a text.
 #[derive(Clone, Copy)]
 struct Pieces<'t> {
@@ -148,23 +139,33 @@ fn port_number(digits: &[u8]) -> Result<Option<u16>, &'static str> {
     Ok(number)
 }
 
+/// A piece, the bytes that it may have besides unreserved ones, sub-delimiters and escapes, and what
+/// is said of it where a percent sign begins no escape and where a byte is astray.
+type Row<'t> = (Option<&'t [u8]>, &'t [u8], &'static str, &'static str);
+
+/// What is said of the first piece that has a fault.
+fn first_refusal(rows: &[Row<'_>]) -> Option<&'static str> {
+    for (piece, more, broken, astray) in rows {
+        match fault(piece.unwrap_or(&[]), more) {
+            Some(b'%') => return Some(broken),
+            Some(_) => return Some(astray),
+            None => {}
+        }
+    }
+    None
+}
+
 /// What is said of the authority's first faulty part. No host of the texts that are tried has
 /// three points, or both brackets, so each is to be a name.
+#[rattlefmt::skip]
 fn authority_refusal(pieces: &AuthorityPieces<'_>) -> Option<&'static str> {
-    let username = said_of(
-        fault(pieces.username.unwrap_or(&[]), b""),
-        "invalid username percent encoding",
-        "invalid username character",
-    );
-    let password = said_of(
-        fault(pieces.password.unwrap_or(&[]), b":"),
-        "invalid password percent encoding",
-        "invalid password character",
-    );
     let name = "invalid host IPv4 or registered name character";
-    let host = said_of(fault(pieces.host, b""), name, name);
-    let port = port_number(pieces.port.unwrap_or(&[])).err();
-    username.or(password).or(host).or(port)
+    let texts = first_refusal(&[
+        (pieces.username, b"", "invalid username percent encoding", "invalid username character"),
+        (pieces.password, b":", "invalid password percent encoding", "invalid password character"),
+        (Some(pieces.host), b"", name, name),
+    ]);
+    texts.or(port_number(pieces.port.unwrap_or(&[])).err())
 }
 
 /// What is said of a path of these pieces that begins as a scheme would.
@@ -176,33 +177,29 @@ fn colon_refusal(pieces: &Pieces<'_>) -> Option<&'static str> {
     None
 }
 
-/// What is said of the first faulty part behind the authority.
-fn tail_refusal(pieces: &Pieces<'_>) -> Option<&'static str> {
-    let path = said_of(
-        fault(pieces.path, b":@/"),
+/// What is said of a faulty path.
+fn path_refusal(pieces: &Pieces<'_>) -> Option<&'static str> {
+    let text = first_refusal(&[(
+        Some(pieces.path),
+        b":@/",
         "invalid path percent encoding",
         "invalid path character",
-    );
-    let query = said_of(
-        fault(pieces.query.unwrap_or(&[]), b":@/?"),
-        "invalid query percent encoding",
-        "invalid query character",
-    );
-    let fragment = said_of(
-        fault(pieces.fragment.unwrap_or(&[]), b":@/?"),
-        "invalid fragment percent encoding",
-        "invalid fragment character",
-    );
-    path.or(colon_refusal(pieces)).or(query).or(fragment)
+    )]);
+    text.or(colon_refusal(pieces))
+}
+
+/// What is said of the first faulty part behind the path.
+#[rattlefmt::skip]
+fn tail_refusal(pieces: &Pieces<'_>) -> Option<&'static str> {
+    first_refusal(&[
+        (pieces.query, b":@/?", "invalid query percent encoding", "invalid query character"),
+        (pieces.fragment, b":@/?", "invalid fragment percent encoding", "invalid fragment character"),
+    ])
 }
 
 fn refusal(pieces: &Pieces<'_>) -> Option<&'static str> {
-    if let Some(authority) = &pieces.authority {
-        if let Some(said) = authority_refusal(authority) {
-            return Some(said);
-        }
-    }
-    tail_refusal(pieces)
+    let authority = pieces.authority.as_ref().and_then(authority_refusal);
+    authority.or(path_refusal(pieces)).or(tail_refusal(pieces))
 }
 
 /// The text of a part.

@@ -1,6 +1,6 @@
 //! The rows of each layer, with ample memory and where it is refused.
 
-use crate::{components, long, path_edits, paths, schemes, users};
+use crate::{authorities, components, long, path_edits, paths, schemes, users};
 use rows::answer::Answer;
 use rows::{Layer, wrong_row, wrong_row_of_all, wrong_starved_row_of_all};
 use std::alloc::Global;
@@ -11,6 +11,7 @@ enum Parts {
     Components,
     Schemes,
     Users,
+    Authorities,
     Paths,
     PathEdits,
     Long,
@@ -22,6 +23,7 @@ impl Layer for Parts {
             Parts::Components => components::ROWS,
             Parts::Schemes => schemes::ROWS,
             Parts::Users => users::ROWS,
+            Parts::Authorities => authorities::ROWS,
             Parts::Paths => paths::ROWS,
             Parts::PathEdits => path_edits::ROWS,
             Parts::Long => long::ROWS,
@@ -33,6 +35,7 @@ impl Layer for Parts {
             Parts::Components => components::answer(alloc, asked),
             Parts::Schemes => schemes::answer(alloc, asked),
             Parts::Users => users::answer(alloc, asked),
+            Parts::Authorities => authorities::answer(alloc, asked),
             Parts::Paths => paths::answer(alloc, asked),
             Parts::PathEdits => path_edits::answer(alloc, asked),
             Parts::Long => long::answer(alloc, asked),
@@ -41,10 +44,11 @@ impl Layer for Parts {
 }
 
 // Long texts want more memory than the runs in which it is refused have.
-static STARVED: [Parts; 5] = [
+static STARVED: [Parts; 6] = [
     Parts::Components,
     Parts::Schemes,
     Parts::Users,
+    Parts::Authorities,
     Parts::Paths,
     Parts::PathEdits,
 ];

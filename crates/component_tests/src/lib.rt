@@ -1,7 +1,10 @@
-//! Tests of the parts of references: vectors from RFC 3986 and worked by hand, each public function
-//! once, and requests for memory that are refused; and of one reference with each byte replaced.
+//! Tests of the parts of references: vectors from RFC 3986 and worked by hand, texts of refusals, each
+//! public function once, and requests for memory that are refused; and of one reference with each byte
+//! replaced.
 #![tactic(auto)]
 
+#[cfg(test)]
+mod authorities;
 #[cfg(test)]
 mod component;
 #[cfg(test)]
@@ -22,6 +25,8 @@ mod memory;
 mod path_edits;
 #[cfg(test)]
 mod paths;
+#[cfg(test)]
+mod refusals;
 #[cfg(test)]
 mod scheme_rows;
 #[cfg(test)]

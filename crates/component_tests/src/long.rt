@@ -1,6 +1,6 @@
 //! Long texts.
 
-use crate::{paths, users};
+use crate::{authorities, paths, users};
 use rows::answer::{Answer, repeated, said, split_long, verdict};
 use std::alloc::Global;
 use uriparse::Query;
@@ -36,6 +36,7 @@ pub fn answer(alloc: Global, asked: &str) -> Answer {
     let asked = format!(in alloc; "{command} '{front}{middle}{back}'")?;
     match command {
         "port" => users::answer(alloc, asked.as_str()),
+        "authority" => authorities::answer(alloc, asked.as_str()),
         _ => paths::answer(alloc, asked.as_str()),
     }
 }
@@ -43,6 +44,7 @@ pub fn answer(alloc: Global, asked: &str) -> Answer {
 pub const ROWS: &str = "\
 port '' 100000 0 65535 -> 65535
 port '' 100000 0 65536 -> port overflow
+authority h: 100000 0 80 -> h:80
 count-segments '' 65535 / '' -> 65535
 path '' 65536 / '' -> exceeded maximum path length
 path '' 65535 / ' ' -> invalid path character

@@ -1,6 +1,7 @@
 //! `uri edit TEXT EDIT..`: a reference with parts set or taken away.
 
 use crate::failure::Failure;
+use crate::print::print_line;
 use std::alloc::Global;
 use std::io::Write;
 use uriparse::{Authority, Edit, Fragment, Path, Query, Scheme, URIReference};
@@ -101,6 +102,5 @@ pub fn edit<O: Write>(
     let changes = changes(alloc, words)?;
     let mut reference = URIReference::try_from_str(alloc, text)?;
     make_changes(alloc, &mut reference, &changes)?;
-    writeln!(out, "{reference}")?;
-    Ok(())
+    print_line(&reference, out)
 }

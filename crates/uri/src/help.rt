@@ -18,6 +18,5 @@ uri help              these lines
 
 /// Prints the commands.
 pub fn help<O: Write>(out: &mut O) -> Result<(), Failure> {
-    write!(out, "{COMMANDS}")?;
-    Ok(())
+    Ok(write!(out, "{COMMANDS}")?)
 }

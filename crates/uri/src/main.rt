@@ -7,7 +7,7 @@ mod failure;
 mod help;
 mod normalize;
 mod parse;
-mod part;
+mod print;
 mod resolve;
 mod run;
 mod tail;

@@ -1,7 +1,7 @@
 //! `uri parse TEXT`: the parts of a reference.
 
 use crate::failure::Failure;
-use crate::part::print_part;
+use crate::print::{print_line, print_part};
 use std::alloc::Global;
 use std::io::Write;
 use uriparse::{Authority, Host, URIReference};
@@ -9,7 +9,12 @@ use uriparse::{Authority, Host, URIReference};
 /// Prints the reference, its path, and its other parts where it has them, a line each.
 pub fn parse<O: Write>(alloc: Global, text: &str, out: &mut O) -> Result<(), Failure> {
     let reference = URIReference::try_from_str(alloc, text)?;
-    writeln!(out, "{reference}")?;
+    print_reference(&reference, out)
+}
+
+/// Prints the reference and its parts.
+fn print_reference<O: Write>(reference: &URIReference<'_>, out: &mut O) -> Result<(), Failure> {
+    print_line(reference, out)?;
     print_part("scheme", reference.scheme(), out)?;
     if let Some(authority) = reference.authority() {
         print_authority(authority, out)?;

@@ -1,6 +1,7 @@
 //! `uri resolve BASE REF`: the target of a reference behind a base.
 
 use crate::failure::Failure;
+use crate::print::print_line;
 use std::alloc::Global;
 use std::io::Write;
 use uriparse::{URI, URIReference};
@@ -35,6 +36,5 @@ fn print_target<O: Write>(
     out: &mut O,
 ) -> Result<(), Failure> {
     let target = base.resolve(alloc, reference)?;
-    writeln!(out, "{target}")?;
-    Ok(())
+    print_line(&target, out)
 }

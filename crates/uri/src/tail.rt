@@ -1,7 +1,7 @@
 //! `uri tail TEXT`: the parts of a reference behind its authority.
 
 use crate::failure::Failure;
-use crate::part::print_part;
+use crate::print::{print_line, print_part};
 use std::alloc::Global;
 use std::io::Write;
 use uriparse::{Fragment, Path, Query};
@@ -21,7 +21,7 @@ pub fn tail<O: Write>(alloc: Global, text: &str, out: &mut O) -> Result<(), Fail
     let path = Path::try_from_str(alloc, path)?;
     let query = query.map(Query::try_from_str).transpose()?;
     let fragment = fragment.map(Fragment::try_from_str).transpose()?;
-    writeln!(out, "{text}")?;
+    print_line(&text, out)?;
     print_part("path", Some(&path), out)?;
     print_part("query", query.as_ref(), out)?;
     print_part("fragment", fragment.as_ref(), out)

@@ -20,6 +20,8 @@ use Rattle.uriparse_text.proofs.OptionLemmas.{same_option, fed_option}
 use Rattle.uriparse_text.proofs.ReadingLemmas.{IsExact, texts_again, texts_found, bind_ok, piece_found, none_or}
 use Rattle.uriparse_authority.specs.declared.authority.host.Host.{Host}
 use Rattle.uriparse_authority.specs.declared.authority.error.AuthorityError.TheVariants as errors
+use Rattle.uriparse_authority.specs.declared.authority.error.HostError.{HostError}
+use Rattle.uriparse_authority.specs.declared.authority.error.PortError.{PortError}
 use Rattle.uriparse_authority.specs.Username as username
 use Rattle.uriparse_authority.specs.Password as password
 use Rattle.uriparse_authority.specs.Host as host
@@ -279,6 +281,18 @@ found a p k =
     let e : record { username = x.0; password = y.0; host = z.0; port = v.0 } ≡ p = cc (v.2) in
     subst (λ q. Spells a q) e (spells_cuts a x.0 y.0 z.0 v.0 (piece_found errors.Username _ x.0 x.1) (piece_found errors.Password _ y.0 y.1)
     (piece_found errors.Host _ z.0 z.1) (piece_found errors.Port _ v.0 v.1))
+
+-- where the first pieces are read, the fault is that of the next
+pub host_fault : (a : List ℕ) (u w : Option (List ℕ)) (e : HostError) → if_present username.reading (username_text a) ≡ Ok u
+    → if_present password.reading (password_text a) ≡ Ok w → host.reading (host_text a) ≡ Err e → reading a ≡ Err (errors.Host e)
+unfolding reading
+host_fault a u w e x y z = rw x (rw y (rw z refl))
+
+pub port_fault : (a : List ℕ) (u w : Option (List ℕ)) (h : Host) (e : PortError) → if_present username.reading (username_text a) ≡ Ok u
+    → if_present password.reading (password_text a) ≡ Ok w → host.reading (host_text a) ≡ Ok h → port.reading (unwrap_or (port_text a) []) ≡ Err e
+    → reading a ≡ Err (errors.Port e)
+unfolding reading
+port_fault a u w h e x y z v = rw x (rw y (rw z (rw v refl)))
 
 pub exact : IsExact Spells reading
 exact = record { again = again; found = found }

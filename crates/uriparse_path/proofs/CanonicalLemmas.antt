@@ -22,7 +22,7 @@ pub canonical-nil : canonical [] ≡ []
 unfolding canonical_in
 canonical-nil = ap (λ ts. flat_map spell (map (canonical_token Kept) ts)) tokens-nil
 
-canonical-slash : (t : List ℕ) → canonical (slash ∷ t) ≡ slash ∷ canonical t
+pub canonical-slash : (t : List ℕ) → canonical (slash ∷ t) ≡ slash ∷ canonical t
 unfolding canonical_in tokens
 canonical-slash t = canonical_in-append Kept (slash ∷ []) t refl
 

@@ -1,8 +1,7 @@
 -- One walk over a text that counts its segments and finds its leftmost fault.
 use Rattle.std.proofs.Common.{zero, suc, get_or, subst, ◌≡◌, ◌≢◌, ℕ, ◌+◌, ◌-◌, ◌<◌, ◌≤◌, true, false, List, [], ◌∷◌, length, drop}
-use Rattle.std.proofs.Common.{Ok, Err, refl, sym, ap, ◌∙◌, inl, inr, arith}
+use Rattle.std.proofs.Common.{Ok, Err, refl, sym, ap, ◌∙◌, arith}
 use Rattle.std.specs.Prelude.{Result, not}
-use Rattle.std.proofs.lemmas.Bool.{cases_lt}
 use Rattle.std.specs.List.{slice_split}
 use Rattle.std.specs.Int.{bit_at}
 use Rattle.std.proofs.lemmas.List.{drop_more}
@@ -11,6 +10,7 @@ use Rattle.uriparse_text.specs.declared.parts.class.Class.TheVariants.{Segment}
 use Rattle.uriparse_text.specs.Classes.{is_plain}
 use Rattle.uriparse_text.specs.Tokens.{is_escape}
 use Rattle.uriparse_text.specs.Marks.{AreMarks}
+use Rattle.uriparse_text.proofs.MarkLemmas.{above_lowest}
 use Rattle.uriparse_text.proofs.FineLemmas.{unset_is_plain, set_is_outside}
 use Rattle.uriparse_text.specs.Readings.{unless_fault}
 use Rattle.uriparse_path.specs.declared.path.error.PathError.{PathError}
@@ -19,7 +19,7 @@ use Rattle.uriparse_path.specs.Segment.{error_of}
 use Rattle.uriparse_path.specs.Path.{is_slash}
 use Rattle.uriparse_path.specs.Faults.{fault_within}
 use Rattle.uriparse_path.proofs.SplitLemmas.{pieces-slash}
-use Rattle.uriparse_path.proofs.FaultLemmas.{SameFrom, behind_plain, behind_escape, behind_sign, behind_slash, at_limit, faulty_byte, no_more}
+use Rattle.uriparse_path.proofs.FaultLemmas.{SameFrom, behind_plain, behind_sign, behind_slash, at_limit, faulty_byte, no_more}
 
 -- what the walk answers for a whole text
 abbrev pub answer : ℕ → List ℕ → Result ℕ PathError
@@ -50,11 +50,6 @@ pub counted_plain : (limit : ℕ) (t : List ℕ) (count b : ℕ) (after : List �
     → IsCounted limit t count after
 counted_plain limit t count b after is plain =
     counted_along limit t count (b ∷ after) after is (behind_plain (limit - count) b after plain)
-
-pub counted_escape : (limit : ℕ) (t : List ℕ) (count b : ℕ) (after : List ℕ) → IsCounted limit t count (b ∷ after) → is_escape b after ≡ true
-    → IsCounted limit t count (drop 2 after)
-counted_escape limit t count b after is escape =
-    counted_along limit t count (b ∷ after) (drop 2 after) is (behind_escape (limit - count) b after escape)
 
 pub counted_slash : (limit : ℕ) (t : List ℕ) (count b : ℕ) (after : List ℕ) → IsCounted limit t count (b ∷ after) → is_slash b ≡ true → count ≢ limit
     → IsCounted limit t (count + 1) after
@@ -166,17 +161,8 @@ run_on limit t at n count more left k next is set below kept no_more cleared cou
       high = omega arith;
       counted = counted;
       passed = λ j past h unset. is.passed j (omega arith) h (sym (kept j (λ same. omega arith)) ∙ unset);
-      waiting = λ j e. let v = is.waiting j (no_more j e) in (above j e, v.1, v.2);
+      waiting = λ j e. let v = is.waiting j (no_more j e) in let past = above_lowest left next k below no_more cleared j e in (omega arith, v.1, v.2);
     }
-  where
-    above : (j : ℕ) → bit_at next j ≡ 1 → at + k + 1 ≤ at + j
-    above j e = elim (cases_lt k j) [
-      | inl past ↦ omega arith
-      | inr upto ↦ elim (cases_lt j k) [
-        | inl before ↦ absurd (omega (arith, below j before, no_more j e))
-        | inr from ↦ let same : j ≡ k = omega arith in absurd (omega (arith, cleared, e, ap (bit_at next) same))
-      ]
-    ]
 
 pub run_ends : (limit : ℕ) (t : List ℕ) (at n count left : ℕ) → IsRun limit t at n count left → left ≡ 0 → IsCounted limit t count (drop (at + n) t)
 run_ends limit t at n count left is none =

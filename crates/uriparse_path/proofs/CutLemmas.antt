@@ -1,5 +1,5 @@
 -- One walk over a text that cuts it into segments at its slashes.
-use Rattle.std.proofs.Common.{◌≡◌, ◌≢◌, ℕ, ◌+◌, ◌-◌, ◌<◌, ◌≤◌, true, false, List, [], ◌∷◌, ◌++◌, length, take, drop, get_or, refl, sym, ap, subst, ◌∙◌}
+use Rattle.std.proofs.Common.{◌≡◌, ◌≢◌, ℕ, ◌+◌, ◌-◌, ◌<◌, ◌≤◌, true, false, List, [], ◌∷◌, ◌++◌, length, take, drop, get_or, sym, ap, subst, ◌∙◌}
 use Rattle.std.proofs.Common.{inl, inr, arith, append_assoc, length-drop}
 use Rattle.std.specs.List.{All, list_all, slice_split}
 use Rattle.std.specs.Int.{bit_at}
@@ -10,7 +10,7 @@ use Rattle.std.proofs.lemmas.List.Folds.{list_all-append}
 use Rattle.std.proofs.lemmas.List.Splits.{slice_split_none, slice_split_at}
 use Rattle.std.proofs.lemmas.Nat.Bits.{bit_at-zero}
 use Rattle.uriparse_text.specs.Marks.{AreMarks}
-use Rattle.uriparse_text.proofs.MarkLemmas.{marked, unmarked}
+use Rattle.uriparse_text.proofs.MarkLemmas.{above_lowest, marked, unmarked}
 use Rattle.uriparse_path.specs.Segment.{is_segment}
 use Rattle.uriparse_path.specs.Path.{is_slash}
 
@@ -20,9 +20,6 @@ pub record IsCutTo (t : List ℕ) (items : List (List ℕ)) (start reached : ℕ
   pub low : start ≤ reached
   pub whole : items ++ slice_split is_slash (drop start t) ≡ slice_split is_slash t
   pub none : (j : ℕ) → start ≤ j → j < reached → is_slash (get_or t j 0) ≡ false
-
-pub cut_begins : (t : List ℕ) → IsCutTo t [] 0 0
-cut_begins t = record { within = omega arith; low = omega arith; whole = refl; none = λ j _ h. absurd (omega arith) }
 
 -- of so many bytes those behind the start whose bit is unset are no slashes, and the others are
 pub record IsCutRun (t : List ℕ) (items : List (List ℕ)) (start at n left : ℕ) : Type 0 where
@@ -116,17 +113,8 @@ module _ (t : List ℕ) (items : List (List ℕ)) (start at n left : ℕ) (is : 
           whole = append_assoc items (piece ∷ []) (slice_split is_slash (drop (at + k + 1) t)) ∙ whole_with;
           none = λ j past before. absurd (omega arith);
           passed = λ j past h unset. is.passed j (omega arith) h (sym (kept j (λ same. omega arith)) ∙ unset);
-          waiting = λ j e. let v = is.waiting j (no_more j e) in (above j e, v.1, v.2);
+          waiting = λ j e. let v = is.waiting j (no_more j e) in let past = above_lowest left next k below no_more cleared j e in (omega arith, v.1, v.2);
         }
-      where
-        above : (j : ℕ) → bit_at next j ≡ 1 → at + k + 1 ≤ at + j
-        above j e = elim (cases_lt k j) [
-          | inl past ↦ omega arith
-          | inr upto ↦ elim (cases_lt j k) [
-            | inl before ↦ absurd (omega (arith, below j before, no_more j e))
-            | inr from ↦ let same : j ≡ k = omega arith in absurd (omega (arith, cleared, e, ap (bit_at next) same))
-          ]
-        ]
 
 -- at the end of the text the rest is the last segment
 module _ (t : List ℕ) (items : List (List ℕ)) (start at : ℕ) (is : IsCutTo t items start at) (ends : length t ≤ at) where

@@ -219,7 +219,7 @@ colon_reserved : is_unreserved colon ≡ false
 unfolding is_unreserved
 colon_reserved = refl
 
-lacks_slash-canonical : (s : List ℕ) → lacks slash (canonical s) ≡ lacks slash s
+pub lacks_slash-canonical : (s : List ℕ) → lacks slash (canonical s) ≡ lacks slash s
 lacks_slash-canonical s = lacks-canonical slash slash_reserved refl refl s
 
 pub has-lacks : (c : ℕ) (s : List ℕ) → list_any (λ b. b == c) s ≡ not (lacks c s)

@@ -1,8 +1,7 @@
 -- What a path feeds a hasher: its first piece, and then each segment behind a slash.
-use Rattle.std.proofs.Common.{◌≡◌, ℕ, Bool, true, false, List, [], ◌∷◌, ◌++◌, map, fold, flat_map, refl, sym, ap, ◌∙◌}
+use Rattle.std.proofs.Common.{◌≡◌, ℕ, true, List, [], ◌∷◌, ◌++◌, map, fold, flat_map, refl, ap, ◌∙◌}
 use Rattle.std.specs.List.{list_all}
 use Rattle.std.specs.Hash as fed
-use Rattle.std.proofs.lemmas.Bool.{and_parts}
 use Rattle.std.proofs.lemmas.Grind.{fold-append, flat_map-append}
 use Rattle.uriparse_text.specs.declared.parts.class.Class.TheVariants.{Segment}
 use Rattle.uriparse_text.specs.declared.parts.canonical.Case.TheVariants.{Kept}
@@ -11,28 +10,19 @@ use Rattle.uriparse_text.specs.Canonical.{canonical, fed_text}
 use Rattle.uriparse_text.proofs.CanonicalLemmas.{canonical_in-append, feeds_text}
 use Rattle.uriparse_text.proofs.ClassLemmas.{well_formed-in_class}
 use Rattle.uriparse_path.specs.Segment.{is_segment}
-use Rattle.uriparse_path.specs.Path.{IsListed, text}
-use Rattle.uriparse_path.proofs.CanonicalLemmas.{canonical-nil, canonical-behind}
-use Rattle.uriparse_path.proofs.TextLemmas.{text-absolute, text-cons}
+use Rattle.uriparse_path.proofs.CanonicalLemmas.{canonical-behind}
 
 -- the segments, each behind a slash
 each_behind : (ss : List (List ℕ)) → flat_map (λ s. slash ∷ s) (map canonical ss) ≡ flat_map (λ s. slash ∷ canonical s) ss
 each_behind [] = refl
 each_behind (s ∷ ss) = ap (λ u. (slash ∷ canonical s) ++ u) (each_behind ss)
 
-pub canonical-absolute : (a : Bool) (ss : List (List ℕ)) → a ≡ true → IsListed ss
-    → canonical (text (record { absolute = a; segments = ss })) ≡ canonical [] ++ flat_map (λ s. slash ∷ canonical s) ss
-canonical-absolute a ss e is =
-    rw (e, canonical-nil)
-    (ap canonical (text-absolute ss is.some) ∙ canonical-behind ss is.each ∙ each_behind ss)
-
-pub canonical-relative : (a : Bool) (ss : List (List ℕ)) (s : List ℕ) (rest : List (List ℕ)) → a ≡ false → ss ≡ s ∷ rest → IsListed ss
-    → canonical (text (record { absolute = a; segments = ss })) ≡ canonical s ++ flat_map (λ s. slash ∷ canonical s) rest
-canonical-relative a ss s rest e cut is =
-    let both = and_parts _ _ (sym (ap (list_all is_segment) cut) ∙ is.each) in
-    ap canonical (text-cons a ss s rest cut)
-    ∙ rw e (canonical_in-append Kept s (flat_map (λ r. slash ∷ r) rest) (well_formed-in_class Segment s both.0)
-    ∙ ap (λ u. canonical s ++ u) (canonical-behind rest both.1 ∙ each_behind rest))
+-- the canonical spelling of a path's text, by what stands before its first slash and the segments behind
+pub canonical-front : (t front : List ℕ) (ss : List (List ℕ)) → t ≡ front ++ flat_map (λ s. slash ∷ s) ss → is_segment front ≡ true → list_all is_segment ss ≡ true
+    → canonical t ≡ canonical front ++ flat_map (λ s. slash ∷ canonical s) ss
+canonical-front t front ss e h k =
+    ap canonical e ∙ canonical_in-append Kept front (flat_map (λ s. slash ∷ s) ss) (well_formed-in_class Segment front h)
+    ∙ ap (λ u. canonical front ++ u) (canonical-behind ss k ∙ each_behind ss)
 
 module _ {S : Type 0} (write : S → List ℕ → S) where
   bytes_behind : (ss : List (List ℕ)) → flat_map fed.u8 (flat_map (λ s. slash ∷ canonical s) ss) ≡ flat_map (λ s. flat_map fed.u8 (slash ∷ canonical s)) ss

@@ -5,16 +5,15 @@ use Rattle.std.specs.Prelude.{reverse, ◌⊎◌}
 use Rattle.std.proofs.lemmas.Bool.{false≢true}
 use Rattle.std.proofs.lemmas.List.{reverse-append, length-reverse}
 use Rattle.uriparse_text.specs.Bytes.{dot}
-use Rattle.uriparse_path.specs.Path.{IsListed, hides_root, IsCounted}
+use Rattle.uriparse_path.specs.Path.{hides_root, IsCounted}
 use Rattle.uriparse_path.specs.Dots.{is_single_dot, is_double_dot, is_dot_segment}
 use Rattle.uriparse_path.specs.Relative.{Deletes, single, pair, Leads, done, more, is_last, closed, has_colon, needs_guard, guarded}
 use Rattle.uriparse_path.specs.Relative.{filled, put, put_all, reduced, relative_normal}
 use Rattle.uriparse_path.specs.Normal.{climbs_first}
-use Rattle.uriparse_path.proofs.TextLemmas.{is_listed, counted}
 use Rattle.uriparse_path.proofs.DotLemmas.{not_both, no_dot}
 use Rattle.uriparse_path.proofs.CanonicalLemmas.{length-canonical}
 use Rattle.uriparse_path.proofs.ReduceLemmas.{leads_iff, put_all-append, put_single}
-use Rattle.uriparse_path.proofs.RelativeLemmas.{reduced_climbs, shaped, relative_is, each_shaped, climbing_kept, some_filled}
+use Rattle.uriparse_path.proofs.RelativeLemmas.{reduced_climbs, shaped, relative_is, climbing_kept, some_filled}
 
 -- deletions make a list shorter
 leads_shorter : {m l : List (List ℕ)} → Leads m l → (length m < length l) ⊎ (m ≡ l)
@@ -191,6 +190,3 @@ pub counted_shaped : (l : List (List ℕ)) → IsCounted l → hides_root l ≡ 
 counted_shaped l is h =
     let short = length_shaped l is.some h in
     record { some = some_filled (guarded l (closed (is_last is_dot_segment l) (reduced l))); short = omega (arith, short, is.short) }
-
-pub listed_shaped : (l : List (List ℕ)) → IsListed l → hides_root l ≡ false → IsListed (shaped l)
-listed_shaped l is h = is_listed (shaped l) (counted_shaped l (counted l is) h) (each_shaped l is.each)

@@ -8,7 +8,6 @@ use Rattle.std.proofs.lemmas.List.{reverse-append}
 use Rattle.uriparse_path.specs.Dots.{is_single_dot, is_double_dot, is_dot_segment, all_but_last}
 use Rattle.uriparse_path.specs.Relative.{is_last, put, put_all}
 use Rattle.uriparse_path.proofs.DotLemmas.{not_both}
-use Rattle.uriparse_path.proofs.ReduceLemmas.{put_single}
 use Rattle.uriparse_path.proofs.LengthLemmas.{pushed, last_push}
 use Rattle.uriparse_path.proofs.PassLemmas.{push_cut, cut-take, rest_is, front_swapped, end_swapped}
 
@@ -47,9 +46,6 @@ put_other (r ∷ out) s h k =
 module _ (xs : List (List ℕ)) (kept at : ℕ) (s : List ℕ) (order : kept ≤ at) (within : at < length xs) (read : s ≡ get_or xs at s) where
   here : put_all (reverse (take kept xs)) (drop at xs) ≡ put_all (put (reverse (take kept xs)) s) (drop (at + 1) xs)
   here = ap (put_all (reverse (take kept xs))) (rest_is xs kept at s order within read)
-
-  pub single_put : is_single_dot s ≡ true → put_all (reverse (take kept xs)) (drop (at + 1) xs) ≡ put_all (reverse (take kept xs)) (drop at xs)
-  single_put h = sym (here ∙ ap (λ u. put_all u (drop (at + 1) xs)) (put_single (reverse (take kept xs)) s h))
 
   pub pair_put : is_double_dot s ≡ true → is_last is_name (take kept xs) ≡ true
       → put_all (reverse (take (kept - 1) xs)) (drop (at + 1) xs) ≡ put_all (reverse (take kept xs)) (drop at xs)

@@ -1,12 +1,7 @@
 -- From the walk over a text to what reading it answers.
-use Rattle.std.proofs.Common.{◌≡◌, ◌↔◌, ℕ, List, [], ◌∷◌, arith, length, Option, Some, None, Ok, Err, refl, sym, ap, subst, ◌∙◌}
+use Rattle.std.proofs.Common.{◌≡◌, ◌↔◌, ℕ, List, length, Option, Some, None, Ok, Err, refl, sym, ap, subst, ◌∙◌}
 use Rattle.std.specs.Prelude.{IsErr}
 use Rattle.uriparse_text.specs.Readings.{unless_fault}
-use Rattle.uriparse_text.specs.declared.parts.class.Class.TheVariants.{Segment}
-use Rattle.uriparse_text.specs.Bytes.{slash}
-use Rattle.uriparse_text.proofs.FaultLemmas as class_faults
-use Rattle.uriparse_text.proofs.FaultLemmas.{fault-nil}
-use Rattle.std.proofs.lemmas.Bool.{and_from}
 use Rattle.uriparse_path.specs.declared.path.error.PathError.{PathError}
 use Rattle.uriparse_path.specs.declared.path.TheConstants.{MAX_SEGMENTS}
 use Rattle.uriparse_path.specs.Path.{PathParts, IsListed, IsPath, max_segments, unrooted, pieces, spelled}
@@ -70,8 +65,3 @@ path_read t p h = by_fault (fault t) refl h
     by_fault : (f : Option PathError) → fault t ≡ f → unless_fault f (spelled t) ≡ Ok p → IsPath t × (p ≡ spelled t)
     by_fault None e k = ((no_fault_iff t).0 e, cc)
     by_fault (Some x) e k = cc
-
--- a slash alone is a path
-pub slash_path : IsPath (slash ∷ [])
-unfolding max_segments
-slash_path = record { some = omega arith; short = omega arith; each = and_from _ _ ((class_faults.no_fault Segment []).0 (fault-nil Segment)) refl }

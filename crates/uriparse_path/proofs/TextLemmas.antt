@@ -1,19 +1,13 @@
 -- The text of a path, and the path that it spells.
-use Rattle.std.proofs.Common.{◌≡◌, ℕ, ◌<◌, ◌≤◌, Bool, true, false, not, cond, List, [], ◌∷◌, ◌++◌, length, map, flat_map, refl, sym, ap, ◌∙◌, arith, drop, ◌&&◌}
+use Rattle.std.proofs.Common.{◌≡◌, ℕ, ◌<◌, ◌≤◌, Bool, true, false, not, cond, List, [], ◌∷◌, ◌++◌, length, flat_map, refl, sym, ap, ◌∙◌, arith, drop, ◌&&◌}
 use Rattle.std.specs.List.{list_all, slice_split, join_with_byte}
 use Rattle.std.proofs.lemmas.Bool.{not-true, and_parts, and_from, eqb-true}
-use Rattle.uriparse_text.specs.declared.parts.token.Token.TheVariants.{Byte}
 use Rattle.uriparse_text.specs.declared.parts.class.Class.TheVariants.{Segment}
-use Rattle.uriparse_text.specs.declared.parts.canonical.Case.TheVariants.{Kept}
 use Rattle.std.specs.Prelude.{◌==◌}
 use Rattle.uriparse_text.specs.Bytes.{slash, percent, is_hex}
 use Rattle.uriparse_text.specs.Classes.{is_plain}
 use Rattle.uriparse_text.specs.Cuts.{lacks}
-use Rattle.uriparse_text.specs.Tokens.{is_token, is_well_formed}
-use Rattle.uriparse_text.specs.Canonical.{canonical_token, canonical_tokens}
-use Rattle.uriparse_text.proofs.TokenLemmas.{tokens-spell, tokens-nil, well_formed-append}
-use Rattle.uriparse_text.proofs.CanonicalLemmas.{canonical_tokens-append, canonical_tokens-empty}
-use Rattle.uriparse_text.proofs.ClassLemmas.{well_formed-in_class, bytes-in_class}
+use Rattle.uriparse_text.proofs.ClassLemmas.{bytes-in_class}
 use Rattle.uriparse_text.proofs.CutLemmas.{lacks-append, lacks-in_class}
 use Rattle.uriparse_path.specs.Segment.{is_segment}
 use Rattle.uriparse_path.specs.Path.{PathParts, IsListed, IsCounted, IsPath, root, text, is_slash, is_rooted, unrooted, pieces, spelled, hides_root, respelled}
@@ -21,17 +15,13 @@ use Rattle.uriparse_path.specs.Dots.{LacksSlash}
 use Rattle.uriparse_path.proofs.SplitLemmas.{pieces-joined, joined-pieces, joined-behind}
 use Rattle.uriparse_path.proofs.FaultLemmas.{plain_not_slash, hex_not_slash}
 
--- so many segments, each of which is one
-pub is_listed : (ss : List (List ℕ)) → IsCounted ss → list_all is_segment ss ≡ true → IsListed ss
-is_listed ss is each = record { some = is.some; short = is.short; each = each }
-
 -- so many segments
 pub counted : (ss : List (List ℕ)) → IsListed ss → IsCounted ss
 counted ss is = record { some = is.some; short = is.short }
 
 -- ---- the text of the path that a text spells
 
-root-unrooted : (t : List ℕ) → root (is_rooted t) ++ unrooted t ≡ t
+pub root-unrooted : (t : List ℕ) → root (is_rooted t) ++ unrooted t ≡ t
 root-unrooted [] = refl
 root-unrooted (b ∷ t) = at_first (is_slash b) refl
   where
@@ -43,53 +33,10 @@ root-unrooted (b ∷ t) = at_first (is_slash b) refl
 pub text-spelled : (t : List ℕ) → text (spelled t) ≡ t
 text-spelled t = ap (λ u. root (is_rooted t) ++ u) (joined-pieces (unrooted t)) ∙ root-unrooted t
 
--- ---- the canonical tokens of a path
-
--- all segments behind slashes are tokens
-pub well_formed-behind : (ss : List (List ℕ)) → list_all is_segment ss ≡ true → is_well_formed (flat_map (λ s. slash ∷ s) ss) ≡ true
-well_formed-behind [] h = ap (list_all is_token) tokens-nil
-well_formed-behind (s ∷ ss) h =
-    let both = and_parts _ _ h in
-    let rest : is_well_formed (s ++ flat_map (λ r. slash ∷ r) ss) ≡ true =
-    well_formed-append s (flat_map (λ r. slash ∷ r) ss) (well_formed-in_class Segment s both.0) (well_formed-behind ss both.1) in
-    ap (list_all is_token) (tokens-spell (Byte slash) (s ++ flat_map (λ r. slash ∷ r) ss) refl) ∙ rest
-
-pub tokens-behind : (ss : List (List ℕ)) → list_all is_segment ss ≡ true
-    → canonical_tokens Kept (flat_map (λ s. slash ∷ s) ss) ≡ flat_map (λ s. Byte slash ∷ canonical_tokens Kept s) ss
-tokens-behind [] h = canonical_tokens-empty Kept [] refl
-tokens-behind (s ∷ ss) h =
-    let both = and_parts _ _ h in
-    ap (map (canonical_token Kept)) (tokens-spell (Byte slash) (s ++ flat_map (λ r. slash ∷ r) ss) refl)
-    ∙ ap (λ x. Byte slash ∷ x) (canonical_tokens-append Kept s (flat_map (λ r. slash ∷ r) ss) (well_formed-in_class Segment s both.0)
-    ∙ ap (λ x. canonical_tokens Kept s ++ x) (tokens-behind ss both.1))
-
 -- the text of an absolute path is all its segments behind slashes
 pub text-absolute : (ss : List (List ℕ)) → 0 < length ss → text (record { absolute = true; segments = ss }) ≡ flat_map (λ s. slash ∷ s) ss
 text-absolute [] h = absurd (omega arith)
 text-absolute (s ∷ ss) h = ap (λ x. slash ∷ x) (joined-behind s ss)
-
--- what the cursor has before it at the start, by the flag
-pub start-absolute : (a : Bool) (ss : List (List ℕ)) → a ≡ true → IsListed ss
-    → canonical_tokens Kept [] ++ flat_map (λ s. Byte slash ∷ canonical_tokens Kept s) ss
-    ≡ canonical_tokens Kept (text (record { absolute = a; segments = ss }))
-start-absolute a ss e is =
-    rw (canonical_tokens-empty Kept [] refl, e) (sym (ap (canonical_tokens Kept) (text-absolute ss is.some) ∙ tokens-behind ss is.each))
-
-pub start-relative : (a : Bool) (ss : List (List ℕ)) (s : List ℕ) (rest : List (List ℕ)) → a ≡ false → ss ≡ s ∷ rest → IsListed ss
-    → canonical_tokens Kept s ++ flat_map (λ s. Byte slash ∷ canonical_tokens Kept s) rest
-    ≡ canonical_tokens Kept (text (record { absolute = a; segments = ss }))
-start-relative a ss s rest e cut is =
-    let both = and_parts _ _ (sym (ap (list_all is_segment) cut) ∙ is.each) in
-    rw (e, cut, joined-behind s rest) (sym (canonical_tokens-append Kept s (flat_map (λ s. slash ∷ s) rest) (well_formed-in_class Segment s both.0)
-    ∙ ap (λ x. canonical_tokens Kept s ++ x) (tokens-behind rest both.1)))
-
-pub well_formed-text : (a : Bool) (ss : List (List ℕ)) → IsListed ss → is_well_formed (text (record { absolute = a; segments = ss })) ≡ true
-well_formed-text true ss is = ap is_well_formed (text-absolute ss is.some) ∙ well_formed-behind ss is.each
-well_formed-text false [] is = absurd (omega (arith, is.some))
-well_formed-text false (s ∷ ss) is =
-    let both = and_parts _ _ is.each in
-    ap is_well_formed (joined-behind s ss)
-    ∙ well_formed-append s (flat_map (λ s. slash ∷ s) ss) (well_formed-in_class Segment s both.0) (well_formed-behind ss both.1)
 
 -- ---- the path that the text of a path spells
 

@@ -1,5 +1,5 @@
 //! A path: RFC 3986, section 3.3.
-ghost use Rattle.std.specs.Prelude.{◌≡◌, ◌≤◌, ◌⊎◌, ◌↔◌, ◌∷◌, ◌++◌, fold, length, IsTrue, IfOk, OnOk, OnErr, IsOk, IsErr, Some, true, false, if◌then◌else◌, not, map, filter, bytes_eq, string_bytes};
+ghost use Rattle.std.specs.Prelude.{◌≡◌, ◌≤◌, ◌⊎◌, ◌↔◌, ◌∷◌, ◌++◌, fold, length, IsTrue, IfOk, IfSome, IsSome, OnOk, OnErr, IsOk, IsErr, Some, true, false, if◌then◌else◌, not, map, filter, bytes_eq, string_bytes};
 ghost use Rattle.std.proofs.Common.{rules};
 ghost use Rattle.std.specs.Ordering.{on};
 ghost use Rattle.std.specs.Cmp.Rules.{comparing, hashing};
@@ -8,11 +8,11 @@ ghost use Rattle.std.specs.List.{flat_map, list_all};
 ghost use Rattle.std.specs.Hash as fed;
 ghost use Rattle.uriparse_text.specs.declared.parts.canonical.Case.TheVariants as case;
 ghost use Rattle.uriparse_text.specs.Bytes.{colon, slash};
-ghost use Rattle.uriparse_text.specs.Cuts.{lacks, up_to};
-ghost use Rattle.uriparse_text.specs.Tokens.{spell, is_well_formed};
-ghost use Rattle.uriparse_text.specs.Canonical.{canonical, canonical_tokens, fed_text, SpellsAlike};
+ghost use Rattle.uriparse_text.specs.Cuts.{from_first, lacks, up_to};
+ghost use Rattle.uriparse_text.specs.Canonical.{canonical, fed_text, SpellsAlike};
 ghost use Rattle.uriparse_text.specs.Readings.{IsUnless};
-ghost use Rattle.uriparse_path.specs.Path.{IsListed, has_two_slashes, hides_root, is_rooted, is_slash, made_absolute, respelled, spelled, text};
+ghost use Rattle.uriparse_path.specs.Path.{IsListed, has_two_slashes, hides_root, is_rooted, is_slash, made_absolute, spelled, text};
+ghost use Rattle.uriparse_path.specs.Segment.{is_segment};
 ghost use Rattle.uriparse_path.specs.Faults.{reading};
 ghost use Rattle.uriparse_path.specs.Dots.{without_dots};
 ghost use Rattle.uriparse_path.specs.Edits.{shield};
@@ -24,7 +24,7 @@ use std::fmt;
 use std::fmt::Write;
 use std::hash::{Hash, Hasher};
 use std::marker::Model;
-use uriparse_text::parts::{Case, TextWalk, feed_spelling, same_walks};
+use uriparse_text::parts::{Case, feed_spelling, same_spelling, split_at_mark};
 
 mod copy;
 mod dots;
@@ -34,7 +34,6 @@ mod merge;
 mod normal;
 mod read;
 mod segment;
-mod walk;
 
 use dots::{has_dot_segment, replay, root_first};
 pub use error::PathError;
@@ -45,7 +44,6 @@ use normal::{
 use read::{count_segments, split_root, split_segments};
 pub use segment::Segment;
 use segment::each_is_segment;
-use walk::PathWalk;
 
 /// The most segments that a path may have.
 pub const MAX_SEGMENTS: usize = 65535;
@@ -331,48 +329,32 @@ impl<'p> Path<'p> {
         }
     }
 
-    /// The flag and the segments of the path that this one's text spells.
-    fn shown(&self) -> (bool, &[Segment<'p>])
-        ensures absolute { result.0 ≡ (respelled self.now).absolute }
-        ensures segments { result.1.now ≡ (respelled self.now).segments }
-        ensures listed { IsListed self.now.segments }
-    {
-        let segments = self.segments();
-        if !self.absolute && hides_root(segments) {
-            return (true, &segments[1..]);
-        }
-        (self.absolute, segments)
-    }
-
-    /// What stands before all slashes in the path's text, and the segments that stand behind one each.
+    /// What stands before the first slash of the path's text, and the segments that stand behind one each.
     #[inline]
-    fn split_front(&self) -> (&[u8], &[Segment<'p>])
-        ensures { canonical (text self.now) ≡ canonical result.0.now ++ flat_map (λ s. slash ∷ canonical s) result.1.now }
+    fn split_front(&self) -> (&str, &[Segment<'p>])
+        ensures text { text self.now ≡ result.0.now ++ flat_map (λ s. slash ∷ s) result.1.now }
+        ensures front { is_segment result.0.now ≡ true }
+        ensures behind { list_all is_segment result.1.now ≡ true }
     {
         let segments = self.segments();
         if self.is_absolute() {
-            return (b"", segments);
+            return ("", segments);
         }
         match segments.split_first() {
-            Some((first, later)) => (first.as_bytes(), later),
-            None => (b"", segments),
+            Some((first, later)) => (first.as_str(), later),
+            None => ("", segments),
         }
-    }
-
-    /// The cursor at the start of the path's text.
-    fn walk(&self) -> PathWalk<'_>
-        ensures tokens { result ≡ canonical_tokens case.Kept (text self.now) }
-        ensures bytes { flat_map spell result ≡ canonical (text self.now) }
-        ensures formed { is_well_formed (text self.now) ≡ true }
-    {
-        PathWalk::new(self.absolute, self.segments())
     }
 
     /// Whether the bytes are tokens whose canonical spelling is that of the path's text.
     pub fn eq_bytes(&self, bytes: &[u8]) -> bool
         ensures { IsTrue result ↔ SpellsAlike case.Kept bytes.now (text self.now) }
     {
-        same_walks(TextWalk::new(Case::Kept, bytes), self.walk())
+        let (front, behind) = self.split_front();
+        match strip_piece(bytes, front.as_bytes()) {
+            Some(rest) => spells_behind_slashes(rest, behind),
+            None => false,
+        }
     }
 
     /// The same for a text.
@@ -389,9 +371,10 @@ impl<'p> PartialEq for Path<'p> {
     ghost laws = { Prim.search (comparing, rules) };
 
     fn eq(&self, other: &Path<'p>) -> bool {
-        let (absolute, segments) = self.shown();
-        let (other_absolute, other_segments) = other.shown();
-        absolute == other_absolute && segments == other_segments
+        let (front, behind) = self.split_front();
+        let (other_front, other_behind) = other.split_front();
+        same_spelling(Case::Kept, front.as_bytes(), other_front.as_bytes())
+            && behind == other_behind
     }
 }
 
@@ -406,10 +389,50 @@ impl<'p> Hash for Path<'p> {
 
     fn hash<H: Hasher>(&self, state: &mut H) {
         let (front, behind) = self.split_front();
-        feed_spelling(Case::Kept, front, state);
+        feed_spelling(Case::Kept, front.as_bytes(), state);
         feed_behind_slashes(behind, state);
         state.write_u8(0xff);
     }
+}
+
+/// What follows the piece before the text's first slash, if that piece is spelled as the segment. Where
+/// the segment's own bytes stand there, no slash is searched for.
+#[inline(always)]
+fn strip_piece<'t>(text: &'t [u8], segment: &[u8]) -> Option<&'t [u8]>
+    requires { is_segment segment.now ≡ true }
+    ensures alike { IsSome result ↔ SpellsAlike case.Kept (up_to is_slash text.now) segment.now }
+    ensures rest { IfSome result (λ rest. rest.now ≡ from_first is_slash text.now) }
+{
+    if let Some(rest) = text.strip_prefix(segment) {
+        if rest.is_empty() || rest[0] == b'/' {
+            return Some(rest);
+        }
+    }
+    let (piece, rest) = split_at_mark(text, b'/');
+    if same_spelling(Case::Kept, piece, segment) {
+        Some(rest)
+    } else {
+        None
+    }
+}
+
+/// Whether the text is spelled as these segments are, each behind a slash. It is cut at its slashes.
+fn spells_behind_slashes(text: &[u8], segments: &[Segment<'_>]) -> bool
+    requires { list_all is_segment segments.now ≡ true }
+    ensures { IsTrue result ↔ SpellsAlike case.Kept text.now (flat_map (λ s. slash ∷ s) segments.now) }
+{
+    let mut rest = text;
+    for segment in segments {
+        let (rooted, behind) = split_root(rest);
+        if !rooted {
+            return false;
+        }
+        match strip_piece(behind, segment.as_bytes()) {
+            Some(later) => rest = later,
+            None => return false,
+        }
+    }
+    rest.is_empty()
 }
 
 /// Feeds a slash and the segment's canonical spelling to the hasher, for each segment.
@@ -445,12 +468,9 @@ impl<'p> fmt::Display for Path<'p> {
     ghost styled_output = { λ p _. Some (text p) };
 
     fn fmt<W: fmt::Write>(&self, f: &mut fmt::Formatter<W>) -> fmt::Result {
-        f.write_str(if self.absolute { "/" } else { "" })?;
-        if let Some((first, rest)) = self.segments.split_first() {
-            f.write_str(first.as_str())?;
-            write_behind_slashes(rest, f)?;
-        }
-        Ok(())
+        let (front, behind) = self.split_front();
+        f.write_str(front)?;
+        write_behind_slashes(behind, f)
     }
 }
 

@@ -161,7 +161,7 @@ own_parts p v = accepts p (record p { path = placed (is_some p.authority) p.path
 -- a test that accepts leaves no refusal
 pub no_refusal : (v w b d : Bool) (t : List ℕ) (r : Result (Unit {0}) URIReferenceError) (x : Unit {0}) → b ≡ v → d ≡ w
     → r ≡ unless_fault (path_refusal b d t) tt → r ≡ Ok x → path_refusal v w t ≡ None
-no_refusal v w b d t r x e f g h = ap (λ u. path_refusal u w t) (sym e) ∙ ap (λ u. path_refusal b u t) (sym f) ∙ accepted (path_refusal b d t) x (sym g ∙ h)
+no_refusal v w b d t r x e f g h = ap (λ u. path_refusal u w t) (sym e) ∙ ap (λ u. path_refusal b u t) (sym f) ∙ (accepted (path_refusal b d t) tt x (sym g ∙ h)).0
 
 pub tested_path : (p : Parts) (h g : PathParts) (b d : Bool) (r : Result (Unit {0}) URIReferenceError) (x : Unit {0}) → Valid p → IsListed h.segments
     → b ≡ is_some p.scheme → d ≡ is_some p.authority
@@ -201,6 +201,14 @@ valid_none p None h k v = valid_no_authority p v k
 valid_none p (Some a) h k v = cc
 
 -- ---- an edit of a list
+
+-- parts that are put together again make what the parts they come from make
+pub remade : (p q : Parts) → p.scheme ≡ q.scheme → p.authority ≡ q.authority → p.path ≡ q.path → p.query ≡ q.query → p.fragment ≡ q.fragment
+    → of_parts p ≡ of_parts q
+remade p q s a h k f =
+    ap (λ x. of_parts (build x p.authority p.path p.query p.fragment)) s ∙ ap (λ x. of_parts (build q.scheme x p.path p.query p.fragment)) a
+    ∙ ap (λ x. of_parts (build q.scheme q.authority x p.query p.fragment)) h ∙ ap (λ x. of_parts (build q.scheme q.authority q.path x p.fragment)) k
+    ∙ ap (λ x. of_parts (build q.scheme q.authority q.path q.query x)) f
 
 -- what its setter promises is what a list of edits wants
 pub settled : (old new : Parts) (d e : Edit) (r : Result (Unit {0}) URIReferenceError) → d ≡ e → Settles old new r (edited old e)

@@ -175,11 +175,10 @@ kept_segments p q v e h =
 
 -- ---- what is put in place
 
--- the path is brought into its normal form by what stands before it
-pub placed_normal : (s : Option Scheme) (a : Option AuthorityParts) (p h : PathParts) (v w : Bool) → is_some s ≡ not v → is_some a ≡ not w
-    → h ≡ cond w (shield (pnormal p v)) (pnormal p v)
-    → h ≡ shielded a (pnormal p (is_none s))
-placed_normal s a p h v w e f g = g ∙ ap (λ u. cond w (shield (pnormal p u)) (pnormal p u)) (sym (none_is s v e))
+-- the path's normal form is told by what stands before it
+pub placed_normal : (s : Option Scheme) (a : Option AuthorityParts) (p : PathParts) (v w : Bool) → is_some s ≡ not v → is_some a ≡ not w
+    → cond w (shield (pnormal p v)) (pnormal p v) ≡ shielded a (pnormal p (is_none s))
+placed_normal s a p v w e f = ap (λ u. cond w (shield (pnormal p u)) (pnormal p u)) (sym (none_is s v e))
     ∙ ap (λ u. cond u (shield (pnormal p (is_none s))) (pnormal p (is_none s))) (sym (none_is a w f)) ∙ by_authority a
   where
     none_is : {A : Type 0} (o : Option A) (v : Bool) → is_some o ≡ not v → is_none o ≡ v

@@ -1,7 +1,7 @@
 -- Reading a reference is exact.
 use Rattle.std.proofs.Common.{◌≡◌, ℕ, Bool, true, false, cond, List, [], ◌∷◌, ◌++◌, drop, Option, Some, None, Ok, refl, sym, ap, ◌∙◌, subst, append_assoc, ◌&&◌}
 use Rattle.std.proofs.Common.{inl, inr, arith}
-use Rattle.std.specs.Prelude.{◌⊎◌, ◌==◌, IfSome, IfOk, IfErr, Result, Err, is_some}
+use Rattle.std.specs.Prelude.{◌⊎◌, ◌==◌, IfSome, IfOk, IfErr, IsErr, Result, Err, is_some}
 use Rattle.std.specs.Option.{option_map, option_copied}
 use Rattle.std.proofs.Common.{Bor}
 use Rattle.std.proofs.lemmas.Bool.{false≢true, eqb-true}
@@ -14,7 +14,7 @@ use Rattle.uriparse_text.specs.Query as query
 use Rattle.uriparse_text.specs.Fragment as fragment
 use Rattle.uriparse_text.proofs.CutLemmas.{from_first-head, cut-whole, before_after, front_rest}
 use Rattle.uriparse_text.proofs.ReadingLemmas.{texts_again, texts_found, present_again, present_found, piece_found, bind_ok, none_or}
-use Rattle.uriparse_path.specs.Path.{PathParts, is_slash, is_rooted, has_two_slashes}
+use Rattle.uriparse_path.specs.Path.{PathParts, IsPath, is_slash, is_rooted, has_two_slashes}
 use Rattle.uriparse_path.specs.Faults as path_faults
 use Rattle.uriparse_path.proofs.ReadLemmas.{reading-path, path_read}
 use Rattle.uriparse_authority.specs.Authority as authority
@@ -24,18 +24,15 @@ use Rattle.uriparse_authority.proofs.AuthorityLemmas.{LacksEnds}
 use Rattle.uriparse_scheme.specs.declared.scheme.Scheme.{Scheme}
 use Rattle.uriparse_scheme.specs.Scheme as scheme
 use Rattle.uriparse_scheme.proofs.SchemeLemmas as schemes
+use Rattle.uriparse_path.specs.declared.path.error.PathError.{PathError}
 use Rattle.uriparse_path.specs.declared.path.error.PathError.TheVariants.{OutOfMemory}
 use Rattle.uriparse_reference.specs.declared.uri_reference.error.URIReferenceError.{URIReferenceError}
 use Rattle.uriparse_reference.specs.declared.uri_reference.error.URIReferenceError.TheVariants as errors
 use Rattle.uriparse_reference.specs.Reference.{Parts, behind_slashes, joined, is_abempty, path_refusal, path_of, Spells}
 use Rattle.uriparse_reference.specs.Cuts.{if_scheme, scheme_text, unless_scheme, after_scheme, cut_authority, authority_text, without_authority}
 use Rattle.uriparse_reference.specs.Cuts.{after_authority, path_text, query_text, fragment_text}
-use Rattle.uriparse_reference.specs.Reading.{path_reading, tail_reading, reading, fault}
+use Rattle.uriparse_reference.specs.Reading.{path_reading, tail_reading, reading, fault, early_fault, IsAnswer}
 use Rattle.uriparse_reference.proofs.CutLemmas.{tail, ArePieces, cut_again}
-
--- a path, a query and a fragment
-abbrev Tail : Type 0
-Tail = PathParts × Option (List ℕ) × Option (List ℕ)
 
 -- ---- what is spelled so is read so
 
@@ -61,32 +58,29 @@ spelled_pieces t p s = record {
   is_query = s.is_query;
 }
 
--- the refusal and the reading of a cut text's path, by what the pieces are
-pub refusal_is : (t : List ℕ) (v w : Bool) (h : List ℕ) → is_some (scheme_text t) ≡ v → is_some (authority_text t) ≡ w → h ≡ path_text t
-    → path_refusal (is_some (scheme_text t)) (is_some (authority_text t)) (path_text t) ≡ path_refusal v w h
-refusal_is t v w h e f g =
-    ap (λ u. path_refusal u (is_some (authority_text t)) (path_text t)) e ∙ ap (λ u. path_refusal v u (path_text t)) f ∙ ap (path_refusal v w) (sym g)
+-- what reading a cut text's path gives, by what the pieces are
+path_reading_is : (t : List ℕ) (s a : Option (List ℕ)) (h : List ℕ) → scheme_text t ≡ s → authority_text t ≡ a → path_text t ≡ h
+    → path_reading (is_some (scheme_text t)) (is_some (authority_text t)) (path_text t) ≡ path_reading (is_some s) (is_some a) h
+path_reading_is t s a h e f g =
+    ap (λ o. path_reading (is_some o) (is_some (authority_text t)) (path_text t)) e ∙ ap (λ o. path_reading (is_some s) (is_some o) (path_text t)) f
+    ∙ ap (path_reading (is_some s) (is_some a)) g
 
 pub again : (t : List ℕ) (p : Parts) → Spells t p → reading t ≡ Ok p
-unfolding reading tail_reading
+unfolding reading
 again t p s =
     let cut = cut_again t s.scheme_text s.authority_text s.path_text p.query p.fragment (spelled_pieces t p s) s.whole in
-    let sc = cut.scheme in
-    let au = cut.authority in
-    let pa = cut.path in
-    let qu = cut.query in
-    let fr = cut.fragment in
-    let x : if_present authority.reading (authority_text t) ≡ Ok p.authority = ap (if_present authority.reading) au
+    let x : if_present authority.reading (authority_text t) ≡ Ok p.authority = ap (if_present authority.reading) cut.authority
     ∙ present_again authority.Spells authority.reading authorities.exact s.authority_text p.authority s.is_authority in
-    let y : path_reading (is_some (authority_text t)) (path_text t) ≡ Ok p.path = ap (λ u. path_reading (is_some u) (path_text t)) au
-    ∙ ap (path_reading (is_some s.authority_text)) pa
-    ∙ ap (λ r. r >>= λ _. Ok (path_of (is_some s.authority_text) s.path_text)) (reading-path s.path_text s.is_path) ∙ ap Ok (sym s.path) in
-    let z = refusal_is t (is_some s.scheme_text) (is_some s.authority_text) s.path_text (ap is_some sc) (ap is_some au) (sym pa) ∙ s.fit in
-    let v : if_present query.reading (query_text t) ≡ Ok p.query = ap (if_present query.reading) qu ∙ texts_again Query query.error_of p.query s.is_query in
-    let w : if_present fragment.reading (fragment_text t) ≡ Ok p.fragment = ap (if_present fragment.reading) fr
+    let y : path_reading (is_some (scheme_text t)) (is_some (authority_text t)) (path_text t) ≡ Ok p.path =
+    path_reading_is t s.scheme_text s.authority_text s.path_text cut.scheme cut.authority cut.path
+    ∙ rw (reading-path s.path_text s.is_path, s.fit) (ap Ok (sym s.path)) in
+    let v : if_present query.reading (query_text t) ≡ Ok p.query = ap (if_present query.reading) cut.query
+    ∙ texts_again Query query.error_of p.query s.is_query in
+    let w : if_present fragment.reading (fragment_text t) ≡ Ok p.fragment = ap (if_present fragment.reading) cut.fragment
     ∙ texts_again Query fragment.error_of p.fragment s.is_fragment in
-    let n : option_map scheme.named (scheme_text t) ≡ p.scheme = ap (option_map scheme.named) sc ∙ (schemes_are s.scheme_text p.scheme s.is_scheme).1 in
-    rw (x, y, z, v, w, n) refl
+    let n : option_map scheme.named (scheme_text t) ≡ p.scheme = ap (option_map scheme.named) cut.scheme
+    ∙ (schemes_are s.scheme_text p.scheme s.is_scheme).1 in
+    rw (x, y, v, w, n) refl
 
 pub one_reading : (t : List ℕ) (p q : Parts) → Spells t p → Spells t q → p ≡ q
 one_reading t p q h k = let e = again t p h in let f = again t q k in cc
@@ -165,20 +159,26 @@ abempty_text t = by_slashes (has_two_slashes (after_scheme t))
     by_slashes true = abempty_cut (drop 2 (after_scheme t))
     by_slashes false = tt
 
-pub accepted : (o : Option URIReferenceError) (x : Unit {0}) → unless_fault o tt ≡ Ok x → o ≡ None
-accepted None x h = refl
-accepted (Some e) x h = cc
+pub accepted : {A : Type 0} (o : Option URIReferenceError) (y x : A) → unless_fault o y ≡ Ok x → (o ≡ None) × (x ≡ y)
+accepted None y x h = (refl, cc)
+accepted (Some e) y x h = cc
 
-pub spells_cuts : (t : List ℕ) (a : Option AuthorityParts) (h : PathParts) (x : Unit {0}) (q f : Option (List ℕ))
-    → if_present authority.reading (authority_text t) ≡ Ok a → path_reading (is_some (authority_text t)) (path_text t) ≡ Ok h
-    → unless_fault {A = Unit {0}} (path_refusal (is_some (scheme_text t)) (is_some (authority_text t)) (path_text t)) tt ≡ Ok x
+-- a path that was read is one, and may stand where it does
+placed_path : (v w : Bool) (h : List ℕ) (p : PathParts) → path_reading v w h ≡ Ok p → IsPath h × (path_refusal v w h ≡ None) × (p ≡ path_of w h)
+placed_path v w h p k =
+    let x = bind_ok (of_piece errors.Path (path_faults.reading h)) _ p k in
+    let place = accepted (path_refusal v w h) (path_of w h) p x.2 in
+    ((path_read h x.0 (piece_found errors.Path _ x.0 x.1)).0, place.0, place.1)
+
+spells_cuts : (t : List ℕ) (a : Option AuthorityParts) (h : PathParts) (q f : Option (List ℕ))
+    → if_present authority.reading (authority_text t) ≡ Ok a
+    → path_reading (is_some (scheme_text t)) (is_some (authority_text t)) (path_text t) ≡ Ok h
     → if_present query.reading (query_text t) ≡ Ok q → if_present fragment.reading (fragment_text t) ≡ Ok f
     → Spells t (record { scheme = option_map scheme.named (scheme_text t); authority = a; path = h; query = q; fragment = f })
-spells_cuts t a h x q f i j k l m =
-    let d = texts_found Query query.error_of (query_text t) q l in
-    let e = texts_found Query fragment.error_of (fragment_text t) f m in
-    let b = bind_ok (path_faults.reading (path_text t)) (λ _. Ok (path_of (is_some (authority_text t)) (path_text t))) h j in
-    let r = path_read (path_text t) b.0 b.1 in
+spells_cuts t a h q f i j k l =
+    let d = texts_found Query query.error_of (query_text t) q k in
+    let e = texts_found Query fragment.error_of (fragment_text t) f l in
+    let place = placed_path (is_some (scheme_text t)) (is_some (authority_text t)) (path_text t) h j in
     record {
       scheme_text = scheme_text t;
       authority_text = authority_text t;
@@ -186,40 +186,24 @@ spells_cuts t a h x q f i j k l m =
       whole = rw (d.0, e.0) (whole_is t);
       is_scheme = schemes_spell t;
       is_authority = present_found authority.Spells authority.reading authorities.exact (authority_text t) a i;
-      is_path = r.0;
+      is_path = place.0;
       abempty = abempty_text t;
-      fit = accepted (path_refusal (is_some (scheme_text t)) (is_some (authority_text t)) (path_text t)) x k;
+      fit = place.1;
       is_query = d.1;
       is_fragment = e.1;
-      path = cc (b.2);
+      path = place.2;
     }
 
-pub refused : (o : Option URIReferenceError) (e : URIReferenceError) → unless_fault {A = Unit {0}} o tt ≡ Err e → o ≡ Some e
-refused None e h = cc
-refused (Some x) e h = cc
-
--- the parts of what was read of an authority and of what follows it
-tail_parts : (s : Option Scheme) (a : Option AuthorityParts) (h : PathParts) (q f : Option (List ℕ)) (r : Tail) (p : Parts)
-    → ◌≡◌ {A = Result Tail URIReferenceError} (Ok (h, q, f)) (Ok r)
-    → ◌≡◌ {A = Result Parts URIReferenceError} (Ok (record { scheme = s; authority = a; path = r.0; query = r.1; fragment = r.2 })) (Ok p)
-    → record { scheme = s; authority = a; path = h; query = q; fragment = f } ≡ p
-tail_parts s a h q f r p e g =
-    let tail : (h, q, f) ≡ r = cc in
-    let whole : record { scheme = s; authority = a; path = r.0; query = r.1; fragment = r.2 } ≡ p = cc in
-    ap (λ (x : Tail). record { scheme = s; authority = a; path = x.0; query = x.1; fragment = x.2 }) tail ∙ whole
-
 pub found : (t : List ℕ) (p : Parts) → reading t ≡ Ok p → Spells t p
-unfolding reading tail_reading
+unfolding reading
 found t p k =
     let x = bind_ok (of_piece errors.Authority (if_present authority.reading (authority_text t))) _ p k in
-    let u = bind_ok (tail_reading (is_some (scheme_text t)) (is_some (authority_text t)) (after_authority t)) _ p x.2 in
-    let y = bind_ok (of_piece errors.Path (path_reading (is_some (authority_text t)) (path_text t))) _ u.0 u.1 in
-    let z = bind_ok (unless_fault {A = Unit {0}} (path_refusal (is_some (scheme_text t)) (is_some (authority_text t)) (path_text t)) tt) _ u.0 y.2 in
-    let v = bind_ok (of_piece errors.Query (if_present query.reading (query_text t))) _ u.0 z.2 in
-    let w = bind_ok (of_piece errors.Fragment (if_present fragment.reading (fragment_text t))) _ u.0 v.2 in
-    let e = tail_parts (option_map scheme.named (scheme_text t)) x.0 y.0 v.0 w.0 u.0 p w.2 u.2 in
-    subst (λ q. Spells t q) e (spells_cuts t x.0 y.0 z.0 v.0 w.0 (piece_found errors.Authority _ x.0 x.1) (piece_found errors.Path _ y.0 y.1) z.1
-    (piece_found errors.Query _ v.0 v.1) (piece_found errors.Fragment _ w.0 w.1))
+    let y = bind_ok (path_reading (is_some (scheme_text t)) (is_some (authority_text t)) (path_text t)) _ p x.2 in
+    let v = bind_ok (of_piece errors.Query (if_present query.reading (query_text t))) _ p y.2 in
+    let w = bind_ok (of_piece errors.Fragment (if_present fragment.reading (fragment_text t))) _ p v.2 in
+    let e : record { scheme = option_map scheme.named (scheme_text t); authority = x.0; path = y.0; query = v.0; fragment = w.0 } ≡ p = cc (w.2) in
+    subst (λ q. Spells t q) e (spells_cuts t x.0 y.0 v.0 w.0 (piece_found errors.Authority _ x.0 x.1) y.1 (piece_found errors.Query _ v.0 v.1)
+    (piece_found errors.Fragment _ w.0 w.1))
 
 pub none_exactly : (t : List ℕ) → ((fault t ≡ None) → ((p : Parts) × Spells t p)) × (((p : Parts) × Spells t p) → (fault t ≡ None))
 none_exactly t = (
@@ -236,49 +220,95 @@ pub authority_back : (a : Option AuthorityParts) → IfSome a authority.Valid �
 authority_back None h k = tt
 authority_back (Some a) h k = authorities.back a h k
 
--- ---- what the pieces' readings make
+-- ---- what the readers of the pieces make
 
-pub assembled : (t : List ℕ) (a : Option AuthorityParts) (h : PathParts) (q f : Option (List ℕ))
-    → of_piece errors.Authority (if_present authority.reading (authority_text t)) ≡ Ok a
-    → tail_reading (is_some (scheme_text t)) (is_some (authority_text t)) (after_authority t) ≡ Ok (h, q, f)
-    → reading t ≡ Ok (record { scheme = option_map scheme.named (scheme_text t); authority = a; path = h; query = q; fragment = f })
-unfolding reading
-assembled t a h q f i j = rw (i, j) refl
-
-pub scheme_present : (t : List ℕ) → is_some (scheme_text t) ≡ is_some (option_map scheme.named (scheme_text t))
+scheme_present : (t : List ℕ) → is_some (option_map scheme.named (scheme_text t)) ≡ is_some (scheme_text t)
 scheme_present t = by_option (scheme_text t)
   where
-    by_option : (o : Option (List ℕ)) → is_some o ≡ is_some (option_map scheme.named o)
+    by_option : (o : Option (List ℕ)) → is_some (option_map scheme.named o) ≡ is_some o
     by_option None = refl
     by_option (Some s) = refl
 
-pub text_present : (o : Option (Bor (List ℕ))) → is_some (option_copied o) ≡ is_some o
+text_present : (o : Option (Bor (List ℕ))) → is_some o ≡ is_some (option_copied o)
 text_present None = refl
 text_present (Some s) = refl
 
--- the reading of what follows the authority, by what the pieces before it are
-pub tail_is : (t : List ℕ) (s : Option Scheme) (v w : Bool) (u : List ℕ) → s ≡ option_map scheme.named (scheme_text t) → v ≡ is_some s
-    → is_some (authority_text t) ≡ w → u ≡ after_authority t
-    → tail_reading (is_some (scheme_text t)) (is_some (authority_text t)) (after_authority t) ≡ tail_reading v w u
-tail_is t s v w u e f g h =
-    let there : is_some (scheme_text t) ≡ v = scheme_present t ∙ ap is_some (sym e) ∙ sym f in
-    ap (λ x. tail_reading x (is_some (authority_text t)) (after_authority t)) there ∙ ap (λ x. tail_reading v x (after_authority t)) g
-    ∙ ap (tail_reading v w) (sym h)
+abbrev Tail : Type 0
+Tail = PathParts × Option (List ℕ) × Option (List ℕ)
 
--- ---- what an answer by the reading tells in the grammar's words
+abbrev pub with_tail : Option Scheme → Option AuthorityParts → Tail → Parts
+with_tail s a x = record { scheme = s; authority = a; path = x.0; query = x.1; fragment = x.2 }
 
-pub found_only : (t : List ℕ) (r : Result Parts URIReferenceError) → IsUnless (errors.Path OutOfMemory) r (reading t)
-    → (IfOk r (λ p. Spells t p)) × ((p : Parts) → Spells t p → IsUnless (errors.Path OutOfMemory) r (Ok p))
-    × (IfErr r (λ e. (fault t ≡ Some e) ⊎ (e ≡ errors.Path OutOfMemory)))
-found_only t (Ok p) (inl h) = (found t p (sym h), (λ q s. inl (h ∙ again t q s)), tt)
-found_only t (Ok p) (inr h) = absurd (cc)
-found_only t (Err e) (inl h) = (tt, (λ q s. inl (h ∙ again t q s)), inl (ap fault_in (sym h)))
-found_only t (Err e) (inr h) = (tt, (λ q s. inr h), inr (let same : e ≡ errors.Path OutOfMemory = cc in same))
+-- the authority of a text was read, and then the pieces of its tail: so its reader answers
+module _ (t : List ℕ) (s : Option Scheme) (o : Option (Bor (List ℕ))) (h : List ℕ) (q f : Option (List ℕ)) (a : Option AuthorityParts)
+    (scheme_is : s ≡ option_map scheme.named (scheme_text t)) (authority_is : option_copied o ≡ authority_text t) (path_is : h ≡ path_text t)
+    (query_is : q ≡ query_text t) (fragment_is : f ≡ fragment_text t)
+    (read : of_piece errors.Authority (if_present authority.reading (option_copied o)) ≡ Ok a) where
+  tail_made : Result Tail URIReferenceError
+  tail_made = tail_reading (is_some s) (is_some o) h q f
 
--- ---- where a piece is refused, and those before it are read
+  by_tail : reading t ≡ (tail_made >>= λ x. Ok (with_tail s a x))
+  unfolding reading tail_made
+  by_tail =
+      let has_scheme : is_some s ≡ is_some (scheme_text t) = ap is_some scheme_is ∙ scheme_present t in
+      let has_authority : is_some o ≡ is_some (authority_text t) = text_present o ∙ ap is_some authority_is in
+      rw (has_scheme, has_authority, scheme_is, path_is, query_is, fragment_is, sym authority_is, read) (by_results
+      (path_reading (is_some (scheme_text t)) (is_some (option_copied o)) (path_text t)) (of_piece errors.Query (if_present query.reading (query_text t)))
+      (of_piece errors.Fragment (if_present fragment.reading (fragment_text t))))
+    where
+      s' : Option Scheme
+      s' = option_map scheme.named (scheme_text t)
 
-pub refused_tail : (t : List ℕ) (a : Option AuthorityParts) (e : URIReferenceError)
-    → of_piece errors.Authority (if_present authority.reading (authority_text t)) ≡ Ok a
-    → tail_reading (is_some (scheme_text t)) (is_some (authority_text t)) (after_authority t) ≡ Err e → reading t ≡ Err e
+      by_results : (h : Result PathParts URIReferenceError) (q f : Result (Option (List ℕ)) URIReferenceError)
+          → (h >>= λ x. q >>= λ y. f >>= λ z. Ok (with_tail s' a (x, y, z)))
+          ≡ ((h >>= λ x. q >>= λ y. f >>= λ z. Ok (x, y, z)) >>= λ x. Ok (with_tail s' a x))
+      by_results (Ok x) (Ok y) (Ok z) = refl
+      by_results (Ok x) (Ok y) (Err e) = refl
+      by_results (Ok x) (Err e) f = refl
+      by_results (Err e) q f = refl
+
+  pub tail_answer : (r : Result Tail URIReferenceError) → IsUnless (errors.Path OutOfMemory) r (tail_reading (is_some s) (is_some o) h q f)
+      → (IsErr (path_faults.reading h) → r ≡ tail_reading (is_some s) (is_some o) h q f) → IsAnswer t (r >>= λ x. Ok (with_tail s a x))
+  unfolding tail_made
+  tail_answer r (inl e) k = inl (rw e (sym by_tail))
+  tail_answer r (inr e) k = by_path (path_faults.reading h) refl k
+    where
+      by_path : (p : Result PathParts PathError) → path_faults.reading h ≡ p
+          → (IsErr p → r ≡ tail_reading (is_some s) (is_some o) h q f) → IsAnswer t (r >>= λ x. Ok (with_tail s a x))
+      by_path (Ok x) g k = inr (rw (sym authority_is, read, sym path_is, g) refl, rw e refl)
+      by_path (Err x) g k = inl (rw (k refl) (sym by_tail))
+
+pub read_whole : (t : List ℕ) (p : Parts) → IsAnswer t (Ok p) → reading t ≡ Ok p
+read_whole t p (inl h) = sym h
+read_whole t p (inr h) = let no = h.1 in absurd (cc)
+
+-- ---- what a reader's answer tells in the grammar's words
+
+-- a fault of the authority or the path is the first
+early_first : (t : List ℕ) (e : URIReferenceError) → early_fault t ≡ Some e → reading t ≡ Err e
 unfolding reading
-refused_tail t a e i j = rw (i, j) refl
+early_first t e h =
+    by_pieces (of_piece errors.Authority (if_present authority.reading (authority_text t))) (of_piece errors.Path (path_faults.reading (path_text t))) refl refl h
+  where
+    by_pieces : (a : Result (Option AuthorityParts) URIReferenceError) (h : Result PathParts URIReferenceError)
+        → of_piece errors.Authority (if_present authority.reading (authority_text t)) ≡ a → of_piece errors.Path (path_faults.reading (path_text t)) ≡ h
+        → fault_in (a >>= λ _. h) ≡ Some e → reading t ≡ Err e
+    by_pieces (Err x) h i j k = rw i (let same : x ≡ e = cc in ap Err same)
+    by_pieces (Ok x) (Err y) i j k = rw (i, j) (let same : y ≡ e = cc in ap Err same)
+    by_pieces (Ok x) (Ok y) i j k = cc
+
+pub answered : (t : List ℕ) (r : Result Parts URIReferenceError) → IsAnswer t r
+    → (IfOk r (λ p. Spells t p)) × ((p : Parts) → Spells t p → IsUnless (errors.Path OutOfMemory) r (Ok p))
+    × (IfErr r (λ e. (fault t ≡ Some e) ⊎ (e ≡ errors.Path OutOfMemory))) × ((e : URIReferenceError) → early_fault t ≡ Some e → r ≡ Err e)
+answered t r (inl h) = (by_answer r h, (λ p s. inl (h ∙ again t p s)), by_fault r h, (λ e k. h ∙ early_first t e k))
+  where
+    by_answer : (r : Result Parts URIReferenceError) → r ≡ reading t → IfOk r (λ p. Spells t p)
+    by_answer (Ok p) h = found t p (sym h)
+    by_answer (Err e) h = tt
+
+    by_fault : (r : Result Parts URIReferenceError) → r ≡ reading t → IfErr r (λ e. (fault t ≡ Some e) ⊎ (e ≡ errors.Path OutOfMemory))
+    by_fault (Ok p) h = tt
+    by_fault (Err e) h = inl (ap fault_in (sym h))
+answered t r (inr h) =
+    let want = h.1 in
+    (rw want tt, (λ p s. inr want), rw want (inr refl), (λ e k. let no : None ≡ Some e = sym h.0 ∙ k in absurd (cc)))

@@ -230,15 +230,15 @@ authority_keys (Some a) (Some b) = (
 
 to_key : (p q : Parts) → IsTrue (each_alike p q) → key p ≡ key q
 to_key p q e =
-    let x = and_parts _ _ e in
-    let y = and_parts _ _ x.1 in
-    let z = and_parts _ _ y.1 in
-    let w = and_parts _ _ z.1 in
-    let s = (same_option scheme.canonical_text p.scheme q.scheme).0 x.0 in
-    let a = (authority_keys p.authority q.authority).0 ((same_option authority.key p.authority q.authority).0 y.0) in
-    let h = (bytes_eq-Decides (canonical (path.text p.path)) (canonical (path.text q.path))).0 z.0 in
-    let r = (same_option canonical p.query q.query).0 w.0 in
-    let f = (same_option canonical p.fragment q.fragment).0 w.1 in
+    let both = and_parts _ _ e in
+    let ends = and_parts _ _ both.0 in
+    let texts = and_parts _ _ ends.1 in
+    let middle = and_parts _ _ both.1 in
+    let s = (same_option scheme.canonical_text p.scheme q.scheme).0 ends.0 in
+    let f = (same_option canonical p.fragment q.fragment).0 texts.0 in
+    let r = (same_option canonical p.query q.query).0 texts.1 in
+    let a = (authority_keys p.authority q.authority).0 ((same_option authority.key p.authority q.authority).0 middle.0) in
+    let h = (bytes_eq-Decides (canonical (path.text p.path)) (canonical (path.text q.path))).0 middle.1 in
     rw (a.1, s, a.0, h, r, f) refl
 
 from_key : (p q : Parts) → Valid p → Valid q → key p ≡ key q → IsTrue (each_alike p q)
@@ -249,11 +249,12 @@ from_key p q v w e =
     let y = canonical_cut q w in
     let a : option_map authority.canonical_text p.authority ≡ option_map authority.canonical_text q.authority = sym x.authority ∙ ap authority_text texts
     ∙ y.authority in
-    and_from _ _ ((same_option scheme.canonical_text p.scheme q.scheme).1 (sym x.scheme ∙ ap scheme_text texts ∙ y.scheme))
-    (and_from _ _ ((same_option authority.key p.authority q.authority).1 ((authority_keys p.authority q.authority).1 (a, codes)))
-    (and_from _ _ ((bytes_eq-Decides (canonical (path.text p.path)) (canonical (path.text q.path))).1 (sym x.path ∙ ap path_text texts ∙ y.path))
-    (and_from _ _ ((same_option canonical p.query q.query).1 (sym x.query ∙ ap query_text texts ∙ y.query))
-    ((same_option canonical p.fragment q.fragment).1 (sym x.fragment ∙ ap fragment_text texts ∙ y.fragment)))))
+    let ends = and_from _ _ ((same_option scheme.canonical_text p.scheme q.scheme).1 (sym x.scheme ∙ ap scheme_text texts ∙ y.scheme))
+    (and_from _ _ ((same_option canonical p.fragment q.fragment).1 (sym x.fragment ∙ ap fragment_text texts ∙ y.fragment))
+    ((same_option canonical p.query q.query).1 (sym x.query ∙ ap query_text texts ∙ y.query))) in
+    let middle = and_from _ _ ((same_option authority.key p.authority q.authority).1 ((authority_keys p.authority q.authority).1 (a, codes)))
+    ((bytes_eq-Decides (canonical (path.text p.path)) (canonical (path.text q.path))).1 (sym x.path ∙ ap path_text texts ∙ y.path)) in
+    and_from _ _ ends middle
 
 pub tested : (p q : Parts) → Valid p → Valid q → each_alike p q ≡ bytes_eq (key p) (key q)
 tested p q v w = same_from_decides (each_alike p q) (bytes_eq (key p) (key q)) (to_key p q, from_key p q v w) (bytes_eq-Decides (key p) (key q))

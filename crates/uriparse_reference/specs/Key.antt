@@ -42,11 +42,19 @@ abbrev pub fed_key : List ℕ → HashWrites
 fed_key [] = []
 fed_key (code ∷ t) = fed_pieces code (scheme_text t) (authority_text t) (path_text t) (query_text t) (fragment_text t)
 
+-- whether scheme, fragment and query are each spelled like the other's
+abbrev pub ends_alike : Parts → Parts → Bool
+ends_alike p q =
+    option_eq (on scheme.canonical_text bytes_eq) p.scheme q.scheme
+    && (option_eq (on canonical bytes_eq) p.fragment q.fragment
+    && option_eq (on canonical bytes_eq) p.query q.query)
+
+-- whether authority and path are each spelled like the other's, and the hosts are of one kind
+abbrev pub middle_alike : Parts → Parts → Bool
+middle_alike p q =
+    option_eq (on authority.key bytes_eq) p.authority q.authority
+    && bytes_eq (canonical (path.text p.path)) (canonical (path.text q.path))
+
 -- whether each part is spelled like the other's, and the hosts are of one kind
 abbrev pub each_alike : Parts → Parts → Bool
-each_alike p q =
-    option_eq (on scheme.canonical_text bytes_eq) p.scheme q.scheme
-    && (option_eq (on authority.key bytes_eq) p.authority q.authority
-    && (bytes_eq (canonical (path.text p.path)) (canonical (path.text q.path))
-    && (option_eq (on canonical bytes_eq) p.query q.query
-    && option_eq (on canonical bytes_eq) p.fragment q.fragment)))
+each_alike p q = ends_alike p q && middle_alike p q

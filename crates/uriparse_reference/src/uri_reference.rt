@@ -1,18 +1,15 @@
 //! A URI reference: RFC 3986, section 4.1.
-ghost use Rattle.std.specs.Prelude.{◌≡◌, ◌⊎◌, ◌&&◌, ℕ, List, IfOk, IfErr, Ok, Err, Some, bytes_eq, fold, is_some, option_copied, string_bytes};
+ghost use Rattle.std.specs.Prelude.{◌≡◌, ◌⊎◌, ◌&&◌, IfOk, IfErr, Ok, Err, Some, bytes_eq, fold, is_some, option_copied, string_bytes};
 ghost use Rattle.std.proofs.Common.{rules};
-ghost use Rattle.std.specs.Option.{option_eq};
 ghost use Rattle.std.specs.Ordering.{on};
 ghost use Rattle.std.specs.Cmp.Rules.{comparing, hashing};
 ghost use Rattle.uriparse_text.specs.Canonical.{canonical};
 ghost use Rattle.uriparse_text.specs.Readings.{IsUnless};
-ghost use Rattle.uriparse_scheme.specs.Scheme as schemes;
-ghost use Rattle.uriparse_authority.specs.Authority as authorities;
 ghost use Rattle.uriparse_path.specs.Path.{text};
 ghost use Rattle.uriparse_path.specs.declared.path.error.PathError.TheVariants.{OutOfMemory};
 ghost use Rattle.uriparse_reference.specs.declared.uri_reference.error.URIReferenceError.TheVariants as errors;
-ghost use Rattle.uriparse_reference.specs.Key.{each_alike, fed, fed_key, key};
-ghost use Rattle.uriparse_reference.specs.Reading.{reading, fault, early_fault};
+ghost use Rattle.uriparse_reference.specs.Key.{each_alike, ends_alike, fed, fed_key, key, middle_alike};
+ghost use Rattle.uriparse_reference.specs.Reading.{fault, early_fault};
 ghost use Rattle.uriparse_reference.specs.Reference.{host_of, password_of, port_of, print, username_of};
 
 use std::alloc::{AllocError, Global};
@@ -42,7 +39,6 @@ pub use builder::URIReferenceBuilder;
 pub use edit::Edit;
 pub use error::URIReferenceError;
 use print::{write_authority, write_behind, write_scheme};
-use read::{read_authority_if, read_tail, split_authority, split_scheme};
 
 /// A URI reference, seen as its five parts: a URI or a relative reference. RFC 3986, section 4.1.
 ///
@@ -242,14 +238,14 @@ impl<'r> URIReference<'r> {
     /// Whether scheme, fragment and query are each spelled like the other's.
     fn has_ends_alike(&self, other: &URIReference<'r>) -> bool
         ensures valid { Valid self.now × Valid other.now }
-        ensures test { result ≡ (option_eq (on schemes.canonical_text bytes_eq) self.now.scheme other.now.scheme && (option_eq (on canonical bytes_eq) self.now.fragment other.now.fragment && option_eq (on canonical bytes_eq) self.now.query other.now.query)) }
+        ensures test { result ≡ ends_alike self.now other.now }
     {
         self.scheme == other.scheme && self.fragment == other.fragment && self.query == other.query
     }
 
     /// Whether authority and path are each spelled like the other's.
     fn has_middle_alike(&self, other: &URIReference<'r>) -> bool
-        ensures { result ≡ (option_eq (on authorities.key bytes_eq) self.now.authority other.now.authority && bytes_eq (canonical (text self.now.path)) (canonical (text other.now.path))) }
+        ensures { result ≡ middle_alike self.now other.now }
     {
         self.authority == other.authority && self.path == other.path
     }
@@ -259,31 +255,7 @@ impl<'r> URIReference<'r> {
         ensures test { result ≡ each_alike self.now other.now }
         ensures valid { Valid self.now × Valid other.now }
     {
-        let ends = self.has_ends_alike(other);
-        if !ends {
-            return false;
-        }
-        self.has_middle_alike(other)
-    }
-
-    /// Reads by the cuts of the text.
-    #[tactic(auto, unfolding(crate::specs::Reading::reading))]
-    fn read(alloc: Global, bytes: &'r [u8]) -> Result<URIReference<'r>, URIReferenceError>
-        ensures answer { IsUnless (errors.Path OutOfMemory) result (reading bytes.now) }
-        ensures early { (e : URIReferenceError) → early_fault bytes.now ≡ Some e → result ≡ Err e }
-    {
-        let (scheme, rest) = split_scheme(bytes);
-        let (authority, rest) = split_authority(rest);
-        let has_authority = authority.is_some();
-        let authority = read_authority_if(authority)?;
-        let (path, query, fragment) = read_tail(alloc, scheme.is_some(), has_authority, rest)?;
-        Ok(URIReference {
-            scheme,
-            authority,
-            path,
-            query,
-            fragment,
-        })
+        self.has_ends_alike(other) && self.has_middle_alike(other)
     }
 }
 

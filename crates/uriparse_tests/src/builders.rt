@@ -56,14 +56,19 @@ fn give<'t>(
     builder.try_fragment(texts.fragment)
 }
 
+fn give_scheme<'t>(builder: &mut URIBuilder<'t>, scheme: Option<&'t [u8]>) -> Result<(), URIError> {
+    match scheme {
+        Some(scheme) => builder.try_scheme(scheme),
+        None => Ok(()),
+    }
+}
+
 fn give_uri<'t>(
     alloc: Global,
     builder: &mut URIBuilder<'t>,
     texts: Texts<'t>,
 ) -> Result<(), URIError> {
-    if let Some(scheme) = texts.scheme {
-        builder.try_scheme(scheme)?;
-    }
+    give_scheme(builder, texts.scheme)?;
     builder.try_authority(texts.authority)?;
     if let Some(path) = texts.path {
         builder.try_path(alloc, path)?;
@@ -206,20 +211,47 @@ fn relative_by_chain(
         .build()
 }
 
-/// Whether the builders that hold these references' parts are equal.
-fn compare(alloc: Global, left: URIReference<'_>, right: URIReference<'_>) -> Answer {
-    let same = left.into_builder() == right.into_builder();
-    verdict(alloc, &[same])
+/// The reference built again.
+fn again<'t>(
+    command: &str,
+    reference: URIReference<'t>,
+) -> Result<URIReference<'t>, URIReferenceError> {
+    match command {
+        "calls" => by_calls(reference),
+        _ => by_chain(reference),
+    }
 }
 
-/// The same, where the second one was read.
+fn uri_again<'t>(command: &str, uri: URI<'t>) -> Result<URI<'t>, URIError> {
+    match command {
+        "uri-calls" => uri_by_calls(uri),
+        _ => uri_by_chain(uri),
+    }
+}
+
+fn relative_again<'t>(
+    command: &str,
+    relative: RelativeReference<'t>,
+) -> Result<RelativeReference<'t>, RelativeReferenceError> {
+    match command {
+        "relative-calls" => relative_by_calls(relative),
+        _ => relative_by_chain(relative),
+    }
+}
+
+/// Whether two builders are equal.
+fn compare<T: Drop + Eq>(alloc: Global, left: T, right: T) -> Answer {
+    verdict(alloc, &[left == right])
+}
+
+/// Whether the builders that hold these references' parts are equal, where the second one was read.
 fn compared(
     alloc: Global,
     left: URIReference<'_>,
     right: Result<URIReference<'_>, URIReferenceError>,
 ) -> Answer {
     match right {
-        Ok(right) => compare(alloc, left, right),
+        Ok(right) => compare(alloc, left.into_builder(), right.into_builder()),
         Err(why) => refused(alloc, why),
     }
 }
@@ -228,9 +260,8 @@ fn compared(
 fn of_reference(alloc: Global, command: &str, text: &str, other: &str) -> Answer {
     match URIReference::try_from_str(alloc, text) {
         Ok(reference) => match command {
-            "calls" => made(alloc, by_calls(reference)),
-            "chain" => made(alloc, by_chain(reference)),
-            _ => compared(alloc, reference, URIReference::try_from_str(alloc, other)),
+            "builders" => compared(alloc, reference, URIReference::try_from_str(alloc, other)),
+            _ => made(alloc, again(command, reference)),
         },
         Err(why) => refused(alloc, why),
     }
@@ -239,10 +270,7 @@ fn of_reference(alloc: Global, command: &str, text: &str, other: &str) -> Answer
 /// What is built of a URI's parts.
 fn of_uri(alloc: Global, command: &str, text: &str) -> Answer {
     match URI::try_from_str(alloc, text) {
-        Ok(uri) => match command {
-            "uri-calls" => made(alloc, uri_by_calls(uri)),
-            _ => made(alloc, uri_by_chain(uri)),
-        },
+        Ok(uri) => made(alloc, uri_again(command, uri)),
         Err(why) => refused(alloc, why),
     }
 }
@@ -250,19 +278,18 @@ fn of_uri(alloc: Global, command: &str, text: &str) -> Answer {
 /// What is built of a relative reference's parts.
 fn of_relative(alloc: Global, command: &str, text: &str) -> Answer {
     match RelativeReference::try_from_str(alloc, text) {
-        Ok(relative) => match command {
-            "relative-calls" => made(alloc, relative_by_calls(relative)),
-            _ => made(alloc, relative_by_chain(relative)),
-        },
+        Ok(relative) => made(alloc, relative_again(command, relative)),
         Err(why) => refused(alloc, why),
     }
 }
 
-/// What is built of a URI's texts.
-fn of_texts<'t>(alloc: Global, command: &str, texts: Texts<'t>) -> Result<URI<'t>, URIError> {
+/// What is built of texts.
+fn of_texts(alloc: Global, command: &str, texts: Texts<'_>) -> Answer {
     match command {
-        "build-uri" => build_uri(alloc, texts),
-        _ => after_refusals(alloc, texts),
+        "build" => made(alloc, build(alloc, texts)),
+        "build-uri" => made(alloc, build_uri(alloc, texts)),
+        "build-relative" => made(alloc, build_relative(alloc, texts)),
+        _ => made(alloc, after_refusals(alloc, texts)),
     }
 }
 
@@ -271,9 +298,9 @@ pub fn answer(alloc: Global, asked: &str) -> Answer {
     let (command, rest) = word(asked);
     let (text, others) = word(rest);
     match command {
-        "build" => made(alloc, build(alloc, split_texts(rest))),
-        "build-uri" | "after-refusals" => made(alloc, of_texts(alloc, command, split_texts(rest))),
-        "build-relative" => made(alloc, build_relative(alloc, split_texts(rest))),
+        "build" | "build-uri" | "build-relative" | "after-refusals" => {
+            of_texts(alloc, command, split_texts(rest))
+        }
         "calls" | "chain" | "builders" => of_reference(alloc, command, text, word(others).0),
         "uri-calls" | "uri-chain" => of_uri(alloc, command, text),
         "relative-calls" | "relative-chain" => of_relative(alloc, command, text),

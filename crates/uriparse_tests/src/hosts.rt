@@ -1,12 +1,12 @@
-//! Hosts and addresses.
+//! Hosts, addresses, and the parts of authorities behind their names.
 
-use rows::answer::{Answer, printed, said, shown, words};
+use rows::answer::{Answer, add, printed, said, shown, words};
 use rows::same::same_as;
-use std::alloc::Global;
-use uriparse::{Host, IpAddr, Ipv4Addr, Ipv6Addr};
+use std::alloc::{AllocError, Global};
+use uriparse::{Authority, Host, IpAddr, Ipv4Addr, Ipv6Addr, Password, Username};
 
 /// The host's kind, where its three tests agree.
-pub fn kind_of(host: &Host<'_>) -> &'static str {
+fn kind_of(host: &Host<'_>) -> &'static str {
     let address = (host.is_ipv4_address(), host.is_ipv6_address());
     match (host, address, host.is_registered_name()) {
         (Host::IPv4Address(_), (true, false), false) => "ipv4",
@@ -108,7 +108,65 @@ fn host_of_address(alloc: Global, text: &str) -> Answer {
     }
 }
 
-/// The answer to a question about hosts.
+/// A user name, a password, a host and a port.
+pub type AuthorityParts<'r, 't> = (
+    Option<&'r Username<'t>>,
+    Option<&'r Password<'t>>,
+    Option<&'r Host<'t>>,
+    Option<u16>,
+);
+
+/// Adds the parts that there are.
+pub fn add_authority(text: &mut String, parts: AuthorityParts<'_, '_>) -> Result<(), AllocError> {
+    let (username, password, host, port) = parts;
+    add(text, "username", username)?;
+    add(text, "password", password)?;
+    if let Some(host) = host {
+        add(text, kind_of(host), Some(host))?;
+    }
+    add(text, "port", port.as_ref())
+}
+
+/// Whether the tests for parts agree with the parts.
+fn has_its_parts(authority: &Authority<'_>) -> bool {
+    authority.has_username() == authority.username().is_some()
+        && authority.has_password() == authority.password().is_some()
+        && authority.has_port() == authority.port().is_some()
+}
+
+/// The parts of an authority.
+fn parts_of<'r, 't>(authority: &'r Authority<'t>) -> AuthorityParts<'r, 't> {
+    (
+        authority.username(),
+        authority.password(),
+        Some(authority.host()),
+        authority.port(),
+    )
+}
+
+/// The parts behind their names.
+pub fn listed_authority(alloc: Global, authority: &Authority<'_>) -> Answer {
+    let mut text = String::new(alloc);
+    add_authority(&mut text, parts_of(authority))?;
+    said(alloc, text.as_str().trim_start())
+}
+
+/// The same, where the tests for parts agree with the parts.
+fn told_authority(alloc: Global, authority: &Authority<'_>) -> Answer {
+    if has_its_parts(authority) {
+        return listed_authority(alloc, authority);
+    }
+    said(alloc, "several parts")
+}
+
+fn authority_parts(alloc: Global, text: &str) -> Answer {
+    match Authority::try_from_str(text) {
+        Ok(authority) => told_authority(alloc, &authority),
+        Err(why) => printed(alloc, why),
+    }
+}
+
+/// The answer to a question about hosts or the parts of an authority.
 pub fn answer(alloc: Global, asked: &str) -> Answer {
     let (command, text, other) = words(asked);
     match command {
@@ -116,6 +174,7 @@ pub fn answer(alloc: Global, asked: &str) -> Answer {
         "ipv4" => ipv4(alloc, text),
         "ipv6" => ipv6(alloc, text),
         "host-of-address" => host_of_address(alloc, text),
+        "parts-of-authority" => authority_parts(alloc, text),
         _ => host(alloc, command, text, other),
     }
 }
@@ -250,4 +309,12 @@ normal-host '' -> normal
 normal-host %2F -> normal
 normal-host 1.2.3.4 -> normal
 normal-host [::A] -> normal
-normal-host a%4 -> invalid host IPv4 or registered name character";
+normal-host a%4 -> invalid host IPv4 or registered name character
+parts-of-authority h -> name=h
+parts-of-authority @h: -> username= name=h
+parts-of-authority :@h -> username= password= name=h
+parts-of-authority h:0 -> name=h port=0
+parts-of-authority u@h:1 -> username=u name=h port=1
+parts-of-authority u:p@h:1 -> username=u password=p name=h port=1
+parts-of-authority %41@[::FFFF:102:304]:8 -> username=%41 ipv6=[::ffff:1.2.3.4] port=8
+parts-of-authority User:@EXAMPLE.com:0080 -> username=User password= name=EXAMPLE.com port=80";

@@ -1,8 +1,8 @@
 //! The rows of each layer, with ample memory and where it is refused.
 
 use crate::{
-    authorities, builders, hosts, kinds, limits, normal_forms, reference_edits, references,
-    relatives, resolutions, uris,
+    builders, hosts, kinds, limits, normal_forms, reference_edits, references, relatives,
+    resolutions, uris,
 };
 use rows::answer::Answer;
 use rows::{Layer, wrong_row, wrong_row_of_all, wrong_starved_row_of_all};
@@ -12,7 +12,6 @@ use std::test::Fail;
 #[derive(Clone, Copy)]
 enum Part {
     Hosts,
-    Authorities,
     References,
     ReferenceEdits,
     NormalForms,
@@ -28,7 +27,6 @@ impl Layer for Part {
     fn rows(&self) -> &'static str {
         match self {
             Part::Hosts => hosts::ROWS,
-            Part::Authorities => authorities::ROWS,
             Part::References => references::ROWS,
             Part::ReferenceEdits => reference_edits::ROWS,
             Part::NormalForms => normal_forms::ROWS,
@@ -44,7 +42,6 @@ impl Layer for Part {
     fn answer(&self, alloc: Global, asked: &str) -> Answer {
         match self {
             Part::Hosts => hosts::answer(alloc, asked),
-            Part::Authorities => authorities::answer(alloc, asked),
             Part::References => references::answer(alloc, asked),
             Part::ReferenceEdits => reference_edits::answer(alloc, asked),
             Part::NormalForms => normal_forms::answer(alloc, asked),
@@ -59,9 +56,8 @@ impl Layer for Part {
 }
 
 // Long texts want more memory than the runs in which it is refused have.
-static STARVED: [Part; 10] = [
+static STARVED: [Part; 9] = [
     Part::Hosts,
-    Part::Authorities,
     Part::References,
     Part::ReferenceEdits,
     Part::NormalForms,

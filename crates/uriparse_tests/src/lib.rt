@@ -1,9 +1,7 @@
-//! Tests of hosts, authorities and references of each type: vectors from RFC 3986 and worked by hand,
-//! texts of refusals, each public function once, and requests for memory that are refused.
+//! Tests of hosts and of references of each type: vectors from RFC 3986 and worked by hand, each public
+//! function once, and requests for memory that are refused.
 #![tactic(auto)]
 
-#[cfg(test)]
-mod authorities;
 #[cfg(test)]
 mod builders;
 #[cfg(test)]
@@ -22,8 +20,6 @@ mod reference;
 mod reference_edits;
 #[cfg(test)]
 mod references;
-#[cfg(test)]
-mod refusals;
 #[cfg(test)]
 mod relatives;
 #[cfg(test)]

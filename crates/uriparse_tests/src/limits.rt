@@ -1,6 +1,6 @@
 //! Long texts. A reference is resolved behind the base that the first two of their words make.
 
-use crate::{authorities, references, resolutions};
+use crate::{references, resolutions};
 use rows::answer::{Answer, repeated, split_long};
 use std::alloc::Global;
 
@@ -13,14 +13,10 @@ pub fn answer(alloc: Global, asked: &str) -> Answer {
         return resolutions::resolved(alloc, command, base.as_str(), back);
     }
     let asked = format!(in alloc; "{command} '{front}{middle}{back}'")?;
-    match command {
-        "authority" => authorities::answer(alloc, asked.as_str()),
-        _ => references::answer(alloc, asked.as_str()),
-    }
+    references::answer(alloc, asked.as_str())
 }
 
 pub const ROWS: &str = "\
-authority h: 100000 0 80 -> h:80
 reference //h: 100000 0 80 -> //h:80/
 reference //h: 100000 9 '' -> port overflow
 reference //h 65536 / '' -> exceeded maximum path length

@@ -1,12 +1,20 @@
 //! What the references of all three types have in common, by their names in [`Reference`].
 
-use crate::authorities::{add_authority, listed_authority};
+use crate::hosts::{AuthorityParts, add_authority, listed_authority};
 use rows::answer::{Answer, add, printed, refused, said, shows};
 use rows::same::same_as;
 use std::alloc::{AllocError, Global};
 use std::fmt::Display;
 use std::hash::Hash;
-use uriparse::{Authority, Fragment, Host, Password, Path, Query, Scheme, URIReference, Username};
+use uriparse::{Authority, Fragment, Path, Query, Scheme, URIReference};
+
+/// A scheme, a path, a query and a fragment.
+pub type Parts<'r, 't> = (
+    Option<&'r Scheme<'t>>,
+    &'r Path<'t>,
+    Option<&'r Query<'t>>,
+    Option<&'r Fragment<'t>>,
+);
 
 /// The calls that references of each type have.
 pub trait Reference<'t>: Display + Drop + Eq + Hash + Sized {
@@ -24,31 +32,17 @@ pub trait Reference<'t>: Display + Drop + Eq + Hash + Sized {
     /// `to_string`.
     fn text(&self, alloc: Global) -> Answer;
 
-    /// `to_borrowed`, `into_owned` and `to_string`.
+    /// What the copy prints that `to_borrowed` and `into_owned` make.
     fn copied(&self, alloc: Global) -> Answer;
 
     /// `scheme`, `path`, `query` and `fragment`.
-    fn parts(
-        &self,
-    ) -> (
-        Option<&Scheme<'t>>,
-        &Path<'t>,
-        Option<&Query<'t>>,
-        Option<&Fragment<'t>>,
-    );
+    fn parts(&self) -> Parts<'_, 't>;
 
     /// `authority`.
     fn whole_authority(&self) -> Option<&Authority<'t>>;
 
     /// `username`, `password`, `host` and `port`.
-    fn parts_of_authority(
-        &self,
-    ) -> (
-        Option<&Username<'t>>,
-        Option<&Password<'t>>,
-        Option<&Host<'t>>,
-        Option<u16>,
-    );
+    fn parts_of_authority(&self) -> AuthorityParts<'_, 't>;
 
     /// `has_authority`, `has_username`, `has_password`, `has_port`, `has_query` and `has_fragment`.
     fn tests(&self) -> [bool; 6];
@@ -107,6 +101,11 @@ pub fn told<'t, T: Reference<'t>>(alloc: Global, value: &T) -> Answer {
     said(alloc, "several texts")
 }
 
+/// What was made.
+pub fn given<'t, T: Reference<'t>>(alloc: Global, value: T) -> Answer {
+    told(alloc, &value)
+}
+
 /// What was read or made, or its refusal.
 pub fn made<'t, T: Reference<'t>, E: Display + Drop>(alloc: Global, made: Result<T, E>) -> Answer {
     match made {
@@ -118,9 +117,8 @@ pub fn made<'t, T: Reference<'t>, E: Display + Drop>(alloc: Global, made: Result
 /// Adds the scheme and the parts of the authority.
 fn add_front<'t, T: Reference<'t>>(text: &mut String, value: &T) -> Result<(), AllocError> {
     let (scheme, _, _, _) = value.parts();
-    let (username, password, host, port) = value.parts_of_authority();
     add(text, "scheme", scheme)?;
-    add_authority(text, username, password, host, port)
+    add_authority(text, value.parts_of_authority())
 }
 
 /// Adds the path and what is behind it.

@@ -51,30 +51,37 @@ fn apply_all<'t>(alloc: Global, reference: &mut URIReference<'t>, new: &'t str) 
     }
 }
 
-/// What is answered after an edit that only a reference has.
-fn set_in_place<'t>(
+/// What is answered after an edit in place that only a reference has.
+fn edited_in_place<'t>(
     alloc: Global,
     command: &str,
-    mut reference: URIReference<'t>,
+    reference: &mut URIReference<'t>,
     text: &str,
     new: &'t str,
 ) -> Answer {
-    let answer = set(command, &mut reference, new);
-    settled(alloc, answer, &reference, text)
+    match command {
+        "apply-all" => apply_all(alloc, reference, new),
+        _ => {
+            let answer = set(command, reference, new);
+            settled(alloc, answer, reference, text)
+        }
+    }
 }
 
 fn edited<'t>(
     alloc: Global,
     command: &str,
-    mut reference: URIReference<'t>,
+    reference: URIReference<'t>,
     text: &str,
     new: &'t str,
 ) -> Answer {
+    let mut reference = reference;
     match command {
-        "set-scheme" | "drop-authority" => set_in_place(alloc, command, reference, text, new),
+        "set-scheme" | "drop-authority" | "apply-all" => {
+            edited_in_place(alloc, command, &mut reference, text, new)
+        }
         "put-together" => made(alloc, put_together(reference)),
         "path-alone" => made(alloc, path_alone(reference)),
-        "apply-all" => apply_all(alloc, &mut reference, new),
         _ => reference::answer(alloc, command, reference, text, new),
     }
 }

@@ -1,22 +1,20 @@
 //! References.
 
+use crate::hosts::AuthorityParts;
 use crate::reference;
-use crate::reference::Reference;
+use crate::reference::{Parts, Reference};
 use rows::answer::{Answer, printed, refused, said, words};
 use std::alloc::{AllocError, Global};
-use uriparse::{
-    Authority, Fragment, Host, Password, Path, Query, Scheme, URIReference, URIReferenceError,
-    Username,
-};
+use uriparse::{Authority, Fragment, Path, Query, URIReference, URIReferenceError};
 
 impl<'t> Reference<'t> for URIReference<'t> {
     type Error = URIReferenceError;
 
-    fn of_str(alloc: Global, text: &'t str) -> Result<URIReference<'t>, URIReferenceError> {
+    fn of_str(alloc: Global, text: &'t str) -> Result<Self, Self::Error> {
         URIReference::try_from_str(alloc, text)
     }
 
-    fn of_bytes(alloc: Global, text: &'t [u8]) -> Result<URIReference<'t>, URIReferenceError> {
+    fn of_bytes(alloc: Global, text: &'t [u8]) -> Result<Self, Self::Error> {
         URIReference::try_from_bytes(alloc, text)
     }
 
@@ -29,17 +27,10 @@ impl<'t> Reference<'t> for URIReference<'t> {
     }
 
     fn copied(&self, alloc: Global) -> Answer {
-        self.to_borrowed(alloc)?.into_owned(alloc)?.to_string(alloc)
+        printed(alloc, self.to_borrowed(alloc)?.into_owned(alloc)?)
     }
 
-    fn parts(
-        &self,
-    ) -> (
-        Option<&Scheme<'t>>,
-        &Path<'t>,
-        Option<&Query<'t>>,
-        Option<&Fragment<'t>>,
-    ) {
+    fn parts(&self) -> Parts<'_, 't> {
         (self.scheme(), self.path(), self.query(), self.fragment())
     }
 
@@ -47,14 +38,7 @@ impl<'t> Reference<'t> for URIReference<'t> {
         self.authority()
     }
 
-    fn parts_of_authority(
-        &self,
-    ) -> (
-        Option<&Username<'t>>,
-        Option<&Password<'t>>,
-        Option<&Host<'t>>,
-        Option<u16>,
-    ) {
+    fn parts_of_authority(&self) -> AuthorityParts<'_, 't> {
         (self.username(), self.password(), self.host(), self.port())
     }
 
@@ -77,45 +61,39 @@ impl<'t> Reference<'t> for URIReference<'t> {
         self.normalize(alloc)
     }
 
-    fn put_authority(&mut self, new: Option<Authority<'t>>) -> Result<(), URIReferenceError> {
+    fn put_authority(&mut self, new: Option<Authority<'t>>) -> Result<(), Self::Error> {
         self.set_authority(new)
     }
 
-    fn put_path(&mut self, new: Path<'t>) -> Result<(), URIReferenceError> {
+    fn put_path(&mut self, new: Path<'t>) -> Result<(), Self::Error> {
         self.set_path(new)
     }
 
-    fn put_query(&mut self, new: Option<Query<'t>>) -> Result<(), URIReferenceError> {
+    fn put_query(&mut self, new: Option<Query<'t>>) -> Result<(), Self::Error> {
         self.set_query(new)
     }
 
-    fn put_fragment(&mut self, new: Option<Fragment<'t>>) -> Result<(), URIReferenceError> {
+    fn put_fragment(&mut self, new: Option<Fragment<'t>>) -> Result<(), Self::Error> {
         self.set_fragment(new)
     }
 
-    fn swap_authority(
-        self,
-        new: Option<Authority<'t>>,
-    ) -> Result<URIReference<'t>, URIReferenceError> {
+    fn swap_authority(self, new: Option<Authority<'t>>) -> Result<Self, Self::Error> {
         self.map_authority(|old| old.and(new))
     }
 
-    fn keep_path(self) -> Result<URIReference<'t>, URIReferenceError> {
+    fn keep_path(self) -> Result<Self, Self::Error> {
         self.map_path(|old| old)
     }
 
-    fn swap_query(self, new: Option<Query<'t>>) -> Result<URIReference<'t>, URIReferenceError> {
+    fn swap_query(self, new: Option<Query<'t>>) -> Result<Self, Self::Error> {
         self.map_query(|old| old.and(new))
     }
 
-    fn swap_fragment(
-        self,
-        new: Option<Fragment<'t>>,
-    ) -> Result<URIReference<'t>, URIReferenceError> {
+    fn swap_fragment(self, new: Option<Fragment<'t>>) -> Result<Self, Self::Error> {
         self.map_fragment(|old| old.and(new))
     }
 
-    fn rebuilt(self) -> Result<URIReference<'t>, URIReferenceError> {
+    fn rebuilt(self) -> Result<Self, Self::Error> {
         self.into_builder().build()
     }
 }

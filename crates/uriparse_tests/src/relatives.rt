@@ -1,28 +1,22 @@
 //! Relative references.
 
+use crate::hosts::AuthorityParts;
 use crate::reference;
-use crate::reference::{Reference, made, told};
-use rows::answer::{Answer, named, refused, words};
+use crate::reference::{Parts, Reference, given, made};
+use rows::answer::{Answer, named, printed, refused, words};
 use std::alloc::{AllocError, Global};
 use uriparse::{
-    Authority, Fragment, Host, Password, Path, Query, RelativeReference, RelativeReferenceError,
-    Scheme, URIReference, Username,
+    Authority, Fragment, Path, Query, RelativeReference, RelativeReferenceError, URIReference,
 };
 
 impl<'t> Reference<'t> for RelativeReference<'t> {
     type Error = RelativeReferenceError;
 
-    fn of_str(
-        alloc: Global,
-        text: &'t str,
-    ) -> Result<RelativeReference<'t>, RelativeReferenceError> {
+    fn of_str(alloc: Global, text: &'t str) -> Result<Self, Self::Error> {
         RelativeReference::try_from_str(alloc, text)
     }
 
-    fn of_bytes(
-        alloc: Global,
-        text: &'t [u8],
-    ) -> Result<RelativeReference<'t>, RelativeReferenceError> {
+    fn of_bytes(alloc: Global, text: &'t [u8]) -> Result<Self, Self::Error> {
         RelativeReference::try_from_bytes(alloc, text)
     }
 
@@ -35,17 +29,10 @@ impl<'t> Reference<'t> for RelativeReference<'t> {
     }
 
     fn copied(&self, alloc: Global) -> Answer {
-        self.to_borrowed(alloc)?.into_owned(alloc)?.to_string(alloc)
+        printed(alloc, self.to_borrowed(alloc)?.into_owned(alloc)?)
     }
 
-    fn parts(
-        &self,
-    ) -> (
-        Option<&Scheme<'t>>,
-        &Path<'t>,
-        Option<&Query<'t>>,
-        Option<&Fragment<'t>>,
-    ) {
+    fn parts(&self) -> Parts<'_, 't> {
         (None, self.path(), self.query(), self.fragment())
     }
 
@@ -53,14 +40,7 @@ impl<'t> Reference<'t> for RelativeReference<'t> {
         self.authority()
     }
 
-    fn parts_of_authority(
-        &self,
-    ) -> (
-        Option<&Username<'t>>,
-        Option<&Password<'t>>,
-        Option<&Host<'t>>,
-        Option<u16>,
-    ) {
+    fn parts_of_authority(&self) -> AuthorityParts<'_, 't> {
         (self.username(), self.password(), self.host(), self.port())
     }
 
@@ -83,48 +63,39 @@ impl<'t> Reference<'t> for RelativeReference<'t> {
         self.normalize(alloc)
     }
 
-    fn put_authority(&mut self, new: Option<Authority<'t>>) -> Result<(), RelativeReferenceError> {
+    fn put_authority(&mut self, new: Option<Authority<'t>>) -> Result<(), Self::Error> {
         self.set_authority(new)
     }
 
-    fn put_path(&mut self, new: Path<'t>) -> Result<(), RelativeReferenceError> {
+    fn put_path(&mut self, new: Path<'t>) -> Result<(), Self::Error> {
         self.set_path(new)
     }
 
-    fn put_query(&mut self, new: Option<Query<'t>>) -> Result<(), RelativeReferenceError> {
+    fn put_query(&mut self, new: Option<Query<'t>>) -> Result<(), Self::Error> {
         self.set_query(new)
     }
 
-    fn put_fragment(&mut self, new: Option<Fragment<'t>>) -> Result<(), RelativeReferenceError> {
+    fn put_fragment(&mut self, new: Option<Fragment<'t>>) -> Result<(), Self::Error> {
         self.set_fragment(new)
     }
 
-    fn swap_authority(
-        self,
-        new: Option<Authority<'t>>,
-    ) -> Result<RelativeReference<'t>, RelativeReferenceError> {
+    fn swap_authority(self, new: Option<Authority<'t>>) -> Result<Self, Self::Error> {
         self.map_authority(|old| old.and(new))
     }
 
-    fn keep_path(self) -> Result<RelativeReference<'t>, RelativeReferenceError> {
+    fn keep_path(self) -> Result<Self, Self::Error> {
         self.map_path(|old| old)
     }
 
-    fn swap_query(
-        self,
-        new: Option<Query<'t>>,
-    ) -> Result<RelativeReference<'t>, RelativeReferenceError> {
+    fn swap_query(self, new: Option<Query<'t>>) -> Result<Self, Self::Error> {
         self.map_query(|old| old.and(new))
     }
 
-    fn swap_fragment(
-        self,
-        new: Option<Fragment<'t>>,
-    ) -> Result<RelativeReference<'t>, RelativeReferenceError> {
+    fn swap_fragment(self, new: Option<Fragment<'t>>) -> Result<Self, Self::Error> {
         self.map_fragment(|old| old.and(new))
     }
 
-    fn rebuilt(self) -> Result<RelativeReference<'t>, RelativeReferenceError> {
+    fn rebuilt(self) -> Result<Self, Self::Error> {
         self.into_builder().build()
     }
 }
@@ -133,8 +104,8 @@ impl<'t> Reference<'t> for RelativeReference<'t> {
 fn put_together(
     relative: RelativeReference<'_>,
 ) -> Result<RelativeReference<'_>, RelativeReferenceError> {
-    let (_, path, query, fragment) = relative.into_parts();
-    RelativeReference::from_parts(None, path, query, fragment)
+    let (authority, path, query, fragment) = relative.into_parts();
+    RelativeReference::from_parts(authority.and(None), path, query, fragment)
 }
 
 /// The parts that a relative reference has and the kinds that it is of, as its tests tell them.
@@ -155,9 +126,19 @@ fn kinds(alloc: Global, relative: &RelativeReference<'_>) -> Answer {
     )
 }
 
-fn as_reference(alloc: Global, relative: RelativeReference<'_>) -> Answer {
-    let reference = URIReference::from(relative);
-    told(alloc, &reference)
+/// What is made of this relative reference.
+fn made_of<'t>(
+    alloc: Global,
+    command: &str,
+    relative: RelativeReference<'t>,
+    text: &str,
+    new: &'t str,
+) -> Answer {
+    match command {
+        "put-together" => made(alloc, put_together(relative)),
+        "as-reference" => given(alloc, URIReference::from(relative)),
+        _ => reference::answer(alloc, command, relative, text, new),
+    }
 }
 
 /// The answer to a question about this relative reference.
@@ -169,10 +150,8 @@ fn of_relative<'t>(
     new: &'t str,
 ) -> Answer {
     match command {
-        "put-together" => made(alloc, put_together(relative)),
         "kinds" => kinds(alloc, &relative),
-        "as-reference" => as_reference(alloc, relative),
-        _ => reference::answer(alloc, command, relative, text, new),
+        _ => made_of(alloc, command, relative, text, new),
     }
 }
 

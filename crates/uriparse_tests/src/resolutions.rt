@@ -9,9 +9,14 @@ use uriparse::{URI, URIError, URIReference};
 const RFC_BASE: &str = "http://a/b/c/d;p?q";
 
 /// How many segments the target's path has.
+fn count(alloc: Global, target: &URI<'_>) -> Answer {
+    printed(alloc, target.path().segments().len())
+}
+
+/// The same, or the refusal.
 fn counted(alloc: Global, target: Result<URI<'_>, URIError>) -> Answer {
     match target {
-        Ok(target) => printed(alloc, target.path().segments().len()),
+        Ok(target) => count(alloc, &target),
         Err(why) => refused(alloc, why),
     }
 }

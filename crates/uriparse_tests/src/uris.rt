@@ -1,21 +1,20 @@
 //! URIs.
 
+use crate::hosts::AuthorityParts;
 use crate::reference;
-use crate::reference::{Reference, made, settled, told};
+use crate::reference::{Parts, Reference, given, made, settled};
 use rows::answer::{Answer, printed, refused, words};
 use std::alloc::{AllocError, Global};
-use uriparse::{
-    Authority, Fragment, Host, Password, Path, Query, Scheme, URI, URIError, URIReference, Username,
-};
+use uriparse::{Authority, Fragment, Path, Query, Scheme, URI, URIError, URIReference};
 
 impl<'t> Reference<'t> for URI<'t> {
     type Error = URIError;
 
-    fn of_str(alloc: Global, text: &'t str) -> Result<URI<'t>, URIError> {
+    fn of_str(alloc: Global, text: &'t str) -> Result<Self, Self::Error> {
         URI::try_from_str(alloc, text)
     }
 
-    fn of_bytes(alloc: Global, text: &'t [u8]) -> Result<URI<'t>, URIError> {
+    fn of_bytes(alloc: Global, text: &'t [u8]) -> Result<Self, Self::Error> {
         URI::try_from_bytes(alloc, text)
     }
 
@@ -28,17 +27,10 @@ impl<'t> Reference<'t> for URI<'t> {
     }
 
     fn copied(&self, alloc: Global) -> Answer {
-        self.to_borrowed(alloc)?.into_owned(alloc)?.to_string(alloc)
+        printed(alloc, self.to_borrowed(alloc)?.into_owned(alloc)?)
     }
 
-    fn parts(
-        &self,
-    ) -> (
-        Option<&Scheme<'t>>,
-        &Path<'t>,
-        Option<&Query<'t>>,
-        Option<&Fragment<'t>>,
-    ) {
+    fn parts(&self) -> Parts<'_, 't> {
         (
             Some(self.scheme()),
             self.path(),
@@ -51,14 +43,7 @@ impl<'t> Reference<'t> for URI<'t> {
         self.authority()
     }
 
-    fn parts_of_authority(
-        &self,
-    ) -> (
-        Option<&Username<'t>>,
-        Option<&Password<'t>>,
-        Option<&Host<'t>>,
-        Option<u16>,
-    ) {
+    fn parts_of_authority(&self) -> AuthorityParts<'_, 't> {
         (self.username(), self.password(), self.host(), self.port())
     }
 
@@ -81,79 +66,77 @@ impl<'t> Reference<'t> for URI<'t> {
         self.normalize(alloc)
     }
 
-    fn put_authority(&mut self, new: Option<Authority<'t>>) -> Result<(), URIError> {
+    fn put_authority(&mut self, new: Option<Authority<'t>>) -> Result<(), Self::Error> {
         self.set_authority(new)
     }
 
-    fn put_path(&mut self, new: Path<'t>) -> Result<(), URIError> {
+    fn put_path(&mut self, new: Path<'t>) -> Result<(), Self::Error> {
         self.set_path(new)
     }
 
-    fn put_query(&mut self, new: Option<Query<'t>>) -> Result<(), URIError> {
+    fn put_query(&mut self, new: Option<Query<'t>>) -> Result<(), Self::Error> {
         self.set_query(new)
     }
 
-    fn put_fragment(&mut self, new: Option<Fragment<'t>>) -> Result<(), URIError> {
+    fn put_fragment(&mut self, new: Option<Fragment<'t>>) -> Result<(), Self::Error> {
         self.set_fragment(new)
     }
 
-    fn swap_authority(self, new: Option<Authority<'t>>) -> Result<URI<'t>, URIError> {
+    fn swap_authority(self, new: Option<Authority<'t>>) -> Result<Self, Self::Error> {
         self.map_authority(|old| old.and(new))
     }
 
-    fn keep_path(self) -> Result<URI<'t>, URIError> {
+    fn keep_path(self) -> Result<Self, Self::Error> {
         self.map_path(|old| old)
     }
 
-    fn swap_query(self, new: Option<Query<'t>>) -> Result<URI<'t>, URIError> {
+    fn swap_query(self, new: Option<Query<'t>>) -> Result<Self, Self::Error> {
         self.map_query(|old| old.and(new))
     }
 
-    fn swap_fragment(self, new: Option<Fragment<'t>>) -> Result<URI<'t>, URIError> {
+    fn swap_fragment(self, new: Option<Fragment<'t>>) -> Result<Self, Self::Error> {
         self.map_fragment(|old| old.and(new))
     }
 
-    fn rebuilt(self) -> Result<URI<'t>, URIError> {
+    fn rebuilt(self) -> Result<Self, Self::Error> {
         self.into_builder().build()
     }
 }
 
 /// The URI taken apart, and put together without its authority.
 fn put_together(uri: URI<'_>) -> Result<URI<'_>, URIError> {
-    let (scheme, _, path, query, fragment) = uri.into_parts();
-    URI::from_parts(scheme, None, path, query, fragment)
+    let (scheme, authority, path, query, fragment) = uri.into_parts();
+    URI::from_parts(scheme, authority.and(None), path, query, fragment)
 }
 
 /// Another scheme set.
-fn set_scheme<'t>(alloc: Global, mut uri: URI<'t>, text: &str, new: &'t str) -> Answer {
+fn set_scheme<'t>(alloc: Global, uri: &mut URI<'t>, text: &str, new: &'t str) -> Answer {
     match Scheme::try_from_str(new) {
         Ok(scheme) => {
             let answer = uri.set_scheme(scheme);
-            settled(alloc, answer, &uri, text)
+            settled(alloc, answer, uri, text)
         }
         Err(why) => refused(alloc, why),
     }
 }
 
-fn base(alloc: Global, uri: URI<'_>) -> Answer {
-    let base = uri.into_base_uri();
-    told(alloc, &base)
-}
-
-fn as_reference(alloc: Global, uri: URI<'_>) -> Answer {
-    let reference = URIReference::from(uri);
-    told(alloc, &reference)
+/// What is made of this URI.
+fn made_of<'t>(alloc: Global, command: &str, uri: URI<'t>, text: &str, new: &'t str) -> Answer {
+    match command {
+        "put-together" => made(alloc, put_together(uri)),
+        "base" => given(alloc, uri.into_base_uri()),
+        "as-reference" => given(alloc, URIReference::from(uri)),
+        _ => reference::answer(alloc, command, uri, text, new),
+    }
 }
 
 /// The answer to a question about this URI.
 fn of_uri<'t>(alloc: Global, command: &str, uri: URI<'t>, text: &str, new: &'t str) -> Answer {
+    let mut uri = uri;
     match command {
-        "put-together" => made(alloc, put_together(uri)),
-        "set-scheme" => set_scheme(alloc, uri, text, new),
-        "base" => base(alloc, uri),
-        "as-reference" => as_reference(alloc, uri),
+        "set-scheme" => set_scheme(alloc, &mut uri, text, new),
         "is-base" => printed(alloc, uri.can_be_a_base()),
-        _ => reference::answer(alloc, command, uri, text, new),
+        _ => made_of(alloc, command, uri, text, new),
     }
 }
 

@@ -81,13 +81,6 @@ SpellsIpv4-not_ipv6 text a b h k =
 pub SpellsIpv6-ipv6_text : (a : List ℕ) → IsSegments a → SpellsIpv6 (ipv6_text a) a
 SpellsIpv6-ipv6_text a h = spells_from_colon_hex (ipv6_text a) a (IsColonHex-ipv6_text a h.eight h.fit)
 
--- what is printed is read back
-pub ipv4_reading-ipv4_text : (a : List ℕ) → IsOctets a → ipv4_reading (ipv4_text a) ≡ Some a
-ipv4_reading-ipv4_text a h = ipv4_reading-spelled (ipv4_text a) a (SpellsIpv4-ipv4_text a h)
-
-pub ipv6_reading-ipv6_text : (a : List ℕ) → IsSegments a → ipv6_reading (ipv6_text a) ≡ Some a
-ipv6_reading-ipv6_text a h = ipv6_reading-spelled (ipv6_text a) a (SpellsIpv6-ipv6_text a h)
-
 -- addresses that are printed alike are equal
 pub ipv4_text-injective : (a b : List ℕ) → IsOctets a → IsOctets b → ipv4_text a ≡ ipv4_text b → a ≡ b
 ipv4_text-injective a b h k e =

@@ -1,12 +1,11 @@
 -- The canonical spelling, token by token.
-use Rattle.std.proofs.Common.{◌≡◌, Bool, ◌↔◌, ℕ, true, false, not, ◌&&◌, List, [], ◌∷◌, ◌++◌, map, fold, refl, sym, ap, ◌∙◌, arith, append_assoc}
-use Rattle.std.specs.Prelude.{◌==◌, IsTrue, bytes_eq}
+use Rattle.std.proofs.Common.{◌≡◌, ◌↔◌, ℕ, true, false, not, ◌&&◌, List, [], ◌∷◌, ◌++◌, map, fold, refl, sym, ap, ◌∙◌, arith, append_assoc}
+use Rattle.std.specs.Prelude.{◌==◌}
 use Rattle.std.specs.List.{flat_map, list_all}
 use Rattle.std.specs.Char.{digit_value, to_ascii_uppercase}
 use Rattle.std.specs.Hash as fed
 use Rattle.std.proofs.lemmas.Bool.{false≢true, cond-false, cond_both, and_from, and_parts}
-use Rattle.std.proofs.lemmas.Bool.Decides.{nat_tests, same_from_decides}
-use Rattle.std.proofs.lemmas.Slice.Eq.{bytes_eq-Decides}
+use Rattle.std.proofs.lemmas.Bool.Decides.{nat_tests}
 use Rattle.std.proofs.lemmas.List.{map-append, append_cancel_left}
 use Rattle.std.proofs.lemmas.Grind.{fold-append, flat_map-append}
 use Rattle.uriparse_text.specs.declared.parts.token.Token.{Token}
@@ -94,9 +93,6 @@ unfolding canonical_in
 tokens-canonical_in case text h =
     tokens_of_concatenation (canonical_tokens case text) (well_formed-canonical_token case text ∙ h)
 
-pub well_formed-canonical_in : (case : Case) (text : List ℕ) → is_well_formed text ≡ true → is_well_formed (canonical_in case text) ≡ true
-well_formed-canonical_in case text h = ap (list_all is_token) (tokens-canonical_in case text h) ∙ well_formed-canonical_token case text ∙ h
-
 twice : (case : Case) (ts : List Token) → list_all is_token ts ≡ true →
     map (canonical_token case) (map (canonical_token case) ts) ≡ map (canonical_token case) ts
 twice case [] h = refl
@@ -145,23 +141,6 @@ same_tokens case bytes text h = (
   },
   λ s. sym (tokens-canonical_in case bytes s.formed) ∙ ap tokens s.same ∙ tokens-canonical_in case text h,
 )
-
--- equal well-formed texts are spelled alike
-pub spells_itself : (case : Case) (bytes text : List ℕ) → is_well_formed text ≡ true → bytes ≡ text → SpellsAlike case bytes text
-spells_itself case bytes text h e = record { formed = ap is_well_formed e ∙ h; same = ap (canonical_in case) e }
-
--- a test of the canonical tokens is one of the canonical spellings
-pub same_from_tokens : (case : Case) (left right : List ℕ) (r : Bool) → is_well_formed left ≡ true → is_well_formed right ≡ true
-    → (IsTrue r ↔ (canonical_tokens case left ≡ canonical_tokens case right)) → r ≡ bytes_eq (canonical_in case left) (canonical_in case right)
-same_from_tokens case left right r h k iff =
-    let alike = same_tokens case left right k in
-    same_from_decides r (bytes_eq (canonical_in case left) (canonical_in case right)) (
-      λ e. (alike.0 (iff.0 e)).same,
-      λ e. iff.1 (alike.1 (record {
-        formed = h;
-        same = e;
-      })),
-    ) (bytes_eq-Decides (canonical_in case left) (canonical_in case right))
 
 -- ---- which texts are canonical
 

@@ -1,15 +1,27 @@
 -- Marks of a text's bytes, from those of its lanes.
-use Rattle.std.proofs.Common.{◌≡◌, ℕ, ◌+◌, ◌-◌, ◌^◌, ◌<◌, ◌≤◌, Bool, true, false, cond, List, ◌++◌, map, length, get_or}
-use Rattle.std.proofs.Common.{refl, sym, ap, ◌∙◌, arith, inl, inr, length-append}
+use Rattle.std.proofs.Common.{◌≡◌, ℕ, ◌+◌, ◌-◌, ◌^◌, ◌<◌, ◌≤◌, Bool, true, false, cond, List, ◌++◌, map, length, get_or, drop}
+use Rattle.std.proofs.Common.{refl, sym, ap, ◌∙◌, arith, inl, inr, length-append, length-drop}
 use Rattle.std.specs.Int.{bit_at}
 use Rattle.std.specs.List.{position_or_len}
 use Rattle.std.specs.Simd.Lanes.{mask_l, chunk}
 use Rattle.std.proofs.lemmas.Bool.{cases_lt}
-use Rattle.std.proofs.lemmas.List.{get_or-map, get_or_past, length-map, get_or_append_left, get_or-append_right}
+use Rattle.std.proofs.lemmas.List.{get_or-map, get_or_past, length-map, get_or_append_left, get_or-append_right, get_or-drop}
 use Rattle.std.proofs.lemmas.List.Sums.{position_or_len_is}
+use Rattle.std.proofs.Math.Nat.{pow-le-pow_right}
 use Rattle.std.proofs.lemmas.Nat.Bits.{bit_at-zero}
 use Rattle.std.proofs.lemmas.Simd.{bit_mask_l, mask_l-lt, length-chunk, get_or-chunk}
 use Rattle.uriparse_text.specs.Marks.{AreMarks}
+
+-- a mask without its lowest bit has bits above that alone
+pub above_lowest : (left next k : ℕ) → ((j : ℕ) → j < k → bit_at left j ≡ 0) → ((j : ℕ) → bit_at next j ≡ 1 → bit_at left j ≡ 1) → bit_at next k ≡ 0
+    → (j : ℕ) → bit_at next j ≡ 1 → k < j
+above_lowest left next k below no_more cleared j e = elim (cases_lt k j) [
+  | inl past ↦ past
+  | inr upto ↦ elim (cases_lt j k) [
+    | inl before ↦ absurd (omega (arith, below j before, no_more j e))
+    | inr from ↦ let same : j ≡ k = omega arith in absurd (omega (arith, cleared, e, ap (bit_at next) same))
+  ]
+]
 
 module _ (p : ℕ → Bool) where
   lane_bit : (lanes : List ℕ) (k : ℕ) → k < length lanes → bit_at (mask_l (map p lanes)) k ≡ cond (p (get_or lanes k 0)) 1 0
@@ -88,6 +100,20 @@ module _ (p : ℕ → Bool) where
         let long : length ends ≡ 16 = ends_long 8 least in
         ends_are_marks 8 m marks least most (λ k h. ap (λ n. bit_at n k) e ∙ lane_bit ends k (omega (arith, long)))
         (λ k h. ap (λ n. bit_at n k) e ∙ lane_past ends k (omega (arith, long))) low high
+
+  module _ (text : List ℕ) (at : ℕ) where
+    pub marks_bound : length text ≤ at + 16 → mask_l (map p (drop at text)) < 65536
+    marks_bound h =
+        let few : length (map p (drop at text)) ≤ 16 = omega (arith, length-map (drop at text) p, length-drop at text) in
+        let raised : 2 ^ length (map p (drop at text)) ≤ 2 ^ 16 = pow-le-pow_right (omega arith) few in
+        omega (arith, mask_l-lt (map p (drop at text)))
+
+    pub marks_from : (m : ℕ) → at ≤ length text → m ≡ mask_l (map p (drop at text)) → AreMarks p text at (length text - at) m
+    marks_from m h e = (
+      λ k below. ap (λ n. bit_at n k) e ∙ lane_bit (drop at text) k (omega (arith, length-drop at text))
+          ∙ ap (λ b. cond (p b) 1 0) (get_or-drop at text k 0),
+      λ k past. ap (λ n. bit_at n k) e ∙ lane_past (drop at text) k (omega (arith, length-drop at text)),
+    )
 
   is_set : (v : Bool) → ◌≡◌ {A = ℕ} (cond v 1 0) 1 → v ≡ true
   is_set true h = refl

@@ -12,9 +12,6 @@ pub record NoneBefore (p : ℕ → Bool) (text : List ℕ) (at : ℕ) : Type 0 w
   pub within : at ≤ length text
   pub fail : (k : ℕ) → k < at → p (get_or text k 0) ≡ false
 
-pub none_yet : (p : ℕ → Bool) (text : List ℕ) → NoneBefore p text 0
-none_yet p text = record { within = omega arith; fail = λ k h. absurd (omega arith) }
-
 pub one_more : (p : ℕ → Bool) (text : List ℕ) (at : ℕ) → NoneBefore p text at → at < length text → p (get_or text at 0) ≡ false → NoneBefore p text (at + 1)
 one_more p text at is more fails = record {
   within = omega arith;

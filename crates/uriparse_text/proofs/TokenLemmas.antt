@@ -3,6 +3,7 @@ use Rattle.std.proofs.Common.{◌≡◌, ◌↔◌, ℕ, ◌≤◌, Bool, true, 
 use Rattle.std.proofs.Common.{append-nil, arith}
 use Rattle.std.specs.Prelude.{◌==◌}
 use Rattle.std.specs.List.{flat_map, list_all}
+use Rattle.std.proofs.Math.Bool.{and-false}
 use Rattle.std.proofs.lemmas.Bool.{cond-true, cond-false, and_parts, and_from}
 use Rattle.std.proofs.lemmas.Bool.Decides.{nat_tests}
 use Rattle.std.proofs.lemmas.List.Folds.{list_all-append}
@@ -49,7 +50,7 @@ escape_at b (high ∷ low ∷ rest) is =
       whole = ap (λ x. x ∷ high ∷ low ∷ rest) sign;
     }
 
-not_percent : (b : ℕ) (after : List ℕ) → not (b == percent) ≡ true → is_escape b after ≡ false
+pub not_percent : (b : ℕ) (after : List ℕ) → not (b == percent) ≡ true → is_escape b after ≡ false
 not_percent b after h = by_test (is_escape b after) refl
   where
     by_test : (v : Bool) → is_escape b after ≡ v → v ≡ false
@@ -60,6 +61,32 @@ not_percent b after h = by_test (is_escape b after) refl
 pub tokens-spell : (t : Token) (rest : List ℕ) → is_token t ≡ true → tokens (spell t ++ rest) ≡ t ∷ tokens rest
 tokens-spell (Byte b) rest h = tokens-byte b rest (not_percent b rest h)
 tokens-spell (Escape high low) rest h = tokens-escape percent (high ∷ low ∷ rest) h
+
+no_escape_with : (b mark : ℕ) (u : List ℕ) → is_hex mark ≡ false → is_escape b (mark ∷ u) ≡ false
+no_escape_with b mark [] h = refl
+no_escape_with b mark (c ∷ u) h = rw h (rw (and-false (b == percent)) refl)
+
+no_escape_across : (b c mark : ℕ) (u : List ℕ) → is_hex mark ≡ false → is_escape b (c ∷ mark ∷ u) ≡ false
+no_escape_across b c mark u h = rw h (and-false (b == percent && is_hex c))
+
+-- a byte that stands in no escape is a token by itself, whatever is before it
+pub tokens-mark : (mark : ℕ) → is_hex mark ≡ false → not (mark == percent) ≡ true → (t u : List ℕ)
+    → tokens (t ++ mark ∷ u) ≡ tokens t ++ Byte mark ∷ tokens u
+unfolding tokens
+tokens-mark mark digit sign [] u = tokens-byte mark u (not_percent mark u sign)
+tokens-mark mark digit sign (b ∷ []) u =
+    tokens-byte b (mark ∷ u) (no_escape_with b mark u digit) ∙ ap (λ ts. Byte b ∷ ts) (tokens-mark mark digit sign [] u)
+tokens-mark mark digit sign (b ∷ c ∷ []) u =
+    tokens-byte b (c ∷ mark ∷ u) (no_escape_across b c mark u digit) ∙ ap (λ ts. Byte b ∷ ts) (tokens-mark mark digit sign (c ∷ []) u)
+tokens-mark mark digit sign (b ∷ high ∷ low ∷ rest) u =
+    at_front (is_escape b (high ∷ low ∷ rest)) (tokens-mark mark digit sign rest u) (tokens-mark mark digit sign (high ∷ low ∷ rest) u)
+  where
+    at_front : (v : Bool) → tokens (rest ++ mark ∷ u) ≡ tokens rest ++ Byte mark ∷ tokens u
+        → tokens (high ∷ low ∷ rest ++ mark ∷ u) ≡ tokens (high ∷ low ∷ rest) ++ Byte mark ∷ tokens u
+        → cond v (Escape high low ∷ tokens (rest ++ mark ∷ u)) (Byte b ∷ tokens (high ∷ low ∷ rest ++ mark ∷ u))
+        ≡ cond v (Escape high low ∷ tokens rest) (Byte b ∷ tokens (high ∷ low ∷ rest)) ++ Byte mark ∷ tokens u
+    at_front true f g = ap (λ ts. Escape high low ∷ ts) f
+    at_front false f g = ap (λ ts. Byte b ∷ ts) g
 
 -- tokens put together are cut as they were put together
 pub tokens-flat_map : (ts : List Token) (rest : List ℕ) → list_all is_token ts ≡ true → tokens (flat_map spell ts ++ rest) ≡ ts ++ tokens rest

@@ -1,4 +1,5 @@
--- How texts are compared: by the codes of their canonical tokens, behind what the texts have in common.
+-- Words of the clauses of private functions alone: how `same_spelling` compares texts, by the codes of their canonical tokens, behind what
+-- the texts have in common. No public clause needs them.
 use Rattle.std.specs.Prelude.{◌≡◌, ℕ, ◌-◌, ◌/◌, ◌%◌, ◌<◌, false, ◌==◌, if◌then◌else◌, List, slice_index}
 use Rattle.std.specs.Int.{is_in_range}
 use Rattle.std.specs.Char.{digit_char, to_ascii_uppercase}

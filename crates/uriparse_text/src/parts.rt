@@ -15,9 +15,7 @@ mod token;
 
 pub use alike::same_spelling;
 pub use bits::{lowest, without_lowest};
-pub use canonical::{
-    Case, TextWalk, Walk, canonical_bytes, feed_spelling, feed_text, is_canonical, same_walks,
-};
+pub use canonical::{Case, canonical_bytes, feed_spelling, feed_text, is_canonical};
 pub use class::{Class, fault_of, is_unreserved};
 pub use copy::{canonical_copy, is_canonical_part, put_copy};
 pub use cut::{split_at_mark, without_mark};

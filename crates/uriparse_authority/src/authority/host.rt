@@ -22,8 +22,9 @@ use read::read_host;
 /// registered name.
 ///
 /// RFC 3986, section 3.2.2. Addresses are held by value. A name borrows the text that it was read
-/// from, or owns its text. Its readers take no memory; [`HostError`] says what they refuse. Two hosts are equal where they are of one kind and their canonical
-/// spellings agree, so the name `%31.2.3.4` isn't the address `1.2.3.4`.
+/// from, or owns its text. Its readers take no memory; [`HostError`] says what they refuse. Two hosts
+/// are equal where they are of one kind and their canonical spellings agree, so the name `%31.2.3.4`
+/// isn't the address `1.2.3.4`.
 ///
 /// ```
 /// let host = Host::try_from_str("[::FFFF:1.2.3.4]")?;

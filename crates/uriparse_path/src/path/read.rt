@@ -1,6 +1,6 @@
 //! How a text is cut into segments: one walk that finds the leftmost fault and counts, and one
 //! that cuts.
-ghost use Rattle.std.specs.Prelude.{◌≡◌, ◌<◌, ◌≤◌, IfOk, true, length};
+ghost use Rattle.std.specs.Prelude.{◌≡◌, ◌<◌, IfOk, true, length};
 ghost use Rattle.std.specs.List.{list_all, slice_split};
 ghost use Rattle.uriparse_text.specs.Readings.{unless_fault};
 ghost use Rattle.uriparse_path.specs.Segment as segment;
@@ -23,48 +23,10 @@ pub(super) fn split_root(text: &[u8]) -> (bool, &[u8])
     }
 }
 
-/// How many segments the text is cut into where so many may be, or its leftmost fault.
+/// How many segments the text is cut into where so many may be, or its leftmost fault. Each byte outside
+/// the class of a segment is a slash, begins an escape or is the fault.
 pub(super) fn count_segments(limit: usize, text: &[u8]) -> Result<usize, PathError>
     requires { 0 < limit }
-    ensures { let ps = slice_split is_slash text.now in result ≡ unless_fault (fault_within limit ps) (length ps) }
-{
-    if text.len() < 8 {
-        count_by_tokens(limit, text)
-    } else {
-        count_by_marks(limit, text)
-    }
-}
-
-/// The same for a short text, token by token.
-fn count_by_tokens(limit: usize, text: &[u8]) -> Result<usize, PathError>
-    requires { 0 < limit }
-    ensures { let ps = slice_split is_slash text.now in result ≡ unless_fault (fault_within limit ps) (length ps) }
-{
-    let mut count = 1;
-    let mut rest = text;
-    'tokens: while let Some((&b, after)) = rest.split_first() {
-        if Class::Segment.has(b) {
-            rest = after;
-        } else if b == b'/' {
-            if count == limit {
-                return Err(PathError::ExceededMaximumLength);
-            }
-            count += 1;
-            rest = after;
-        } else if is_escape(b, after) {
-            rest = &after[2..];
-        } else {
-            return Err(fault_at(b));
-        }
-    }
-    Ok(count)
-}
-
-/// The same for a longer one, by the marks of the bytes that are outside the class of a segment: each
-/// is a slash, begins an escape or is the fault.
-fn count_by_marks(limit: usize, text: &[u8]) -> Result<usize, PathError>
-    requires some { 0 < limit }
-    requires least { 8 ≤ length text.now }
     ensures { let ps = slice_split is_slash text.now in result ≡ unless_fault (fault_within limit ps) (length ps) }
 {
     let mut count = 1;
@@ -90,46 +52,13 @@ fn count_by_marks(limit: usize, text: &[u8]) -> Result<usize, PathError>
     Ok(count)
 }
 
-/// The segments that the text is cut into, of which there are so many.
+/// The segments that the text is cut into, of which there are so many. Each slash ends one.
 pub(super) fn split_segments<'p>(
     alloc: Global,
     count: usize,
     text: &'p [u8],
 ) -> Result<Vec<Segment<'p>>, AllocError>
     requires { list_all segment.is_segment (slice_split is_slash text.now) ≡ true }
-    ensures { IfOk result (λ v. v.items ≡ slice_split is_slash text.now) }
-{
-    if text.len() < 8 {
-        split_by_one(alloc, count, text)
-    } else {
-        split_by_marks(alloc, count, text)
-    }
-}
-
-/// The same for a short text, byte by byte.
-fn split_by_one<'p>(
-    alloc: Global,
-    count: usize,
-    text: &'p [u8],
-) -> Result<Vec<Segment<'p>>, AllocError>
-    requires { list_all segment.is_segment (slice_split is_slash text.now) ≡ true }
-    ensures { IfOk result (λ v. v.items ≡ slice_split is_slash text.now) }
-{
-    let mut segments = Vec::with_capacity(alloc, count)?;
-    for piece in text.split(|b| *b == b'/') {
-        segments.push(Segment::of_checked(piece))?;
-    }
-    Ok(segments)
-}
-
-/// The same for a longer one, by the marks of its slashes: each ends a segment.
-fn split_by_marks<'p>(
-    alloc: Global,
-    count: usize,
-    text: &'p [u8],
-) -> Result<Vec<Segment<'p>>, AllocError>
-    requires each { list_all segment.is_segment (slice_split is_slash text.now) ≡ true }
-    requires least { 8 ≤ length text.now }
     ensures { IfOk result (λ v. v.items ≡ slice_split is_slash text.now) }
 {
     let mut segments = Vec::with_capacity(alloc, count)?;

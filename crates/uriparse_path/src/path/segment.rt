@@ -7,7 +7,7 @@ ghost use Rattle.std.specs.Cmp.Rules.{comparing, hashing};
 ghost use Rattle.uriparse_text.specs.declared.parts.class.Class.TheVariants as class;
 ghost use Rattle.uriparse_text.specs.declared.parts.canonical.Case.TheVariants as case;
 ghost use Rattle.uriparse_text.specs.Bytes.{dot};
-ghost use Rattle.uriparse_text.specs.Canonical.{canonical, canonical_tokens, fed_text, SpellsAlike};
+ghost use Rattle.uriparse_text.specs.Canonical.{canonical, fed_text, SpellsAlike};
 ghost use Rattle.uriparse_path.specs.Segment as spec;
 ghost use Rattle.uriparse_path.specs.Dots as dots;
 ghost use Rattle.uriparse_path.specs.Relative as relative;
@@ -17,7 +17,7 @@ use std::alloc::{AllocError, Global};
 use std::fmt;
 use std::hash::{Hash, Hasher};
 use std::marker::Model;
-use uriparse_text::parts::{Case, Class, Kind, Text, TextWalk};
+use uriparse_text::parts::{Case, Class, Kind, Text};
 
 /// The refusal of a segment whose leftmost fault stands at this byte.
 pub(super) fn fault_at(byte: u8) -> PathError
@@ -244,13 +244,6 @@ impl<'s> Segment<'s> {
         ensures takes_no_memory { canonical self.old ≡ self.old → IsOk result }
     {
         self.text.normalize(alloc)
-    }
-
-    /// The cursor at the start of the text.
-    pub(super) fn walk(&self) -> TextWalk<'_>
-        ensures { result ≡ canonical_tokens case.Kept self.now }
-    {
-        self.text.walk()
     }
 
     /// Whether the bytes are tokens whose canonical spelling is this segment's. Bytes with a broken

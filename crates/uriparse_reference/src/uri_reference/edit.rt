@@ -164,6 +164,23 @@ impl<'r> URIReference<'r> {
         Ok(())
     }
 
+    /// Sets an authority, behind which the path is made absolute.
+    fn put_authority(&mut self, authority: Authority<'r>)
+        ensures { edited self.old (edits.Authority (Some authority.entry)) ≡ Ok self.new }
+    {
+        self.path.set_absolute(true);
+        self.authority = Some(authority);
+    }
+
+    /// Takes the authority away, unless the path's text begins with two slashes.
+    fn remove_authority(&mut self) -> Result<(), URIReferenceError>
+        ensures { Settles self.old self.new result (edited self.old (edits.Authority None)) }
+    {
+        check_place(self.scheme.is_some(), false, &self.path)?;
+        self.authority = None;
+        Ok(())
+    }
+
     /// Sets the authority, behind which the path is made absolute. Without one, a path whose text
     /// begins with two slashes is refused, and the reference is unchanged. Takes no memory.
     pub fn set_authority(
@@ -172,13 +189,13 @@ impl<'r> URIReference<'r> {
     ) -> Result<(), URIReferenceError>
         ensures { Settles self.old self.new result (edited self.old (edits.Authority authority.entry)) }
     {
-        if authority.is_some() {
-            self.path.set_absolute(true);
-        } else {
-            check_place(self.scheme.is_some(), false, &self.path)?;
+        match authority {
+            Some(authority) => {
+                self.put_authority(authority);
+                Ok(())
+            }
+            None => self.remove_authority(),
         }
-        self.authority = authority;
-        Ok(())
     }
 
     /// Sets the path: behind an authority made absolute, else the one that its text spells. What

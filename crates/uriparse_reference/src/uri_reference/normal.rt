@@ -1,11 +1,14 @@
 //! Normal forms of references: RFC 3986, section 6.2.2.
-ghost use Rattle.std.specs.Prelude.{◌≡◌, ◌↔◌, IsTrue, IsOk, IfOk, OnOk, OnErr, bytes_eq};
+ghost use Rattle.std.specs.Prelude.{◌≡◌, ◌↔◌, IsTrue, IsOk, IfOk, OnOk, OnErr, bytes_eq, false, is_none, is_some, true};
+ghost use Rattle.std.specs.List.{list_all};
 ghost use Rattle.std.specs.Option.{option_eq, option_map};
+ghost use Rattle.uriparse_path.specs.Path.{hides_root};
+ghost use Rattle.uriparse_path.specs.Normal.{is_canonical, pnormal};
 ghost use Rattle.uriparse_authority.specs.Authority as authorities;
 ghost use Rattle.uriparse_authority.specs.Normal.{canonical_authority};
 ghost use Rattle.uriparse_scheme.specs.Scheme as schemes;
 ghost use Rattle.uriparse_reference.specs.Reference.{Parts, Same, Valid, print};
-ghost use Rattle.uriparse_reference.specs.Normal.{AreCopiesIf, is_normal, normal};
+ghost use Rattle.uriparse_reference.specs.Normal.{AreCopiesIf, is_normal, normal, shielded};
 
 use super::URIReference;
 use std::alloc::{AllocError, Global};
@@ -13,6 +16,7 @@ use uriparse_authority::authority::Authority;
 use uriparse_authority::parts as authority;
 use uriparse_authority::parts::CanonicalCopies;
 use uriparse_path::parts::{is_normal_path, normalize_path};
+use uriparse_path::path::Path;
 use uriparse_scheme::parts as scheme;
 use uriparse_scheme::scheme::Scheme;
 use uriparse_text::parts::{canonical_copy, is_canonical_part, put_copy};
@@ -50,6 +54,21 @@ fn authority_copies(
         Some(authority) => Ok(Some(authority::canonical_copies(alloc, authority)?)),
         None => Ok(None),
     }
+}
+
+/// Brings the path into its normal form, to stand behind this scheme and this authority.
+fn normalize_behind(
+    path: &mut Path<'_>,
+    alloc: Global,
+    scheme: &Option<Scheme<'_>>,
+    authority: &Option<Authority<'_>>,
+) -> Result<(), AllocError>
+    requires { is_some authority.now ≡ false → hides_root path.old.segments ≡ false }
+    ensures ok { OnOk result (path.new ≡ shielded authority.now (pnormal path.old (is_none scheme.now))) }
+    ensures err { OnErr result (path.new ≡ path.old) }
+    ensures takes_no_memory { list_all is_canonical path.old.segments ≡ true → IsOk result }
+{
+    normalize_path(path, alloc, scheme.is_none(), authority.is_none())
 }
 
 /// Puts the copies in the places of the authority's parts, if there is one.
@@ -112,12 +131,7 @@ impl<'r> URIReference<'r> {
         let fragment = canonical_copy(alloc, &self.fragment)?;
         let scheme = scheme::canonical_copy(alloc, &self.scheme)?;
         let authority = authority_copies(alloc, &self.authority)?;
-        normalize_path(
-            &mut self.path,
-            alloc,
-            self.scheme.is_none(),
-            self.authority.is_none(),
-        )?;
+        normalize_behind(&mut self.path, alloc, &self.scheme, &self.authority)?;
         scheme::put_copy(&mut self.scheme, scheme);
         put_authority(&mut self.authority, authority);
         put_copy(&mut self.query, query);

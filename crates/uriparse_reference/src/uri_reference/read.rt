@@ -1,5 +1,5 @@
 //! How the text of a reference is cut and its pieces are read: RFC 3986, sections 3 and 4.
-ghost use Rattle.std.specs.Prelude.{◌≡◌, IsErr, position, ◌||◌, ◌&&◌, not, ℕ, Option, List, drop, is_some, true, false, MatchOption};
+ghost use Rattle.std.specs.Prelude.{◌≡◌, IsErr, position, ◌||◌, not, Option, drop, is_some, true, false, MatchOption};
 ghost use Rattle.std.specs.Option.{option_copied, option_map};
 ghost use Rattle.uriparse_text.specs.Bytes.{question_mark, number_sign};
 ghost use Rattle.uriparse_text.specs.Readings.{if_present, of_piece, unless_fault, IsUnless};
@@ -9,12 +9,13 @@ ghost use Rattle.uriparse_text.specs.Cuts.{up_to, from_first, before, after};
 ghost use Rattle.uriparse_path.specs.Faults as paths;
 ghost use Rattle.uriparse_path.specs.Path.{has_two_slashes};
 ghost use Rattle.uriparse_scheme.specs.Scheme.{named};
-ghost use Rattle.uriparse_reference.specs.Cuts.{ends_scheme, scheme_text, after_scheme, cut_authority, without_authority};
+ghost use Rattle.uriparse_reference.specs.Cuts.{after_scheme, authority_text, cut_authority, ends_scheme, fragment_text, path_text, query_text, scheme_text, without_authority};
 ghost use Rattle.uriparse_path.specs.declared.path.error.PathError.TheVariants.{OutOfMemory};
 ghost use Rattle.uriparse_reference.specs.declared.uri_reference.error.URIReferenceError.TheVariants as errors;
-ghost use Rattle.uriparse_reference.specs.Reading.{path_reading, tail_reading};
+ghost use Rattle.uriparse_reference.specs.Reading.{IsAnswer, path_reading, tail_reading};
 ghost use Rattle.uriparse_reference.specs.Reference.{is_noscheme, path_refusal};
 
+use super::URIReference;
 use super::error::URIReferenceError;
 use std::alloc::Global;
 use uriparse_authority::authority::Authority;
@@ -60,7 +61,7 @@ fn behind_colon(rest: &[u8]) -> Option<&[u8]>
 
 /// The scheme that the text begins with, and what stands behind its colon; or none, and the text. The
 /// two that most texts have are told by their bytes, with no search.
-pub(super) fn split_scheme(text: &[u8]) -> (Option<Scheme<'_>>, &[u8])
+fn split_scheme(text: &[u8]) -> (Option<Scheme<'_>>, &[u8])
     ensures scheme { result.0 ≡ option_map named (scheme_text text.now) }
     ensures rest { result.1.now ≡ after_scheme text.now }
 {
@@ -100,7 +101,7 @@ fn behind_two_slashes(text: &[u8]) -> Option<&[u8]>
 
 /// The authority that the text begins with behind two slashes, and what follows it; or none, and
 /// the text.
-pub(super) fn split_authority(text: &[u8]) -> (Option<&[u8]>, &[u8])
+fn split_authority(text: &[u8]) -> (Option<&[u8]>, &[u8])
     ensures authority { option_copied result.0 ≡ cut_authority text.now }
     ensures rest { result.1.now ≡ without_authority text.now }
 {
@@ -130,8 +131,38 @@ fn split_tail(text: &[u8]) -> (&[u8], Option<&[u8]>, Option<&[u8]>)
     }
 }
 
+/// The pieces that the text of a reference is cut into. The scheme is read.
+#[derive(Drop)]
+struct Pieces<'t> {
+    scheme: Option<Scheme<'t>>,
+    authority: Option<&'t [u8]>,
+    path: &'t [u8],
+    query: Option<&'t [u8]>,
+    fragment: Option<&'t [u8]>,
+}
+
 /// A path, a query and a fragment.
-type Tail<'r> = (Path<'r>, Option<Query<'r>>, Option<Fragment<'r>>);
+type Tail<'t> = (Path<'t>, Option<Query<'t>>, Option<Fragment<'t>>);
+
+/// Cuts the text of a reference.
+fn cut(text: &[u8]) -> Pieces<'_>
+    ensures scheme { result.scheme ≡ option_map named (scheme_text text.now) }
+    ensures authority { option_copied result.authority ≡ authority_text text.now }
+    ensures path { result.path.now ≡ path_text text.now }
+    ensures query { option_copied result.query ≡ query_text text.now }
+    ensures fragment { option_copied result.fragment ≡ fragment_text text.now }
+{
+    let (scheme, rest) = split_scheme(text);
+    let (authority, rest) = split_authority(rest);
+    let (path, query, fragment) = split_tail(rest);
+    Pieces {
+        scheme,
+        authority,
+        path,
+        query,
+        fragment,
+    }
+}
 
 /// Whether no colon stands in the first segment.
 fn lacks_colon_segment(path: &[u8]) -> bool
@@ -154,9 +185,7 @@ fn check_path(has_scheme: bool, has_authority: bool, path: &[u8]) -> Result<(), 
 }
 
 /// Reads the authority, if there is one.
-pub(super) fn read_authority_if(
-    text: Option<&[u8]>,
-) -> Result<Option<Authority<'_>>, URIReferenceError>
+fn read_authority_if(text: Option<&[u8]>) -> Result<Option<Authority<'_>>, URIReferenceError>
     ensures { result ≡ of_piece errors.Authority (if_present authority.reading (option_copied text.entry)) }
 {
     match text {
@@ -165,12 +194,18 @@ pub(super) fn read_authority_if(
     }
 }
 
-/// Reads the path, which is absolute behind an authority.
-fn read_path(alloc: Global, has_authority: bool, text: &[u8]) -> Result<Path<'_>, URIReferenceError>
-    ensures answer { IsUnless (errors.Path OutOfMemory) result (of_piece errors.Path (path_reading has_authority text.now)) }
-    ensures fault { IsErr (paths.reading text.now) → result ≡ of_piece errors.Path (path_reading has_authority text.now) }
+/// Reads the path, which is absolute behind an authority, and refuses one that may not stand there.
+fn read_path(
+    alloc: Global,
+    has_scheme: bool,
+    has_authority: bool,
+    text: &[u8],
+) -> Result<Path<'_>, URIReferenceError>
+    ensures answer { IsUnless (errors.Path OutOfMemory) result (path_reading has_scheme has_authority text.now) }
+    ensures fault { IsErr (paths.reading text.now) → result ≡ path_reading has_scheme has_authority text.now }
 {
     let path = Path::try_from_bytes(alloc, text)?;
+    check_path(has_scheme, has_authority, text)?;
     Ok(if has_authority {
         into_absolute(path)
     } else {
@@ -178,21 +213,37 @@ fn read_path(alloc: Global, has_authority: bool, text: &[u8]) -> Result<Path<'_>
     })
 }
 
-/// Reads what follows the authority: the path, the query and the fragment.
-#[tactic(auto, unfolding(crate::specs::Reading::tail_reading))]
-pub(super) fn read_tail(
-    alloc: Global,
-    has_scheme: bool,
-    has_authority: bool,
-    text: &[u8],
-) -> Result<Tail<'_>, URIReferenceError>
-    ensures answer { IsUnless (errors.Path OutOfMemory) result (tail_reading has_scheme has_authority text.now) }
-    ensures fault { IsErr (paths.reading (before question_mark (before number_sign text.now))) → result ≡ tail_reading has_scheme has_authority text.now }
+/// Reads the path, the query and the fragment.
+fn read_tail<'t>(alloc: Global, pieces: &Pieces<'t>) -> Result<Tail<'t>, URIReferenceError>
+    ensures answer { IsUnless (errors.Path OutOfMemory) result (tail_reading (is_some pieces.now.scheme) (is_some pieces.now.authority) pieces.now.path.now (option_copied pieces.now.query) (option_copied pieces.now.fragment)) }
+    ensures fault { IsErr (paths.reading pieces.now.path.now) → result ≡ tail_reading (is_some pieces.now.scheme) (is_some pieces.now.authority) pieces.now.path.now (option_copied pieces.now.query) (option_copied pieces.now.fragment) }
 {
-    let (path, query, fragment) = split_tail(text);
-    let read = read_path(alloc, has_authority, path)?;
-    check_path(has_scheme, has_authority, path)?;
-    let query = read_text_if::<QueryKind>(query)?;
-    let fragment = read_text_if::<FragmentKind>(fragment)?;
-    Ok((read, query, fragment))
+    let has_scheme = pieces.scheme.is_some();
+    let has_authority = pieces.authority.is_some();
+    let path = read_path(alloc, has_scheme, has_authority, pieces.path)?;
+    let query = read_text_if::<QueryKind>(pieces.query)?;
+    let fragment = read_text_if::<FragmentKind>(pieces.fragment)?;
+    Ok((path, query, fragment))
+}
+
+impl<'r> URIReference<'r> {
+    /// Reads by the cuts of the text.
+    #[tactic(auto, unfolding(crate::specs::Reading::reading))]
+    pub(super) fn read(
+        alloc: Global,
+        bytes: &'r [u8],
+    ) -> Result<URIReference<'r>, URIReferenceError>
+        ensures { IsAnswer bytes.now result }
+    {
+        let pieces = cut(bytes);
+        let authority = read_authority_if(pieces.authority)?;
+        let (path, query, fragment) = read_tail(alloc, &pieces)?;
+        Ok(URIReference {
+            scheme: pieces.scheme,
+            authority,
+            path,
+            query,
+            fragment,
+        })
+    }
 }

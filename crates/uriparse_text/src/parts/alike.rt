@@ -1,10 +1,9 @@
 //! Whether two texts have one canonical spelling: RFC 3986, sections 6.2.2.1 and 6.2.2.2. What they have
 //! in common byte by byte is passed over by sixteen bytes, and tokens are read only where they differ.
 ghost use Rattle.std.specs.Prelude.{◌≡◌, ◌↔◌, ◌+◌, ◌<◌, ◌≤◌, ◌∷◌, ◌==◌, [], ℕ, IsTrue, IfSome, MatchOption, Some, None, true, false, if◌then◌else◌, length, slice_index};
-ghost use Rattle.std.specs.Char.{digit_value};
 ghost use Rattle.std.specs.Int.{bit_at};
-ghost use Rattle.uriparse_text.specs.Bytes.{is_hex, percent};
-ghost use Rattle.uriparse_text.specs.Tokens.{is_escape, is_well_formed};
+ghost use Rattle.uriparse_text.specs.Bytes.{percent};
+ghost use Rattle.uriparse_text.specs.Tokens as tokens;
 ghost use Rattle.uriparse_text.specs.Canonical as spec;
 ghost use Rattle.uriparse_text.specs.Alike.{AreCommon, token_of};
 
@@ -12,12 +11,13 @@ use super::bits::lowest;
 use super::canonical::Case;
 use super::class::is_unreserved;
 use super::digit::hex_value;
+use super::token::is_escape;
 use std::simd::prelude::*;
 
 /// Whether the bytes are tokens whose canonical spelling is that of the text.
 #[inline]
 pub fn same_spelling(case: Case, bytes: &[u8], text: &[u8]) -> bool
-    requires { is_well_formed text.now ≡ true }
+    requires { tokens.is_well_formed text.now ≡ true }
     ensures { IsTrue result ↔ spec.SpellsAlike case bytes.now text.now }
 {
     bytes == text || same_tokens(case, bytes, text)
@@ -135,20 +135,11 @@ fn split_code(case: Case, text: &[u8]) -> Option<(u16, &[u8])>
 /// The byte that an escape stands for, if one begins with this byte and goes on with these.
 #[inline(always)]
 fn escaped_byte(b: u8, after: &[u8]) -> Option<u8>
-    ensures { result ≡ (if is_escape b after.now then Some (spec.escaped_byte (slice_index after.now 0) (slice_index after.now 1)) else None) }
+    ensures { result ≡ (if tokens.is_escape b after.now then Some (spec.escaped_byte (slice_index after.now 0) (slice_index after.now 1)) else None) }
 {
-    match after {
-        [high, low, ..] => {
-            if b != b'%' {
-                return None;
-            }
-            let (high, low) = (hex_value(*high), hex_value(*low));
-            if high < 16 && low < 16 {
-                Some(16 * high + low)
-            } else {
-                None
-            }
-        }
-        _ => None,
+    if is_escape(b, after) {
+        Some(16 * hex_value(after[0]) + hex_value(after[1]))
+    } else {
+        None
     }
 }

@@ -1,9 +1,7 @@
 //! Canonical spelling: RFC 3986, sections 6.2.2.1 and 6.2.2.2.
-ghost use Rattle.std.specs.Prelude.{◌≡◌, ◌∷◌, ◌++◌, ◌<◌, ◌↔◌, [], List, IsTrue, IfOk, OnOk, MatchOption, true, fold, flat_map, map};
-ghost use Rattle.std.specs.Char.{digit_value};
+ghost use Rattle.std.specs.Prelude.{◌≡◌, ◌++◌, ◌↔◌, IsTrue, IfOk, OnOk, true, fold, flat_map};
 ghost use Rattle.std.specs.Hash as fed;
-ghost use Rattle.uriparse_text.specs.Bytes.{is_hex};
-ghost use Rattle.uriparse_text.specs.Tokens.{has_digits, is_well_formed, spell};
+ghost use Rattle.uriparse_text.specs.Tokens.{has_digits, spell};
 ghost use Rattle.uriparse_text.specs.Canonical as spec;
 
 use super::class::is_unreserved;
@@ -12,7 +10,6 @@ use super::run::split_run;
 use super::token::{Token, split_token};
 use std::alloc::{AllocError, Global};
 use std::hash::Hasher;
-use std::marker::Model;
 
 /// What becomes of the letters in a canonical spelling. The digits of escapes are upper case in both.
 #[derive(Clone, Copy, Debug, PartialEq, Eq)]
@@ -56,75 +53,6 @@ impl Token {
     }
 }
 
-/// A cursor over a text that gives its tokens one by one, each in canonical form.
-pub trait Walk {
-    ghost tokens_left: { Self → List Token };
-
-    ghost use Rattle.uriparse_text.specs.declared.parts.token.Token.{Token};
-
-    /// The next token, or none at the end.
-    fn next_token(&mut self) -> Option<Token>
-        ensures { MatchOption result (tokens_left self.old ≡ []) (λ t. tokens_left self.old ≡ t ∷ tokens_left self.new) };
-}
-
-/// The cursor over a text that lies in one piece, seen as the canonical tokens that it has left.
-#[derive(Drop)]
-pub struct TextWalk<'t> {
-    text: &'t [u8],
-    case: Case,
-}
-
-impl<'t> Model for TextWalk<'t> {
-    ghost use Rattle.std.specs.Prelude.{List};
-    ghost use Rattle.uriparse_text.specs.declared.parts.token.Token.{Token};
-
-    ghost Value = { List Token };
-
-    ghost use Rattle.uriparse_text.specs.Canonical.{canonical_tokens};
-
-    ghost view = { λ w. canonical_tokens w.case w.text.now };
-}
-
-impl<'t> TextWalk<'t> {
-    /// The cursor at the start of a text.
-    #[inline]
-    pub fn new(case: Case, text: &'t [u8]) -> TextWalk<'t>
-        ensures { result ≡ spec.canonical_tokens case text.now }
-    {
-        TextWalk { text, case }
-    }
-}
-
-impl<'t> Walk for TextWalk<'t> {
-    ghost tokens_left = { λ w. w };
-
-    #[inline]
-    fn next_token(&mut self) -> Option<Token> {
-        let Some((token, rest)) = split_token(self.text) else {
-            return None;
-        };
-        self.text = rest;
-        Some(token.canonical(self.case))
-    }
-}
-
-/// Whether two cursors give the same tokens. They go forward together, to the first difference.
-pub fn same_walks<L: Walk + Drop, R: Walk + Drop>(left: L, right: R) -> bool
-    ensures { IsTrue result ↔ (L.tokens_left left ≡ R.tokens_left right) }
-{
-    let mut left = left;
-    let mut right = right;
-    'tokens: while let Some(x) = left.next_token() {
-        let Some(y) = right.next_token() else {
-            return false;
-        };
-        if x != y {
-            return false;
-        }
-    }
-    right.next_token().is_none()
-}
-
 #[inline(always)]
 fn feed_token<H: Hasher>(token: Token, state: &mut H)
     ensures { state.new ≡ fold H.write state.old (flat_map fed.u8 (spell token)) }
@@ -165,19 +93,8 @@ pub fn feed_text<H: Hasher>(case: Case, text: &[u8], state: &mut H)
 pub fn is_canonical(case: Case, text: &[u8]) -> bool
     ensures { IsTrue result ↔ (spec.canonical_in case text.now ≡ text.now) }
 {
-    let (_, rest) = split_run(case, text);
-    if rest.is_empty() {
-        return true;
-    }
-    begins_canonical(case, rest)
-}
-
-/// The same for a text that may begin with a token that isn't canonical.
-#[inline(never)]
-fn begins_canonical(case: Case, text: &[u8]) -> bool
-    ensures { IsTrue result ↔ (spec.canonical_in case text.now ≡ text.now) }
-{
-    let mut rest = text;
+    let (_, changing) = split_run(case, text);
+    let mut rest = changing;
     'tokens: while let Some((token, after)) = split_token(rest) {
         if token.canonical(case) != token {
             return false;

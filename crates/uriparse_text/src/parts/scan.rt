@@ -232,8 +232,7 @@ fn first_by_runs<T: ByteTest>(test: &T, text: &[u8]) -> usize
 /// The marks of the next sixteen bytes, or of those that are left, and how many those bytes are.
 #[inline(always)]
 pub fn next_marks<T: ByteTest>(test: &T, text: &[u8], at: usize) -> (u64, usize)
-    requires least { 8 ≤ length text.now }
-    requires within { at ≤ length text.now }
+    requires { at ≤ length text.now }
     ensures marks { AreMarks (T.passes test.now) text.now at result.1 result.0 }
     ensures room { at + result.1 ≤ length text.now }
     ensures some { at < length text.now → 0 < result.1 }
@@ -244,9 +243,30 @@ pub fn next_marks<T: ByteTest>(test: &T, text: &[u8], at: usize) -> (u64, usize)
         (marks_of_run(test, text, at, at), 16)
     } else if len >= 16 {
         (marks_of_run(test, text, len - 16, at), len - at)
-    } else {
+    } else if len >= 8 {
         (shifted_down(marks_of_short(test, text), at), len - at)
+    } else {
+        (marks_by_one(test, text, at), len - at)
     }
+}
+
+/// The marks of a short text's bytes from a place on, byte by byte.
+#[inline(always)]
+fn marks_by_one<T: ByteTest>(test: &T, text: &[u8], from: usize) -> u64
+    requires few { length text.now ≤ 16 }
+    requires within { from ≤ length text.now }
+    ensures { AreMarks (T.passes test.now) text.now from (length text.now - from) result }
+{
+    let mut marks: u64 = 0;
+    let mut at = text.len();
+    'bytes: while at > from {
+        at -= 1;
+        marks *= 2;
+        if test.has(text[at]) {
+            marks += 1;
+        }
+    }
+    marks
 }
 
 /// The same for a short text, byte by byte.

@@ -1,18 +1,18 @@
 //! A text whose tokens are in one class: what user names, segments, queries and the like share.
-ghost use Rattle.std.specs.Prelude.{◌≡◌, ◌↔◌, ℕ, List, IsTrue, IfOk, OnOk, OnErr, IsOk, Some, true, bytes_eq, string_bytes, flat_map};
+ghost use Rattle.std.specs.Prelude.{◌≡◌, ◌↔◌, ℕ, List, IsTrue, IfOk, OnOk, OnErr, IsOk, Some, true, bytes_eq, string_bytes};
 ghost use Rattle.std.proofs.Common.{rules};
 ghost use Rattle.std.specs.Option.{option_copied};
 ghost use Rattle.std.specs.Ordering.{on};
 ghost use Rattle.std.specs.Cmp.Rules.{comparing, hashing};
 ghost use Rattle.uriparse_text.specs.declared.parts.class.Class.{Class};
 ghost use Rattle.uriparse_text.specs.declared.parts.canonical.Case.{Case};
-ghost use Rattle.uriparse_text.specs.Tokens.{spell, is_well_formed};
+ghost use Rattle.uriparse_text.specs.Tokens.{is_well_formed};
 ghost use Rattle.uriparse_text.specs.Faults.{IsIn};
-ghost use Rattle.uriparse_text.specs.Canonical.{canonical_tokens, canonical_in, fed_text, SpellsAlike};
+ghost use Rattle.uriparse_text.specs.Canonical.{canonical_in, fed_text, SpellsAlike};
 ghost use Rattle.uriparse_text.specs.Readings.{if_present, reading_in};
 
 use super::alike::same_spelling;
-use super::canonical::{Case, TextWalk, canonical_bytes, feed_text, is_canonical};
+use super::canonical::{Case, canonical_bytes, feed_text, is_canonical};
 use super::class::{Class, fault_of};
 use std::alloc::{AllocError, Global};
 use std::borrow::CowStr;
@@ -185,14 +185,6 @@ impl<'t, K: Kind> Text<'t, K> {
         }
         *self = self.to_normalized(alloc)?;
         Ok(())
-    }
-
-    /// The cursor at the start of the text.
-    pub fn walk(&self) -> TextWalk<'_>
-        ensures tokens { result ≡ canonical_tokens K.case self.now }
-        ensures bytes { flat_map spell result ≡ canonical_in K.case self.now }
-    {
-        TextWalk::new(K::case(), self.as_bytes())
     }
 
     /// Whether the bytes are tokens whose canonical spelling is this text's. Bytes with a broken escape

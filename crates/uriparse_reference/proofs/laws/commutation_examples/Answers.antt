@@ -12,12 +12,12 @@ use Rattle.uriparse_path.specs.Dots.{is_single_dot, is_double_dot, undot}
 use Rattle.uriparse_path.specs.Faults as paths
 use Rattle.uriparse_path.specs.Path.{max_segments}
 use Rattle.uriparse_path.specs.Relative.{relative_normal}
-use Rattle.uriparse_reference.specs.Reading.{reading, tail_reading}
+use Rattle.uriparse_reference.specs.Reading.{reading}
 use Rattle.uriparse_reference.proofs.laws.commutation_examples.Goals as goal
 
 pub returns : goal.returns
 unfolding read_ipv4 read_ipv6 read_octet read_number read_segment read_segments ipv4_reading ipv6_reading is_unreserved is_sub_delim canonical_in is_plain
-    texts.fault tokens variants row_of authority.reading is_single_dot is_double_dot undot paths.fault max_segments relative_normal reading tail_reading
+    texts.fault tokens variants row_of authority.reading is_single_dot is_double_dot undot paths.fault max_segments relative_normal reading
 returns c = record {
   target = refl;
   target_again = refl;

@@ -1,4 +1,5 @@
 use Rattle.std.proofs.Common.{◌≡◌, sym, ap, ◌∙◌, subst}
+use Rattle.std.proofs.lemmas.Bool.{false≢true}
 use Rattle.uriparse_authority.specs.Host.{text}
 use Rattle.uriparse_authority.specs.Authority.{print}
 use Rattle.uriparse_authority.specs.Normal.{canonical_authority}
@@ -17,19 +18,21 @@ returns-then-is_canonical_part-2-clause-text c =
             subst (λ p. print (canonical_authority p) ≡ print p) c.self.view_is (ap print kept),
         λ same. c.is_normalized.ensures.1 (ap (λ p. text p.host) (kept_inside _ _ c.self.view_is c.self.invariant same)),
       )
-      | else-is_canonical_part w ↦ absurd (cc)
+      | else-is_canonical_part w ↦ absurd (false≢true (sym w.if-is_canonical_part.false ∙ sym w.value-is ∙ c.if-is_canonical_part-2.true))
     ]
 
 pub returns-else-is_canonical_part-2-clause-text : goal.returns-else-is_canonical_part-2-clause-text
 returns-else-is_canonical_part-2-clause-text c =
+    let no = sym c.if-is_canonical_part-2.false in
     elim c.if-is_canonical_part.branch [
       | then-is_canonical_part w ↦ (
-        λ yes. absurd (cc),
-        λ same. absurd (cc (w.is_canonical_part-then-is_canonical_part.ensures.1
+        λ yes. absurd (false≢true (no ∙ yes)),
+        λ same. absurd (false≢true (no ∙ w.value-is ∙ w.is_canonical_part-then-is_canonical_part.ensures.1
             (ap (λ p. p.password) (kept_inside _ _ c.self.view_is c.self.invariant same)))),
       )
       | else-is_canonical_part w ↦ (
-        λ yes. absurd (cc),
-        λ same. absurd (cc (c.is_canonical_part.ensures.1 (ap (λ p. p.username) (kept_inside _ _ c.self.view_is c.self.invariant same)))),
+        λ yes. absurd (false≢true (no ∙ yes)),
+        λ same. absurd (false≢true (sym w.if-is_canonical_part.false
+            ∙ c.is_canonical_part.ensures.1 (ap (λ p. p.username) (kept_inside _ _ c.self.view_is c.self.invariant same)))),
       )
     ]

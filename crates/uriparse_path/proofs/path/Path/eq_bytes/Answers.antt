@@ -1,13 +1,20 @@
-use Rattle.std.proofs.Common.{◌≡◌, ◌↔◌, IsTrue, sym}
-use Rattle.uriparse_text.specs.declared.parts.canonical.Case.TheVariants.{Kept}
-use Rattle.uriparse_text.specs.Canonical.{canonical_tokens}
-use Rattle.uriparse_text.proofs.CanonicalLemmas.{same_tokens}
+use Rattle.std.proofs.Common.{refl}
+use Rattle.std.proofs.lemmas.Bool.{false≢true}
 use Rattle.uriparse_path.specs.Path.{text}
+use Rattle.uriparse_path.proofs.AlikeLemmas.{alike_front}
 use Rattle.uriparse_path.proofs.path.Path.eq_bytes.Goals as goal
 
-pub returns : goal.returns
-returns c =
-    let alike = same_tokens Kept c.args.bytes.now (text c.args.self.now) c.walk.ensures.formed in
-    let walked : IsTrue c.same_walks.result ↔ (canonical_tokens Kept c.args.bytes.now ≡ canonical_tokens Kept (text c.args.self.now)) =
-    rw (sym c.new.ensures, sym c.walk.ensures.tokens) c.same_walks.ensures in
-    (λ h. alike.0 (walked.0 h), λ s. walked.1 (alike.1 s))
+pub returns-in-Some : goal.returns-in-Some
+returns-in-Some c =
+    let split = c.split_front.ensures in
+    let cut = alike_front c.args.bytes.now (text c.args.self.now) c.split_front.result.0.now c.split_front.result.1.now split.text split.front in
+    let piece = rw c.as_bytes.ensures.value at c.in-Some.ensures.alike in
+    let rest = rw c.in-Some.ensures.rest at c.spells_behind_slashes.ensures in
+    (λ h. cut.0 (piece.0 refl, rest.0 h), λ s. rest.1 (cut.1 s).1)
+
+pub returns-in-None : goal.returns-in-None
+returns-in-None c =
+    let split = c.split_front.ensures in
+    let cut = alike_front c.args.bytes.now (text c.args.self.now) c.split_front.result.0.now c.split_front.result.1.now split.text split.front in
+    let piece = rw c.as_bytes.ensures.value at c.in-None.ensures.alike in
+    (λ h. absurd (false≢true h), λ s. absurd (false≢true (piece.1 (cut.1 s).0)))

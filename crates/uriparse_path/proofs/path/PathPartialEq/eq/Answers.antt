@@ -1,20 +1,28 @@
-use Rattle.std.proofs.Common.{◌∙◌}
-use Rattle.std.specs.Prelude.{bytes_eq}
-use Rattle.std.specs.Ordering.{on}
-use Rattle.std.specs.Cmp.Lexicographic.{pointwise}
-use Rattle.uriparse_text.specs.Canonical.{canonical}
-use Rattle.uriparse_path.proofs.AlikeLemmas.{same_by_segments, other_flags}
+use Rattle.std.proofs.Common.{sym, ◌∙◌}
+use Rattle.std.proofs.lemmas.Bool.{false≢true}
+use Rattle.uriparse_text.specs.declared.parts.class.Class.TheVariants.{Segment}
+use Rattle.uriparse_text.proofs.ClassLemmas.{well_formed-in_class}
+use Rattle.uriparse_path.specs.Path.{text}
+use Rattle.uriparse_path.proofs.AlikeLemmas.{same_paths, other_fronts}
 use Rattle.uriparse_path.proofs.path.PathPartialEq.eq.Goals as goal
 
-pub returns-then-absolute-other_absolute : goal.returns-then-absolute-other_absolute
-returns-then-absolute-other_absolute c =
-    same_by_segments c.args.self.now c.args.other.now c.shown-absolute.result.0 c.shown-other_absolute.result.0 c.eq.result
-    c.shown-absolute.ensures.listed c.shown-other_absolute.ensures.listed c.shown-absolute.ensures.absolute c.shown-other_absolute.ensures.absolute
-    c.if-absolute-other_absolute.true
-    (c.eq.ensures ∙ (λ i. pointwise (on canonical bytes_eq) (c.shown-absolute.ensures.segments i) (c.shown-other_absolute.ensures.segments i)))
+pub same_spelling-requires : goal.same_spelling-requires
+same_spelling-requires c = rw c.as_bytes-2.ensures.value (well_formed-in_class Segment c.split_front-2.result.0.now c.split_front-2.ensures.front)
 
-pub returns-else-absolute-other_absolute : goal.returns-else-absolute-other_absolute
-returns-else-absolute-other_absolute c =
-    other_flags c.args.self.now c.args.other.now c.shown-absolute.result.0 c.shown-other_absolute.result.0
-    c.shown-absolute.ensures.listed c.shown-other_absolute.ensures.listed c.shown-absolute.ensures.absolute c.shown-other_absolute.ensures.absolute
-    c.if-absolute-other_absolute.false
+pub returns-then-same_spelling : goal.returns-then-same_spelling
+returns-then-same_spelling c =
+    let left = c.split_front in
+    let right = c.split_front-2 in
+    let fronts = rw (c.as_bytes.ensures.value, c.as_bytes-2.ensures.value) at c.same_spelling.ensures in
+    same_paths (text c.args.self.now) (text c.args.other.now) left.result.0.now right.result.0.now left.result.1.now right.result.1.now c.eq.result
+    left.ensures.text right.ensures.text left.ensures.front right.ensures.front left.ensures.behind right.ensures.behind
+    (fronts.0 c.if-same_spelling.true) c.eq.ensures
+
+pub returns-else-same_spelling : goal.returns-else-same_spelling
+returns-else-same_spelling c =
+    let left = c.split_front in
+    let right = c.split_front-2 in
+    let fronts = rw (c.as_bytes.ensures.value, c.as_bytes-2.ensures.value) at c.same_spelling.ensures in
+    other_fronts (text c.args.self.now) (text c.args.other.now) left.result.0.now right.result.0.now left.result.1.now right.result.1.now c.same_spelling.result
+    left.ensures.text right.ensures.text left.ensures.front right.ensures.front left.ensures.behind right.ensures.behind
+    (λ s. false≢true (sym c.if-same_spelling.false ∙ fronts.1 s)) c.if-same_spelling.false

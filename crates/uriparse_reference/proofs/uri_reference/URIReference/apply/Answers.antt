@@ -1,28 +1,17 @@
-use Rattle.uriparse_reference.specs.declared.uri_reference.edit.Edit.TheVariants as edits
 use Rattle.uriparse_reference.proofs.EditLemmas.{settled}
 use Rattle.uriparse_reference.proofs.uri_reference.URIReference.apply.Goals as goal
 
 pub returns-in-Scheme : goal.returns-in-Scheme
-returns-in-Scheme c =
-    settled c.args.self.now c.set_scheme.new.self c.args.edit (edits.Scheme c.in-Scheme.scheme)
-    c.set_scheme.result c.in-Scheme.is c.set_scheme.ensures
+returns-in-Scheme c = settled c.args.self.now c.set_scheme.new.self _ _ _ c.in-Scheme.is c.set_scheme.ensures
 
 pub returns-in-Authority : goal.returns-in-Authority
-returns-in-Authority c =
-    settled c.args.self.now c.set_authority.new.self c.args.edit (edits.Authority c.in-Authority.authority)
-    c.set_authority.result c.in-Authority.is c.set_authority.ensures
+returns-in-Authority c = settled c.args.self.now c.set_authority.new.self _ _ _ c.in-Authority.is c.set_authority.ensures
 
 pub returns-in-Path : goal.returns-in-Path
-returns-in-Path c =
-    settled c.args.self.now c.set_path.new.self c.args.edit (edits.Path c.in-Path.path)
-    c.set_path.result c.in-Path.is c.set_path.ensures
+returns-in-Path c = settled c.args.self.now c.set_path.new.self _ _ _ c.in-Path.is c.set_path.ensures
 
 pub returns-in-Query : goal.returns-in-Query
-returns-in-Query c =
-    settled c.args.self.now c.set_query.new.self c.args.edit (edits.Query c.in-Query.query)
-    c.set_query.result c.in-Query.is c.set_query.ensures
+returns-in-Query c = settled c.args.self.now c.set_query.new.self _ _ _ c.in-Query.is c.set_query.ensures
 
 pub returns-in-Fragment : goal.returns-in-Fragment
-returns-in-Fragment c =
-    settled c.args.self.now c.set_fragment.new.self c.args.edit (edits.Fragment c.in-Fragment.fragment)
-    c.set_fragment.result c.in-Fragment.is c.set_fragment.ensures
+returns-in-Fragment c = settled c.args.self.now c.set_fragment.new.self _ _ _ c.in-Fragment.is c.set_fragment.ensures

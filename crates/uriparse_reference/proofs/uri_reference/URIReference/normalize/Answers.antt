@@ -3,7 +3,7 @@ use Rattle.std.proofs.lemmas.Bool.{false≢true}
 use Rattle.uriparse_reference.specs.Reference.{Valid}
 use Rattle.uriparse_reference.specs.Normal.{normal}
 use Rattle.uriparse_reference.proofs.NormalFormLemmas.{normal_valid}
-use Rattle.uriparse_reference.proofs.NormalLemmas.{kept_parts, kept_segments, made_is, placed_normal}
+use Rattle.uriparse_reference.proofs.NormalLemmas.{kept_parts, kept_segments, made_is}
 use Rattle.uriparse_reference.proofs.AlikeLemmas.{one_normal}
 use Rattle.uriparse_reference.proofs.uri_reference.URIReference.normalize.Goals.{After-put_copy-3}
 use Rattle.uriparse_reference.proofs.uri_reference.URIReference.normalize.Goals as goal
@@ -24,15 +24,15 @@ pub returns-in_err-authority-clause-takes_no_memory : goal.returns-in_err-author
 returns-in_err-authority-clause-takes_no_memory c h =
     absurd (false≢true (c.in_err-authority.ensures.takes_no_memory (ap (λ q. q.authority) (kept_parts _ c.args.self.now c.self.invariant c.self.view_is h))))
 
-pub returns-in_err-normalize_path-clause-takes_no_memory : goal.returns-in_err-normalize_path-clause-takes_no_memory
-returns-in_err-normalize_path-clause-takes_no_memory c h =
-    absurd (false≢true (c.in_err-normalize_path.ensures.takes_no_memory (kept_segments _ c.args.self.now c.self.invariant c.self.view_is h)))
+pub returns-in_err-normalize_behind-clause-takes_no_memory : goal.returns-in_err-normalize_behind-clause-takes_no_memory
+returns-in_err-normalize_behind-clause-takes_no_memory c h =
+    absurd (false≢true (c.in_err-normalize_behind.ensures.takes_no_memory (kept_segments _ c.args.self.now c.self.invariant c.self.view_is h)))
 
 -- what is put in place is the normal form
 made : (c : After-put_copy-3) → record {
   scheme = c.put_copy.new.scheme;
   authority = c.put_authority.new.authority;
-  path = c.normalize_path.new.path;
+  path = c.normalize_behind.new.path;
   query = c.put_copy-2.new.part;
   fragment = c.put_copy-3.new.part;
 }
@@ -51,11 +51,10 @@ made c =
       query = c.self.inside.query;
       fragment = c.self.inside.fragment;
     })
-    c.put_copy.new.scheme c.put_authority.new.authority c.normalize_path.new.path c.put_copy-2.new.part c.put_copy-3.new.part
+    c.put_copy.new.scheme c.put_authority.new.authority c.normalize_behind.new.path c.put_copy-2.new.part c.put_copy-3.new.part
     (c.put_copy.ensures ∙ c.in_ok-scheme.ensures.copy)
     c.put_authority.ensures
-    (placed_normal c.self.inside.scheme c.self.inside.authority c.self.inside.path c.normalize_path.new.path c.is_none.result c.is_none-2.result
-    c.is_none.ensures c.is_none-2.ensures c.in_ok-normalize_path.ensures.ok)
+    c.in_ok-normalize_behind.ensures.ok
     (c.put_copy-2.ensures ∙ c.in_ok-query.ensures.copy)
     (c.put_copy-3.ensures ∙ c.in_ok-fragment.ensures.copy)
 

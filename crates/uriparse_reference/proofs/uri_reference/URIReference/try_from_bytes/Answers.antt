@@ -1,7 +1,7 @@
-use Rattle.uriparse_reference.proofs.ReferenceLemmas.{found_only}
+use Rattle.uriparse_reference.proofs.ReferenceLemmas.{answered}
 use Rattle.uriparse_reference.proofs.uri_reference.URIReference.try_from_bytes.Goals as goal
 
 pub returns : goal.returns
 returns c =
-    let all = found_only c.args.bytes.now c.read.result c.read.ensures.answer in
-    record { found = all.0; only = all.1; fault = all.2; early = c.read.ensures.early }
+    let all = answered c.args.bytes.now c.read.result c.read.ensures in
+    record { found = all.0; only = all.1; fault = all.2; early = all.3 }

@@ -1,7 +1,7 @@
-use Rattle.uriparse_reference.proofs.ReferenceLemmas.{found_only}
+use Rattle.uriparse_reference.proofs.ReferenceLemmas.{answered}
 use Rattle.uriparse_reference.proofs.uri_reference.URIReference.try_from_str.Goals as goal
 
 pub returns : goal.returns
 returns c =
-    let all = found_only c.args.text.now c.read.result (rw c.as_bytes.ensures.value at c.read.ensures.answer) in
-    record { found = all.0; only = all.1; fault = all.2; early = rw c.as_bytes.ensures.value at c.read.ensures.early }
+    let all = answered c.args.text.now c.read.result (rw c.as_bytes.ensures.value at c.read.ensures) in
+    record { found = all.0; only = all.1; fault = all.2; early = all.3 }
