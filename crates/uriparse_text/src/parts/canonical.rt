@@ -88,13 +88,25 @@ pub fn feed_text<H: Hasher>(case: Case, text: &[u8], state: &mut H)
     state.write_u8(0xff);
 }
 
-/// Whether the text is its own canonical spelling. It is walked to the first token that isn't.
+/// Whether the text is its own canonical spelling. Most texts are one run of bytes that stay as they are.
 #[inline]
 pub fn is_canonical(case: Case, text: &[u8]) -> bool
     ensures { IsTrue result ↔ (spec.canonical_in case text.now ≡ text.now) }
 {
-    let (_, changing) = split_run(case, text);
-    let mut rest = changing;
+    let (_, rest) = split_run(case, text);
+    if rest.is_empty() {
+        return true;
+    }
+    begins_canonical(case, rest)
+}
+
+/// The same for a text that may begin with a token that isn't canonical. It is walked to the first that
+/// isn't, in a call of its own, so that the test before it stays small where it is taken in.
+#[inline(never)]
+fn begins_canonical(case: Case, text: &[u8]) -> bool
+    ensures { IsTrue result ↔ (spec.canonical_in case text.now ≡ text.now) }
+{
+    let mut rest = text;
     'tokens: while let Some((token, after)) = split_token(rest) {
         if token.canonical(case) != token {
             return false;

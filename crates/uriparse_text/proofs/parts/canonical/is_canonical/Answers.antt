@@ -1,31 +1,19 @@
-use Rattle.std.proofs.Common.{◌≡◌, [], refl, sym, ap, ◌∙◌, rules}
-use Rattle.std.proofs.lemmas.Bool.{false≢true}
-use Rattle.uriparse_text.specs.Canonical as spec
-use Rattle.uriparse_text.proofs.CanonicalLemmas.{canonical_in-nil, canonical_behind, canonical_more, canonical_never}
+use Rattle.std.proofs.Common.{◌≡◌, [], length, refl, sym, ap, ◌∙◌}
+use Rattle.std.proofs.lemmas.Bool.{eqb-true}
+use Rattle.std.proofs.lemmas.List.{nil_from_length}
+use Rattle.uriparse_text.specs.Canonical.{canonical_in}
+use Rattle.uriparse_text.proofs.CanonicalLemmas.{canonical_in-nil, canonical_behind}
 use Rattle.uriparse_text.proofs.parts.canonical.is_canonical.Goals as goal
 
-pub tokens-init : goal.tokens-init
-tokens-init c =
-    let run = c.split_run in
-    canonical_behind c.args.case c.args.text.now run.result.0.now run.result.1.now run.ensures.whole run.ensures.spelled
-
-pub returns-then-ne : goal.returns-then-ne
-returns-then-ne c =
-    let differs : spec.canonical_token c.args.case c.in-Some.token ≡ c.in-Some.token → ⊥ = search rules in (
-      λ h. absurd (false≢true h),
-      λ h. absurd (canonical_never c.args.case c.tokens.rest.now c.in-Some.after.now c.in-Some.token c.in-Some.ensures.cut c.in-Some.ensures.spelled differs
-          (c.tokens.invariant.1 h)),
-    )
-
-pub tokens-preserved : goal.tokens-preserved
-tokens-preserved c =
-    let same : spec.canonical_token c.args.case c.in-Some.token ≡ c.in-Some.token = search rules in
-    let more = canonical_more c.args.case c.tokens.rest.now c.in-Some.after.now c.in-Some.token c.in-Some.ensures.cut c.in-Some.ensures.spelled same in
-    let run = c.split_run-in-Some in
-    let behind = canonical_behind c.args.case c.in-Some.after.now run.result.0.now run.result.1.now run.ensures.whole run.ensures.spelled in
-    (λ h. c.tokens.invariant.0 (more.0 (behind.0 h)), λ h. behind.1 (more.1 (c.tokens.invariant.1 h)))
+pub returns-then-is_empty : goal.returns-then-is_empty
+returns-then-is_empty c =
+    let rest = c.split_run.result.1.now in
+    let ends : rest ≡ [] = nil_from_length rest (eqb-true (length rest) 0 (sym c.is_empty.ensures ∙ c.if-is_empty.true)) in
+    let behind = canonical_behind c.args.case c.args.text.now c.split_run.result.0.now rest c.split_run.ensures.whole c.split_run.ensures.spelled in
+    (λ h. behind.0 (ap (canonical_in c.args.case) ends ∙ canonical_in-nil c.args.case ∙ sym ends), λ h. refl)
 
 pub returns : goal.returns
 returns c =
-    let ends : c.tokens.rest.now ≡ [] = c.in_default.ensures.cut in
-    (λ h. c.tokens.invariant.0 (ap (spec.canonical_in c.args.case) ends ∙ canonical_in-nil c.args.case ∙ sym ends), λ h. refl)
+    let behind = canonical_behind c.args.case c.args.text.now c.split_run.result.0.now c.split_run.result.1.now c.split_run.ensures.whole
+    c.split_run.ensures.spelled in
+    (λ h. behind.0 (c.begins_canonical.ensures.0 h), λ h. c.begins_canonical.ensures.1 (behind.1 h))
