@@ -34,12 +34,17 @@ pub trait Component: Display + Eq + Hash + Drop {
     fn make_normal(&mut self, alloc: Global) -> Result<(), AllocError>;
 }
 
+/// Whether a copy and the calls that take no memory give this text.
+fn has_text<T: Component>(alloc: Global, value: &T, text: &str) -> Result<bool, AllocError> {
+    let copied = value.copied(alloc)?;
+    let told = value.told("");
+    Ok(copied.as_str() == text && told.text == text && told.bytes == text.as_bytes())
+}
+
 /// The text, where all calls that give it agree.
 fn text_of<T: Component>(alloc: Global, value: &T) -> Answer {
-    let text = value.copied(alloc)?;
-    let shown = shown(alloc, value)?;
-    let told = value.told("");
-    if shown == text && told.text == text.as_str() && told.bytes == text.as_bytes() {
+    let text = shown(alloc, value)?;
+    if has_text(alloc, value, text.as_str())? {
         return Ok(text);
     }
     said(alloc, "several texts")

@@ -24,8 +24,8 @@ fn cut<'t>(text: &'t [u8], stops: &[u8]) -> (&'t [u8], &'t [u8]) {
     }
 }
 
-/// Whether a rest begins with an escape, or with a byte that is unreserved, a sub-delimiter or one of
-/// these.
+/// Whether a rest begins with an escape, or with a byte that is unreserved, a sub-delimiter or one
+/// of these.
 fn is_fine(rest: &[u8], more: &[u8]) -> bool {
     match rest {
         [b'%', high, low, ..] => high.is_ascii_hexdigit() && low.is_ascii_hexdigit(),
@@ -39,11 +39,12 @@ fn is_fine(rest: &[u8], more: &[u8]) -> bool {
 /// The byte of the first fault in a text that may have these bytes besides unreserved ones,
 /// sub-delimiters and escapes.
 fn fault(text: &[u8], more: &[u8]) -> Option<u8> {
-    for i in 0..text.len() {
-        let rest = text.get(i..)?;
+    let mut rest = text;
+    while let Some((first, behind)) = rest.split_first() {
         if !is_fine(rest, more) {
-            return rest.first().copied();
+            return Some(*first);
         }
+        rest = behind;
     }
     None
 }
@@ -139,17 +140,26 @@ fn port_number(digits: &[u8]) -> Result<Option<u16>, &'static str> {
     Ok(number)
 }
 
-/// A piece, the bytes that it may have besides unreserved ones, sub-delimiters and escapes, and what
-/// is said of it where a percent sign begins no escape and where a byte is astray.
+/// A piece, the bytes that it may have besides unreserved ones, sub-delimiters and escapes, and
+/// what is said of it where a percent sign begins no escape and where a byte is astray.
 type Row<'t> = (Option<&'t [u8]>, &'t [u8], &'static str, &'static str);
+
+/// What is said of a piece that has a fault.
+fn piece_refusal(row: &Row<'_>) -> Option<&'static str> {
+    let (piece, more, broken, astray) = *row;
+    match fault(piece.unwrap_or(&[]), more) {
+        Some(b'%') => Some(broken),
+        Some(_) => Some(astray),
+        None => None,
+    }
+}
 
 /// What is said of the first piece that has a fault.
 fn first_refusal(rows: &[Row<'_>]) -> Option<&'static str> {
-    for (piece, more, broken, astray) in rows {
-        match fault(piece.unwrap_or(&[]), more) {
-            Some(b'%') => return Some(broken),
-            Some(_) => return Some(astray),
-            None => {}
+    for row in rows {
+        let refusal = piece_refusal(row);
+        if refusal.is_some() {
+            return refusal;
         }
     }
     None
@@ -178,14 +188,10 @@ fn colon_refusal(pieces: &Pieces<'_>) -> Option<&'static str> {
 }
 
 /// What is said of a faulty path.
+#[rattlefmt::skip]
 fn path_refusal(pieces: &Pieces<'_>) -> Option<&'static str> {
-    let text = first_refusal(&[(
-        Some(pieces.path),
-        b":@/",
-        "invalid path percent encoding",
-        "invalid path character",
-    )]);
-    text.or(colon_refusal(pieces))
+    let row: Row<'_> = (Some(pieces.path), b":@/", "invalid path percent encoding", "invalid path character");
+    piece_refusal(&row).or(colon_refusal(pieces))
 }
 
 /// What is said of the first faulty part behind the path.
@@ -239,21 +245,37 @@ fn is_reference(reference: &URIReference<'_>, path: &[u8], pieces: &Pieces<'_>) 
         && has_authority(reference, pieces)
 }
 
+/// The same, with the text that its path prints.
+fn is_of_pieces(
+    alloc: Global,
+    reference: &URIReference<'_>,
+    pieces: &Pieces<'_>,
+) -> Result<bool, AllocError> {
+    let path = reference.path().to_string(alloc)?;
+    Ok(is_reference(reference, path.as_bytes(), pieces))
+}
+
+/// Whether the text is read as an equal reference.
+fn is_read_as(alloc: Global, reference: &URIReference<'_>, text: &str) -> Result<bool, AllocError> {
+    let same = same_as(alloc, reference, URIReference::try_from_str(alloc, text))?;
+    Ok(same.as_str() == "equal")
+}
+
+/// Whether what the reference prints is read as an equal one.
+fn reads_back(alloc: Global, reference: &URIReference<'_>) -> Result<bool, AllocError> {
+    let printed = reference.to_string(alloc)?;
+    is_read_as(alloc, reference, printed.as_str())
+}
+
 /// Whether the reference is of these pieces, and what it prints is read as an equal one.
 fn holds(
     alloc: Global,
     reference: &URIReference<'_>,
     pieces: &Pieces<'_>,
 ) -> Result<bool, AllocError> {
-    let path = reference.path().to_string(alloc)?;
-    let printed = reference.to_string(alloc)?;
-    let again = URIReference::try_from_str(alloc, printed.as_str());
-    let same = same_as(alloc, reference, again)?;
-    Ok(
-        refusal(pieces).is_none()
-            && is_reference(reference, path.as_bytes(), pieces)
-            && same.as_str() == "equal",
-    )
+    let is_of_pieces = is_of_pieces(alloc, reference, pieces)?;
+    let reads_back = reads_back(alloc, reference)?;
+    Ok(refusal(pieces).is_none() && is_of_pieces && reads_back)
 }
 
 /// Whether this is what is said of the pieces' first fault.
@@ -264,9 +286,10 @@ fn is_said(alloc: Global, why: URIReferenceError, pieces: &Pieces<'_>) -> Result
 
 /// Whether the library reads the text as the slow reading, and what it prints as the same.
 fn is_right(alloc: Global, text: &[u8]) -> Result<bool, AllocError> {
+    let pieces = cut_up(text);
     match URIReference::try_from_bytes(alloc, text) {
-        Ok(reference) => holds(alloc, &reference, &cut_up(text)),
-        Err(why) => is_said(alloc, why, &cut_up(text)),
+        Ok(reference) => holds(alloc, &reference, &pieces),
+        Err(why) => is_said(alloc, why, &pieces),
     }
 }
 

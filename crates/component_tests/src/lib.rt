@@ -1,6 +1,6 @@
-//! Tests of the parts of references: vectors from RFC 3986 and worked by hand, texts of refusals, each
-//! public function once, and requests for memory that are refused; and of one reference with each byte
-//! replaced.
+//! Tests of the parts of references: vectors from RFC 3986 and worked by hand, texts of refusals,
+//! each public function once, and requests for memory that are refused; and of one reference with
+//! each byte replaced.
 #![tactic(auto)]
 
 #[cfg(test)]

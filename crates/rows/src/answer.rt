@@ -24,8 +24,8 @@ pub fn words(line: &str) -> (&str, &str, &str) {
     (first, second, word(rest).0)
 }
 
-/// What a line asks about a long text: its command, and the three words that the text is made of, of
-/// which the second is repeated so many times.
+/// What a line asks about a long text: its command, and the three words that the text is made of,
+/// of which the second is repeated so many times.
 pub fn split_long(line: &str) -> (&str, &str, usize, &str, &str) {
     let (command, rest) = word(line);
     let (front, rest) = word(rest);

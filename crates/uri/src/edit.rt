@@ -100,7 +100,27 @@ pub fn edit<O: Write>(
     out: &mut O,
 ) -> Result<(), Failure> {
     let changes = changes(alloc, words)?;
+    edit_text(alloc, text, &changes, out)
+}
+
+/// Reads the text, and prints it with the edits made.
+fn edit_text<'w, O: Write>(
+    alloc: Global,
+    text: &'w str,
+    changes: &[Change<'w>],
+    out: &mut O,
+) -> Result<(), Failure> {
     let mut reference = URIReference::try_from_str(alloc, text)?;
-    make_changes(alloc, &mut reference, &changes)?;
-    print_line(&reference, out)
+    print_changed(alloc, &mut reference, changes, out)
+}
+
+/// Makes the edits, and prints what they make of the reference.
+fn print_changed<'w, O: Write>(
+    alloc: Global,
+    reference: &mut URIReference<'w>,
+    changes: &[Change<'w>],
+    out: &mut O,
+) -> Result<(), Failure> {
+    make_changes(alloc, reference, changes)?;
+    print_line(reference, out)
 }

@@ -1,2 +1,3 @@
+pub mod BuilderLemmas
 pub mod KindLemmas
 pub mod ResolveLemmas

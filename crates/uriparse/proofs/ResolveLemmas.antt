@@ -1,5 +1,5 @@
 -- What resolving a reference tells of a URI's refusals.
-use Rattle.std.proofs.Common.{◌≡◌, true, Option, Some, None, Ok, Err, inl, inr, refl, sym, ap, ◌∙◌}
+use Rattle.std.proofs.Common.{◌≡◌, true, Option, Some, None, Ok, Err, inl, inr, sym, ap, ◌∙◌}
 use Rattle.std.specs.Prelude.{Result, MatchOption, is_some}
 use Rattle.uriparse_text.specs.Readings.{IsUnless}
 use Rattle.uriparse_path.specs.declared.path.error.PathError.TheVariants as paths

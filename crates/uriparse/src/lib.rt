@@ -1,7 +1,7 @@
 //! URIs, relative references and URI references: RFC 3986.
 //!
-//! Each part has a module, with its type and its errors, and all of these types and errors stand here
-//! too.
+//! Each part has a module, with its type and its errors, and all of these types and errors stand
+//! here too.
 #![tactic(auto)]
 
 mod builder_of;

@@ -28,8 +28,8 @@ mod normal;
 /// [`URI`](crate::uri::URI) or [`RelativeReference`](crate::relative_reference::RelativeReference)
 /// alone; it is seen as the five parts of a reference.
 ///
-/// Its calls are those of the [`URIReference`] that it holds, whose refusals are told as the kind's.
-/// Two of them are equal where their references are.
+/// Its calls are those of the [`URIReference`] that it holds, whose refusals are told as the
+/// kind's. Two of them are equal where their references are.
 #[derive(Drop)]
 pub struct ReferenceOf<'r, K: Kind> {
     pub(crate) reference: URIReference<'r>,
@@ -63,11 +63,11 @@ impl<'r, K: Kind> ReferenceOf<'r, K> {
         }
     }
 
-    /// Reads a reference of this kind, whose parts borrow the bytes. Only the list of segments wants
-    /// memory.
+    /// Reads a reference of this kind, whose parts borrow the bytes. Only the list of segments
+    /// wants memory.
     ///
-    /// The text's first fault is answered as [`URIReference::try_from_bytes`] answers it, told as the
-    /// kind's error. A text without fault that is of the other kind is
+    /// The text's first fault is answered as [`URIReference::try_from_bytes`] answers it, told as
+    /// the kind's error. A text without fault that is of the other kind is
     /// [`NotURI`](crate::uri::URIError::NotURI) or
     /// [`NotRelativeReference`](crate::relative_reference::RelativeReferenceError::NotRelativeReference);
     /// for a URI, so is one whose fault is the colon rule.
@@ -122,9 +122,10 @@ impl<'r, K: Kind> ReferenceOf<'r, K> {
         ensures { result ≡ of_kind K.has_scheme K.other reference.entry }
     {
         if Self::is_own(&reference) {
-            return Ok(ReferenceOf::of_checked(reference));
+            Ok(ReferenceOf::of_checked(reference))
+        } else {
+            Err(K::other())
         }
-        Err(K::other())
     }
 
     /// The reference that it is. Takes no memory.
@@ -151,8 +152,8 @@ impl<'r, K: Kind> ReferenceOf<'r, K> {
         BuilderOf::of_checked(self.reference.into_builder())
     }
 
-    /// The same, with parts that borrow the texts of this one's. Memory is wanted once, for the list
-    /// of segments.
+    /// The same, with parts that borrow the texts of this one's. Memory is wanted once, for the
+    /// list of segments.
     pub fn to_borrowed(&self, alloc: Global) -> Result<ReferenceOf<'_, K>, AllocError>
         ensures { IfOk result (λ u. u ≡ self.now) }
     {

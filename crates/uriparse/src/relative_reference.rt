@@ -67,8 +67,8 @@ impl Kind for WithoutScheme {
 /// ```
 pub type RelativeReference<'r> = ReferenceOf<'r, WithoutScheme>;
 
-/// The parts of a relative reference that were given so far. Only the path has to be given before it
-/// is built. The calls that it shares with the builder of URIs are those of [`BuilderOf`].
+/// The parts of a relative reference that were given so far. Only the path has to be given before
+/// it is built. The calls that it shares with the builder of URIs are those of [`BuilderOf`].
 ///
 /// ```
 /// let mut builder = RelativeReference::builder();
@@ -78,8 +78,8 @@ pub type RelativeReference<'r> = ReferenceOf<'r, WithoutScheme>;
 pub type RelativeReferenceBuilder<'b> = BuilderOf<'b, WithoutScheme>;
 
 impl<'r> RelativeReference<'r> {
-    /// The relative reference of these parts. Behind an authority the path is made absolute, else it
-    /// is the one that its text spells. Takes no memory.
+    /// The relative reference of these parts. Behind an authority the path is made absolute, else
+    /// it is the one that its text spells. Takes no memory.
     ///
     /// Refused are, in this order, a path without authority whose text begins with two slashes as
     /// [`AbsolutePathStartsWithTwoSlashes`](RelativeReferenceError::AbsolutePathStartsWithTwoSlashes),

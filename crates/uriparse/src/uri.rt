@@ -56,11 +56,11 @@ impl Kind for WithScheme {
 
 /// A URI: a reference that has a scheme. RFC 3986, section 3.
 ///
-/// Its parts borrow the text that it was read from, or own their texts. Two URIs are equal where their
-/// hosts, if they have any, are of one kind and the canonical spellings of their texts agree. Only
-/// the list of the path's segments takes memory, and a refused edit leaves the URI as it was.
-/// [`URIError`] says what is refused. The calls that it shares with relative references are those of
-/// [`ReferenceOf`].
+/// Its parts borrow the text that it was read from, or own their texts. Two URIs are equal where
+/// their hosts, if they have any, are of one kind and the canonical spellings of their texts agree.
+/// Only the list of the path's segments takes memory, and a refused edit leaves the URI as it was.
+/// [`URIError`] says what is refused. The calls that it shares with relative references are those
+/// of [`ReferenceOf`].
 ///
 /// ```
 /// let uri = URI::try_from_str(alloc, "HTTP://h/%7Ea?q#f")?;
@@ -69,8 +69,9 @@ impl Kind for WithScheme {
 /// ```
 pub type URI<'u> = ReferenceOf<'u, WithScheme>;
 
-/// The parts of a URI that were given so far. A path and a scheme have to be given before it is built.
-/// The calls that it shares with the builder of relative references are those of [`BuilderOf`].
+/// The parts of a URI that were given so far. A path and a scheme have to be given before it is
+/// built. The calls that it shares with the builder of relative references are those of
+/// [`BuilderOf`].
 ///
 /// ```
 /// let mut builder = URI::builder();
@@ -84,8 +85,8 @@ pub type URIBuilder<'b> = BuilderOf<'b, WithScheme>;
 impl<'u> URI<'u> {
     ghost use Rattle.uriparse_reference.specs.Reference.{Valid};
 
-    /// The URI of these parts. Behind an authority the path is made absolute, else it is the one that
-    /// its text spells. Takes no memory.
+    /// The URI of these parts. Behind an authority the path is made absolute, else it is the one
+    /// that its text spells. Takes no memory.
     ///
     /// A path without authority whose text begins with two slashes is refused as
     /// [`AbsolutePathStartsWithTwoSlashes`](URIError::AbsolutePathStartsWithTwoSlashes).
@@ -195,9 +196,9 @@ impl<'b> URIBuilder<'b> {
     ///
     /// Refused are, in this order, a builder without a path as
     /// [`MissingPath`](URIError::MissingPath), a path without authority whose text begins with two
-    /// slashes as
-    /// [`AbsolutePathStartsWithTwoSlashes`](URIError::AbsolutePathStartsWithTwoSlashes), and a builder
-    /// without a scheme as [`MissingScheme`](URIError::MissingScheme). A refusal consumes the builder.
+    /// slashes as [`AbsolutePathStartsWithTwoSlashes`](URIError::AbsolutePathStartsWithTwoSlashes),
+    /// and a builder without a scheme as [`MissingScheme`](URIError::MissingScheme). A refusal
+    /// consumes the builder.
     pub fn build(self) -> Result<URI<'b>, URIError>
         ensures { result ≡ spec.uri_built self.entry }
     {

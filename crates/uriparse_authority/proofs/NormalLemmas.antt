@@ -1,7 +1,8 @@
 -- Hosts and authorities in canonical spelling.
-use Rattle.std.proofs.Common.{◌≡◌, ℕ, List, Option, Some, None, refl, sym, ap, ◌∙◌, subst}
-use Rattle.std.specs.Prelude.{IfSome}
-use Rattle.std.specs.Option.{option_map}
+use Rattle.std.proofs.Common.{◌≡◌, ◌↔◌, ℕ, Bool, List, Option, Some, None, refl, sym, ap, ◌∙◌, subst}
+use Rattle.std.specs.Prelude.{IfSome, IsTrue, bytes_eq}
+use Rattle.std.specs.Option.{option_eq, option_map}
+use Rattle.std.proofs.lemmas.Slice.Eq.{bytes_eq-Decides}
 use Rattle.uriparse_text.specs.declared.parts.class.Class.{Class}
 use Rattle.uriparse_text.specs.declared.parts.class.Class.TheVariants.{Name, UserInfo}
 use Rattle.uriparse_text.specs.declared.parts.canonical.Case.TheVariants.{Kept, Lowered}
@@ -30,6 +31,13 @@ text_valid class (Some t) h = IsIn-canonical_in class Kept t h
 pub text_twice : (class : Class) (o : Option (List ℕ)) → IfSome o (λ t. IsIn class t) → option_map canonical (option_map canonical o) ≡ option_map canonical o
 text_twice class None h = refl
 text_twice class (Some t) h = ap Some (canonical_in-canonical_in Kept t (well_formed-in_class class t h))
+
+-- the test for a part's canonical spelling
+pub canonical_part : (o : Option (List ℕ)) (r : Bool) → r ≡ option_eq bytes_eq (option_map canonical o) o → IsTrue r ↔ (option_map canonical o ≡ o)
+canonical_part None r e = ((λ h. refl), (λ h. e))
+canonical_part (Some t) r e =
+    let test = bytes_eq-Decides (canonical t) t in
+    ((λ h. ap Some (test.0 (sym e ∙ h))), (λ h. let texts : canonical t ≡ t = cc in e ∙ test.1 texts))
 
 -- ---- hosts
 

@@ -33,17 +33,18 @@ pub use port::parse_port;
 use print::{write_port, write_user};
 use read::read_whole;
 pub use uriparse_text::address::{IpAddr, Ipv4Addr, Ipv6Addr};
-use uriparse_text::parts::{Kind, Text};
+use uriparse_text::parts::{Kind, Text, borrowed_text, owned_text};
 pub use username::Username;
 use username::empty_username;
 
 /// The authority of a reference, without its `//`: a user name and a password if there are any, the
 /// host, and a port if there is one. RFC 3986, section 3.2.
 ///
-/// A password stands only with a user name, which may be empty; a port is at most 65535, and an empty
-/// one is none. The parts borrow the text that they were read from, or own their texts. Its readers
-/// take no memory; [`AuthorityError`] says what they refuse. A refused edit leaves it as it was. Two
-/// authorities are equal where their hosts are of one kind and their canonical spellings agree.
+/// A password stands only with a user name, which may be empty; a port is at most 65535, and an
+/// empty one is none. The parts borrow the text that they were read from, or own their texts. Its
+/// readers take no memory; [`AuthorityError`] says what they refuse. A refused edit leaves it as it
+/// was. Two authorities are equal where their hosts are of one kind and their canonical spellings
+/// agree.
 ///
 /// ```
 /// let authority = Authority::try_from_str("user:@EXAMPLE.com:0080")?;
@@ -74,13 +75,12 @@ impl<'a> Authority<'a> {
     /// Reads an authority, whose parts borrow the bytes. Takes no memory.
     ///
     /// The first `@` ends the user information, whose first `:` starts the password; the last `:`
-    /// behind the `@` and behind any `]` starts the port. The first part that has a fault answers, in
-    /// the order [`Username`](AuthorityError::Username), [`Password`](AuthorityError::Password),
+    /// behind the `@` and behind any `]` starts the port. The first part that has a fault answers,
+    /// in the order [`Username`](AuthorityError::Username), [`Password`](AuthorityError::Password),
     /// [`Host`](AuthorityError::Host), [`Port`](AuthorityError::Port). A `/`, `?` or `#` ends the
-    /// authority: behind one without fault it is answered as
-    /// [`PortError::InvalidCharacter`] where there is a port (an empty one is none), else as
-    /// [`HostError::InvalidIPv6Character`] behind an IPv6 address, else as
-    /// [`HostError::InvalidIPv4OrRegisteredNameCharacter`].
+    /// authority: behind one without fault it is answered as [`PortError::InvalidCharacter`] where
+    /// there is a port (an empty one is none), else as [`HostError::InvalidIPv6Character`] behind
+    /// an IPv6 address, else as [`HostError::InvalidIPv4OrRegisteredNameCharacter`].
     pub fn try_from_bytes(bytes: &'a [u8]) -> Result<Authority<'a>, AuthorityError>
         ensures { result ≡ spec.whole_reading bytes.now }
     {
@@ -186,48 +186,29 @@ impl<'a> Authority<'a> {
         ensures { result ≡ self.now }
     {
         Authority {
-            username: match &self.username {
-                Some(username) => Some(username.as_borrowed()),
-                None => None,
-            },
-            password: match &self.password {
-                Some(password) => Some(password.as_borrowed()),
-                None => None,
-            },
+            username: borrowed_text(self.username()),
+            password: borrowed_text(self.password()),
             host: self.host.as_borrowed(),
             port: self.port,
         }
     }
 
-    /// The same authority, which owns its texts. Borrowed texts are copied, which wants memory; where
-    /// there is none, the authority is gone.
+    /// The same authority, which owns its texts. Borrowed texts are copied, which wants memory;
+    /// where there is none, the authority is gone.
     pub fn into_owned(self, alloc: Global) -> Result<Authority<'static>, AllocError>
         ensures { IfOk result (λ a. a ≡ self.entry) }
     {
-        let Authority {
-            username,
-            password,
-            host,
-            port,
-        } = self;
-        let username = match username {
-            Some(username) => Some(username.into_owned(alloc)?),
-            None => None,
-        };
-        let password = match password {
-            Some(password) => Some(password.into_owned(alloc)?),
-            None => None,
-        };
+        let (username, password, host, port) = self.into_parts();
         Ok(Authority {
-            username,
-            password,
+            username: owned_text(alloc, username)?,
+            password: owned_text(alloc, password)?,
             host: host.into_owned(alloc)?,
             port,
         })
     }
 
-    /// How many bytes the authority's text has at most: those of its parts, two colons, an `@` and the
-    /// five digits of a port; or the most that a number holds.
+    /// How many bytes the authority's text has at most: those of its parts, two colons, an `@` and
+    /// the five digits of a port; or the most that a number holds.
     pub(crate) fn most_bytes(&self) -> usize
         ensures { length (spec.print self.now) ≤ result ⊎ result ≡ usize.MAX }
     {

@@ -32,10 +32,10 @@ pub fn one_reading()
     ensures valid { (a : List ℕ) (p : AuthorityParts) → Spells a p → Valid p }
 {}
 
-/// Which fault answers. What stands in brackets is read as an address; a port's fault is a byte that
-/// is no digit, or the digit with which the number passes the largest, whichever comes first. The
-/// fault of an authority answers whatever stands behind the byte that ends it; behind a faultless one
-/// that byte answers.
+/// Which fault answers. What stands in brackets is read as an address; a port's fault is a byte
+/// that is no digit, or the digit with which the number passes the largest, whichever comes first.
+/// The fault of an authority answers whatever stands behind the byte that ends it; behind a
+/// faultless one that byte answers.
 pub fn first_fault()
     ensures brackets { (t inner : List ℕ) → (host.in_brackets t ≡ Some inner) ↔ (t ≡ host.bracketed inner) }
     ensures other { (t : List ℕ) → (port.fault t ≡ Some InvalidCharacter) ↔ port.HasOther t }
@@ -44,9 +44,9 @@ pub fn first_fault()
     ensures rest { (a : List ℕ) (b : ℕ) (u : List ℕ) (p : AuthorityParts) → Spells a p → ends_authority b ≡ true → whole_reading (a ++ b ∷ u) ≡ Err (rest_error p.port (kind p)) }
 {}
 
-/// Every text is its pieces put together. The user name lacks the marks that end it, the password the
-/// `@` that ends it; without a user name the text has no `@`. The port lacks the marks that would end
-/// a host behind it; without a port, a `]` stands behind each colon of the host.
+/// Every text is its pieces put together. The user name lacks the marks that end it, the password
+/// the `@` that ends it; without a user name the text has no `@`. The port lacks the marks that
+/// would end a host behind it; without a port, a `]` stands behind each colon of the host.
 pub fn one_cut()
     ensures whole { (a : List ℕ) → a ≡ joined (username_text a) (password_text a) (host_text a) (port_text a) }
     ensures username_at { (a : List ℕ) → IfSome (username_text a) (λ t. lacks at_sign t ≡ true) }
@@ -58,10 +58,10 @@ pub fn one_cut()
     ensures no_port { (a u v : List ℕ) → port_text a ≡ None → host_text a ≡ u ++ colon ∷ v → lacks right_bracket v ≡ false }
 {}
 
-/// What a text spells reads back: its own printed text spells it. So does that of each valid host and
-/// authority, unless the host is a name that hides an IPv4 address. A port is read back from its
-/// decimal text. Two valid authorities that print alike are one, unless one holds as a name what the
-/// other holds as an IPv4 address.
+/// What a text spells reads back: its own printed text spells it. So does that of each valid host
+/// and authority, unless the host is a name that hides an IPv4 address. A port is read back from
+/// its decimal text. Two valid authorities that print alike are one, unless one holds as a name
+/// what the other holds as an IPv4 address.
 pub fn reading_back()
     ensures host_spelled { (t : List ℕ) (h : Host) → host.Spells t h → host.ReadsBack h }
     ensures host { (h : Host) → host.Valid h → (host.IsHiddenAddress h → ⊥) → host.ReadsBack h }
@@ -74,7 +74,8 @@ pub fn reading_back()
 {}
 
 /// Two hosts, or two authorities, have one key exactly where their canonical texts agree and their
-/// hosts are of one kind. What a Hasher is fed for a valid one, part by part, is told by the key alone.
+/// hosts are of one kind. What a Hasher is fed for a valid one, part by part, is told by the key
+/// alone.
 pub fn one_key()
     ensures hosts { (g h : Host) → (host.key g ≡ host.key h) ↔ ((host.canonical_text g ≡ host.canonical_text h) × (host.kind g ≡ host.kind h)) }
     ensures authorities { (p q : AuthorityParts) → (key p ≡ key q) ↔ ((canonical_text p ≡ canonical_text q) × (kind p ≡ kind q)) }

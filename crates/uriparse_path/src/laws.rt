@@ -28,8 +28,8 @@ pub fn no_fault()
     ensures { (t : List ℕ) → (fault t ≡ None) ↔ IsListed (pieces t) }
 {}
 
-/// The fault of a text is that of its length exactly where a front without fault has as many segments
-/// as a path may have, and a slash comes behind that.
+/// The fault of a text is that of its length exactly where a front without fault has as many
+/// segments as a path may have, and a slash comes behind that.
 pub fn length_fault()
     ensures { (t : List ℕ) → (fault t ≡ Some errors.ExceededMaximumLength) ↔ PassesLimit t }
 {}
@@ -49,7 +49,8 @@ pub fn reading_back()
 {}
 
 /// The steps that remove dot segments leave no choice, and lead from each text to one text. From
-/// the text of a path they lead to that of its replayed segments; a text without dot segments stays.
+/// the text of a path they lead to that of its replayed segments; a text without dot segments
+/// stays.
 pub fn one_text_without_dots()
     ensures step { (i o j p k q : List ℕ) → Step i o j p → Step i o k q → (j ≡ k) × (p ≡ q) }
     ensures text { (t u : List ℕ) → Undots t u ↔ (u ≡ undot t) }

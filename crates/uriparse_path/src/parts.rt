@@ -22,8 +22,9 @@ pub fn path_of(absolute: bool, segments: Vec<Segment<'_>>) -> Path<'_>
     Path::of(absolute, segments)
 }
 
-/// Removes the dot segments as [`Path::remove_dot_segments`] does. Where no authority stands before the
-/// path, a `.` comes in front of a text that would begin with two slashes then. Takes no memory.
+/// Removes the dot segments as [`Path::remove_dot_segments`] does. Where no authority stands before
+/// the path, a `.` comes in front of a text that would begin with two slashes then. Takes no
+/// memory.
 pub fn remove_dots(path: &mut Path<'_>, shields: bool)
     requires { shields ≡ true → hides_root path.old.segments ≡ false }
     ensures { path.new ≡ (if shields then shield (without_dots path.old) else without_dots path.old) }
@@ -31,16 +32,17 @@ pub fn remove_dots(path: &mut Path<'_>, shields: bool)
     path.remove_dots(shields);
 }
 
-/// Whether the path has the text of its normal form, where a `.` may be needed in front of it or not.
+/// Whether the path has the text of its normal form, where a `.` may be needed in front of it or
+/// not.
 pub fn is_normal_path(path: &Path<'_>, as_reference: bool, shields: bool) -> bool
     ensures { result ≡ is_normal_in shields path.now as_reference }
 {
     path.is_normal_in(as_reference, shields)
 }
 
-/// Brings the path into its normal form as [`Path::normalize`] does. Where no authority stands before
-/// the path, a `.` comes in front of a text that would begin with two slashes then. Memory is wanted for
-/// the segments that aren't canonical; where there is none, the path is kept.
+/// Brings the path into its normal form as [`Path::normalize`] does. Where no authority stands
+/// before the path, a `.` comes in front of a text that would begin with two slashes then. Memory
+/// is wanted for the segments that aren't canonical; where there is none, the path is kept.
 pub fn normalize_path(
     path: &mut Path<'_>,
     alloc: Global,
@@ -69,8 +71,8 @@ pub fn most_path_bytes(path: &Path<'_>) -> usize
     path.most_bytes()
 }
 
-/// Makes it the path that its text spells: the same one, but for a relative path that begins with an
-/// empty segment and goes on. Takes no memory.
+/// Makes it the path that its text spells: the same one, but for a relative path that begins with
+/// an empty segment and goes on. Takes no memory.
 pub fn respell(path: &mut Path<'_>)
     ensures { path.new ≡ spelled (text path.old) }
 {
@@ -92,13 +94,13 @@ pub fn lacks_colon_segment(path: &Path<'_>) -> bool
     path.lacks_colon_segment()
 }
 
-/// The path of a reference behind that of a base: the base's segments but for the last one, then the
-/// reference's, which all borrow their texts. The base's flag is kept.
+/// The path of a reference behind that of a base: the base's segments but for the last one, then
+/// the reference's, which all borrow their texts. The base's flag is kept.
 ///
-/// [`ExceededMaximumLength`](PathError::ExceededMaximumLength) is answered where there would be more
-/// segments than [`MAX_SEGMENTS`](crate::path::MAX_SEGMENTS), whatever memory there is. Else room for
-/// the list is asked for once; where there is none, [`OutOfMemory`](PathError::OutOfMemory) is
-/// answered.
+/// [`ExceededMaximumLength`](PathError::ExceededMaximumLength) is answered where there would be
+/// more segments than [`MAX_SEGMENTS`](crate::path::MAX_SEGMENTS), whatever memory there is. Else
+/// room for the list is asked for once; where there is none,
+/// [`OutOfMemory`](PathError::OutOfMemory) is answered.
 pub fn merged_path<'p>(
     alloc: Global,
     base: &'p Path<'_>,

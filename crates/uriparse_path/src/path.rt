@@ -90,10 +90,10 @@ impl<'p> Path<'p> {
 
     /// Reads a path, whose segments borrow the bytes.
     ///
-    /// The leftmost fault is answered: [`InvalidPercentEncoding`](PathError::InvalidPercentEncoding)
-    /// at a `%` without two hexadecimal digits behind it,
-    /// [`ExceededMaximumLength`](PathError::ExceededMaximumLength) at the slash that would begin one
-    /// segment more than [`MAX_SEGMENTS`], else
+    /// The leftmost fault is answered:
+    /// [`InvalidPercentEncoding`](PathError::InvalidPercentEncoding) at a `%` without two
+    /// hexadecimal digits behind it, [`ExceededMaximumLength`](PathError::ExceededMaximumLength) at
+    /// the slash that would begin one segment more than [`MAX_SEGMENTS`], else
     /// [`InvalidCharacter`](PathError::InvalidCharacter). For a text without fault, room for the
     /// list of segments is asked for once; where there is none,
     /// [`OutOfMemory`](PathError::OutOfMemory) is answered.
@@ -210,8 +210,8 @@ impl<'p> Path<'p> {
     /// where the first segment would else be taken for a scheme or a root. Dot segments of other
     /// paths are removed as by [`remove_dot_segments`](Path::remove_dot_segments).
     ///
-    /// Memory is wanted for the segments that aren't canonical, and before anything is put in place;
-    /// where there is none, the path is kept.
+    /// Memory is wanted for the segments that aren't canonical, and before anything is put in
+    /// place; where there is none, the path is kept.
     pub fn normalize(&mut self, alloc: Global, as_reference: bool) -> Result<(), AllocError>
         ensures ok { OnOk result (self.new ≡ pnormal self.old as_reference) }
         ensures err { OnErr result (self.new ≡ self.old) }
@@ -220,9 +220,9 @@ impl<'p> Path<'p> {
         self.put_normal(alloc, as_reference, false)
     }
 
-    /// Brings the path into its normal form; where no authority stands before it, a `.` comes in front of
-    /// a text that would begin with two slashes then. Memory is wanted for the segments that aren't
-    /// canonical; where there is none, the path is kept.
+    /// Brings the path into its normal form; where no authority stands before it, a `.` comes in
+    /// front of a text that would begin with two slashes then. Memory is wanted for the segments
+    /// that aren't canonical; where there is none, the path is kept.
     pub(crate) fn put_normal(
         &mut self,
         alloc: Global,
@@ -329,7 +329,8 @@ impl<'p> Path<'p> {
         }
     }
 
-    /// What stands before the first slash of the path's text, and the segments that stand behind one each.
+    /// What stands before the first slash of the path's text, and the segments that stand behind
+    /// one each.
     #[inline]
     fn split_front(&self) -> (&str, &[Segment<'p>])
         ensures text { text self.now ≡ result.0.now ++ flat_map (λ s. slash ∷ s) result.1.now }
@@ -395,8 +396,8 @@ impl<'p> Hash for Path<'p> {
     }
 }
 
-/// What follows the piece before the text's first slash, if that piece is spelled as the segment. Where
-/// the segment's own bytes stand there, no slash is searched for.
+/// What follows the piece before the text's first slash, if that piece is spelled as the segment.
+/// Where the segment's own bytes stand there, no slash is searched for.
 #[inline(always)]
 fn strip_piece<'t>(text: &'t [u8], segment: &[u8]) -> Option<&'t [u8]>
     requires { is_segment segment.now ≡ true }
@@ -416,7 +417,8 @@ fn strip_piece<'t>(text: &'t [u8], segment: &[u8]) -> Option<&'t [u8]>
     }
 }
 
-/// Whether the text is spelled as these segments are, each behind a slash. It is cut at its slashes.
+/// Whether the text is spelled as these segments are, each behind a slash. It is cut at its
+/// slashes.
 fn spells_behind_slashes(text: &[u8], segments: &[Segment<'_>]) -> bool
     requires { list_all is_segment segments.now ≡ true }
     ensures { IsTrue result ↔ SpellsAlike case.Kept text.now (flat_map (λ s. slash ∷ s) segments.now) }

@@ -56,21 +56,10 @@ with_scheme v false h k = by_slashes (has_two_slashes h) k
     by_slashes true k = cc
     by_slashes false k = refl
 
-pub valid_scheme : (p : Parts) (s : Scheme) → Valid p → scheme.Valid s → Valid (record p { scheme = Some s })
-valid_scheme p s v i = record {
+pub valid_scheme : (p : Parts) (s : Option Scheme) → Valid p → IfSome s scheme.Valid
+    → path_refusal (is_some s) (is_some p.authority) (path.text p.path) ≡ None → Valid (record p { scheme = s })
+valid_scheme p s v i k = record {
   is_scheme = i;
-  is_authority = v.is_authority;
-  is_path = v.is_path;
-  absolute = v.absolute;
-  plain = v.plain;
-  fit = with_scheme (is_some p.scheme) (is_some p.authority) (path.text p.path) v.fit;
-  is_query = v.is_query;
-  is_fragment = v.is_fragment;
-}
-
-pub valid_no_scheme : (p : Parts) → Valid p → path_refusal false (is_some p.authority) (path.text p.path) ≡ None → Valid (record p { scheme = None })
-valid_no_scheme p v k = record {
-  is_scheme = tt;
   is_authority = v.is_authority;
   is_path = v.is_path;
   absolute = v.absolute;
@@ -177,6 +166,13 @@ pub tested_parts : (p : Parts) (g : PathParts) (b d : Bool) (r : Result (Unit {0
 tested_parts p g b d r x s a i q f e h k l m =
     subst (λ u. Valid (record p { path = u })) (sym (m ∙ ap (λ u. placed u p.path) h))
     (valid_parts p s a i q f (no_refusal (is_some p.scheme) (is_some p.authority) b d (path.text p.path) r x e h k l))
+
+-- ---- a scheme is set
+
+pub edited_scheme : (p : Parts) (s : Option Scheme) → path_refusal (is_some s) (is_some p.authority) (path.text p.path) ≡ None
+    → edited p (edits.Scheme s) ≡ Ok (record p { scheme = s })
+edited_scheme p None k = accepts p (record p { scheme = None }) (record p { scheme = None }) _ k refl
+edited_scheme p (Some s) k = refl
 
 -- ---- an authority is set
 

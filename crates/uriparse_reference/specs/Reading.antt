@@ -39,6 +39,8 @@ early_fault t =
     fault_in (of_piece errors.Authority (if_present authority.reading (authority_text t))
     >>= λ _. of_piece errors.Path (path.reading (path_text t)))
 
+-- ---- words of the clauses of private functions alone: no public clause needs them
+
 -- It is the text's reading; or, where authority and path have no fault, want of memory.
 abbrev pub IsAnswer : List ℕ → Result Parts URIReferenceError → Type 0
 IsAnswer t answer = (answer ≡ reading t) ⊎ ((early_fault t ≡ None) × (answer ≡ Err (errors.Path OutOfMemory)))

@@ -29,9 +29,9 @@ pub fn one_reading()
     ensures valid { (t : List ℕ) (p : Parts) → Spells t p → Valid p }
 {}
 
-/// Every text is its pieces put together: before a `:` a scheme, if it is one; behind two slashes an
-/// authority that lacks the bytes that end it; a path that lacks `?` and `#`; a query that lacks `#`;
-/// a fragment.
+/// Every text is its pieces put together: before a `:` a scheme, if it is one; behind two slashes
+/// an authority that lacks the bytes that end it; a path that lacks `?` and `#`; a query that lacks
+/// `#`; a fragment.
 pub fn one_cut()
     ensures whole { (t : List ℕ) → t ≡ joined (scheme_text t) (authority_text t) (path_text t) (query_text t) (fragment_text t) }
     ensures scheme { (t : List ℕ) → IfSome (scheme_text t) (λ s. is_scheme s ≡ true) }
@@ -41,8 +41,9 @@ pub fn one_cut()
 {}
 
 /// What a text spells reads back: its own printed text spells it. So does that of each valid
-/// reference, unless its host is a name whose text spells an IPv4 address. Two valid references that
-/// print alike are one, unless one of them holds as a name what the other holds as an IPv4 address.
+/// reference, unless its host is a name whose text spells an IPv4 address. Two valid references
+/// that print alike are one, unless one of them holds as a name what the other holds as an IPv4
+/// address.
 pub fn reading_back()
     ensures spelled { (t : List ℕ) (p : Parts) → Spells t p → ReadsBack p }
     ensures back { (p : Parts) → Valid p → ReadsBack p → Spells (print p) p }
@@ -51,8 +52,8 @@ pub fn reading_back()
 {}
 
 /// Two references have one key exactly where they are the same: where their canonical texts agree,
-/// and they have no host or hosts of one kind. What a Hasher is fed for a valid one, part by part, is
-/// told by the key alone.
+/// and they have no host or hosts of one kind. What a Hasher is fed for a valid one, part by part,
+/// is told by the key alone.
 pub fn one_key()
     ensures same { (p q : Parts) → (key p ≡ key q) ↔ Same p q }
     ensures fed { (p : Parts) → Valid p → fed_key (key p) ≡ fed p }
@@ -71,8 +72,9 @@ pub fn one_normal_form()
 {}
 
 /// The target of a valid reference behind a valid base, which has a scheme, is valid. That of a
-/// reference with a scheme is the same behind any base. There is none exactly where paths are merged
-/// and have too many segments then. What is merged of the base's path ends with its last slash.
+/// reference with a scheme is the same behind any base. There is none exactly where paths are
+/// merged and have too many segments then. What is merged of the base's path ends with its last
+/// slash.
 pub fn one_target()
     ensures valid { (b r : Parts) → Valid b → Valid r → is_some b.scheme ≡ true → IfSome (target b r) Valid }
     ensures alone { (b c r : Parts) → is_some r.scheme ≡ true → target b r ≡ target c r }
@@ -81,8 +83,8 @@ pub fn one_target()
     ensures no_slash { (s : List ℕ) → LacksSlash s → through_last_slash s ≡ [] }
 {}
 
-/// Where paths are merged, section 5.2.3's text is that of the base's segments but for the last one and
-/// then the reference's, and spells these.
+/// Where paths are merged, section 5.2.3's text is that of the base's segments but for the last one
+/// and then the reference's, and spells these.
 pub fn one_merge()
     ensures text { (b r : Parts) → Valid b → Valid r → is_merged r ≡ true → merge b r ≡ text (merged b.path r.path) }
     ensures path { (b r : Parts) → Valid b → Valid r → is_merged r ≡ true → spelled (merge b r) ≡ merged b.path r.path }
@@ -117,8 +119,8 @@ pub fn one_build()
     ensures { (p : Parts) → Valid p → built (held p) ≡ Ok p }
 {}
 
-/// A list of edits has one outcome: how many are accepted, the parts that they make, and the refusal
-/// of the next one, if there is one; save that a normal form may have wanted memory.
+/// A list of edits has one outcome: how many are accepted, the parts that they make, and the
+/// refusal of the next one, if there is one; save that a normal form may have wanted memory.
 pub fn one_run()
     ensures { (p q r : Parts) (es : List Edit) (n m : ℕ) (o u : Option URIReferenceError) → Run p es n q o → Run p es m r u → IsWant o ⊎ (IsWant u ⊎ ((n ≡ m) × (q ≡ r) × (o ≡ u))) }
 {}
@@ -127,7 +129,8 @@ pub fn one_run()
 pub fn target_examples()
     ensures normal { hold (resolved rfc_base) normal_rows ≡ true }
     ensures abnormal { hold (resolved rfc_base) abnormal_rows ≡ true }
-    // No empty segment goes with the merge, and a path that would begin with two slashes is kept from it.
+    // No empty segment goes with the merge, and a path that would begin with two slashes is kept
+    // from it.
     ensures empty_segment { resolved (codes "http://a//x") (codes "g") ≡ Some (codes "http://a//g") }
     ensures two_slashes { resolved (codes "s:/a/b") (codes "..//c") ≡ Some (codes "s:/.//c") }
     // The base's own path is kept as it is, and its fragment goes.
@@ -144,8 +147,8 @@ pub fn target_examples()
     ensures above_relative_base { resolved (codes "s:a/b") (codes "..") ≡ Some (codes "s:/") }
 {}
 
-/// Worked examples of normal forms and of equality. Dot segments count for equality, and a name isn't
-/// the address that it spells once it is normalised.
+/// Worked examples of normal forms and of equality. Dot segments count for equality, and a name
+/// isn't the address that it spells once it is normalised.
 pub fn normal_examples()
     ensures forms { hold normalised normal_form_rows ≡ true }
     ensures relative_forms { hold normalised relative_form_rows ≡ true }
@@ -160,9 +163,9 @@ pub fn normal_examples()
     ensures unequal_slash { are_equal (codes "/a") (codes "a") ≡ Some false }
 {}
 
-/// Worked examples of the law of commutation, and of its three premises, none of which can be dropped:
-/// a base's path that doesn't begin with a slash, one that ends in a double dot segment, and a
-/// reference's path whose normal form is empty.
+/// Worked examples of the law of commutation, and of its three premises, none of which can be
+/// dropped: a base's path that doesn't begin with a slash, one that ends in a double dot segment,
+/// and a reference's path whose normal form is empty.
 pub fn commutation_examples()
     ensures target { resolved_first (codes "http://a/b/./c") (codes "../%7e/./g") ≡ Some (codes "http://a/~/g") }
     ensures target_again { normalised_first (codes "http://a/b/./c") (codes "../%7e/./g") ≡ Some (codes "http://a/~/g") }

@@ -44,9 +44,9 @@ use print::{write_authority, write_behind, write_scheme};
 ///
 /// Its parts borrow the text that it was read from, or own their texts; only the list of the path's
 /// segments takes memory. Each value is valid, and what it prints reads back as an equal value, but
-/// where its host is a name that spells an IPv4 address, as none is that was read. Two references are
-/// equal where their hosts, if they have any, are of one kind and the canonical spellings of their
-/// texts agree. Dot segments count.
+/// where its host is a name that spells an IPv4 address, as none is that was read. Two references
+/// are equal where their hosts, if they have any, are of one kind and the canonical spellings of
+/// their texts agree. Dot segments count.
 ///
 /// ```
 /// let reference = URIReference::try_from_str(alloc, "//h/%7Ea?q#f")?;
@@ -79,8 +79,8 @@ impl<'r> URIReference<'r> {
 
     /// Reads a reference, whose parts borrow the bytes. Only the list of segments wants memory.
     ///
-    /// The first part that has a fault is answered, in the order authority, path, colon rule, query,
-    /// fragment. Where authority and path have none, and there is no memory for the list,
+    /// The first part that has a fault is answered, in the order authority, path, colon rule,
+    /// query, fragment. Where authority and path have none, and there is no memory for the list,
     /// [`Path`](URIReferenceError::Path) with
     /// [`OutOfMemory`](uriparse_path::path::PathError::OutOfMemory) is.
     pub fn try_from_bytes(

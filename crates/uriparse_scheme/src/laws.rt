@@ -65,8 +65,8 @@ pub fn table_is_one_to_one()
     ensures named { (t : List ℕ) (s : RegisteredScheme) → (registered_named (str_to_ascii_lowercase t) ≡ Some s) ↔ (str_to_ascii_lowercase t ≡ name_of s) }
 {}
 
-/// The normal form of a valid scheme is valid and its own normal form, and has the canonical text. A
-/// scheme with the text of its normal form is that form.
+/// The normal form of a valid scheme is valid and its own normal form, and has the canonical text.
+/// A scheme with the text of its normal form is that form.
 pub fn one_normal_form()
     ensures valid { (s : Scheme) → Valid s → Valid (canonical_scheme s) }
     ensures twice { (s : Scheme) → Valid s → canonical_scheme (canonical_scheme s) ≡ canonical_scheme s }

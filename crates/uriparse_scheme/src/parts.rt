@@ -6,8 +6,8 @@ ghost use Rattle.uriparse_scheme.specs.Normal.{canonical_scheme};
 use crate::scheme::Scheme;
 use std::alloc::{AllocError, Global};
 
-/// A copy in canonical spelling of a scheme that is there and isn't canonical, or none. Wants memory for
-/// such a scheme alone.
+/// A copy in canonical spelling of a scheme that is there and isn't canonical, or none. Wants
+/// memory for such a scheme alone.
 pub fn canonical_copy(
     alloc: Global,
     scheme: &Option<Scheme<'_>>,

@@ -58,8 +58,8 @@ pub enum Scheme<'s> {
 }
 
 impl<'s> Scheme<'s> {
-    /// Reads a scheme: RFC 3986, section 3.1. Where it isn't registered it borrows the bytes. Takes no
-    /// memory.
+    /// Reads a scheme: RFC 3986, section 3.1. Where it isn't registered it borrows the bytes. Takes
+    /// no memory.
     ///
     /// What is empty, what begins with no letter, and what has a byte without a place in a scheme,
     /// such as a `:`, is refused with the [`SchemeError`] of the leftmost fault.
@@ -141,8 +141,8 @@ impl<'s> Scheme<'s> {
         String::from_str(alloc, self.as_str())
     }
 
-    /// Whether the text is its canonical spelling, which is the text in lower case: RFC 3986, section
-    /// 6.2.2.1. A registered scheme's always is. Takes no memory.
+    /// Whether the text is its canonical spelling, which is the text in lower case: RFC 3986,
+    /// section 6.2.2.1. A registered scheme's always is. Takes no memory.
     pub fn is_normalized(&self) -> bool
         ensures { IsTrue result ↔ (spec.canonical_text self.now ≡ spec.text self.now) }
     {
@@ -153,8 +153,8 @@ impl<'s> Scheme<'s> {
     }
 
     /// Puts the text in lower case: RFC 3986, section 6.2.2.1. Wants memory only where that changes
-    /// it, which it never does to a registered scheme; where there is none, the scheme is unchanged.
-    /// A second call changes nothing.
+    /// it, which it never does to a registered scheme; where there is none, the scheme is
+    /// unchanged. A second call changes nothing.
     pub fn normalize(&mut self, alloc: Global) -> Result<(), AllocError>
         ensures ok { OnOk result (self.new ≡ canonical_scheme self.old) }
         ensures err { OnErr result (self.new ≡ self.old) }
@@ -166,8 +166,8 @@ impl<'s> Scheme<'s> {
         }
     }
 
-    /// Whether the bytes are this scheme in any case. Escapes are not read: a scheme has none. Takes
-    /// no memory.
+    /// Whether the bytes are this scheme in any case. Escapes are not read: a scheme has none.
+    /// Takes no memory.
     pub fn eq_bytes(&self, bytes: &[u8]) -> bool
         ensures { IsTrue result ↔ (str_to_ascii_lowercase bytes.now ≡ str_to_ascii_lowercase (spec.text self.now)) }
     {

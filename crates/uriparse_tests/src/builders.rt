@@ -153,6 +153,7 @@ fn by_calls(reference: URIReference<'_>) -> Result<URIReference<'_>, URIReferenc
     builder.build()
 }
 
+/// The URI built again by the plain calls.
 fn uri_by_calls(uri: URI<'_>) -> Result<URI<'_>, URIError> {
     let (scheme, authority, path, query, fragment) = uri.into_parts();
     let mut builder = URIBuilder::new();
@@ -164,6 +165,7 @@ fn uri_by_calls(uri: URI<'_>) -> Result<URI<'_>, URIError> {
     builder.build()
 }
 
+/// The relative reference built again by the plain calls.
 fn relative_by_calls(
     relative: RelativeReference<'_>,
 ) -> Result<RelativeReference<'_>, RelativeReferenceError> {
@@ -188,6 +190,7 @@ fn by_chain(reference: URIReference<'_>) -> Result<URIReference<'_>, URIReferenc
         .build()
 }
 
+/// The URI built again by the calls that hand the builder on.
 fn uri_by_chain(uri: URI<'_>) -> Result<URI<'_>, URIError> {
     let (scheme, authority, path, query, fragment) = uri.into_parts();
     URIBuilder::default()
@@ -199,6 +202,7 @@ fn uri_by_chain(uri: URI<'_>) -> Result<URI<'_>, URIError> {
         .build()
 }
 
+/// The relative reference built again by the calls that hand the builder on.
 fn relative_by_chain(
     relative: RelativeReference<'_>,
 ) -> Result<RelativeReference<'_>, RelativeReferenceError> {
@@ -211,7 +215,7 @@ fn relative_by_chain(
         .build()
 }
 
-/// The reference built again.
+/// The reference built again by the calls that the command names.
 fn again<'t>(
     command: &str,
     reference: URIReference<'t>,
@@ -222,6 +226,7 @@ fn again<'t>(
     }
 }
 
+/// The URI built again by the calls that the command names.
 fn uri_again<'t>(command: &str, uri: URI<'t>) -> Result<URI<'t>, URIError> {
     match command {
         "uri-calls" => uri_by_calls(uri),
@@ -229,6 +234,7 @@ fn uri_again<'t>(command: &str, uri: URI<'t>) -> Result<URI<'t>, URIError> {
     }
 }
 
+/// The relative reference built again by the calls that the command names.
 fn relative_again<'t>(
     command: &str,
     relative: RelativeReference<'t>,

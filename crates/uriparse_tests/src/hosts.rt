@@ -116,14 +116,20 @@ pub type AuthorityParts<'r, 't> = (
     Option<u16>,
 );
 
+/// Adds the host behind its kind, if there is one.
+fn add_host(text: &mut String, host: Option<&Host<'_>>) -> Result<(), AllocError> {
+    match host {
+        Some(host) => add(text, kind_of(host), Some(host)),
+        None => Ok(()),
+    }
+}
+
 /// Adds the parts that there are.
 pub fn add_authority(text: &mut String, parts: AuthorityParts<'_, '_>) -> Result<(), AllocError> {
     let (username, password, host, port) = parts;
     add(text, "username", username)?;
     add(text, "password", password)?;
-    if let Some(host) = host {
-        add(text, kind_of(host), Some(host))?;
-    }
+    add_host(text, host)?;
     add(text, "port", port.as_ref())
 }
 

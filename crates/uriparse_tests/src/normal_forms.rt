@@ -51,8 +51,8 @@ fn refused_edit(alloc: Global, (index, why): (usize, URIReferenceError), left: &
     said(alloc, "another refusal")
 }
 
-/// A query, the normal form and a fragment, one after another. Where the normal form wants memory and
-/// there is none, the reference is to have the query alone.
+/// A query, the normal form and a fragment, one after another. Where the normal form wants memory
+/// and there is none, the reference is to have the query alone.
 fn normalized_by_edits(alloc: Global, reference: &mut URIReference<'_>) -> Answer {
     let edits = edits(alloc, "q%7e", Edit::Normalize, "f%7e")?;
     let answer = reference.apply_all(alloc, edits);

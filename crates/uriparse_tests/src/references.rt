@@ -5,6 +5,7 @@ use crate::reference;
 use crate::reference::{Parts, Reference};
 use rows::answer::{Answer, printed, refused, said, words};
 use std::alloc::{AllocError, Global};
+use std::convert::identity;
 use uriparse::{Authority, Fragment, Path, Query, URIReference, URIReferenceError};
 
 impl<'t> Reference<'t> for URIReference<'t> {
@@ -82,7 +83,7 @@ impl<'t> Reference<'t> for URIReference<'t> {
     }
 
     fn keep_path(self) -> Result<Self, Self::Error> {
-        self.map_path(|old| old)
+        self.map_path(identity)
     }
 
     fn swap_query(self, new: Option<Query<'t>>) -> Result<Self, Self::Error> {

@@ -5,6 +5,7 @@ use crate::reference;
 use crate::reference::{Parts, Reference, given, made};
 use rows::answer::{Answer, named, printed, refused, words};
 use std::alloc::{AllocError, Global};
+use std::convert::identity;
 use uriparse::{
     Authority, Fragment, Path, Query, RelativeReference, RelativeReferenceError, URIReference,
 };
@@ -84,7 +85,7 @@ impl<'t> Reference<'t> for RelativeReference<'t> {
     }
 
     fn keep_path(self) -> Result<Self, Self::Error> {
-        self.map_path(|old| old)
+        self.map_path(identity)
     }
 
     fn swap_query(self, new: Option<Query<'t>>) -> Result<Self, Self::Error> {

@@ -5,6 +5,7 @@ use crate::reference;
 use crate::reference::{Parts, Reference, given, made, settled};
 use rows::answer::{Answer, printed, refused, words};
 use std::alloc::{AllocError, Global};
+use std::convert::identity;
 use uriparse::{Authority, Fragment, Path, Query, Scheme, URI, URIError, URIReference};
 
 impl<'t> Reference<'t> for URI<'t> {
@@ -87,7 +88,7 @@ impl<'t> Reference<'t> for URI<'t> {
     }
 
     fn keep_path(self) -> Result<Self, Self::Error> {
-        self.map_path(|old| old)
+        self.map_path(identity)
     }
 
     fn swap_query(self, new: Option<Query<'t>>) -> Result<Self, Self::Error> {

@@ -49,12 +49,12 @@ impl Kind for FragmentKind {
     }
 }
 
-/// The fragment of a URI or reference, without its `#`: a text of `pchar`, `/` and `?`, which may be
-/// empty. RFC 3986, section 3.5.
+/// The fragment of a URI or reference, without its `#`: a text of `pchar`, `/` and `?`, which may
+/// be empty. RFC 3986, section 3.5.
 ///
-/// It borrows the text that it was read from, or owns its text. Its readers take no memory and refuse
-/// the leftmost fault: [`InvalidPercentEncoding`](FragmentError::InvalidPercentEncoding) at a `%`
-/// without two hexadecimal digits behind it, else
+/// It borrows the text that it was read from, or owns its text. Its readers take no memory and
+/// refuse the leftmost fault: [`InvalidPercentEncoding`](FragmentError::InvalidPercentEncoding) at
+/// a `%` without two hexadecimal digits behind it, else
 /// [`InvalidCharacter`](FragmentError::InvalidCharacter). Two fragments are equal where their
 /// canonical spellings are. The calls are those of [`Text`].
 ///

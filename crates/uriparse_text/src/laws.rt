@@ -60,8 +60,8 @@ pub fn spelled_bytes()
     ensures name { (text a : List ℕ) → SpellsIpv4 text a → IsIn class.Name text }
 {}
 
-/// The printed text of an address is one of its spellings, of an IPv4 address the only one, of an IPv6
-/// address the one that RFC 5952 recommends.
+/// The printed text of an address is one of its spellings, of an IPv4 address the only one, of an
+/// IPv6 address the one that RFC 5952 recommends.
 pub fn printed_spells()
     ensures ipv4 { (a : List ℕ) → IsOctets a → SpellsIpv4 (ipv4_text a) a }
     ensures ipv4_alone { (text a : List ℕ) → SpellsIpv4 text a → IsOctets a × (text ≡ ipv4_text a) }

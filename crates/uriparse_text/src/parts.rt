@@ -21,5 +21,5 @@ pub use copy::{canonical_copy, is_canonical_part, put_copy};
 pub use cut::{split_at_mark, without_mark};
 pub use print::write_short;
 pub use scan::{ByteTest, Is, IsAny, Outside, first, next_marks};
-pub use text::{Kind, Text, read_text_if};
+pub use text::{Kind, Text, borrowed_text, owned_text, read_text_if};
 pub use token::{Token, is_escape, split_token};

@@ -52,10 +52,11 @@ impl Kind for QueryKind {
 /// The query of a URI or reference, without its `?`: a text of `pchar`, `/` and `?`, which may be
 /// empty. RFC 3986, section 3.4.
 ///
-/// It borrows the text that it was read from, or owns its text. Its readers take no memory and refuse
-/// the leftmost fault: [`InvalidPercentEncoding`](QueryError::InvalidPercentEncoding) at a `%` without
-/// two hexadecimal digits behind it, else [`InvalidCharacter`](QueryError::InvalidCharacter). Two
-/// queries are equal where their canonical spellings are. The calls are those of [`Text`].
+/// It borrows the text that it was read from, or owns its text. Its readers take no memory and
+/// refuse the leftmost fault: [`InvalidPercentEncoding`](QueryError::InvalidPercentEncoding) at a
+/// `%` without two hexadecimal digits behind it, else
+/// [`InvalidCharacter`](QueryError::InvalidCharacter). Two queries are equal where their canonical
+/// spellings are. The calls are those of [`Text`].
 ///
 /// ```
 /// let query = Query::try_from_str("k=%7e")?;

@@ -1,8 +1,8 @@
 //! A redirect checker: whether an answer's `Location` stays at an allowed authority.
-ghost use Rattle.std.specs.Prelude.{◌≡◌, ◌↔◌, IsTrue, IfOk, Err, Some};
+ghost use Rattle.std.specs.Prelude.{◌≡◌, ◌↔◌, IsTrue, IfOk, MatchResult, Err, Some};
 ghost use Rattle.uriparse_reference.specs.Reference.{Parts};
 ghost use Rattle.uriparse_reference.specs.Target.{target};
-ghost use Rattle.uses.specs.declared.redirects.RedirectError.TheVariants.{Elsewhere};
+ghost use Rattle.uses.specs.declared.redirects.RedirectError.TheVariants.{Elsewhere, Memory};
 ghost use Rattle.uses.specs.Redirects.{GoesTo, IsAt};
 ghost use Rattle.uses.specs.Redirects as spec;
 
@@ -83,9 +83,17 @@ fn own_if_at(
 ) -> Result<URI<'static>, RedirectError>
     ensures { spec.Follows (Some target.entry) allowed.now result }
 {
-    if !is_at(&target, allowed) {
-        return Err(RedirectError::Elsewhere);
+    if is_at(&target, allowed) {
+        own(alloc, target)
+    } else {
+        Err(RedirectError::Elsewhere)
     }
+}
+
+/// The target with texts of its own.
+fn own(alloc: Global, target: URI<'_>) -> Result<URI<'static>, RedirectError>
+    ensures { MatchResult result (λ t. t ≡ target.entry) (λ e. e ≡ Memory) }
+{
     match target.into_owned(alloc) {
         Ok(target) => Ok(target),
         Err(AllocError) => Err(RedirectError::Memory),

@@ -82,8 +82,8 @@ impl<'r> Registry<'r> {
     /// Registers the identifier behind the others.
     ///
     /// If an equal one is registered, it is [`Taken`](RegistryError::Taken), whatever memory there
-    /// is; if there is no memory, [`Memory`](RegistryError::Memory). The registry is unchanged then,
-    /// and the identifier is gone.
+    /// is; if there is no memory, [`Memory`](RegistryError::Memory). The registry is unchanged
+    /// then, and the identifier is gone.
     pub fn insert(&mut self, identifier: URI<'r>) -> Result<(), RegistryError>
         ensures added { OnOk result (self.new ≡ self.old ++ identifier.entry ∷ []) }
         ensures unchanged { OnErr result (self.new ≡ self.old) }

@@ -8,8 +8,8 @@ use crate::kind::Kind;
 use std::alloc::{AllocError, Global};
 
 impl<'r, K: Kind> ReferenceOf<'r, K> {
-    /// Whether the text is that of the normal form. Then the value is that form, part for part. Takes
-    /// no memory.
+    /// Whether the text is that of the normal form. Then the value is that form, part for part.
+    /// Takes no memory.
     pub fn is_normalized(&self) -> bool
         ensures text { IsTrue result ↔ (print (normal self.now) ≡ print self.now) }
         ensures form { IsTrue result → normal self.now ≡ self.now }
@@ -18,7 +18,8 @@ impl<'r, K: Kind> ReferenceOf<'r, K> {
     }
 
     /// Brings the value into its normal form, as
-    /// [`URIReference::normalize`](uriparse_reference::uri_reference::URIReference::normalize) does.
+    /// [`URIReference::normalize`](uriparse_reference::uri_reference::URIReference::normalize)
+    /// does.
     ///
     /// Memory is wanted only for the texts that aren't canonical; where there is none, the value is
     /// unchanged.

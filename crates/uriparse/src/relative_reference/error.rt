@@ -9,7 +9,8 @@ use uriparse_reference::uri_reference::URIReferenceError;
 use uriparse_text::fragment::FragmentError;
 use uriparse_text::query::QueryError;
 
-/// Why a text or a set of parts is no relative reference. The first of the parts that has a fault answers.
+/// Why a text or a set of parts is no relative reference. The first of the parts that has a fault
+/// answers.
 #[derive(Clone, Debug, Drop, PartialEq, Eq, Hash, Error)]
 pub enum RelativeReferenceError {
     /// Without an authority the path would begin with two slashes. Reading never answers it.
@@ -66,8 +67,8 @@ impl From<FragmentError> for RelativeReferenceError {
     }
 }
 
-/// The refusal of a reference as that of a relative reference. A fault of a scheme is none: `Err` is
-/// answered.
+/// The refusal of a reference as that of a relative reference. A fault of a scheme is none: `Err`
+/// is answered.
 impl TryFrom<URIReferenceError> for RelativeReferenceError {
     type Error = ();
 

@@ -78,8 +78,8 @@ impl From<SchemeError> for URIError {
     }
 }
 
-/// The refusal of a reference as that of a URI. A colon in the first segment of a reference without a
-/// scheme is no refusal of a URI: `Err` is answered.
+/// The refusal of a reference as that of a URI. A colon in the first segment of a reference without
+/// a scheme is no refusal of a URI: `Err` is answered.
 impl TryFrom<URIReferenceError> for URIError {
     type Error = ();
 

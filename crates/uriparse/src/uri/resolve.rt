@@ -15,16 +15,16 @@ use uriparse_reference::parts::resolve;
 use uriparse_reference::uri_reference::URIReference;
 
 impl<'u> URI<'u> {
-    /// The target of a reference behind this URI as its base: RFC 3986, section 5.2.2, strict. It borrows
-    /// the texts of both. Nothing is normalised but that dot segments are removed where that section
-    /// says so; where no authority stands before a path that would begin with two slashes, a `.` stands
-    /// in front of it. The fragment is the reference's.
+    /// The target of a reference behind this URI as its base: RFC 3986, section 5.2.2, strict. It
+    /// borrows the texts of both. Nothing is normalised but that dot segments are removed where
+    /// that section says so; where no authority stands before a path that would begin with two
+    /// slashes, a `.` stands in front of it. The fragment is the reference's.
     ///
     /// [`Path`](URIError::Path) with
     /// [`ExceededMaximumLength`](uriparse_path::path::PathError::ExceededMaximumLength) is answered
-    /// where the paths are merged and have more segments together than a path may have, whatever memory
-    /// there is. Else room for the list of segments is asked for once; where there is none, it is
-    /// [`OutOfMemory`](uriparse_path::path::PathError::OutOfMemory).
+    /// where the paths are merged and have more segments together than a path may have, whatever
+    /// memory there is. Else room for the list of segments is asked for once; where there is none,
+    /// it is [`OutOfMemory`](uriparse_path::path::PathError::OutOfMemory).
     ///
     /// ```
     /// let base = URI::try_from_str(alloc, "http://a/b/c/d;p?q")?;
@@ -42,8 +42,8 @@ impl<'u> URI<'u> {
         // References that are the same have the same target behind bases that are, or both none.
         ensures equal { (c q : Parts) → Valid c → Valid q → Same self.now c → Same reference.now q → AreSame (target self.now reference.now) (target c q) }
 
-        // The normal forms of both have a target with the same normal form, save where paths merge that
-        // don't merge alike.
+        // The normal forms of both have a target with the same normal form, save where paths merge
+        // that don't merge alike.
         ensures commutes { IfOk result (λ t. (is_merged reference.now ≡ true → MergesAlike self.now reference.now) → (u : Parts) × (target (normal self.now) (normal reference.now) ≡ Some u) × (normal t ≡ normal u)) }
     {
         match resolve(alloc, &self.reference, reference) {

@@ -50,7 +50,8 @@ impl<'a> Authority<'a> {
         port
     }
 
-    /// Sets the host to what the closure makes of it. It is never refused, and the other parts stay.
+    /// Sets the host to what the closure makes of it. It is never refused, and the other parts
+    /// stay.
     pub fn map_host<F>(&mut self, make: F) -> Result<(), AuthorityError>
     where
         F: FnOnce(Host<'a>) -> Host<'a>,
@@ -63,7 +64,8 @@ impl<'a> Authority<'a> {
     }
 
     /// Sets the user name to what the closure makes of it. It is never refused. Without a user name
-    /// there is no password, so a closure that answers `None` drops the password too; all else stays.
+    /// there is no password, so a closure that answers `None` drops the password too; all else
+    /// stays.
     pub fn map_username<F>(&mut self, make: F) -> Result<(), AuthorityError>
     where
         F: FnOnce(Option<Username<'a>>) -> Option<Username<'a>>,
@@ -88,8 +90,8 @@ impl<'a> Authority<'a> {
         self.set_password(make(old))
     }
 
-    /// Sets the port to what the closure makes of it, and answers the port just set. The other parts
-    /// stay.
+    /// Sets the port to what the closure makes of it, and answers the port just set. The other
+    /// parts stay.
     pub fn map_port<F>(&mut self, make: F) -> Option<u16>
     where
         F: FnOnce(Option<u16>) -> Option<u16>,

@@ -16,8 +16,8 @@ pub enum HostError {
     /// later version (`IPvFuture`) may have. None is read.
     #[error("host address mechanism not supported")]
     AddressMechanismNotSupported,
-    /// A byte that no name has, or a broken escape; or, where an authority is read by itself, a byte
-    /// behind the IPv4 address or name that ends it.
+    /// A byte that no name has, or a broken escape; or, where an authority is read by itself, a
+    /// byte behind the IPv4 address or name that ends it.
     #[error("invalid host IPv4 or registered name character")]
     InvalidIPv4OrRegisteredNameCharacter,
     /// Between brackets stands a byte that no IPv6 address has; or, where an authority is read by

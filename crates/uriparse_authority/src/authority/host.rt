@@ -22,9 +22,9 @@ use read::read_host;
 /// registered name.
 ///
 /// RFC 3986, section 3.2.2. Addresses are held by value. A name borrows the text that it was read
-/// from, or owns its text. Its readers take no memory; [`HostError`] says what they refuse. Two hosts
-/// are equal where they are of one kind and their canonical spellings agree, so the name `%31.2.3.4`
-/// isn't the address `1.2.3.4`.
+/// from, or owns its text. Its readers take no memory; [`HostError`] says what they refuse. Two
+/// hosts are equal where they are of one kind and their canonical spellings agree, so the name
+/// `%31.2.3.4` isn't the address `1.2.3.4`.
 ///
 /// ```
 /// let host = Host::try_from_str("[::FFFF:1.2.3.4]")?;
@@ -41,24 +41,25 @@ pub enum Host<'h> {
     RegisteredName(RegisteredName<'h>),
 }
 
-/// The most bytes that the text of an IPv4 address has: four numbers of three digits, and three dots.
+/// The most bytes that the text of an IPv4 address has: four numbers of three digits, and three
+/// dots.
 const IPV4_BYTES: usize = 15;
 
-/// The most bytes that the text of an IPv6 address has: eight groups of four digits, seven colons and
-/// two brackets.
+/// The most bytes that the text of an IPv6 address has: eight groups of four digits, seven colons
+/// and two brackets.
 const IPV6_BYTES: usize = 41;
 
 impl<'h> Host<'h> {
     /// Reads a host. A name borrows the bytes. Takes no memory.
     ///
-    /// A text in brackets is an IPv6 address; any other is the IPv4 address that it spells, or else a
-    /// name. Between brackets,
-    /// [`AddressMechanismNotSupported`](HostError::AddressMechanismNotSupported) is answered for `v` or
-    /// `V`, a hexadecimal digit and then only bytes that an address of a later version may have,
-    /// [`InvalidIPvFutureCharacter`](HostError::InvalidIPvFutureCharacter) for the same with another
-    /// byte; else [`InvalidIPv6Character`](HostError::InvalidIPv6Character) for a byte that no IPv6
-    /// address has, and [`InvalidIPv6Format`](HostError::InvalidIPv6Format) for no form of one.
-    /// Without brackets,
+    /// A text in brackets is an IPv6 address; any other is the IPv4 address that it spells, or else
+    /// a name. Between brackets,
+    /// [`AddressMechanismNotSupported`](HostError::AddressMechanismNotSupported) is answered for
+    /// `v` or `V`, a hexadecimal digit and then only bytes that an address of a later version may
+    /// have, [`InvalidIPvFutureCharacter`](HostError::InvalidIPvFutureCharacter) for the same with
+    /// another byte; else [`InvalidIPv6Character`](HostError::InvalidIPv6Character) for a byte that
+    /// no IPv6 address has, and [`InvalidIPv6Format`](HostError::InvalidIPv6Format) for no form of
+    /// one. Without brackets,
     /// [`InvalidIPv4OrRegisteredNameCharacter`](HostError::InvalidIPv4OrRegisteredNameCharacter) is
     /// answered for a byte that no name has and for a broken escape.
     pub fn try_from_bytes(bytes: &'h [u8]) -> Result<Host<'h>, HostError>
@@ -118,8 +119,8 @@ impl<'h> Host<'h> {
         }
     }
 
-    /// Whether the host's text is its canonical spelling: RFC 3986, section 6.2.2. An address's always
-    /// is. Takes no memory.
+    /// Whether the host's text is its canonical spelling: RFC 3986, section 6.2.2. An address's
+    /// always is. Takes no memory.
     pub fn is_normalized(&self) -> bool
         ensures { IsTrue result ↔ (spec.text (canonical_host self.now) ≡ spec.text self.now) }
     {
@@ -129,8 +130,8 @@ impl<'h> Host<'h> {
         }
     }
 
-    /// A copy in canonical spelling of a name that isn't canonical, or none. Wants memory for such a name
-    /// alone.
+    /// A copy in canonical spelling of a name that isn't canonical, or none. Wants memory for such
+    /// a name alone.
     pub(super) fn canonical_copy(&self, alloc: Global) -> Result<Option<Host<'static>>, AllocError>
         ensures copy { IfOk result (λ copy. unwrap_or copy self.now ≡ canonical_host self.now) }
         ensures takes_no_memory { spec.text (canonical_host self.now) ≡ spec.text self.now → IsOk result }
@@ -146,10 +147,10 @@ impl<'h> Host<'h> {
         }
     }
 
-    /// Puts a name in canonical spelling, in which letters are lower case: RFC 3986, section 6.2.2. It
-    /// stays a name, also where its text spells an IPv4 address then. Addresses stay as they are. Memory
-    /// is wanted only where the text changes; where there is none, the host is unchanged. A second call
-    /// changes nothing.
+    /// Puts a name in canonical spelling, in which letters are lower case: RFC 3986, section 6.2.2.
+    /// It stays a name, also where its text spells an IPv4 address then. Addresses stay as they
+    /// are. Memory is wanted only where the text changes; where there is none, the host is
+    /// unchanged. A second call changes nothing.
     pub fn normalize(&mut self, alloc: Global) -> Result<(), AllocError>
         ensures ok { OnOk result (self.new ≡ canonical_host self.old) }
         ensures err { OnErr result (self.new ≡ self.old) }

@@ -49,10 +49,10 @@ impl Kind for NameKind {
 /// A registered name: a text of unreserved bytes, escapes and sub-delimiters, which may be empty.
 /// RFC 3986, section 3.2.2. No reader takes the text of an IPv4 address for one.
 ///
-/// It borrows the text that it was read from, or owns its text. Its readers take no memory and refuse
-/// a text of other bytes or with a broken escape, and that of an IPv4 address, by the one
-/// [`RegisteredNameError`]. Two names are equal where their canonical spellings are, in which letters
-/// are lower case.
+/// It borrows the text that it was read from, or owns its text. Its readers take no memory and
+/// refuse a text of other bytes or with a broken escape, and that of an IPv4 address, by the one
+/// [`RegisteredNameError`]. Two names are equal where their canonical spellings are, in which
+/// letters are lower case.
 ///
 /// ```
 /// let name = RegisteredName::try_from_str("EXAMPLE.com")?;
@@ -74,8 +74,8 @@ impl<'n> Model for RegisteredName<'n> {
 impl<'n> RegisteredName<'n> {
     /// Reads a name, which borrows the bytes. Takes no memory.
     ///
-    /// A byte that no name has, or a `%` without two hexadecimal digits behind it, is refused, and so
-    /// is a text that spells an IPv4 address.
+    /// A byte that no name has, or a `%` without two hexadecimal digits behind it, is refused, and
+    /// so is a text that spells an IPv4 address.
     pub fn try_from_bytes(bytes: &'n [u8]) -> Result<RegisteredName<'n>, RegisteredNameError>
         ensures { result ≡ spec.reading bytes.now }
     {
@@ -143,7 +143,8 @@ impl<'n> RegisteredName<'n> {
         self.text.to_string(alloc)
     }
 
-    /// Whether the name is its own canonical spelling, in which letters are lower case. Takes no memory.
+    /// Whether the name is its own canonical spelling, in which letters are lower case. Takes no
+    /// memory.
     pub fn is_normalized(&self) -> bool
         ensures { IsTrue result ↔ (canonical_lowered self.now ≡ self.now) }
     {
@@ -159,9 +160,9 @@ impl<'n> RegisteredName<'n> {
         })
     }
 
-    /// Puts the canonical spelling in the name's place; it is its own canonical spelling. It stays a
-    /// name, also where it spells an IPv4 address then. Memory is wanted only where they differ; where
-    /// there is none, the name is kept.
+    /// Puts the canonical spelling in the name's place; it is its own canonical spelling. It stays
+    /// a name, also where it spells an IPv4 address then. Memory is wanted only where they differ;
+    /// where there is none, the name is kept.
     pub fn normalize(&mut self, alloc: Global) -> Result<(), AllocError>
         ensures ok { OnOk result (self.new ≡ canonical_lowered self.old) }
         ensures err { OnErr result (self.new ≡ self.old) }

@@ -1,13 +1,11 @@
 //! Normal forms of authorities: RFC 3986, sections 3.2 and 6.2.2.
 ghost use Rattle.std.specs.Prelude.{◌≡◌, ◌↔◌, IsTrue, IsOk, IfOk, OnOk, OnErr, unwrap_or};
-ghost use Rattle.std.specs.Option.{option_map};
-ghost use Rattle.uriparse_text.specs.Canonical.{canonical_in};
 ghost use Rattle.uriparse_authority.specs.Authority.{print};
 ghost use Rattle.uriparse_authority.specs.Normal.{AreCanonicalCopies, canonical_authority};
 
 use super::{Authority, Host, Password, Username};
 use std::alloc::{AllocError, Global};
-use uriparse_text::parts::{Kind, Text, canonical_copy, put_copy};
+use uriparse_text::parts::{canonical_copy, is_canonical_part, put_copy};
 
 /// Copies in canonical spelling of those parts of an authority that are there and aren't canonical.
 #[derive(Drop)]
@@ -54,19 +52,9 @@ pub fn put_copies(authority: &mut Authority<'_>, copies: CanonicalCopies)
     put_host(&mut authority.host, copies.host);
 }
 
-/// Whether a part is its own canonical spelling, if it is there.
-fn is_canonical_part<K: Kind>(part: &Option<Text<'_, K>>) -> bool
-    ensures { IsTrue result ↔ (option_map (canonical_in K.case) part.now ≡ part.now) }
-{
-    match part {
-        Some(text) => text.is_normalized(),
-        None => true,
-    }
-}
-
 impl<'a> Authority<'a> {
-    /// Whether the authority's text is its canonical spelling: RFC 3986, section 6.2.2. Then each part
-    /// is canonical. Takes no memory.
+    /// Whether the authority's text is its canonical spelling: RFC 3986, section 6.2.2. Then each
+    /// part is canonical. Takes no memory.
     pub fn is_normalized(&self) -> bool
         ensures text { IsTrue result ↔ (print (canonical_authority self.now) ≡ print self.now) }
         ensures form { IsTrue result → canonical_authority self.now ≡ self.now }
@@ -76,11 +64,11 @@ impl<'a> Authority<'a> {
             && self.host.is_normalized()
     }
 
-    /// Puts the user name, the password and the host in canonical spelling: RFC 3986, section 6.2.2. The
-    /// port stays, and so does the kind of the host. A second call changes nothing.
+    /// Puts the user name, the password and the host in canonical spelling: RFC 3986, section
+    /// 6.2.2. The port stays, and so does the kind of the host. A second call changes nothing.
     ///
-    /// Memory is wanted only for the parts that this changes. All of them are copied before one is put
-    /// in place, so where there is no memory, the authority is unchanged.
+    /// Memory is wanted only for the parts that this changes. All of them are copied before one is
+    /// put in place, so where there is no memory, the authority is unchanged.
     ///
     /// ```
     /// let mut authority = Authority::try_from_str("%7eu@EXAMPLE.com:80")?;

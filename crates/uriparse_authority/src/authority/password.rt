@@ -44,9 +44,9 @@ impl Kind for PasswordKind {
 /// RFC 3986, section 3.2.1, has user information alone, and calls it deprecated to put a password
 /// there. What stands behind its first `:` is the password.
 ///
-/// It borrows the text that it was read from, or owns its text. Its readers take no memory and refuse
-/// the leftmost fault: [`InvalidPercentEncoding`](PasswordError::InvalidPercentEncoding) at a `%`
-/// without two hexadecimal digits behind it, else
+/// It borrows the text that it was read from, or owns its text. Its readers take no memory and
+/// refuse the leftmost fault: [`InvalidPercentEncoding`](PasswordError::InvalidPercentEncoding) at
+/// a `%` without two hexadecimal digits behind it, else
 /// [`InvalidCharacter`](PasswordError::InvalidCharacter). Two passwords are equal where their
 /// canonical spellings are. The calls are those of [`Text`].
 ///

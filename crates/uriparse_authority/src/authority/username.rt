@@ -40,17 +40,17 @@ impl Kind for UsernameKind {
     }
 }
 
-/// The user name of an authority, without what stands behind it: a text of unreserved bytes, escapes
-/// and sub-delimiters, which may be empty.
+/// The user name of an authority, without what stands behind it: a text of unreserved bytes,
+/// escapes and sub-delimiters, which may be empty.
 ///
 /// RFC 3986, section 3.2.1, has user information alone. Here its first `:`, if it has one, ends the
 /// user name, and a [`Password`](super::Password) stands behind that colon.
 ///
-/// It borrows the text that it was read from, or owns its text. Its readers take no memory and refuse
-/// the leftmost fault: [`InvalidPercentEncoding`](UsernameError::InvalidPercentEncoding) at a `%`
-/// without two hexadecimal digits behind it, [`ContainsColon`](UsernameError::ContainsColon) at a
-/// `:`, else [`InvalidCharacter`](UsernameError::InvalidCharacter). Two user names are equal where
-/// their canonical spellings are. The calls are those of [`Text`].
+/// It borrows the text that it was read from, or owns its text. Its readers take no memory and
+/// refuse the leftmost fault: [`InvalidPercentEncoding`](UsernameError::InvalidPercentEncoding) at
+/// a `%` without two hexadecimal digits behind it, [`ContainsColon`](UsernameError::ContainsColon)
+/// at a `:`, else [`InvalidCharacter`](UsernameError::InvalidCharacter). Two user names are equal
+/// where their canonical spellings are. The calls are those of [`Text`].
 ///
 /// ```
 /// let user = Username::try_from_str("j%2e+doe")?;

@@ -1,6 +1,7 @@
 //! Copies of a path, whose lists want memory.
 ghost use Rattle.std.specs.Prelude.{◌≡◌, IfOk};
 
+use super::merge::push_borrowed;
 use super::{Path, Segment};
 use std::alloc::{AllocError, Global};
 
@@ -12,9 +13,7 @@ fn borrowed_segments<'s>(
     ensures { IfOk result (λ v. v.items ≡ segments.now) }
 {
     let mut borrowed = Vec::with_capacity(alloc, segments.len())?;
-    for segment in segments {
-        borrowed.push(segment.as_borrowed())?;
-    }
+    push_borrowed(&mut borrowed, segments)?;
     Ok(borrowed)
 }
 

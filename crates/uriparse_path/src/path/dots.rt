@@ -65,9 +65,9 @@ pub(super) fn replay(absolute: bool, segments: &mut Vec<Segment<'_>>) -> (bool, 
     (rooted, kept)
 }
 
-/// Makes the first `kept` segments of the list those of the path that their text spells: an empty one
-/// goes from the front of others where no slash stands before it. Answers whether a slash stands
-/// before the segments then, and how many are left.
+/// Makes the first `kept` segments of the list those of the path that their text spells: an empty
+/// one goes from the front of others where no slash stands before it. Answers whether a slash
+/// stands before the segments then, and how many are left.
 pub(super) fn root_first(
     rooted: bool,
     segments: &mut Vec<Segment<'_>>,

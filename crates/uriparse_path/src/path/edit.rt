@@ -52,8 +52,8 @@ impl<'p> Path<'p> {
     /// that is empty: so `a` pushed on the empty path makes `a`, and not `/a`.
     ///
     /// [`ExceededMaximumLength`](PathError::ExceededMaximumLength) is answered where the path has
-    /// [`MAX_SEGMENTS`] already, and else [`OutOfMemory`](PathError::OutOfMemory) where the list can't
-    /// grow; it grows by doubling. After a refusal the path is as it was.
+    /// [`MAX_SEGMENTS`] already, and else [`OutOfMemory`](PathError::OutOfMemory) where the list
+    /// can't grow; it grows by doubling. After a refusal the path is as it was.
     pub fn push(&mut self, _alloc: Global, segment: Segment<'p>) -> Result<(), PathError>
         ensures answer { SettlesUnless errors.OutOfMemory self.old self.new result (spec.pushing self.old (Ok segment.entry)) }
         ensures fault { IfErr (spec.pushing self.old (Ok segment.entry)) (λ e. result ≡ Err e) }
@@ -64,7 +64,8 @@ impl<'p> Path<'p> {
         put_last(&mut self.segments, segment)
     }
 
-    /// Reads a segment, which borrows the bytes, and puts it at the end as [`push`](Path::push) does.
+    /// Reads a segment, which borrows the bytes, and puts it at the end as [`push`](Path::push)
+    /// does.
     ///
     /// [`ExceededMaximumLength`](PathError::ExceededMaximumLength) is answered where the path has
     /// [`MAX_SEGMENTS`] already; else the leftmost fault of the bytes, as by
@@ -88,8 +89,8 @@ impl<'p> Path<'p> {
         take_last(&mut self.segments);
     }
 
-    /// Takes all segments away and leaves an empty one. The path stays absolute or relative. Takes no
-    /// memory.
+    /// Takes all segments away and leaves an empty one. The path stays absolute or relative. Takes
+    /// no memory.
     pub fn clear(&mut self)
         ensures { self.new ≡ spec.cleared self.old }
     {

@@ -18,7 +18,7 @@ fn directory<'d, 's>(segments: &'d [Segment<'s>]) -> &'d [Segment<'s>]
 }
 
 /// Puts the segments at the end of the list. They borrow the texts of these.
-fn push_borrowed<'p>(
+pub(super) fn push_borrowed<'p>(
     list: &mut Vec<Segment<'p>>,
     segments: &'p [Segment<'_>],
 ) -> Result<(), AllocError>

@@ -32,8 +32,8 @@ pub(super) fn begins_twice(absolute: bool, segments: &[Segment<'_>]) -> bool
     }
 }
 
-/// Whether two slashes begin the text of the path with these segments, where no authority stands before
-/// it.
+/// Whether two slashes begin the text of the path with these segments, where no authority stands
+/// before it.
 pub(super) fn needs_shield(shields: bool, absolute: bool, segments: &[Segment<'_>]) -> bool
     ensures { result ≡ (shields && (path.hides_root segments.now && (absolute || path.hides_root (drop 1 segments.now)))) }
 {

@@ -23,8 +23,8 @@ pub(super) fn split_root(text: &[u8]) -> (bool, &[u8])
     }
 }
 
-/// How many segments the text is cut into where so many may be, or its leftmost fault. Each byte outside
-/// the class of a segment is a slash, begins an escape or is the fault.
+/// How many segments the text is cut into where so many may be, or its leftmost fault. Each byte
+/// outside the class of a segment is a slash, begins an escape or is the fault.
 pub(super) fn count_segments(limit: usize, text: &[u8]) -> Result<usize, PathError>
     requires { 0 < limit }
     ensures { let ps = slice_split is_slash text.now in result ≡ unless_fault (fault_within limit ps) (length ps) }

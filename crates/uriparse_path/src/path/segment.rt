@@ -67,10 +67,11 @@ impl Kind for SegmentKind {
 /// A segment of a path, without slashes: a text of `pchar`, which may be empty. RFC 3986, section
 /// 3.3.
 ///
-/// It borrows the text that it was read from, or owns its text. Its readers take no memory and refuse
-/// the leftmost fault: [`InvalidPercentEncoding`](PathError::InvalidPercentEncoding) at a `%` without
-/// two hexadecimal digits behind it, else [`InvalidCharacter`](PathError::InvalidCharacter), as at a
-/// slash. Two segments are equal where their canonical spellings are.
+/// It borrows the text that it was read from, or owns its text. Its readers take no memory and
+/// refuse the leftmost fault: [`InvalidPercentEncoding`](PathError::InvalidPercentEncoding) at a
+/// `%` without two hexadecimal digits behind it, else
+/// [`InvalidCharacter`](PathError::InvalidCharacter), as at a slash. Two segments are equal where
+/// their canonical spellings are.
 ///
 /// ```
 /// let segment = Segment::try_from_str("%4a")?;
@@ -92,9 +93,9 @@ impl<'s> Model for Segment<'s> {
 impl<'s> Segment<'s> {
     /// Reads a segment, which borrows the bytes. Takes no memory.
     ///
-    /// The leftmost fault is answered: [`InvalidPercentEncoding`](PathError::InvalidPercentEncoding)
-    /// at a `%` without two hexadecimal digits behind it, else
-    /// [`InvalidCharacter`](PathError::InvalidCharacter).
+    /// The leftmost fault is answered:
+    /// [`InvalidPercentEncoding`](PathError::InvalidPercentEncoding) at a `%` without two
+    /// hexadecimal digits behind it, else [`InvalidCharacter`](PathError::InvalidCharacter).
     pub fn try_from_bytes(bytes: &'s [u8]) -> Result<Segment<'s>, PathError>
         ensures { result ≡ spec.reading bytes.now }
     {

@@ -20,7 +20,8 @@ use uriparse_text::fragment::{Fragment, FragmentKind};
 use uriparse_text::parts::read_text_if;
 use uriparse_text::query::{Query, QueryKind};
 
-/// The parts of a reference that were given so far. Only the path has to be given before it is built.
+/// The parts of a reference that were given so far. Only the path has to be given before it is
+/// built.
 ///
 /// Each call sets one part and leaves the others. Two builders are equal where both have the same
 /// parts, and these are equal.
@@ -186,8 +187,8 @@ impl<'b> URIReferenceBuilder<'b> {
     }
 
     /// Reads the path and sets it. A text that is no path is refused as
-    /// [`Path`](URIReferenceError::Path), whatever memory there is; the list of segments wants memory.
-    /// After a refusal the builder is unchanged.
+    /// [`Path`](URIReferenceError::Path), whatever memory there is; the list of segments wants
+    /// memory. After a refusal the builder is unchanged.
     pub fn try_path(&mut self, alloc: Global, path: &'b [u8]) -> Result<(), URIReferenceError>
         ensures settles { SettlesUnless (errors.Path OutOfMemory) self.old self.new result (path_read self.old path.now) }
         ensures fault { IsErr (paths.reading path.now) → Settles self.old self.new result (path_read self.old path.now) }

@@ -7,7 +7,7 @@ use uriparse_authority::authority::Authority;
 use uriparse_path::path::Path;
 use uriparse_scheme::scheme::Scheme;
 use uriparse_text::fragment::Fragment;
-use uriparse_text::parts::{Kind, Text};
+use uriparse_text::parts::{borrowed_text, owned_text};
 use uriparse_text::query::Query;
 
 /// The same scheme, if there is one, which borrows this one's text.
@@ -26,16 +26,6 @@ pub(super) fn borrowed_authority<'r>(authority: Option<&'r Authority<'_>>) -> Op
 {
     match authority {
         Some(authority) => Some(authority.as_borrowed()),
-        None => None,
-    }
-}
-
-/// The same query or fragment, if there is one, which borrows this one's text.
-pub(super) fn borrowed_text<'r, K: Kind>(text: Option<&'r Text<'_, K>>) -> Option<Text<'r, K>>
-    ensures { result ≡ option_copied text.entry }
-{
-    match text {
-        Some(text) => Some(text.as_borrowed()),
         None => None,
     }
 }
@@ -62,19 +52,6 @@ fn owned_authority(
 {
     match authority {
         Some(authority) => Ok(Some(authority.into_owned(alloc)?)),
-        None => Ok(None),
-    }
-}
-
-/// The same query or fragment, if there is one, which owns its text.
-fn owned_text<K: Kind>(
-    alloc: Global,
-    text: Option<Text<'_, K>>,
-) -> Result<Option<Text<'static, K>>, AllocError>
-    ensures { IfOk result (λ t. t ≡ text.entry) }
-{
-    match text {
-        Some(text) => Ok(Some(text.into_owned(alloc)?)),
         None => Ok(None),
     }
 }
@@ -113,8 +90,8 @@ fn owned_tail(
 }
 
 impl<'r> URIReference<'r> {
-    /// The same reference, whose parts borrow the texts of this one's. Memory is wanted once, for the
-    /// list of segments.
+    /// The same reference, whose parts borrow the texts of this one's. Memory is wanted once, for
+    /// the list of segments.
     pub fn to_borrowed(&self, alloc: Global) -> Result<URIReference<'_>, AllocError>
         ensures { IfOk result (λ r. r ≡ self.now) }
     {
@@ -128,8 +105,8 @@ impl<'r> URIReference<'r> {
         })
     }
 
-    /// The same reference, whose parts own their texts. Memory is wanted for the list of segments and
-    /// for each borrowed text; where there is none, the reference is gone.
+    /// The same reference, whose parts own their texts. Memory is wanted for the list of segments
+    /// and for each borrowed text; where there is none, the reference is gone.
     pub fn into_owned(self, alloc: Global) -> Result<URIReference<'static>, AllocError>
         ensures { IfOk result (λ r. r ≡ self.entry) }
     {

@@ -17,8 +17,8 @@ use uriparse_scheme::scheme::Scheme;
 use uriparse_text::fragment::Fragment;
 use uriparse_text::query::Query;
 
-/// One change of a reference, as [`apply_all`](URIReference::apply_all) makes it: what the setter of
-/// that name does, or [`normalize`](URIReference::normalize).
+/// One change of a reference, as [`apply_all`](URIReference::apply_all) makes it: what the setter
+/// of that name does, or [`normalize`](URIReference::normalize).
 ///
 /// ```
 /// let mut reference = URIReference::try_from_str(alloc, "http://h/%7Ea#f")?;
@@ -157,9 +157,7 @@ impl<'r> URIReference<'r> {
     pub fn set_scheme(&mut self, scheme: Option<Scheme<'r>>) -> Result<(), URIReferenceError>
         ensures { Settles self.old self.new result (edited self.old (edits.Scheme scheme.entry)) }
     {
-        if !has_scheme(&scheme) {
-            check_place(false, self.authority.is_some(), &self.path)?;
-        }
+        check_place(has_scheme(&scheme), self.authority.is_some(), &self.path)?;
         self.scheme = scheme;
         Ok(())
     }
@@ -169,7 +167,7 @@ impl<'r> URIReference<'r> {
         ensures { edited self.old (edits.Authority (Some authority.entry)) ≡ Ok self.new }
     {
         self.path.set_absolute(true);
-        self.authority = Some(authority);
+        let _old = self.authority.replace(authority);
     }
 
     /// Takes the authority away, unless the path's text begins with two slashes.
@@ -253,8 +251,8 @@ impl<'r> URIReference<'r> {
     /// Makes the edits in order, up to the first refused one, whose index, from 0, and refusal are
     /// answered. The reference is then as the edits before that one made it.
     ///
-    /// Only [`Normalize`](Edit::Normalize) wants memory, and only where it changes the printed text. Where
-    /// there is none, it is refused with [`Path`](URIReferenceError::Path) of
+    /// Only [`Normalize`](Edit::Normalize) wants memory, and only where it changes the printed
+    /// text. Where there is none, it is refused with [`Path`](URIReferenceError::Path) of
     /// [`OutOfMemory`](PathError::OutOfMemory).
     pub fn apply_all(
         &mut self,

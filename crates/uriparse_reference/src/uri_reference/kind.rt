@@ -62,8 +62,8 @@ impl<'r> URIReference<'r> {
         self.scheme.is_none() && self.authority.is_none() && self.path.is_absolute()
     }
 
-    /// Whether it is a relative reference that has no authority and a relative path, as the empty one
-    /// is. RFC 3986, section 4.2.
+    /// Whether it is a relative reference that has no authority and a relative path, as the empty
+    /// one is. RFC 3986, section 4.2.
     pub fn is_relative_path_reference(&self) -> bool
         ensures { result ≡ kinds.is_relative_path_reference self.now }
     {

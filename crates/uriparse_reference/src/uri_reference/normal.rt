@@ -2,6 +2,7 @@
 ghost use Rattle.std.specs.Prelude.{◌≡◌, ◌↔◌, IsTrue, IsOk, IfOk, OnOk, OnErr, bytes_eq, false, is_none, is_some, true};
 ghost use Rattle.std.specs.List.{list_all};
 ghost use Rattle.std.specs.Option.{option_eq, option_map};
+ghost use Rattle.uriparse_text.specs.Canonical.{canonical};
 ghost use Rattle.uriparse_path.specs.Path.{hides_root};
 ghost use Rattle.uriparse_path.specs.Normal.{is_canonical, pnormal};
 ghost use Rattle.uriparse_authority.specs.Authority as authorities;
@@ -19,7 +20,9 @@ use uriparse_path::parts::{is_normal_path, normalize_path};
 use uriparse_path::path::Path;
 use uriparse_scheme::parts as scheme;
 use uriparse_scheme::scheme::Scheme;
+use uriparse_text::fragment::Fragment;
 use uriparse_text::parts::{canonical_copy, is_canonical_part, put_copy};
+use uriparse_text::query::Query;
 
 /// Whether the scheme has its canonical spelling, if there is one.
 fn is_canonical_scheme(scheme: &Option<Scheme<'_>>) -> bool
@@ -41,8 +44,8 @@ fn is_canonical_authority(authority: &Option<Authority<'_>>) -> bool
     }
 }
 
-/// Copies of the parts of the authority that aren't canonical, if there is one. Wants memory for those
-/// alone.
+/// Copies of the parts of the authority that aren't canonical, if there is one. Wants memory for
+/// those alone.
 fn authority_copies(
     alloc: Global,
     authority: &Option<Authority<'_>>,
@@ -56,23 +59,33 @@ fn authority_copies(
     }
 }
 
-/// Brings the path into its normal form, to stand behind this scheme and this authority.
-fn normalize_behind(
-    path: &mut Path<'_>,
+/// Brings a path, a query and a fragment into their normal forms, to stand behind this scheme and
+/// this authority. Wants memory as they do; where there is none, all three are kept.
+fn normalize_tail(
     alloc: Global,
     scheme: &Option<Scheme<'_>>,
     authority: &Option<Authority<'_>>,
+    path: &mut Path<'_>,
+    query: &mut Option<Query<'_>>,
+    fragment: &mut Option<Fragment<'_>>,
 ) -> Result<(), AllocError>
     requires { is_some authority.now ≡ false → hides_root path.old.segments ≡ false }
-    ensures ok { OnOk result (path.new ≡ shielded authority.now (pnormal path.old (is_none scheme.now))) }
-    ensures err { OnErr result (path.new ≡ path.old) }
-    ensures takes_no_memory { list_all is_canonical path.old.segments ≡ true → IsOk result }
+    ensures path { OnOk result (path.new ≡ shielded authority.now (pnormal path.old (is_none scheme.now))) }
+    ensures query { OnOk result (query.new ≡ option_map canonical query.old) }
+    ensures fragment { OnOk result (fragment.new ≡ option_map canonical fragment.old) }
+    ensures err { OnErr result ((path.new ≡ path.old) × (query.new ≡ query.old) × (fragment.new ≡ fragment.old)) }
+    ensures takes_no_memory { list_all is_canonical path.old.segments ≡ true → option_map canonical query.old ≡ query.old → option_map canonical fragment.old ≡ fragment.old → IsOk result }
 {
-    normalize_path(path, alloc, scheme.is_none(), authority.is_none())
+    let query_copy = canonical_copy(alloc, query)?;
+    let fragment_copy = canonical_copy(alloc, fragment)?;
+    normalize_path(path, alloc, scheme.is_none(), authority.is_none())?;
+    put_copy(query, query_copy);
+    put_copy(fragment, fragment_copy);
+    Ok(())
 }
 
 /// Puts the copies in the places of the authority's parts, if there is one.
-fn put_authority(authority: &mut Option<Authority<'_>>, copies: Option<CanonicalCopies>)
+fn put_authority_copies(authority: &mut Option<Authority<'_>>, copies: Option<CanonicalCopies>)
     requires { AreCopiesIf copies authority.old }
     ensures { authority.new ≡ option_map canonical_authority authority.old }
 {
@@ -96,8 +109,8 @@ impl<'r> URIReference<'r> {
             && is_canonical_part(&self.fragment)
     }
 
-    /// Whether the reference's text is that of its normal form. Then it is that form, part for part.
-    /// Takes no memory.
+    /// Whether the reference's text is that of its normal form. Then it is that form, part for
+    /// part. Takes no memory.
     pub fn is_normalized(&self) -> bool
         ensures text { IsTrue result ↔ (print (normal self.now) ≡ print self.now) }
         ensures form { IsTrue result → normal self.now ≡ self.now }
@@ -105,14 +118,14 @@ impl<'r> URIReference<'r> {
         self.is_normal()
     }
 
-    /// Brings the reference into its normal form: RFC 3986, section 6.2.2. Each text gets its canonical
-    /// spelling; a name stays a name, also where it spells an IPv4 address then. The path gets its normal
-    /// form: that of a path which a base comes before exactly where there is no scheme. Where there is
-    /// no authority and the path's text would begin with two slashes then, a `.` stands in front, so that
-    /// it begins with `/.//`. A second call changes nothing.
+    /// Brings the reference into its normal form: RFC 3986, section 6.2.2. Each text gets its
+    /// canonical spelling; a name stays a name, also where it spells an IPv4 address then. The path
+    /// gets its normal form: that of a path which a base comes before exactly where there is no
+    /// scheme. Where there is no authority and the path's text would begin with two slashes then, a
+    /// `.` stands in front, so that it begins with `/.//`. A second call changes nothing.
     ///
-    /// Memory is wanted only for the texts that aren't canonical. All of them are copied before one is
-    /// put in place, so where there is no memory, the reference is unchanged.
+    /// Memory is wanted only for the texts that aren't canonical. All of them are copied before one
+    /// is put in place, so where there is no memory, the reference is unchanged.
     ///
     /// ```
     /// let mut reference = URIReference::try_from_str(alloc, "HTTP://H/a/../%7eb")?;
@@ -127,15 +140,18 @@ impl<'r> URIReference<'r> {
         // References that are the same get one normal form.
         ensures equal { OnOk result ((q : Parts) → Valid q → Same self.old q → self.new ≡ normal q) }
     {
-        let query = canonical_copy(alloc, &self.query)?;
-        let fragment = canonical_copy(alloc, &self.fragment)?;
         let scheme = scheme::canonical_copy(alloc, &self.scheme)?;
         let authority = authority_copies(alloc, &self.authority)?;
-        normalize_behind(&mut self.path, alloc, &self.scheme, &self.authority)?;
+        normalize_tail(
+            alloc,
+            &self.scheme,
+            &self.authority,
+            &mut self.path,
+            &mut self.query,
+            &mut self.fragment,
+        )?;
         scheme::put_copy(&mut self.scheme, scheme);
-        put_authority(&mut self.authority, authority);
-        put_copy(&mut self.query, query);
-        put_copy(&mut self.fragment, fragment);
+        put_authority_copies(&mut self.authority, authority);
         Ok(())
     }
 }

@@ -42,7 +42,7 @@ fn end_of_scheme(text: &[u8]) -> Option<usize>
 }
 
 /// The text before that byte, and the rest, which begins with it.
-fn split_front(text: &[u8]) -> (&[u8], &[u8])
+fn split_at_scheme_end(text: &[u8]) -> (&[u8], &[u8])
     ensures front { result.0.now ≡ up_to ends_scheme text.now }
     ensures rest { result.1.now ≡ from_first ends_scheme text.now }
 {
@@ -59,8 +59,8 @@ fn behind_colon(rest: &[u8]) -> Option<&[u8]>
     }
 }
 
-/// The scheme that the text begins with, and what stands behind its colon; or none, and the text. The
-/// two that most texts have are told by their bytes, with no search.
+/// The scheme that the text begins with, and what stands behind its colon; or none, and the text.
+/// The two that most texts have are told by their bytes, with no search.
 fn split_scheme(text: &[u8]) -> (Option<Scheme<'_>>, &[u8])
     ensures scheme { result.0 ≡ option_map named (scheme_text text.now) }
     ensures rest { result.1.now ≡ after_scheme text.now }
@@ -79,7 +79,7 @@ fn split_any_scheme(text: &[u8]) -> (Option<Scheme<'_>>, &[u8])
     ensures scheme { result.0 ≡ option_map named (scheme_text text.now) }
     ensures rest { result.1.now ≡ after_scheme text.now }
 {
-    let (front, rest) = split_front(text);
+    let (front, rest) = split_at_scheme_end(text);
     let Some(behind) = behind_colon(rest) else {
         return (None, text);
     };
@@ -112,8 +112,8 @@ fn split_authority(text: &[u8]) -> (Option<&[u8]>, &[u8])
     (Some(authority), rest)
 }
 
-/// The path, which runs to the first `?` or `#`; the query behind a `?`, and the fragment behind the
-/// first `#`.
+/// The path, which runs to the first `?` or `#`; the query behind a `?`, and the fragment behind
+/// the first `#`.
 fn split_tail(text: &[u8]) -> (&[u8], Option<&[u8]>, Option<&[u8]>)
     ensures path { result.0.now ≡ before question_mark (before number_sign text.now) }
     ensures query { option_copied result.1 ≡ after question_mark (before number_sign text.now) }

@@ -11,13 +11,14 @@ ghost use Rattle.uriparse_reference.specs.Reference.{Valid};
 ghost use Rattle.uriparse_reference.specs.Target.{is_empty, target};
 
 use super::URIReference;
-use super::copy::{borrowed_authority, borrowed_scheme, borrowed_text};
+use super::copy::{borrowed_authority, borrowed_scheme};
 use super::error::URIReferenceError;
 use std::alloc::Global;
 use uriparse_authority::authority::Authority;
 use uriparse_path::parts::{merged_path, remove_dots};
 use uriparse_path::path::{Path, PathError};
 use uriparse_scheme::scheme::Scheme;
+use uriparse_text::parts::borrowed_text;
 use uriparse_text::query::Query;
 
 /// Whether the path's text is empty.
@@ -44,10 +45,7 @@ fn target_scheme<'r>(
 ) -> Option<Scheme<'r>>
     ensures { result ≡ option_or reference.now.scheme base.now.scheme }
 {
-    match reference.scheme() {
-        Some(scheme) => Some(scheme.as_borrowed()),
-        None => borrowed_scheme(base.scheme()),
-    }
+    borrowed_scheme(reference.scheme()).or(borrowed_scheme(base.scheme()))
 }
 
 /// The authority of the reference, or of the base where the reference has neither scheme nor
@@ -74,10 +72,7 @@ fn target_query<'r>(
     if has_front(reference) || !is_empty(reference.path()) {
         return borrowed_text(reference.query());
     }
-    match reference.query() {
-        Some(query) => Some(query.as_borrowed()),
-        None => borrowed_text(base.query()),
-    }
+    borrowed_text(reference.query()).or(borrowed_text(base.query()))
 }
 
 /// A path without its dot segments, as it stands behind an authority or where there is none. It
@@ -126,9 +121,9 @@ fn target_path<'r>(
 /// authority stands before a path that would begin with two slashes, a `.` stands in front of it.
 ///
 /// [`Path`](URIReferenceError::Path) with
-/// [`ExceededMaximumLength`](PathError::ExceededMaximumLength) is answered where paths are merged and
-/// have more segments together than a path may have, whatever memory there is. Else room for the
-/// list of segments is asked for once; where there is none, it is
+/// [`ExceededMaximumLength`](PathError::ExceededMaximumLength) is answered where paths are merged
+/// and have more segments together than a path may have, whatever memory there is. Else room for
+/// the list of segments is asked for once; where there is none, it is
 /// [`OutOfMemory`](PathError::OutOfMemory).
 pub fn resolve<'r>(
     alloc: Global,

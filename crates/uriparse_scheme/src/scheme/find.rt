@@ -28,9 +28,9 @@ fn compare_lowered(name: &[u8], text: &[u8]) -> Ordering
         let Some((y, after_y)) = right.split_first() else {
             return Ordering::Greater;
         };
-        let order = x.cmp(&y.to_ascii_lowercase());
-        if order.is_ne() {
-            return order;
+        match x.cmp(&y.to_ascii_lowercase()) {
+            Ordering::Equal => {},
+            order => return order,
         }
         left = after_x;
         right = after_y;

@@ -125,8 +125,8 @@ impl<'s> UnregisteredScheme<'s> {
         String::from_str(alloc, self.as_str())
     }
 
-    /// Whether the text is its canonical spelling, which is the text in lower case: RFC 3986, section
-    /// 6.2.2.1. Takes no memory.
+    /// Whether the text is its canonical spelling, which is the text in lower case: RFC 3986,
+    /// section 6.2.2.1. Takes no memory.
     pub fn is_normalized(&self) -> bool
         ensures { IsTrue result ↔ (canonical_lowered self.now ≡ self.now) }
     {
@@ -160,8 +160,8 @@ impl<'s> UnregisteredScheme<'s> {
         })
     }
 
-    /// Whether the bytes are this scheme in any case. Escapes are not read: a scheme has none. Takes
-    /// no memory.
+    /// Whether the bytes are this scheme in any case. Escapes are not read: a scheme has none.
+    /// Takes no memory.
     pub fn eq_bytes(&self, bytes: &[u8]) -> bool
         ensures { IsTrue result ↔ (str_to_ascii_lowercase bytes.now ≡ str_to_ascii_lowercase self.now) }
     {

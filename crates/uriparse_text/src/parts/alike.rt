@@ -1,5 +1,6 @@
-//! Whether two texts have one canonical spelling: RFC 3986, sections 6.2.2.1 and 6.2.2.2. What they have
-//! in common byte by byte is passed over by sixteen bytes, and tokens are read only where they differ.
+//! Whether two texts have one canonical spelling: RFC 3986, sections 6.2.2.1 and 6.2.2.2. What they
+//! have in common byte by byte is passed over by sixteen bytes, and tokens are read only where they
+//! differ.
 ghost use Rattle.std.specs.Prelude.{◌≡◌, ◌↔◌, ◌+◌, ◌<◌, ◌≤◌, ◌∷◌, ◌==◌, [], ℕ, IsTrue, IfSome, MatchOption, Some, None, true, false, if◌then◌else◌, length, slice_index};
 ghost use Rattle.std.specs.Int.{bit_at};
 ghost use Rattle.uriparse_text.specs.Bytes.{percent};

@@ -11,7 +11,8 @@ use super::token::{Token, split_token};
 use std::alloc::{AllocError, Global};
 use std::hash::Hasher;
 
-/// What becomes of the letters in a canonical spelling. The digits of escapes are upper case in both.
+/// What becomes of the letters in a canonical spelling. The digits of escapes are upper case in
+/// both.
 #[derive(Clone, Copy, Debug, PartialEq, Eq)]
 pub enum Case {
     /// They keep their case.
@@ -88,7 +89,8 @@ pub fn feed_text<H: Hasher>(case: Case, text: &[u8], state: &mut H)
     state.write_u8(0xff);
 }
 
-/// Whether the text is its own canonical spelling. Most texts are one run of bytes that stay as they are.
+/// Whether the text is its own canonical spelling. Most texts are one run of bytes that stay as
+/// they are.
 #[inline]
 pub fn is_canonical(case: Case, text: &[u8]) -> bool
     ensures { IsTrue result ↔ (spec.canonical_in case text.now ≡ text.now) }
@@ -100,8 +102,8 @@ pub fn is_canonical(case: Case, text: &[u8]) -> bool
     begins_canonical(case, rest)
 }
 
-/// The same for a text that may begin with a token that isn't canonical. It is walked to the first that
-/// isn't, in a call of its own, so that the test before it stays small where it is taken in.
+/// The same for a text that may begin with a token that isn't canonical. It is walked to the first
+/// that isn't, in a call of its own, so that the test before it stays small where it is taken in.
 #[inline(never)]
 fn begins_canonical(case: Case, text: &[u8]) -> bool
     ensures { IsTrue result ↔ (spec.canonical_in case text.now ≡ text.now) }

@@ -110,8 +110,8 @@ pub fn fault_of(class: Class, text: &[u8]) -> Option<u8>
     }
 }
 
-/// The same for a short text, byte by byte. An escape's digits stand for themselves in each class, so
-/// no byte has to be passed over.
+/// The same for a short text, byte by byte. An escape's digits stand for themselves in each class,
+/// so no byte has to be passed over.
 #[inline(always)]
 fn fault_by_one(class: Class, text: &[u8]) -> Option<u8>
     ensures { result ≡ fault class text.now }

@@ -6,8 +6,8 @@ ghost use Rattle.uriparse_text.specs.Canonical.{canonical_in};
 use super::text::{Kind, Text};
 use std::alloc::{AllocError, Global};
 
-/// A copy in canonical spelling of a part that is there and isn't canonical, or none. Wants memory for
-/// such a part alone.
+/// A copy in canonical spelling of a part that is there and isn't canonical, or none. Wants memory
+/// for such a part alone.
 pub fn canonical_copy<K: Kind>(
     alloc: Global,
     part: &Option<Text<'_, K>>,

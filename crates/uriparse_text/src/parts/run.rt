@@ -11,8 +11,8 @@ use std::simd::prelude::*;
 #[derive(Clone, Copy, Debug)]
 struct MayChange(Case);
 
-// The kinds of bytes, a bit each, by the low half and the high half of a byte: 1 `%`, 2 and 4 upper-case
-// letters.
+// The kinds of bytes, a bit each, by the low half and the high half of a byte: 1 `%`, 2 and 4
+// upper-case letters.
 const CHANGE_LOW: [u8; 16] = [4, 6, 6, 6, 6, 7, 6, 6, 6, 6, 6, 2, 2, 2, 2, 2];
 
 const CHANGE_HIGH: [u8; 16] = [0, 0, 1, 0, 2, 4, 0, 0, 0, 0, 0, 0, 0, 0, 0, 0];

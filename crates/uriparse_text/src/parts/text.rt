@@ -57,8 +57,8 @@ fn text_in(class: Class, bytes: &[u8]) -> &str
 /// name, a password, a segment and a registered name are. RFC 3986, section 2.
 ///
 /// It borrows the bytes that it was read from, which can't end before it, or owns its text. It is
-/// seen as its bytes. Two texts of a kind are equal where their canonical spellings are, in which an
-/// escaped unreserved byte stands for itself and other escapes have upper-case digits (sections
+/// seen as its bytes. Two texts of a kind are equal where their canonical spellings are, in which
+/// an escaped unreserved byte stands for itself and other escapes have upper-case digits (sections
 /// 6.2.2.1 and 6.2.2.2); equal texts feed a Hasher the same bytes.
 #[derive(Drop)]
 pub struct Text<'t, K: Kind> {
@@ -137,8 +137,8 @@ impl<'t, K: Kind> Text<'t, K> {
         }
     }
 
-    /// The same text, which owns its bytes. Borrowed bytes are copied, which wants memory; where there
-    /// is none, the text is gone.
+    /// The same text, which owns its bytes. Borrowed bytes are copied, which wants memory; where
+    /// there is none, the text is gone.
     pub fn into_owned(self, alloc: Global) -> Result<Text<'static, K>, AllocError>
         ensures { IfOk result (λ t. t ≡ self.entry) }
     {
@@ -174,7 +174,8 @@ impl<'t, K: Kind> Text<'t, K> {
     }
 
     /// Puts the canonical spelling in the text's place; it is its own canonical spelling. Memory is
-    /// wanted only where they differ, room for the text once; where there is none, the text is kept.
+    /// wanted only where they differ, room for the text once; where there is none, the text is
+    /// kept.
     pub fn normalize(&mut self, alloc: Global) -> Result<(), AllocError>
         ensures ok { OnOk result (self.new ≡ canonical_in K.case self.old) }
         ensures err { OnErr result (self.new ≡ self.old) }
@@ -187,8 +188,8 @@ impl<'t, K: Kind> Text<'t, K> {
         Ok(())
     }
 
-    /// Whether the bytes are tokens whose canonical spelling is this text's. Bytes with a broken escape
-    /// are equal to no text. Takes no memory.
+    /// Whether the bytes are tokens whose canonical spelling is this text's. Bytes with a broken
+    /// escape are equal to no text. Takes no memory.
     pub fn eq_bytes(&self, bytes: &[u8]) -> bool
         ensures { IsTrue result ↔ SpellsAlike K.case bytes.now self.now }
     {
@@ -250,6 +251,30 @@ pub fn read_text_if<'t, K: Kind>(text: Option<&'t [u8]>) -> Result<Option<Text<'
 {
     match text {
         Some(text) => Ok(Some(Text::try_from_bytes(text)?)),
+        None => Ok(None),
+    }
+}
+
+/// The same text, if there is one, which borrows this one.
+pub fn borrowed_text<'r, K: Kind>(text: Option<&'r Text<'_, K>>) -> Option<Text<'r, K>>
+    ensures { result ≡ option_copied text.entry }
+{
+    match text {
+        Some(text) => Some(text.as_borrowed()),
+        None => None,
+    }
+}
+
+/// The same text, if there is one, which owns its bytes. Borrowed bytes are copied, which wants
+/// memory; where there is none, the text is gone.
+pub fn owned_text<K: Kind>(
+    alloc: Global,
+    text: Option<Text<'_, K>>,
+) -> Result<Option<Text<'static, K>>, AllocError>
+    ensures { IfOk result (λ t. t ≡ text.entry) }
+{
+    match text {
+        Some(text) => Ok(Some(text.into_owned(alloc)?)),
         None => Ok(None),
     }
 }

@@ -3,7 +3,7 @@ use Rattle.std.proofs.lemmas.Bool.{false≢true}
 use Rattle.uriparse_authority.specs.Host.{text}
 use Rattle.uriparse_authority.specs.Authority.{print}
 use Rattle.uriparse_authority.specs.Normal.{canonical_authority}
-use Rattle.uriparse_authority.proofs.NormalLemmas.{canonical_of_parts, kept_inside}
+use Rattle.uriparse_authority.proofs.NormalLemmas.{canonical_of_parts, canonical_part, kept_inside}
 use Rattle.uriparse_authority.proofs.authority.Authority.is_normalized.Goals as goal
 use Rattle.uriparse_authority.proofs.authority.Authority.is_normalized.Goals.{then-is_canonical_part, else-is_canonical_part}
 
@@ -12,8 +12,8 @@ returns-then-is_canonical_part-2-clause-text c =
     elim c.if-is_canonical_part.branch [
       | then-is_canonical_part w ↦ (
         λ yes.
-            let username = c.is_canonical_part.ensures.0 w.if-is_canonical_part.true in
-            let password = w.is_canonical_part-then-is_canonical_part.ensures.0 (sym w.value-is ∙ c.if-is_canonical_part-2.true) in
+            let username = (canonical_part _ _ c.is_canonical_part.ensures).0 w.if-is_canonical_part.true in
+            let password = (canonical_part _ _ w.is_canonical_part-then-is_canonical_part.ensures).0 (sym w.value-is ∙ c.if-is_canonical_part-2.true) in
             let kept = canonical_of_parts _ username password (c.is_normalized.ensures.0 yes) in
             subst (λ p. print (canonical_authority p) ≡ print p) c.self.view_is (ap print kept),
         λ same. c.is_normalized.ensures.1 (ap (λ p. text p.host) (kept_inside _ _ c.self.view_is c.self.invariant same)),
@@ -27,12 +27,12 @@ returns-else-is_canonical_part-2-clause-text c =
     elim c.if-is_canonical_part.branch [
       | then-is_canonical_part w ↦ (
         λ yes. absurd (false≢true (no ∙ yes)),
-        λ same. absurd (false≢true (no ∙ w.value-is ∙ w.is_canonical_part-then-is_canonical_part.ensures.1
+        λ same. absurd (false≢true (no ∙ w.value-is ∙ (canonical_part _ _ w.is_canonical_part-then-is_canonical_part.ensures).1
             (ap (λ p. p.password) (kept_inside _ _ c.self.view_is c.self.invariant same)))),
       )
       | else-is_canonical_part w ↦ (
         λ yes. absurd (false≢true (no ∙ yes)),
         λ same. absurd (false≢true (sym w.if-is_canonical_part.false
-            ∙ c.is_canonical_part.ensures.1 (ap (λ p. p.username) (kept_inside _ _ c.self.view_is c.self.invariant same)))),
+            ∙ (canonical_part _ _ c.is_canonical_part.ensures).1 (ap (λ p. p.username) (kept_inside _ _ c.self.view_is c.self.invariant same)))),
       )
     ]

@@ -1,6 +1,6 @@
 use Rattle.uriparse_text.proofs.CutLemmas.{place_or_length, take_place, drop_place}
 use Rattle.uriparse_reference.specs.Cuts.{ends_scheme}
-use Rattle.uriparse_reference.proofs.uri_reference.read.split_front.Goals as goal
+use Rattle.uriparse_reference.proofs.uri_reference.read.split_at_scheme_end.Goals as goal
 
 pub returns-clause-front : goal.returns-clause-front
 returns-clause-front c =

@@ -1,0 +1,17 @@
+use Rattle.std.proofs.Common.{Ok, Err, refl, ap, ◌∙◌}
+use Rattle.uriparse_reference.specs.Builder.{Held}
+use Rattle.uriparse.specs.Kinds.{told_of}
+use Rattle.uriparse.specs.RelativeReference.{told, relative_built}
+use Rattle.uriparse.proofs.BuilderLemmas.{built_scheme}
+use Rattle.uriparse.proofs.relative_reference.RelativeReferenceBuilder.build.Goals as goal
+
+pub of_checked-requires : goal.of_checked-requires
+of_checked-requires c =
+    let given : Held = c.self.inside.builder in
+    built_scheme given given.path c.in-Ok.reference c.in-Ok.ensures ∙ c.self.invariant refl
+
+pub returns-in-Ok : goal.returns-in-Ok
+returns-in-Ok c = ap Ok c.of_checked.ensures ∙ ap (told_of told) c.in-Ok.ensures ∙ ap relative_built c.self.view_is
+
+pub returns-in-Err : goal.returns-in-Err
+returns-in-Err c = ap Err c.told.ensures ∙ ap (told_of told) c.in-Err.ensures ∙ ap relative_built c.self.view_is
