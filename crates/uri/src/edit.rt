@@ -122,5 +122,5 @@ fn print_changed<'w, O: Write>(
     out: &mut O,
 ) -> Result<(), Failure> {
     make_changes(alloc, reference, changes)?;
-    print_line(reference, out)
+    Ok(print_line(reference, out)?)
 }

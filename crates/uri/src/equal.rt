@@ -20,5 +20,6 @@ fn compare<O: Write>(
     out: &mut O,
 ) -> Result<(), Failure> {
     let right = URIReference::try_from_str(alloc, right)?;
-    print_line(&if *left == right { "equal" } else { "different" }, out)
+    let answer = if *left == right { "equal" } else { "different" };
+    Ok(print_line(&answer, out)?)
 }

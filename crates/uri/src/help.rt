@@ -1,6 +1,6 @@
 //! `uri help`: what commands there are.
 
-use crate::failure::Failure;
+use std::io;
 use std::io::Write;
 
 /// A line for each command: its words, and what it prints.
@@ -17,6 +17,6 @@ uri help              these lines
 ";
 
 /// Prints the commands.
-pub fn help<O: Write>(out: &mut O) -> Result<(), Failure> {
-    Ok(write!(out, "{COMMANDS}")?)
+pub fn help<O: Write>(out: &mut O) -> io::Result<()> {
+    write!(out, "{COMMANDS}")
 }

@@ -19,5 +19,5 @@ fn print_normal<O: Write>(
     out: &mut O,
 ) -> Result<(), Failure> {
     reference.normalize(alloc)?;
-    print_line(reference, out)
+    Ok(print_line(reference, out)?)
 }

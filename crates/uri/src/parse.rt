@@ -3,17 +3,18 @@
 use crate::failure::Failure;
 use crate::print::{print_line, print_part};
 use std::alloc::Global;
+use std::io;
 use std::io::Write;
 use uriparse::{Authority, Host, URIReference};
 
 /// Prints the reference, its path, and its other parts where it has them, a line each.
 pub fn parse<O: Write>(alloc: Global, text: &str, out: &mut O) -> Result<(), Failure> {
     let reference = URIReference::try_from_str(alloc, text)?;
-    print_reference(&reference, out)
+    Ok(print_reference(&reference, out)?)
 }
 
 /// Prints the reference and its parts.
-fn print_reference<O: Write>(reference: &URIReference<'_>, out: &mut O) -> Result<(), Failure> {
+fn print_reference<O: Write>(reference: &URIReference<'_>, out: &mut O) -> io::Result<()> {
     print_line(reference, out)?;
     print_part("scheme", reference.scheme(), out)?;
     if let Some(authority) = reference.authority() {
@@ -25,7 +26,7 @@ fn print_reference<O: Write>(reference: &URIReference<'_>, out: &mut O) -> Resul
 }
 
 /// Prints the host, and the authority's other parts where it has them, a line each.
-fn print_authority<O: Write>(authority: &Authority<'_>, out: &mut O) -> Result<(), Failure> {
+fn print_authority<O: Write>(authority: &Authority<'_>, out: &mut O) -> io::Result<()> {
     print_part("username", authority.username(), out)?;
     print_part("password", authority.password(), out)?;
     let host = authority.host();

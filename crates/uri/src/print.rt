@@ -1,12 +1,12 @@
 //! What commands print: values and parts of texts, each on a line of its own.
 
-use crate::failure::Failure;
 use std::fmt::Display;
+use std::io;
 use std::io::Write;
 
 /// Prints the value.
-pub fn print_line<T: Display, O: Write>(value: &T, out: &mut O) -> Result<(), Failure> {
-    Ok(writeln!(out, "{value}")?)
+pub fn print_line<T: Display, O: Write>(value: &T, out: &mut O) -> io::Result<()> {
+    writeln!(out, "{value}")
 }
 
 /// Prints the part behind its name, if there is one.
@@ -14,9 +14,9 @@ pub fn print_part<T: Display, O: Write>(
     name: &str,
     part: Option<&T>,
     out: &mut O,
-) -> Result<(), Failure> {
+) -> io::Result<()> {
     match part {
-        Some(part) => Ok(writeln!(out, "{name}={part}")?),
+        Some(part) => writeln!(out, "{name}={part}"),
         None => Ok(()),
     }
 }

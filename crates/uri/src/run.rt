@@ -43,8 +43,7 @@ pub fn refuse_arguments<E: Write>(error: &io::Error, err: &mut E) -> u8
 
 fn command<O: Write>(alloc: Global, words: &[&str], out: &mut O) -> Result<(), Failure> {
     match words {
-        ["help"] => help(out),
-        ["--help"] => help(out),
+        ["help" | "--help"] => Ok(help(out)?),
         ["parse", text] => parse(alloc, text, out),
         ["tail", text] => tail(alloc, text, out),
         ["normalize", text] => normalize(alloc, text, out),

@@ -24,5 +24,5 @@ pub fn tail<O: Write>(alloc: Global, text: &str, out: &mut O) -> Result<(), Fail
     print_line(&text, out)?;
     print_part("path", Some(&path), out)?;
     print_part("query", query.as_ref(), out)?;
-    print_part("fragment", fragment.as_ref(), out)
+    Ok(print_part("fragment", fragment.as_ref(), out)?)
 }

@@ -255,7 +255,7 @@ pub fn read_text_if<'t, K: Kind>(text: Option<&'t [u8]>) -> Result<Option<Text<'
     }
 }
 
-/// The same text, if there is one, which borrows this one.
+/// The same text, if there is one, which borrows this one. Takes no memory.
 pub fn borrowed_text<'r, K: Kind>(text: Option<&'r Text<'_, K>>) -> Option<Text<'r, K>>
     ensures { result ≡ option_copied text.entry }
 {
