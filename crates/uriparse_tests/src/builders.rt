@@ -1,7 +1,7 @@
 //! Builders of references, URIs and relative references.
 
-use crate::reference::made;
-use rows::answer::{Answer, refused, said, verdict, word};
+use crate::reference::{Reference, made};
+use rows::answer::{Answer, refused, verdict, word, words};
 use std::alloc::Global;
 use uriparse::{
     RelativeReference, RelativeReferenceBuilder, RelativeReferenceError, URI, URIBuilder, URIError,
@@ -90,28 +90,6 @@ fn give_relative<'t>(
     builder.try_fragment(texts.fragment)
 }
 
-/// What is built of the texts.
-fn build<'t>(alloc: Global, texts: Texts<'t>) -> Result<URIReference<'t>, URIReferenceError> {
-    let mut builder = URIReference::builder();
-    let given = give(alloc, &mut builder, texts);
-    given.and(builder.build())
-}
-
-fn build_uri<'t>(alloc: Global, texts: Texts<'t>) -> Result<URI<'t>, URIError> {
-    let mut builder = URI::builder();
-    let given = give_uri(alloc, &mut builder, texts);
-    given.and(builder.build())
-}
-
-fn build_relative<'t>(
-    alloc: Global,
-    texts: Texts<'t>,
-) -> Result<RelativeReference<'t>, RelativeReferenceError> {
-    let mut builder = RelativeReference::builder();
-    let given = give_relative(alloc, &mut builder, texts);
-    given.and(builder.build())
-}
-
 /// Whether a text that is no such part is refused for each part.
 fn refuses(alloc: Global, builder: &mut URIBuilder<'_>) -> bool {
     builder.try_scheme(b":").is_err()
@@ -141,176 +119,166 @@ fn after_refusals<'t>(alloc: Global, texts: Texts<'t>) -> Result<URI<'t>, URIErr
     given.and(builder.build())
 }
 
-/// The reference built again by the plain calls.
-fn by_calls(reference: URIReference<'_>) -> Result<URIReference<'_>, URIReferenceError> {
-    let (scheme, authority, path, query, fragment) = reference.into_parts();
-    let mut builder = URIReferenceBuilder::new();
-    builder.scheme(scheme);
-    builder.authority(authority);
-    builder.path(path);
-    builder.query(query);
-    builder.fragment(fragment);
-    builder.build()
+/// What can be built anew of its parts.
+trait Built<'t>: Reference<'t> {
+    /// What is built of the texts, by the calls that read them.
+    fn of_texts(alloc: Global, texts: Texts<'t>) -> Result<Self, Self::Error>;
+
+    /// The same reference, built again by the plain calls.
+    fn by_calls(self) -> Result<Self, Self::Error>;
+
+    /// The same reference, built again by the calls that hand the builder on.
+    fn by_chain(self) -> Result<Self, Self::Error>;
+
+    /// Whether the builders that hold the parts of both are equal.
+    fn has_builder_of(self, other: Self) -> bool;
 }
 
-/// The URI built again by the plain calls.
-fn uri_by_calls(uri: URI<'_>) -> Result<URI<'_>, URIError> {
-    let (scheme, authority, path, query, fragment) = uri.into_parts();
-    let mut builder = URIBuilder::new();
-    builder.scheme(scheme);
-    builder.authority(authority);
-    builder.path(path);
-    builder.query(query);
-    builder.fragment(fragment);
-    builder.build()
-}
+impl<'t> Built<'t> for URIReference<'t> {
+    fn of_texts(alloc: Global, texts: Texts<'t>) -> Result<Self, Self::Error> {
+        let mut builder = URIReference::builder();
+        let given = give(alloc, &mut builder, texts);
+        given.and(builder.build())
+    }
 
-/// The relative reference built again by the plain calls.
-fn relative_by_calls(
-    relative: RelativeReference<'_>,
-) -> Result<RelativeReference<'_>, RelativeReferenceError> {
-    let (authority, path, query, fragment) = relative.into_parts();
-    let mut builder = RelativeReferenceBuilder::new();
-    builder.authority(authority);
-    builder.path(path);
-    builder.query(query);
-    builder.fragment(fragment);
-    builder.build()
-}
+    fn by_calls(self) -> Result<Self, Self::Error> {
+        let (scheme, authority, path, query, fragment) = self.into_parts();
+        let mut builder = URIReferenceBuilder::new();
+        builder.scheme(scheme);
+        builder.authority(authority);
+        builder.path(path);
+        builder.query(query);
+        builder.fragment(fragment);
+        builder.build()
+    }
 
-/// The reference built again by the calls that hand the builder on.
-fn by_chain(reference: URIReference<'_>) -> Result<URIReference<'_>, URIReferenceError> {
-    let (scheme, authority, path, query, fragment) = reference.into_parts();
-    URIReferenceBuilder::default()
-        .with_scheme(scheme)
-        .with_authority(authority)
-        .with_path(path)
-        .with_query(query)
-        .with_fragment(fragment)
-        .build()
-}
+    fn by_chain(self) -> Result<Self, Self::Error> {
+        let (scheme, authority, path, query, fragment) = self.into_parts();
+        URIReferenceBuilder::default()
+            .with_scheme(scheme)
+            .with_authority(authority)
+            .with_path(path)
+            .with_query(query)
+            .with_fragment(fragment)
+            .build()
+    }
 
-/// The URI built again by the calls that hand the builder on.
-fn uri_by_chain(uri: URI<'_>) -> Result<URI<'_>, URIError> {
-    let (scheme, authority, path, query, fragment) = uri.into_parts();
-    URIBuilder::default()
-        .with_scheme(scheme)
-        .with_authority(authority)
-        .with_path(path)
-        .with_query(query)
-        .with_fragment(fragment)
-        .build()
-}
-
-/// The relative reference built again by the calls that hand the builder on.
-fn relative_by_chain(
-    relative: RelativeReference<'_>,
-) -> Result<RelativeReference<'_>, RelativeReferenceError> {
-    let (authority, path, query, fragment) = relative.into_parts();
-    RelativeReferenceBuilder::default()
-        .with_authority(authority)
-        .with_path(path)
-        .with_query(query)
-        .with_fragment(fragment)
-        .build()
-}
-
-/// The reference built again by the calls that the command names.
-fn again<'t>(
-    command: &str,
-    reference: URIReference<'t>,
-) -> Result<URIReference<'t>, URIReferenceError> {
-    match command {
-        "calls" => by_calls(reference),
-        _ => by_chain(reference),
+    fn has_builder_of(self, other: Self) -> bool {
+        self.into_builder() == other.into_builder()
     }
 }
 
-/// The URI built again by the calls that the command names.
-fn uri_again<'t>(command: &str, uri: URI<'t>) -> Result<URI<'t>, URIError> {
-    match command {
-        "uri-calls" => uri_by_calls(uri),
-        _ => uri_by_chain(uri),
+impl<'t> Built<'t> for URI<'t> {
+    fn of_texts(alloc: Global, texts: Texts<'t>) -> Result<Self, Self::Error> {
+        let mut builder = URI::builder();
+        let given = give_uri(alloc, &mut builder, texts);
+        given.and(builder.build())
+    }
+
+    fn by_calls(self) -> Result<Self, Self::Error> {
+        let (scheme, authority, path, query, fragment) = self.into_parts();
+        let mut builder = URIBuilder::new();
+        builder.scheme(scheme);
+        builder.authority(authority);
+        builder.path(path);
+        builder.query(query);
+        builder.fragment(fragment);
+        builder.build()
+    }
+
+    fn by_chain(self) -> Result<Self, Self::Error> {
+        let (scheme, authority, path, query, fragment) = self.into_parts();
+        URIBuilder::default()
+            .with_scheme(scheme)
+            .with_authority(authority)
+            .with_path(path)
+            .with_query(query)
+            .with_fragment(fragment)
+            .build()
+    }
+
+    fn has_builder_of(self, other: Self) -> bool {
+        self.into_builder() == other.into_builder()
     }
 }
 
-/// The relative reference built again by the calls that the command names.
-fn relative_again<'t>(
-    command: &str,
-    relative: RelativeReference<'t>,
-) -> Result<RelativeReference<'t>, RelativeReferenceError> {
-    match command {
-        "relative-calls" => relative_by_calls(relative),
-        _ => relative_by_chain(relative),
+impl<'t> Built<'t> for RelativeReference<'t> {
+    fn of_texts(alloc: Global, texts: Texts<'t>) -> Result<Self, Self::Error> {
+        let mut builder = RelativeReference::builder();
+        let given = give_relative(alloc, &mut builder, texts);
+        given.and(builder.build())
     }
-}
 
-/// Whether two builders are equal.
-fn compare<T: Drop + Eq>(alloc: Global, left: T, right: T) -> Answer {
-    verdict(alloc, &[left == right])
-}
-
-/// Whether the builders that hold these references' parts are equal, where the second one was read.
-fn compared(
-    alloc: Global,
-    left: URIReference<'_>,
-    right: Result<URIReference<'_>, URIReferenceError>,
-) -> Answer {
-    match right {
-        Ok(right) => compare(alloc, left.into_builder(), right.into_builder()),
-        Err(why) => refused(alloc, why),
+    fn by_calls(self) -> Result<Self, Self::Error> {
+        let (authority, path, query, fragment) = self.into_parts();
+        let mut builder = RelativeReferenceBuilder::new();
+        builder.authority(authority);
+        builder.path(path);
+        builder.query(query);
+        builder.fragment(fragment);
+        builder.build()
     }
-}
 
-/// What is built of a reference's parts, or the answer to a question about its builder.
-fn of_reference(alloc: Global, command: &str, text: &str, other: &str) -> Answer {
-    match URIReference::try_from_str(alloc, text) {
-        Ok(reference) => match command {
-            "builders" => compared(alloc, reference, URIReference::try_from_str(alloc, other)),
-            _ => made(alloc, again(command, reference)),
-        },
-        Err(why) => refused(alloc, why),
+    fn by_chain(self) -> Result<Self, Self::Error> {
+        let (authority, path, query, fragment) = self.into_parts();
+        RelativeReferenceBuilder::default()
+            .with_authority(authority)
+            .with_path(path)
+            .with_query(query)
+            .with_fragment(fragment)
+            .build()
     }
-}
 
-/// What is built of a URI's parts.
-fn of_uri(alloc: Global, command: &str, text: &str) -> Answer {
-    match URI::try_from_str(alloc, text) {
-        Ok(uri) => made(alloc, uri_again(command, uri)),
-        Err(why) => refused(alloc, why),
-    }
-}
-
-/// What is built of a relative reference's parts.
-fn of_relative(alloc: Global, command: &str, text: &str) -> Answer {
-    match RelativeReference::try_from_str(alloc, text) {
-        Ok(relative) => made(alloc, relative_again(command, relative)),
-        Err(why) => refused(alloc, why),
+    fn has_builder_of(self, other: Self) -> bool {
+        self.into_builder() == other.into_builder()
     }
 }
 
 /// What is built of texts.
-fn of_texts(alloc: Global, command: &str, texts: Texts<'_>) -> Answer {
-    match command {
-        "build" => made(alloc, build(alloc, texts)),
-        "build-uri" => made(alloc, build_uri(alloc, texts)),
-        "build-relative" => made(alloc, build_relative(alloc, texts)),
-        _ => made(alloc, after_refusals(alloc, texts)),
+fn made_of_texts<'t, T: Built<'t>>(alloc: Global, texts: &'t str) -> Answer {
+    made(alloc, T::of_texts(alloc, split_texts(texts)))
+}
+
+/// Whether the builders that hold the parts of both are equal, where the second one was read.
+fn compared<'t, T: Built<'t>>(alloc: Global, left: T, right: &'t str) -> Answer {
+    match T::of_str(alloc, right) {
+        Ok(right) => verdict(alloc, &[left.has_builder_of(right)]),
+        Err(why) => refused(alloc, why),
+    }
+}
+
+/// What is built of the parts of what the text reads as, or the answer to a question about its
+/// builder.
+fn rebuilt<'t, T: Built<'t>>(
+    alloc: Global,
+    command: &str,
+    text: &'t str,
+    other: &'t str,
+) -> Answer {
+    match T::of_str(alloc, text) {
+        Ok(value) => match command {
+            "builders" => compared(alloc, value, other),
+            "calls" | "uri-calls" | "relative-calls" => made(alloc, value.by_calls()),
+            _ => made(alloc, value.by_chain()),
+        },
+        Err(why) => refused(alloc, why),
     }
 }
 
 /// The answer to a question about builders.
 pub fn answer(alloc: Global, asked: &str) -> Answer {
     let (command, rest) = word(asked);
-    let (text, others) = word(rest);
+    let (_, text, other) = words(asked);
     match command {
-        "build" | "build-uri" | "build-relative" | "after-refusals" => {
-            of_texts(alloc, command, split_texts(rest))
+        "build" => made_of_texts::<URIReference<'_>>(alloc, rest),
+        "build-uri" => made_of_texts::<URI<'_>>(alloc, rest),
+        "build-relative" => made_of_texts::<RelativeReference<'_>>(alloc, rest),
+        "after-refusals" => made(alloc, after_refusals(alloc, split_texts(rest))),
+        "uri-calls" | "uri-chain" => rebuilt::<URI<'_>>(alloc, command, text, other),
+        "relative-calls" | "relative-chain" => {
+            rebuilt::<RelativeReference<'_>>(alloc, command, text, other)
         }
-        "calls" | "chain" | "builders" => of_reference(alloc, command, text, word(others).0),
-        "uri-calls" | "uri-chain" => of_uri(alloc, command, text),
-        "relative-calls" | "relative-chain" => of_relative(alloc, command, text),
-        _ => said(alloc, "no such command"),
+        _ => rebuilt::<URIReference<'_>>(alloc, command, text, other),
     }
 }
 

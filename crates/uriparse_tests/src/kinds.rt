@@ -1,12 +1,11 @@
 //! Kinds of references, and their copies.
 
-use crate::reference;
-use rows::answer::{Answer, named, refused, words};
+use rows::answer::{Answer, named};
 use std::alloc::Global;
 use uriparse::URIReference;
 
 /// The parts that a reference has and the kinds that it is of, as its tests tell them.
-fn kinds(alloc: Global, reference: &URIReference<'_>) -> Answer {
+pub fn kinds(alloc: Global, reference: &URIReference<'_>) -> Answer {
     named(
         alloc,
         &[
@@ -22,18 +21,6 @@ fn kinds(alloc: Global, reference: &URIReference<'_>) -> Answer {
             (reference.is_relative_path_reference(), " is-relative-path"),
         ],
     )
-}
-
-/// The answer to a question about kinds of references.
-pub fn answer(alloc: Global, asked: &str) -> Answer {
-    let (command, text, new) = words(asked);
-    match URIReference::try_from_str(alloc, text) {
-        Ok(reference) => match command {
-            "kinds" => kinds(alloc, &reference),
-            _ => reference::answer(alloc, command, reference, text, new),
-        },
-        Err(why) => refused(alloc, why),
-    }
 }
 
 pub const ROWS: &str = "\

@@ -1,85 +1,56 @@
 //! Normal forms of references.
 
-use crate::reference::told;
-use crate::reference_edits::edits;
+use crate::reference::{Reference, answer_of, told};
 use rows::answer::{Answer, refused, said, shows, words};
 use std::alloc::{AllocError, Global};
-use uriparse::{Edit, URIReference, URIReferenceError};
+use uriparse::URIReference;
 
-/// Whether the reference is in normal form.
-fn is_normal(alloc: Global, reference: &URIReference<'_>) -> Answer {
-    said(
-        alloc,
-        if reference.is_normalized() {
-            "normal"
-        } else {
-            "not normal"
-        },
-    )
+/// Whether what this text reads as is in normal form.
+fn is_normal<'t, T: Reference<'t>>(alloc: Global, text: &'t str) -> Answer {
+    match T::of_str(alloc, text) {
+        Ok(value) if value.is_normal() => said(alloc, "normal"),
+        Ok(_) => said(alloc, "not normal"),
+        Err(why) => refused(alloc, why),
+    }
 }
 
-/// Whether the reference is in normal form, and can be brought into it.
-fn is_settled(alloc: Global, reference: &mut URIReference<'_>) -> bool {
-    reference.is_normalized() && reference.normalize(alloc).is_ok()
+/// Whether the value is in normal form, and can be brought into it.
+fn is_settled<'t, T: Reference<'t>>(alloc: Global, value: &mut T) -> bool {
+    value.is_normal() && value.make_normal(alloc).is_ok()
 }
 
 /// The text of a normal form, which is to be in normal form, and to stay as it is.
-fn settled(alloc: Global, reference: &mut URIReference<'_>) -> Answer {
-    let text = told(alloc, reference)?;
-    if is_settled(alloc, reference) && shows(alloc, reference, text.as_str())? {
+fn settled<'t, T: Reference<'t>>(alloc: Global, value: &mut T) -> Answer {
+    let text = told(alloc, value)?;
+    if is_settled(alloc, value) && shows(alloc, value, text.as_str())? {
         return Ok(text);
     }
     said(alloc, "no normal form")
 }
 
-/// The text of the reference's normal form. After a refusal the reference is to print as before.
-fn normalized(alloc: Global, reference: &mut URIReference<'_>, printed: &str) -> Answer {
-    if reference.normalize(alloc).is_ok() {
-        return settled(alloc, reference);
+/// The text of the value's normal form. After a refusal the value is to print as before.
+fn normal_form<'t, T: Reference<'t>>(alloc: Global, value: &mut T, printed: &str) -> Answer {
+    if value.make_normal(alloc).is_ok() {
+        return settled(alloc, value);
     }
-    if shows(alloc, reference, printed)? {
+    if shows(alloc, value, printed)? {
         return Err(AllocError);
     }
     said(alloc, "refused and changed")
 }
 
-/// What the refusal says of an edit with this index after which this text is left.
-fn refused_edit(alloc: Global, (index, why): (usize, URIReferenceError), left: &str) -> Answer {
-    if index == 1 && left.ends_with("?q%7e") {
-        return refused(alloc, why);
-    }
-    said(alloc, "another refusal")
-}
-
-/// A query, the normal form and a fragment, one after another. Where the normal form wants memory
-/// and there is none, the reference is to have the query alone.
-fn normalized_by_edits(alloc: Global, reference: &mut URIReference<'_>) -> Answer {
-    let edits = edits(alloc, "q%7e", Edit::Normalize, "f%7e")?;
-    let answer = reference.apply_all(alloc, edits);
-    let text = told(alloc, reference)?;
-    match answer {
-        Ok(()) => Ok(text),
-        Err(refusal) => refused_edit(alloc, refusal, text.as_str()),
-    }
-}
-
-/// The answer to a question about this reference's normal form.
-fn asked_of(alloc: Global, command: &str, reference: &mut URIReference<'_>) -> Answer {
-    let printed = told(alloc, reference)?;
-    match command {
-        "normalize" => normalized(alloc, reference, printed.as_str()),
-        "is-normal" => is_normal(alloc, reference),
-        "edits" => normalized_by_edits(alloc, reference),
-        _ => said(alloc, "no such command"),
-    }
+/// The same, of a value that prints what it prints now.
+pub fn normalized<'t, T: Reference<'t>>(alloc: Global, value: &mut T) -> Answer {
+    let printed = told(alloc, value)?;
+    normal_form(alloc, value, printed.as_str())
 }
 
 /// The answer to a question about a reference's normal form.
 pub fn answer(alloc: Global, asked: &str) -> Answer {
-    let (command, text, _) = words(asked);
-    match URIReference::try_from_str(alloc, text) {
-        Ok(mut reference) => asked_of(alloc, command, &mut reference),
-        Err(why) => refused(alloc, why),
+    let (command, text, new) = words(asked);
+    match command {
+        "is-normal" => is_normal::<URIReference<'_>>(alloc, text),
+        _ => answer_of::<URIReference<'_>>(alloc, command, text, new),
     }
 }
 

@@ -1,7 +1,8 @@
 //! What the references of all three types have in common, by their names in [`Reference`].
 
 use crate::hosts::{AuthorityParts, add_authority, listed_authority};
-use rows::answer::{Answer, add, printed, refused, said, shows};
+use crate::normal_forms::normalized;
+use rows::answer::{Answer, add, printed, refused, said, shows, words};
 use rows::same::same_as;
 use std::alloc::{AllocError, Global};
 use std::fmt::Display;
@@ -26,8 +27,14 @@ pub trait Reference<'t>: Display + Drop + Eq + Hash + Sized {
     /// `try_from_bytes`.
     fn of_bytes(alloc: Global, text: &'t [u8]) -> Result<Self, Self::Error>;
 
+    /// `try_from`, or the reference itself.
+    fn of_reference(reference: URIReference<'t>) -> Result<Self, Self::Error>;
+
     /// `as_uri_reference`, or the reference itself.
     fn as_reference(&self) -> &URIReference<'t>;
+
+    /// `from`, or the reference itself.
+    fn into_reference(self) -> URIReference<'t>;
 
     /// `to_string`.
     fn text(&self, alloc: Global) -> Answer;
@@ -77,8 +84,17 @@ pub trait Reference<'t>: Display + Drop + Eq + Hash + Sized {
     /// `map_fragment`, to this fragment where there is one.
     fn swap_fragment(self, new: Option<Fragment<'t>>) -> Result<Self, Self::Error>;
 
+    /// `into_parts` and `from_parts`: a reference whole, others without their authority.
+    fn put_together(self) -> Result<Self, Self::Error>;
+
     /// `into_builder` and `build`.
     fn rebuilt(self) -> Result<Self, Self::Error>;
+}
+
+/// A reference that is asked questions of its type's own.
+pub trait Asked<'t>: Reference<'t> {
+    /// The answer to such a question, of the reference that was read from this text.
+    fn own(&mut self, alloc: Global, command: &str, text: &str, new: &'t str) -> Answer;
 }
 
 /// Whether the value and the reference that it is both print this text.
@@ -209,52 +225,26 @@ fn set_path<'t, T: Reference<'t>>(
     }
 }
 
-/// The normal form, where it is in normal form.
-fn normalized<'t, T: Reference<'t>>(alloc: Global, value: &mut T) -> Answer {
-    value.make_normal(alloc)?;
-    if value.is_normal() {
-        return told(alloc, value);
-    }
-    said(alloc, "not normal")
+/// Whether the value is equal to another.
+fn compared<'t, T: Reference<'t>>(alloc: Global, value: &T, other: &'t str) -> Answer {
+    same_as(alloc, value, T::of_str(alloc, other))
 }
 
-/// The answer to a question about a value.
-fn asked_of<'t, T: Reference<'t>>(
+/// The answer to a question that changes nothing, or to one of the type's own.
+fn asked_of<'t, T: Asked<'t>>(
     alloc: Global,
     command: &str,
-    value: &T,
-    other: &'t str,
+    value: &mut T,
+    text: &str,
+    new: &'t str,
 ) -> Answer {
     match command {
         "uri" | "relative" | "reference" => told(alloc, value),
         "parts" => parts(alloc, value),
         "copied" => value.copied(alloc),
-        "uris" | "relatives" => same_as(alloc, value, T::of_str(alloc, other)),
-        "references" => compared(alloc, value, other),
+        "uris" | "relatives" | "references" => compared(alloc, value, new),
         "is-normal" => printed(alloc, value.is_normal()),
-        _ => said(alloc, "no such command"),
-    }
-}
-
-/// Whether the value is equal to another, which is read from bytes.
-pub fn compared<'t, T: Reference<'t>>(alloc: Global, value: &T, other: &'t str) -> Answer {
-    same_as(alloc, value, T::of_bytes(alloc, other.as_bytes()))
-}
-
-/// What is made of a value.
-fn made_of<'t, T: Reference<'t>>(alloc: Global, command: &str, value: T, new: &'t str) -> Answer {
-    match command {
-        "rebuilt" => made(alloc, value.rebuilt()),
-        "map-authority" => {
-            made(
-                alloc,
-                value.swap_authority(Authority::try_from_str(new).ok()),
-            )
-        }
-        "map-path" => made(alloc, value.keep_path()),
-        "map-query" => made(alloc, value.swap_query(Query::try_from_str(new).ok())),
-        "map-fragment" => made(alloc, value.swap_fragment(Fragment::try_from_str(new).ok())),
-        _ => asked_of(alloc, command, &value, new),
+        _ => value.own(alloc, command, text, new),
     }
 }
 
@@ -267,8 +257,8 @@ fn put<'t, T: Reference<'t>>(value: &mut T, command: &str, new: &'t str) -> Resu
     }
 }
 
-/// What is answered after an edit of a value in its place.
-fn edited<'t, T: Reference<'t>>(
+/// What is answered after an edit of a value in its place, or to another question.
+fn edited<'t, T: Asked<'t>>(
     alloc: Global,
     command: &str,
     value: &mut T,
@@ -278,15 +268,21 @@ fn edited<'t, T: Reference<'t>>(
     match command {
         "normalize" => normalized(alloc, value),
         "set-path" => set_path(alloc, value, text, new),
-        _ => {
+        "set-authority" | "set-query" | "set-fragment" => {
             let answer = put(value, command, new);
             settled(alloc, answer, value, text)
         }
+        _ => asked_of(alloc, command, value, text, new),
     }
 }
 
-/// The answer to a question about a value that was read from this text.
-pub fn answer<'t, T: Reference<'t>>(
+/// The reference that a value is.
+fn as_reference<'t, T: Reference<'t>>(alloc: Global, value: T) -> Answer {
+    given(alloc, value.into_reference())
+}
+
+/// What is made of a value that was read from this text, or the answer to another question.
+fn of_value<'t, T: Asked<'t>>(
     alloc: Global,
     command: &str,
     value: T,
@@ -295,9 +291,47 @@ pub fn answer<'t, T: Reference<'t>>(
 ) -> Answer {
     let mut value = value;
     match command {
-        "normalize" | "set-path" | "set-authority" | "set-query" | "set-fragment" => {
-            edited(alloc, command, &mut value, text, new)
-        }
-        _ => made_of(alloc, command, value, new),
+        "rebuilt" => made(alloc, value.rebuilt()),
+        "put-together" => made(alloc, value.put_together()),
+        "as-reference" => as_reference(alloc, value),
+        "map-authority" => made(
+            alloc,
+            value.swap_authority(Authority::try_from_str(new).ok()),
+        ),
+        "map-path" => made(alloc, value.keep_path()),
+        "map-query" => made(alloc, value.swap_query(Query::try_from_str(new).ok())),
+        "map-fragment" => made(alloc, value.swap_fragment(Fragment::try_from_str(new).ok())),
+        _ => edited(alloc, command, &mut value, text, new),
     }
+}
+
+/// What is read by way of a reference.
+fn converted<'t, R: Reference<'t>, T: Reference<'t>>(alloc: Global, text: &'t str) -> Answer {
+    match R::of_str(alloc, text) {
+        Ok(value) => made(alloc, T::of_reference(value.into_reference())),
+        Err(why) => refused(alloc, why),
+    }
+}
+
+/// The answer to a question about a reference, which is read from bytes where nothing else is asked.
+pub fn answer_of<'t, T: Asked<'t>>(
+    alloc: Global,
+    command: &str,
+    text: &'t str,
+    new: &'t str,
+) -> Answer {
+    match command {
+        "read" => made(alloc, T::of_str(alloc, text)),
+        "as-uri" | "as-relative" => converted::<URIReference<'t>, T>(alloc, text),
+        _ => match T::of_bytes(alloc, text.as_bytes()) {
+            Ok(value) => of_value(alloc, command, value, text, new),
+            Err(why) => refused(alloc, why),
+        },
+    }
+}
+
+/// The same, of the words of a line.
+pub fn answer<'t, T: Asked<'t>>(alloc: Global, asked: &'t str) -> Answer {
+    let (command, text, new) = words(asked);
+    answer_of::<T>(alloc, command, text, new)
 }

@@ -1,21 +1,17 @@
 //! Edits of references, one by one and in lists.
 
-use crate::reference;
 use crate::reference::{made, settled, told};
-use rows::answer::{Answer, refused, words};
+use rows::answer::{Answer, printed, said};
 use std::alloc::{AllocError, Global};
 use uriparse::{Edit, Fragment, Query, Scheme, URIReference, URIReferenceError};
 
-/// The reference taken apart and put together again.
-fn put_together(old: URIReference<'_>) -> Result<URIReference<'_>, URIReferenceError> {
-    let (scheme, authority, path, query, fragment) = old.into_parts();
-    URIReference::from_parts(scheme, authority, path, query, fragment)
-}
-
 /// The reference with its path alone.
-fn path_alone(old: URIReference<'_>) -> Result<URIReference<'_>, URIReferenceError> {
-    let (_, _, path, _, _) = old.into_parts();
-    URIReference::from_parts(None, None, path, None, None)
+fn path_alone(alloc: Global, reference: &URIReference<'_>) -> Answer {
+    let path = reference.path().to_borrowed(alloc)?;
+    made(
+        alloc,
+        URIReference::from_parts(None, None, path, None, None),
+    )
 }
 
 /// The scheme that this word reads as, or the authority taken away.
@@ -31,7 +27,7 @@ fn set<'t>(
 }
 
 /// A query, another edit and a fragment, one after another.
-pub fn edits<'t>(
+fn edits<'t>(
     alloc: Global,
     query: &'t str,
     other: Edit<'t>,
@@ -42,17 +38,41 @@ pub fn edits<'t>(
     Ok(vec![in alloc; query, other, fragment]?)
 }
 
-/// A query, no scheme and a fragment, one after another: how far that goes, and what is left.
-fn apply_all<'t>(alloc: Global, reference: &mut URIReference<'t>, new: &'t str) -> Answer {
-    let edits = edits(alloc, new, Edit::Scheme(None), new)?;
-    match reference.apply_all(alloc, edits) {
+/// How far a list of edits went, and what is left. Where the normal form, which is the second one,
+/// wants memory and there is none, the reference is to have the query alone.
+fn stopped(alloc: Global, index: usize, why: &str, left: &str) -> Answer {
+    if why == "out of memory" && index == 1 && left.ends_with("?q%7e") {
+        return Err(AllocError);
+    }
+    format!(in alloc; "{index}: {why}; {left}")
+}
+
+/// The same of the refusal itself.
+fn refused_edit(
+    alloc: Global,
+    index: usize,
+    why: URIReferenceError,
+    reference: &URIReference<'_>,
+) -> Answer {
+    let why = printed(alloc, why)?;
+    let left = told(alloc, reference)?;
+    stopped(alloc, index, why.as_str(), left.as_str())
+}
+
+/// What a list of edits makes of a reference, or how far it went.
+fn applied<'t>(
+    alloc: Global,
+    reference: &mut URIReference<'t>,
+    edits: Result<Vec<Edit<'t>>, AllocError>,
+) -> Answer {
+    match reference.apply_all(alloc, edits?) {
         Ok(()) => told(alloc, reference),
-        Err((index, why)) => format!(in alloc; "{index}: {why}; {reference}"),
+        Err((index, why)) => refused_edit(alloc, index, why, reference),
     }
 }
 
 /// What is answered after an edit in place that only a reference has.
-fn edited_in_place<'t>(
+pub fn edited<'t>(
     alloc: Global,
     command: &str,
     reference: &mut URIReference<'t>,
@@ -60,38 +80,18 @@ fn edited_in_place<'t>(
     new: &'t str,
 ) -> Answer {
     match command {
-        "apply-all" => apply_all(alloc, reference, new),
-        _ => {
+        "apply-all" => applied(alloc, reference, edits(alloc, new, Edit::Scheme(None), new)),
+        "edits" => applied(
+            alloc,
+            reference,
+            edits(alloc, "q%7e", Edit::Normalize, "f%7e"),
+        ),
+        "path-alone" => path_alone(alloc, reference),
+        "set-scheme" | "drop-authority" => {
             let answer = set(command, reference, new);
             settled(alloc, answer, reference, text)
         }
-    }
-}
-
-fn edited<'t>(
-    alloc: Global,
-    command: &str,
-    reference: URIReference<'t>,
-    text: &str,
-    new: &'t str,
-) -> Answer {
-    let mut reference = reference;
-    match command {
-        "set-scheme" | "drop-authority" | "apply-all" => {
-            edited_in_place(alloc, command, &mut reference, text, new)
-        }
-        "put-together" => made(alloc, put_together(reference)),
-        "path-alone" => made(alloc, path_alone(reference)),
-        _ => reference::answer(alloc, command, reference, text, new),
-    }
-}
-
-/// The answer to a question about an edit of a reference.
-pub fn answer(alloc: Global, asked: &str) -> Answer {
-    let (command, text, new) = words(asked);
-    match URIReference::try_from_str(alloc, text) {
-        Ok(old) => edited(alloc, command, old, text, new),
-        Err(why) => refused(alloc, why),
+        _ => said(alloc, "no such command"),
     }
 }
 

@@ -1,9 +1,10 @@
 //! References.
 
 use crate::hosts::AuthorityParts;
-use crate::reference;
-use crate::reference::{Parts, Reference};
-use rows::answer::{Answer, printed, refused, said, words};
+use crate::kinds::kinds;
+use crate::reference::{Asked, Parts, Reference};
+use crate::reference_edits::edited;
+use rows::answer::{Answer, printed, said};
 use std::alloc::{AllocError, Global};
 use std::convert::identity;
 use uriparse::{Authority, Fragment, Path, Query, URIReference, URIReferenceError};
@@ -19,7 +20,15 @@ impl<'t> Reference<'t> for URIReference<'t> {
         URIReference::try_from_bytes(alloc, text)
     }
 
+    fn of_reference(reference: URIReference<'t>) -> Result<Self, Self::Error> {
+        Ok(reference)
+    }
+
     fn as_reference(&self) -> &URIReference<'t> {
+        self
+    }
+
+    fn into_reference(self) -> URIReference<'t> {
         self
     }
 
@@ -94,8 +103,23 @@ impl<'t> Reference<'t> for URIReference<'t> {
         self.map_fragment(|old| old.and(new))
     }
 
+    fn put_together(self) -> Result<Self, Self::Error> {
+        let (scheme, authority, path, query, fragment) = self.into_parts();
+        URIReference::from_parts(scheme, authority, path, query, fragment)
+    }
+
     fn rebuilt(self) -> Result<Self, Self::Error> {
         self.into_builder().build()
+    }
+}
+
+impl<'t> Asked<'t> for URIReference<'t> {
+    fn own(&mut self, alloc: Global, command: &str, text: &str, new: &'t str) -> Answer {
+        match command {
+            "kinds" => kinds(alloc, self),
+            "scheme-length" => scheme_length(alloc, self),
+            _ => edited(alloc, command, self, text, new),
+        }
     }
 }
 
@@ -104,18 +128,6 @@ fn scheme_length(alloc: Global, reference: &URIReference<'_>) -> Answer {
     match reference.scheme() {
         Some(scheme) if reference.path().eq_str("") => printed(alloc, scheme.as_str().len()),
         _ => said(alloc, "another reference"),
-    }
-}
-
-/// The answer to a question about references.
-pub fn answer(alloc: Global, asked: &str) -> Answer {
-    let (command, text, other) = words(asked);
-    match URIReference::try_from_str(alloc, text) {
-        Ok(reference) => match command {
-            "scheme-length" => scheme_length(alloc, &reference),
-            _ => reference::answer(alloc, command, reference, text, other),
-        },
-        Err(why) => refused(alloc, why),
     }
 }
 

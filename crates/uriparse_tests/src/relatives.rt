@@ -1,9 +1,8 @@
 //! Relative references.
 
 use crate::hosts::AuthorityParts;
-use crate::reference;
-use crate::reference::{Parts, Reference, given, made};
-use rows::answer::{Answer, named, printed, refused, words};
+use crate::reference::{Asked, Parts, Reference};
+use rows::answer::{Answer, named, printed, said};
 use std::alloc::{AllocError, Global};
 use std::convert::identity;
 use uriparse::{
@@ -21,8 +20,16 @@ impl<'t> Reference<'t> for RelativeReference<'t> {
         RelativeReference::try_from_bytes(alloc, text)
     }
 
+    fn of_reference(reference: URIReference<'t>) -> Result<Self, Self::Error> {
+        RelativeReference::try_from(reference)
+    }
+
     fn as_reference(&self) -> &URIReference<'t> {
         self.as_uri_reference()
+    }
+
+    fn into_reference(self) -> URIReference<'t> {
+        URIReference::from(self)
     }
 
     fn text(&self, alloc: Global) -> Answer {
@@ -96,17 +103,23 @@ impl<'t> Reference<'t> for RelativeReference<'t> {
         self.map_fragment(|old| old.and(new))
     }
 
+    fn put_together(self) -> Result<Self, Self::Error> {
+        let (authority, path, query, fragment) = self.into_parts();
+        RelativeReference::from_parts(authority.and(None), path, query, fragment)
+    }
+
     fn rebuilt(self) -> Result<Self, Self::Error> {
         self.into_builder().build()
     }
 }
 
-/// The relative reference taken apart, and put together without its authority.
-fn put_together(
-    relative: RelativeReference<'_>,
-) -> Result<RelativeReference<'_>, RelativeReferenceError> {
-    let (authority, path, query, fragment) = relative.into_parts();
-    RelativeReference::from_parts(authority.and(None), path, query, fragment)
+impl<'t> Asked<'t> for RelativeReference<'t> {
+    fn own(&mut self, alloc: Global, command: &str, _: &str, _: &'t str) -> Answer {
+        match command {
+            "kinds" => kinds(alloc, self),
+            _ => said(alloc, "no such command"),
+        }
+    }
 }
 
 /// The parts that a relative reference has and the kinds that it is of, as its tests tell them.
@@ -125,52 +138,6 @@ fn kinds(alloc: Global, relative: &RelativeReference<'_>) -> Answer {
             (relative.is_relative_path_reference(), " is-relative-path"),
         ],
     )
-}
-
-/// What is made of this relative reference.
-fn made_of<'t>(
-    alloc: Global,
-    command: &str,
-    relative: RelativeReference<'t>,
-    text: &str,
-    new: &'t str,
-) -> Answer {
-    match command {
-        "put-together" => made(alloc, put_together(relative)),
-        "as-reference" => given(alloc, URIReference::from(relative)),
-        _ => reference::answer(alloc, command, relative, text, new),
-    }
-}
-
-/// The answer to a question about this relative reference.
-fn of_relative<'t>(
-    alloc: Global,
-    command: &str,
-    relative: RelativeReference<'t>,
-    text: &str,
-    new: &'t str,
-) -> Answer {
-    match command {
-        "kinds" => kinds(alloc, &relative),
-        _ => made_of(alloc, command, relative, text, new),
-    }
-}
-
-/// The answer to a question about relative references, which are read from bytes where nothing else
-/// is asked.
-pub fn answer(alloc: Global, asked: &str) -> Answer {
-    let (command, text, new) = words(asked);
-    match command {
-        "read" => made(alloc, RelativeReference::try_from_str(alloc, text)),
-        "as-relative" => match URIReference::try_from_str(alloc, text) {
-            Ok(reference) => made(alloc, RelativeReference::try_from(reference)),
-            Err(why) => refused(alloc, why),
-        },
-        _ => match RelativeReference::try_from_bytes(alloc, text.as_bytes()) {
-            Ok(relative) => of_relative(alloc, command, relative, text, new),
-            Err(why) => refused(alloc, why),
-        },
-    }
 }
 
 pub const ROWS: &str = "\

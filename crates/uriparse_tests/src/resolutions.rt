@@ -1,49 +1,51 @@
 //! References resolved behind a base.
 
-use crate::reference::made;
+use crate::reference::{Reference, answer_of, made};
 use rows::answer::{Answer, printed, refused, said, word};
 use std::alloc::Global;
-use uriparse::{URI, URIError, URIReference};
+use std::fmt::Display;
+use uriparse::{URI, URIReference};
 
 /// The base of RFC 3986, section 5.4.
 const RFC_BASE: &str = "http://a/b/c/d;p?q";
 
-/// How many segments the target's path has.
-fn count(alloc: Global, target: &URI<'_>) -> Answer {
-    printed(alloc, target.path().segments().len())
-}
-
-/// The same, or the refusal.
-fn counted(alloc: Global, target: Result<URI<'_>, URIError>) -> Answer {
+/// How many segments the target's path has, or the refusal.
+fn counted<'t, T: Reference<'t>, E: Display + Drop>(alloc: Global, target: Result<T, E>) -> Answer {
     match target {
-        Ok(target) => count(alloc, &target),
+        Ok(target) => printed(alloc, target.as_reference().path().segments().len()),
         Err(why) => refused(alloc, why),
     }
 }
 
 /// What a command asks of the target.
-fn asked_of(alloc: Global, command: &str, base: &URI<'_>, reference: &URIReference<'_>) -> Answer {
+fn asked_of<'t, T: Reference<'t>, E: Display + Drop>(
+    alloc: Global,
+    command: &str,
+    target: Result<T, E>,
+) -> Answer {
     match command {
-        "resolve" | "rfc" => made(alloc, base.resolve(alloc, reference)),
-        "resolve-segments" => counted(alloc, base.resolve(alloc, reference)),
+        "resolve" | "rfc" => made(alloc, target),
+        "resolve-segments" => counted(alloc, target),
         _ => said(alloc, "no such command"),
     }
 }
 
-/// The answer to a question about the target of a reference behind this base.
-fn behind(alloc: Global, command: &str, base: &URI<'_>, reference: &str) -> Answer {
-    match URIReference::try_from_str(alloc, reference) {
-        Ok(reference) => asked_of(alloc, command, base, &reference),
+/// The answer to a question about the target of a reference of this type.
+fn resolved<'t, T: Reference<'t>>(
+    alloc: Global,
+    command: &str,
+    base: &URI<'_>,
+    reference: &'t str,
+) -> Answer {
+    match T::of_str(alloc, reference) {
+        Ok(value) => asked_of(alloc, command, base.resolve(alloc, value.as_reference())),
         Err(why) => refused(alloc, why),
     }
 }
 
-/// The answer to a question about the target of a reference behind a base.
-pub fn resolved(alloc: Global, command: &str, base: &str, reference: &str) -> Answer {
-    match URI::try_from_str(alloc, base) {
-        Ok(base) => behind(alloc, command, &base, reference),
-        Err(why) => refused(alloc, why),
-    }
+/// The answer to a question about the target of a reference behind this base.
+pub fn behind(alloc: Global, command: &str, base: &URI<'_>, reference: &str) -> Answer {
+    resolved::<URIReference<'_>>(alloc, command, base, reference)
 }
 
 /// The answer to a question about a reference behind a base, which is the one of section 5.4 where
@@ -52,10 +54,9 @@ pub fn answer(alloc: Global, asked: &str) -> Answer {
     let (command, rest) = word(asked);
     let (first, rest) = word(rest);
     if command == "rfc" {
-        return resolved(alloc, command, RFC_BASE, first);
+        return answer_of::<URI<'_>>(alloc, command, RFC_BASE, first);
     }
-    let (second, _) = word(rest);
-    resolved(alloc, command, first, second)
+    answer_of::<URI<'_>>(alloc, command, first, word(rest).0)
 }
 
 pub const ROWS: &str = "\

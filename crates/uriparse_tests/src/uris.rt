@@ -1,9 +1,9 @@
 //! URIs.
 
 use crate::hosts::AuthorityParts;
-use crate::reference;
-use crate::reference::{Parts, Reference, given, made, settled};
-use rows::answer::{Answer, printed, refused, words};
+use crate::reference::{Asked, Parts, Reference, given, settled};
+use crate::resolutions::behind;
+use rows::answer::{Answer, printed, refused};
 use std::alloc::{AllocError, Global};
 use std::convert::identity;
 use uriparse::{Authority, Fragment, Path, Query, Scheme, URI, URIError, URIReference};
@@ -19,8 +19,16 @@ impl<'t> Reference<'t> for URI<'t> {
         URI::try_from_bytes(alloc, text)
     }
 
+    fn of_reference(reference: URIReference<'t>) -> Result<Self, Self::Error> {
+        URI::try_from(reference)
+    }
+
     fn as_reference(&self) -> &URIReference<'t> {
         self.as_uri_reference()
+    }
+
+    fn into_reference(self) -> URIReference<'t> {
+        URIReference::from(self)
     }
 
     fn text(&self, alloc: Global) -> Answer {
@@ -99,15 +107,30 @@ impl<'t> Reference<'t> for URI<'t> {
         self.map_fragment(|old| old.and(new))
     }
 
+    fn put_together(self) -> Result<Self, Self::Error> {
+        let (scheme, authority, path, query, fragment) = self.into_parts();
+        URI::from_parts(scheme, authority.and(None), path, query, fragment)
+    }
+
     fn rebuilt(self) -> Result<Self, Self::Error> {
         self.into_builder().build()
     }
 }
 
-/// The URI taken apart, and put together without its authority.
-fn put_together(uri: URI<'_>) -> Result<URI<'_>, URIError> {
-    let (scheme, authority, path, query, fragment) = uri.into_parts();
-    URI::from_parts(scheme, authority.and(None), path, query, fragment)
+impl<'t> Asked<'t> for URI<'t> {
+    fn own(&mut self, alloc: Global, command: &str, text: &str, new: &'t str) -> Answer {
+        match command {
+            "set-scheme" => set_scheme(alloc, self, text, new),
+            "is-base" => printed(alloc, self.can_be_a_base()),
+            "base" => base(alloc, self),
+            _ => behind(alloc, command, self, new),
+        }
+    }
+}
+
+/// The URI without its fragment, made of a copy.
+fn base(alloc: Global, uri: &URI<'_>) -> Answer {
+    given(alloc, uri.to_borrowed(alloc)?.into_base_uri())
 }
 
 /// Another scheme set.
@@ -118,42 +141,6 @@ fn set_scheme<'t>(alloc: Global, uri: &mut URI<'t>, text: &str, new: &'t str) ->
             settled(alloc, answer, uri, text)
         }
         Err(why) => refused(alloc, why),
-    }
-}
-
-/// What is made of this URI.
-fn made_of<'t>(alloc: Global, command: &str, uri: URI<'t>, text: &str, new: &'t str) -> Answer {
-    match command {
-        "put-together" => made(alloc, put_together(uri)),
-        "base" => given(alloc, uri.into_base_uri()),
-        "as-reference" => given(alloc, URIReference::from(uri)),
-        _ => reference::answer(alloc, command, uri, text, new),
-    }
-}
-
-/// The answer to a question about this URI.
-fn of_uri<'t>(alloc: Global, command: &str, uri: URI<'t>, text: &str, new: &'t str) -> Answer {
-    let mut uri = uri;
-    match command {
-        "set-scheme" => set_scheme(alloc, &mut uri, text, new),
-        "is-base" => printed(alloc, uri.can_be_a_base()),
-        _ => made_of(alloc, command, uri, text, new),
-    }
-}
-
-/// The answer to a question about URIs, which are read from bytes where nothing else is asked.
-pub fn answer(alloc: Global, asked: &str) -> Answer {
-    let (command, text, new) = words(asked);
-    match command {
-        "read" => made(alloc, URI::try_from_str(alloc, text)),
-        "as-uri" => match URIReference::try_from_str(alloc, text) {
-            Ok(reference) => made(alloc, URI::try_from(reference)),
-            Err(why) => refused(alloc, why),
-        },
-        _ => match URI::try_from_bytes(alloc, text.as_bytes()) {
-            Ok(uri) => of_uri(alloc, command, uri, text, new),
-            Err(why) => refused(alloc, why),
-        },
     }
 }
 
