@@ -1,20 +1,9 @@
 //! The program `uri`: reads texts as URIs or their parts, and prints what they hold.
 #![tactic(auto)]
 
-mod edit;
-mod equal;
-mod failure;
-mod help;
-mod normalize;
-mod parse;
-mod print;
-mod resolve;
-mod run;
-mod tail;
-
-pub use run::{refuse_arguments, run};
 use std::process::ExitCode;
 use std::{env, io};
+pub use uri_commands::{refuse_arguments, run};
 
 fn main(rt: HostRuntime) -> io::Result<ExitCode> {
     let found = match env::args(&rt) {
@@ -35,3 +24,6 @@ fn main(rt: HostRuntime) -> io::Result<ExitCode> {
     let status = run(rt.alloc(), &words, &mut rt.stdout(), &mut rt.stderr());
     Ok(ExitCode::from(status))
 }
+
+#[cfg(test)]
+mod tests;

@@ -1,17 +1,32 @@
-//! The commands, by their words.
+//! The commands of the program `uri`, by their words: each reads texts as URIs or their parts, and
+//! prints what they hold.
+//!
+//! They are a library, so that the tests of the program need no second proof of them.
+#![tactic(auto)]
+
 ghost use Rattle.std.specs.Prelude.{◌≡◌};
 
-use crate::edit::edit;
-use crate::equal::equal;
-use crate::failure::Failure;
-use crate::help::help;
-use crate::normalize::normalize;
-use crate::parse::parse;
-use crate::resolve::resolve;
-use crate::tail::tail;
+mod edit;
+mod equal;
+mod failure;
+mod help;
+mod normalize;
+mod parse;
+mod print;
+mod resolve;
+mod tail;
+
+use edit::edit;
+use equal::equal;
+use failure::Failure;
+use help::help;
+use normalize::normalize;
+use parse::parse;
+use resolve::resolve;
 use std::alloc::Global;
 use std::io;
 use std::io::Write;
+use tail::tail;
 
 /// Runs the command of these words, which come after the program's name, and answers the status:
 /// 0; 1 after a refusal, whose text is then one line of `err`; 2 where no command has these words.
@@ -53,6 +68,3 @@ fn command<O: Write>(alloc: Global, words: &[&str], out: &mut O) -> Result<(), F
         _ => Err(Failure::Usage),
     }
 }
-
-#[cfg(test)]
-mod tests;

@@ -1,0 +1,42 @@
+//! Promises of `uriparse` for which the must-fail edits beside this file put wrong bodies.
+//!
+//! Each function is one call of the library, and its clauses follow from that call's alone. So a
+//! body that breaks one of them breaks the library's too: where the prover refuses it here, no body
+//! of the library's function can do as it does.
+#![tactic(auto)]
+
+ghost use Rattle.std.specs.Prelude.{◌≡◌, Err, MatchOption, Ok, true};
+ghost use Rattle.uriparse_text.specs.Readings.{IsUnless};
+ghost use Rattle.uriparse_path.specs.declared.path.error.PathError.TheVariants as paths;
+ghost use Rattle.uriparse_reference.specs.Target.{target};
+ghost use Rattle.uriparse.specs.Kinds.{of_kind};
+ghost use Rattle.uriparse.specs.declared.uri.error.URIError.TheVariants as errors;
+
+use std::alloc::Global;
+use uriparse::{Query, URI, URIBuilder, URIError, URIReference};
+
+/// Sets a builder's query.
+pub fn build_query<'b>(builder: &mut URIBuilder<'b>, query: Option<Query<'b>>)
+    ensures { builder.new ≡ record builder.old { query = query.entry } }
+{
+    builder.query(query);
+}
+
+/// Takes a reference for the URI that it is.
+pub fn as_uri(reference: URIReference<'_>) -> Result<URI<'_>, URIError>
+    ensures { result ≡ of_kind true errors.NotURI reference.entry }
+{
+    URI::try_from(reference)
+}
+
+/// The target of a reference behind a base.
+pub fn resolve<'a>(
+    alloc: Global,
+    base: &'a URI<'_>,
+    reference: &'a URIReference<'_>,
+) -> Result<URI<'a>, URIError>
+    ensures { MatchOption (target base.now reference.now) (result ≡ Err (errors.Path paths.ExceededMaximumLength)) (λ t. IsUnless (errors.Path paths.OutOfMemory) result (Ok t)) }
+{
+    let target = base.resolve(alloc, reference)?;
+    Ok(target)
+}
