@@ -4,7 +4,7 @@ use crate::failure::Failure;
 use crate::print::print_line;
 use std::alloc::Global;
 use std::io::Write;
-use uriparse::{Authority, Edit, Fragment, Path, Query, Scheme, URIReference};
+use uriparse::{Authority, Edit, Fragment, Path, Query, Scheme, URIReference, URIReferenceError};
 
 /// An edit as its words tell it. Its value isn't read yet.
 #[derive(Clone, Copy)]
@@ -54,7 +54,7 @@ fn changes<'w>(alloc: Global, words: &[&'w str]) -> Result<Vec<Change<'w>>, Fail
 }
 
 /// Reads the edit's value, if it has one.
-fn read_change<'w>(alloc: Global, change: Change<'w>) -> Result<Edit<'w>, Failure> {
+fn read_change<'w>(alloc: Global, change: Change<'w>) -> Result<Edit<'w>, URIReferenceError> {
     Ok(match change {
         Change::Scheme(text) => Edit::Scheme(Some(Scheme::try_from_str(text)?)),
         Change::Authority(text) => Edit::Authority(Some(Authority::try_from_str(text)?)),

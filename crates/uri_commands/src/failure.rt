@@ -3,9 +3,7 @@
 use std::alloc::{AllocError, AllocFailed};
 use std::io;
 use thiserror::Error;
-use uriparse::{
-    AuthorityError, FragmentError, PathError, QueryError, SchemeError, URIError, URIReferenceError,
-};
+use uriparse::{URIError, URIReferenceError};
 
 /// Why a command printed nothing, or not all.
 #[derive(Debug, Drop, Error)]
@@ -13,18 +11,10 @@ pub enum Failure {
     /// No such command or edit, or a wrong number of words.
     #[error("usage: uri COMMAND TEXT..")]
     Usage,
-    #[error(transparent)]
-    Scheme(#[from] SchemeError),
-    #[error(transparent)]
-    Authority(#[from] AuthorityError),
-    #[error(transparent)]
-    Path(#[from] PathError),
-    #[error(transparent)]
-    Query(#[from] QueryError),
-    #[error(transparent)]
-    Fragment(#[from] FragmentError),
+    /// A text that is no reference, or no part of one.
     #[error(transparent)]
     Reference(#[from] URIReferenceError),
+    /// A base that is no URI, or that the reference has no target behind.
     #[error(transparent)]
     Uri(#[from] URIError),
     /// An edit that was refused, by its index.

@@ -3,8 +3,12 @@
 use crate::failure::Failure;
 use crate::print::{print_line, print_part};
 use std::alloc::Global;
+use std::io;
 use std::io::Write;
-use uriparse::{Fragment, Path, Query};
+use uriparse::{Fragment, Path, Query, URIReferenceError};
+
+/// A path, a query and a fragment.
+type Tail<'t> = (Path<'t>, Option<Query<'t>>, Option<Fragment<'t>>);
 
 /// The text before the first such mark, and what stands behind it if there is one.
 fn cut(text: &str, mark: char) -> (&str, Option<&str>) {
@@ -14,15 +18,27 @@ fn cut(text: &str, mark: char) -> (&str, Option<&str>) {
     }
 }
 
-/// Prints the text, its path, and its query and its fragment where it has them, a line each.
-pub fn tail<O: Write>(alloc: Global, text: &str, out: &mut O) -> Result<(), Failure> {
+/// Reads the parts, from the left.
+fn read_tail(alloc: Global, text: &str) -> Result<Tail<'_>, URIReferenceError> {
     let (before, fragment) = cut(text, '#');
     let (path, query) = cut(before, '?');
     let path = Path::try_from_str(alloc, path)?;
     let query = query.map(Query::try_from_str).transpose()?;
     let fragment = fragment.map(Fragment::try_from_str).transpose()?;
+    Ok((path, query, fragment))
+}
+
+/// Prints the text, its path, and its query and its fragment where it has them, a line each.
+pub fn tail<O: Write>(alloc: Global, text: &str, out: &mut O) -> Result<(), Failure> {
+    let tail = read_tail(alloc, text)?;
+    Ok(print_tail(text, &tail, out)?)
+}
+
+/// Prints the text and its parts.
+fn print_tail<O: Write>(text: &str, tail: &Tail<'_>, out: &mut O) -> io::Result<()> {
+    let (path, query, fragment) = tail;
     print_line(&text, out)?;
-    print_part("path", Some(&path), out)?;
+    print_part("path", Some(path), out)?;
     print_part("query", query.as_ref(), out)?;
-    Ok(print_part("fragment", fragment.as_ref(), out)?)
+    print_part("fragment", fragment.as_ref(), out)
 }
