@@ -3,6 +3,7 @@
 use crate::failure::Failure;
 use crate::print::print_line;
 use std::alloc::Global;
+use std::io;
 use std::io::Write;
 use uriparse::URIReference;
 
@@ -20,6 +21,15 @@ fn compare<O: Write>(
     out: &mut O,
 ) -> Result<(), Failure> {
     let right = URIReference::try_from_str(alloc, right)?;
-    let answer = if *left == right { "equal" } else { "different" };
-    Ok(print_line(&answer, out)?)
+    print_answer(left, &right, out).map_err(Failure::Write)
+}
+
+/// Prints whether the references are equal.
+fn print_answer<O: Write>(
+    left: &URIReference<'_>,
+    right: &URIReference<'_>,
+    out: &mut O,
+) -> io::Result<()> {
+    let answer = if left == right { "equal" } else { "different" };
+    print_line(&answer, out)
 }

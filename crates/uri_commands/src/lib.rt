@@ -58,7 +58,7 @@ pub fn refuse_arguments<E: Write>(error: &io::Error, err: &mut E) -> u8
 
 fn command<O: Write>(alloc: Global, words: &[&str], out: &mut O) -> Result<(), Failure> {
     match words {
-        ["help" | "--help"] => Ok(help(out)?),
+        ["help" | "--help"] => help(out).map_err(Failure::Write),
         ["parse", text] => parse(alloc, text, out),
         ["tail", text] => tail(alloc, text, out),
         ["normalize", text] => normalize(alloc, text, out),

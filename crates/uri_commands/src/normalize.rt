@@ -19,5 +19,5 @@ fn print_normal<O: Write>(
     out: &mut O,
 ) -> Result<(), Failure> {
     reference.normalize(alloc)?;
-    Ok(print_line(reference, out)?)
+    print_line(reference, out).map_err(Failure::Write)
 }

@@ -36,5 +36,5 @@ fn print_target<O: Write>(
     out: &mut O,
 ) -> Result<(), Failure> {
     let target = base.resolve(alloc, reference)?;
-    Ok(print_line(&target, out)?)
+    print_line(&target, out).map_err(Failure::Write)
 }
