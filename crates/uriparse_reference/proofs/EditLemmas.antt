@@ -18,7 +18,6 @@ use Rattle.uriparse_reference.specs.declared.uri_reference.edit.Edit.{Edit}
 use Rattle.uriparse_reference.specs.declared.uri_reference.edit.Edit.TheVariants as edits
 use Rattle.uriparse_reference.specs.Edits.{placed, refusal, of_parts, edited, IsRefused, Run, ends, stops, goes}
 use Rattle.uriparse_reference.proofs.ValidLemmas.{HasPlace, placed_text, same_path}
-use Rattle.uriparse_reference.proofs.ReferenceLemmas.{accepted}
 
 -- a placed path obeys the rules of a valid reference's path
 pub has_place : (v w : Bool) (h : PathParts) → IsListed h.segments → path_refusal v w (path.text h) ≡ None → HasPlace v w (placed w h)
@@ -147,25 +146,23 @@ own_parts p v = accepts p (record p { path = placed (is_some p.authority) p.path
 
 -- ---- by what the tests of a path answered
 
--- a test that accepts leaves no refusal
-pub no_refusal : (v w b d : Bool) (t : List ℕ) (r : Result (Unit {0}) URIReferenceError) (x : Unit {0}) → b ≡ v → d ≡ w
-    → r ≡ unless_fault (path_refusal b d t) tt → r ≡ Ok x → path_refusal v w t ≡ None
-no_refusal v w b d t r x e f g h = ap (λ u. path_refusal u w t) (sym e) ∙ ap (λ u. path_refusal b u t) (sym f) ∙ (accepted (path_refusal b d t) tt x (sym g ∙ h)).0
+-- a test that finds no refusal is right
+pub no_refusal : (v w b d : Bool) (t : List ℕ) (o : Option URIReferenceError) → b ≡ v → d ≡ w → o ≡ path_refusal b d t → o ≡ None → path_refusal v w t ≡ None
+no_refusal v w b d t o e f g h = ap (λ u. path_refusal u w t) (sym e) ∙ ap (λ u. path_refusal b u t) (sym f) ∙ (sym g ∙ h)
 
-pub tested_path : (p : Parts) (h g : PathParts) (b d : Bool) (r : Result (Unit {0}) URIReferenceError) (x : Unit {0}) → Valid p → IsListed h.segments
-    → b ≡ is_some p.scheme → d ≡ is_some p.authority
-    → r ≡ unless_fault (path_refusal b d (path.text h)) tt → r ≡ Ok x → g ≡ placed d h → Valid (record p { path = g })
-tested_path p h g b d r x v i e f k l m =
+pub tested_path : (p : Parts) (h g : PathParts) (b d : Bool) (o : Option URIReferenceError) → Valid p → IsListed h.segments
+    → b ≡ is_some p.scheme → d ≡ is_some p.authority → o ≡ path_refusal b d (path.text h) → o ≡ None → g ≡ placed d h → Valid (record p { path = g })
+tested_path p h g b d o v i e f k l m =
     subst (λ u. Valid (record p { path = u })) (sym (m ∙ ap (λ u. placed u h) f))
-    (valid_path p h v i (no_refusal (is_some p.scheme) (is_some p.authority) b d (path.text h) r x e f k l))
+    (valid_path p h v i (no_refusal (is_some p.scheme) (is_some p.authority) b d (path.text h) o e f k l))
 
-pub tested_parts : (p : Parts) (g : PathParts) (b d : Bool) (r : Result (Unit {0}) URIReferenceError) (x : Unit {0}) → IfSome p.scheme scheme.Valid
+pub tested_parts : (p : Parts) (g : PathParts) (b d : Bool) (o : Option URIReferenceError) → IfSome p.scheme scheme.Valid
     → IfSome p.authority authority.Valid → IsListed p.path.segments → IfSome p.query IsQuery → IfSome p.fragment IsFragment
-    → b ≡ is_some p.scheme → d ≡ is_some p.authority → r ≡ unless_fault (path_refusal b d (path.text p.path)) tt → r ≡ Ok x → g ≡ placed d p.path
+    → b ≡ is_some p.scheme → d ≡ is_some p.authority → o ≡ path_refusal b d (path.text p.path) → o ≡ None → g ≡ placed d p.path
     → Valid (record p { path = g })
-tested_parts p g b d r x s a i q f e h k l m =
+tested_parts p g b d o s a i q f e h k l m =
     subst (λ u. Valid (record p { path = u })) (sym (m ∙ ap (λ u. placed u p.path) h))
-    (valid_parts p s a i q f (no_refusal (is_some p.scheme) (is_some p.authority) b d (path.text p.path) r x e h k l))
+    (valid_parts p s a i q f (no_refusal (is_some p.scheme) (is_some p.authority) b d (path.text p.path) o e h k l))
 
 -- ---- a scheme is set
 

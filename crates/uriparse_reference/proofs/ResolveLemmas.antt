@@ -19,7 +19,7 @@ use Rattle.uriparse_reference.specs.declared.uri_reference.error.URIReferenceErr
 use Rattle.uriparse_reference.specs.Reference.{Parts, Valid}
 use Rattle.uriparse_reference.specs.Normal.{shielded}
 use Rattle.uriparse_reference.specs.Target.{merge, dots_removed, is_empty, target_of, target}
-use Rattle.uriparse_reference.proofs.PlaceLemmas.{Fits, fits_of, make, rooted_formed}
+use Rattle.uriparse_reference.proofs.PlaceLemmas.{Fits, fits_of, make, rooted_formed, shielded_fits}
 use Rattle.uriparse_reference.proofs.MergedLemmas.{IsBehind, merged_spelled, fits_merged}
 use Rattle.uriparse_reference.proofs.TargetLemmas.{behind, dots_removed-text, dots_removed-merged, chosen}
 use Rattle.uriparse_reference.proofs.TargetLemmas.{le_from, target_valid}
@@ -123,6 +123,14 @@ module _ (b r : Parts) (w : Bool) (q : PathParts) (own : q ≡ r.path) (valid : 
       let rooted : is_rooted (text r.path) ≡ true = rooted_formed r.path fits.listed fits.formed ∙ sym (ap (λ p. p.absolute) own) ∙ a in
       subst (λ o. IsPathOf o result) (sym (target_rooted b r h k rooted))
       (answered result (cond w (without_dots q) (shield (without_dots q))) (shielded b.authority (dots_removed (text r.path))) is made)
+
+-- ---- the case of the base's own path
+
+pub kept_answer : (b r : Parts) (p q made : PathParts) → p ≡ b.path → q ≡ r.path → Valid b → has_front r ≡ false → is_empty (text q) ≡ true → made ≡ p
+    → IsPathOf (target b r) (Ok made)
+kept_answer b r p q made base own valid h e same =
+    subst (λ o. IsPathOf o (Ok made)) (sym (target_kept b r h (ap (λ u. is_empty (text u)) (sym own) ∙ e)))
+    (inl (ap Ok (same ∙ base ∙ sym (shielded_fits b.authority b.path (fits_of b valid)))))
 
 -- ---- the case of merged paths
 

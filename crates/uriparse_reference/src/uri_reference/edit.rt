@@ -1,6 +1,5 @@
 //! Building a reference from parts, and changing one: RFC 3986, section 4.1.
 ghost use Rattle.std.specs.Prelude.{◌≡◌, IfSome, Ok, Some, None, is_some, length, MatchResult};
-ghost use Rattle.uriparse_text.specs.Readings.{unless_fault};
 ghost use Rattle.uriparse_path.specs.Path.{IsListed, text};
 ghost use Rattle.uriparse_scheme.specs.Scheme as schemes;
 ghost use Rattle.uriparse_reference.specs.Reference.{path_refusal};
@@ -58,26 +57,26 @@ fn has_scheme(scheme: &Option<Scheme<'_>>) -> bool
     }
 }
 
-/// Refuses a path that may not stand with a scheme or without one, and behind an authority or not.
-fn check_place(
+/// Why a path may not stand with a scheme or without one, and behind an authority or not.
+fn place_refusal(
     has_scheme: bool,
     has_authority: bool,
     path: &Path<'_>,
-) -> Result<(), URIReferenceError>
-    ensures answer { result ≡ unless_fault (path_refusal has_scheme has_authority (text path.now)) tt }
+) -> Option<URIReferenceError>
+    ensures refusal { result ≡ path_refusal has_scheme has_authority (text path.now) }
     ensures listed { IsListed path.now.segments }
 {
     let begins_twice = has_two_slashes(path);
     if has_authority {
-        return Ok(());
+        return None;
     }
     if begins_twice {
-        return Err(URIReferenceError::AbsolutePathStartsWithTwoSlashes);
+        return Some(URIReferenceError::AbsolutePathStartsWithTwoSlashes);
     }
     if has_scheme || lacks_colon_segment(path) {
-        return Ok(());
+        return None;
     }
-    Err(URIReferenceError::SchemelessPathStartsWithColonSegment)
+    Some(URIReferenceError::SchemelessPathStartsWithColonSegment)
 }
 
 /// The path as a reference holds it, behind an authority or not.
@@ -115,15 +114,16 @@ impl<'r> URIReference<'r> {
     {
         let has_scheme = has_scheme(&scheme);
         let has_authority = authority.is_some();
-        check_place(has_scheme, has_authority, &path)?;
-        let path = place(has_authority, path);
-        Ok(URIReference {
-            scheme,
-            authority,
-            path,
-            query,
-            fragment,
-        })
+        match place_refusal(has_scheme, has_authority, &path) {
+            Some(error) => Err(error),
+            None => Ok(URIReference {
+                scheme,
+                authority,
+                path: place(has_authority, path),
+                query,
+                fragment,
+            }),
+        }
     }
 
     /// The scheme, the authority, the path, the query and the fragment.
@@ -157,9 +157,13 @@ impl<'r> URIReference<'r> {
     pub fn set_scheme(&mut self, scheme: Option<Scheme<'r>>) -> Result<(), URIReferenceError>
         ensures { Settles self.old self.new result (edited self.old (edits.Scheme scheme.entry)) }
     {
-        check_place(has_scheme(&scheme), self.authority.is_some(), &self.path)?;
-        self.scheme = scheme;
-        Ok(())
+        match place_refusal(has_scheme(&scheme), self.authority.is_some(), &self.path) {
+            Some(error) => Err(error),
+            None => {
+                self.scheme = scheme;
+                Ok(())
+            }
+        }
     }
 
     /// Sets an authority, behind which the path is made absolute.
@@ -174,9 +178,13 @@ impl<'r> URIReference<'r> {
     fn remove_authority(&mut self) -> Result<(), URIReferenceError>
         ensures { Settles self.old self.new result (edited self.old (edits.Authority None)) }
     {
-        check_place(self.scheme.is_some(), false, &self.path)?;
-        self.authority = None;
-        Ok(())
+        match place_refusal(self.scheme.is_some(), false, &self.path) {
+            Some(error) => Err(error),
+            None => {
+                self.authority = None;
+                Ok(())
+            }
+        }
     }
 
     /// Sets the authority, behind which the path is made absolute. Without one, a path whose text
@@ -203,9 +211,13 @@ impl<'r> URIReference<'r> {
         ensures { Settles self.old self.new result (edited self.old (edits.Path path.entry)) }
     {
         let has_authority = self.authority.is_some();
-        check_place(self.scheme.is_some(), has_authority, &path)?;
-        let _old = mem::replace(&mut self.path, place(has_authority, path));
-        Ok(())
+        match place_refusal(self.scheme.is_some(), has_authority, &path) {
+            Some(error) => Err(error),
+            None => {
+                let _old = mem::replace(&mut self.path, place(has_authority, path));
+                Ok(())
+            }
+        }
     }
 
     /// Sets the query. It is never refused. Takes no memory.

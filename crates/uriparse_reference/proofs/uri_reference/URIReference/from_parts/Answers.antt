@@ -1,4 +1,4 @@
-use Rattle.std.proofs.Common.{◌≡◌, Ok, rules}
+use Rattle.std.proofs.Common.{rules}
 use Rattle.std.specs.Prelude.{IfSome}
 use Rattle.uriparse_text.specs.Query.{IsQuery}
 use Rattle.uriparse_text.specs.Fragment.{IsFragment}
@@ -10,10 +10,9 @@ use Rattle.uriparse_reference.proofs.uri_reference.URIReference.from_parts.Goals
 pub invariant_of-result : goal.invariant_of-result
 invariant_of-result c =
     let given : Parts = record { scheme = c.args.scheme; authority = c.args.authority; path = c.args.path; query = c.args.query; fragment = c.args.fragment } in
-    let passed : c.check_place.result ≡ Ok c.in_ok-check_place.field-0 = search rules in
     let is_authority : IfSome c.args.authority authority.Valid = search rules in
     let is_query : IfSome c.args.query IsQuery = search rules in
     let is_fragment : IfSome c.args.fragment IsFragment = search rules in
-    tested_parts given c.place-path.result c.has_scheme-has_scheme.result c.is_some-has_authority.result c.check_place.result c.in_ok-check_place.field-0
-    c.has_scheme-has_scheme.ensures.valid is_authority c.check_place.ensures.listed is_query is_fragment c.has_scheme-has_scheme.ensures.test
-    c.is_some-has_authority.ensures c.check_place.ensures.answer passed c.place-path.ensures
+    tested_parts given c.place.result c.has_scheme-has_scheme.result c.is_some-has_authority.result c.place_refusal.result
+    c.has_scheme-has_scheme.ensures.valid is_authority c.place_refusal.ensures.listed is_query is_fragment c.has_scheme-has_scheme.ensures.test
+    c.is_some-has_authority.ensures c.place_refusal.ensures.refusal c.in-None.is c.place.ensures

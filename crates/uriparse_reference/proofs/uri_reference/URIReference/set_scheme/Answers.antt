@@ -5,22 +5,24 @@ use Rattle.uriparse_reference.specs.declared.uri_reference.edit.Edit.TheVariants
 use Rattle.uriparse_reference.specs.Reference.{Parts, path_refusal}
 use Rattle.uriparse_reference.specs.Edits.{edited}
 use Rattle.uriparse_reference.proofs.EditLemmas.{edited_scheme, no_refusal, valid_scheme}
+use Rattle.uriparse_reference.proofs.uri_reference.URIReference.set_scheme.Goals.{In-None}
 use Rattle.uriparse_reference.proofs.uri_reference.URIReference.set_scheme.Goals as goal
+
+-- the path may stand with the new scheme
+fits : (c : In-None) → path_refusal (is_some c.args.scheme) (is_some c.self.inside.authority) (text c.self.inside.path) ≡ None
+fits c =
+    no_refusal (is_some c.args.scheme) (is_some c.self.inside.authority) c.has_scheme.result c.is_some.result (text c.self.inside.path)
+    c.place_refusal.result c.has_scheme.ensures.test c.is_some.ensures c.place_refusal.ensures.refusal c.in-None.is
 
 pub invariant_of-self : goal.invariant_of-self
 invariant_of-self c =
     let inside = c.self.inside in
     let old : Parts = record { scheme = inside.scheme; authority = inside.authority; path = inside.path; query = inside.query; fragment = inside.fragment } in
-    let fits : path_refusal (is_some c.args.scheme) (is_some inside.authority) (text inside.path) ≡ None =
-    no_refusal (is_some c.args.scheme) (is_some inside.authority) c.has_scheme.result c.is_some.result (text inside.path) c.check_place.result
-    c.in_ok-check_place.field-0 c.has_scheme.ensures.test c.is_some.ensures c.check_place.ensures.answer c.in_ok-check_place.was in
-    valid_scheme old c.args.scheme c.self.invariant c.has_scheme.ensures.valid fits
+    valid_scheme old c.args.scheme c.self.invariant c.has_scheme.ensures.valid (fits (goal.at.invariant_of-self c).In-None)
 
-pub returns : goal.returns
-returns c =
+pub returns-in-None : goal.returns-in-None
+returns-in-None c =
     let inside = c.self.inside in
     let old : Parts = record { scheme = inside.scheme; authority = inside.authority; path = inside.path; query = inside.query; fragment = inside.fragment } in
-    let fits : path_refusal (is_some c.args.scheme) (is_some inside.authority) (text inside.path) ≡ None =
-    no_refusal (is_some c.args.scheme) (is_some inside.authority) c.has_scheme.result c.is_some.result (text inside.path) c.check_place.result
-    c.in_ok-check_place.field-0 c.has_scheme.ensures.test c.is_some.ensures c.check_place.ensures.answer c.in_ok-check_place.was in
-    ap (λ p. edited p (edits.Scheme c.args.scheme)) (sym c.self.view_is) ∙ edited_scheme old c.args.scheme fits
+    ap (λ p. edited p (edits.Scheme c.args.scheme)) (sym c.self.view_is)
+    ∙ edited_scheme old c.args.scheme (fits (goal.at.returns-in-None c).In-None)
