@@ -1,6 +1,6 @@
 //! Builders of references, URIs and relative references.
 
-use crate::reference::{Reference, made};
+use crate::reference::{Reads, made};
 use rows::answer::{Answer, refused, verdict, word, words};
 use std::alloc::Global;
 use uriparse::{
@@ -120,7 +120,7 @@ fn after_refusals<'t>(alloc: Global, texts: Texts<'t>) -> Result<URI<'t>, URIErr
 }
 
 /// What can be built anew of its parts.
-trait Built<'t>: Reference<'t> {
+trait Built<'t>: Reads<'t> {
     /// What is built of the texts, by the calls that read them.
     fn of_texts(alloc: Global, texts: Texts<'t>) -> Result<Self, Self::Error>;
 
@@ -129,9 +129,6 @@ trait Built<'t>: Reference<'t> {
 
     /// The same reference, built again by the calls that hand the builder on.
     fn by_chain(self) -> Result<Self, Self::Error>;
-
-    /// Whether the builders that hold the parts of both are equal.
-    fn has_builder_of(self, other: Self) -> bool;
 }
 
 impl<'t> Built<'t> for URIReference<'t> {
@@ -161,10 +158,6 @@ impl<'t> Built<'t> for URIReference<'t> {
             .with_query(query)
             .with_fragment(fragment)
             .build()
-    }
-
-    fn has_builder_of(self, other: Self) -> bool {
-        self.into_builder() == other.into_builder()
     }
 }
 
@@ -196,10 +189,6 @@ impl<'t> Built<'t> for URI<'t> {
             .with_fragment(fragment)
             .build()
     }
-
-    fn has_builder_of(self, other: Self) -> bool {
-        self.into_builder() == other.into_builder()
-    }
 }
 
 impl<'t> Built<'t> for RelativeReference<'t> {
@@ -228,10 +217,6 @@ impl<'t> Built<'t> for RelativeReference<'t> {
             .with_fragment(fragment)
             .build()
     }
-
-    fn has_builder_of(self, other: Self) -> bool {
-        self.into_builder() == other.into_builder()
-    }
 }
 
 /// What is built of texts.
@@ -239,28 +224,38 @@ fn made_of_texts<'t, T: Built<'t>>(alloc: Global, texts: &'t str) -> Answer {
     made(alloc, T::of_texts(alloc, split_texts(texts)))
 }
 
-/// Whether the builders that hold the parts of both are equal, where the second one was read.
-fn compared<'t, T: Built<'t>>(alloc: Global, left: T, right: &'t str) -> Answer {
-    match T::of_str(alloc, right) {
-        Ok(right) => verdict(alloc, &[left.has_builder_of(right)]),
+/// What is built of the parts of what the text reads as.
+fn rebuilt<'t, T: Built<'t>>(alloc: Global, command: &str, text: &'t str) -> Answer {
+    match T::of_str(alloc, text) {
+        Ok(value) => match command {
+            "calls" | "uri-calls" | "relative-calls" => made(alloc, value.by_calls()),
+            _ => made(alloc, value.by_chain()),
+        },
         Err(why) => refused(alloc, why),
     }
 }
 
-/// What is built of the parts of what the text reads as, or the answer to a question about its
-/// builder.
-fn rebuilt<'t, T: Built<'t>>(
+/// Whether two builders are equal.
+fn compare<T: Drop + Eq>(alloc: Global, left: T, right: T) -> Answer {
+    verdict(alloc, &[left == right])
+}
+
+/// Whether the builders that hold these references' parts are equal, where the second one was read.
+fn compared(
     alloc: Global,
-    command: &str,
-    text: &'t str,
-    other: &'t str,
+    left: URIReference<'_>,
+    right: Result<URIReference<'_>, URIReferenceError>,
 ) -> Answer {
-    match T::of_str(alloc, text) {
-        Ok(value) => match command {
-            "builders" => compared(alloc, value, other),
-            "calls" | "uri-calls" | "relative-calls" => made(alloc, value.by_calls()),
-            _ => made(alloc, value.by_chain()),
-        },
+    match right {
+        Ok(right) => compare(alloc, left.into_builder(), right.into_builder()),
+        Err(why) => refused(alloc, why),
+    }
+}
+
+/// The same of the references that these texts read as.
+fn builders(alloc: Global, left: &str, right: &str) -> Answer {
+    match URIReference::try_from_str(alloc, left) {
+        Ok(left) => compared(alloc, left, URIReference::try_from_str(alloc, right)),
         Err(why) => refused(alloc, why),
     }
 }
@@ -274,11 +269,12 @@ pub fn answer(alloc: Global, asked: &str) -> Answer {
         "build-uri" => made_of_texts::<URI<'_>>(alloc, rest),
         "build-relative" => made_of_texts::<RelativeReference<'_>>(alloc, rest),
         "after-refusals" => made(alloc, after_refusals(alloc, split_texts(rest))),
-        "uri-calls" | "uri-chain" => rebuilt::<URI<'_>>(alloc, command, text, other),
+        "calls" | "chain" => rebuilt::<URIReference<'_>>(alloc, command, text),
+        "uri-calls" | "uri-chain" => rebuilt::<URI<'_>>(alloc, command, text),
         "relative-calls" | "relative-chain" => {
-            rebuilt::<RelativeReference<'_>>(alloc, command, text, other)
+            rebuilt::<RelativeReference<'_>>(alloc, command, text)
         }
-        _ => rebuilt::<URIReference<'_>>(alloc, command, text, other),
+        _ => builders(alloc, text, other),
     }
 }
 

@@ -1,14 +1,13 @@
 //! The rows of each layer, with ample memory and where it is refused.
 
 use crate::{
-    builders, hosts, kinds, limits, normal_forms, reference, reference_edits, references,
-    relatives, resolutions, uris,
+    builders, hosts, kinds, limits, normal_forms, reference_edits, references, relatives,
+    resolutions, uris,
 };
 use rows::answer::Answer;
 use rows::{Layer, wrong_row, wrong_row_of_all, wrong_starved_row_of_all};
 use std::alloc::Global;
 use std::test::Fail;
-use uriparse::{RelativeReference, URI, URIReference};
 
 #[derive(Clone, Copy)]
 enum Part {
@@ -44,12 +43,12 @@ impl Layer for Part {
         match self {
             Part::Hosts => hosts::answer(alloc, asked),
             Part::References | Part::ReferenceEdits | Part::Kinds => {
-                reference::answer::<URIReference<'_>>(alloc, asked)
+                references::answer(alloc, asked)
             }
             Part::NormalForms => normal_forms::answer(alloc, asked),
             Part::Resolutions => resolutions::answer(alloc, asked),
-            Part::Uris => reference::answer::<URI<'_>>(alloc, asked),
-            Part::Relatives => reference::answer::<RelativeReference<'_>>(alloc, asked),
+            Part::Uris => uris::answer(alloc, asked),
+            Part::Relatives => relatives::answer(alloc, asked),
             Part::Builders => builders::answer(alloc, asked),
             Part::Limits => limits::answer(alloc, asked),
         }

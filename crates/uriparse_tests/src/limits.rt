@@ -1,9 +1,8 @@
 //! Long texts. A reference is resolved behind the base that the first two of their words make.
 
-use crate::reference;
+use crate::{references, uris};
 use rows::answer::{Answer, repeated, split_long};
 use std::alloc::Global;
-use uriparse::{URI, URIReference};
 
 /// The answer to a question about a long text.
 pub fn answer(alloc: Global, asked: &str) -> Answer {
@@ -11,10 +10,10 @@ pub fn answer(alloc: Global, asked: &str) -> Answer {
     let middle = repeated(alloc, count, middle)?;
     if command.starts_with("resolve") {
         let base = format!(in alloc; "{front}{middle}")?;
-        return reference::answer_of::<URI<'_>>(alloc, command, base.as_str(), back);
+        return uris::asked_of(alloc, command, base.as_str(), back);
     }
     let asked = format!(in alloc; "{command} '{front}{middle}{back}'")?;
-    reference::answer::<URIReference<'_>>(alloc, asked.as_str())
+    references::answer(alloc, asked.as_str())
 }
 
 pub const ROWS: &str = "\

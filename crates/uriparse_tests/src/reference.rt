@@ -2,7 +2,7 @@
 
 use crate::hosts::{AuthorityParts, add_authority, listed_authority};
 use crate::normal_forms::normalized;
-use rows::answer::{Answer, add, printed, refused, said, shows, words};
+use rows::answer::{Answer, add, printed, refused, said, shows};
 use rows::same::same_as;
 use std::alloc::{AllocError, Global};
 use std::fmt::Display;
@@ -17,8 +17,17 @@ pub type Parts<'r, 't> = (
     Option<&'r Fragment<'t>>,
 );
 
-/// The calls that references of each type have.
-pub trait Reference<'t>: Display + Drop + Eq + Hash + Sized {
+/// What prints like the reference that it is.
+pub trait Shown<'t>: Display + Drop {
+    /// `as_uri_reference`, or the reference itself.
+    fn as_reference(&self) -> &URIReference<'t>;
+
+    /// `to_string`.
+    fn text(&self, alloc: Global) -> Answer;
+}
+
+/// What is read of a text.
+pub trait Reads<'t>: Shown<'t> + Sized {
     type Error: Display + Drop;
 
     /// `try_from_str`.
@@ -26,18 +35,15 @@ pub trait Reference<'t>: Display + Drop + Eq + Hash + Sized {
 
     /// `try_from_bytes`.
     fn of_bytes(alloc: Global, text: &'t [u8]) -> Result<Self, Self::Error>;
+}
 
+/// The other calls that references of each type have.
+pub trait Reference<'t>: Reads<'t> + Eq + Hash {
     /// `try_from`, or the reference itself.
     fn of_reference(reference: URIReference<'t>) -> Result<Self, Self::Error>;
 
-    /// `as_uri_reference`, or the reference itself.
-    fn as_reference(&self) -> &URIReference<'t>;
-
     /// `from`, or the reference itself.
     fn into_reference(self) -> URIReference<'t>;
-
-    /// `to_string`.
-    fn text(&self, alloc: Global) -> Answer;
 
     /// What the copy prints that `to_borrowed` and `into_owned` make.
     fn copied(&self, alloc: Global) -> Answer;
@@ -98,18 +104,14 @@ pub trait Asked<'t>: Reference<'t> {
 }
 
 /// Whether the value and the reference that it is both print this text.
-fn both_show<'t, T: Reference<'t>>(
-    alloc: Global,
-    value: &T,
-    text: &str,
-) -> Result<bool, AllocError> {
+fn both_show<'t, T: Shown<'t>>(alloc: Global, value: &T, text: &str) -> Result<bool, AllocError> {
     let own = shows(alloc, value, text)?;
     let inner = shows(alloc, value.as_reference(), text)?;
     Ok(own && inner)
 }
 
 /// The text, where all calls that give it agree.
-pub fn told<'t, T: Reference<'t>>(alloc: Global, value: &T) -> Answer {
+pub fn told<'t, T: Shown<'t>>(alloc: Global, value: &T) -> Answer {
     let text = value.text(alloc)?;
     if both_show(alloc, value, text.as_str())? {
         return Ok(text);
@@ -118,12 +120,12 @@ pub fn told<'t, T: Reference<'t>>(alloc: Global, value: &T) -> Answer {
 }
 
 /// What was made.
-pub fn given<'t, T: Reference<'t>>(alloc: Global, value: T) -> Answer {
+pub fn given<'t, T: Shown<'t>>(alloc: Global, value: T) -> Answer {
     told(alloc, &value)
 }
 
 /// What was read or made, or its refusal.
-pub fn made<'t, T: Reference<'t>, E: Display + Drop>(alloc: Global, made: Result<T, E>) -> Answer {
+pub fn made<'t, T: Shown<'t>, E: Display + Drop>(alloc: Global, made: Result<T, E>) -> Answer {
     match made {
         Ok(value) => told(alloc, &value),
         Err(why) => refused(alloc, why),
@@ -197,7 +199,7 @@ fn parts<'t, T: Reference<'t>>(alloc: Global, value: &T) -> Answer {
 }
 
 /// The text after an edit, or the refusal, after which the value is to be as it was.
-pub fn settled<'t, T: Reference<'t>, E: Display + Drop>(
+pub fn settled<'t, T: Shown<'t>, E: Display + Drop>(
     alloc: Global,
     answer: Result<(), E>,
     value: &T,
@@ -306,9 +308,9 @@ fn of_value<'t, T: Asked<'t>>(
 }
 
 /// What is read by way of a reference.
-fn converted<'t, R: Reference<'t>, T: Reference<'t>>(alloc: Global, text: &'t str) -> Answer {
-    match R::of_str(alloc, text) {
-        Ok(value) => made(alloc, T::of_reference(value.into_reference())),
+fn converted<'t, T: Reference<'t>>(alloc: Global, text: &'t str) -> Answer {
+    match URIReference::try_from_str(alloc, text) {
+        Ok(reference) => made(alloc, T::of_reference(reference)),
         Err(why) => refused(alloc, why),
     }
 }
@@ -322,16 +324,10 @@ pub fn answer_of<'t, T: Asked<'t>>(
 ) -> Answer {
     match command {
         "read" => made(alloc, T::of_str(alloc, text)),
-        "as-uri" | "as-relative" => converted::<URIReference<'t>, T>(alloc, text),
+        "as-uri" | "as-relative" => converted::<T>(alloc, text),
         _ => match T::of_bytes(alloc, text.as_bytes()) {
             Ok(value) => of_value(alloc, command, value, text, new),
             Err(why) => refused(alloc, why),
         },
     }
-}
-
-/// The same, of the words of a line.
-pub fn answer<'t, T: Asked<'t>>(alloc: Global, asked: &'t str) -> Answer {
-    let (command, text, new) = words(asked);
-    answer_of::<T>(alloc, command, text, new)
 }

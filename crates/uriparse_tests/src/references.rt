@@ -2,14 +2,24 @@
 
 use crate::hosts::AuthorityParts;
 use crate::kinds::kinds;
-use crate::reference::{Asked, Parts, Reference};
+use crate::reference::{Asked, Parts, Reads, Reference, Shown, answer_of};
 use crate::reference_edits::edited;
-use rows::answer::{Answer, printed, said};
+use rows::answer::{Answer, printed, said, words};
 use std::alloc::{AllocError, Global};
 use std::convert::identity;
 use uriparse::{Authority, Fragment, Path, Query, URIReference, URIReferenceError};
 
-impl<'t> Reference<'t> for URIReference<'t> {
+impl<'t> Shown<'t> for URIReference<'t> {
+    fn as_reference(&self) -> &URIReference<'t> {
+        self
+    }
+
+    fn text(&self, alloc: Global) -> Answer {
+        self.to_string(alloc)
+    }
+}
+
+impl<'t> Reads<'t> for URIReference<'t> {
     type Error = URIReferenceError;
 
     fn of_str(alloc: Global, text: &'t str) -> Result<Self, Self::Error> {
@@ -19,21 +29,15 @@ impl<'t> Reference<'t> for URIReference<'t> {
     fn of_bytes(alloc: Global, text: &'t [u8]) -> Result<Self, Self::Error> {
         URIReference::try_from_bytes(alloc, text)
     }
+}
 
+impl<'t> Reference<'t> for URIReference<'t> {
     fn of_reference(reference: URIReference<'t>) -> Result<Self, Self::Error> {
         Ok(reference)
     }
 
-    fn as_reference(&self) -> &URIReference<'t> {
-        self
-    }
-
     fn into_reference(self) -> URIReference<'t> {
         self
-    }
-
-    fn text(&self, alloc: Global) -> Answer {
-        self.to_string(alloc)
     }
 
     fn copied(&self, alloc: Global) -> Answer {
@@ -129,6 +133,12 @@ fn scheme_length(alloc: Global, reference: &URIReference<'_>) -> Answer {
         Some(scheme) if reference.path().eq_str("") => printed(alloc, scheme.as_str().len()),
         _ => said(alloc, "another reference"),
     }
+}
+
+/// The answer to a question about a reference.
+pub fn answer(alloc: Global, asked: &str) -> Answer {
+    let (command, text, new) = words(asked);
+    answer_of::<URIReference<'_>>(alloc, command, text, new)
 }
 
 pub const ROWS: &str = "\

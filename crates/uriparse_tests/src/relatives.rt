@@ -1,15 +1,25 @@
 //! Relative references.
 
 use crate::hosts::AuthorityParts;
-use crate::reference::{Asked, Parts, Reference};
-use rows::answer::{Answer, named, printed, said};
+use crate::reference::{Asked, Parts, Reads, Reference, Shown, answer_of};
+use rows::answer::{Answer, named, printed, said, words};
 use std::alloc::{AllocError, Global};
 use std::convert::identity;
 use uriparse::{
     Authority, Fragment, Path, Query, RelativeReference, RelativeReferenceError, URIReference,
 };
 
-impl<'t> Reference<'t> for RelativeReference<'t> {
+impl<'t> Shown<'t> for RelativeReference<'t> {
+    fn as_reference(&self) -> &URIReference<'t> {
+        self.as_uri_reference()
+    }
+
+    fn text(&self, alloc: Global) -> Answer {
+        self.to_string(alloc)
+    }
+}
+
+impl<'t> Reads<'t> for RelativeReference<'t> {
     type Error = RelativeReferenceError;
 
     fn of_str(alloc: Global, text: &'t str) -> Result<Self, Self::Error> {
@@ -19,21 +29,15 @@ impl<'t> Reference<'t> for RelativeReference<'t> {
     fn of_bytes(alloc: Global, text: &'t [u8]) -> Result<Self, Self::Error> {
         RelativeReference::try_from_bytes(alloc, text)
     }
+}
 
+impl<'t> Reference<'t> for RelativeReference<'t> {
     fn of_reference(reference: URIReference<'t>) -> Result<Self, Self::Error> {
         RelativeReference::try_from(reference)
     }
 
-    fn as_reference(&self) -> &URIReference<'t> {
-        self.as_uri_reference()
-    }
-
     fn into_reference(self) -> URIReference<'t> {
         URIReference::from(self)
-    }
-
-    fn text(&self, alloc: Global) -> Answer {
-        self.to_string(alloc)
     }
 
     fn copied(&self, alloc: Global) -> Answer {
@@ -138,6 +142,12 @@ fn kinds(alloc: Global, relative: &RelativeReference<'_>) -> Answer {
             (relative.is_relative_path_reference(), " is-relative-path"),
         ],
     )
+}
+
+/// The answer to a question about a relative reference.
+pub fn answer(alloc: Global, asked: &str) -> Answer {
+    let (command, text, new) = words(asked);
+    answer_of::<RelativeReference<'_>>(alloc, command, text, new)
 }
 
 pub const ROWS: &str = "\

@@ -1,6 +1,7 @@
 //! References resolved behind a base.
 
-use crate::reference::{Reference, answer_of, made};
+use crate::reference::{Reads, Shown, made};
+use crate::uris;
 use rows::answer::{Answer, printed, refused, said, word};
 use std::alloc::Global;
 use std::fmt::Display;
@@ -10,7 +11,7 @@ use uriparse::{URI, URIReference};
 const RFC_BASE: &str = "http://a/b/c/d;p?q";
 
 /// How many segments the target's path has, or the refusal.
-fn counted<'t, T: Reference<'t>, E: Display + Drop>(alloc: Global, target: Result<T, E>) -> Answer {
+fn counted<'t, T: Shown<'t>, E: Display + Drop>(alloc: Global, target: Result<T, E>) -> Answer {
     match target {
         Ok(target) => printed(alloc, target.as_reference().path().segments().len()),
         Err(why) => refused(alloc, why),
@@ -18,7 +19,7 @@ fn counted<'t, T: Reference<'t>, E: Display + Drop>(alloc: Global, target: Resul
 }
 
 /// What a command asks of the target.
-fn asked_of<'t, T: Reference<'t>, E: Display + Drop>(
+fn asked_of<'t, T: Shown<'t>, E: Display + Drop>(
     alloc: Global,
     command: &str,
     target: Result<T, E>,
@@ -31,7 +32,7 @@ fn asked_of<'t, T: Reference<'t>, E: Display + Drop>(
 }
 
 /// The answer to a question about the target of a reference of this type.
-fn resolved<'t, T: Reference<'t>>(
+fn resolved<'t, T: Reads<'t>>(
     alloc: Global,
     command: &str,
     base: &URI<'_>,
@@ -54,9 +55,9 @@ pub fn answer(alloc: Global, asked: &str) -> Answer {
     let (command, rest) = word(asked);
     let (first, rest) = word(rest);
     if command == "rfc" {
-        return answer_of::<URI<'_>>(alloc, command, RFC_BASE, first);
+        return uris::asked_of(alloc, command, RFC_BASE, first);
     }
-    answer_of::<URI<'_>>(alloc, command, first, word(rest).0)
+    uris::asked_of(alloc, command, first, word(rest).0)
 }
 
 pub const ROWS: &str = "\

@@ -1,14 +1,24 @@
 //! URIs.
 
 use crate::hosts::AuthorityParts;
-use crate::reference::{Asked, Parts, Reference, given, settled};
+use crate::reference::{Asked, Parts, Reads, Reference, Shown, answer_of, given, settled};
 use crate::resolutions::behind;
-use rows::answer::{Answer, printed, refused};
+use rows::answer::{Answer, printed, refused, words};
 use std::alloc::{AllocError, Global};
 use std::convert::identity;
 use uriparse::{Authority, Fragment, Path, Query, Scheme, URI, URIError, URIReference};
 
-impl<'t> Reference<'t> for URI<'t> {
+impl<'t> Shown<'t> for URI<'t> {
+    fn as_reference(&self) -> &URIReference<'t> {
+        self.as_uri_reference()
+    }
+
+    fn text(&self, alloc: Global) -> Answer {
+        self.to_string(alloc)
+    }
+}
+
+impl<'t> Reads<'t> for URI<'t> {
     type Error = URIError;
 
     fn of_str(alloc: Global, text: &'t str) -> Result<Self, Self::Error> {
@@ -18,21 +28,15 @@ impl<'t> Reference<'t> for URI<'t> {
     fn of_bytes(alloc: Global, text: &'t [u8]) -> Result<Self, Self::Error> {
         URI::try_from_bytes(alloc, text)
     }
+}
 
+impl<'t> Reference<'t> for URI<'t> {
     fn of_reference(reference: URIReference<'t>) -> Result<Self, Self::Error> {
         URI::try_from(reference)
     }
 
-    fn as_reference(&self) -> &URIReference<'t> {
-        self.as_uri_reference()
-    }
-
     fn into_reference(self) -> URIReference<'t> {
         URIReference::from(self)
-    }
-
-    fn text(&self, alloc: Global) -> Answer {
-        self.to_string(alloc)
     }
 
     fn copied(&self, alloc: Global) -> Answer {
@@ -142,6 +146,17 @@ fn set_scheme<'t>(alloc: Global, uri: &mut URI<'t>, text: &str, new: &'t str) ->
         }
         Err(why) => refused(alloc, why),
     }
+}
+
+/// The answer to a question about the URI that a text reads as.
+pub fn asked_of(alloc: Global, command: &str, text: &str, new: &str) -> Answer {
+    answer_of::<URI<'_>>(alloc, command, text, new)
+}
+
+/// The same, of the words of a line.
+pub fn answer(alloc: Global, asked: &str) -> Answer {
+    let (command, text, new) = words(asked);
+    asked_of(alloc, command, text, new)
 }
 
 pub const ROWS: &str = "\
