@@ -3,6 +3,7 @@
 use crate::reference::{Reads, made};
 use rows::answer::{Answer, refused, verdict, word, words};
 use std::alloc::Global;
+use std::fmt::Display;
 use uriparse::{
     RelativeReference, RelativeReferenceBuilder, RelativeReferenceError, URI, URIBuilder, URIError,
     URIReference, URIReferenceBuilder, URIReferenceError,
@@ -90,6 +91,25 @@ fn give_relative<'t>(
     builder.try_fragment(texts.fragment)
 }
 
+/// What is built of the texts.
+fn build(alloc: Global, texts: Texts<'_>) -> Answer {
+    let mut builder = URIReference::builder();
+    let given = give(alloc, &mut builder, texts);
+    made(alloc, given.and(builder.build()))
+}
+
+fn build_uri(alloc: Global, texts: Texts<'_>) -> Answer {
+    let mut builder = URI::builder();
+    let given = give_uri(alloc, &mut builder, texts);
+    made(alloc, given.and(builder.build()))
+}
+
+fn build_relative(alloc: Global, texts: Texts<'_>) -> Answer {
+    let mut builder = RelativeReference::builder();
+    let given = give_relative(alloc, &mut builder, texts);
+    made(alloc, given.and(builder.build()))
+}
+
 /// Whether a text that is no such part is refused for each part.
 fn refuses(alloc: Global, builder: &mut URIBuilder<'_>) -> bool {
     builder.try_scheme(b":").is_err()
@@ -113,17 +133,14 @@ fn give_and_refuse<'t>(
 }
 
 /// What is built of the texts after others were refused.
-fn after_refusals<'t>(alloc: Global, texts: Texts<'t>) -> Result<URI<'t>, URIError> {
+fn after_refusals(alloc: Global, texts: Texts<'_>) -> Answer {
     let mut builder = URI::builder();
     let given = give_and_refuse(alloc, &mut builder, texts);
-    given.and(builder.build())
+    made(alloc, given.and(builder.build()))
 }
 
 /// What can be built anew of its parts.
 trait Built<'t>: Reads<'t> {
-    /// What is built of the texts, by the calls that read them.
-    fn of_texts(alloc: Global, texts: Texts<'t>) -> Result<Self, Self::Error>;
-
     /// The same reference, built again by the plain calls.
     fn by_calls(self) -> Result<Self, Self::Error>;
 
@@ -132,12 +149,6 @@ trait Built<'t>: Reads<'t> {
 }
 
 impl<'t> Built<'t> for URIReference<'t> {
-    fn of_texts(alloc: Global, texts: Texts<'t>) -> Result<Self, Self::Error> {
-        let mut builder = URIReference::builder();
-        let given = give(alloc, &mut builder, texts);
-        given.and(builder.build())
-    }
-
     fn by_calls(self) -> Result<Self, Self::Error> {
         let (scheme, authority, path, query, fragment) = self.into_parts();
         let mut builder = URIReferenceBuilder::new();
@@ -162,12 +173,6 @@ impl<'t> Built<'t> for URIReference<'t> {
 }
 
 impl<'t> Built<'t> for URI<'t> {
-    fn of_texts(alloc: Global, texts: Texts<'t>) -> Result<Self, Self::Error> {
-        let mut builder = URI::builder();
-        let given = give_uri(alloc, &mut builder, texts);
-        given.and(builder.build())
-    }
-
     fn by_calls(self) -> Result<Self, Self::Error> {
         let (scheme, authority, path, query, fragment) = self.into_parts();
         let mut builder = URIBuilder::new();
@@ -192,12 +197,6 @@ impl<'t> Built<'t> for URI<'t> {
 }
 
 impl<'t> Built<'t> for RelativeReference<'t> {
-    fn of_texts(alloc: Global, texts: Texts<'t>) -> Result<Self, Self::Error> {
-        let mut builder = RelativeReference::builder();
-        let given = give_relative(alloc, &mut builder, texts);
-        given.and(builder.build())
-    }
-
     fn by_calls(self) -> Result<Self, Self::Error> {
         let (authority, path, query, fragment) = self.into_parts();
         let mut builder = RelativeReferenceBuilder::new();
@@ -220,8 +219,13 @@ impl<'t> Built<'t> for RelativeReference<'t> {
 }
 
 /// What is built of texts.
-fn made_of_texts<'t, T: Built<'t>>(alloc: Global, texts: &'t str) -> Answer {
-    made(alloc, T::of_texts(alloc, split_texts(texts)))
+fn of_texts(alloc: Global, command: &str, texts: Texts<'_>) -> Answer {
+    match command {
+        "build" => build(alloc, texts),
+        "build-uri" => build_uri(alloc, texts),
+        "build-relative" => build_relative(alloc, texts),
+        _ => after_refusals(alloc, texts),
+    }
 }
 
 /// What is built of the parts of what the text reads as.
@@ -235,29 +239,32 @@ fn rebuilt<'t, T: Built<'t>>(alloc: Global, command: &str, text: &'t str) -> Ans
     }
 }
 
-/// Whether two builders are equal.
-fn compare<T: Drop + Eq>(alloc: Global, left: T, right: T) -> Answer {
-    verdict(alloc, &[left == right])
+/// The builder that holds the parts of the reference that this text reads as.
+fn builder_of(alloc: Global, text: &str) -> Result<URIReferenceBuilder<'_>, URIReferenceError> {
+    match URIReference::try_from_str(alloc, text) {
+        Ok(reference) => Ok(reference.into_builder()),
+        Err(why) => Err(why),
+    }
 }
 
-/// Whether the builders that hold these references' parts are equal, where the second one was read.
-fn compared(
+/// Whether two values are equal, where both were read.
+fn compared<T: Drop + Eq, E: Display + Drop>(
     alloc: Global,
-    left: URIReference<'_>,
-    right: Result<URIReference<'_>, URIReferenceError>,
+    left: Result<T, E>,
+    right: Result<T, E>,
 ) -> Answer {
-    match right {
-        Ok(right) => compare(alloc, left.into_builder(), right.into_builder()),
+    match left {
+        Ok(left) => match right {
+            Ok(right) => verdict(alloc, &[left == right]),
+            Err(why) => refused(alloc, why),
+        },
         Err(why) => refused(alloc, why),
     }
 }
 
-/// The same of the references that these texts read as.
+/// Whether the builders that hold the parts of what these texts read as are equal.
 fn builders(alloc: Global, left: &str, right: &str) -> Answer {
-    match URIReference::try_from_str(alloc, left) {
-        Ok(left) => compared(alloc, left, URIReference::try_from_str(alloc, right)),
-        Err(why) => refused(alloc, why),
-    }
+    compared(alloc, builder_of(alloc, left), builder_of(alloc, right))
 }
 
 /// The answer to a question about builders.
@@ -265,10 +272,9 @@ pub fn answer(alloc: Global, asked: &str) -> Answer {
     let (command, rest) = word(asked);
     let (_, text, other) = words(asked);
     match command {
-        "build" => made_of_texts::<URIReference<'_>>(alloc, rest),
-        "build-uri" => made_of_texts::<URI<'_>>(alloc, rest),
-        "build-relative" => made_of_texts::<RelativeReference<'_>>(alloc, rest),
-        "after-refusals" => made(alloc, after_refusals(alloc, split_texts(rest))),
+        "build" | "build-uri" | "build-relative" | "after-refusals" => {
+            of_texts(alloc, command, split_texts(rest))
+        }
         "calls" | "chain" => rebuilt::<URIReference<'_>>(alloc, command, text),
         "uri-calls" | "uri-chain" => rebuilt::<URI<'_>>(alloc, command, text),
         "relative-calls" | "relative-chain" => {

@@ -4,16 +4,26 @@ use crate::{references, uris};
 use rows::answer::{Answer, repeated, split_long};
 use std::alloc::Global;
 
+/// The answer to a question about a reference behind the base that these words make.
+fn behind(alloc: Global, command: &str, front: &str, middle: &str, reference: &str) -> Answer {
+    let base = format!(in alloc; "{front}{middle}")?;
+    uris::asked_of(alloc, command, base.as_str(), reference)
+}
+
+/// The answer to a question about the reference that these words make.
+fn whole(alloc: Global, command: &str, front: &str, middle: &str, back: &str) -> Answer {
+    let asked = format!(in alloc; "{command} '{front}{middle}{back}'")?;
+    references::answer(alloc, asked.as_str())
+}
+
 /// The answer to a question about a long text.
 pub fn answer(alloc: Global, asked: &str) -> Answer {
     let (command, front, count, middle, back) = split_long(asked);
     let middle = repeated(alloc, count, middle)?;
-    if command.starts_with("resolve") {
-        let base = format!(in alloc; "{front}{middle}")?;
-        return uris::asked_of(alloc, command, base.as_str(), back);
+    match command.starts_with("resolve") {
+        true => behind(alloc, command, front, middle.as_str(), back),
+        false => whole(alloc, command, front, middle.as_str(), back),
     }
-    let asked = format!(in alloc; "{command} '{front}{middle}{back}'")?;
-    references::answer(alloc, asked.as_str())
 }
 
 pub const ROWS: &str = "\

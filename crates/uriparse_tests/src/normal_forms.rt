@@ -1,15 +1,15 @@
 //! Normal forms of references.
 
-use crate::reference::{Reference, told};
+use crate::reference::{Reads, Reference, told};
 use crate::references;
 use rows::answer::{Answer, refused, said, shows, words};
 use std::alloc::{AllocError, Global};
 use uriparse::URIReference;
 
 /// Whether what this text reads as is in normal form.
-fn is_normal(alloc: Global, text: &str) -> Answer {
-    match URIReference::try_from_str(alloc, text) {
-        Ok(reference) if reference.is_normalized() => said(alloc, "normal"),
+fn is_normal<'t, T: Reads<'t>>(alloc: Global, text: &'t str) -> Answer {
+    match T::of_str(alloc, text) {
+        Ok(value) if value.as_reference().is_normalized() => said(alloc, "normal"),
         Ok(_) => said(alloc, "not normal"),
         Err(why) => refused(alloc, why),
     }
@@ -50,7 +50,7 @@ pub fn normalized<'t, T: Reference<'t>>(alloc: Global, value: &mut T) -> Answer 
 pub fn answer(alloc: Global, asked: &str) -> Answer {
     let (command, text, _) = words(asked);
     match command {
-        "is-normal" => is_normal(alloc, text),
+        "is-normal" => is_normal::<URIReference<'_>>(alloc, text),
         _ => references::answer(alloc, asked),
     }
 }

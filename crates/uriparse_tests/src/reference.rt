@@ -2,6 +2,7 @@
 
 use crate::hosts::{AuthorityParts, add_authority, listed_authority};
 use crate::normal_forms::normalized;
+use crate::references;
 use rows::answer::{Answer, add, printed, refused, said, shows};
 use rows::same::same_as;
 use std::alloc::{AllocError, Global};
@@ -132,27 +133,26 @@ pub fn made<'t, T: Shown<'t>, E: Display + Drop>(alloc: Global, made: Result<T, 
     }
 }
 
-/// Adds the scheme and the parts of the authority.
-fn add_front<'t, T: Reference<'t>>(text: &mut String, value: &T) -> Result<(), AllocError> {
-    let (scheme, _, _, _) = value.parts();
-    add(text, "scheme", scheme)?;
-    add_authority(text, value.parts_of_authority())
-}
-
 /// Adds the path and what is behind it.
-fn add_back<'t, T: Reference<'t>>(text: &mut String, value: &T) -> Result<(), AllocError> {
-    let (_, path, query, fragment) = value.parts();
+fn add_back(text: &mut String, parts: Parts<'_, '_>) -> Result<(), AllocError> {
+    let (_, path, query, fragment) = parts;
     add(text, "path", Some(path))?;
     add(text, "query", query)?;
     add(text, "fragment", fragment)
 }
 
 /// Each part behind its name.
-fn listed<'t, T: Reference<'t>>(alloc: Global, value: &T) -> Answer {
+pub fn listed(alloc: Global, parts: Parts<'_, '_>, of_authority: AuthorityParts<'_, '_>) -> Answer {
     let mut text = String::new(alloc);
-    add_front(&mut text, value)?;
-    add_back(&mut text, value)?;
+    add(&mut text, "scheme", parts.0)?;
+    add_authority(&mut text, of_authority)?;
+    add_back(&mut text, parts)?;
     said(alloc, text.as_str().trim_start())
+}
+
+/// The same of a value.
+fn listed_of<'t, T: Reference<'t>>(alloc: Global, value: &T) -> Answer {
+    listed(alloc, value.parts(), value.parts_of_authority())
 }
 
 /// Whether the tests for parts agree with the parts.
@@ -184,14 +184,14 @@ fn has_parts<'t, T: Reference<'t>>(
     value: &T,
     text: &str,
 ) -> Result<bool, AllocError> {
-    let again = listed(alloc, value.as_reference())?;
+    let again = references::listed(alloc, value.as_reference())?;
     let authority = authority_text(alloc, value)?;
     Ok(again.as_str() == text && text.contains(authority.as_str()) && tells_its_parts(value))
 }
 
 /// Each part behind its name, where all calls that tell of the parts agree.
 fn parts<'t, T: Reference<'t>>(alloc: Global, value: &T) -> Answer {
-    let text = listed(alloc, value)?;
+    let text = listed_of(alloc, value)?;
     if has_parts(alloc, value, text.as_str())? {
         return Ok(text);
     }
@@ -283,6 +283,15 @@ fn as_reference<'t, T: Reference<'t>>(alloc: Global, value: T) -> Answer {
     given(alloc, value.into_reference())
 }
 
+/// The value with the part that is named in place of its own.
+fn swapped<'t, T: Reference<'t>>(value: T, command: &str, new: &'t str) -> Result<T, T::Error> {
+    match command {
+        "map-authority" => value.swap_authority(Authority::try_from_str(new).ok()),
+        "map-query" => value.swap_query(Query::try_from_str(new).ok()),
+        _ => value.swap_fragment(Fragment::try_from_str(new).ok()),
+    }
+}
+
 /// What is made of a value that was read from this text, or the answer to another question.
 fn of_value<'t, T: Asked<'t>>(
     alloc: Global,
@@ -296,13 +305,10 @@ fn of_value<'t, T: Asked<'t>>(
         "rebuilt" => made(alloc, value.rebuilt()),
         "put-together" => made(alloc, value.put_together()),
         "as-reference" => as_reference(alloc, value),
-        "map-authority" => made(
-            alloc,
-            value.swap_authority(Authority::try_from_str(new).ok()),
-        ),
         "map-path" => made(alloc, value.keep_path()),
-        "map-query" => made(alloc, value.swap_query(Query::try_from_str(new).ok())),
-        "map-fragment" => made(alloc, value.swap_fragment(Fragment::try_from_str(new).ok())),
+        "map-authority" | "map-query" | "map-fragment" => {
+            made(alloc, swapped(value, command, new))
+        }
         _ => edited(alloc, command, &mut value, text, new),
     }
 }

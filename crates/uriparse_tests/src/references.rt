@@ -2,6 +2,7 @@
 
 use crate::hosts::AuthorityParts;
 use crate::kinds::kinds;
+use crate::reference;
 use crate::reference::{Asked, Parts, Reads, Reference, Shown, answer_of};
 use crate::reference_edits::edited;
 use rows::answer::{Answer, printed, said, words};
@@ -133,6 +134,11 @@ fn scheme_length(alloc: Global, reference: &URIReference<'_>) -> Answer {
         Some(scheme) if reference.path().eq_str("") => printed(alloc, scheme.as_str().len()),
         _ => said(alloc, "another reference"),
     }
+}
+
+/// Each part of a reference behind its name.
+pub fn listed(alloc: Global, reference: &URIReference<'_>) -> Answer {
+    reference::listed(alloc, reference.parts(), reference.parts_of_authority())
 }
 
 /// The answer to a question about a reference.
