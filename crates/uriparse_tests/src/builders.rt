@@ -272,15 +272,13 @@ pub fn answer(alloc: Global, asked: &str) -> Answer {
     let (command, rest) = word(asked);
     let (_, text, other) = words(asked);
     match command {
-        "build" | "build-uri" | "build-relative" | "after-refusals" => {
-            of_texts(alloc, command, split_texts(rest))
-        }
         "calls" | "chain" => rebuilt::<URIReference<'_>>(alloc, command, text),
         "uri-calls" | "uri-chain" => rebuilt::<URI<'_>>(alloc, command, text),
         "relative-calls" | "relative-chain" => {
             rebuilt::<RelativeReference<'_>>(alloc, command, text)
         }
-        _ => builders(alloc, text, other),
+        "builders" => builders(alloc, text, other),
+        _ => of_texts(alloc, command, split_texts(rest)),
     }
 }
 

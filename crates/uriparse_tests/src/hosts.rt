@@ -95,9 +95,10 @@ fn ipv6(alloc: Global, text: &str) -> Answer {
 /// What a host tells of itself that is made of the address both ways.
 fn host_of(alloc: Global, host: Host<'_>, address: IpAddr) -> Answer {
     if host == Host::from(address) {
-        return told(alloc, &host);
+        told(alloc, &host)
+    } else {
+        said(alloc, "several hosts")
     }
-    said(alloc, "several hosts")
 }
 
 fn host_of_address(alloc: Global, text: &str) -> Answer {

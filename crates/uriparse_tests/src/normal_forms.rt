@@ -24,9 +24,10 @@ fn is_settled<'t, T: Reference<'t>>(alloc: Global, value: &mut T) -> bool {
 fn settled<'t, T: Reference<'t>>(alloc: Global, value: &mut T) -> Answer {
     let text = told(alloc, value)?;
     if is_settled(alloc, value) && shows(alloc, value, text.as_str())? {
-        return Ok(text);
+        Ok(text)
+    } else {
+        said(alloc, "no normal form")
     }
-    said(alloc, "no normal form")
 }
 
 /// The text of the value's normal form. After a refusal the value is to print as before.

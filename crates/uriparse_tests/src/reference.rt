@@ -115,14 +115,20 @@ fn both_show<'t, T: Shown<'t>>(alloc: Global, value: &T, text: &str) -> Result<b
 pub fn told<'t, T: Shown<'t>>(alloc: Global, value: &T) -> Answer {
     let text = value.text(alloc)?;
     if both_show(alloc, value, text.as_str())? {
-        return Ok(text);
+        Ok(text)
+    } else {
+        said(alloc, "several texts")
     }
-    said(alloc, "several texts")
 }
 
 /// What was made.
 pub fn given<'t, T: Shown<'t>>(alloc: Global, value: T) -> Answer {
     told(alloc, &value)
+}
+
+/// What a copy prints, if there was memory for it.
+pub fn copied<T: Display + Drop>(alloc: Global, copy: Result<T, AllocError>) -> Answer {
+    printed(alloc, copy?)
 }
 
 /// What was read or made, or its refusal.
@@ -193,9 +199,10 @@ fn has_parts<'t, T: Reference<'t>>(
 fn parts<'t, T: Reference<'t>>(alloc: Global, value: &T) -> Answer {
     let text = listed_of(alloc, value)?;
     if has_parts(alloc, value, text.as_str())? {
-        return Ok(text);
+        Ok(text)
+    } else {
+        said(alloc, "several parts")
     }
-    said(alloc, "several parts")
 }
 
 /// The text after an edit, or the refusal, after which the value is to be as it was.

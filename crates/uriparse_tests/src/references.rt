@@ -42,7 +42,7 @@ impl<'t> Reference<'t> for URIReference<'t> {
     }
 
     fn copied(&self, alloc: Global) -> Answer {
-        printed(alloc, self.to_borrowed(alloc)?.into_owned(alloc)?)
+        reference::copied(alloc, self.to_borrowed(alloc)?.into_owned(alloc))
     }
 
     fn parts(&self) -> Parts<'_, 't> {

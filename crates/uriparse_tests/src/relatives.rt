@@ -1,8 +1,8 @@
 //! Relative references.
 
 use crate::hosts::AuthorityParts;
-use crate::reference::{Asked, Parts, Reads, Reference, Shown, answer_of};
-use rows::answer::{Answer, named, printed, said, words};
+use crate::reference::{Asked, Parts, Reads, Reference, Shown, answer_of, copied};
+use rows::answer::{Answer, named, said, words};
 use std::alloc::{AllocError, Global};
 use std::convert::identity;
 use uriparse::{
@@ -41,7 +41,7 @@ impl<'t> Reference<'t> for RelativeReference<'t> {
     }
 
     fn copied(&self, alloc: Global) -> Answer {
-        printed(alloc, self.to_borrowed(alloc)?.into_owned(alloc)?)
+        copied(alloc, self.to_borrowed(alloc)?.into_owned(alloc))
     }
 
     fn parts(&self) -> Parts<'_, 't> {

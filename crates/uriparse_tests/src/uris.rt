@@ -1,7 +1,7 @@
 //! URIs.
 
 use crate::hosts::AuthorityParts;
-use crate::reference::{Asked, Parts, Reads, Reference, Shown, answer_of, given, settled};
+use crate::reference::{Asked, Parts, Reads, Reference, Shown, answer_of, copied, given, settled};
 use crate::resolutions::behind;
 use rows::answer::{Answer, printed, refused, words};
 use std::alloc::{AllocError, Global};
@@ -40,7 +40,7 @@ impl<'t> Reference<'t> for URI<'t> {
     }
 
     fn copied(&self, alloc: Global) -> Answer {
-        printed(alloc, self.to_borrowed(alloc)?.into_owned(alloc)?)
+        copied(alloc, self.to_borrowed(alloc)?.into_owned(alloc))
     }
 
     fn parts(&self) -> Parts<'_, 't> {
