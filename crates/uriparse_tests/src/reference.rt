@@ -10,9 +10,10 @@ use std::fmt::Display;
 use std::hash::Hash;
 use uriparse::{Authority, Fragment, Path, Query, Scheme, URIReference};
 
-/// A scheme, a path, a query and a fragment.
+/// A scheme, an authority, a path, a query and a fragment.
 pub type Parts<'r, 't> = (
     Option<&'r Scheme<'t>>,
+    Option<&'r Authority<'t>>,
     &'r Path<'t>,
     Option<&'r Query<'t>>,
     Option<&'r Fragment<'t>>,
@@ -49,11 +50,8 @@ pub trait Reference<'t>: Reads<'t> + Eq + Hash {
     /// What the copy prints that `to_borrowed` and `into_owned` make.
     fn copied(&self, alloc: Global) -> Answer;
 
-    /// `scheme`, `path`, `query` and `fragment`.
+    /// `scheme`, `authority`, `path`, `query` and `fragment`.
     fn parts(&self) -> Parts<'_, 't>;
-
-    /// `authority`.
-    fn whole_authority(&self) -> Option<&Authority<'t>>;
 
     /// `username`, `password`, `host` and `port`.
     fn parts_of_authority(&self) -> AuthorityParts<'_, 't>;
@@ -141,7 +139,7 @@ pub fn made<'t, T: Shown<'t>, E: Display + Drop>(alloc: Global, made: Result<T, 
 
 /// Adds the path and what is behind it.
 fn add_back(text: &mut String, parts: Parts<'_, '_>) -> Result<(), AllocError> {
-    let (_, path, query, fragment) = parts;
+    let (_, _, path, query, fragment) = parts;
     add(text, "path", Some(path))?;
     add(text, "query", query)?;
     add(text, "fragment", fragment)
@@ -163,11 +161,11 @@ fn listed_of<'t, T: Reference<'t>>(alloc: Global, value: &T) -> Answer {
 
 /// Whether the tests for parts agree with the parts.
 fn tells_its_parts<'t, T: Reference<'t>>(value: &T) -> bool {
-    let (_, _, query, fragment) = value.parts();
+    let (_, authority, _, query, fragment) = value.parts();
     let (username, password, _, port) = value.parts_of_authority();
     value.tests()
         == [
-            value.whole_authority().is_some(),
+            authority.is_some(),
             username.is_some(),
             password.is_some(),
             port.is_some(),
@@ -177,8 +175,8 @@ fn tells_its_parts<'t, T: Reference<'t>>(value: &T) -> bool {
 }
 
 /// The text of the whole authority, or an empty one.
-fn authority_text<'t, T: Reference<'t>>(alloc: Global, value: &T) -> Answer {
-    match value.whole_authority() {
+fn authority_text(alloc: Global, authority: Option<&Authority<'_>>) -> Answer {
+    match authority {
         Some(authority) => listed_authority(alloc, authority),
         None => said(alloc, ""),
     }
@@ -191,7 +189,7 @@ fn has_parts<'t, T: Reference<'t>>(
     text: &str,
 ) -> Result<bool, AllocError> {
     let again = references::listed(alloc, value.as_reference())?;
-    let authority = authority_text(alloc, value)?;
+    let authority = authority_text(alloc, value.parts().1)?;
     Ok(again.as_str() == text && text.contains(authority.as_str()) && tells_its_parts(value))
 }
 

@@ -46,11 +46,13 @@ impl<'t> Reference<'t> for URIReference<'t> {
     }
 
     fn parts(&self) -> Parts<'_, 't> {
-        (self.scheme(), self.path(), self.query(), self.fragment())
-    }
-
-    fn whole_authority(&self) -> Option<&Authority<'t>> {
-        self.authority()
+        (
+            self.scheme(),
+            self.authority(),
+            self.path(),
+            self.query(),
+            self.fragment(),
+        )
     }
 
     fn parts_of_authority(&self) -> AuthorityParts<'_, 't> {

@@ -45,11 +45,13 @@ impl<'t> Reference<'t> for RelativeReference<'t> {
     }
 
     fn parts(&self) -> Parts<'_, 't> {
-        (None, self.path(), self.query(), self.fragment())
-    }
-
-    fn whole_authority(&self) -> Option<&Authority<'t>> {
-        self.authority()
+        (
+            None,
+            self.authority(),
+            self.path(),
+            self.query(),
+            self.fragment(),
+        )
     }
 
     fn parts_of_authority(&self) -> AuthorityParts<'_, 't> {

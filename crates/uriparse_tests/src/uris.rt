@@ -46,14 +46,11 @@ impl<'t> Reference<'t> for URI<'t> {
     fn parts(&self) -> Parts<'_, 't> {
         (
             Some(self.scheme()),
+            self.authority(),
             self.path(),
             self.query(),
             self.fragment(),
         )
-    }
-
-    fn whole_authority(&self) -> Option<&Authority<'t>> {
-        self.authority()
     }
 
     fn parts_of_authority(&self) -> AuthorityParts<'_, 't> {
