@@ -1,5 +1,6 @@
 //! Every registered scheme, written down apart from the library's own table.
 
+use crate::constants::constant_at;
 use crate::schemes::status_name;
 use uriparse::Scheme;
 use uriparse::scheme::{MicrosoftScheme as Microsoft, RegisteredScheme as Registered};
@@ -323,13 +324,13 @@ fn is_right(variant: Registered, name: &str, status: &str) -> bool {
         && is_named(scheme, name)
 }
 
-/// The first row that isn't its variant's.
+/// The first row that isn't its variant's and its constant's.
 fn wrong_row() -> Option<&'static str> {
     let mut rows = ROWS.lines();
-    for variant in &VARIANTS {
+    for (at, variant) in VARIANTS.iter().enumerate() {
         let row = rows.next()?;
         let (name, status) = row.split_once(' ')?;
-        if !is_right(*variant, name, status) {
+        if !is_right(*variant, name, status) || !is_named(constant_at(at), name) {
             return Some(row);
         }
     }
