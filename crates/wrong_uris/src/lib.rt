@@ -1,8 +1,5 @@
-//! Promises of `uriparse` for which the must-fail edits beside this file put wrong bodies.
-//!
-//! Each function is one call of the library, and its clauses follow from that call's alone. So a
-//! body that breaks one of them breaks the library's too: where the prover refuses it here, no body
-//! of the library's function can do as it does.
+//! Promises of `URI` and its builder for which the must-fail edits beside this file put wrong
+//! bodies, as those of `wrong_references`.
 #![tactic(auto)]
 
 ghost use Rattle.std.specs.Prelude.{◌≡◌, Err, MatchOption, Ok, true};
