@@ -1,4 +1,5 @@
-//! What the references of all three types have in common, by their names in [`Reference`].
+//! What the references of all three types have in common, by their names in [`Shown`], [`Reads`] and
+//! [`Reference`].
 
 use crate::hosts::{AuthorityParts, add_authority, listed_authority};
 use crate::normal_forms::normalized;
