@@ -2,7 +2,7 @@
 use Rattle.std.proofs.Common.{◌≡◌, ℕ, ◌+◌, ◌<◌, Bool, true, false, not, cond, List, [], ◌∷◌, ◌++◌, length, map, filter, take, drop, get_or, set, refl, sym, ap}
 use Rattle.std.proofs.Common.{◌∙◌, arith, append_assoc, append-nil}
 use Rattle.std.specs.Prelude.{reverse}
-use Rattle.std.proofs.lemmas.List.{take_more, drop_more, take-set, drop-set, map-append, reverse-append, reverse-reverse}
+use Rattle.std.proofs.lemmas.List.{take_more, take-append-drop, drop_more, take-set, drop-set, map-append, reverse-append, reverse-reverse}
 use Rattle.std.specs.List.{list_all}
 use Rattle.std.proofs.lemmas.Bool.{false≢true, not-true}
 use Rattle.std.proofs.lemmas.List.Elements.{filter-append}
@@ -38,7 +38,7 @@ no_strays xs at s h read n e =
     false≢true (sym (list_all_at is_canonical xs at s h own) ∙ e)
 
 -- where none is to be copied, each is canonical
-pub none_strays : (l : List (List ℕ)) → map canonical (filter strays l) ≡ [] → map canonical l ≡ l
+none_strays : (l : List (List ℕ)) → map canonical (filter strays l) ≡ [] → map canonical l ≡ l
 none_strays [] e = refl
 none_strays (s ∷ l) e = by_test (is_canonical s) refl (none_strays l)
   where
@@ -133,3 +133,13 @@ module _ (xs ys : List (List ℕ)) (n at : ℕ) (s : List ℕ) (place : n ≡ at
       → copies ≡ map canonical (filter strays (take at ys)) ++ canonical s ∷ []
   copies_less copies f e =
       f ∙ copies_split ∙ ap (λ l. map canonical (filter strays (take at ys)) ++ l) (copies_more s [] (strays_so s e))
+
+-- where no copy is left, all before its place is canonical
+pub all_put : (xs ys : List (List ℕ)) (at : ℕ) → take at xs ≡ take at ys → drop at xs ≡ map canonical (drop at ys) → map canonical (filter strays (take at ys)) ≡ []
+    → xs ≡ map canonical ys
+all_put xs ys at front back none =
+    sym (take-append-drop at xs)
+    ∙ ap (λ l. l ++ drop at xs) (front ∙ sym (none_strays (take at ys) none))
+    ∙ ap (λ l. map canonical (take at ys) ++ l) back
+    ∙ sym (map-append canonical (take at ys) (drop at ys))
+    ∙ ap (map canonical) (take-append-drop at ys)

@@ -1,43 +1,44 @@
--- What a path feeds a hasher: its first piece, and then each segment behind a slash.
-use Rattle.std.proofs.Common.{◌≡◌, ℕ, true, List, [], ◌∷◌, ◌++◌, map, fold, flat_map, refl, ap, ◌∙◌}
-use Rattle.std.specs.List.{list_all}
-use Rattle.std.specs.Hash as fed
-use Rattle.std.proofs.lemmas.Grind.{fold-append, flat_map-append}
+-- What a path feeds a hasher: its first piece, and then the segments behind it.
+use Rattle.std.proofs.Common.{◌≡◌, ℕ, true, List, [], ◌∷◌, ◌++◌, map, fold, flat_map, refl, sym, ap, ◌∙◌}
+use Rattle.std.specs.List.{list_all, slice_split}
+use Rattle.std.proofs.lemmas.Bool.{and_from}
+use Rattle.std.proofs.lemmas.Grind.{fold-append}
 use Rattle.uriparse_text.specs.declared.parts.class.Class.TheVariants.{Segment}
 use Rattle.uriparse_text.specs.declared.parts.canonical.Case.TheVariants.{Kept}
 use Rattle.uriparse_text.specs.Bytes.{slash}
-use Rattle.uriparse_text.specs.Canonical.{canonical, fed_text}
-use Rattle.uriparse_text.proofs.CanonicalLemmas.{canonical_in-append, feeds_text}
-use Rattle.uriparse_text.proofs.ClassLemmas.{well_formed-in_class}
+use Rattle.uriparse_text.specs.Canonical.{canonical}
+use Rattle.uriparse_text.proofs.CanonicalLemmas.{canonical_in-append}
+use Rattle.uriparse_text.proofs.ClassLemmas.{well_formed-in_class, IsIn-canonical_in}
 use Rattle.uriparse_path.specs.Segment.{is_segment}
-use Rattle.uriparse_path.proofs.CanonicalLemmas.{canonical-behind}
+use Rattle.uriparse_path.specs.Path.{is_slash, fed, fed_piece}
+use Rattle.uriparse_path.proofs.CanonicalLemmas.{canonical-behind, each-canonical}
+use Rattle.uriparse_path.proofs.SplitLemmas.{joined-behind}
+use Rattle.uriparse_path.proofs.TextLemmas.{pieces-segments}
 
--- the segments, each behind a slash
-each_behind : (ss : List (List ℕ)) → flat_map (λ s. slash ∷ s) (map canonical ss) ≡ flat_map (λ s. slash ∷ canonical s) ss
-each_behind [] = refl
-each_behind (s ∷ ss) = ap (λ u. (slash ∷ canonical s) ++ u) (each_behind ss)
+-- the pieces of a path's text in canonical spelling, by what stands before its first slash and the segments behind
+canonical-pieces : (t front : List ℕ) (ss : List (List ℕ)) → t ≡ front ++ flat_map (λ s. slash ∷ s) ss → is_segment front ≡ true → list_all is_segment ss ≡ true
+    → slice_split is_slash (canonical t) ≡ canonical front ∷ map canonical ss
+canonical-pieces t front ss e h k =
+    ap (λ u. slice_split is_slash (canonical u)) e
+    ∙ ap (slice_split is_slash) (canonical_in-append Kept front (flat_map (λ s. slash ∷ s) ss) (well_formed-in_class Segment front h)
+    ∙ ap (λ u. canonical front ++ u) (canonical-behind ss k)
+    ∙ sym (joined-behind (canonical front) (map canonical ss)))
+    ∙ pieces-segments (canonical front) (map canonical ss) (and_from _ _ (IsIn-canonical_in Segment Kept front h) (each-canonical ss k))
 
--- the canonical spelling of a path's text, by what stands before its first slash and the segments behind
-pub canonical-front : (t front : List ℕ) (ss : List (List ℕ)) → t ≡ front ++ flat_map (λ s. slash ∷ s) ss → is_segment front ≡ true → list_all is_segment ss ≡ true
-    → canonical t ≡ canonical front ++ flat_map (λ s. slash ∷ canonical s) ss
-canonical-front t front ss e h k =
-    ap canonical e ∙ canonical_in-append Kept front (flat_map (λ s. slash ∷ s) ss) (well_formed-in_class Segment front h)
-    ∙ ap (λ u. canonical front ++ u) (canonical-behind ss k ∙ each_behind ss)
+each_fed : (ss : List (List ℕ)) → flat_map fed_piece (map canonical ss) ≡ flat_map (λ s. fed_piece (canonical s)) ss
+each_fed [] = refl
+each_fed (s ∷ ss) = ap (λ u. fed_piece (canonical s) ++ u) (each_fed ss)
 
-module _ {S : Type 0} (write : S → List ℕ → S) where
-  bytes_behind : (ss : List (List ℕ)) → flat_map fed.u8 (flat_map (λ s. slash ∷ canonical s) ss) ≡ flat_map (λ s. flat_map fed.u8 (slash ∷ canonical s)) ss
-  bytes_behind [] = refl
-  bytes_behind (s ∷ ss) =
-      flat_map-append fed.u8 (slash ∷ canonical s) (flat_map (λ r. slash ∷ canonical r) ss)
-      ∙ ap (λ u. flat_map fed.u8 (slash ∷ canonical s) ++ u) (bytes_behind ss)
-
-  -- the first piece is fed, then what stands behind slashes, and then the end
-  pub feeds_path : (s : S) (whole front : List ℕ) (behind : List (List ℕ)) → whole ≡ canonical front ++ flat_map (λ s. slash ∷ canonical s) behind
-      → fold write s (fed_text whole)
-      ≡ write (fold write (fold write s (flat_map fed.u8 (canonical front))) (flat_map (λ s. flat_map fed.u8 (slash ∷ canonical s)) behind)) (255 ∷ [])
-  feeds_path s whole front behind e =
-      feeds_text write s whole
-      ∙ ap (λ t. write t (255 ∷ [])) (ap (λ t. fold write s (flat_map fed.u8 t)) e
-      ∙ ap (fold write s) (flat_map-append fed.u8 (canonical front) (flat_map (λ s. slash ∷ canonical s) behind))
-      ∙ fold-append write s (flat_map fed.u8 (canonical front)) (flat_map fed.u8 (flat_map (λ s. slash ∷ canonical s) behind))
-      ∙ ap (fold write (fold write s (flat_map fed.u8 (canonical front)))) (bytes_behind behind))
+-- the first piece is fed, then the segments behind it, and then the end
+pub feeds_path : {S : Type 0} (write : S → List ℕ → S) (s : S) (t front : List ℕ) (behind : List (List ℕ)) → t ≡ front ++ flat_map (λ s. slash ∷ s) behind
+    → is_segment front ≡ true → list_all is_segment behind ≡ true
+    → fold write s (fed (canonical t))
+    ≡ write (fold write (fold write s (fed_piece (canonical front))) (flat_map (λ s. fed_piece (canonical s)) behind)) (255 ∷ [])
+unfolding fed
+feeds_path write s t front behind e h k =
+    let first = fed_piece (canonical front) in
+    let later = flat_map (λ s. fed_piece (canonical s)) behind in
+    ap (λ ps. fold write s (flat_map fed_piece ps ++ (255 ∷ []) ∷ [])) (canonical-pieces t front behind e h k)
+    ∙ ap (λ u. fold write s ((first ++ u) ++ (255 ∷ []) ∷ [])) (each_fed behind)
+    ∙ fold-append write s (first ++ later) ((255 ∷ []) ∷ [])
+    ∙ ap (λ r. write r (255 ∷ [])) (fold-append write s first later)

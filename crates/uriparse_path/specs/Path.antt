@@ -1,7 +1,9 @@
 -- A path, its text, and the path that a text spells: RFC 3986, sections 3.3 and 5.3.
-use Rattle.std.specs.Prelude.{◌≡◌, ℕ, ◌<◌, ◌≤◌, Bool, true, false, ◌==◌, if◌then◌else◌, List, [], ◌∷◌, ◌++◌, length, drop, not, ◌&&◌}
+use Rattle.std.specs.Prelude.{◌≡◌, ℕ, ◌<◌, ◌≤◌, Bool, true, false, ◌==◌, if◌then◌else◌, List, [], ◌∷◌, ◌++◌, length, drop, flat_map, not, ◌&&◌}
+use Rattle.std.specs.Hash.{HashWrites, u8}
 use Rattle.std.specs.List.{list_all, slice_split, join_with_byte, refill}
 use Rattle.uriparse_text.specs.Bytes.{slash}
+use Rattle.uriparse_text.specs.Canonical.{fed_bytes}
 use Rattle.uriparse_path.specs.Segment.{is_segment}
 
 -- whether it begins with a slash, and the segments, of any kind
@@ -79,3 +81,11 @@ with_segments p ss = record p { segments = refill (length p.segments) p.segments
 -- the text begins with two slashes
 abbrev pub has_two_slashes : List ℕ → Bool
 has_two_slashes t = is_rooted t && is_rooted (unrooted t)
+
+-- what a hasher is fed for a piece between slashes: a slash, and its bytes
+abbrev pub fed_piece : List ℕ → HashWrites
+fed_piece s = u8 slash ++ fed_bytes s
+
+-- what a hasher is fed for the canonical spelling of a path's text: each piece, and then 0xFF, which no spelling has
+unfoldable pub fed : List ℕ → HashWrites
+fed t = flat_map fed_piece (slice_split is_slash t) ++ u8 255

@@ -5,13 +5,12 @@ ghost use Rattle.std.specs.Ordering.{on};
 ghost use Rattle.std.specs.Cmp.Rules.{comparing, hashing};
 ghost use Rattle.std.specs.Fmt.{WritesOnOk, WritesStyledOnOk};
 ghost use Rattle.std.specs.List.{flat_map, list_all};
-ghost use Rattle.std.specs.Hash as fed;
 ghost use Rattle.uriparse_text.specs.declared.parts.canonical.Case.TheVariants as case;
 ghost use Rattle.uriparse_text.specs.Bytes.{colon, slash};
 ghost use Rattle.uriparse_text.specs.Cuts.{from_first, lacks, up_to};
-ghost use Rattle.uriparse_text.specs.Canonical.{canonical, fed_text, SpellsAlike};
+ghost use Rattle.uriparse_text.specs.Canonical.{canonical, SpellsAlike};
 ghost use Rattle.uriparse_text.specs.Readings.{IsUnless};
-ghost use Rattle.uriparse_path.specs.Path.{IsListed, has_two_slashes, hides_root, is_rooted, is_slash, made_absolute, spelled, text};
+ghost use Rattle.uriparse_path.specs.Path.{IsListed, fed, fed_piece, has_two_slashes, hides_root, is_rooted, is_slash, made_absolute, spelled, text};
 ghost use Rattle.uriparse_path.specs.Segment.{is_segment};
 ghost use Rattle.uriparse_path.specs.Faults.{reading};
 ghost use Rattle.uriparse_path.specs.Dots.{without_dots};
@@ -384,14 +383,14 @@ impl<'p> Eq for Path<'p> {
 }
 
 impl<'p> Hash for Path<'p> {
-    ghost hash_input = { λ p. fed_text (canonical (text p)) };
+    ghost hash_input = { λ p. fed (canonical (text p)) };
 
     ghost respects_eq = { Prim.search (hashing, rules) };
 
     fn hash<H: Hasher>(&self, state: &mut H) {
         let (front, behind) = self.split_front();
-        feed_spelling(Case::Kept, front.as_bytes(), state);
-        feed_behind_slashes(behind, state);
+        feed_piece(front.as_bytes(), state);
+        feed_pieces(behind, state);
         state.write_u8(0xff);
     }
 }
@@ -437,14 +436,22 @@ fn spells_behind_slashes(text: &[u8], segments: &[Segment<'_>]) -> bool
     rest.is_empty()
 }
 
-/// Feeds a slash and the segment's canonical spelling to the hasher, for each segment.
+/// Feeds a slash and the piece's canonical spelling to the hasher.
 #[inline]
-fn feed_behind_slashes<H: Hasher>(segments: &[Segment<'_>], state: &mut H)
-    ensures { state.new ≡ fold H.write state.old (flat_map (λ s. flat_map fed.u8 (slash ∷ canonical s)) segments.now) }
+fn feed_piece<H: Hasher>(piece: &[u8], state: &mut H)
+    ensures { state.new ≡ fold H.write state.old (fed_piece (canonical piece.now)) }
+{
+    state.write_u8(b'/');
+    feed_spelling(Case::Kept, piece, state);
+}
+
+/// The same for each segment.
+#[inline]
+fn feed_pieces<H: Hasher>(segments: &[Segment<'_>], state: &mut H)
+    ensures { state.new ≡ fold H.write state.old (flat_map (λ s. fed_piece (canonical s)) segments.now) }
 {
     for segment in segments {
-        state.write_u8(b'/');
-        feed_spelling(Case::Kept, segment.as_bytes(), state);
+        feed_piece(segment.as_bytes(), state);
     }
 }
 

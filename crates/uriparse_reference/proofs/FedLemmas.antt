@@ -6,12 +6,10 @@ use Rattle.std.specs.Hash.{HashWrites, option}
 use Rattle.std.proofs.lemmas.Grind.{fold-append}
 use Rattle.uriparse_text.specs.Canonical.{canonical, fed_text}
 use Rattle.uriparse_text.proofs.OptionLemmas.{fed_option}
-use Rattle.uriparse_path.specs.Path.{PathParts, IsPath, is_slash, is_rooted, has_two_slashes}
 use Rattle.uriparse_path.specs.Path as path
 use Rattle.uriparse_authority.specs.Authority as authority
 use Rattle.uriparse_authority.specs.Authority.{AuthorityParts}
 use Rattle.uriparse_authority.proofs.AuthorityLemmas as authorities
-use Rattle.uriparse_authority.proofs.AuthorityLemmas.{LacksEnds}
 use Rattle.uriparse_scheme.specs.Scheme as scheme
 use Rattle.uriparse_reference.specs.Reference.{Parts, Valid, canonical_text}
 use Rattle.uriparse_reference.specs.Reference.{kind}
@@ -69,7 +67,7 @@ fed_in_turn write s a b c d e =
 pub fed_by_turns : {S : Type 0} (write : S → List ℕ → S) (s₀ s₁ s₂ s₃ s₄ s₅ : S) (p : Parts) → Valid p
     → s₁ ≡ fold write s₀ (option (λ s. fed_text (scheme.canonical_text s)) p.scheme)
     → s₂ ≡ fold write s₁ (option (λ a. authority.fed_key (authority.key a)) p.authority)
-    → s₃ ≡ fold write s₂ (fed_text (canonical (path.text p.path)))
+    → s₃ ≡ fold write s₂ (path.fed (canonical (path.text p.path)))
     → s₄ ≡ fold write s₃ (option (λ q. fed_text (canonical q)) p.query)
     → s₅ ≡ fold write s₄ (option (λ f. fed_text (canonical f)) p.fragment)
     → s₅ ≡ fold write s₀ (fed p)
@@ -78,6 +76,6 @@ fed_by_turns write s₀ s₁ s₂ s₃ s₄ s₅ p v a b c d e =
     rw (e, d, c, held, a) (fed_in_turn write s₀
     (option (λ s. fed_text (scheme.canonical_text s)) p.scheme)
     (option authority.fed p.authority)
-    (fed_text (canonical (path.text p.path)))
+    (path.fed (canonical (path.text p.path)))
     (option (λ q. fed_text (canonical q)) p.query)
     (option (λ f. fed_text (canonical f)) p.fragment))

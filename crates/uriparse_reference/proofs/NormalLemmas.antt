@@ -160,19 +160,6 @@ kept_whole p v h =
     build : Option Scheme → Option AuthorityParts → PathParts → Option (List ℕ) → Option (List ℕ) → Parts
     build scheme authority path query fragment = record { scheme = scheme; authority = authority; path = path; query = query; fragment = fragment }
 
--- ---- what takes no memory
-
--- these are the parts of a reference that prints as its normal form
-pub kept_parts : (p q : Parts) → Valid p → p ≡ q → print (normal q) ≡ print q → normal p ≡ p
-kept_parts p q v e h = kept_whole p v ((normal_exactly p v).1 (subst (λ r. print (normal r) ≡ print r) (sym e) h))
-
-pub kept_segments : (p q : Parts) → Valid p → p ≡ q → print (normal q) ≡ print q → list_all path.is_canonical p.path.segments ≡ true
-kept_segments p q v e h =
-    let is = (normal_exactly p v).1 (subst (λ r. print (normal r) ≡ print r) (sym e) h) in
-    let x = and_parts (option_eq bytes_eq (option_map scheme.canonical_text p.scheme) (scheme_part p)) _ is in
-    let y = and_parts (option_eq bytes_eq (option_map authority.canonical_text p.authority) (authority_part p)) _ x.1 in
-    normal_canonical (is_none p.authority) p.path (is_none p.scheme) (and_parts (is_normal_path p.authority p.path (is_none p.scheme)) _ y.1).0
-
 -- ---- what is put in place
 
 -- the path's normal form is told by what stands before it

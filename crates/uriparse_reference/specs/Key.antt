@@ -25,7 +25,7 @@ abbrev pub fed : Parts → HashWrites
 fed p =
     option (λ s. fed_text (scheme.canonical_text s)) p.scheme
     ++ (option authority.fed p.authority
-    ++ (fed_text (canonical (path.text p.path))
+    ++ (path.fed (canonical (path.text p.path))
     ++ (option (λ t. fed_text (canonical t)) p.query
     ++ option (λ t. fed_text (canonical t)) p.fragment)))
 
@@ -34,7 +34,7 @@ abbrev pub fed_pieces : ℕ → Option (List ℕ) → Option (List ℕ) → List
 fed_pieces code scheme_piece authority_piece path_piece query_piece fragment_piece =
     option fed_text scheme_piece
     ++ (option (λ t. authority.fed_key (code ∷ t)) authority_piece
-    ++ (fed_text path_piece
+    ++ (path.fed path_piece
     ++ (option fed_text query_piece
     ++ option fed_text fragment_piece)))
 

@@ -1,20 +1,19 @@
 -- The canonical spelling, token by token.
-use Rattle.std.proofs.Common.{◌≡◌, ◌↔◌, ℕ, true, false, not, ◌&&◌, List, [], ◌∷◌, ◌++◌, map, fold, refl, sym, ap, ◌∙◌, arith, append_assoc}
+use Rattle.std.proofs.Common.{◌≡◌, ◌↔◌, ℕ, true, false, not, ◌&&◌, List, [], ◌∷◌, ◌++◌, map, refl, sym, ap, ◌∙◌, arith, append_assoc}
 use Rattle.std.specs.Prelude.{◌==◌}
 use Rattle.std.specs.List.{flat_map, list_all}
 use Rattle.std.specs.Char.{digit_value, to_ascii_uppercase}
-use Rattle.std.specs.Hash as fed
 use Rattle.std.proofs.lemmas.Bool.{false≢true, cond-false, cond_both, and_from, and_parts}
 use Rattle.std.proofs.lemmas.Bool.Decides.{nat_tests}
 use Rattle.std.proofs.lemmas.List.{map-append, append_cancel_left}
-use Rattle.std.proofs.lemmas.Grind.{fold-append, flat_map-append}
+use Rattle.std.proofs.lemmas.Grind.{flat_map-append}
 use Rattle.uriparse_text.specs.declared.parts.token.Token.{Token}
 use Rattle.uriparse_text.specs.declared.parts.token.Token.TheVariants.{Byte, Escape}
 use Rattle.uriparse_text.specs.declared.parts.canonical.Case.{Case}
 use Rattle.uriparse_text.specs.declared.parts.canonical.Case.TheVariants.{Kept, Lowered}
 use Rattle.uriparse_text.specs.Bytes.{percent, is_hex, is_unreserved}
 use Rattle.uriparse_text.specs.Tokens.{tokens, spell, is_token, has_digits, is_well_formed, IsConcatenation}
-use Rattle.uriparse_text.specs.Canonical.{canonical_token, canonical_tokens, escaped_byte, in_case, canonical_in, fed_text, SpellsAlike}
+use Rattle.uriparse_text.specs.Canonical.{canonical_token, canonical_tokens, escaped_byte, in_case, canonical_in, SpellsAlike}
 use Rattle.uriparse_text.proofs.TokenLemmas.{tokens-nil, tokens_of_concatenation, tokens-append, digits-tokens}
 
 pub canonical_tokens-empty : (case : Case) (text : List ℕ) → text ≡ [] → canonical_tokens case text ≡ []
@@ -152,24 +151,6 @@ pub canonical_in-cons : (case : Case) (rest after : List ℕ) (t : Token) → to
     → canonical_in case rest ≡ spell (canonical_token case t) ++ canonical_in case after
 unfolding canonical_in
 canonical_in-cons case rest after t e = ap (λ ts. flat_map spell (map (canonical_token case) ts)) e
-
--- one token's bytes are fed before those of the rest
-pub feeds_token : {S : Type 0} (write : S → List ℕ → S) (s : S) (case : Case) (rest after : List ℕ) (t : Token) → tokens rest ≡ t ∷ tokens after
-    → fold write s (flat_map fed.u8 (canonical_in case rest))
-    ≡ fold write (fold write s (flat_map fed.u8 (spell (canonical_token case t)))) (flat_map fed.u8 (canonical_in case after))
-feeds_token write s case rest after t e =
-    let first = spell (canonical_token case t) in
-    let later = canonical_in case after in
-    ap (λ bytes. fold write s (flat_map fed.u8 bytes)) (canonical_in-cons case rest after t e)
-    ∙ ap (fold write s) (flat_map-append fed.u8 first later)
-    ∙ fold-append write s (flat_map fed.u8 first) (flat_map fed.u8 later)
-
--- a text's bytes are fed, and then the end
-pub feeds_text : {S : Type 0} (write : S → List ℕ → S) (s : S) (bytes : List ℕ)
-    → fold write s (fed_text bytes) ≡ fold write (fold write s (flat_map fed.u8 bytes)) (fed.u8 255)
-unfolding fed_text
-feeds_text write s bytes =
-    ap (fold write s) (flat_map-append fed.u8 bytes (255 ∷ [])) ∙ fold-append write s (flat_map fed.u8 bytes) (flat_map fed.u8 (255 ∷ []))
 
 cancel : (t : Token) (x y : List ℕ) → spell t ++ x ≡ spell t ++ y → x ≡ y
 cancel (Byte b) x y h = cc

@@ -1,5 +1,6 @@
 pub mod TokenLemmas
 pub mod FaultLemmas
+pub mod FeedLemmas
 pub mod CanonicalLemmas
 pub mod ClassLemmas
 pub mod BitLemmas

@@ -1,6 +1,6 @@
 //! Laws of the definitions that contracts cite. Each function has nothing to do: its contract is
 //! the law.
-ghost use Rattle.std.specs.Prelude.{◌≡◌, ◌↔◌, ◌∷◌, ◌++◌, ℕ, List, [], Some, None, true, false, flat_map, codes};
+ghost use Rattle.std.specs.Prelude.{◌≡◌, ◌==◌, ◌↔◌, ◌<◌, ◌∷◌, ◌++◌, ℕ, List, [], Some, None, true, false, flat_map, length, codes};
 ghost use Rattle.std.specs.List.{list_all};
 ghost use Rattle.uriparse_text.specs.declared.parts.token.Token.{Token};
 ghost use Rattle.uriparse_text.specs.declared.parts.class.Class.{Class};
@@ -10,7 +10,7 @@ ghost use Rattle.uriparse_text.specs.declared.parts.canonical.Case.TheVariants a
 ghost use Rattle.uriparse_text.specs.Bytes.{left_bracket, right_bracket};
 ghost use Rattle.uriparse_text.specs.Tokens.{is_well_formed, spell, IsConcatenation};
 ghost use Rattle.uriparse_text.specs.Faults.{fault, IsIn, IsOfClass, HasFaultAt};
-ghost use Rattle.uriparse_text.specs.Canonical.{canonical_token, canonical_in};
+ghost use Rattle.uriparse_text.specs.Canonical.{canonical_token, canonical_in, fed_bytes};
 ghost use Rattle.uriparse_text.specs.Cuts.{lacks};
 ghost use Rattle.uriparse_text.specs.Address.{IsOctets, IsSegments, SpellsIpv4, SpellsIpv6, ipv4_text, ipv6_text, ipv4_reading, ipv6_reading, IsPrintedIpv6, is_ipv4_byte, is_ipv6_byte};
 
@@ -35,6 +35,12 @@ pub fn one_canonical_spelling()
     ensures border { (case : Case) (front rest : List ℕ) → is_well_formed front ≡ true → canonical_in case (front ++ rest) ≡ canonical_in case front ++ canonical_in case rest }
     ensures twice { (case : Case) (text : List ℕ) → is_well_formed text ≡ true → canonical_in case (canonical_in case text) ≡ canonical_in case text }
     ensures class { (class : Class) (case : Case) (text : List ℕ) → IsIn class text → IsIn class (canonical_in case text) }
+{}
+
+/// What a Hasher is fed of bytes: blocks of sixty-four as long as there are so many, and then the
+/// bytes that are left.
+pub fn one_list_of_writes()
+    ensures { (blocks : List (List ℕ)) (last : List ℕ) → list_all (λ b. length b == 64) blocks ≡ true → length last < 64 → fed_bytes (flat_map (λ b. b) blocks ++ last) ≡ blocks ++ last ∷ [] }
 {}
 
 /// The reading of a text is the address that it spells by the grammar, if it spells one.

@@ -254,17 +254,17 @@ fn put<'s>(segments: &mut Vec<Segment<'s>>, at: usize, segment: Segment<'s>)
     segments[at] = segment;
 }
 
-/// Puts these copies in the place of the segments that aren't canonical.
+/// Puts these copies in the place of the segments that aren't canonical, from the last one on.
 pub(super) fn put_copies<'s>(segments: &mut Vec<Segment<'s>>, copies: Vec<Segment<'s>>)
     requires { copies.items ≡ map canonical (filter (λ s. not (spec.is_canonical s)) segments.old.items) }
     ensures { segments.new.items ≡ map canonical segments.old.items }
 {
-    if copies.is_empty() {
-        return;
-    }
     let mut copies = copies;
     let mut at = segments.len();
     while at > 0 {
+        if copies.is_empty() {
+            return;
+        }
         at -= 1;
         if !segments[at].is_normalized() {
             if let Some(copy) = copies.pop() {

@@ -1,10 +1,9 @@
 //! Normal forms of references: RFC 3986, section 6.2.2.
 ghost use Rattle.std.specs.Prelude.{◌≡◌, ◌↔◌, IsTrue, IsOk, IfOk, OnOk, OnErr, bytes_eq, false, is_none, is_some, true};
-ghost use Rattle.std.specs.List.{list_all};
 ghost use Rattle.std.specs.Option.{option_eq, option_map};
 ghost use Rattle.uriparse_text.specs.Canonical.{canonical};
 ghost use Rattle.uriparse_path.specs.Path.{hides_root};
-ghost use Rattle.uriparse_path.specs.Normal.{is_canonical, pnormal};
+ghost use Rattle.uriparse_path.specs.Normal.{pnormal};
 ghost use Rattle.uriparse_authority.specs.Authority as authorities;
 ghost use Rattle.uriparse_authority.specs.Normal.{canonical_authority};
 ghost use Rattle.uriparse_scheme.specs.Scheme as schemes;
@@ -50,8 +49,7 @@ fn authority_copies(
     alloc: Global,
     authority: &Option<Authority<'_>>,
 ) -> Result<Option<CanonicalCopies>, AllocError>
-    ensures copies { IfOk result (λ copies. AreCopiesIf copies authority.now) }
-    ensures takes_no_memory { option_map canonical_authority authority.now ≡ authority.now → IsOk result }
+    ensures { IfOk result (λ copies. AreCopiesIf copies authority.now) }
 {
     match authority {
         Some(authority) => Ok(Some(authority::canonical_copies(alloc, authority)?)),
@@ -74,7 +72,6 @@ fn normalize_tail(
     ensures query { OnOk result (query.new ≡ option_map canonical query.old) }
     ensures fragment { OnOk result (fragment.new ≡ option_map canonical fragment.old) }
     ensures err { OnErr result ((path.new ≡ path.old) × (query.new ≡ query.old) × (fragment.new ≡ fragment.old)) }
-    ensures takes_no_memory { list_all is_canonical path.old.segments ≡ true → option_map canonical query.old ≡ query.old → option_map canonical fragment.old ≡ fragment.old → IsOk result }
 {
     let query_copy = canonical_copy(alloc, query)?;
     let fragment_copy = canonical_copy(alloc, fragment)?;
@@ -124,8 +121,9 @@ impl<'r> URIReference<'r> {
     /// scheme. Where there is no authority and the path's text would begin with two slashes then, a
     /// `.` stands in front, so that it begins with `/.//`. A second call changes nothing.
     ///
-    /// Memory is wanted only for the texts that aren't canonical. All of them are copied before one
-    /// is put in place, so where there is no memory, the reference is unchanged.
+    /// A reference whose text is normal is kept as it is. Else memory is wanted for the texts that
+    /// aren't canonical, and for no other. All of them are copied before one is put in place, so
+    /// where there is no memory, the reference is unchanged.
     ///
     /// ```
     /// let mut reference = URIReference::try_from_str(alloc, "HTTP://H/a/../%7eb")?;
@@ -139,6 +137,17 @@ impl<'r> URIReference<'r> {
 
         // References that are the same get one normal form.
         ensures equal { OnOk result ((q : Parts) → Valid q → Same self.old q → self.new ≡ normal q) }
+    {
+        if self.is_normal() {
+            return Ok(());
+        }
+        self.put_normal(alloc)
+    }
+
+    /// Puts the normal form in the reference's place.
+    fn put_normal(&mut self, alloc: Global) -> Result<(), AllocError>
+        ensures ok { OnOk result (self.new ≡ normal self.old) }
+        ensures err { OnErr result (self.new ≡ self.old) }
     {
         let scheme = scheme::canonical_copy(alloc, &self.scheme)?;
         let authority = authority_copies(alloc, &self.authority)?;

@@ -1,6 +1,5 @@
 //! Canonical spelling: RFC 3986, sections 6.2.2.1 and 6.2.2.2.
-ghost use Rattle.std.specs.Prelude.{◌≡◌, ◌++◌, ◌↔◌, IsTrue, IfOk, OnOk, true, fold, flat_map};
-ghost use Rattle.std.specs.Hash as fed;
+ghost use Rattle.std.specs.Prelude.{◌≡◌, ◌++◌, ◌∷◌, ◌↔◌, ◌<◌, ℕ, List, IsTrue, IfOk, OnOk, true, fold, take};
 ghost use Rattle.uriparse_text.specs.Tokens.{has_digits, spell};
 ghost use Rattle.uriparse_text.specs.Canonical as spec;
 
@@ -10,6 +9,9 @@ use super::run::split_run;
 use super::token::{Token, split_token};
 use std::alloc::{AllocError, Global};
 use std::hash::Hasher;
+
+/// How many bytes a hasher is fed at a time.
+const BLOCK: usize = 64;
 
 /// What becomes of the letters in a canonical spelling. The digits of escapes are upper case in
 /// both.
@@ -54,29 +56,78 @@ impl Token {
     }
 }
 
-#[inline(always)]
-fn feed_token<H: Hasher>(token: Token, state: &mut H)
-    ensures { state.new ≡ fold H.write state.old (flat_map fed.u8 (spell token)) }
+/// Feeds bytes to the hasher.
+#[inline]
+fn feed_bytes<H: Hasher>(bytes: &[u8], state: &mut H)
+    ensures { state.new ≡ fold H.write state.old (spec.fed_bytes bytes.now) }
+{
+    let mut rest = bytes;
+    'runs: while rest.len() >= BLOCK {
+        let (block, later) = rest.split_at(BLOCK);
+        state.write(block);
+        rest = later;
+    }
+    state.write(rest);
+}
+
+/// Puts a byte behind those that wait for the hasher, which is fed them once they fill the block.
+/// Answers how many wait then.
+#[inline]
+fn hold<H: Hasher>(b: u8, block: &mut [u8; BLOCK], len: usize, state: &mut H) -> usize
+    requires { len < 64 }
+    ensures few { result < 64 }
+    ensures fed { (later : List ℕ) → fold H.write state.new (spec.fed_behind (take result block.new) later) ≡ fold H.write state.old (spec.fed_behind (take len block.old) (b ∷ later)) }
+{
+    block[len] = b;
+    if len + 1 < BLOCK {
+        return len + 1;
+    }
+    state.write(block);
+    0
+}
+
+/// The same for the bytes of a token.
+#[inline]
+fn hold_token<H: Hasher>(token: Token, block: &mut [u8; BLOCK], len: usize, state: &mut H) -> usize
+    requires { len < 64 }
+    ensures few { result < 64 }
+    ensures fed { (later : List ℕ) → fold H.write state.new (spec.fed_behind (take result block.new) later) ≡ fold H.write state.old (spec.fed_behind (take len block.old) (spell token ++ later)) }
 {
     match token {
-        Token::Byte(b) => state.write_u8(b),
+        Token::Byte(b) => hold(b, block, len, state),
         Token::Escape(high, low) => {
-            state.write_u8(b'%');
-            state.write_u8(high);
-            state.write_u8(low);
+            let len = hold(b'%', block, len, state);
+            let len = hold(high, block, len, state);
+            hold(low, block, len, state)
         }
     }
 }
 
-/// Feeds the bytes of the text's canonical spelling to the hasher, one by one.
-#[inline(always)]
-pub fn feed_spelling<H: Hasher>(case: Case, text: &[u8], state: &mut H)
-    ensures { state.new ≡ fold H.write state.old (flat_map fed.u8 (spec.canonical_in case text.now)) }
+/// Feeds the bytes of a text's canonical spelling to the hasher, token by token.
+#[inline(never)]
+fn feed_tokens<H: Hasher>(case: Case, text: &[u8], state: &mut H)
+    ensures { state.new ≡ fold H.write state.old (spec.fed_bytes (spec.canonical_in case text.now)) }
 {
+    let mut block = [0u8; BLOCK];
+    let mut len = 0;
     let mut rest = text;
     'tokens: while let Some((token, after)) = split_token(rest) {
-        feed_token(token.canonical(case), state);
+        len = hold_token(token.canonical(case), &mut block, len, state);
         rest = after;
+    }
+    state.write(&block[..len]);
+}
+
+/// Feeds the bytes of the text's canonical spelling to the hasher, sixty-four at a time, and then
+/// those that are left. A text that is its canonical spelling is fed as it stands.
+#[inline]
+pub fn feed_spelling<H: Hasher>(case: Case, text: &[u8], state: &mut H)
+    ensures { state.new ≡ fold H.write state.old (spec.fed_bytes (spec.canonical_in case text.now)) }
+{
+    if is_canonical(case, text) {
+        feed_bytes(text, state);
+    } else {
+        feed_tokens(case, text, state);
     }
 }
 

@@ -2,7 +2,7 @@ use Rattle.std.proofs.Common.{◌-◌, ◌∷◌, [], arith, sym, ap, ◌∙◌,
 use Rattle.std.proofs.lemmas.Bool.{false≢true}
 use Rattle.std.proofs.lemmas.Bool.Decides.{Decides-eqb}
 use Rattle.uriparse_text.specs.Canonical.{canonical}
-use Rattle.uriparse_path.proofs.CopyLemmas.{strays, pushed_same, front_less, front_more, back_kept, back_more, copies_same, copies_less, none_strays, nothing}
+use Rattle.uriparse_path.proofs.CopyLemmas.{strays, pushed_same, front_less, front_more, back_kept, back_more, copies_same, copies_less, all_put, nothing}
 use Rattle.uriparse_path.proofs.path.normal.put_copies.Goals as goal
 
 pub loop-at-preserved-in-Some : goal.loop-at-preserved-in-Some
@@ -55,7 +55,9 @@ loop-at-preserved c =
           c.loop-at.invariant.copies same;
     }
 
+-- what stands in front of the copies that are put is canonical
 pub returns-then-is_empty : goal.returns-then-is_empty
 returns-then-is_empty c =
-    let len : vec_len c.args.copies ≡ 0 = (Decides-eqb (vec_len c.args.copies) 0).0 (sym c.is_empty.ensures ∙ c.if-is_empty.true) in
-    sym (none_strays c.args.segments.now.items (sym c.requires ∙ nothing c.args.copies.items (omega (arith, len))))
+    let len : vec_len c.loop-at.copies ≡ 0 = (Decides-eqb (vec_len c.loop-at.copies) 0).0 (sym c.is_empty.ensures ∙ c.if-is_empty.true) in
+    all_put c.loop-at.segments.items c.args.segments.now.items c.loop-at.at c.loop-at.invariant.front c.loop-at.invariant.back
+    (sym c.loop-at.invariant.copies ∙ nothing c.loop-at.copies.items (omega (arith, len)))

@@ -1,61 +1,28 @@
-use Rattle.std.proofs.Common.{◌≡◌, sym, ap, subst, ◌∙◌}
+use Rattle.std.proofs.Common.{sym, ◌∙◌}
 use Rattle.std.proofs.lemmas.Bool.{false≢true}
-use Rattle.uriparse_reference.specs.Reference.{Valid}
-use Rattle.uriparse_reference.specs.Normal.{normal}
-use Rattle.uriparse_reference.proofs.NormalFormLemmas.{normal_valid}
-use Rattle.uriparse_reference.proofs.NormalLemmas.{kept_parts, kept_segments, made_is}
+use Rattle.std.proofs.lemmas.Result.{on_ok_weaker}
+use Rattle.uriparse_reference.proofs.NormalLemmas.{kept_whole, normal_exactly}
 use Rattle.uriparse_reference.proofs.AlikeLemmas.{one_normal}
-use Rattle.uriparse_reference.proofs.uri_reference.URIReference.normalize.Goals.{After-put_authority_copies}
 use Rattle.uriparse_reference.proofs.uri_reference.URIReference.normalize.Goals as goal
 
-pub returns-in_err-scheme-clause-takes_no_memory : goal.returns-in_err-scheme-clause-takes_no_memory
-returns-in_err-scheme-clause-takes_no_memory c h =
-    absurd (false≢true (c.in_err-scheme.ensures.takes_no_memory (ap (λ q. q.scheme) (kept_parts _ c.args.self.now c.self.invariant c.self.view_is h))))
+pub returns-then-is_normal-clause-ok : goal.returns-then-is_normal-clause-ok
+returns-then-is_normal-clause-ok c =
+    let is = c.is_normal.ensures in
+    sym (kept_whole c.args.self.now is.valid (sym is.test ∙ c.if-is_normal.true))
 
-pub returns-in_err-authority-clause-takes_no_memory : goal.returns-in_err-authority-clause-takes_no_memory
-returns-in_err-authority-clause-takes_no_memory c h =
-    absurd (false≢true (c.in_err-authority.ensures.takes_no_memory (ap (λ q. q.authority) (kept_parts _ c.args.self.now c.self.invariant c.self.view_is h))))
+pub returns-then-is_normal-clause-equal : goal.returns-then-is_normal-clause-equal
+returns-then-is_normal-clause-equal c q v same =
+    let is = c.is_normal.ensures in
+    sym (kept_whole c.args.self.now is.valid (sym is.test ∙ c.if-is_normal.true)) ∙ one_normal c.args.self.now q is.valid v same
 
-pub returns-in_err-normalize_tail-clause-takes_no_memory : goal.returns-in_err-normalize_tail-clause-takes_no_memory
-returns-in_err-normalize_tail-clause-takes_no_memory c h =
-    let kept = kept_parts _ c.args.self.now c.self.invariant c.self.view_is h in
-    absurd (false≢true (c.in_err-normalize_tail.ensures.takes_no_memory (kept_segments _ c.args.self.now c.self.invariant c.self.view_is h)
-    (ap (λ q. q.query) kept) (ap (λ q. q.fragment) kept)))
+pub returns-clause-ok : goal.returns-clause-ok
+returns-clause-ok c = c.put_normal.ensures.ok
 
--- what is put in place is the normal form
-made : (c : After-put_authority_copies) → record {
-  scheme = c.put_copy.new.scheme;
-  authority = c.put_authority_copies.new.authority;
-  path = c.normalize_tail.new.path;
-  query = c.normalize_tail.new.query;
-  fragment = c.normalize_tail.new.fragment;
-}
-    ≡ normal (record {
-      scheme = c.self.inside.scheme;
-      authority = c.self.inside.authority;
-      path = c.self.inside.path;
-      query = c.self.inside.query;
-      fragment = c.self.inside.fragment;
-    })
-made c =
-    made_is (record {
-      scheme = c.self.inside.scheme;
-      authority = c.self.inside.authority;
-      path = c.self.inside.path;
-      query = c.self.inside.query;
-      fragment = c.self.inside.fragment;
-    })
-    c.put_copy.new.scheme c.put_authority_copies.new.authority c.normalize_tail.new.path c.normalize_tail.new.query c.normalize_tail.new.fragment
-    (c.put_copy.ensures ∙ c.in_ok-scheme.ensures.copy)
-    c.put_authority_copies.ensures
-    c.in_ok-normalize_tail.ensures.path
-    c.in_ok-normalize_tail.ensures.query
-    c.in_ok-normalize_tail.ensures.fragment
-
-pub invariant_of-self-2 : goal.invariant_of-self-2
-invariant_of-self-2 c = subst Valid (sym (made c)) (normal_valid _ c.self.invariant)
+pub returns-clause-takes_no_memory : goal.returns-clause-takes_no_memory
+returns-clause-takes_no_memory c h =
+    let is = c.is_normal.ensures in
+    absurd (false≢true (sym c.if-is_normal.false ∙ is.test ∙ (normal_exactly c.args.self.now is.valid).1 h))
 
 pub returns-clause-equal : goal.returns-clause-equal
-returns-clause-equal c q v same =
-    made (goal.at.returns-clause-equal c).After-put_authority_copies ∙ ap normal c.self.view_is
-    ∙ one_normal c.args.self.now q (subst Valid c.self.view_is c.self.invariant) v same
+returns-clause-equal c =
+    on_ok_weaker c.put_normal.result (λ e q v same. e ∙ one_normal c.args.self.now q c.is_normal.ensures.valid v same) c.put_normal.ensures.ok
