@@ -1,20 +1,14 @@
 -- Paths without their dot segments or in normal form, with a "." in front where they would begin with two slashes.
 use Rattle.std.proofs.Common.{◌≡◌, ℕ, ◌+◌, ◌<◌, ◌≤◌, Bool, true, false, ◌&&◌, ◌||◌, cond, List, [], ◌∷◌, length, take, drop, refl, sym, ap, ◌∙◌, subst}
 use Rattle.std.proofs.Common.{arith}
-use Rattle.std.proofs.lemmas.Bool.{false≢true, and_parts, and_from}
-use Rattle.std.specs.Prelude.{bytes_eq}
-use Rattle.std.specs.List.{list_all}
+use Rattle.std.proofs.lemmas.Bool.{and_parts}
 use Rattle.std.proofs.lemmas.List.{length-take-le}
-use Rattle.std.proofs.lemmas.Slice.Eq.{bytes_eq-Decides}
-use Rattle.uriparse_text.specs.Bytes.{is_unreserved}
-use Rattle.uriparse_text.specs.Tokens.{tokens}
-use Rattle.uriparse_text.specs.Canonical.{canonical_in}
 use Rattle.uriparse_text.specs.Bytes.{dot}
 use Rattle.uriparse_path.specs.Path.{PathParts, IsListed, IsCounted, text, spelled, hides_root, respelled}
 use Rattle.uriparse_path.specs.Dots.{has_dot_segment, replay, replayed, rooted_after, undot, without_dots}
 use Rattle.uriparse_path.specs.Edits.{dotted, shield}
 use Rattle.uriparse_path.specs.Relative.{filled}
-use Rattle.uriparse_path.specs.Normal.{stays_relative, pnormal, is_canonical, is_normal, is_shielded, is_normal_in}
+use Rattle.uriparse_path.specs.Normal.{stays_relative, pnormal}
 use Rattle.uriparse_path.proofs.TextLemmas.{spelled-text}
 use Rattle.uriparse_path.proofs.RelativeLemmas.{hides_relative}
 use Rattle.uriparse_path.proofs.NormalLemmas.{listed_replayed, listed_pnormal, pnormal_relative, undot_path}
@@ -148,24 +142,3 @@ module _ {v : Bool} {p : PathParts} {rooted : Bool} {kept : ℕ} {first : List (
 pub relative_stays : (v : Bool) (p : PathParts) (r : Bool) → IsListed p.segments → stays_relative p r ≡ true → shielded v (pnormal p r) ≡ pnormal p r
 relative_stays v p r is e = shown_stays v (pnormal p r) (listed_pnormal p r is) (λ h. ap (λ q. hides_root q.segments) (pnormal_relative p r e)
     ∙ hides_relative p.segments)
-
-dot_canonical : is_canonical (dot ∷ []) ≡ true
-unfolding canonical_in tokens is_unreserved
-dot_canonical = refl
-
--- the path of a normal form has canonical segments
-pub normal_canonical : (v : Bool) (p : PathParts) (r : Bool) → is_normal_in v p r ≡ true → list_all is_canonical p.segments ≡ true
-normal_canonical v p r h = by_test (is_normal p r) refl h
-  where
-    behind_dot : (a : Bool) (l : List (List ℕ)) → is_shielded a l ≡ true → list_all is_canonical l ≡ true
-    behind_dot a [] e = absurd (false≢true e)
-    behind_dot a (s ∷ ss) e =
-        let x = and_parts (a && bytes_eq s (dot ∷ []) && hides_root ss) (is_normal (make a ss) false) e in
-        let y = and_parts (a && bytes_eq s (dot ∷ [])) (hides_root ss) x.0 in
-        let z = and_parts a (bytes_eq s (dot ∷ [])) y.0 in
-        let own : is_canonical s ≡ true = ap is_canonical ((bytes_eq-Decides s (dot ∷ [])).0 z.1) ∙ dot_canonical in
-        and_from _ _ own (and_parts (list_all is_canonical ss) _ x.1).0
-
-    by_test : (w : Bool) → is_normal p r ≡ w → (w || (v && is_shielded p.absolute p.segments)) ≡ true → list_all is_canonical p.segments ≡ true
-    by_test true e k = (and_parts (list_all is_canonical p.segments) _ e).0
-    by_test false e k = behind_dot p.absolute p.segments (and_parts v (is_shielded p.absolute p.segments) k).1

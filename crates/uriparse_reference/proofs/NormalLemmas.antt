@@ -10,12 +10,11 @@ use Rattle.uriparse_text.specs.Bytes.{dot}
 use Rattle.uriparse_text.specs.Canonical.{canonical}
 use Rattle.uriparse_path.specs.Segment.{is_segment}
 use Rattle.uriparse_path.specs.Path.{PathParts, IsListed, text, spelled, hides_root, respelled, has_two_slashes}
-use Rattle.uriparse_path.specs.Normal.{canonical_path, stays_relative, pnormal}
+use Rattle.uriparse_path.specs.Normal.{pnormal}
 use Rattle.uriparse_path.specs.Normal as path
 use Rattle.uriparse_path.specs.Normal.{is_shielded}
 use Rattle.uriparse_path.proofs.TextLemmas.{spelled-text}
 use Rattle.uriparse_path.proofs.NormalLemmas.{listed_pnormal, pnormal_twice, normal_iff, normal_kept}
-use Rattle.uriparse_path.proofs.ShieldLemmas.{normal_canonical}
 use Rattle.uriparse_authority.specs.Authority as authority
 use Rattle.uriparse_authority.specs.Authority.{AuthorityParts}
 use Rattle.uriparse_scheme.specs.declared.scheme.Scheme.{Scheme}

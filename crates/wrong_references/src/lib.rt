@@ -16,7 +16,12 @@ ghost use Rattle.uriparse_reference.specs.Normal.{normal};
 ghost use Rattle.uriparse_reference.specs.Reference.{Spells};
 
 use std::alloc::{AllocError, Global};
-use uriparse::{Authority, Edit, Fragment, Path, Query, Scheme, URIReference, URIReferenceError};
+use uriparse_authority::authority::Authority;
+use uriparse_path::path::Path;
+use uriparse_reference::uri_reference::{Edit, URIReference, URIReferenceError};
+use uriparse_scheme::scheme::Scheme;
+use uriparse_text::fragment::Fragment;
+use uriparse_text::query::Query;
 
 /// Reads a reference: what is read is what the grammar spells.
 pub fn read(alloc: Global, bytes: &[u8]) -> Result<URIReference<'_>, URIReferenceError>
