@@ -9,6 +9,7 @@
 ghost use Rattle.std.specs.Prelude.{◌≡◌, IfOk, MatchResult, None, OnOk, Some, bytes_eq, length};
 ghost use Rattle.uriparse_text.specs.Canonical.{canonical};
 ghost use Rattle.uriparse_text.specs.Readings.{Settles};
+ghost use Rattle.uriparse_path.specs.Dots as dots;
 ghost use Rattle.uriparse_path.specs.Path.{text};
 ghost use Rattle.uriparse_reference.specs.Edits.{Run, edited, of_parts};
 ghost use Rattle.uriparse_reference.specs.declared.uri_reference.edit.Edit.TheVariants as edits;
@@ -17,7 +18,7 @@ ghost use Rattle.uriparse_reference.specs.Reference.{Spells};
 
 use std::alloc::{AllocError, Global};
 use uriparse_authority::authority::Authority;
-use uriparse_path::path::Path;
+use uriparse_path::path::{Path, Segment};
 use uriparse_reference::uri_reference::{Edit, URIReference, URIReferenceError};
 use uriparse_scheme::scheme::Scheme;
 use uriparse_text::fragment::Fragment;
@@ -82,4 +83,11 @@ pub fn same_path(left: &Path<'_>, right: &Path<'_>) -> bool
     ensures { result ≡ bytes_eq (canonical (text left.now)) (canonical (text right.now)) }
 {
     left == right
+}
+
+/// Whether a segment is `..`, where each dot may be escaped.
+pub fn is_double_dot(segment: &Segment<'_>) -> bool
+    ensures { result ≡ dots.is_double_dot segment.now }
+{
+    segment.is_double_dot_segment()
 }
