@@ -16,7 +16,7 @@ pub(super) fn same_lowered(left: &[u8], right: &[u8]) -> bool
     left.eq_ignore_ascii_case(right)
 }
 
-/// Feeds a scheme in lower case to the hasher, byte by byte, and then 0xFF.
+/// Feeds a scheme in lower case to the hasher, and then 0xFF.
 pub(super) fn feed_lowered<H: Hasher>(bytes: &[u8], state: &mut H)
     ensures { state.new ≡ fold H.write state.old (fed_text (canonical_lowered bytes.now)) }
 {
