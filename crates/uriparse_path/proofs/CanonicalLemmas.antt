@@ -1,8 +1,9 @@
 -- The canonical spelling of a path's text is that of a path, segment by segment.
-use Rattle.std.proofs.Common.{◌≡◌, ℕ, Bool, true, false, ◌&&◌, cond, List, [], ◌∷◌, ◌++◌, suc, length, map, flat_map, refl, sym, ap, subst, ◌∙◌, arith}
+use Rattle.std.proofs.Common.{◌≡◌, ℕ, Bool, true, false, ◌&&◌, cond, List, [], ◌∷◌, ◌++◌, suc, length, map, flat_map, drop, get_or, refl, sym, ap, subst, ◌∙◌, arith}
 use Rattle.std.specs.List.{list_all}
 use Rattle.std.proofs.lemmas.Bool.{and_parts, and_from}
 use Rattle.std.proofs.lemmas.Bool.Decides.{nat_tests}
+use Rattle.std.proofs.lemmas.Slice.Eq.{bytes_eq-Decides}
 use Rattle.uriparse_text.specs.declared.parts.token.Token.{Token}
 use Rattle.uriparse_text.specs.declared.parts.token.Token.TheVariants.{Byte, Escape}
 use Rattle.uriparse_text.specs.declared.parts.class.Class.TheVariants.{Segment}
@@ -15,8 +16,14 @@ use Rattle.uriparse_text.proofs.CanonicalLemmas.{by_escaped, spell-canonical_tok
 use Rattle.uriparse_text.proofs.ClassLemmas.{well_formed-in_class, IsIn-canonical_in}
 use Rattle.uriparse_path.specs.Segment.{is_segment}
 use Rattle.uriparse_path.specs.Path.{PathParts, IsListed, IsPath, root, text, is_slash, is_rooted, pieces, spelled, has_two_slashes, IsCounted}
-use Rattle.uriparse_path.specs.Normal.{canonical_path}
+use Rattle.uriparse_path.specs.Normal.{canonical_path, is_canonical}
 use Rattle.uriparse_path.proofs.TextLemmas.{spelled-text, listed-respelled, text-spelled, text-cons}
+
+-- segments that their canonical spelling leaves as they are
+pub each_is_canonical : (ss : List (List ℕ)) → map canonical ss ≡ ss → list_all is_canonical ss ≡ true
+each_is_canonical [] e = refl
+each_is_canonical (s ∷ ss) e =
+    and_from _ _ ((bytes_eq-Decides (canonical s) s).1 (ap (λ l. get_or l 0 []) e)) (each_is_canonical ss (ap (drop 1) e))
 
 pub canonical-nil : canonical [] ≡ []
 unfolding canonical_in

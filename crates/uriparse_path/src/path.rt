@@ -215,6 +215,7 @@ impl<'p> Path<'p> {
         ensures ok { OnOk result (self.new ≡ pnormal self.old as_reference) }
         ensures err { OnErr result (self.new ≡ self.old) }
         ensures takes_no_memory { text (pnormal self.old as_reference) ≡ text self.old → IsOk result }
+        ensures canonical_takes_no_memory { canonical_path self.old ≡ self.old → IsOk result }
     {
         self.put_normal(alloc, as_reference, false)
     }

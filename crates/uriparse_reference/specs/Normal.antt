@@ -27,6 +27,16 @@ normal p = record {
   fragment = option_map canonical p.fragment;
 }
 
+-- the same reference, each text in canonical spelling, with its path's dot segments
+abbrev pub canonical_texts : Parts → Parts
+canonical_texts p = record {
+  scheme = option_map canonical_scheme p.scheme;
+  authority = option_map canonical_authority p.authority;
+  path = path.canonical_path p.path;
+  query = option_map canonical p.query;
+  fragment = option_map canonical p.fragment;
+}
+
 -- ---- which references are left as they are
 
 -- the path is its own normal form where it stands

@@ -1,8 +1,9 @@
 -- The canonical spelling of a text: RFC 3986, sections 6.2.2.1 and 6.2.2.2.
-use Rattle.std.specs.Prelude.{◌≡◌, ℕ, Bool, true, ◌==◌, ◌||◌, not, ◌+◌, ◌*◌, List, [], ◌∷◌, ◌++◌, length, map, if◌then◌else◌}
+use Rattle.std.specs.Prelude.{◌≡◌, ℕ, Bool, true, ◌==◌, ◌||◌, not, ◌+◌, ◌*◌, ◌/◌, List, [], ◌∷◌, ◌++◌, length, map, drop, if◌then◌else◌}
 use Rattle.std.specs.List.{flat_map}
 use Rattle.std.specs.Char.{digit_value, to_ascii_lowercase, to_ascii_uppercase}
 use Rattle.std.specs.Hash as fed
+use Rattle.std.specs.Simd.{first_chunks}
 use Rattle.uriparse_text.specs.declared.parts.token.Token.{Token}
 use Rattle.uriparse_text.specs.declared.parts.token.Token.TheVariants.{Byte, Escape}
 use Rattle.uriparse_text.specs.declared.parts.canonical.Case.{Case}
@@ -53,16 +54,11 @@ pub record SpellsAlike (case : Case) (bytes text : List ℕ) : Type 0 where
   pub formed : is_well_formed bytes ≡ true
   pub same : canonical_in case bytes ≡ canonical_in case text
 
--- what a hasher is fed for bytes behind those that wait: sixty-four at a time, and at the end those that are left
-abbrev pub fed_behind : List ℕ → List ℕ → List (List ℕ)
-fed_behind waiting [] = waiting ∷ []
-fed_behind waiting (b ∷ bytes) =
-    if length waiting == 63
-    then (waiting ++ b ∷ []) ∷ fed_behind [] bytes
-    else fed_behind (waiting ++ b ∷ []) bytes
-
+-- what a hasher is fed of bytes: as many blocks of sixty-four as there are, and then the bytes that are left
 unfoldable pub fed_bytes : List ℕ → List (List ℕ)
-fed_bytes bytes = fed_behind [] bytes
+fed_bytes bytes =
+    let blocks = length bytes / 64 in
+    first_chunks 64 blocks bytes ++ drop (blocks * 64) bytes ∷ []
 
 -- what a hasher is fed for a canonical spelling: its bytes, and then 0xFF, which no spelling has
 abbrev pub fed_text : List ℕ → List (List ℕ)

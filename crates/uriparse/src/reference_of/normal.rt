@@ -1,7 +1,7 @@
 //! Normal forms of URIs and relative references: RFC 3986, section 6.2.2.
 ghost use Rattle.std.specs.Prelude.{◌≡◌, ◌↔◌, IsTrue, IsOk, OnOk, OnErr};
 ghost use Rattle.uriparse_reference.specs.Reference.{Parts, Same, Valid, print};
-ghost use Rattle.uriparse_reference.specs.Normal.{normal};
+ghost use Rattle.uriparse_reference.specs.Normal.{canonical_texts, normal};
 
 use super::ReferenceOf;
 use crate::kind::Kind;
@@ -21,12 +21,13 @@ impl<'r, K: Kind> ReferenceOf<'r, K> {
     /// [`URIReference::normalize`](uriparse_reference::uri_reference::URIReference::normalize)
     /// does.
     ///
-    /// Memory is wanted only for the texts that aren't canonical; where there is none, the value is
-    /// unchanged.
+    /// Memory is wanted only for the texts that aren't canonical, and for none where the text is
+    /// normal; where there is none, the value is unchanged.
     pub fn normalize(&mut self, alloc: Global) -> Result<(), AllocError>
         ensures ok { OnOk result (self.new ≡ normal self.old) }
         ensures err { OnErr result (self.new ≡ self.old) }
         ensures takes_no_memory { print (normal self.old) ≡ print self.old → IsOk result }
+        ensures canonical_takes_no_memory { canonical_texts self.old ≡ self.old → IsOk result }
 
         // References that are the same get one normal form.
         ensures equal { OnOk result ((q : Parts) → Valid q → Same self.old q → self.new ≡ normal q) }

@@ -1,14 +1,15 @@
 //! Normal forms of references: RFC 3986, section 6.2.2.
 ghost use Rattle.std.specs.Prelude.{◌≡◌, ◌↔◌, IsTrue, IsOk, IfOk, OnOk, OnErr, bytes_eq, false, is_none, is_some, true};
+ghost use Rattle.std.specs.List.{list_all};
 ghost use Rattle.std.specs.Option.{option_eq, option_map};
 ghost use Rattle.uriparse_text.specs.Canonical.{canonical};
 ghost use Rattle.uriparse_path.specs.Path.{hides_root};
-ghost use Rattle.uriparse_path.specs.Normal.{pnormal};
+ghost use Rattle.uriparse_path.specs.Normal.{is_canonical, pnormal};
 ghost use Rattle.uriparse_authority.specs.Authority as authorities;
 ghost use Rattle.uriparse_authority.specs.Normal.{canonical_authority};
 ghost use Rattle.uriparse_scheme.specs.Scheme as schemes;
 ghost use Rattle.uriparse_reference.specs.Reference.{Parts, Same, Valid, print};
-ghost use Rattle.uriparse_reference.specs.Normal.{AreCopiesIf, is_normal, normal, shielded};
+ghost use Rattle.uriparse_reference.specs.Normal.{AreCopiesIf, canonical_texts, is_normal, normal, shielded};
 
 use super::URIReference;
 use std::alloc::{AllocError, Global};
@@ -49,7 +50,8 @@ fn authority_copies(
     alloc: Global,
     authority: &Option<Authority<'_>>,
 ) -> Result<Option<CanonicalCopies>, AllocError>
-    ensures { IfOk result (λ copies. AreCopiesIf copies authority.now) }
+    ensures copies { IfOk result (λ copies. AreCopiesIf copies authority.now) }
+    ensures takes_no_memory { option_map canonical_authority authority.now ≡ authority.now → IsOk result }
 {
     match authority {
         Some(authority) => Ok(Some(authority::canonical_copies(alloc, authority)?)),
@@ -72,6 +74,7 @@ fn normalize_tail(
     ensures query { OnOk result (query.new ≡ option_map canonical query.old) }
     ensures fragment { OnOk result (fragment.new ≡ option_map canonical fragment.old) }
     ensures err { OnErr result ((path.new ≡ path.old) × (query.new ≡ query.old) × (fragment.new ≡ fragment.old)) }
+    ensures takes_no_memory { list_all is_canonical path.old.segments ≡ true → option_map canonical query.old ≡ query.old → option_map canonical fragment.old ≡ fragment.old → IsOk result }
 {
     let query_copy = canonical_copy(alloc, query)?;
     let fragment_copy = canonical_copy(alloc, fragment)?;
@@ -134,6 +137,7 @@ impl<'r> URIReference<'r> {
         ensures ok { OnOk result (self.new ≡ normal self.old) }
         ensures err { OnErr result (self.new ≡ self.old) }
         ensures takes_no_memory { print (normal self.old) ≡ print self.old → IsOk result }
+        ensures canonical_takes_no_memory { canonical_texts self.old ≡ self.old → IsOk result }
 
         // References that are the same get one normal form.
         ensures equal { OnOk result ((q : Parts) → Valid q → Same self.old q → self.new ≡ normal q) }
@@ -144,10 +148,12 @@ impl<'r> URIReference<'r> {
         self.put_normal(alloc)
     }
 
-    /// Puts the normal form in the reference's place.
+    /// Puts the normal form in the reference's place. Wants memory for the texts that aren't
+    /// canonical.
     fn put_normal(&mut self, alloc: Global) -> Result<(), AllocError>
         ensures ok { OnOk result (self.new ≡ normal self.old) }
         ensures err { OnErr result (self.new ≡ self.old) }
+        ensures takes_no_memory { canonical_texts self.old ≡ self.old → IsOk result }
     {
         let scheme = scheme::canonical_copy(alloc, &self.scheme)?;
         let authority = authority_copies(alloc, &self.authority)?;

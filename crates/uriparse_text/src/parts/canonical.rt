@@ -61,13 +61,11 @@ impl Token {
 fn feed_bytes<H: Hasher>(bytes: &[u8], state: &mut H)
     ensures { state.new ≡ fold H.write state.old (spec.fed_bytes bytes.now) }
 {
-    let mut rest = bytes;
-    'runs: while rest.len() >= BLOCK {
-        let (block, later) = rest.split_at(BLOCK);
+    let (blocks, last) = bytes.as_chunks::<BLOCK>();
+    for block in blocks {
         state.write(block);
-        rest = later;
     }
-    state.write(rest);
+    state.write(last);
 }
 
 /// Puts a byte behind those that wait for the hasher, which is fed them once they fill the block.
@@ -76,7 +74,7 @@ fn feed_bytes<H: Hasher>(bytes: &[u8], state: &mut H)
 fn hold<H: Hasher>(b: u8, block: &mut [u8; BLOCK], len: usize, state: &mut H) -> usize
     requires { len < 64 }
     ensures few { result < 64 }
-    ensures fed { (later : List ℕ) → fold H.write state.new (spec.fed_behind (take result block.new) later) ≡ fold H.write state.old (spec.fed_behind (take len block.old) (b ∷ later)) }
+    ensures fed { (later : List ℕ) → fold H.write state.new (spec.fed_bytes (take result block.new ++ later)) ≡ fold H.write state.old (spec.fed_bytes (take len block.old ++ b ∷ later)) }
 {
     block[len] = b;
     if len + 1 < BLOCK {
@@ -91,7 +89,7 @@ fn hold<H: Hasher>(b: u8, block: &mut [u8; BLOCK], len: usize, state: &mut H) ->
 fn hold_token<H: Hasher>(token: Token, block: &mut [u8; BLOCK], len: usize, state: &mut H) -> usize
     requires { len < 64 }
     ensures few { result < 64 }
-    ensures fed { (later : List ℕ) → fold H.write state.new (spec.fed_behind (take result block.new) later) ≡ fold H.write state.old (spec.fed_behind (take len block.old) (spell token ++ later)) }
+    ensures fed { (later : List ℕ) → fold H.write state.new (spec.fed_bytes (take result block.new ++ later)) ≡ fold H.write state.old (spec.fed_bytes (take len block.old ++ (spell token ++ later))) }
 {
     match token {
         Token::Byte(b) => hold(b, block, len, state),

@@ -1,6 +1,8 @@
+use Rattle.std.proofs.Common.{ap}
 use Rattle.std.specs.List.{list_all}
 use Rattle.std.proofs.lemmas.Bool.{and_parts}
 use Rattle.uriparse_path.specs.Normal.{is_canonical}
+use Rattle.uriparse_path.proofs.CanonicalLemmas.{each_is_canonical}
 use Rattle.uriparse_path.proofs.NormalLemmas.{normal_iff}
 use Rattle.uriparse_path.proofs.path.Path.normalize.Goals as goal
 
@@ -8,3 +10,7 @@ pub returns-clause-takes_no_memory : goal.returns-clause-takes_no_memory
 returns-clause-takes_no_memory c e =
     c.put_normal.ensures.takes_no_memory
     (and_parts (list_all is_canonical c.args.self.now.segments) _ ((normal_iff c.args.self.now c.args.as_reference c.put_normal.ensures.listed).1 e)).0
+
+pub returns-clause-canonical_takes_no_memory : goal.returns-clause-canonical_takes_no_memory
+returns-clause-canonical_takes_no_memory c e =
+    c.put_normal.ensures.takes_no_memory (each_is_canonical c.args.self.now.segments (ap (λ p. p.segments) e))

@@ -26,3 +26,6 @@ returns-clause-takes_no_memory c h =
 pub returns-clause-equal : goal.returns-clause-equal
 returns-clause-equal c =
     on_ok_weaker c.put_normal.result (λ e q v same. e ∙ one_normal c.args.self.now q c.is_normal.ensures.valid v same) c.put_normal.ensures.ok
+
+pub returns-clause-canonical_takes_no_memory : goal.returns-clause-canonical_takes_no_memory
+returns-clause-canonical_takes_no_memory c = c.put_normal.ensures.takes_no_memory

@@ -1,10 +1,28 @@
-use Rattle.std.proofs.Common.{◌≡◌, sym, subst, ◌∙◌}
+use Rattle.std.proofs.Common.{◌≡◌, ap, sym, subst, ◌∙◌}
+use Rattle.std.proofs.lemmas.Bool.{false≢true}
+use Rattle.uriparse_path.proofs.CanonicalLemmas.{each_is_canonical}
 use Rattle.uriparse_reference.specs.Reference.{Valid}
-use Rattle.uriparse_reference.specs.Normal.{normal}
+use Rattle.uriparse_reference.specs.Normal.{canonical_texts, normal}
 use Rattle.uriparse_reference.proofs.NormalFormLemmas.{normal_valid}
 use Rattle.uriparse_reference.proofs.NormalLemmas.{made_is}
 use Rattle.uriparse_reference.proofs.uri_reference.URIReference.put_normal.Goals.{After-put_authority_copies}
 use Rattle.uriparse_reference.proofs.uri_reference.URIReference.put_normal.Goals as goal
+
+pub returns-in_err-scheme-clause-takes_no_memory : goal.returns-in_err-scheme-clause-takes_no_memory
+returns-in_err-scheme-clause-takes_no_memory c h =
+    let own = subst (λ p. canonical_texts p ≡ p) (sym c.self.view_is) h in
+    absurd (false≢true (c.in_err-scheme.ensures.takes_no_memory (ap (λ p. p.scheme) own)))
+
+pub returns-in_err-authority-clause-takes_no_memory : goal.returns-in_err-authority-clause-takes_no_memory
+returns-in_err-authority-clause-takes_no_memory c h =
+    let own = subst (λ p. canonical_texts p ≡ p) (sym c.self.view_is) h in
+    absurd (false≢true (c.in_err-authority.ensures.takes_no_memory (ap (λ p. p.authority) own)))
+
+pub returns-in_err-normalize_tail-clause-takes_no_memory : goal.returns-in_err-normalize_tail-clause-takes_no_memory
+returns-in_err-normalize_tail-clause-takes_no_memory c h =
+    let own = subst (λ p. canonical_texts p ≡ p) (sym c.self.view_is) h in
+    absurd (false≢true (c.in_err-normalize_tail.ensures.takes_no_memory
+    (each_is_canonical _ (ap (λ p. p.path.segments) own)) (ap (λ p. p.query) own) (ap (λ p. p.fragment) own)))
 
 -- what is put in place is the normal form
 made : (c : After-put_authority_copies) → record {

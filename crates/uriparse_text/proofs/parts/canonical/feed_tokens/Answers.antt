@@ -1,11 +1,11 @@
-use Rattle.std.proofs.Common.{◌++◌, ap, ◌∙◌, fold, take, arith}
+use Rattle.std.proofs.Common.{◌++◌, ap, refl, ◌∙◌, fold, take, arith}
 use Rattle.uriparse_text.specs.Tokens.{spell}
-use Rattle.uriparse_text.specs.Canonical.{canonical_in, fed_behind}
-use Rattle.uriparse_text.proofs.FeedLemmas.{fed_from_none, feeds_token, feeds_waiting}
+use Rattle.uriparse_text.specs.Canonical.{canonical_in, fed_bytes}
+use Rattle.uriparse_text.proofs.FeedLemmas.{feeds_token, feeds_waiting}
 use Rattle.uriparse_text.proofs.parts.canonical.feed_tokens.Goals as goal
 
 pub tokens-init : goal.tokens-init
-tokens-init g c = (omega arith, ap (fold g.H.Hasher.write c.args.state.now) (fed_from_none (canonical_in c.args.case c.args.text.now)))
+tokens-init g c = (omega arith, refl)
 
 pub tokens-preserved : goal.tokens-preserved
 tokens-preserved g c =
@@ -13,7 +13,7 @@ tokens-preserved g c =
     let later = canonical_in c.args.case c.in-Some.after.now in (
       c.hold_token-len.ensures.few,
       c.hold_token-len.ensures.fed later
-          ∙ ap (λ t. fold g.H.Hasher.write c.tokens.state (fed_behind waiting (spell t ++ later))) c.canonical.ensures
+          ∙ ap (λ t. fold g.H.Hasher.write c.tokens.state (fed_bytes (waiting ++ (spell t ++ later)))) c.canonical.ensures
           ∙ feeds_token g.H.Hasher.write c.tokens.state waiting c.args.case c.tokens.rest.now c.in-Some.after.now c.in-Some.token c.in-Some.ensures.cut
           ∙ c.tokens.invariant.1,
     )
@@ -21,5 +21,5 @@ tokens-preserved g c =
 pub returns : goal.returns
 returns g c =
     c.write.ensures
-    ∙ feeds_waiting g.H.Hasher.write c.tokens.state (take c.tokens.len c.tokens.block) c.args.case c.tokens.rest.now c.in_default.ensures.cut
+    ∙ feeds_waiting g.H.Hasher.write c.tokens.state c.tokens.block c.tokens.len c.args.case c.tokens.rest.now c.tokens.invariant.0 c.in_default.ensures.cut
     ∙ c.tokens.invariant.1
