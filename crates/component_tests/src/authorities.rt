@@ -3,8 +3,9 @@
 use rows::answer::{Answer, printed, said, shown, told, words};
 use rows::same::{same, same_as};
 use std::alloc::Global;
-use uriparse::authority::parse_port;
-use uriparse::{Authority, AuthorityError, Host, Password, Username};
+use uriparse_authority::authority::{
+    Authority, AuthorityError, Host, Password, Username, parse_port,
+};
 
 fn copied(alloc: Global, authority: &Authority<'_>) -> Answer {
     authority.as_borrowed().into_owned(alloc)?.to_string(alloc)

@@ -5,9 +5,11 @@ use rows::same::hash_of;
 use std::alloc::{AllocError, Global};
 use std::fmt::Display;
 use std::hash::Hash;
-use uriparse::{
-    Fragment, Password, Query, RegisteredName, Scheme, Segment, UnregisteredScheme, Username,
-};
+use uriparse_authority::authority::{Password, RegisteredName, Username};
+use uriparse_path::path::Segment;
+use uriparse_scheme::scheme::{Scheme, UnregisteredScheme};
+use uriparse_text::fragment::Fragment;
+use uriparse_text::query::Query;
 
 /// What a component tells of itself, and whether it is another text.
 #[derive(Clone, Copy)]

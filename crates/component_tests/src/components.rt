@@ -3,7 +3,9 @@
 use crate::component::{compared, normal, read};
 use rows::answer::{Answer, said, words};
 use std::alloc::Global;
-use uriparse::{Fragment, Query, Segment};
+use uriparse_path::path::Segment;
+use uriparse_text::fragment::Fragment;
+use uriparse_text::query::Query;
 
 fn segments(alloc: Global, left: &str, right: &str) -> Answer {
     let a = Segment::try_from_bytes(left.as_bytes());

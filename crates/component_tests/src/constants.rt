@@ -1,6 +1,6 @@
 //! Each registered scheme's constant, by the place of its row.
 
-use uriparse::Scheme;
+use uriparse_scheme::scheme::Scheme;
 
 /// The constant of a row of `scheme_rows`, counted from 0.
 #[rattlefmt::skip]

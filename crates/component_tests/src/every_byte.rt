@@ -6,7 +6,8 @@ use rows::answer::printed;
 use rows::same::same_as;
 use std::alloc::{AllocError, Global};
 use std::test::Fail;
-use uriparse::{Authority, Host, URIReference, URIReferenceError};
+use uriparse_authority::authority::{Authority, Host};
+use uriparse_reference::uri_reference::{URIReference, URIReferenceError};
 
 fn is_scheme(text: &[u8]) -> bool {
     matches!(text, [b'a'..=b'z' | b'A'..=b'Z', ..])

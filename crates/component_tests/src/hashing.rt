@@ -2,7 +2,7 @@
 ghost use Rattle.std.specs.Prelude.{◌≡◌, ◌+◌, ◌*◌, ◌%◌, ◌^◌, fold};
 
 use std::hash::{Hash, Hasher};
-use uriparse::Segment;
+use uriparse_path::path::Segment;
 
 /// Holds up to seven bytes that it is fed, as the digits of a number behind a one.
 #[derive(Drop)]

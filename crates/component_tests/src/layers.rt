@@ -1,6 +1,6 @@
 //! The rows of each layer, with ample memory and where it is refused.
 
-use crate::{authorities, components, long, path_edits, paths, schemes, users};
+use crate::{authorities, components, hosts, long, path_edits, paths, schemes, users};
 use rows::answer::Answer;
 use rows::{Layer, wrong_row, wrong_row_of_all, wrong_starved_row_of_all};
 use std::alloc::Global;
@@ -11,6 +11,7 @@ enum Parts {
     Components,
     Schemes,
     Users,
+    Hosts,
     Authorities,
     Paths,
     PathEdits,
@@ -23,6 +24,7 @@ impl Layer for Parts {
             Parts::Components => components::ROWS,
             Parts::Schemes => schemes::ROWS,
             Parts::Users => users::ROWS,
+            Parts::Hosts => hosts::ROWS,
             Parts::Authorities => authorities::ROWS,
             Parts::Paths => paths::ROWS,
             Parts::PathEdits => path_edits::ROWS,
@@ -35,6 +37,7 @@ impl Layer for Parts {
             Parts::Components => components::answer(alloc, asked),
             Parts::Schemes => schemes::answer(alloc, asked),
             Parts::Users => users::answer(alloc, asked),
+            Parts::Hosts => hosts::answer(alloc, asked),
             Parts::Authorities => authorities::answer(alloc, asked),
             Parts::Paths => paths::answer(alloc, asked),
             Parts::PathEdits => path_edits::answer(alloc, asked),
@@ -44,10 +47,11 @@ impl Layer for Parts {
 }
 
 // Long texts want more memory than the runs in which it is refused have.
-static STARVED: [Parts; 6] = [
+static STARVED: [Parts; 7] = [
     Parts::Components,
     Parts::Schemes,
     Parts::Users,
+    Parts::Hosts,
     Parts::Authorities,
     Parts::Paths,
     Parts::PathEdits,

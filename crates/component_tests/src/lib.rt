@@ -16,6 +16,8 @@ mod every_byte;
 #[cfg(test)]
 mod hashing;
 #[cfg(test)]
+mod hosts;
+#[cfg(test)]
 mod layers;
 #[cfg(test)]
 mod long;

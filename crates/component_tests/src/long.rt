@@ -3,7 +3,7 @@
 use crate::{authorities, paths, users};
 use rows::answer::{Answer, repeated, said, split_long, verdict};
 use std::alloc::Global;
-use uriparse::Query;
+use uriparse_text::query::Query;
 
 /// Whether two queries are equal, by all tests but their hashes.
 fn queries(alloc: Global, left: &str, right: &str) -> Answer {

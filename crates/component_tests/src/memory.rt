@@ -4,7 +4,7 @@ use rows::complaint;
 use scarce::{Outcome, starve};
 use std::alloc::Global;
 use std::test::Fail;
-use uriparse::{Path, PathError, Segment};
+use uriparse_path::path::{Path, PathError, Segment};
 
 fn faulty_path(alloc: Global) -> Outcome {
     match Path::try_from_str(alloc, "a/b c") {

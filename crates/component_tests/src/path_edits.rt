@@ -4,8 +4,7 @@ use crate::paths::told;
 use rows::answer::{Answer, refused, said, words};
 use std::alloc::Global;
 use std::test::Fail;
-use uriparse::path::MAX_SEGMENTS;
-use uriparse::{Path, PathError, Segment};
+use uriparse_path::path::{MAX_SEGMENTS, Path, PathError, Segment};
 
 /// The path's text after a push, or the refusal, after which the path is to be as it was.
 fn pushed(alloc: Global, answer: Result<(), PathError>, path: &Path<'_>, text: &str) -> Answer {

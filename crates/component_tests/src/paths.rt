@@ -3,7 +3,7 @@
 use rows::answer::{Answer, printed, refused, said, shows, verdict, words};
 use rows::same::hash_of;
 use std::alloc::{AllocError, Global};
-use uriparse::{Path, PathError};
+use uriparse_path::path::{Path, PathError};
 
 /// The text, where both calls that give it agree.
 pub fn told(alloc: Global, path: &Path<'_>) -> Answer {

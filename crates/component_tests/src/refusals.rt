@@ -4,11 +4,14 @@ use rows::answer::{printed, said};
 use std::alloc::Global;
 use std::fmt::Display;
 use std::test::Fail;
-use uriparse::scheme::UnregisteredSchemeError;
-use uriparse::{
-    AuthorityError, FragmentError, HostError, PasswordError, PathError, PortError, QueryError,
-    RegisteredNameError, SchemeError, URIReferenceError, UsernameError,
+use uriparse_authority::authority::{
+    AuthorityError, HostError, PasswordError, PortError, RegisteredNameError, UsernameError,
 };
+use uriparse_path::path::PathError;
+use uriparse_reference::uri_reference::URIReferenceError;
+use uriparse_scheme::scheme::{SchemeError, UnregisteredSchemeError};
+use uriparse_text::fragment::FragmentError;
+use uriparse_text::query::QueryError;
 
 #[rattlefmt::skip]
 static ROWS: [(URIReferenceError, &str); 26] = [

@@ -2,8 +2,9 @@
 
 use crate::constants::constant_at;
 use crate::schemes::status_name;
-use uriparse::Scheme;
-use uriparse::scheme::{MicrosoftScheme as Microsoft, RegisteredScheme as Registered};
+use uriparse_scheme::scheme::{
+    MicrosoftScheme as Microsoft, RegisteredScheme as Registered, Scheme,
+};
 
 /// The variants, in the order of the rows.
 #[rattlefmt::skip]

@@ -3,7 +3,7 @@
 use crate::component::{compared, normal, read};
 use rows::answer::{Answer, printed, said, words};
 use std::alloc::Global;
-use uriparse::{Scheme, SchemeStatus, UnregisteredScheme};
+use uriparse_scheme::scheme::{Scheme, SchemeStatus, UnregisteredScheme};
 
 fn schemes(alloc: Global, left: &str, right: &str) -> Answer {
     let a = Scheme::try_from_bytes(left.as_bytes());

@@ -3,8 +3,7 @@
 use crate::component::{compared, normal, read};
 use rows::answer::{Answer, printed, said, words};
 use std::alloc::Global;
-use uriparse::authority::parse_port;
-use uriparse::{Password, RegisteredName, Username};
+use uriparse_authority::authority::{Password, RegisteredName, Username, parse_port};
 
 fn usernames(alloc: Global, left: &str, right: &str) -> Answer {
     let a = Username::try_from_bytes(left.as_bytes());

@@ -7,6 +7,7 @@
 
 pub mod answer;
 mod ask;
+pub mod authorities;
 pub mod same;
 mod starved;
 

@@ -1,8 +1,7 @@
 //! The rows of each layer, with ample memory and where it is refused.
 
 use crate::{
-    builders, hosts, kinds, limits, normal_forms, reference_edits, references, relatives,
-    resolutions, uris,
+    kinds, limits, normal_forms, reference_edits, references, relatives, resolutions, uris,
 };
 use rows::answer::Answer;
 use rows::{Layer, wrong_row_of_all, wrong_starved_row_of_all};
@@ -11,7 +10,6 @@ use std::test::Fail;
 
 #[derive(Clone, Copy)]
 enum Part {
-    Hosts,
     References,
     ReferenceEdits,
     NormalForms,
@@ -19,14 +17,12 @@ enum Part {
     Kinds,
     Uris,
     Relatives,
-    Builders,
     Limits,
 }
 
 impl Layer for Part {
     fn rows(&self) -> &'static str {
         match self {
-            Part::Hosts => hosts::ROWS,
             Part::References => references::ROWS,
             Part::ReferenceEdits => reference_edits::ROWS,
             Part::NormalForms => normal_forms::ROWS,
@@ -34,14 +30,12 @@ impl Layer for Part {
             Part::Kinds => kinds::ROWS,
             Part::Uris => uris::ROWS,
             Part::Relatives => relatives::ROWS,
-            Part::Builders => builders::ROWS,
             Part::Limits => limits::ROWS,
         }
     }
 
     fn answer(&self, alloc: Global, asked: &str) -> Answer {
         match self {
-            Part::Hosts => hosts::answer(alloc, asked),
             Part::References | Part::ReferenceEdits | Part::Kinds => {
                 references::answer(alloc, asked)
             }
@@ -49,15 +43,13 @@ impl Layer for Part {
             Part::Resolutions => resolutions::answer(alloc, asked),
             Part::Uris => uris::answer(alloc, asked),
             Part::Relatives => relatives::answer(alloc, asked),
-            Part::Builders => builders::answer(alloc, asked),
             Part::Limits => limits::answer(alloc, asked),
         }
     }
 }
 
-static PARTS: [Part; 10] = [
+static PARTS: [Part; 8] = [
     Part::Limits,
-    Part::Hosts,
     Part::References,
     Part::ReferenceEdits,
     Part::NormalForms,
@@ -65,7 +57,6 @@ static PARTS: [Part; 10] = [
     Part::Kinds,
     Part::Uris,
     Part::Relatives,
-    Part::Builders,
 ];
 
 #[test]

@@ -1,17 +1,15 @@
-//! Tests of hosts and of references of each type: vectors from RFC 3986 and worked by hand, each
-//! public function once, and requests for memory that are refused.
+//! Tests of references of each type: vectors from RFC 3986 and worked by hand, each public function
+//! once, and requests for memory that are refused.
 #![tactic(auto)]
 
-#[cfg(test)]
-mod builders;
-#[cfg(test)]
-mod hosts;
 #[cfg(test)]
 mod kinds;
 #[cfg(test)]
 mod layers;
 #[cfg(test)]
 mod limits;
+#[cfg(test)]
+mod names;
 #[cfg(test)]
 mod normal_forms;
 #[cfg(test)]

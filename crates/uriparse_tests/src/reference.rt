@@ -1,10 +1,10 @@
 //! What the references of all three types have in common, by their names in [`Shown`], [`Reads`] and
 //! [`Reference`].
 
-use crate::hosts::{AuthorityParts, add_authority, listed_authority};
 use crate::normal_forms::normalized;
 use crate::references;
 use rows::answer::{Answer, add, printed, refused, said, shows};
+use rows::authorities::{AuthorityParts, add_authority, listed_authority};
 use rows::same::same_as;
 use std::alloc::{AllocError, Global};
 use std::fmt::Display;

@@ -1,11 +1,11 @@
 //! References.
 
-use crate::hosts::AuthorityParts;
 use crate::kinds::kinds;
 use crate::reference;
 use crate::reference::{Asked, Parts, Reads, Reference, Shown, answer_of};
 use crate::reference_edits::edited;
 use rows::answer::{Answer, printed, said, words};
+use rows::authorities::AuthorityParts;
 use std::alloc::{AllocError, Global};
 use std::convert::identity;
 use uriparse::{Authority, Fragment, Path, Query, URIReference, URIReferenceError};

@@ -1,8 +1,8 @@
 //! Relative references.
 
-use crate::hosts::AuthorityParts;
 use crate::reference::{Asked, Parts, Reads, Reference, Shown, answer_of, copied};
 use rows::answer::{Answer, named, said, words};
+use rows::authorities::AuthorityParts;
 use std::alloc::{AllocError, Global};
 use std::convert::identity;
 use uriparse::{

@@ -1,9 +1,9 @@
 //! URIs.
 
-use crate::hosts::AuthorityParts;
 use crate::reference::{Asked, Parts, Reads, Reference, Shown, answer_of, copied, given, settled};
 use crate::resolutions::behind;
 use rows::answer::{Answer, printed, refused, words};
+use rows::authorities::AuthorityParts;
 use std::alloc::{AllocError, Global};
 use std::convert::identity;
 use uriparse::{Authority, Fragment, Path, Query, Scheme, URI, URIError, URIReference};

@@ -1,7 +1,6 @@
 //! Builders of references, URIs and relative references.
 
-use crate::reference::{Reads, made};
-use rows::answer::{Answer, refused, verdict, word, words};
+use rows::answer::{Answer, refused, shown, verdict, word, words};
 use std::alloc::Global;
 use std::fmt::Display;
 use uriparse::{
@@ -91,6 +90,14 @@ fn give_relative<'t>(
     builder.try_fragment(texts.fragment)
 }
 
+/// What was built, or the refusal.
+fn made<T: Display + Drop, E: Display + Drop>(alloc: Global, made: Result<T, E>) -> Answer {
+    match made {
+        Ok(value) => shown(alloc, &value),
+        Err(why) => refused(alloc, why),
+    }
+}
+
 /// What is built of the texts.
 fn build(alloc: Global, texts: Texts<'_>) -> Answer {
     let mut builder = URIReference::builder();
@@ -140,7 +147,12 @@ fn after_refusals(alloc: Global, texts: Texts<'_>) -> Answer {
 }
 
 /// What can be built anew of its parts.
-trait Built<'t>: Reads<'t> {
+trait Built<'t>: Display + Drop + Sized {
+    type Error: Display + Drop;
+
+    /// `try_from_str`.
+    fn of_str(alloc: Global, text: &'t str) -> Result<Self, Self::Error>;
+
     /// The same reference, built again by the plain calls.
     fn by_calls(self) -> Result<Self, Self::Error>;
 
@@ -149,6 +161,12 @@ trait Built<'t>: Reads<'t> {
 }
 
 impl<'t> Built<'t> for URIReference<'t> {
+    type Error = URIReferenceError;
+
+    fn of_str(alloc: Global, text: &'t str) -> Result<Self, URIReferenceError> {
+        URIReference::try_from_str(alloc, text)
+    }
+
     fn by_calls(self) -> Result<Self, Self::Error> {
         let (scheme, authority, path, query, fragment) = self.into_parts();
         let mut builder = URIReferenceBuilder::new();
@@ -173,6 +191,12 @@ impl<'t> Built<'t> for URIReference<'t> {
 }
 
 impl<'t> Built<'t> for URI<'t> {
+    type Error = URIError;
+
+    fn of_str(alloc: Global, text: &'t str) -> Result<Self, URIError> {
+        URI::try_from_str(alloc, text)
+    }
+
     fn by_calls(self) -> Result<Self, Self::Error> {
         let (scheme, authority, path, query, fragment) = self.into_parts();
         let mut builder = URIBuilder::new();
@@ -197,6 +221,12 @@ impl<'t> Built<'t> for URI<'t> {
 }
 
 impl<'t> Built<'t> for RelativeReference<'t> {
+    type Error = RelativeReferenceError;
+
+    fn of_str(alloc: Global, text: &'t str) -> Result<Self, RelativeReferenceError> {
+        RelativeReference::try_from_str(alloc, text)
+    }
+
     fn by_calls(self) -> Result<Self, Self::Error> {
         let (authority, path, query, fragment) = self.into_parts();
         let mut builder = RelativeReferenceBuilder::new();
@@ -247,6 +277,25 @@ fn builder_of(alloc: Global, text: &str) -> Result<URIReferenceBuilder<'_>, URIR
     }
 }
 
+/// The same of a URI.
+fn builder_of_uri(alloc: Global, text: &str) -> Result<URIBuilder<'_>, URIError> {
+    match URI::try_from_str(alloc, text) {
+        Ok(uri) => Ok(uri.into_builder()),
+        Err(why) => Err(why),
+    }
+}
+
+/// The same of a relative reference.
+fn builder_of_relative(
+    alloc: Global,
+    text: &str,
+) -> Result<RelativeReferenceBuilder<'_>, RelativeReferenceError> {
+    match RelativeReference::try_from_str(alloc, text) {
+        Ok(reference) => Ok(reference.into_builder()),
+        Err(why) => Err(why),
+    }
+}
+
 /// Whether two values are equal, where both were read.
 fn compared<T: Drop + Eq, E: Display + Drop>(
     alloc: Global,
@@ -263,8 +312,20 @@ fn compared<T: Drop + Eq, E: Display + Drop>(
 }
 
 /// Whether the builders that hold the parts of what these texts read as are equal.
-fn builders(alloc: Global, left: &str, right: &str) -> Answer {
-    compared(alloc, builder_of(alloc, left), builder_of(alloc, right))
+fn builders(alloc: Global, command: &str, left: &str, right: &str) -> Answer {
+    match command {
+        "builders" => compared(alloc, builder_of(alloc, left), builder_of(alloc, right)),
+        "uri-builders" => compared(
+            alloc,
+            builder_of_uri(alloc, left),
+            builder_of_uri(alloc, right),
+        ),
+        _ => compared(
+            alloc,
+            builder_of_relative(alloc, left),
+            builder_of_relative(alloc, right),
+        ),
+    }
 }
 
 /// The answer to a question about builders.
@@ -277,7 +338,9 @@ pub fn answer(alloc: Global, asked: &str) -> Answer {
         "relative-calls" | "relative-chain" => {
             rebuilt::<RelativeReference<'_>>(alloc, command, text)
         }
-        "builders" => builders(alloc, text, other),
+        "builders" | "uri-builders" | "relative-builders" => {
+            builders(alloc, command, text, other)
+        }
         _ => of_texts(alloc, command, split_texts(rest)),
     }
 }
@@ -325,4 +388,8 @@ relative-calls //h/a?q#f -> //h/a?q#f
 relative-chain ../a?q -> ../a?q
 builders HTTP://H/%7e http://h/~ -> equal
 builders s:a s:a? -> different
-builders s:a #a -> different";
+builders s:a #a -> different
+uri-builders HTTP://H/%7e http://h/~ -> equal
+uri-builders s:a s:a? -> different
+relative-builders //H/%7e //h/~ -> equal
+relative-builders a a# -> different";

@@ -1,20 +1,10 @@
 //! Hosts, addresses, and the parts of authorities behind their names.
 
-use rows::answer::{Answer, add, printed, said, shown, words};
+use rows::answer::{Answer, printed, said, shown, words};
+use rows::authorities::{kind_of, listed_authority};
 use rows::same::same_as;
-use std::alloc::{AllocError, Global};
-use uriparse::{Authority, Host, IpAddr, Ipv4Addr, Ipv6Addr, Password, Username};
-
-/// The host's kind, where its three tests agree.
-fn kind_of(host: &Host<'_>) -> &'static str {
-    let address = (host.is_ipv4_address(), host.is_ipv6_address());
-    match (host, address, host.is_registered_name()) {
-        (Host::IPv4Address(_), (true, false), false) => "ipv4",
-        (Host::IPv6Address(_), (false, true), false) => "ipv6",
-        (Host::RegisteredName(_), (false, false), true) => "name",
-        _ => "several kinds",
-    }
-}
+use std::alloc::Global;
+use uriparse_authority::authority::{Authority, Host, IpAddr, Ipv4Addr, Ipv6Addr};
 
 /// The kind and the text.
 fn told(alloc: Global, host: &Host<'_>) -> Answer {
@@ -109,53 +99,11 @@ fn host_of_address(alloc: Global, text: &str) -> Answer {
     }
 }
 
-/// A user name, a password, a host and a port.
-pub type AuthorityParts<'r, 't> = (
-    Option<&'r Username<'t>>,
-    Option<&'r Password<'t>>,
-    Option<&'r Host<'t>>,
-    Option<u16>,
-);
-
-/// Adds the host behind its kind, if there is one.
-fn add_host(text: &mut String, host: Option<&Host<'_>>) -> Result<(), AllocError> {
-    match host {
-        Some(host) => add(text, kind_of(host), Some(host)),
-        None => Ok(()),
-    }
-}
-
-/// Adds the parts that there are.
-pub fn add_authority(text: &mut String, parts: AuthorityParts<'_, '_>) -> Result<(), AllocError> {
-    let (username, password, host, port) = parts;
-    add(text, "username", username)?;
-    add(text, "password", password)?;
-    add_host(text, host)?;
-    add(text, "port", port.as_ref())
-}
-
 /// Whether the tests for parts agree with the parts.
 fn has_its_parts(authority: &Authority<'_>) -> bool {
     authority.has_username() == authority.username().is_some()
         && authority.has_password() == authority.password().is_some()
         && authority.has_port() == authority.port().is_some()
-}
-
-/// The parts of an authority.
-fn parts_of<'r, 't>(authority: &'r Authority<'t>) -> AuthorityParts<'r, 't> {
-    (
-        authority.username(),
-        authority.password(),
-        Some(authority.host()),
-        authority.port(),
-    )
-}
-
-/// The parts behind their names.
-pub fn listed_authority(alloc: Global, authority: &Authority<'_>) -> Answer {
-    let mut text = String::new(alloc);
-    add_authority(&mut text, parts_of(authority))?;
-    said(alloc, text.as_str().trim_start())
 }
 
 /// The same, where the tests for parts agree with the parts.

@@ -1,0 +1,8 @@
+//! Tests of the builders of references of each type: each public function once, and requests for
+//! memory that are refused.
+#![tactic(auto)]
+
+#[cfg(test)]
+mod builders;
+#[cfg(test)]
+mod layer;

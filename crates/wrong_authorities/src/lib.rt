@@ -1,0 +1,46 @@
+//! Promises of hosts and authorities for which the must-fail edits beside this file put wrong
+//! bodies, as those of `wrong_references`.
+#![tactic(auto)]
+
+ghost use Rattle.std.specs.Prelude.{◌≡◌, Ok, bytes_eq};
+ghost use Rattle.uriparse_authority.specs.Authority.{with_host, with_username};
+ghost use Rattle.uriparse_authority.specs.Host.{key};
+
+use uriparse_authority::authority::{Authority, AuthorityError, Host, Username};
+
+/// Whether two hosts are equal: of one kind, and of one canonical spelling.
+pub fn same_host(left: &Host<'_>, right: &Host<'_>) -> bool
+    ensures { result ≡ bytes_eq (key left.now) (key right.now) }
+{
+    left == right
+}
+
+/// Sets an authority's user name, or takes it away, with the password.
+pub fn set_username<'a>(
+    authority: &mut Authority<'a>,
+    username: Option<Username<'a>>,
+) -> Result<(), AuthorityError>
+    ensures answer { result ≡ Ok tt }
+    ensures value { authority.new ≡ with_username authority.old username.entry }
+{
+    authority.set_username(username)
+}
+
+/// Sets an authority's host.
+pub fn set_host<'a>(authority: &mut Authority<'a>, host: Host<'a>) -> Result<(), AuthorityError>
+    ensures answer { result ≡ Ok tt }
+    ensures value { authority.new ≡ with_host authority.old host.entry }
+{
+    authority.set_host(host)
+}
+
+/// Sets an authority's host to what the closure makes of it.
+pub fn map_host<'a, F>(authority: &mut Authority<'a>, make: F) -> Result<(), AuthorityError>
+where
+    F: FnOnce(Host<'a>) -> Host<'a>,
+    requires { F.pre make authority.old.host }
+    ensures answer { result ≡ Ok tt }
+    ensures value { (host : _) × F.post make authority.old.host host × (authority.new ≡ with_host authority.old host) }
+{
+    authority.map_host(make)
+}
