@@ -1,6 +1,5 @@
-//! Tests of the parts of references: vectors from RFC 3986 and worked by hand, texts of refusals,
-//! each public function once, and requests for memory that are refused; and of one reference with
-//! each byte replaced.
+//! Tests of the parts of references: vectors from RFC 3986 and worked by hand, each public function
+//! once, and requests for memory that are refused.
 #![tactic(auto)]
 
 #[cfg(test)]
@@ -11,8 +10,6 @@ mod component;
 mod components;
 #[cfg(test)]
 mod constants;
-#[cfg(test)]
-mod every_byte;
 #[cfg(test)]
 mod hashing;
 #[cfg(test)]
@@ -27,8 +24,6 @@ mod memory;
 mod path_edits;
 #[cfg(test)]
 mod paths;
-#[cfg(test)]
-mod refusals;
 #[cfg(test)]
 mod scheme_rows;
 #[cfg(test)]

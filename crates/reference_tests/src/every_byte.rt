@@ -1,13 +1,13 @@
 //! A reference with each of its bytes replaced by each of the 256 values, against a slow reading
 //! that goes by the classes of bytes as they are spelled out here.
 
-use crate::component::Component;
 use rows::answer::printed;
 use rows::same::same_as;
 use std::alloc::{AllocError, Global};
 use std::test::Fail;
 use uriparse_authority::authority::{Authority, Host};
 use uriparse_reference::uri_reference::{URIReference, URIReferenceError};
+use uriparse_text::parts::{Kind, Text};
 
 fn is_scheme(text: &[u8]) -> bool {
     matches!(text, [b'a'..=b'z' | b'A'..=b'Z', ..])
@@ -210,9 +210,17 @@ fn refusal(pieces: &Pieces<'_>) -> Option<&'static str> {
 }
 
 /// The text of a part.
-fn bytes_of<T: Component>(part: Option<&T>) -> Option<&[u8]> {
+fn bytes_of<'r, K: Kind>(part: Option<&'r Text<'_, K>>) -> Option<&'r [u8]> {
     match part {
-        Some(part) => Some(part.told("").bytes),
+        Some(part) => Some(part.as_bytes()),
+        None => None,
+    }
+}
+
+/// The text of the scheme.
+fn scheme_of<'r>(reference: &'r URIReference<'_>) -> Option<&'r [u8]> {
+    match reference.scheme() {
+        Some(scheme) => Some(scheme.as_bytes()),
         None => None,
     }
 }
@@ -240,7 +248,7 @@ fn has_authority(reference: &URIReference<'_>, pieces: &Pieces<'_>) -> bool {
 fn is_reference(reference: &URIReference<'_>, path: &[u8], pieces: &Pieces<'_>) -> bool {
     let rooted = pieces.authority.is_some() && pieces.path.is_empty();
     path == (if rooted { b"/" } else { pieces.path })
-        && bytes_of(reference.scheme()) == pieces.scheme
+        && scheme_of(reference) == pieces.scheme
         && bytes_of(reference.query()) == pieces.query
         && bytes_of(reference.fragment()) == pieces.fragment
         && has_authority(reference, pieces)
