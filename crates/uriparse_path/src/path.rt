@@ -209,8 +209,8 @@ impl<'p> Path<'p> {
     /// where the first segment would else be taken for a scheme or a root. Dot segments of other
     /// paths are removed as by [`remove_dot_segments`](Path::remove_dot_segments).
     ///
-    /// Memory is wanted for the segments that aren't canonical, and before anything is put in
-    /// place; where there is none, the path is kept.
+    /// No memory is wanted where each segment is canonical. Else the segments that aren't are copied
+    /// before anything is put in place, so where there is no memory, the path is kept.
     pub fn normalize(&mut self, alloc: Global, as_reference: bool) -> Result<(), AllocError>
         ensures ok { OnOk result (self.new ≡ pnormal self.old as_reference) }
         ensures err { OnErr result (self.new ≡ self.old) }

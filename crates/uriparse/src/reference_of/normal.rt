@@ -21,8 +21,8 @@ impl<'r, K: Kind> ReferenceOf<'r, K> {
     /// [`URIReference::normalize`](uriparse_reference::uri_reference::URIReference::normalize)
     /// does.
     ///
-    /// Memory is wanted only for the texts that aren't canonical, and for none where the text is
-    /// normal; where there is none, the value is unchanged.
+    /// No memory is wanted where each text is canonical, whatever dot segments the path has. Where
+    /// some is wanted and there is none, the value is unchanged.
     pub fn normalize(&mut self, alloc: Global) -> Result<(), AllocError>
         ensures ok { OnOk result (self.new ≡ normal self.old) }
         ensures err { OnErr result (self.new ≡ self.old) }

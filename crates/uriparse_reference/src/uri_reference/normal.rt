@@ -124,9 +124,10 @@ impl<'r> URIReference<'r> {
     /// scheme. Where there is no authority and the path's text would begin with two slashes then, a
     /// `.` stands in front, so that it begins with `/.//`. A second call changes nothing.
     ///
-    /// A reference whose text is normal is kept as it is. Else memory is wanted for the texts that
-    /// aren't canonical, and for no other. All of them are copied before one is put in place, so
-    /// where there is no memory, the reference is unchanged.
+    /// A reference whose text is normal is kept as it is. No memory is wanted where each text is
+    /// canonical, whatever dot segments the path has. Else the texts that aren't canonical are
+    /// copied, all of them before one is put in place, so where there is no memory, the reference is
+    /// unchanged.
     ///
     /// ```
     /// let mut reference = URIReference::try_from_str(alloc, "HTTP://H/a/../%7eb")?;

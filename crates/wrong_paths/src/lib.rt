@@ -1,0 +1,57 @@
+//! Promises of paths for which the must-fail edits beside this file put wrong bodies.
+//!
+//! Each function hands on the answer of one call of the library, and its clause follows from that
+//! call's alone. So a body that breaks the clause breaks the library's too: what the prover refuses
+//! here, no body of the library does.
+#![tactic(auto)]
+
+ghost use Rattle.std.specs.Prelude.{◌≡◌, OnOk, true, false, if◌then◌else◌};
+ghost use Rattle.uriparse_text.specs.Readings.{IsUnless};
+ghost use Rattle.uriparse_path.specs.declared.path.error.PathError.TheVariants as errors;
+ghost use Rattle.uriparse_path.specs.Path.{hides_root};
+ghost use Rattle.uriparse_path.specs.Dots.{without_dots};
+ghost use Rattle.uriparse_path.specs.Edits.{shield};
+ghost use Rattle.uriparse_path.specs.Merge.{merging};
+ghost use Rattle.uriparse_path.specs.Normal.{pnormal};
+
+use std::alloc::{AllocError, Global};
+use uriparse_path::parts::{merged_path, normalize_path};
+use uriparse_path::path::{Path, PathError, Segment};
+
+/// Removes the dot segments of a path.
+pub fn remove_dot_segments(path: &mut Path<'_>)
+    ensures { path.new ≡ without_dots path.old }
+{
+    path.remove_dot_segments();
+}
+
+/// Brings a path into its normal form.
+pub fn normalize(alloc: Global, path: &mut Path<'_>, as_reference: bool) -> Result<(), AllocError>
+    ensures { OnOk result (path.new ≡ pnormal path.old as_reference) }
+{
+    path.normalize(alloc, as_reference)
+}
+
+/// Brings a path into its normal form, with a `.` in front of two slashes where no authority stands
+/// before them.
+pub fn normalize_shielded(
+    alloc: Global,
+    path: &mut Path<'_>,
+    shields: bool,
+) -> Result<(), AllocError>
+    requires { shields ≡ true → hides_root path.old.segments ≡ false }
+    ensures { OnOk result (path.new ≡ (if shields then shield (pnormal path.old false) else pnormal path.old false)) }
+{
+    normalize_path(path, alloc, false, shields)
+}
+
+/// Puts the path of a reference behind that of a base.
+pub fn merge<'p>(
+    alloc: Global,
+    base: &'p Path<'_>,
+    reference: &'p Path<'_>,
+) -> Result<Path<'p>, PathError>
+    ensures { IsUnless errors.OutOfMemory result (merging base.now reference.now) }
+{
+    merged_path(alloc, base, reference)
+}
