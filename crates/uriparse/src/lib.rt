@@ -1,7 +1,8 @@
 //! URIs, relative references and URI references: RFC 3986.
 //!
-//! Each part has a module, with its type and its errors, and all of these types and errors stand
-//! here too.
+//! Each part has a module, with its types and its errors. The main ones stand here too; in their
+//! modules alone stand `RegisteredScheme`, `MicrosoftScheme`, `UnregisteredSchemeError`,
+//! `parse_port` and `MAX_SEGMENTS`.
 #![tactic(auto)]
 
 mod builder_of;

@@ -57,9 +57,9 @@ impl Kind for WithoutScheme {
 ///
 /// Its parts borrow the text that it was read from, or own their texts. Two of them are equal where
 /// their hosts, if they have any, are of one kind and the canonical spellings of their texts agree.
-/// Only the list of the path's segments takes memory, and a refused edit leaves it as it was.
-/// [`RelativeReferenceError`] says what is refused. The calls that it shares with URIs are those of
-/// [`ReferenceOf`].
+/// Reading takes memory for the list of the path's segments alone, a copy that owns its texts and a
+/// normal form for texts too. A refused setter leaves it as it was. [`RelativeReferenceError`] says
+/// what is refused. The calls that it shares with URIs are those of [`ReferenceOf`].
 ///
 /// ```
 /// let reference = RelativeReference::try_from_str(alloc, "../a?q")?;
@@ -78,12 +78,12 @@ pub type RelativeReference<'r> = ReferenceOf<'r, WithoutScheme>;
 pub type RelativeReferenceBuilder<'b> = BuilderOf<'b, WithoutScheme>;
 
 impl<'r> RelativeReference<'r> {
-    /// The relative reference of these parts. Behind an authority the path is made absolute, else
-    /// it is the one that its text spells. Takes no memory.
+    /// The relative reference of these parts: RFC 3986, sections 3.3 and 4.2. Behind an authority
+    /// the path is made absolute, else it is the one that its text spells. Takes no memory.
     ///
     /// Refused are, in this order, a path without authority whose text begins with two slashes as
     /// [`AbsolutePathStartsWithTwoSlashes`](RelativeReferenceError::AbsolutePathStartsWithTwoSlashes),
-    /// and one that has a colon in its first segment as
+    /// and one without authority whose text has a colon before any slash as
     /// [`SchemelessPathStartsWithColonSegment`](RelativeReferenceError::SchemelessPathStartsWithColonSegment).
     pub fn from_parts(
         authority: Option<Authority<'r>>,

@@ -58,7 +58,8 @@ impl Kind for WithScheme {
 ///
 /// Its parts borrow the text that it was read from, or own their texts. Two URIs are equal where
 /// their hosts, if they have any, are of one kind and the canonical spellings of their texts agree.
-/// Only the list of the path's segments takes memory, and a refused edit leaves the URI as it was.
+/// Reading takes memory for the list of the path's segments alone, a copy that owns its texts and a
+/// normal form for texts too. A refused setter leaves the URI as it was.
 /// [`URIError`] says what is refused. The calls that it shares with relative references are those
 /// of [`ReferenceOf`].
 ///
@@ -85,8 +86,8 @@ pub type URIBuilder<'b> = BuilderOf<'b, WithScheme>;
 impl<'u> URI<'u> {
     ghost use Rattle.uriparse_reference.specs.Reference.{Valid};
 
-    /// The URI of these parts. Behind an authority the path is made absolute, else it is the one
-    /// that its text spells. Takes no memory.
+    /// The URI of these parts: RFC 3986, sections 3 and 3.3. Behind an authority the path is made
+    /// absolute, else it is the one that its text spells. Takes no memory.
     ///
     /// A path without authority whose text begins with two slashes is refused as
     /// [`AbsolutePathStartsWithTwoSlashes`](URIError::AbsolutePathStartsWithTwoSlashes).
@@ -133,7 +134,8 @@ impl<'u> URI<'u> {
         self.reference.scheme().unwrap()
     }
 
-    /// Whether a reference can be resolved against it: it has no fragment. RFC 3986, section 4.3.
+    /// Whether it is an absolute URI, as a base shall be: it has no fragment. RFC 3986, sections 4.3
+    /// and 5.1. [`resolve`](URI::resolve) takes any URI, and doesn't look at its fragment.
     pub fn can_be_a_base(&self) -> bool
         ensures { result ≡ is_none self.now.fragment }
     {

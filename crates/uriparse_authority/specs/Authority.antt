@@ -156,7 +156,7 @@ whole_reading t = reading (up_to ends_authority t) >>= unless_rest (from_first e
 abbrev pub key : AuthorityParts → List ℕ
 key p = host.kind_code (kind p) ∷ canonical_text p
 
--- whether each part is spelled like the other's, and the hosts are of one kind
+-- Whether each part is spelled like the other's, and the hosts are of one kind: a word of a private function's clause alone.
 abbrev pub each_alike : AuthorityParts → AuthorityParts → Bool
 each_alike p q =
     option_eq (on canonical bytes_eq) p.username q.username

@@ -42,9 +42,9 @@ use username::empty_username;
 ///
 /// A password stands only with a user name, which may be empty; a port is at most 65535, and an
 /// empty one is none. The parts borrow the text that they were read from, or own their texts. Its
-/// readers take no memory; [`AuthorityError`] says what they refuse. A refused edit leaves it as it
-/// was. Two authorities are equal where their hosts are of one kind and their canonical spellings
-/// agree.
+/// readers take no memory; [`AuthorityError`] says what they refuse. Its setters and maps are never
+/// refused; where [`normalize`](Authority::normalize) finds no memory, it is unchanged. Two
+/// authorities are equal where their hosts are of one kind and their canonical spellings agree.
 ///
 /// ```
 /// let authority = Authority::try_from_str("user:@EXAMPLE.com:0080")?;

@@ -46,7 +46,7 @@ closed ended_in_dots (s ∷ ss) =
 abbrev pub has_colon : List ℕ → Bool
 has_colon s = list_any (λ b. b == colon) s
 
--- the new segments can't stand for themselves: an empty one with followers begins them, or one with a colon, as none began the old ones
+-- a "." is needed in front: an empty segment with others behind it comes first, or one with a colon where the old first one had none
 abbrev pub needs_guard : List (List ℕ) → List (List ℕ) → Bool
 needs_guard old new = hides_root new || (is_first has_colon new && not (is_first has_colon old))
 

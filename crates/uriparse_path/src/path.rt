@@ -177,7 +177,8 @@ impl<'p> Path<'p> {
     }
 
     /// Whether normalising the path would keep its text, where it may be the path of a reference
-    /// without a scheme or not. Then it keeps the path, part for part. Takes no memory.
+    /// without a scheme or not: RFC 3986, section 6.2.2. Then it keeps the path, part for part. Takes
+    /// no memory.
     pub fn is_normalized(&self, as_reference: bool) -> bool
         ensures text { IsTrue result ↔ (text (pnormal self.now as_reference) ≡ text self.now) }
         ensures form { IsTrue result → pnormal self.now as_reference ≡ self.now }
@@ -203,11 +204,14 @@ impl<'p> Path<'p> {
         make_relative(&mut self.segments);
     }
 
-    /// Brings the path into its normal form. Each segment gets its canonical spelling. Where the
-    /// path may be that of a reference without a scheme and its text begins with no slash, a single
-    /// dot segment goes, and a segment with the double dot segment behind it; a `.` stands in front
-    /// where the first segment would else be taken for a scheme or a root. Dot segments of other
-    /// paths are removed as by [`remove_dot_segments`](Path::remove_dot_segments).
+    /// Brings the path into its normal form: RFC 3986, sections 4.2 and 6.2.2. Each segment gets its
+    /// canonical spelling. Where the path may be that of a reference without a scheme and its text
+    /// begins with no slash, a single dot segment goes, and a segment with the double dot segment
+    /// behind it; where a dot segment stood last, an empty segment does then, unless nothing or a
+    /// double dot segment is left. So `a/b/..` becomes `a/`, and `../.` becomes `..`. A `.` stands in
+    /// front where the first segment would else be taken for a scheme or a root. Dot segments of
+    /// other paths are removed as by [`remove_dot_segments`](Path::remove_dot_segments). A second
+    /// call changes nothing.
     ///
     /// No memory is wanted where each segment is canonical. Else the segments that aren't are copied
     /// before anything is put in place, so where there is no memory, the path is kept.

@@ -42,6 +42,8 @@ abbrev pub fed_key : List ℕ → HashWrites
 fed_key [] = []
 fed_key (code ∷ t) = fed_pieces code (scheme_text t) (authority_text t) (path_text t) (query_text t) (fragment_text t)
 
+-- ---- part by part: words of the clauses of private functions alone
+
 -- whether scheme, fragment and query are each spelled like the other's
 abbrev pub ends_alike : Parts → Parts → Bool
 ends_alike p q =

@@ -52,7 +52,7 @@ is_normal p =
     && (option_eq bytes_eq (option_map canonical p.query) p.query
     && option_eq bytes_eq (option_map canonical p.fragment) p.fragment)))
 
--- ---- copies that are made before one is put in place
+-- ---- copies that are made before one is put in place: words of the clauses of private functions alone
 
 -- the copies are those of the authority, where there is one
 abbrev pub AreCopiesIf : Option CanonicalCopies → Option authority.AuthorityParts → Type 0

@@ -42,11 +42,12 @@ use print::{write_authority, write_behind, write_scheme};
 
 /// A URI reference, seen as its five parts: a URI or a relative reference. RFC 3986, section 4.1.
 ///
-/// Its parts borrow the text that it was read from, or own their texts; only the list of the path's
-/// segments takes memory. Each value is valid, and what it prints reads back as an equal value, but
-/// where its host is a name that spells an IPv4 address, as none is that was read. Two references
-/// are equal where their hosts, if they have any, are of one kind and the canonical spellings of
-/// their texts agree. Dot segments count.
+/// Its parts borrow the text that it was read from, or own their texts: reading takes memory for the
+/// list of the path's segments alone, a copy that owns its texts and a normal form for texts too.
+/// Each value is valid, and what it prints reads back as an equal value, but where its host is a
+/// name that spells an IPv4 address, as none is that was read. Two references are equal where their
+/// hosts, if they have any, are of one kind and the canonical spellings of their texts agree. Dot
+/// segments count.
 ///
 /// ```
 /// let reference = URIReference::try_from_str(alloc, "//h/%7Ea?q#f")?;
@@ -77,11 +78,15 @@ impl<'r> URIReference<'r> {
     ghost use Rattle.uriparse_reference.specs.Reference.{Parts, Spells, Valid};
     ghost use Rattle.uriparse_reference.specs.declared.uri_reference.error.URIReferenceError.{URIReferenceError};
 
-    /// Reads a reference, whose parts borrow the bytes. Only the list of segments wants memory.
+    /// Reads a reference, whose parts borrow the bytes: RFC 3986, section 4.1. Only the list of
+    /// segments wants memory.
     ///
     /// The first part that has a fault is answered, in the order authority, path, colon rule,
-    /// query, fragment. Where authority and path have none, and there is no memory for the list,
-    /// [`Path`](URIReferenceError::Path) with
+    /// query, fragment. By the colon rule (section 4.2) no colon stands before the path's first
+    /// slash where there is neither scheme nor authority: else
+    /// [`SchemelessPathStartsWithColonSegment`](URIReferenceError::SchemelessPathStartsWithColonSegment)
+    /// is answered. Each other fault stands in the variant of its part. Where authority and path
+    /// have none, and there is no memory for the list, [`Path`](URIReferenceError::Path) with
     /// [`OutOfMemory`](uriparse_path::path::PathError::OutOfMemory) is.
     pub fn try_from_bytes(
         alloc: Global,

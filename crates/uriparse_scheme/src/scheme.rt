@@ -82,7 +82,7 @@ impl<'s> Scheme<'s> {
         Scheme::try_from_bytes(text.as_bytes())
     }
 
-    /// What the registry says of the scheme. Takes no memory.
+    /// What this library's table says of the scheme. Takes no memory.
     pub fn status(&self) -> SchemeStatus
         ensures { result ≡ spec.status self.now }
     {

@@ -1,4 +1,4 @@
-//! Each name of `uriparse`, taken from its root and from its module, as a user writes it.
+//! Each name of `uriparse` that users write, taken from its root and from its module.
 
 pub mod from_root {
     pub use uriparse::{

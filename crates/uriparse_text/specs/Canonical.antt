@@ -29,7 +29,7 @@ canonical_token case (Escape high low) =
     then Byte (in_case case (escaped_byte high low))
     else Escape (to_ascii_uppercase high) (to_ascii_uppercase low)
 
--- the byte begins an escape, or another one stands for it in a canonical spelling
+-- The byte begins an escape, or another one stands for it in a canonical spelling: a word of private functions' clauses alone.
 abbrev pub may_change : Case → ℕ → Bool
 may_change case b = b == percent || not (in_case case b == b)
 

@@ -31,7 +31,7 @@ first_byte (Escape high low) = percent
 unfoldable pub fault : Class → List ℕ → Option ℕ
 fault class text = option_map first_byte (find (λ t. not (allows class t)) (tokens text))
 
--- ---- byte by byte, for a walk that passes over no digit
+-- ---- byte by byte, for a walk that passes over no digit: words of the clauses of private functions alone
 
 -- a byte of the class or an escape begins the text, or it is empty
 abbrev pub begins_fine : Class → List ℕ → Bool

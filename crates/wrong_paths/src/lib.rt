@@ -5,10 +5,11 @@
 //! here, no body of the library does.
 #![tactic(auto)]
 
-ghost use Rattle.std.specs.Prelude.{◌≡◌, OnOk, true, false, if◌then◌else◌};
+ghost use Rattle.std.specs.Prelude.{◌≡◌, OnOk, true, false, if◌then◌else◌, bytes_eq};
+ghost use Rattle.uriparse_text.specs.Canonical.{canonical};
 ghost use Rattle.uriparse_text.specs.Readings.{IsUnless};
 ghost use Rattle.uriparse_path.specs.declared.path.error.PathError.TheVariants as errors;
-ghost use Rattle.uriparse_path.specs.Path.{hides_root};
+ghost use Rattle.uriparse_path.specs.Path.{hides_root, text};
 ghost use Rattle.uriparse_path.specs.Dots.{without_dots};
 ghost use Rattle.uriparse_path.specs.Edits.{shield};
 ghost use Rattle.uriparse_path.specs.Merge.{merging};
@@ -17,6 +18,13 @@ ghost use Rattle.uriparse_path.specs.Normal.{pnormal};
 use std::alloc::{AllocError, Global};
 use uriparse_path::parts::{merged_path, normalize_path};
 use uriparse_path::path::{Path, PathError, Segment};
+
+/// Whether two paths are equal, so that their texts have one canonical spelling.
+pub fn same_path(left: &Path<'_>, right: &Path<'_>) -> bool
+    ensures { result ≡ bytes_eq (canonical (text left.now)) (canonical (text right.now)) }
+{
+    left == right
+}
 
 /// Removes the dot segments of a path.
 pub fn remove_dot_segments(path: &mut Path<'_>)

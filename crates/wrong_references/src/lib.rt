@@ -1,16 +1,15 @@
-//! Promises of `URIReference` and of paths for which the must-fail edits beside this file put wrong
-//! bodies.
+//! Promises of `URIReference`, of schemes and of dot segments for which the must-fail edits beside
+//! this file put wrong bodies.
 //!
 //! Each function hands on the answer of one call of the library, by its cases where a wrong body
 //! changes one of them, and its clause follows from that call's alone. So a body that breaks the
 //! clause breaks the library's too: what the prover refuses here, no body of the library does.
 #![tactic(auto)]
 
-ghost use Rattle.std.specs.Prelude.{◌≡◌, IfOk, MatchResult, None, OnOk, Some, bytes_eq, length};
-ghost use Rattle.uriparse_text.specs.Canonical.{canonical};
+ghost use Rattle.std.specs.Prelude.{◌≡◌, IfOk, MatchResult, None, OnOk, Some, length};
 ghost use Rattle.uriparse_text.specs.Readings.{Settles};
 ghost use Rattle.uriparse_path.specs.Dots as dots;
-ghost use Rattle.uriparse_path.specs.Path.{text};
+ghost use Rattle.uriparse_scheme.specs.Scheme as schemes;
 ghost use Rattle.uriparse_reference.specs.Edits.{Run, edited, of_parts};
 ghost use Rattle.uriparse_reference.specs.declared.uri_reference.edit.Edit.TheVariants as edits;
 ghost use Rattle.uriparse_reference.specs.Normal.{normal};
@@ -20,9 +19,16 @@ use std::alloc::{AllocError, Global};
 use uriparse_authority::authority::Authority;
 use uriparse_path::path::{Path, Segment};
 use uriparse_reference::uri_reference::{Edit, URIReference, URIReferenceError};
-use uriparse_scheme::scheme::Scheme;
+use uriparse_scheme::scheme::{Scheme, SchemeError};
 use uriparse_text::fragment::Fragment;
 use uriparse_text::query::Query;
+
+/// Reads a scheme, which is looked up in the table of registered ones.
+pub fn read_scheme(bytes: &[u8]) -> Result<Scheme<'_>, SchemeError>
+    ensures { result ≡ schemes.reading bytes.now }
+{
+    Scheme::try_from_bytes(bytes)
+}
 
 /// Reads a reference: what is read is what the grammar spells.
 pub fn read(alloc: Global, bytes: &[u8]) -> Result<URIReference<'_>, URIReferenceError>
@@ -76,13 +82,6 @@ pub fn normalize(alloc: Global, reference: &mut URIReference<'_>) -> Result<(), 
     ensures { OnOk result (reference.new ≡ normal reference.old) }
 {
     reference.normalize(alloc)
-}
-
-/// Whether two paths are equal, so that their texts have one canonical spelling.
-pub fn same_path(left: &Path<'_>, right: &Path<'_>) -> bool
-    ensures { result ≡ bytes_eq (canonical (text left.now)) (canonical (text right.now)) }
-{
-    left == right
 }
 
 /// Whether a segment is `..`, where each dot may be escaped.

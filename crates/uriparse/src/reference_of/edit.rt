@@ -23,7 +23,7 @@ impl<'r, K: Kind> ReferenceOf<'r, K> {
 
     /// Sets the path: behind an authority made absolute, else the one that its text spells. Without
     /// an authority, a path whose text begins with two slashes is refused, and without a scheme too
-    /// one that has a colon in its first segment; the value is then unchanged. Takes no memory.
+    /// one whose text has a colon before any slash; the value is then unchanged. Takes no memory.
     pub fn set_path(&mut self, path: Path<'r>) -> Result<(), K::Error>
         ensures { Settles self.old self.new result (told_of K.told (edited self.old (edits.Path path.entry))) }
     {
@@ -44,7 +44,9 @@ impl<'r, K: Kind> ReferenceOf<'r, K> {
         told::<K, _>(self.reference.set_fragment(fragment))
     }
 
-    /// Sets what the closure makes of the authority. A refusal consumes the value.
+    /// Sets what the closure makes of the authority, as
+    /// [`set_authority`](ReferenceOf::set_authority) does, but that a refusal consumes the value.
+    /// Takes no memory of its own.
     pub fn map_authority<F>(self, make: F) -> Result<ReferenceOf<'r, K>, K::Error>
     where
         F: FnOnce(Option<Authority<'r>>) -> Option<Authority<'r>>,
@@ -57,7 +59,8 @@ impl<'r, K: Kind> ReferenceOf<'r, K> {
         }
     }
 
-    /// Sets what the closure makes of the path. A refusal consumes the value.
+    /// Sets what the closure makes of the path, as [`set_path`](ReferenceOf::set_path) does, but
+    /// that a refusal consumes the value. Takes no memory of its own.
     pub fn map_path<F>(self, make: F) -> Result<ReferenceOf<'r, K>, K::Error>
     where
         F: FnOnce(Path<'r>) -> Path<'r>,
@@ -70,7 +73,8 @@ impl<'r, K: Kind> ReferenceOf<'r, K> {
         }
     }
 
-    /// Sets what the closure makes of the query.
+    /// Sets what the closure makes of the query. It is never refused, and takes no memory of its
+    /// own.
     pub fn map_query<F>(self, make: F) -> Result<ReferenceOf<'r, K>, K::Error>
     where
         F: FnOnce(Option<Query<'r>>) -> Option<Query<'r>>,
@@ -83,7 +87,8 @@ impl<'r, K: Kind> ReferenceOf<'r, K> {
         }
     }
 
-    /// Sets what the closure makes of the fragment.
+    /// Sets what the closure makes of the fragment. It is never refused, and takes no memory of its
+    /// own.
     pub fn map_fragment<F>(self, make: F) -> Result<ReferenceOf<'r, K>, K::Error>
     where
         F: FnOnce(Option<Fragment<'r>>) -> Option<Fragment<'r>>,

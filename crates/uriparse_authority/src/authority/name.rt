@@ -15,7 +15,7 @@ use std::fmt;
 use std::hash::{Hash, Hasher};
 use std::marker::Model;
 use uriparse_text::address::Ipv4Addr;
-use uriparse_text::parts::{Case, Class, Kind, Text};
+use uriparse_text::parts::{Case, Class, Kind, Text, normalized_text};
 
 /// The kind of text that a name is.
 struct NameKind;
@@ -143,8 +143,8 @@ impl<'n> RegisteredName<'n> {
         self.text.to_string(alloc)
     }
 
-    /// Whether the name is its own canonical spelling, in which letters are lower case. Takes no
-    /// memory.
+    /// Whether the name is its own canonical spelling, in which letters are lower case: RFC 3986,
+    /// sections 6.2.2.1 and 6.2.2.2. Takes no memory.
     pub fn is_normalized(&self) -> bool
         ensures { IsTrue result ↔ (canonical_lowered self.now ≡ self.now) }
     {
@@ -156,7 +156,7 @@ impl<'n> RegisteredName<'n> {
         ensures { IfOk result (λ n. n ≡ canonical_lowered self.now) }
     {
         Ok(RegisteredName {
-            text: self.text.to_normalized(alloc)?,
+            text: normalized_text(alloc, &self.text)?,
         })
     }
 

@@ -5,7 +5,7 @@ ghost use Rattle.uriparse_text.specs.declared.parts.canonical.Case.TheVariants a
 ghost use Rattle.uriparse_authority.specs.Username as spec;
 
 use super::error::UsernameError;
-use uriparse_text::parts::{Case, Class, Kind, Text};
+use uriparse_text::parts::{Case, Class, Kind, Text, checked_text};
 
 /// The kind of text that a user name is.
 pub struct UsernameKind;
@@ -63,5 +63,5 @@ pub type Username<'u> = Text<'u, UsernameKind>;
 pub(super) fn empty_username() -> Username<'static>
     ensures { result ≡ [] }
 {
-    Text::of_checked(b"")
+    checked_text(b"")
 }

@@ -18,7 +18,7 @@ pub enum PathError {
     /// A `%` without two hexadecimal digits behind it.
     #[error("invalid path percent encoding")]
     InvalidPercentEncoding,
-    /// No memory was found for the list of segments.
+    /// No memory was found: for the list of segments or, in a list of edits, for a normal form.
     #[error("out of memory")]
     OutOfMemory,
 }

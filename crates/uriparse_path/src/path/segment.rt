@@ -17,7 +17,7 @@ use std::alloc::{AllocError, Global};
 use std::fmt;
 use std::hash::{Hash, Hasher};
 use std::marker::Model;
-use uriparse_text::parts::{Case, Class, Kind, Text};
+use uriparse_text::parts::{Case, Class, Kind, Text, checked_text, normalized_text};
 
 /// The refusal of a segment whose leftmost fault stands at this byte.
 pub(super) fn fault_at(byte: u8) -> PathError
@@ -117,7 +117,7 @@ impl<'s> Segment<'s> {
         ensures { result ≡ bytes.now }
     {
         Segment {
-            text: Text::of_checked(bytes),
+            text: checked_text(bytes),
         }
     }
 
@@ -221,7 +221,7 @@ impl<'s> Segment<'s> {
         self.as_bytes().contains(&b':')
     }
 
-    /// Whether the segment is its own canonical spelling.
+    /// Whether the segment is its own canonical spelling: RFC 3986, sections 6.2.2.1 and 6.2.2.2.
     pub fn is_normalized(&self) -> bool
         ensures { IsTrue result ↔ (canonical self.now ≡ self.now) }
     {
@@ -233,12 +233,12 @@ impl<'s> Segment<'s> {
         ensures { IfOk result (λ s. s ≡ canonical self.now) }
     {
         Ok(Segment {
-            text: self.text.to_normalized(alloc)?,
+            text: normalized_text(alloc, &self.text)?,
         })
     }
 
-    /// Puts the canonical spelling in the segment's place. Takes memory only where they differ;
-    /// where there is none, the segment is kept.
+    /// Puts the canonical spelling in the segment's place; it is its own canonical spelling. Takes
+    /// memory only where they differ; where there is none, the segment is kept.
     pub fn normalize(&mut self, alloc: Global) -> Result<(), AllocError>
         ensures ok { OnOk result (self.new ≡ canonical self.old) }
         ensures err { OnErr result (self.new ≡ self.old) }

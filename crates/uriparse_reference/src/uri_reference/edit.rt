@@ -98,11 +98,13 @@ impl<'r> URIReference<'r> {
     ghost use Rattle.uriparse_reference.specs.Normal.{normal};
     ghost use Rattle.uriparse_reference.specs.declared.uri_reference.edit.Edit.TheVariants as edits;
 
-    /// The reference of these parts. Behind an authority the path is made absolute, else it is the
-    /// one that its text spells.
+    /// The reference of these parts: RFC 3986, sections 3.3 and 4.2. Behind an authority the path is
+    /// made absolute, else it is the one that its text spells. Takes no memory.
     ///
-    /// Refused are, in this order, a path without authority whose text begins with two slashes, and
-    /// one without scheme and authority that has a colon in its first segment. Takes no memory.
+    /// Refused are, in this order, a path without authority whose text begins with two slashes as
+    /// [`AbsolutePathStartsWithTwoSlashes`](URIReferenceError::AbsolutePathStartsWithTwoSlashes),
+    /// and one without scheme and authority whose text has a colon before any slash as
+    /// [`SchemelessPathStartsWithColonSegment`](URIReferenceError::SchemelessPathStartsWithColonSegment).
     pub fn from_parts(
         scheme: Option<Scheme<'r>>,
         authority: Option<Authority<'r>>,
@@ -152,8 +154,9 @@ impl<'r> URIReference<'r> {
         )
     }
 
-    /// Sets the scheme. Without one, a path without authority that has a colon in its first segment
-    /// is refused, and the reference is unchanged. Takes no memory.
+    /// Sets the scheme. Without one, a path without authority whose text has a colon before any
+    /// slash is refused as [`from_parts`](URIReference::from_parts) refuses it, and the reference is
+    /// unchanged. Takes no memory.
     pub fn set_scheme(&mut self, scheme: Option<Scheme<'r>>) -> Result<(), URIReferenceError>
         ensures { Settles self.old self.new result (edited self.old (edits.Scheme scheme.entry)) }
     {
@@ -283,7 +286,8 @@ impl<'r> URIReference<'r> {
         Ok(())
     }
 
-    /// Sets what the closure makes of the scheme. A refusal consumes the reference.
+    /// Sets what the closure makes of the scheme, as [`set_scheme`](URIReference::set_scheme) does,
+    /// but that a refusal consumes the reference. Takes no memory of its own.
     pub fn map_scheme<F>(self, make: F) -> Result<URIReference<'r>, URIReferenceError>
     where
         F: FnOnce(Option<Scheme<'r>>) -> Option<Scheme<'r>>,
@@ -294,7 +298,9 @@ impl<'r> URIReference<'r> {
         URIReference::from_parts(make(scheme), authority, path, query, fragment)
     }
 
-    /// Sets what the closure makes of the authority. A refusal consumes the reference.
+    /// Sets what the closure makes of the authority, as
+    /// [`set_authority`](URIReference::set_authority) does, but that a refusal consumes the
+    /// reference. Takes no memory of its own.
     pub fn map_authority<F>(self, make: F) -> Result<URIReference<'r>, URIReferenceError>
     where
         F: FnOnce(Option<Authority<'r>>) -> Option<Authority<'r>>,
@@ -305,7 +311,8 @@ impl<'r> URIReference<'r> {
         URIReference::from_parts(scheme, make(authority), path, query, fragment)
     }
 
-    /// Sets what the closure makes of the path. A refusal consumes the reference.
+    /// Sets what the closure makes of the path, as [`set_path`](URIReference::set_path) does, but
+    /// that a refusal consumes the reference. Takes no memory of its own.
     pub fn map_path<F>(self, make: F) -> Result<URIReference<'r>, URIReferenceError>
     where
         F: FnOnce(Path<'r>) -> Path<'r>,
@@ -316,7 +323,8 @@ impl<'r> URIReference<'r> {
         URIReference::from_parts(scheme, authority, make(path), query, fragment)
     }
 
-    /// Sets what the closure makes of the query.
+    /// Sets what the closure makes of the query. It is never refused, and takes no memory of its
+    /// own.
     pub fn map_query<F>(self, make: F) -> Result<URIReference<'r>, URIReferenceError>
     where
         F: FnOnce(Option<Query<'r>>) -> Option<Query<'r>>,
@@ -329,7 +337,8 @@ impl<'r> URIReference<'r> {
         answer.and(Ok(reference))
     }
 
-    /// Sets what the closure makes of the fragment.
+    /// Sets what the closure makes of the fragment. It is never refused, and takes no memory of its
+    /// own.
     pub fn map_fragment<F>(self, make: F) -> Result<URIReference<'r>, URIReferenceError>
     where
         F: FnOnce(Option<Fragment<'r>>) -> Option<Fragment<'r>>,

@@ -21,12 +21,16 @@ pub enum URIReferenceError {
     /// A builder was given no path. Reading never answers it.
     #[error("URI reference missing path")]
     MissingPath,
+    /// The authority's fault.
     #[error(transparent)]
     Authority(AuthorityError),
+    /// The path's fault, or want of memory.
     #[error(transparent)]
     Path(PathError),
+    /// The query's fault.
     #[error(transparent)]
     Query(QueryError),
+    /// The fragment's fault.
     #[error(transparent)]
     Fragment(FragmentError),
     /// Reading never answers it: a text that begins with no scheme has none.

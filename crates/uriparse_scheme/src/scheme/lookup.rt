@@ -25,7 +25,7 @@ impl RegisteredScheme {
         row_of(self).0
     }
 
-    /// What the registry says of the scheme. Takes no memory.
+    /// What this library's table says of the scheme. Takes no memory.
     pub fn status(self) -> SchemeStatus
         ensures { result ≡ spec.status_of self }
     {

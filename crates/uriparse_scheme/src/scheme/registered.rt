@@ -2,7 +2,7 @@
 
 use super::microsoft::MicrosoftScheme;
 
-/// A registered scheme: RFC 3986, section 3.1, and the registry that it speaks of.
+/// A scheme of this library's table: RFC 3986, section 3.1, which speaks of a registry.
 ///
 /// It is copied freely and takes no memory. [`Scheme`](super::Scheme) has a constant for each of
 /// them. Two are equal where they have one name.

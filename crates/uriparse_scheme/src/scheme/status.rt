@@ -2,7 +2,7 @@
 ghost use Rattle.std.specs.Prelude.{◌≡◌, ◌↔◌, IsTrue};
 ghost use Rattle.uriparse_scheme.specs.declared.scheme.status.SchemeStatus.TheVariants as status;
 
-/// What the registry says of a scheme.
+/// What this library's table of registered schemes says of a scheme.
 #[derive(Clone, Copy, Debug, PartialEq, Eq, Hash)]
 pub enum SchemeStatus {
     /// It was used once.

@@ -1,10 +1,35 @@
-//! Canonical copies of parts, made before any of them is put in place.
+//! Copies of parts that may be absent: those that borrow, those that own their texts, and canonical
+//! ones, which are made before any of them is put in place.
 ghost use Rattle.std.specs.Prelude.{◌≡◌, IfOk, IsOk, bytes_eq};
-ghost use Rattle.std.specs.Option.{option_eq, option_map, option_or};
+ghost use Rattle.std.specs.Option.{option_eq, option_copied, option_map, option_or};
 ghost use Rattle.uriparse_text.specs.Canonical.{canonical_in};
 
-use super::text::{Kind, Text};
+use super::text::{Kind, Text, normalized_text};
 use std::alloc::{AllocError, Global};
+
+/// The same text, if there is one, which borrows this one. Takes no memory.
+pub fn borrowed_text<'r, K: Kind>(text: Option<&'r Text<'_, K>>) -> Option<Text<'r, K>>
+    ensures { result ≡ option_copied text.entry }
+{
+    match text {
+        Some(text) => Some(text.as_borrowed()),
+        None => None,
+    }
+}
+
+/// The same text, if there is one, which owns its bytes. Borrowed bytes are copied, which wants
+/// memory; where there is none, the text is gone.
+pub fn owned_text<K: Kind>(
+    alloc: Global,
+    text: Option<Text<'_, K>>,
+) -> Result<Option<Text<'static, K>>, AllocError>
+    ensures { IfOk result (λ t. t ≡ text.entry) }
+{
+    match text {
+        Some(text) => Ok(Some(text.into_owned(alloc)?)),
+        None => Ok(None),
+    }
+}
 
 /// A copy in canonical spelling of a part that is there and isn't canonical, or none. Wants memory
 /// for such a part alone.
@@ -20,7 +45,7 @@ pub fn canonical_copy<K: Kind>(
             if text.is_normalized() {
                 return Ok(None);
             }
-            Ok(Some(text.to_normalized(alloc)?))
+            Ok(Some(normalized_text(alloc, text)?))
         }
         None => Ok(None),
     }

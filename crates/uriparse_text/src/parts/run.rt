@@ -7,7 +7,7 @@ use super::canonical::Case;
 use super::scan::{ByteTest, Is, by_high, by_low, first};
 use std::simd::prelude::*;
 
-/// The byte may not stay as it is in a canonical spelling.
+/// The byte may change in a canonical spelling.
 #[derive(Clone, Copy, Debug)]
 struct MayChange(Case);
 

@@ -78,18 +78,32 @@ impl<'t, K: Kind> Model for Text<'t, K> {
     ghost invariant = { λ t. IsIn K.class (cow_str_bytes t.text) };
 }
 
-impl<'t, K: Kind> Text<'t, K> {
-    /// The text of bytes that are known to be in the class. It borrows them.
-    pub fn of_checked(bytes: &'t [u8]) -> Text<'t, K>
-        requires { IsIn K.class bytes.now }
-        ensures { result ≡ bytes.now }
-    {
-        Text {
-            text: CowStr::Borrowed(text_in(K::class(), bytes)),
-            kind: PhantomData,
-        }
+/// The text of bytes that are known to be in the kind's class. It borrows them. Takes no memory.
+pub fn checked_text<K: Kind>(bytes: &[u8]) -> Text<'_, K>
+    requires { IsIn K.class bytes.now }
+    ensures { result ≡ bytes.now }
+{
+    Text {
+        text: CowStr::Borrowed(text_in(K::class(), bytes)),
+        kind: PhantomData,
     }
+}
 
+/// A text that owns the canonical spelling of this one. Wants memory.
+pub fn normalized_text<K: Kind>(
+    alloc: Global,
+    text: &Text<'_, K>,
+) -> Result<Text<'static, K>, AllocError>
+    ensures { IfOk result (λ t. t ≡ canonical_in K.case text.now) }
+{
+    let bytes = canonical_bytes(alloc, K::case(), text.as_bytes())?;
+    Ok(Text {
+        text: CowStr::Owned(unsafe { String::from_utf8_unchecked(bytes) }),
+        kind: PhantomData,
+    })
+}
+
+impl<'t, K: Kind> Text<'t, K> {
     /// Reads a text of this kind, which borrows the bytes. Takes no memory, and walks them once.
     ///
     /// The leftmost fault is refused, as the kind's error names it: a `%` without two hexadecimal
@@ -99,7 +113,7 @@ impl<'t, K: Kind> Text<'t, K> {
     {
         match fault_of(K::class(), bytes) {
             Some(byte) => Err(K::error_of(byte)),
-            None => Ok(Text::of_checked(bytes)),
+            None => Ok(checked_text(bytes)),
         }
     }
 
@@ -162,17 +176,6 @@ impl<'t, K: Kind> Text<'t, K> {
         is_canonical(K::case(), self.as_bytes())
     }
 
-    /// A text that owns the canonical spelling of this one. Wants memory.
-    pub fn to_normalized(&self, alloc: Global) -> Result<Text<'static, K>, AllocError>
-        ensures { IfOk result (λ t. t ≡ canonical_in K.case self.now) }
-    {
-        let bytes = canonical_bytes(alloc, K::case(), self.as_bytes())?;
-        Ok(Text {
-            text: CowStr::Owned(unsafe { String::from_utf8_unchecked(bytes) }),
-            kind: PhantomData,
-        })
-    }
-
     /// Puts the canonical spelling in the text's place; it is its own canonical spelling. Memory is
     /// wanted only where they differ, room for the text once; where there is none, the text is
     /// kept.
@@ -184,7 +187,7 @@ impl<'t, K: Kind> Text<'t, K> {
         if self.is_normalized() {
             return Ok(());
         }
-        *self = self.to_normalized(alloc)?;
+        *self = normalized_text(alloc, self)?;
         Ok(())
     }
 
@@ -251,30 +254,6 @@ pub fn read_text_if<'t, K: Kind>(text: Option<&'t [u8]>) -> Result<Option<Text<'
 {
     match text {
         Some(text) => Ok(Some(Text::try_from_bytes(text)?)),
-        None => Ok(None),
-    }
-}
-
-/// The same text, if there is one, which borrows this one. Takes no memory.
-pub fn borrowed_text<'r, K: Kind>(text: Option<&'r Text<'_, K>>) -> Option<Text<'r, K>>
-    ensures { result ≡ option_copied text.entry }
-{
-    match text {
-        Some(text) => Some(text.as_borrowed()),
-        None => None,
-    }
-}
-
-/// The same text, if there is one, which owns its bytes. Borrowed bytes are copied, which wants
-/// memory; where there is none, the text is gone.
-pub fn owned_text<K: Kind>(
-    alloc: Global,
-    text: Option<Text<'_, K>>,
-) -> Result<Option<Text<'static, K>>, AllocError>
-    ensures { IfOk result (λ t. t ≡ text.entry) }
-{
-    match text {
-        Some(text) => Ok(Some(text.into_owned(alloc)?)),
         None => Ok(None),
     }
 }

@@ -2,6 +2,6 @@ use Rattle.std.proofs.Common.{refl}
 use Rattle.uriparse_text.specs.Tokens.{tokens}
 use Rattle.uriparse_authority.proofs.authority.username.empty_username.Goals as goal
 
-pub of_checked-requires : goal.of_checked-requires
+pub checked_text-requires : goal.checked_text-requires
 unfolding tokens
-of_checked-requires c = refl
+checked_text-requires c = refl
