@@ -10,7 +10,7 @@ ghost use Rattle.uriparse_reference.specs.declared.uri_reference.error.URIRefere
 ghost use Rattle.uriparse_reference.specs.Key.{fed, fed_key, key};
 ghost use Rattle.uriparse_reference.specs.Reading.{early_fault};
 ghost use Rattle.uriparse_reference.specs.Reference.{print};
-ghost use Rattle.uriparse.specs.Kinds.{IsOfKind, fault_of, of_kind, reading_of};
+ghost use Rattle.uriparse.specs.Kinds.{IsOfKind, fault_of, of_kind, reading_of, told_of};
 
 use crate::builder_of::BuilderOf;
 use crate::kind::Kind;
@@ -18,7 +18,7 @@ use std::alloc::{AllocError, Global};
 use std::fmt;
 use std::hash::{Hash, Hasher};
 use std::marker::{Model, PhantomData};
-use uriparse_reference::uri_reference::URIReference;
+use uriparse_reference::uri_reference::{URIReference, URIReferenceError};
 
 mod access;
 mod edit;
@@ -60,6 +60,19 @@ impl<'r, K: Kind> ReferenceOf<'r, K> {
         ReferenceOf {
             reference,
             kind: PhantomData,
+        }
+    }
+
+    /// The same answer, its reference known to be one of this kind, its refusal told as the kind's.
+    pub(crate) fn told_checked(
+        answer: Result<URIReference<'r>, URIReferenceError>,
+    ) -> Result<ReferenceOf<'r, K>, K::Error>
+        requires { IfOk answer (λ r. IsOfKind K.has_scheme r) }
+        ensures { result ≡ told_of K.told answer.entry }
+    {
+        match answer {
+            Ok(reference) => Ok(ReferenceOf::of_checked(reference)),
+            Err(error) => Err(K::told(error)),
         }
     }
 

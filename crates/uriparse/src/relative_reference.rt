@@ -93,10 +93,8 @@ impl<'r> RelativeReference<'r> {
     ) -> Result<RelativeReference<'r>, RelativeReferenceError>
         ensures { result ≡ told_of spec.told (of_parts (record { scheme = None; authority = authority.entry; path = path.entry; query = query.entry; fragment = fragment.entry })) }
     {
-        match URIReference::from_parts(None, authority, path, query, fragment) {
-            Ok(reference) => Ok(ReferenceOf::of_checked(reference)),
-            Err(error) => Err(WithoutScheme::told(error)),
-        }
+        let answer = URIReference::from_parts(None, authority, path, query, fragment);
+        ReferenceOf::told_checked(answer)
     }
 
     /// The authority, the path, the query and the fragment. Takes no memory.

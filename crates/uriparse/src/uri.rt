@@ -100,10 +100,8 @@ impl<'u> URI<'u> {
     ) -> Result<URI<'u>, URIError>
         ensures { result ≡ told_of spec.told (of_parts (record { scheme = Some scheme.entry; authority = authority.entry; path = path.entry; query = query.entry; fragment = fragment.entry })) }
     {
-        match URIReference::from_parts(Some(scheme), authority, path, query, fragment) {
-            Ok(reference) => Ok(ReferenceOf::of_checked(reference)),
-            Err(error) => Err(WithScheme::told(error)),
-        }
+        let answer = URIReference::from_parts(Some(scheme), authority, path, query, fragment);
+        ReferenceOf::told_checked(answer)
     }
 
     /// The scheme, the authority, the path, the query and the fragment. Takes no memory.

@@ -62,9 +62,13 @@ abbrev pub hides_root : List (List ℕ) → Bool
 hides_root ([] ∷ _ ∷ _) = true
 hides_root _ = false
 
+-- a relative path that begins with an empty segment and goes on: its text begins with a slash all the same
+abbrev pub has_hidden_root : PathParts → Bool
+has_hidden_root p = not p.absolute && hides_root p.segments
+
 -- the path that the text of a path spells: the same one, but for a relative one whose text begins with a slash
 abbrev pub respelled : PathParts → PathParts
-respelled p = if not p.absolute && hides_root p.segments then record { absolute = true; segments = drop 1 p.segments } else p
+respelled p = if has_hidden_root p then record { absolute = true; segments = drop 1 p.segments } else p
 
 -- the text is that of a path: it is split into one segment at least and so many at most
 abbrev pub IsPath : List ℕ → Type 0

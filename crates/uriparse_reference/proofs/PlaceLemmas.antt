@@ -6,7 +6,7 @@ use Rattle.std.proofs.lemmas.Bool.{false≢true, and_parts, and_from, not-true}
 use Rattle.uriparse_text.specs.Bytes.{dot, slash, colon}
 use Rattle.uriparse_text.specs.Cuts.{lacks, up_to}
 use Rattle.uriparse_text.proofs.CutLemmas.{up_to-append}
-use Rattle.uriparse_path.specs.Path.{PathParts, IsListed, max_segments, text, is_slash, is_rooted, hides_root, respelled, has_two_slashes}
+use Rattle.uriparse_path.specs.Path.{PathParts, IsListed, max_segments, text, is_slash, is_rooted, hides_root, has_hidden_root, respelled, has_two_slashes}
 use Rattle.uriparse_path.specs.Relative.{is_first, has_colon}
 use Rattle.uriparse_path.specs.Normal.{stays_relative, pnormal}
 use Rattle.uriparse_path.proofs.SplitLemmas.{joined-behind}
@@ -23,7 +23,6 @@ use Rattle.uriparse_scheme.specs.Scheme as scheme
 use Rattle.uriparse_text.specs.Query.{IsQuery}
 use Rattle.uriparse_text.specs.Fragment.{IsFragment}
 use Rattle.uriparse_reference.specs.declared.uri_reference.error.URIReferenceError.TheVariants as errors
-use Rattle.uriparse_reference.specs.Reference as reference
 use Rattle.uriparse_reference.specs.Reference.{Parts, is_noscheme, path_refusal, Valid}
 use Rattle.uriparse_path.specs.Edits.{dotted}
 use Rattle.uriparse_reference.specs.Normal.{shielded}
@@ -90,10 +89,10 @@ noscheme-text (s ∷ ss) is =
 
 -- ---- the path of a valid reference
 
-plain_formed : (p : PathParts) → reference.hides_root p ≡ false → respelled p ≡ p
+plain_formed : (p : PathParts) → has_hidden_root p ≡ false → respelled p ≡ p
 plain_formed p h = ap (λ w. cond w (make true (drop 1 p.segments)) p) h
 
-formed_plain : (p : PathParts) → respelled p ≡ p → reference.hides_root p ≡ false
+formed_plain : (p : PathParts) → respelled p ≡ p → has_hidden_root p ≡ false
 formed_plain p h = by_flag p.absolute (formed_shown p h)
   where
     by_flag : (a : Bool) → (a ≡ false → hides_root p.segments ≡ false) → (not a && hides_root p.segments) ≡ false

@@ -13,12 +13,12 @@ use Rattle.uriparse_authority.proofs.AuthorityLemmas as authorities
 use Rattle.uriparse_scheme.specs.declared.scheme.Scheme.{Scheme}
 use Rattle.uriparse_scheme.specs.Scheme as scheme
 use Rattle.uriparse_scheme.proofs.SchemeLemmas as schemes
-use Rattle.uriparse_reference.specs.Reference.{Parts, is_abempty, path_refusal, path_of, hides_root, Spells, Valid, ReadsBack, Same, print}
+use Rattle.uriparse_reference.specs.Reference.{Parts, is_abempty, path_refusal, path_of, Spells, Valid, ReadsBack, Same, print}
 use Rattle.uriparse_reference.proofs.ReferenceLemmas.{scheme_back, authority_back}
 
 -- ---- what a valid reference's path is, told by its text
 
-pub same_path : (h : PathParts) → IsListed h.segments → hides_root h ≡ false → path.spelled (path.text h) ≡ h
+pub same_path : (h : PathParts) → IsListed h.segments → path.has_hidden_root h ≡ false → path.spelled (path.text h) ≡ h
 same_path h is plain = spelled-text h is ∙ ap (λ v. cond {A = PathParts} v (record { absolute = true; segments = drop 1 h.segments }) h) plain
 
 -- the path is the one that its text stands for, and the text is that of a path
@@ -84,10 +84,10 @@ back p v r =
 -- ---- what is spelled is valid
 
 -- the path that a text stands for hides no slash
-pub plain_spelled : (h : List ℕ) → IsPath h → hides_root (path.spelled h) ≡ false
-plain_spelled h is = by_flag (hides_root (path.spelled h)) refl (sym (spelled-text (path.spelled h) is) ∙ ap path.spelled (text-spelled h))
+pub plain_spelled : (h : List ℕ) → IsPath h → path.has_hidden_root (path.spelled h) ≡ false
+plain_spelled h is = by_flag (path.has_hidden_root (path.spelled h)) refl (sym (spelled-text (path.spelled h) is) ∙ ap path.spelled (text-spelled h))
   where
-    by_flag : (v : Bool) → hides_root (path.spelled h) ≡ v
+    by_flag : (v : Bool) → path.has_hidden_root (path.spelled h) ≡ v
         → cond {A = PathParts} v (record { absolute = true; segments = drop 1 (path.spelled h).segments }) (path.spelled h) ≡ path.spelled h → v ≡ false
     by_flag false e k = refl
     by_flag true e k = absurd (false≢true (sym (ap (λ b. not b && path.hides_root (path.spelled h).segments) (sym (ap (λ q. q.absolute) k))) ∙ e))
@@ -108,7 +108,7 @@ authority_valid (Some t) (Some a) h = (authorities.valid t a h, refl)
 pub record HasPlace (v w : Bool) (h : PathParts) : Type 0 where
   pub is_path : IsListed h.segments
   pub absolute : w ≡ true → h.absolute ≡ true
-  pub plain : hides_root h ≡ false
+  pub plain : path.has_hidden_root h ≡ false
   pub fit : path_refusal v w (path.text h) ≡ None
 
 pub placed_text : (v w : Bool) (h : List ℕ) → IsPath h → path_refusal v w h ≡ None → HasPlace v w (path_of w h)

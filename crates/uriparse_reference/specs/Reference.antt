@@ -93,17 +93,13 @@ scheme_part p = option_map scheme.text p.scheme
 abbrev pub authority_part : Parts → Option (List ℕ)
 authority_part p = option_map authority.print p.authority
 
--- a relative path that begins with an empty segment and goes on: its text begins with a slash all the same
-abbrev pub hides_root : path.PathParts → Bool
-hides_root h = not h.absolute && path.hides_root h.segments
-
 -- Each part is of its class. Behind an authority the path is absolute; it hides no slash, and may stand where it does.
 pub record Valid (p : Parts) : Type 0 where
   pub is_scheme : IfSome p.scheme scheme.Valid
   pub is_authority : IfSome p.authority authority.Valid
   pub is_path : path.IsListed p.path.segments
   pub absolute : IfSome p.authority (λ _. p.path.absolute ≡ true)
-  pub plain : hides_root p.path ≡ false
+  pub plain : path.has_hidden_root p.path ≡ false
   pub fit : path_refusal (is_some p.scheme) (is_some p.authority) (path.text p.path) ≡ None
   pub is_query : IfSome p.query IsQuery
   pub is_fragment : IfSome p.fragment IsFragment

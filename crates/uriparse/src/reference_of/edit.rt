@@ -53,10 +53,7 @@ impl<'r, K: Kind> ReferenceOf<'r, K> {
         requires { F.pre make self.authority }
         ensures { (authority : _) × F.post make self.entry.authority authority × (told_of K.told (edited self.entry (edits.Authority authority)) ≡ result) }
     {
-        match self.reference.map_authority(make) {
-            Ok(reference) => Ok(ReferenceOf::of_checked(reference)),
-            Err(error) => Err(K::told(error)),
-        }
+        ReferenceOf::told_checked(self.reference.map_authority(make))
     }
 
     /// Sets what the closure makes of the path, as [`set_path`](ReferenceOf::set_path) does, but
@@ -67,10 +64,7 @@ impl<'r, K: Kind> ReferenceOf<'r, K> {
         requires { F.pre make self.path }
         ensures { (path : _) × F.post make self.entry.path path × (told_of K.told (edited self.entry (edits.Path path)) ≡ result) }
     {
-        match self.reference.map_path(make) {
-            Ok(reference) => Ok(ReferenceOf::of_checked(reference)),
-            Err(error) => Err(K::told(error)),
-        }
+        ReferenceOf::told_checked(self.reference.map_path(make))
     }
 
     /// Sets what the closure makes of the query. It is never refused, and takes no memory of its
@@ -81,10 +75,7 @@ impl<'r, K: Kind> ReferenceOf<'r, K> {
         requires { F.pre make self.query }
         ensures { (query : _) × F.post make self.entry.query query × (told_of K.told (edited self.entry (edits.Query query)) ≡ result) }
     {
-        match self.reference.map_query(make) {
-            Ok(reference) => Ok(ReferenceOf::of_checked(reference)),
-            Err(error) => Err(K::told(error)),
-        }
+        ReferenceOf::told_checked(self.reference.map_query(make))
     }
 
     /// Sets what the closure makes of the fragment. It is never refused, and takes no memory of its
@@ -95,9 +86,6 @@ impl<'r, K: Kind> ReferenceOf<'r, K> {
         requires { F.pre make self.fragment }
         ensures { (fragment : _) × F.post make self.entry.fragment fragment × (told_of K.told (edited self.entry (edits.Fragment fragment)) ≡ result) }
     {
-        match self.reference.map_fragment(make) {
-            Ok(reference) => Ok(ReferenceOf::of_checked(reference)),
-            Err(error) => Err(K::told(error)),
-        }
+        ReferenceOf::told_checked(self.reference.map_fragment(make))
     }
 }
