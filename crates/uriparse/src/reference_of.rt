@@ -8,7 +8,7 @@ ghost use Rattle.uriparse_text.specs.Readings.{IsUnless};
 ghost use Rattle.uriparse_path.specs.declared.path.error.PathError.TheVariants.{OutOfMemory};
 ghost use Rattle.uriparse_reference.specs.declared.uri_reference.error.URIReferenceError.TheVariants as errors;
 ghost use Rattle.uriparse_reference.specs.Key.{fed, fed_key, key};
-ghost use Rattle.uriparse_reference.specs.Reading.{early_fault};
+ghost use Rattle.uriparse_reference.specs.Reading.{fault};
 ghost use Rattle.uriparse_reference.specs.Reference.{print};
 ghost use Rattle.uriparse.specs.Kinds.{IsOfKind, fault_of, of_kind, reading_of, told_of};
 
@@ -95,8 +95,8 @@ impl<'r, K: Kind> ReferenceOf<'r, K> {
         // Else the text's fault is answered, or that it is of the other kind.
         ensures fault { IfErr result (λ e. (fault_of K.has_scheme K.told K.other bytes.now ≡ Some e) ⊎ (e ≡ K.told (errors.Path OutOfMemory))) }
 
-        // A fault of the authority or the path is answered whatever memory there is.
-        ensures early { (e : URIReferenceError) → early_fault bytes.now ≡ Some e → result ≡ Err (K.told e) }
+        // A fault is answered whatever memory there is.
+        ensures always { (e : URIReferenceError) → fault bytes.now ≡ Some e → result ≡ Err (K.told e) }
     {
         Self::read(alloc, bytes)
     }
@@ -107,7 +107,7 @@ impl<'r, K: Kind> ReferenceOf<'r, K> {
         ensures kind { IfOk result (λ u. IsOfKind K.has_scheme u) }
         ensures only { (p : Parts) → Spells text.now p → IsOfKind K.has_scheme p → IsUnless (K.told (errors.Path OutOfMemory)) result (Ok p) }
         ensures fault { IfErr result (λ e. (fault_of K.has_scheme K.told K.other text.now ≡ Some e) ⊎ (e ≡ K.told (errors.Path OutOfMemory))) }
-        ensures early { (e : URIReferenceError) → early_fault text.now ≡ Some e → result ≡ Err (K.told e) }
+        ensures always { (e : URIReferenceError) → fault text.now ≡ Some e → result ≡ Err (K.told e) }
     {
         Self::read(alloc, text.as_bytes())
     }
@@ -115,7 +115,7 @@ impl<'r, K: Kind> ReferenceOf<'r, K> {
     /// Reads by the reader of references.
     fn read(alloc: Global, bytes: &'r [u8]) -> Result<ReferenceOf<'r, K>, K::Error>
         ensures answer { IsUnless (K.told (errors.Path OutOfMemory)) result (reading_of K.has_scheme K.told K.other bytes.now) }
-        ensures early { (e : URIReferenceError) → early_fault bytes.now ≡ Some e → result ≡ Err (K.told e) }
+        ensures always { (e : URIReferenceError) → fault bytes.now ≡ Some e → result ≡ Err (K.told e) }
     {
         match URIReference::try_from_bytes(alloc, bytes) {
             Ok(reference) => ReferenceOf::of(reference),

@@ -1,7 +1,7 @@
 -- Reading an authority is exact; what its texts are cut into; and how authorities compare.
 use Rattle.std.proofs.Common.{◌≡◌, ◌↔◌, ℕ, Bool, true, false, cond, List, [], ◌∷◌, ◌++◌, Option, Some, None, Ok, Err, refl, sym, ap, ◌∙◌, subst, append-nil}
 use Rattle.std.proofs.Common.{fold, arith, IsTrue}
-use Rattle.std.specs.Prelude.{not, ◌==◌, ◌||◌, IfSome, IsSome, unwrap_or, bytes_eq}
+use Rattle.std.specs.Prelude.{not, ◌==◌, ◌||◌, IfSome, IsSome, Result, unwrap_or, bytes_eq}
 use Rattle.std.specs.Option.{option_map, option_eq}
 use Rattle.std.specs.Char.{is_digit}
 use Rattle.std.specs.Hash.{HashWrites, option, u16}
@@ -13,20 +13,24 @@ use Rattle.uriparse_text.specs.Bytes.{slash, colon, question_mark, number_sign, 
 use Rattle.uriparse_text.specs.Canonical.{canonical, fed_text}
 use Rattle.uriparse_text.specs.declared.parts.class.Class.TheVariants as class
 use Rattle.uriparse_text.specs.Cuts.{lacks, none_pass, behind, ahead, before, after, front, rest, up_to, from_first, from_last, up_to_last}
-use Rattle.uriparse_text.specs.Readings.{◌>>=◌, of_piece, if_present, fault_in}
+use Rattle.uriparse_text.specs.Readings.{◌>>=◌, of_piece, some_of, if_present, fault_in}
 use Rattle.uriparse_text.proofs.CutLemmas.{lacks-append, lacks-behind, before_after, front_rest, before_of, after_of, front_of, up_to-append, from_first-append}
 use Rattle.uriparse_text.proofs.CutLemmas.{cut-whole, from_last-of, up_to_last-of, last-whole, none_of_either, none_of_two}
 use Rattle.uriparse_text.proofs.OptionLemmas.{same_option, fed_option}
 use Rattle.uriparse_text.proofs.ReadingLemmas.{IsExact, texts_again, texts_found, bind_ok, piece_found, none_or}
 use Rattle.uriparse_authority.specs.declared.authority.host.Host.{Host}
+use Rattle.uriparse_authority.specs.declared.authority.error.AuthorityError.{AuthorityError}
 use Rattle.uriparse_authority.specs.declared.authority.error.AuthorityError.TheVariants as errors
 use Rattle.uriparse_authority.specs.declared.authority.error.HostError.{HostError}
+use Rattle.uriparse_authority.specs.declared.authority.error.PasswordError.{PasswordError}
 use Rattle.uriparse_authority.specs.declared.authority.error.PortError.{PortError}
+use Rattle.uriparse_authority.specs.declared.authority.error.UsernameError.{UsernameError}
 use Rattle.uriparse_authority.specs.Username as username
 use Rattle.uriparse_authority.specs.Password as password
 use Rattle.uriparse_authority.specs.Host as host
 use Rattle.uriparse_authority.specs.Port as port
 use Rattle.uriparse_authority.specs.Authority.{AuthorityParts, userinfo, joined, IsPaired, Spells, Valid, ReadsBack, print, canonical_text, kind, userinfo_text}
+use Rattle.uriparse_authority.specs.Authority.{of_parts, userinfo_reading, with_empty}
 use Rattle.uriparse_authority.specs.Authority.{host_and_port_text, username_in, password_in, username_text, password_text, ends_host, colon_part, cut_port}
 use Rattle.uriparse_authority.specs.Authority.{cut_host, host_text, port_text, reading, ends_authority, rest_error, unless_rest, whole_reading, key, each_alike}
 use Rattle.uriparse_authority.specs.Authority.{fed, fed_pieces, fed_key}
@@ -293,6 +297,53 @@ pub port_fault : (a : List ℕ) (u w : Option (List ℕ)) (h : Host) (e : PortEr
     → reading a ≡ Err (errors.Port e)
 unfolding reading
 port_fault a u w h e x y z v = rw x (rw y (rw z (rw v refl)))
+
+-- the user information is read first
+abbrev pair : Option (List ℕ) → Option (List ℕ) → Option (List ℕ) × Option (List ℕ)
+pair v z = (v, z)
+
+ok_is : {A : Type 0} (x y : A) → ◌≡◌ {A = Result A AuthorityError} (Ok x) (Ok y) → x ≡ y
+ok_is x y h = cc
+
+pub userinfo_read : (i u w : Option (List ℕ)) → userinfo_reading i ≡ Ok (u, w)
+    → (if_present username.reading (username_in i) ≡ Ok u) × (if_present password.reading (password_in i) ≡ Ok w)
+userinfo_read i u w = by_results (if_present username.reading (username_in i)) (if_present password.reading (password_in i))
+  where
+    by_results : (x : Result (Option (List ℕ)) UsernameError) (y : Result (Option (List ℕ)) PasswordError)
+        → (of_piece errors.Username x >>= λ v. of_piece errors.Password y >>= λ z. Ok (pair v z)) ≡ Ok (pair u w) → (x ≡ Ok u) × (y ≡ Ok w)
+    by_results (Ok v) (Ok z) h = let same = ok_is (pair v z) (pair u w) h in (ap Ok (ap (λ m. m.0) same), ap Ok (ap (λ m. m.1) same))
+    by_results (Ok v) (Err e) h = cc
+    by_results (Err e) y h = cc
+
+pub userinfo_fault : (a : List ℕ) (e : AuthorityError) → userinfo_reading (userinfo_text a) ≡ Err e → reading a ≡ Err e
+unfolding reading
+userinfo_fault a e h = by_results (if_present username.reading (username_text a)) refl (if_present password.reading (password_text a)) refl h
+  where
+    by_results : (x : Result (Option (List ℕ)) UsernameError) → if_present username.reading (username_text a) ≡ x
+        → (y : Result (Option (List ℕ)) PasswordError) → if_present password.reading (password_text a) ≡ y
+        → (of_piece errors.Username x >>= λ v. of_piece errors.Password y >>= λ z. Ok (pair v z)) ≡ Err e → reading a ≡ Err e
+    by_results (Ok v) i (Ok z) j k = cc
+    by_results (Ok v) i (Err f) j k = let same : errors.Password f ≡ e = cc in rw (i, j) (ap Err same)
+    by_results (Err f) i y j k = let same : errors.Username f ≡ e = cc in rw i (ap Err same)
+
+-- a password that is read stands with a user name
+paired : (i u w : Option (List ℕ)) → if_present username.reading (username_in i) ≡ Ok u → if_present password.reading (password_in i) ≡ Ok w
+    → u ≡ with_empty u w
+paired i (Some u) w x y = refl
+paired i None None x y = refl
+paired None None (Some w) x y = cc
+paired (Some t) None (Some w) x y = by_reading (username.reading (before colon t)) x
+  where
+    by_reading : (r : Result (List ℕ) UsernameError) → some_of r ≡ Ok None → None ≡ with_empty None (Some w)
+    by_reading (Ok z) k = cc
+    by_reading (Err e) k = cc
+
+pub parts_read : (a : List ℕ) (u w : Option (List ℕ)) (h : Host) (n : Option ℕ) → if_present username.reading (username_text a) ≡ Ok u
+    → if_present password.reading (password_text a) ≡ Ok w → host.reading (host_text a) ≡ Ok h → port.reading (unwrap_or (port_text a) []) ≡ Ok n
+    → reading a ≡ Ok (of_parts u w h n)
+unfolding reading
+parts_read a u w h n x y z v =
+    rw x (rw y (rw z (rw v (ap (λ o. Ok (record { username = o; password = w; host = h; port = n })) (paired (userinfo_text a) u w x y)))))
 
 pub exact : IsExact Spells reading
 exact = record { again = again; found = found }

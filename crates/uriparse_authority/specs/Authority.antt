@@ -128,6 +128,13 @@ reading a = do
 abbrev pub fault : List ℕ → Option AuthorityError
 fault a = fault_in (reading a)
 
+-- what reading user information gives, if there is any: a word of a private function's clause alone
+abbrev pub userinfo_reading : Option (List ℕ) → Result (Option (List ℕ) × Option (List ℕ)) AuthorityError
+userinfo_reading i = do
+  username ← of_piece errors.Username (if_present username.reading (username_in i))
+  password ← of_piece errors.Password (if_present password.reading (password_in i))
+  Ok (username, password)
+
 -- ---- an authority read by itself, from a text that may go on behind it
 
 -- "/", "?" and "#" end an authority

@@ -1,12 +1,21 @@
 -- What is wrong with a text that is no path: RFC 3986, section 3.3, and the limit of segments.
-use Rattle.std.specs.Prelude.{◌≡◌, ℕ, nat_lt, List, [], ◌∷◌, ◌++◌, length, take, Option, Some, None, Result, if◌then◌else◌}
+use Rattle.std.specs.Prelude.{◌≡◌, ℕ, Bool, nat_lt, ◌==◌, ◌&&◌, ◌||◌, List, [], ◌∷◌, ◌++◌, length, take, Option, Some, None, Result, if◌then◌else◌}
 use Rattle.std.specs.Option.{option_or}
-use Rattle.uriparse_text.specs.Bytes.{slash}
+use Rattle.uriparse_text.specs.Bytes.{slash, question_mark, number_sign}
+use Rattle.uriparse_text.specs.Cuts.{up_to}
 use Rattle.uriparse_text.specs.Readings.{unless_fault}
 use Rattle.uriparse_path.specs.declared.path.error.PathError.{PathError}
 use Rattle.uriparse_path.specs.declared.path.error.PathError.TheVariants.{ExceededMaximumLength}
 use Rattle.uriparse_path.specs.Segment as segment
 use Rattle.uriparse_path.specs.Path.{PathParts, max_segments, pieces, spelled}
+
+-- Behind a path comes a `?` or a `#`, or nothing.
+abbrev pub ends_path : ℕ → Bool
+ends_path b = b == question_mark || b == number_sign
+
+-- the path that a text begins with, where it may end before the text does
+abbrev pub path_front : Bool → List ℕ → List ℕ
+path_front ends t = up_to (λ b. ends && ends_path b) t
 
 -- the fault of the first of these pieces that has one
 abbrev pub first_fault : List (List ℕ) → Option PathError

@@ -11,6 +11,7 @@ ghost use Rattle.uriparse_path.specs.Edits.{shield};
 ghost use Rattle.uriparse_path.specs.Merge.{merging};
 ghost use Rattle.uriparse_path.specs.Normal.{is_canonical, is_normal_in, pnormal};
 
+pub use crate::path::read::{PathFront, counted_path, split_path};
 use crate::path::{Path, PathError, Segment};
 use std::alloc::{AllocError, Global};
 

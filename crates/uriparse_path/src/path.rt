@@ -31,7 +31,7 @@ mod edit;
 mod error;
 mod merge;
 mod normal;
-mod read;
+pub(crate) mod read;
 mod segment;
 
 use dots::{has_dot_segment, replay, root_first};
@@ -40,7 +40,7 @@ use normal::{
     begins_twice, canonical_copies, guard, has_first_colon, hides_root, is_normal, make_relative,
     needs_shield, put_copies,
 };
-use read::{count_segments, split_root, split_segments};
+use read::{count_segments, counted_path, split_root};
 pub use segment::Segment;
 use segment::each_is_segment;
 
@@ -100,10 +100,9 @@ impl<'p> Path<'p> {
         ensures answer { IsUnless PathError.OutOfMemory result (reading bytes.now) }
         ensures fault { IsErr (reading bytes.now) → result ≡ reading bytes.now }
     {
-        let (absolute, rest) = split_root(bytes);
-        let count = count_segments(MAX_SEGMENTS, rest)?;
-        let segments = split_segments(alloc, count, rest)?;
-        Ok(Path { absolute, segments })
+        let (_, rest) = split_root(bytes);
+        let (segments, _) = count_segments(MAX_SEGMENTS, false, rest)?;
+        Ok(counted_path(alloc, segments, bytes)?)
     }
 
     /// The same for a text.

@@ -1,9 +1,9 @@
 -- How the text of a reference is cut, and that a text which is joined from pieces is cut into them.
-use Rattle.std.proofs.Common.{◌≡◌, ℕ, ◌+◌, Bool, true, false, cond, List, [], ◌∷◌, ◌++◌, drop, length, take, Option, Some, None, Ok, refl, sym, ap, ◌∙◌}
+use Rattle.std.proofs.Common.{◌≡◌, ℕ, Bool, true, false, cond, List, [], ◌∷◌, ◌++◌, drop, length, take, Option, Some, None, Ok, refl, sym, ap, ◌∙◌}
 use Rattle.std.proofs.Common.{append-nil, append_assoc, ◌&&◌, ◌||◌, inl, inr, arith}
-use Rattle.std.specs.Prelude.{◌⊎◌, not, ◌==◌, if◌then◌else◌, IfSome, Err, is_some, unwrap_or}
+use Rattle.std.specs.Prelude.{◌⊎◌, not, ◌==◌, IfSome, Err, is_some, unwrap_or}
 use Rattle.std.specs.Option.{option_map}
-use Rattle.std.specs.List.{list_all, position_or_len}
+use Rattle.std.specs.List.{list_all}
 use Rattle.std.specs.Str.{bytes_eq}
 use Rattle.std.specs.Cmp.Lexicographic.{same_text}
 use Rattle.std.proofs.lemmas.Bool.{false≢true, eqb-true, and_parts, and_from}
@@ -16,7 +16,7 @@ use Rattle.uriparse_text.specs.Classes.{is_plain}
 use Rattle.uriparse_text.specs.Cuts.{lacks, none_pass, behind, before, after, rest, part, up_to, from_first}
 use Rattle.uriparse_text.specs.Query.{IsQuery}
 use Rattle.uriparse_text.proofs.CutLemmas.{weaker, up_to-none, from_first-head, lacks_by, lacks-append, lacks-behind, lacks-in_class, cut-whole, up_to-append}
-use Rattle.uriparse_text.proofs.CutLemmas.{from_first-append, before_of, after_of, front_of, take_place, drop_place}
+use Rattle.uriparse_text.proofs.CutLemmas.{from_first-append, before_of, after_of, front_of}
 use Rattle.uriparse_path.specs.Path.{IsPath, is_slash, is_rooted, has_two_slashes}
 use Rattle.uriparse_path.proofs.TextLemmas.{lacks-path}
 use Rattle.uriparse_authority.specs.Authority.{ends_authority, colon_part}
@@ -34,7 +34,8 @@ use Rattle.uriparse_reference.specs.declared.uri_reference.error.URIReferenceErr
 use Rattle.uriparse_reference.specs.Reference.{behind_slashes, joined, is_abempty, is_noscheme, path_refusal}
 use Rattle.uriparse_reference.specs.Cuts.{if_scheme, scheme_text, ends_scheme, unless_scheme, after_scheme, cut_authority, authority_text, without_authority}
 use Rattle.uriparse_reference.specs.Cuts.{after_authority}
-use Rattle.uriparse_reference.specs.Cuts.{path_text, query_text, fragment_text}
+use Rattle.uriparse_reference.specs.Cuts.{path_text, query_text, fragment_text, tail_query, tail_fragment}
+use Rattle.uriparse_path.specs.Faults.{ends_path}
 
 pub head_is : (a b : Bool) → (a && b) ≡ true → a ≡ true
 head_is a b h = (and_parts a b h).0
@@ -332,29 +333,6 @@ stripped t front u h e =
 
 -- ---- the path, by one cut at the first `?` or `#`
 
-abbrev pub ends_path : ℕ → Bool
-ends_path b = b == question_mark || b == number_sign
-
--- the query and the fragment of what that cut leaves
-abbrev pub tail_query : List ℕ → Option (List ℕ)
-tail_query [] = None
-tail_query (b ∷ r) = if b == question_mark then Some (before number_sign r) else None
-
-abbrev pub tail_fragment : List ℕ → Option (List ℕ)
-tail_fragment [] = None
-tail_fragment (b ∷ r) = if b == question_mark then after number_sign r else if b == number_sign then Some r else None
-
-pub ends_same : (t : List ℕ) → position_or_len (λ b. b == question_mark || b == number_sign || b == number_sign) t ≡ position_or_len ends_path t
-ends_same [] = refl
-ends_same (b ∷ t) = at_byte (b == question_mark) (b == number_sign) (ends_same t)
-  where
-    at_byte : (v w : Bool) → position_or_len (λ b. b == question_mark || b == number_sign || b == number_sign) t ≡ position_or_len ends_path t
-        → cond (not (v || w || w)) (1 + position_or_len (λ b. b == question_mark || b == number_sign || b == number_sign) t) 0
-        ≡ cond (not (v || w)) (1 + position_or_len ends_path t) 0
-    at_byte true w h = refl
-    at_byte false true h = refl
-    at_byte false false h = ap (λ n. 1 + n) h
-
 pub path_cut : (u : List ℕ) → up_to ends_path u ≡ before question_mark (before number_sign u)
 path_cut [] = refl
 path_cut (b ∷ u) = at_byte (b == question_mark) refl (b == number_sign) refl (path_cut u)
@@ -391,15 +369,3 @@ fragment_cut (b ∷ u) = at_byte (b == question_mark) refl (b == number_sign) re
     at_byte true e false f h = rw e refl
     at_byte false e true f h = rw (e, f) refl
     at_byte false e false f h = h
-
--- the front of that cut, by where it is made
-pub path_at : (t front : List ℕ) (n : ℕ) → n ≡ position_or_len (λ b. b == question_mark || b == number_sign || b == number_sign) t → front ≡ take n t
-    → front ≡ before question_mark (before number_sign t)
-path_at t front n place is = is ∙ ap (λ m. take m t) (place ∙ ends_same t) ∙ take_place ends_path t ∙ path_cut t
-
--- the query and the fragment, by what the rest of that cut is
-pub rest_at : (t back : List ℕ) (n : ℕ) → n ≡ position_or_len (λ b. b == question_mark || b == number_sign || b == number_sign) t → back ≡ drop n t
-    → (tail_query back ≡ after question_mark (before number_sign t)) × (tail_fragment back ≡ after number_sign t)
-rest_at t back n place is =
-    let cut : back ≡ from_first ends_path t = is ∙ ap (λ m. drop m t) (place ∙ ends_same t) ∙ drop_place ends_path t in
-    (ap tail_query cut ∙ query_cut t, ap tail_fragment cut ∙ fragment_cut t)

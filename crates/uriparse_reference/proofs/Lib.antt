@@ -1,4 +1,5 @@
 pub mod CutLemmas
+mod TailLemmas
 pub mod ReferenceLemmas
 pub mod ValidLemmas
 pub mod SameLemmas

@@ -1,7 +1,7 @@
 -- Reading a reference is exact.
 use Rattle.std.proofs.Common.{◌≡◌, ℕ, Bool, true, false, cond, List, [], ◌∷◌, ◌++◌, drop, Option, Some, None, Ok, refl, sym, ap, ◌∙◌, subst, append_assoc, ◌&&◌}
 use Rattle.std.proofs.Common.{inl, inr, arith}
-use Rattle.std.specs.Prelude.{◌⊎◌, ◌==◌, IfSome, IfOk, IfErr, IsErr, Result, Err, is_some}
+use Rattle.std.specs.Prelude.{◌⊎◌, ◌==◌, IfSome, IfOk, IfErr, Result, Err, is_some}
 use Rattle.std.specs.Option.{option_map, option_copied}
 use Rattle.std.proofs.Common.{Bor}
 use Rattle.std.proofs.lemmas.Bool.{false≢true, eqb-true}
@@ -24,14 +24,14 @@ use Rattle.uriparse_authority.proofs.AuthorityLemmas.{LacksEnds}
 use Rattle.uriparse_scheme.specs.declared.scheme.Scheme.{Scheme}
 use Rattle.uriparse_scheme.specs.Scheme as scheme
 use Rattle.uriparse_scheme.proofs.SchemeLemmas as schemes
-use Rattle.uriparse_path.specs.declared.path.error.PathError.{PathError}
 use Rattle.uriparse_path.specs.declared.path.error.PathError.TheVariants.{OutOfMemory}
 use Rattle.uriparse_reference.specs.declared.uri_reference.error.URIReferenceError.{URIReferenceError}
 use Rattle.uriparse_reference.specs.declared.uri_reference.error.URIReferenceError.TheVariants as errors
 use Rattle.uriparse_reference.specs.Reference.{Parts, behind_slashes, joined, is_abempty, path_refusal, path_of, Spells}
 use Rattle.uriparse_reference.specs.Cuts.{if_scheme, scheme_text, unless_scheme, after_scheme, cut_authority, authority_text, without_authority}
 use Rattle.uriparse_reference.specs.Cuts.{after_authority, path_text, query_text, fragment_text}
-use Rattle.uriparse_reference.specs.Reading.{path_reading, tail_reading, reading, fault, early_fault, IsAnswer}
+use Rattle.uriparse_reference.specs.Reading.{path_reading, tail_reading, reading, fault, IsAnswer, IsUnlessMemory}
+use Rattle.uriparse_reference.proofs.TailLemmas.{Tail}
 use Rattle.uriparse_reference.proofs.CutLemmas.{tail, ArePieces, cut_again}
 
 -- ---- what is spelled so is read so
@@ -233,9 +233,6 @@ text_present : (o : Option (Bor (List ℕ))) → is_some o ≡ is_some (option_c
 text_present None = refl
 text_present (Some s) = refl
 
-abbrev Tail : Type 0
-Tail = PathParts × Option (List ℕ) × Option (List ℕ)
-
 abbrev pub with_tail : Option Scheme → Option AuthorityParts → Tail → Parts
 with_tail s a x = record { scheme = s; authority = a; path = x.0; query = x.1; fragment = x.2 }
 
@@ -267,16 +264,15 @@ module _ (t : List ℕ) (s : Option Scheme) (o : Option (Bor (List ℕ))) (h : L
       by_results (Ok x) (Err e) f = refl
       by_results (Err e) q f = refl
 
-  pub tail_answer : (r : Result Tail URIReferenceError) → IsUnless (errors.Path OutOfMemory) r (tail_reading (is_some s) (is_some o) h q f)
-      → (IsErr (path_faults.reading h) → r ≡ tail_reading (is_some s) (is_some o) h q f) → IsAnswer t (r >>= λ x. Ok (with_tail s a x))
+  pub tail_answer : (r : Result Tail URIReferenceError) → IsUnlessMemory r (tail_reading (is_some s) (is_some o) h q f)
+      → IsAnswer t (r >>= λ x. Ok (with_tail s a x))
   unfolding tail_made
-  tail_answer r (inl e) k = inl (rw e (sym by_tail))
-  tail_answer r (inr e) k = by_path (path_faults.reading h) refl k
+  tail_answer r (inl e) = inl (rw e (sym by_tail))
+  tail_answer r (inr e) = inr (ap fault_in by_tail ∙ no_fault (tail_reading (is_some s) (is_some o) h q f) e.0, rw e.1 refl)
     where
-      by_path : (p : Result PathParts PathError) → path_faults.reading h ≡ p
-          → (IsErr p → r ≡ tail_reading (is_some s) (is_some o) h q f) → IsAnswer t (r >>= λ x. Ok (with_tail s a x))
-      by_path (Ok x) g k = inr (rw (sym authority_is, read, sym path_is, g) refl, rw e refl)
-      by_path (Err x) g k = inl (rw (k refl) (sym by_tail))
+      no_fault : (r : Result Tail URIReferenceError) → fault_in r ≡ None → fault_in (r >>= λ x. Ok (with_tail s a x)) ≡ None
+      no_fault (Ok x) k = refl
+      no_fault (Err x) k = cc
 
 pub read_whole : (t : List ℕ) (p : Parts) → IsAnswer t (Ok p) → reading t ≡ Ok p
 read_whole t p (inl h) = sym h
@@ -284,23 +280,17 @@ read_whole t p (inr h) = let no = h.1 in absurd (cc)
 
 -- ---- what a reader's answer tells in the grammar's words
 
--- a fault of the authority or the path is the first
-early_first : (t : List ℕ) (e : URIReferenceError) → early_fault t ≡ Some e → reading t ≡ Err e
-unfolding reading
-early_first t e h =
-    by_pieces (of_piece errors.Authority (if_present authority.reading (authority_text t))) (of_piece errors.Path (path_faults.reading (path_text t))) refl refl h
+fault_first : (t : List ℕ) (e : URIReferenceError) → fault t ≡ Some e → reading t ≡ Err e
+fault_first t e h = by_reading (reading t) h
   where
-    by_pieces : (a : Result (Option AuthorityParts) URIReferenceError) (h : Result PathParts URIReferenceError)
-        → of_piece errors.Authority (if_present authority.reading (authority_text t)) ≡ a → of_piece errors.Path (path_faults.reading (path_text t)) ≡ h
-        → fault_in (a >>= λ _. h) ≡ Some e → reading t ≡ Err e
-    by_pieces (Err x) h i j k = rw i (let same : x ≡ e = cc in ap Err same)
-    by_pieces (Ok x) (Err y) i j k = rw (i, j) (let same : y ≡ e = cc in ap Err same)
-    by_pieces (Ok x) (Ok y) i j k = cc
+    by_reading : (r : Result Parts URIReferenceError) → fault_in r ≡ Some e → r ≡ Err e
+    by_reading (Ok p) k = cc
+    by_reading (Err x) k = let same : x ≡ e = cc in ap Err same
 
 pub answered : (t : List ℕ) (r : Result Parts URIReferenceError) → IsAnswer t r
     → (IfOk r (λ p. Spells t p)) × ((p : Parts) → Spells t p → IsUnless (errors.Path OutOfMemory) r (Ok p))
-    × (IfErr r (λ e. (fault t ≡ Some e) ⊎ (e ≡ errors.Path OutOfMemory))) × ((e : URIReferenceError) → early_fault t ≡ Some e → r ≡ Err e)
-answered t r (inl h) = (by_answer r h, (λ p s. inl (h ∙ again t p s)), by_fault r h, (λ e k. h ∙ early_first t e k))
+    × (IfErr r (λ e. (fault t ≡ Some e) ⊎ (e ≡ errors.Path OutOfMemory))) × ((e : URIReferenceError) → fault t ≡ Some e → r ≡ Err e)
+answered t r (inl h) = (by_answer r h, (λ p s. inl (h ∙ again t p s)), by_fault r h, (λ e k. h ∙ fault_first t e k))
   where
     by_answer : (r : Result Parts URIReferenceError) → r ≡ reading t → IfOk r (λ p. Spells t p)
     by_answer (Ok p) h = found t p (sym h)

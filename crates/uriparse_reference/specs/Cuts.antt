@@ -1,5 +1,5 @@
 -- How the text of a reference is cut into its pieces: RFC 3986, sections 3 and 4.1.
-use Rattle.std.specs.Prelude.{ℕ, Bool, ◌==◌, ◌||◌, if◌then◌else◌, List, Option, Some, None, drop}
+use Rattle.std.specs.Prelude.{ℕ, Bool, ◌==◌, ◌||◌, if◌then◌else◌, List, [], ◌∷◌, Option, Some, None, drop}
 use Rattle.uriparse_text.specs.Bytes.{colon, question_mark, number_sign}
 use Rattle.uriparse_text.specs.Cuts.{front, rest, before, after, up_to, from_first}
 use Rattle.uriparse_path.specs.Path.{has_two_slashes}
@@ -50,3 +50,14 @@ query_text t = after question_mark (before number_sign (after_authority t))
 
 abbrev pub fragment_text : List ℕ → Option (List ℕ)
 fragment_text t = after number_sign (after_authority t)
+
+-- ---- words of the clauses of private functions alone
+
+-- the query and the fragment of what stands behind a path
+abbrev pub tail_query : List ℕ → Option (List ℕ)
+tail_query [] = None
+tail_query (b ∷ r) = if b == question_mark then Some (before number_sign r) else None
+
+abbrev pub tail_fragment : List ℕ → Option (List ℕ)
+tail_fragment [] = None
+tail_fragment (b ∷ r) = if b == question_mark then after number_sign r else if b == number_sign then Some r else None

@@ -33,17 +33,21 @@ reading t = do
 abbrev pub fault : List ℕ → Option URIReferenceError
 fault t = fault_in (reading t)
 
--- the fault of the authority or the path: it is told whatever memory there is
-abbrev pub early_fault : List ℕ → Option URIReferenceError
-early_fault t =
-    fault_in (of_piece errors.Authority (if_present authority.reading (authority_text t))
-    >>= λ _. of_piece errors.Path (path.reading (path_text t)))
-
 -- ---- words of the clauses of private functions alone: no public clause needs them
 
--- It is the text's reading; or, where authority and path have no fault, want of memory.
+-- It is the right answer; or, where that is no fault, want of memory.
+abbrev pub IsUnlessMemory : {A : Type 0} → Result A URIReferenceError → Result A URIReferenceError → Type 0
+IsUnlessMemory answer right = (answer ≡ right) ⊎ ((fault_in right ≡ None) × (answer ≡ Err (errors.Path OutOfMemory)))
+
 abbrev pub IsAnswer : List ℕ → Result Parts URIReferenceError → Type 0
-IsAnswer t answer = (answer ≡ reading t) ⊎ ((early_fault t ≡ None) × (answer ≡ Err (errors.Path OutOfMemory)))
+IsAnswer t answer = IsUnlessMemory answer (reading t)
+
+-- what reading gives of a query and a fragment
+abbrev pub behind_reading : Option (List ℕ) → Option (List ℕ) → Result (Option (List ℕ) × Option (List ℕ)) URIReferenceError
+behind_reading q f = do
+  query ← of_piece errors.Query (if_present query.reading q)
+  fragment ← of_piece errors.Fragment (if_present fragment.reading f)
+  Ok (query, fragment)
 
 -- what reading gives of the pieces behind the authority, where there is a scheme or not and an authority or not
 abbrev pub tail_reading : Bool → Bool → List ℕ → Option (List ℕ) → Option (List ℕ)

@@ -1,5 +1,5 @@
 -- A reference, the texts that spell it, and its text: RFC 3986, sections 3, 3.3, 4.1, 4.2 and 5.3.
-use Rattle.std.specs.Prelude.{◌≡◌, ℕ, Bool, true, false, not, ◌&&◌, ◌||◌, if◌then◌else◌, List, [], ◌∷◌, ◌++◌, Option, Some, None, IfSome, is_some}
+use Rattle.std.specs.Prelude.{◌≡◌, ℕ, Bool, true, false, ◌||◌, if◌then◌else◌, List, [], ◌∷◌, ◌++◌, Option, Some, None, IfSome, is_some}
 use Rattle.std.specs.Option.{option_map, option_and_then, IsSomeAnd}
 use Rattle.uriparse_text.specs.Bytes.{slash, colon, question_mark, number_sign}
 use Rattle.uriparse_text.specs.Canonical.{canonical}

@@ -9,7 +9,7 @@ ghost use Rattle.uriparse_path.specs.Path.{text};
 ghost use Rattle.uriparse_path.specs.declared.path.error.PathError.TheVariants.{OutOfMemory};
 ghost use Rattle.uriparse_reference.specs.declared.uri_reference.error.URIReferenceError.TheVariants as errors;
 ghost use Rattle.uriparse_reference.specs.Key.{each_alike, ends_alike, fed, fed_key, key, middle_alike};
-ghost use Rattle.uriparse_reference.specs.Reading.{fault, early_fault};
+ghost use Rattle.uriparse_reference.specs.Reading.{fault};
 ghost use Rattle.uriparse_reference.specs.Reference.{host_of, password_of, port_of, print, username_of};
 
 use std::alloc::{AllocError, Global};
@@ -85,9 +85,9 @@ impl<'r> URIReference<'r> {
     /// query, fragment. By the colon rule (section 4.2) no colon stands before the path's first
     /// slash where there is neither scheme nor authority: else
     /// [`SchemelessPathStartsWithColonSegment`](URIReferenceError::SchemelessPathStartsWithColonSegment)
-    /// is answered. Each other fault stands in the variant of its part. Where authority and path
-    /// have none, and there is no memory for the list, [`Path`](URIReferenceError::Path) with
-    /// [`OutOfMemory`](uriparse_path::path::PathError::OutOfMemory) is.
+    /// is answered. Each other fault stands in the variant of its part. Where there is none, and no
+    /// memory for the list, [`Path`](URIReferenceError::Path) with
+    /// [`OutOfMemory`](uriparse_path::path::PathError::OutOfMemory) is answered.
     pub fn try_from_bytes(
         alloc: Global,
         bytes: &'r [u8],
@@ -101,8 +101,8 @@ impl<'r> URIReference<'r> {
         // Else the text's fault is answered.
         ensures fault { IfErr result (λ e. (fault bytes.now ≡ Some e) ⊎ (e ≡ errors.Path OutOfMemory)) }
 
-        // A fault of the authority or the path is answered whatever memory there is.
-        ensures early { (e : URIReferenceError) → early_fault bytes.now ≡ Some e → result ≡ Err e }
+        // A fault is answered whatever memory there is.
+        ensures always { (e : URIReferenceError) → fault bytes.now ≡ Some e → result ≡ Err e }
     {
         Self::read(alloc, bytes)
     }
@@ -112,7 +112,7 @@ impl<'r> URIReference<'r> {
         ensures found { IfOk result (λ r. Spells text.now r) }
         ensures only { (p : Parts) → Spells text.now p → IsUnless (errors.Path OutOfMemory) result (Ok p) }
         ensures fault { IfErr result (λ e. (fault text.now ≡ Some e) ⊎ (e ≡ errors.Path OutOfMemory)) }
-        ensures early { (e : URIReferenceError) → early_fault text.now ≡ Some e → result ≡ Err e }
+        ensures always { (e : URIReferenceError) → fault text.now ≡ Some e → result ≡ Err e }
     {
         Self::read(alloc, text.as_bytes())
     }

@@ -1,10 +1,10 @@
 -- The leftmost fault, byte by byte: an escape's digits stand for themselves in each class, so the walk needn't pass
 -- over them.
 use Rattle.std.proofs.Common.{◌≡◌, ◌≢◌, ℕ, zero, suc, ◌+◌, ◌-◌, ◌<◌, ◌≤◌, cond, eqb, Option, Some, None, Bool, true, false, ◌||◌, List, [], ◌∷◌}
-use Rattle.std.proofs.Common.{length, drop, get_or, refl, sym, ap, subst, ◌∙◌, arith, inl, inr}
-use Rattle.std.specs.Prelude.{not, MatchOption, ◌==◌}
+use Rattle.std.proofs.Common.{length, drop, get_or, refl, sym, ap, subst, ◌∙◌, arith, inl, inr, length-drop}
+use Rattle.std.specs.Prelude.{not, MatchOption, ◌==◌, slice_get, unwrap_or}
 use Rattle.std.specs.Int.{bit_at}
-use Rattle.std.proofs.lemmas.Bool.{and_from, and_parts, cases_lt, eqb-true, eqb-false}
+use Rattle.std.proofs.lemmas.Bool.{and_from, and_parts, cases_lt, eqb-true, eqb-false, false≢true}
 use Rattle.std.proofs.lemmas.List.{drop_more}
 use Rattle.std.proofs.Math.ListN.{drop_of_length-le}
 use Rattle.std.proofs.lemmas.Nat.Bits.{bit_at-zero, bit_at-lt}
@@ -13,7 +13,7 @@ use Rattle.uriparse_text.specs.declared.parts.class.Class.{Class}
 use Rattle.uriparse_text.specs.Bytes.{percent, is_hex, is_unreserved}
 use Rattle.uriparse_text.specs.Classes.{is_plain}
 use Rattle.uriparse_text.specs.Tokens.{is_escape}
-use Rattle.uriparse_text.specs.Faults.{fault, begins_fine, AllFine, AreInDoubt}
+use Rattle.uriparse_text.specs.Faults.{fault, begins_fine, AllFine, AreInDoubt, IsFaultFrom, IsFaultPlace}
 use Rattle.uriparse_text.specs.Marks.{AreMarks}
 use Rattle.uriparse_text.proofs.ClassLemmas.{unreserved_plain}
 use Rattle.uriparse_text.proofs.MarkLemmas.{marked}
@@ -35,7 +35,7 @@ fault-digits class b (high ∷ low ∷ rest) is =
     let both = and_parts (is_hex high) (is_hex low) (escape_at b (high ∷ low ∷ rest) is).digits in
     fault-plain class high (low ∷ rest) (hex_plain class high both.0) ∙ fault-plain class low rest (hex_plain class low both.1)
 
-fault-begins_fine : (class : Class) (b : ℕ) (after : List ℕ) → begins_fine class (b ∷ after) ≡ true → fault class (b ∷ after) ≡ fault class after
+pub fault-begins_fine : (class : Class) (b : ℕ) (after : List ℕ) → begins_fine class (b ∷ after) ≡ true → fault class (b ∷ after) ≡ fault class after
 fault-begins_fine class b after h = by_test (is_plain class b) refl h
   where
     by_test : (v : Bool) → is_plain class b ≡ v → (v || is_escape b after) ≡ true → fault class (b ∷ after) ≡ fault class after
@@ -53,17 +53,6 @@ fine_plain class b after plain = rw plain refl
 pub fine_escape : (class : Class) (b : ℕ) (after : List ℕ) → is_escape b after ≡ true → begins_fine class (b ∷ after) ≡ true
 fine_escape class b after escape = or_true (is_plain class b) (is_escape b after) escape
 
--- at a place: a byte of the class, an escape, or the fault
-module _ (class : Class) (text : List ℕ) (at : ℕ) (within : at < length text) (same : fault class (drop at text) ≡ fault class text) where
-  pub fault-past : begins_fine class (get_or text at 0 ∷ drop (at + 1) text) ≡ true → fault class (drop (at + 1) text) ≡ fault class text
-  fault-past fine =
-      sym (fault-begins_fine class (get_or text at 0) (drop (at + 1) text) fine) ∙ ap (fault class) (sym (drop_more text at 0 within)) ∙ same
-
-  pub fault-there : is_plain class (get_or text at 0) ≡ false → is_escape (get_or text at 0) (drop (at + 1) text) ≡ false
-      → fault class text ≡ Some (get_or text at 0)
-  fault-there plain never =
-      sym same ∙ ap (fault class) (drop_more text at 0 within) ∙ fault-here class (get_or text at 0) (drop (at + 1) text) plain never
-
 -- fine bytes at the front can be passed over
 fault-drop : (class : Class) (text : List ℕ) (j : ℕ) → AllFine class text 0 j → fault class (drop j text) ≡ fault class text
 fault-drop class text zero fine = refl
@@ -75,15 +64,29 @@ pub all_fine_then : (class : Class) (text : List ℕ) (middle to : ℕ) → AllF
 all_fine_then class text middle to front back k from before =
     elim (cases_lt k middle) [ inl below ↦ front k from below | inr past ↦ back k past before ]
 
+pub one_more_fine : (class : Class) (text : List ℕ) (at : ℕ) → AllFine class text 0 at → begins_fine class (drop at text) ≡ true → AllFine class text 0 (at + 1)
+one_more_fine class text at fine here =
+    all_fine_then class text at (at + 1) fine
+    (λ k from before. let same : at ≡ k = omega arith in subst (λ i. begins_fine class (drop i text) ≡ true) same here)
+
+-- neither a byte of the class nor an escape
+pub not_fine : (class : Class) (b : ℕ) (after : List ℕ) → is_plain class b ≡ false → is_escape b after ≡ false → begins_fine class (b ∷ after) ≡ false
+not_fine class b after plain never = rw (plain, never) refl
+
+pub not_fine_at : (class : Class) (text : List ℕ) (i : ℕ) → i < length text → is_plain class (get_or text i 0) ≡ false
+    → is_escape (get_or text i 0) (drop (i + 1) text) ≡ false → begins_fine class (drop i text) ≡ false
+not_fine_at class text i within plain never =
+    ap (begins_fine class) (drop_more text i 0 within) ∙ not_fine class (get_or text i 0) (drop (i + 1) text) plain never
+
 -- of so many bytes, those whose bit is unset are fine, and the others aren't plain
 pub record AreLeft (class : Class) (text : List ℕ) (at n left : ℕ) : Type 0 where
   pub passed : (k : ℕ) → k < n → bit_at left k ≡ 0 → begins_fine class (drop (at + k) text) ≡ true
   pub waiting : (k : ℕ) → bit_at left k ≡ 1 → (k < n) × (is_plain class (get_or text (at + k) 0) ≡ false)
 
-is_fine_plain : (class : Class) (text : List ℕ) (i : ℕ) → i < length text → is_plain class (get_or text i 0) ≡ true → begins_fine class (drop i text) ≡ true
+pub is_fine_plain : (class : Class) (text : List ℕ) (i : ℕ) → i < length text → is_plain class (get_or text i 0) ≡ true → begins_fine class (drop i text) ≡ true
 is_fine_plain class text i within plain = ap (begins_fine class) (drop_more text i 0 within) ∙ fine_plain class (get_or text i 0) (drop (i + 1) text) plain
 
-is_fine_escape : (class : Class) (text : List ℕ) (i : ℕ) → i < length text → is_escape (get_or text i 0) (drop (i + 1) text) ≡ true
+pub is_fine_escape : (class : Class) (text : List ℕ) (i : ℕ) → i < length text → is_escape (get_or text i 0) (drop (i + 1) text) ≡ true
     → begins_fine class (drop i text) ≡ true
 is_fine_escape class text i within escape =
     ap (begins_fine class) (drop_more text i 0 within) ∙ fine_escape class (get_or text i 0) (drop (i + 1) text) escape
@@ -184,21 +187,53 @@ module _ (class : Class) (text : List ℕ) (at n : ℕ) (room : at + n ≤ lengt
 
   -- none does
   pub fault_left : (left k : ℕ) → AreLeft class text at n left → bit_at left k ≡ 1 → ((j : ℕ) → j < k → bit_at left j ≡ 0)
-      → is_escape (get_or text (at + k) 0) (drop (at + k + 1) text) ≡ false
-      → AllFine class text 0 at → fault class text ≡ Some (get_or text (at + k) 0)
-  fault_left left k is set below never fine =
+      → is_escape (get_or text (at + k) 0) (drop (at + k + 1) text) ≡ false → IsFaultFrom class text at (at + k)
+  fault_left left k is set below never =
       let w = is.waiting k set in
-      let within = w.0 in
-      sym (fault-drop class text (at + k) (all_fine_then class text at (at + k) fine (fine_from left k is (omega arith) below)))
-      ∙ ap (fault class) (drop_more text (at + k) 0 (left_within left k is set)) ∙ fault-here class _ _ w.1 never
+      let short = w.0 in
+      record {
+        within = left_within left k is set;
+        fine = fine_from left k is (omega arith) below;
+        faulty = not_fine_at class text (at + k) (left_within left k is set) w.1 never;
+      }
 
-pub all_fine_end : (class : Class) (text : List ℕ) → AllFine class text 0 (length text) → fault class text ≡ None
-all_fine_end class text fine =
-    sym (fault-drop class text (length text) fine) ∙ ap (fault class) (drop_of_length-le text (omega arith)) ∙ fault-nil class
+-- ---- the place of the leftmost fault
 
-pub last_run : (class : Class) (text : List ℕ) (at to : ℕ) (o : Option ℕ)
-    → MatchOption o (AllFine class text at to) (λ b. AllFine class text 0 at → fault class text ≡ Some b)
-    → AllFine class text 0 at → to ≡ length text → o ≡ fault class text
+pub no_fault_place : (class : Class) (text : List ℕ) (at : ℕ) → AllFine class text 0 at → at ≡ length text → IsFaultPlace class text at
+no_fault_place class text at fine end = record { within = omega arith; fine = fine; faulty = λ more. absurd (omega arith) }
+
+pub fault_place_from : (class : Class) (text : List ℕ) (at place : ℕ) → AllFine class text 0 at → IsFaultFrom class text at place
+    → IsFaultPlace class text place
+fault_place_from class text at place fine is =
+    let within = is.within in
+    record { within = omega arith; fine = all_fine_then class text at place fine is.fine; faulty = λ _. is.faulty }
+
+pub last_run : (class : Class) (text : List ℕ) (at to : ℕ) (o : Option ℕ) → MatchOption o (AllFine class text at to) (λ place. IsFaultFrom class text at place)
+    → AllFine class text 0 at → to ≡ length text → IsFaultPlace class text (unwrap_or o (length text))
 last_run class text at to None h fine end =
-    sym (all_fine_end class text (all_fine_then class text at (length text) fine (λ k from before. h k from (omega arith))))
-last_run class text at to (Some b) h fine end = sym (h fine)
+    no_fault_place class text (length text) (all_fine_then class text at (length text) fine (λ k from before. h k from (omega arith))) refl
+last_run class text at to (Some place) h fine end = fault_place_from class text at place fine h
+
+-- what stands there decides
+pub fault_of_rest : (class : Class) (rest : List ℕ) → (0 < length rest → begins_fine class rest ≡ false) → fault class rest ≡ slice_get rest 0
+fault_of_rest class [] h = fault-nil class
+fault_of_rest class (b ∷ after) h = by_test (is_plain class b) refl (is_escape b after) refl (h (omega arith))
+  where
+    by_test : (v : Bool) → is_plain class b ≡ v → (w : Bool) → is_escape b after ≡ w → begins_fine class (b ∷ after) ≡ false → fault class (b ∷ after) ≡ Some b
+    by_test true e w f k = absurd (false≢true (sym k ∙ fine_plain class b after e))
+    by_test false e true f k = absurd (false≢true (sym k ∙ fine_escape class b after f))
+    by_test false e false f k = fault-here class b after e f
+
+pub fault_at_place : (class : Class) (text : List ℕ) (place : ℕ) → IsFaultPlace class text place → fault class text ≡ slice_get (drop place text) 0
+fault_at_place class text place is =
+    let within = is.within in
+    sym (fault-drop class text place is.fine)
+    ∙ fault_of_rest class (drop place text) (λ more. is.faulty (omega (arith, length-drop place text)))
+
+pub fault_found : (class : Class) (text : List ℕ) (place : ℕ) → IsFaultPlace class text place → place < length text → Some (get_or text place 0) ≡ fault class text
+fault_found class text place is within =
+    sym (fault_at_place class text place is ∙ ap (λ r. slice_get r 0) (drop_more text place 0 within))
+
+pub fault_absent : (class : Class) (text : List ℕ) (place : ℕ) → IsFaultPlace class text place → length text ≤ place → None ≡ fault class text
+fault_absent class text place is past =
+    sym (fault_at_place class text place is ∙ ap (λ r. slice_get r 0) (drop_of_length-le text past))

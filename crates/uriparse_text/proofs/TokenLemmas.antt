@@ -62,11 +62,11 @@ pub tokens-spell : (t : Token) (rest : List ℕ) → is_token t ≡ true → tok
 tokens-spell (Byte b) rest h = tokens-byte b rest (not_percent b rest h)
 tokens-spell (Escape high low) rest h = tokens-escape percent (high ∷ low ∷ rest) h
 
-no_escape_with : (b mark : ℕ) (u : List ℕ) → is_hex mark ≡ false → is_escape b (mark ∷ u) ≡ false
+pub no_escape_with : (b mark : ℕ) (u : List ℕ) → is_hex mark ≡ false → is_escape b (mark ∷ u) ≡ false
 no_escape_with b mark [] h = refl
 no_escape_with b mark (c ∷ u) h = rw h (rw (and-false (b == percent)) refl)
 
-no_escape_across : (b c mark : ℕ) (u : List ℕ) → is_hex mark ≡ false → is_escape b (c ∷ mark ∷ u) ≡ false
+pub no_escape_across : (b c mark : ℕ) (u : List ℕ) → is_hex mark ≡ false → is_escape b (c ∷ mark ∷ u) ≡ false
 no_escape_across b c mark u h = rw h (and-false (b == percent && is_hex c))
 
 -- a byte that stands in no escape is a token by itself, whatever is before it

@@ -1,5 +1,5 @@
 -- Which texts are in a class, and the leftmost fault of one that isn't.
-use Rattle.std.specs.Prelude.{◌≡◌, ℕ, ◌+◌, ◌<◌, ◌≤◌, Bool, true, not, ◌&&◌, ◌||◌, List, [], ◌∷◌, ◌++◌, drop, slice_index, false, Option}
+use Rattle.std.specs.Prelude.{◌≡◌, ℕ, ◌+◌, ◌<◌, ◌≤◌, Bool, true, not, ◌&&◌, ◌||◌, ◌==◌, List, [], ◌∷◌, ◌++◌, length, drop, slice_index, false, Option}
 use Rattle.std.specs.Int.{bit_at}
 use Rattle.std.specs.Option.{option_map}
 use Rattle.std.specs.List.{flat_map, list_all, find}
@@ -31,6 +31,12 @@ first_byte (Escape high low) = percent
 unfoldable pub fault : Class → List ℕ → Option ℕ
 fault class text = option_map first_byte (find (λ t. not (allows class t)) (tokens text))
 
+-- a byte that stands in no token of the class
+pub record EndsClass (class : Class) (b : ℕ) : Type 0 where
+  pub outside : is_plain class b ≡ false
+  pub no_sign : (b == percent) ≡ false
+  pub no_digit : is_hex b ≡ false
+
 -- ---- byte by byte, for a walk that passes over no digit: words of the clauses of private functions alone
 
 -- a byte of the class or an escape begins the text, or it is empty
@@ -47,6 +53,18 @@ abbrev pub AreInDoubt : Class → List ℕ → ℕ → ℕ → ℕ → Type 0
 AreInDoubt class text at n marks =
     ((k : ℕ) → k < n → bit_at marks k ≡ 0 → begins_fine class (drop (at + k) text) ≡ true)
     × ((k : ℕ) → bit_at marks k ≡ 1 → (k < n) × (is_plain class (slice_index text (at + k)) ≡ false))
+
+-- a byte from this place on at which no token of the class begins, where one begins at each before it
+pub record IsFaultFrom (class : Class) (text : List ℕ) (from place : ℕ) : Type 0 where
+  pub within : place < length text
+  pub fine : AllFine class text from place
+  pub faulty : begins_fine class (drop place text) ≡ false
+
+-- the leftmost place of the text at which no token of the class begins, or the length
+pub record IsFaultPlace (class : Class) (text : List ℕ) (place : ℕ) : Type 0 where
+  pub within : place ≤ length text
+  pub fine : AllFine class text 0 place
+  pub faulty : place < length text → begins_fine class (drop place text) ≡ false
 
 -- ---- the same in the standard's words
 

@@ -6,8 +6,12 @@ ghost use Rattle.uriparse_authority.specs.Authority as authority;
 
 use super::password::PasswordKind;
 use super::username::UsernameKind;
-use super::{Authority, AuthorityError, Host, HostError, PortError, parse_port};
-use uriparse_text::parts::{IsAny, first, read_text_if, split_at_mark, without_mark};
+use super::{
+    Authority, AuthorityError, Host, HostError, Password, PortError, Username, parse_port,
+};
+use uriparse_text::parts::{
+    IsAny, first, read_text_before, read_text_if, split_at_mark, without_mark,
+};
 
 /// The user information, if there is an `@` behind it, and what stands behind the `@`; or none, and
 /// the text.
@@ -22,16 +26,20 @@ fn split_userinfo(text: &[u8]) -> (Option<&[u8]>, &[u8])
     }
 }
 
-/// The user name and, behind the first `:`, the password of user information.
-fn split_password(userinfo: Option<&[u8]>) -> (Option<&[u8]>, Option<&[u8]>)
-    ensures username { option_copied result.0 ≡ authority.username_in (option_copied userinfo.entry) }
-    ensures password { option_copied result.1 ≡ authority.password_in (option_copied userinfo.entry) }
+/// Reads user information, if there is any: the user name, which runs to the first `:`, and the
+/// password behind it.
+fn read_userinfo(
+    text: Option<&[u8]>,
+) -> Result<(Option<Username<'_>>, Option<Password<'_>>), AuthorityError>
+    ensures { result ≡ authority.userinfo_reading (option_copied text.entry) }
 {
-    let Some(userinfo) = userinfo else {
-        return (None, None);
+    let Some(text) = text else {
+        return Ok((None, None));
     };
-    let (username, rest) = split_at_mark(userinfo, b':');
-    (Some(username), without_mark(rest))
+    match read_text_before::<UsernameKind>(text, b':') {
+        Ok((username, password)) => Ok((Some(username), read_text_if::<PasswordKind>(password)?)),
+        Err(error) => Err(AuthorityError::Username(error)),
+    }
 }
 
 /// The host and, behind the last `:` that no `]` follows, the port.
@@ -59,10 +67,8 @@ pub fn read_authority(bytes: &[u8]) -> Result<Authority<'_>, AuthorityError>
     ensures { result ≡ authority.reading bytes.now }
 {
     let (userinfo, host_and_port) = split_userinfo(bytes);
-    let (username, password) = split_password(userinfo);
     let (host, port) = split_port(host_and_port);
-    let username = read_text_if::<UsernameKind>(username)?;
-    let password = read_text_if::<PasswordKind>(password)?;
+    let (username, password) = read_userinfo(userinfo)?;
     let host = Host::try_from_bytes(host)?;
     let port = parse_port(port.unwrap_or(b""))?;
     Authority::from_parts(username, password, host, port)

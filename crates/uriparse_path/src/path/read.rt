@@ -1,14 +1,16 @@
 //! How a text is cut into segments: one walk that finds the leftmost fault and counts, and one
 //! that cuts.
-ghost use Rattle.std.specs.Prelude.{◌≡◌, ◌<◌, IfOk, true, length};
+ghost use Rattle.std.specs.Prelude.{◌≡◌, ◌<◌, ◌≤◌, ◌&&◌, IfOk, MatchResult, None, Some, true, length};
 ghost use Rattle.std.specs.List.{list_all, slice_split};
 ghost use Rattle.uriparse_text.specs.Readings.{unless_fault};
 ghost use Rattle.uriparse_path.specs.Segment as segment;
-ghost use Rattle.uriparse_path.specs.Path.{is_slash, is_rooted, unrooted};
-ghost use Rattle.uriparse_path.specs.Faults.{fault_within};
+ghost use Rattle.uriparse_text.specs.Cuts.{from_first, up_to};
+ghost use Rattle.uriparse_path.specs.Path.{IsPath, is_slash, is_rooted, pieces, spelled, unrooted};
+ghost use Rattle.uriparse_path.specs.Faults.{ends_path, fault, fault_within, path_front};
 
 use super::error::PathError;
 use super::segment::{Segment, fault_at};
+use super::{MAX_SEGMENTS, Path};
 use std::alloc::{AllocError, Global};
 use uriparse_text::parts::{Class, Is, Outside, is_escape, lowest, next_marks, without_lowest};
 
@@ -16,6 +18,7 @@ use uriparse_text::parts::{Class, Is, Outside, is_escape, lowest, next_marks, wi
 pub(super) fn split_root(text: &[u8]) -> (bool, &[u8])
     ensures root { result.0 ≡ is_rooted text.now }
     ensures rest { result.1.now ≡ unrooted text.now }
+    ensures within { length result.1.now ≤ length text.now }
 {
     match text {
         [b'/', rest @ ..] => (true, rest),
@@ -23,11 +26,27 @@ pub(super) fn split_root(text: &[u8]) -> (bool, &[u8])
     }
 }
 
-/// How many segments the text is cut into where so many may be, or its leftmost fault. Each byte
-/// outside the class of a segment is a slash, begins an escape or is the fault.
-pub(super) fn count_segments(limit: usize, text: &[u8]) -> Result<usize, PathError>
+/// Whether the path ends before this byte, where it may end before the text does.
+#[inline(always)]
+fn is_end(ends: bool, b: u8) -> bool
+    ensures { result ≡ (ends && ends_path b) }
+{
+    ends && matches!(b, b'?' | b'#')
+}
+
+/// How many segments the path in front of a text is cut into where so many may be, and how many
+/// bytes it has; or its leftmost fault. The path is the whole text, or it may end at the first `?`
+/// or `#`. Each byte outside the class of a segment is a slash, ends the path, begins an escape or
+/// is the fault.
+#[inline(always)]
+pub(super) fn count_segments(
+    limit: usize,
+    ends: bool,
+    text: &[u8],
+) -> Result<(usize, usize), PathError>
     requires { 0 < limit }
-    ensures { let ps = slice_split is_slash text.now in result ≡ unless_fault (fault_within limit ps) (length ps) }
+    ensures count { let front = path_front ends text.now in let ps = slice_split is_slash front in result ≡ unless_fault (fault_within limit ps) (length ps, length front) }
+    ensures within { IfOk result (λ m. m.1 ≤ length text.now) }
 {
     let mut count = 1;
     let mut at = 0;
@@ -42,6 +61,8 @@ pub(super) fn count_segments(limit: usize, text: &[u8]) -> Result<usize, PathErr
                     return Err(PathError::ExceededMaximumLength);
                 }
                 count += 1;
+            } else if is_end(ends, b) {
+                return Ok((count, at + k));
             } else if !is_escape(b, &text[at + k + 1..]) {
                 return Err(fault_at(b));
             }
@@ -49,7 +70,7 @@ pub(super) fn count_segments(limit: usize, text: &[u8]) -> Result<usize, PathErr
         }
         at += len;
     }
-    Ok(count)
+    Ok((count, at))
 }
 
 /// The segments that the text is cut into, of which there are so many. Each slash ends one.
@@ -77,4 +98,43 @@ pub(super) fn split_segments<'p>(
     }
     segments.push(Segment::of_checked(&text[start..]))?;
     Ok(segments)
+}
+
+/// The path that a text begins with, which has no fault, how many segments it has, and what stands
+/// behind it.
+#[derive(Clone, Copy)]
+pub struct PathFront<'t> {
+    /// The text of the path.
+    pub text: &'t [u8],
+    /// How many segments the path has.
+    pub segments: usize,
+    /// What stands behind the path: nothing, or a `?` or `#` and more.
+    pub behind: &'t [u8],
+}
+
+/// The path that a text begins with, which runs to the first `?` or `#`, or its leftmost fault. It
+/// is walked once. Takes no memory.
+pub fn split_path(text: &[u8]) -> Result<PathFront<'_>, PathError>
+    ensures { MatchResult result (λ r. (fault (up_to ends_path text.now) ≡ None) × (r.text.now ≡ up_to ends_path text.now) × (r.behind.now ≡ from_first ends_path text.now) × (r.segments ≡ length (pieces (up_to ends_path text.now)))) (λ e. fault (up_to ends_path text.now) ≡ Some e) }
+{
+    let (_, rest) = split_root(text);
+    let (segments, len) = count_segments(MAX_SEGMENTS, true, rest)?;
+    let (_, behind) = rest.split_at(len);
+    let (text, _) = text.split_at(text.len() - behind.len());
+    Ok(PathFront {
+        text,
+        segments,
+        behind,
+    })
+}
+
+/// The path that a text spells, which is known to be a path's. Room for so many segments is asked
+/// for at once.
+pub fn counted_path(alloc: Global, segments: usize, text: &[u8]) -> Result<Path<'_>, AllocError>
+    requires { IsPath text.now }
+    ensures { IfOk result (λ p. p ≡ spelled text.now) }
+{
+    let (absolute, rest) = split_root(text);
+    let segments = split_segments(alloc, segments, rest)?;
+    Ok(Path::of(absolute, segments))
 }

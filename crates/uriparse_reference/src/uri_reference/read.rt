@@ -1,31 +1,31 @@
 //! How the text of a reference is cut and its pieces are read: RFC 3986, sections 3 and 4.
-ghost use Rattle.std.specs.Prelude.{◌≡◌, IsErr, position, ◌||◌, not, Option, drop, is_some, true, false, MatchOption};
+ghost use Rattle.std.specs.Prelude.{◌≡◌, position, ◌||◌, not, Option, drop, is_some, true, false, Ok, Err, MatchOption, MatchResult};
 ghost use Rattle.std.specs.Option.{option_copied, option_map};
 ghost use Rattle.uriparse_text.specs.Bytes.{question_mark, number_sign};
-ghost use Rattle.uriparse_text.specs.Readings.{if_present, of_piece, unless_fault, IsUnless};
+ghost use Rattle.uriparse_text.specs.Readings.{if_present, of_piece, unless_fault};
+ghost use Rattle.uriparse_text.specs.Query as query;
 ghost use Rattle.uriparse_authority.specs.Authority as authority;
 ghost use Rattle.uriparse_authority.specs.Authority.{colon_part};
 ghost use Rattle.uriparse_text.specs.Cuts.{up_to, from_first, before, after};
-ghost use Rattle.uriparse_path.specs.Faults as paths;
-ghost use Rattle.uriparse_path.specs.Path.{has_two_slashes};
+ghost use Rattle.uriparse_path.specs.Path.{IsPath, has_two_slashes};
 ghost use Rattle.uriparse_scheme.specs.Scheme.{named};
-ghost use Rattle.uriparse_reference.specs.Cuts.{after_scheme, authority_text, cut_authority, ends_scheme, fragment_text, path_text, query_text, scheme_text, without_authority};
+ghost use Rattle.uriparse_reference.specs.Cuts.{after_authority, after_scheme, authority_text, cut_authority, ends_scheme, scheme_text, tail_fragment, tail_query, without_authority};
 ghost use Rattle.uriparse_path.specs.declared.path.error.PathError.TheVariants.{OutOfMemory};
 ghost use Rattle.uriparse_reference.specs.declared.uri_reference.error.URIReferenceError.TheVariants as errors;
-ghost use Rattle.uriparse_reference.specs.Reading.{IsAnswer, path_reading, tail_reading};
-ghost use Rattle.uriparse_reference.specs.Reference.{is_noscheme, path_refusal};
+ghost use Rattle.uriparse_reference.specs.Reading.{IsAnswer, IsUnlessMemory, behind_reading, tail_reading};
+ghost use Rattle.uriparse_reference.specs.Reference.{is_noscheme, path_of, path_refusal};
 
 use super::URIReference;
 use super::error::URIReferenceError;
 use std::alloc::Global;
 use uriparse_authority::authority::Authority;
 use uriparse_authority::parts::{read_authority, split_rest};
-use uriparse_path::parts::into_absolute;
-use uriparse_path::path::Path;
+use uriparse_path::parts::{counted_path, into_absolute, split_path};
+use uriparse_path::path::{Path, PathError};
 use uriparse_scheme::scheme::Scheme;
 use uriparse_text::fragment::{Fragment, FragmentKind};
-use uriparse_text::parts::{IsAny, first, read_text_if, split_at_mark, without_mark};
-use uriparse_text::query::{Query, QueryKind};
+use uriparse_text::parts::{read_text_before, read_text_if, split_at_mark};
+use uriparse_text::query::{Query, QueryError, QueryKind};
 
 /// A `:` ends a scheme, and behind a `/`, `?` or `#` none ends.
 fn ends_scheme(b: u8) -> bool
@@ -112,57 +112,32 @@ fn split_authority(text: &[u8]) -> (Option<&[u8]>, &[u8])
     (Some(authority), rest)
 }
 
-/// The path, which runs to the first `?` or `#`; the query behind a `?`, and the fragment behind
-/// the first `#`.
-fn split_tail(text: &[u8]) -> (&[u8], Option<&[u8]>, Option<&[u8]>)
-    ensures path { result.0.now ≡ before question_mark (before number_sign text.now) }
-    ensures query { option_copied result.1 ≡ after question_mark (before number_sign text.now) }
-    ensures fragment { option_copied result.2 ≡ after number_sign text.now }
-{
-    // Two marks end a path, and the test takes three: one is named twice.
-    let (path, rest) = text.split_at(first(&IsAny(b'?', b'#', b'#'), text));
-    match rest {
-        [b'?', behind @ ..] => {
-            let (query, rest) = split_at_mark(behind, b'#');
-            (path, Some(query), without_mark(rest))
-        }
-        [b'#', behind @ ..] => (path, None, Some(behind)),
-        _ => (path, None, None),
-    }
-}
-
-/// The pieces that the text of a reference is cut into. The scheme is read.
+/// What a text begins with: a scheme, which is read, and the text of an authority, if they are there;
+/// and what follows them.
 #[derive(Drop)]
-struct Pieces<'t> {
+struct Front<'t> {
     scheme: Option<Scheme<'t>>,
     authority: Option<&'t [u8]>,
-    path: &'t [u8],
-    query: Option<&'t [u8]>,
-    fragment: Option<&'t [u8]>,
+    rest: &'t [u8],
+}
+
+/// Cuts off the front of a reference's text.
+fn cut(text: &[u8]) -> Front<'_>
+    ensures scheme { result.scheme ≡ option_map named (scheme_text text.now) }
+    ensures authority { option_copied result.authority ≡ authority_text text.now }
+    ensures rest { result.rest.now ≡ after_authority text.now }
+{
+    let (scheme, rest) = split_scheme(text);
+    let (authority, rest) = split_authority(rest);
+    Front {
+        scheme,
+        authority,
+        rest,
+    }
 }
 
 /// A path, a query and a fragment.
 type Tail<'t> = (Path<'t>, Option<Query<'t>>, Option<Fragment<'t>>);
-
-/// Cuts the text of a reference.
-fn cut(text: &[u8]) -> Pieces<'_>
-    ensures scheme { result.scheme ≡ option_map named (scheme_text text.now) }
-    ensures authority { option_copied result.authority ≡ authority_text text.now }
-    ensures path { result.path.now ≡ path_text text.now }
-    ensures query { option_copied result.query ≡ query_text text.now }
-    ensures fragment { option_copied result.fragment ≡ fragment_text text.now }
-{
-    let (scheme, rest) = split_scheme(text);
-    let (authority, rest) = split_authority(rest);
-    let (path, query, fragment) = split_tail(rest);
-    Pieces {
-        scheme,
-        authority,
-        path,
-        query,
-        fragment,
-    }
-}
 
 /// Whether no colon stands in the first segment.
 fn lacks_colon_segment(path: &[u8]) -> bool
@@ -194,35 +169,65 @@ fn read_authority_if(text: Option<&[u8]>) -> Result<Option<Authority<'_>>, URIRe
     }
 }
 
-/// Reads the path, which is absolute behind an authority, and refuses one that may not stand there.
-fn read_path(
+/// The query that stands behind a path, if there is one, and the text of the fragment behind it.
+fn read_query(text: &[u8]) -> Result<(Option<Query<'_>>, Option<&[u8]>), QueryError>
+    ensures { MatchResult result (λ r. (if_present query.reading (tail_query text.now) ≡ Ok r.0) × (option_copied r.1 ≡ tail_fragment text.now)) (λ e. if_present query.reading (tail_query text.now) ≡ Err e) }
+{
+    match text {
+        [b'?', behind @ ..] => match read_text_before::<QueryKind>(behind, b'#') {
+            Ok((query, fragment)) => Ok((Some(query), fragment)),
+            Err(error) => Err(error),
+        },
+        [b'#', behind @ ..] => Ok((None, Some(behind))),
+        _ => Ok((None, None)),
+    }
+}
+
+/// Reads the query and the fragment that stand behind a path.
+fn read_behind(text: &[u8]) -> Result<(Option<Query<'_>>, Option<Fragment<'_>>), URIReferenceError>
+    ensures { result ≡ behind_reading (tail_query text.now) (tail_fragment text.now) }
+{
+    match read_query(text) {
+        Ok((query, fragment)) => Ok((query, read_text_if::<FragmentKind>(fragment)?)),
+        Err(error) => Err(URIReferenceError::Query(error)),
+    }
+}
+
+/// The path of a text that is known to be one's, absolute behind an authority. Room for so many
+/// segments is asked for.
+fn make_path(
+    alloc: Global,
+    has_authority: bool,
+    segments: usize,
+    text: &[u8],
+) -> Result<Path<'_>, URIReferenceError>
+    requires { IsPath text.now }
+    ensures { MatchResult result (λ p. p ≡ path_of has_authority text.now) (λ e. e ≡ errors.Path OutOfMemory) }
+{
+    match counted_path(alloc, segments, text) {
+        Ok(path) => Ok(if has_authority {
+            into_absolute(path)
+        } else {
+            path
+        }),
+        Err(_) => Err(URIReferenceError::Path(PathError::OutOfMemory)),
+    }
+}
+
+/// Reads the path, the query and the fragment of what follows a scheme, or none, and an authority,
+/// or none. Memory is asked for last, so each fault is answered whatever memory there is.
+fn read_tail(
     alloc: Global,
     has_scheme: bool,
     has_authority: bool,
     text: &[u8],
-) -> Result<Path<'_>, URIReferenceError>
-    ensures answer { IsUnless (errors.Path OutOfMemory) result (path_reading has_scheme has_authority text.now) }
-    ensures fault { IsErr (paths.reading text.now) → result ≡ path_reading has_scheme has_authority text.now }
+) -> Result<Tail<'_>, URIReferenceError>
+    ensures { IsUnlessMemory result (tail_reading has_scheme has_authority (before question_mark (before number_sign text.now)) (after question_mark (before number_sign text.now)) (after number_sign text.now)) }
 {
-    let path = Path::try_from_bytes(alloc, text)?;
-    check_path(has_scheme, has_authority, text)?;
-    Ok(if has_authority {
-        into_absolute(path)
-    } else {
-        path
-    })
-}
-
-/// Reads the path, the query and the fragment.
-fn read_tail<'t>(alloc: Global, pieces: &Pieces<'t>) -> Result<Tail<'t>, URIReferenceError>
-    ensures answer { IsUnless (errors.Path OutOfMemory) result (tail_reading (is_some pieces.now.scheme) (is_some pieces.now.authority) pieces.now.path.now (option_copied pieces.now.query) (option_copied pieces.now.fragment)) }
-    ensures fault { IsErr (paths.reading pieces.now.path.now) → result ≡ tail_reading (is_some pieces.now.scheme) (is_some pieces.now.authority) pieces.now.path.now (option_copied pieces.now.query) (option_copied pieces.now.fragment) }
-{
-    let has_scheme = pieces.scheme.is_some();
-    let has_authority = pieces.authority.is_some();
-    let path = read_path(alloc, has_scheme, has_authority, pieces.path)?;
-    let query = read_text_if::<QueryKind>(pieces.query)?;
-    let fragment = read_text_if::<FragmentKind>(pieces.fragment)?;
+    let front = split_path(text)?;
+    check_path(has_scheme, has_authority, front.text)?;
+    let (query, fragment) = read_behind(front.behind)?;
+    let path = make_path(alloc, has_authority, front.segments, front.text)?;
     Ok((path, query, fragment))
 }
 
@@ -235,11 +240,16 @@ impl<'r> URIReference<'r> {
     ) -> Result<URIReference<'r>, URIReferenceError>
         ensures { IsAnswer bytes.now result }
     {
-        let pieces = cut(bytes);
-        let authority = read_authority_if(pieces.authority)?;
-        let (path, query, fragment) = read_tail(alloc, &pieces)?;
+        let front = cut(bytes);
+        let authority = read_authority_if(front.authority)?;
+        let (path, query, fragment) = read_tail(
+            alloc,
+            front.scheme.is_some(),
+            front.authority.is_some(),
+            front.rest,
+        )?;
         Ok(URIReference {
-            scheme: pieces.scheme,
+            scheme: front.scheme,
             authority,
             path,
             query,

@@ -1,8 +1,8 @@
 //! The classes of bytes, by one table of flags: RFC 3986, sections 2.2, 2.3 and 3.2.1 to 3.5.
-ghost use Rattle.std.specs.Prelude.{◌≡◌, ◌+◌, ◌≤◌, length, MatchOption, Some};
+ghost use Rattle.std.specs.Prelude.{◌≡◌, ◌+◌, ◌≤◌, length, MatchOption};
 ghost use Rattle.uriparse_text.specs.Bytes as spec;
 ghost use Rattle.uriparse_text.specs.Classes.{is_plain};
-ghost use Rattle.uriparse_text.specs.Faults.{fault, AllFine, AreInDoubt};
+ghost use Rattle.uriparse_text.specs.Faults.{fault, AllFine, AreInDoubt, IsFaultFrom, IsFaultPlace};
 
 use super::bits::{lowest, without_lowest, without_triples};
 use super::scan::{Is, IsHex, Outside, marks_of_run, marks_of_short};
@@ -101,6 +101,19 @@ impl Class {
 pub fn fault_of(class: Class, text: &[u8]) -> Option<u8>
     ensures { result ≡ fault class text.now }
 {
+    let place = fault_place(class, text);
+    if place < text.len() {
+        Some(text[place])
+    } else {
+        None
+    }
+}
+
+/// Where that byte stands, or the length.
+#[inline]
+pub(super) fn fault_place(class: Class, text: &[u8]) -> usize
+    ensures { IsFaultPlace class text.now result }
+{
     if text.len() < 8 {
         fault_by_one(class, text)
     } else if text.len() < 16 {
@@ -113,61 +126,61 @@ pub fn fault_of(class: Class, text: &[u8]) -> Option<u8>
 /// The same for a short text, byte by byte. An escape's digits stand for themselves in each class,
 /// so no byte has to be passed over.
 #[inline(always)]
-fn fault_by_one(class: Class, text: &[u8]) -> Option<u8>
-    ensures { result ≡ fault class text.now }
+fn fault_by_one(class: Class, text: &[u8]) -> usize
+    ensures { IsFaultPlace class text.now result }
 {
     let mut at = 0;
     'bytes: while at < text.len() {
         let b = text[at];
         if !class.has(b) && !is_escape(b, &text[at + 1..]) {
-            return Some(b);
+            return at;
         }
         at += 1;
     }
-    None
+    at
 }
 
 /// The same for 8 to 16 bytes, all at once.
 #[inline(never)]
-fn fault_of_short(class: Class, text: &[u8]) -> Option<u8>
+fn fault_of_short(class: Class, text: &[u8]) -> usize
     requires least { 8 ≤ length text.now }
     requires most { length text.now ≤ 16 }
-    ensures { result ≡ fault class text.now }
+    ensures { IsFaultPlace class text.now result }
 {
     let outside = marks_of_short(&Outside(class), text);
     if outside == 0 {
-        return None;
+        return text.len();
     }
     let signs = marks_of_short(&Is(b'%'), text);
     let digits = marks_of_short(&IsHex, text);
     let left = without_triples(outside, signs, digits);
-    fault_at_marks(class, text, 0, text.len(), left)
+    fault_at_marks(class, text, 0, text.len(), left).unwrap_or(text.len())
 }
 
 /// The same for sixteen bytes or more. The last run begins where the one before it ends or earlier.
 #[inline(never)]
-fn fault_by_runs(class: Class, text: &[u8]) -> Option<u8>
+fn fault_by_runs(class: Class, text: &[u8]) -> usize
     requires { 16 ≤ length text.now }
-    ensures { result ≡ fault class text.now }
+    ensures { IsFaultPlace class text.now result }
 {
     let len = text.len();
     let mut at = 0;
     'runs: while len - at > 16 {
-        if let Some(b) = fault_in(class, text, at, at) {
-            return Some(b);
+        if let Some(place) = fault_in(class, text, at, at) {
+            return place;
         }
         at += 16;
     }
-    fault_in(class, text, len - 16, at)
+    fault_in(class, text, len - 16, at).unwrap_or(len)
 }
 
-/// Of the sixteen bytes from `at` on, the leftmost fault among those from `from` on.
+/// Of the sixteen bytes from `at` on, the place of the leftmost fault among those from `from` on.
 #[inline(always)]
-fn fault_in(class: Class, text: &[u8], at: usize, from: usize) -> Option<u8>
+fn fault_in(class: Class, text: &[u8], at: usize, from: usize) -> Option<usize>
     requires least { at ≤ from }
     requires most { from ≤ at + 16 }
     requires room { at + 16 ≤ length text.now }
-    ensures { MatchOption result (AllFine class text.now from (at + 16)) (λ b. AllFine class text.now 0 from → fault class text.now ≡ Some b) }
+    ensures { MatchOption result (AllFine class text.now from (at + 16)) (λ place. IsFaultFrom class text.now from place) }
 {
     let outside = marks_of_run(&Outside(class), text, at, from);
     if outside == 0 {
@@ -179,20 +192,19 @@ fn fault_in(class: Class, text: &[u8], at: usize, from: usize) -> Option<u8>
     fault_at_marks(class, text, from, at + 16 - from, left)
 }
 
-/// The leftmost fault among so many bytes, of which those with no mark are fine.
+/// The place of the leftmost fault among so many bytes, of which those with no mark are fine.
 #[inline(always)]
-fn fault_at_marks(class: Class, text: &[u8], from: usize, len: usize, marks: u64) -> Option<u8>
+fn fault_at_marks(class: Class, text: &[u8], from: usize, len: usize, marks: u64) -> Option<usize>
     requires short { len ≤ 16 }
     requires room { from + len ≤ length text.now }
     requires marks { AreInDoubt class text.now from len marks }
-    ensures { MatchOption result (AllFine class text.now from (from + len)) (λ b. AllFine class text.now 0 from → fault class text.now ≡ Some b) }
+    ensures { MatchOption result (AllFine class text.now from (from + len)) (λ place. IsFaultFrom class text.now from place) }
 {
     let mut left = marks;
     'marks: while left != 0 {
         let k = lowest(left);
-        let b = text[from + k];
-        if !is_escape(b, &text[from + k + 1..]) {
-            return Some(b);
+        if !is_escape(text[from + k], &text[from + k + 1..]) {
+            return Some(from + k);
         }
         left = without_lowest(left);
     }

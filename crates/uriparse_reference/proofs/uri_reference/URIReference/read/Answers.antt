@@ -1,19 +1,26 @@
-use Rattle.std.proofs.Common.{◌≡◌, Ok, Err, sym, ◌∙◌, rules}
-use Rattle.std.specs.Option.{option_copied}
+use Rattle.std.proofs.Common.{◌≡◌, Ok, Err, sym, ap, ◌∙◌, rules}
+use Rattle.std.specs.Prelude.{is_some}
+use Rattle.uriparse_text.specs.Bytes.{question_mark, number_sign}
+use Rattle.uriparse_text.specs.Cuts.{before, after}
 use Rattle.uriparse_text.specs.Readings.{◌>>=◌}
 use Rattle.uriparse_reference.specs.Reading.{IsAnswer}
 use Rattle.uriparse_reference.proofs.ReferenceLemmas.{found, read_whole, tail_answer, with_tail}
+use Rattle.uriparse_reference.proofs.TailLemmas.{tail_along}
 use Rattle.uriparse_reference.proofs.ValidLemmas.{valid}
 use Rattle.uriparse_reference.proofs.uri_reference.URIReference.read.Goals.{After-read_tail}
 use Rattle.uriparse_reference.proofs.uri_reference.URIReference.read.Goals as goal
 
-told : (c : After-read_tail) → IsAnswer c.args.bytes.now (c.read_tail.result >>= λ x. Ok (with_tail c.cut-pieces.result.scheme c.in_ok-authority.authority x))
+told : (c : After-read_tail) → IsAnswer c.args.bytes.now (c.read_tail.result >>= λ x. Ok (with_tail c.cut-front.result.scheme c.in_ok-authority.authority x))
 told c =
-    let cut = c.cut-pieces.ensures in
-    let pieces = c.cut-pieces.result in
-    tail_answer c.args.bytes.now pieces.scheme pieces.authority pieces.path.now (option_copied pieces.query) (option_copied pieces.fragment)
-    c.in_ok-authority.authority cut.scheme cut.authority cut.path cut.query cut.fragment (sym c.read_authority_if.ensures ∙ c.in_ok-authority.was)
-    c.read_tail.result c.read_tail.ensures.answer c.read_tail.ensures.fault
+    let cut = c.cut-front.ensures in
+    let front = c.cut-front.result in
+    let u = front.rest.now in
+    tail_answer c.args.bytes.now front.scheme front.authority (before question_mark (before number_sign u)) (after question_mark (before number_sign u))
+    (after number_sign u) c.in_ok-authority.authority cut.scheme cut.authority
+    (ap (λ u. before question_mark (before number_sign u)) cut.rest) (ap (λ u. after question_mark (before number_sign u)) cut.rest)
+    (ap (after number_sign) cut.rest) (sym c.read_authority_if.ensures ∙ c.in_ok-authority.was) c.read_tail.result
+    (tail_along c.is_some.result (is_some front.scheme) c.is_some-2.result (is_some front.authority) u c.read_tail.result c.is_some.ensures
+    c.is_some-2.ensures c.read_tail.ensures)
 
 pub invariant_of-result : goal.invariant_of-result
 invariant_of-result c =

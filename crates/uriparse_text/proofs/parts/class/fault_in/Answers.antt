@@ -1,6 +1,6 @@
-use Rattle.std.proofs.Common.{◌≡◌, ◌+◌, ◌-◌, Some, subst, arith}
+use Rattle.std.proofs.Common.{◌≡◌, ◌+◌, ◌-◌, subst, arith}
 use Rattle.std.specs.Prelude.{MatchOption}
-use Rattle.uriparse_text.specs.Faults.{fault, AllFine}
+use Rattle.uriparse_text.specs.Faults.{AllFine, IsFaultFrom}
 use Rattle.uriparse_text.proofs.FineLemmas.{in_doubt, none_outside}
 use Rattle.uriparse_text.proofs.parts.class.fault_in.Goals as goal
 
@@ -23,5 +23,5 @@ returns c =
     let text = c.args.text.now in
     let from = c.args.from in
     let end : from + (c.args.at + 16 - from) ≡ c.args.at + 16 = omega arith in
-    subst (λ to. MatchOption c.fault_at_marks.result (AllFine class text from to) (λ b. AllFine class text 0 from → fault class text ≡ Some b)) end
+    subst (λ to. MatchOption c.fault_at_marks.result (AllFine class text from to) (λ place. IsFaultFrom class text from place)) end
     c.fault_at_marks.ensures
