@@ -287,12 +287,12 @@ found a p k =
     (piece_found errors.Host _ z.0 z.1) (piece_found errors.Port _ v.0 v.1))
 
 -- where the first pieces are read, the fault is that of the next
-pub host_fault : (a : List ℕ) (u w : Option (List ℕ)) (e : HostError) → if_present username.reading (username_text a) ≡ Ok u
+host_fault : (a : List ℕ) (u w : Option (List ℕ)) (e : HostError) → if_present username.reading (username_text a) ≡ Ok u
     → if_present password.reading (password_text a) ≡ Ok w → host.reading (host_text a) ≡ Err e → reading a ≡ Err (errors.Host e)
 unfolding reading
 host_fault a u w e x y z = rw x (rw y (rw z refl))
 
-pub port_fault : (a : List ℕ) (u w : Option (List ℕ)) (h : Host) (e : PortError) → if_present username.reading (username_text a) ≡ Ok u
+port_fault : (a : List ℕ) (u w : Option (List ℕ)) (h : Host) (e : PortError) → if_present username.reading (username_text a) ≡ Ok u
     → if_present password.reading (password_text a) ≡ Ok w → host.reading (host_text a) ≡ Ok h → port.reading (unwrap_or (port_text a) []) ≡ Err e
     → reading a ≡ Err (errors.Port e)
 unfolding reading
@@ -305,7 +305,7 @@ pair v z = (v, z)
 ok_is : {A : Type 0} (x y : A) → ◌≡◌ {A = Result A AuthorityError} (Ok x) (Ok y) → x ≡ y
 ok_is x y h = cc
 
-pub userinfo_read : (i u w : Option (List ℕ)) → userinfo_reading i ≡ Ok (u, w)
+userinfo_read : (i u w : Option (List ℕ)) → userinfo_reading i ≡ Ok (u, w)
     → (if_present username.reading (username_in i) ≡ Ok u) × (if_present password.reading (password_in i) ≡ Ok w)
 userinfo_read i u w = by_results (if_present username.reading (username_in i)) (if_present password.reading (password_in i))
   where
@@ -315,7 +315,7 @@ userinfo_read i u w = by_results (if_present username.reading (username_in i)) (
     by_results (Ok v) (Err e) h = cc
     by_results (Err e) y h = cc
 
-pub userinfo_fault : (a : List ℕ) (e : AuthorityError) → userinfo_reading (userinfo_text a) ≡ Err e → reading a ≡ Err e
+userinfo_fault : (a : List ℕ) (e : AuthorityError) → userinfo_reading (userinfo_text a) ≡ Err e → reading a ≡ Err e
 unfolding reading
 userinfo_fault a e h = by_results (if_present username.reading (username_text a)) refl (if_present password.reading (password_text a)) refl h
   where
@@ -338,12 +338,35 @@ paired (Some t) None (Some w) x y = by_reading (username.reading (before colon t
     by_reading (Ok z) k = cc
     by_reading (Err e) k = cc
 
-pub parts_read : (a : List ℕ) (u w : Option (List ℕ)) (h : Host) (n : Option ℕ) → if_present username.reading (username_text a) ≡ Ok u
+parts_read : (a : List ℕ) (u w : Option (List ℕ)) (h : Host) (n : Option ℕ) → if_present username.reading (username_text a) ≡ Ok u
     → if_present password.reading (password_text a) ≡ Ok w → host.reading (host_text a) ≡ Ok h → port.reading (unwrap_or (port_text a) []) ≡ Ok n
     → reading a ≡ Ok (of_parts u w h n)
 unfolding reading
 parts_read a u w h n x y z v =
     rw x (rw y (rw z (rw v (ap (λ o. Ok (record { username = o; password = w; host = h; port = n })) (paired (userinfo_text a) u w x y)))))
+
+-- ---- what reading answers, by the pieces that the text was cut into
+
+module _ (a : List ℕ) (i : Option (List ℕ)) (is_userinfo : i ≡ userinfo_text a) where
+  pub refused_userinfo : (e : AuthorityError) → userinfo_reading i ≡ Err e → reading a ≡ Err e
+  refused_userinfo e x = userinfo_fault a e (ap userinfo_reading (sym is_userinfo) ∙ x)
+
+  module _ (u w : Option (List ℕ)) (x : userinfo_reading i ≡ Ok (u, w)) (t : List ℕ) (is_host : t ≡ host_text a) where
+    both_read : (if_present username.reading (username_text a) ≡ Ok u) × (if_present password.reading (password_text a) ≡ Ok w)
+    both_read = userinfo_read (userinfo_text a) u w (ap userinfo_reading (sym is_userinfo) ∙ x)
+
+    pub refused_host : (e : HostError) → host.reading t ≡ Err e → reading a ≡ Err (errors.Host e)
+    refused_host e y = host_fault a u w e both_read.0 both_read.1 (ap host.reading (sym is_host) ∙ y)
+
+    module _ (h : Host) (y : host.reading t ≡ Ok h) where
+      host_read : host.reading (host_text a) ≡ Ok h
+      host_read = ap host.reading (sym is_host) ∙ y
+
+      pub refused_port : (e : PortError) → port.reading (unwrap_or (port_text a) []) ≡ Err e → reading a ≡ Err (errors.Port e)
+      refused_port e z = port_fault a u w h e both_read.0 both_read.1 host_read z
+
+      pub accepted : (n : Option ℕ) → port.reading (unwrap_or (port_text a) []) ≡ Ok n → reading a ≡ Ok (of_parts u w h n)
+      accepted n z = parts_read a u w h n both_read.0 both_read.1 host_read z
 
 pub exact : IsExact Spells reading
 exact = record { again = again; found = found }

@@ -194,6 +194,18 @@ tail_of h q f i k =
       ap (after number_sign) w ∙ after_of number_sign (h ++ behind question_mark q) f refl l,
     )
 
+-- The path lacks both bytes, as what stands before the first of each does.
+pub path_cut : (u : List ℕ) → up_to ends_path u ≡ before question_mark (before number_sign u)
+path_cut [] = refl
+path_cut (b ∷ u) = at_byte (b == question_mark) refl (b == number_sign) refl (path_cut u)
+  where
+    at_byte : (v : Bool) → (b == question_mark) ≡ v → (w : Bool) → (b == number_sign) ≡ w → up_to ends_path u ≡ before question_mark (before number_sign u)
+        → cond (v || w) [] (b ∷ up_to ends_path u) ≡ before question_mark (cond w [] (b ∷ before number_sign u))
+    at_byte true e true f h = refl
+    at_byte true e false f h = rw e refl
+    at_byte false e true f h = refl
+    at_byte false e false f h = rw e (ap (λ l. b ∷ l) h)
+
 -- ---- a text that is joined from such pieces is cut into them
 
 pub record ArePieces (s a : Option (List ℕ)) (h : List ℕ) (q : Option (List ℕ)) : Type 0 where
@@ -220,7 +232,7 @@ cut_again t s a h q f are whole =
     record {
       scheme = ap scheme_text whole ∙ b.0;
       authority = ap authority_text whole ∙ ap cut_authority b.1 ∙ c.0;
-      path = ap (λ u. before question_mark (before number_sign u)) left_over ∙ d.0;
+      path = ap (up_to ends_path) left_over ∙ path_cut (h ++ tail q f) ∙ d.0;
       query = ap (λ u. after question_mark (before number_sign u)) left_over ∙ d.1;
       fragment = ap (λ u. after number_sign u) left_over ∙ d.2;
     }
@@ -331,18 +343,7 @@ stripped t front u h e =
     sym (take-append-drop (length front) t) ∙ ap (λ f. f ++ drop (length front) t) (same_text (take (length front) t) front (sym h))
     ∙ ap (λ r. front ++ r) (sym e)
 
--- ---- the path, by one cut at the first `?` or `#`
-
-pub path_cut : (u : List ℕ) → up_to ends_path u ≡ before question_mark (before number_sign u)
-path_cut [] = refl
-path_cut (b ∷ u) = at_byte (b == question_mark) refl (b == number_sign) refl (path_cut u)
-  where
-    at_byte : (v : Bool) → (b == question_mark) ≡ v → (w : Bool) → (b == number_sign) ≡ w → up_to ends_path u ≡ before question_mark (before number_sign u)
-        → cond (v || w) [] (b ∷ up_to ends_path u) ≡ before question_mark (cond w [] (b ∷ before number_sign u))
-    at_byte true e true f h = refl
-    at_byte true e false f h = rw e refl
-    at_byte false e true f h = refl
-    at_byte false e false f h = rw e (ap (λ l. b ∷ l) h)
+-- ---- the query and the fragment, by the cut at the first `?` or `#`
 
 pub query_cut : (u : List ℕ) → tail_query (from_first ends_path u) ≡ after question_mark (before number_sign u)
 query_cut [] = refl

@@ -1,5 +1,5 @@
 -- What the pieces lack that a text is cut into.
-use Rattle.std.proofs.Common.{◌≡◌, ℕ, Bool, true, false, cond, List, drop, Option, Some, None, refl}
+use Rattle.std.proofs.Common.{◌≡◌, ℕ, Bool, true, false, cond, List, drop, Option, Some, None, refl, ap, ◌∙◌}
 use Rattle.std.specs.Prelude.{IfSome}
 use Rattle.uriparse_text.specs.Bytes.{colon, question_mark, number_sign}
 use Rattle.uriparse_text.specs.Cuts.{lacks, none_pass, before, front, up_to}
@@ -8,6 +8,7 @@ use Rattle.uriparse_path.specs.Path.{has_two_slashes}
 use Rattle.uriparse_authority.specs.Authority.{ends_authority}
 use Rattle.uriparse_scheme.specs.Scheme as scheme
 use Rattle.uriparse_reference.specs.Cuts.{if_scheme, scheme_text, after_scheme, authority_text, after_authority, path_text, query_text}
+use Rattle.uriparse_reference.proofs.CutLemmas.{path_cut}
 
 -- ---- what the pieces lack
 
@@ -30,10 +31,11 @@ authority_lacks t = by_slashes (has_two_slashes (after_scheme t))
     by_slashes false = tt
 
 pub path_lacks_question_mark : (t : List ℕ) → lacks question_mark (path_text t) ≡ true
-path_lacks_question_mark t = before-lacks question_mark (before number_sign (after_authority t))
+path_lacks_question_mark t = ap (lacks question_mark) (path_cut (after_authority t)) ∙ before-lacks question_mark (before number_sign (after_authority t))
 
 pub path_lacks_number_sign : (t : List ℕ) → lacks number_sign (path_text t) ≡ true
-path_lacks_number_sign t = lacks-before number_sign question_mark (before number_sign (after_authority t)) (before-lacks number_sign (after_authority t))
+path_lacks_number_sign t = ap (lacks number_sign) (path_cut (after_authority t))
+    ∙ lacks-before number_sign question_mark (before number_sign (after_authority t)) (before-lacks number_sign (after_authority t))
 
 pub query_lacks_number_sign : (t : List ℕ) → IfSome (query_text t) (λ q. lacks number_sign q ≡ true)
 query_lacks_number_sign t = lacks-after number_sign question_mark (before number_sign (after_authority t)) (before-lacks number_sign (after_authority t))

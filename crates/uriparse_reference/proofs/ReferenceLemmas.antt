@@ -16,6 +16,7 @@ use Rattle.uriparse_text.proofs.CutLemmas.{from_first-head, cut-whole, before_af
 use Rattle.uriparse_text.proofs.ReadingLemmas.{texts_again, texts_found, present_again, present_found, piece_found, bind_ok, none_or}
 use Rattle.uriparse_path.specs.Path.{PathParts, IsPath, is_slash, is_rooted, has_two_slashes}
 use Rattle.uriparse_path.specs.Faults as path_faults
+use Rattle.uriparse_path.specs.Faults.{ends_path}
 use Rattle.uriparse_path.proofs.ReadLemmas.{reading-path, path_read}
 use Rattle.uriparse_authority.specs.Authority as authority
 use Rattle.uriparse_authority.specs.Authority.{AuthorityParts, ends_authority}
@@ -32,7 +33,7 @@ use Rattle.uriparse_reference.specs.Cuts.{if_scheme, scheme_text, unless_scheme,
 use Rattle.uriparse_reference.specs.Cuts.{after_authority, path_text, query_text, fragment_text}
 use Rattle.uriparse_reference.specs.Reading.{path_reading, tail_reading, reading, fault, IsAnswer, IsUnlessMemory}
 use Rattle.uriparse_reference.proofs.TailLemmas.{Tail}
-use Rattle.uriparse_reference.proofs.CutLemmas.{tail, ArePieces, cut_again}
+use Rattle.uriparse_reference.proofs.CutLemmas.{tail, ArePieces, cut_again, path_cut}
 
 -- ---- what is spelled so is read so
 
@@ -116,8 +117,9 @@ authority_whole u = at_test (has_two_slashes u) refl
     at_test true e = ap (λ x. slash ∷ slash ∷ x) (cut-whole ends_authority (drop 2 u)) ∙ two_slashes u e
     at_test false e = refl
 
-pub tail_whole : (u : List ℕ) → before question_mark (before number_sign u) ++ tail (after question_mark (before number_sign u)) (after number_sign u) ≡ u
-tail_whole u = sym (append_assoc (before question_mark (before number_sign u)) (behind question_mark (after question_mark (before number_sign u)))
+pub tail_whole : (u : List ℕ) → up_to ends_path u ++ tail (after question_mark (before number_sign u)) (after number_sign u) ≡ u
+tail_whole u = ap (λ h. h ++ tail (after question_mark (before number_sign u)) (after number_sign u)) (path_cut u)
+    ∙ sym (append_assoc (before question_mark (before number_sign u)) (behind question_mark (after question_mark (before number_sign u)))
     (behind number_sign (after number_sign u))) ∙ ap (λ x. x ++ behind number_sign (after number_sign u)) (before_after question_mark (before number_sign u))
     ∙ before_after number_sign u
 
@@ -137,8 +139,8 @@ schemes_spell t = by_front (front colon t)
     by_front (Some s) = by_test s (scheme.is_scheme s) refl
 
 -- behind an authority that is cut off stands nothing or a slash, once query and fragment are cut off too
-pub abempty_cut : (u : List ℕ) → is_abempty (before question_mark (before number_sign (from_first ends_authority u))) ≡ true
-abempty_cut u = by_rest (from_first ends_authority u) refl
+pub abempty_cut : (u : List ℕ) → is_abempty (up_to ends_path (from_first ends_authority u)) ≡ true
+abempty_cut u = ap is_abempty (path_cut (from_first ends_authority u)) ∙ by_rest (from_first ends_authority u) refl
   where
     by_ends : (b : ℕ) (r : List ℕ) (v w : Bool) → (b == number_sign) ≡ v → (b == question_mark) ≡ w → ends_authority b ≡ true
         → is_abempty (before question_mark (cond v [] (b ∷ before number_sign r))) ≡ true
@@ -155,7 +157,7 @@ abempty_text t = by_slashes (has_two_slashes (after_scheme t))
   where
     by_slashes : (v : Bool)
         → IfSome (cond v (Some (up_to ends_authority (drop 2 (after_scheme t)))) None)
-        (λ _. is_abempty (before question_mark (before number_sign (cond v (from_first ends_authority (drop 2 (after_scheme t))) (after_scheme t)))) ≡ true)
+        (λ _. is_abempty (up_to ends_path (cond v (from_first ends_authority (drop 2 (after_scheme t))) (after_scheme t))) ≡ true)
     by_slashes true = abempty_cut (drop 2 (after_scheme t))
     by_slashes false = tt
 

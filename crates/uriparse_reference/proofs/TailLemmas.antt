@@ -16,7 +16,7 @@ use Rattle.uriparse_reference.specs.declared.uri_reference.error.URIReferenceErr
 use Rattle.uriparse_reference.specs.Reference.{path_of, path_refusal}
 use Rattle.uriparse_reference.specs.Cuts.{tail_query, tail_fragment}
 use Rattle.uriparse_reference.specs.Reading.{IsUnlessMemory, behind_reading, tail_reading}
-use Rattle.uriparse_reference.proofs.CutLemmas.{path_cut, query_cut, fragment_cut}
+use Rattle.uriparse_reference.proofs.CutLemmas.{query_cut, fragment_cut}
 
 abbrev pub Tail : Type 0
 Tail = PathParts × Option (List ℕ) × Option (List ℕ)
@@ -27,8 +27,7 @@ with_path p x = (p, x.0, x.1)
 -- The path, the query and the fragment are read from the text: what may be answered.
 abbrev pub IsTail : Bool → Bool → List ℕ → Result Tail URIReferenceError → Type 0
 IsTail v w u answer =
-    IsUnlessMemory answer
-    (tail_reading v w (before question_mark (before number_sign u)) (after question_mark (before number_sign u)) (after number_sign u))
+    IsUnlessMemory answer (tail_reading v w (up_to ends_path u) (after question_mark (before number_sign u)) (after number_sign u))
 
 module _ (v w : Bool) where
   module _ (h : List ℕ) (q f : Option (List ℕ)) where
@@ -50,11 +49,10 @@ module _ (v w : Bool) where
           by_results (Err e) f = refl
 
   module _ (u : List ℕ) where
-    tail_is : tail_reading v w (before question_mark (before number_sign u)) (after question_mark (before number_sign u)) (after number_sign u)
+    tail_is : tail_reading v w (up_to ends_path u) (after question_mark (before number_sign u)) (after number_sign u)
         ≡ tail_reading v w (up_to ends_path u) (tail_query (from_first ends_path u)) (tail_fragment (from_first ends_path u))
     tail_is =
-        ap (λ h. tail_reading v w h (after question_mark (before number_sign u)) (after number_sign u)) (sym (path_cut u))
-        ∙ ap (λ q. tail_reading v w (up_to ends_path u) q (after number_sign u)) (sym (query_cut u))
+        ap (λ q. tail_reading v w (up_to ends_path u) q (after number_sign u)) (sym (query_cut u))
         ∙ ap (tail_reading v w (up_to ends_path u) (tail_query (from_first ends_path u))) (sym (fragment_cut u))
 
     pub refused_path : (e : PathError) → paths.fault (up_to ends_path u) ≡ Some e → IsTail v w u (Err (errors.Path e))
@@ -67,7 +65,7 @@ module _ (v w : Bool) where
 
       module _ (placed : path_refusal v w h ≡ None) where
         read_is : (r : Result (Option (List ℕ) × Option (List ℕ)) URIReferenceError) → r ≡ behind_reading (tail_query back) (tail_fragment back)
-            → tail_reading v w (before question_mark (before number_sign u)) (after question_mark (before number_sign u)) (after number_sign u)
+            → tail_reading v w (up_to ends_path u) (after question_mark (before number_sign u)) (after number_sign u)
             ≡ (r >>= λ x. Ok (with_path (path_of w h) x))
         read_is r is =
             tail_is ∙ behind_last (up_to ends_path u) _ _ none (ap (path_refusal v w) (sym front) ∙ placed)

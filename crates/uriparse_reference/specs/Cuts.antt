@@ -3,6 +3,7 @@ use Rattle.std.specs.Prelude.{ℕ, Bool, ◌==◌, ◌||◌, if◌then◌else◌
 use Rattle.uriparse_text.specs.Bytes.{colon, question_mark, number_sign}
 use Rattle.uriparse_text.specs.Cuts.{front, rest, before, after, up_to, from_first}
 use Rattle.uriparse_path.specs.Path.{has_two_slashes}
+use Rattle.uriparse_path.specs.Faults.{ends_path}
 use Rattle.uriparse_authority.specs.Authority.{ends_authority}
 use Rattle.uriparse_scheme.specs.Scheme.{is_scheme}
 
@@ -41,10 +42,11 @@ without_authority u = if has_two_slashes u then from_first ends_authority (drop 
 abbrev pub after_authority : List ℕ → List ℕ
 after_authority t = without_authority (after_scheme t)
 
--- The fragment is behind the first "#", the query behind the first "?" before that, and the path is left.
+-- The path runs to the first "?" or "#", or the end.
 abbrev pub path_text : List ℕ → List ℕ
-path_text t = before question_mark (before number_sign (after_authority t))
+path_text t = up_to ends_path (after_authority t)
 
+-- The fragment is behind the first "#", the query behind the first "?" before that.
 abbrev pub query_text : List ℕ → Option (List ℕ)
 query_text t = after question_mark (before number_sign (after_authority t))
 

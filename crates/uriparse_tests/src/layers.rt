@@ -36,10 +36,9 @@ impl Layer for Part {
 
     fn answer(&self, alloc: Global, asked: &str) -> Answer {
         match self {
-            Part::References | Part::ReferenceEdits | Part::Kinds => {
+            Part::References | Part::ReferenceEdits | Part::NormalForms | Part::Kinds => {
                 references::answer(alloc, asked)
             }
-            Part::NormalForms => normal_forms::answer(alloc, asked),
             Part::Resolutions => resolutions::answer(alloc, asked),
             Part::Uris => uris::answer(alloc, asked),
             Part::Relatives => relatives::answer(alloc, asked),

@@ -1,19 +1,8 @@
 //! Normal forms of references.
 
-use crate::reference::{Reads, Reference, told};
-use crate::references;
-use rows::answer::{Answer, refused, said, shows, words};
+use crate::reference::{Reference, told};
+use rows::answer::{Answer, said, shows};
 use std::alloc::{AllocError, Global};
-use uriparse::URIReference;
-
-/// Whether what this text reads as is in normal form.
-fn is_normal<'t, T: Reads<'t>>(alloc: Global, text: &'t str) -> Answer {
-    match T::of_str(alloc, text) {
-        Ok(value) if value.as_reference().is_normalized() => said(alloc, "normal"),
-        Ok(_) => said(alloc, "not normal"),
-        Err(why) => refused(alloc, why),
-    }
-}
 
 /// Whether the value is in normal form, and can be brought into it.
 fn is_settled<'t, T: Reference<'t>>(alloc: Global, value: &mut T) -> bool {
@@ -47,15 +36,6 @@ pub fn normalized<'t, T: Reference<'t>>(alloc: Global, value: &mut T) -> Answer 
     normal_form(alloc, value, printed.as_str())
 }
 
-/// The answer to a question about a reference's normal form.
-pub fn answer(alloc: Global, asked: &str) -> Answer {
-    let (command, text, _) = words(asked);
-    match command {
-        "is-normal" => is_normal::<URIReference<'_>>(alloc, text),
-        _ => references::answer(alloc, asked),
-    }
-}
-
 pub const ROWS: &str = "\
 normalize HTTP://User:@EXAMPLE.com:0080/%7Ea -> http://User:@example.com:80/~a
 normalize //%31.2.3.4 -> //1.2.3.4/
@@ -86,14 +66,14 @@ normalize s:a:b/../c -> s:/c
 normalize ?%7e#%c3%A9 -> ?~#%C3%A9
 normalize //%7eu:%7Ep@H/ -> //~u:~p@h/
 normalize '' -> ''
-is-normal s:/.//b -> normal
-is-normal ./c:d -> normal
-is-normal http://example.com -> normal
-is-normal a/. -> not normal
-is-normal s:/.//. -> not normal
-is-normal SCHEME:a -> not normal
-is-normal //H -> not normal
-is-normal ?%7e -> not normal
-is-normal #%c3 -> not normal
+is-normal s:/.//b -> true
+is-normal ./c:d -> true
+is-normal http://example.com -> true
+is-normal a/. -> false
+is-normal s:/.//. -> false
+is-normal SCHEME:a -> false
+is-normal //H -> false
+is-normal ?%7e -> false
+is-normal #%c3 -> false
 edits s:a/./%7e -> s:a/~?q~#f%7e
 edits s:/.//a?b -> s:/.//a?q~#f%7e";

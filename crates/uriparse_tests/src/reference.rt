@@ -139,8 +139,12 @@ pub fn made<'t, T: Shown<'t>, E: Display + Drop>(alloc: Global, made: Result<T, 
 }
 
 /// Adds the path and what is behind it.
-fn add_back(text: &mut String, parts: Parts<'_, '_>) -> Result<(), AllocError> {
-    let (_, _, path, query, fragment) = parts;
+fn add_back(
+    text: &mut String,
+    path: &Path<'_>,
+    query: Option<&Query<'_>>,
+    fragment: Option<&Fragment<'_>>,
+) -> Result<(), AllocError> {
     add(text, "path", Some(path))?;
     add(text, "query", query)?;
     add(text, "fragment", fragment)
@@ -151,7 +155,7 @@ pub fn listed(alloc: Global, parts: Parts<'_, '_>, of_authority: AuthorityParts<
     let mut text = String::new(alloc);
     add(&mut text, "scheme", parts.0)?;
     add_authority(&mut text, of_authority)?;
-    add_back(&mut text, parts)?;
+    add_back(&mut text, parts.2, parts.3, parts.4)?;
     said(alloc, text.as_str().trim_start())
 }
 

@@ -71,7 +71,11 @@ module _ (class : Class) (mark : ℕ) (ends : EndsClass class mark) where
           fault-nil class ∙ sym (ap (other_fault mark) (mark_is_fault b rest e) ∙ ap (λ v. cond v None (Some b)) e)
       by_mark false e h = by_fine (begins_fine class (b ∷ rest)) refl e h
 
-  module _ (t : List ℕ) (place : ℕ) (is : IsFaultPlace class t place) where
+  -- the class as a call answers it
+  module _ (answered : Class) (same_class : answered ≡ class) (t : List ℕ) (place : ℕ) (found : IsFaultPlace answered t place) where
+    is : IsFaultPlace class t place
+    is = subst (λ k. IsFaultPlace k t place) same_class found
+
     -- a byte at which a token of the class begins isn't the mark
     no_mark_before : (k : ℕ) → k < place → (get_or t k 0 == mark) ≡ false
     no_mark_before k h = by_test (get_or t k 0 == mark) refl

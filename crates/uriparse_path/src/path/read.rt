@@ -129,7 +129,7 @@ pub fn split_path(text: &[u8]) -> Result<PathFront<'_>, PathError>
 }
 
 /// The path that a text spells, which is known to be a path's. Room for so many segments is asked
-/// for at once.
+/// for at once, and for more where there are more; want of memory is answered where there is none.
 pub fn counted_path(alloc: Global, segments: usize, text: &[u8]) -> Result<Path<'_>, AllocError>
     requires { IsPath text.now }
     ensures { IfOk result (λ p. p ≡ spelled text.now) }

@@ -8,6 +8,7 @@ ghost use Rattle.uriparse_authority.specs.Authority as authority;
 ghost use Rattle.uriparse_authority.specs.Authority.{colon_part};
 ghost use Rattle.uriparse_text.specs.Cuts.{up_to, from_first, before, after};
 ghost use Rattle.uriparse_path.specs.Path.{IsPath, has_two_slashes};
+ghost use Rattle.uriparse_path.specs.Faults.{ends_path};
 ghost use Rattle.uriparse_scheme.specs.Scheme.{named};
 ghost use Rattle.uriparse_reference.specs.Cuts.{after_authority, after_scheme, authority_text, cut_authority, ends_scheme, scheme_text, tail_fragment, tail_query, without_authority};
 ghost use Rattle.uriparse_path.specs.declared.path.error.PathError.TheVariants.{OutOfMemory};
@@ -222,7 +223,7 @@ fn read_tail(
     has_authority: bool,
     text: &[u8],
 ) -> Result<Tail<'_>, URIReferenceError>
-    ensures { IsUnlessMemory result (tail_reading has_scheme has_authority (before question_mark (before number_sign text.now)) (after question_mark (before number_sign text.now)) (after number_sign text.now)) }
+    ensures { IsUnlessMemory result (tail_reading has_scheme has_authority (up_to ends_path text.now) (after question_mark (before number_sign text.now)) (after number_sign text.now)) }
 {
     let front = split_path(text)?;
     check_path(has_scheme, has_authority, front.text)?;

@@ -260,8 +260,10 @@ pub fn read_text_if<'t, K: Kind>(text: Option<&'t [u8]>) -> Result<Option<Text<'
 }
 
 /// Reads the text of this kind that stands before the first such mark, and answers what stands
-/// behind the mark too, if there is one. The mark stands in no text of the kind. The text and what
-/// stands behind it are walked once, up to the mark or the leftmost fault before it.
+/// behind the mark too, if there is one. The mark stands in no text of the kind. The bytes are
+/// walked once, up to the mark or the leftmost fault before it. Takes no memory.
+///
+/// That fault is refused, as the kind's error names it; one behind the mark isn't looked for.
 pub fn read_text_before<'t, K: Kind>(
     bytes: &'t [u8],
     mark: u8,

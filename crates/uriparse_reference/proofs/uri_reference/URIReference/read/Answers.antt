@@ -1,8 +1,9 @@
 use Rattle.std.proofs.Common.{◌≡◌, Ok, Err, sym, ap, ◌∙◌, rules}
 use Rattle.std.specs.Prelude.{is_some}
 use Rattle.uriparse_text.specs.Bytes.{question_mark, number_sign}
-use Rattle.uriparse_text.specs.Cuts.{before, after}
+use Rattle.uriparse_text.specs.Cuts.{before, after, up_to}
 use Rattle.uriparse_text.specs.Readings.{◌>>=◌}
+use Rattle.uriparse_path.specs.Faults.{ends_path}
 use Rattle.uriparse_reference.specs.Reading.{IsAnswer}
 use Rattle.uriparse_reference.proofs.ReferenceLemmas.{found, read_whole, tail_answer, with_tail}
 use Rattle.uriparse_reference.proofs.TailLemmas.{tail_along}
@@ -15,9 +16,9 @@ told c =
     let cut = c.cut-front.ensures in
     let front = c.cut-front.result in
     let u = front.rest.now in
-    tail_answer c.args.bytes.now front.scheme front.authority (before question_mark (before number_sign u)) (after question_mark (before number_sign u))
+    tail_answer c.args.bytes.now front.scheme front.authority (up_to ends_path u) (after question_mark (before number_sign u))
     (after number_sign u) c.in_ok-authority.authority cut.scheme cut.authority
-    (ap (λ u. before question_mark (before number_sign u)) cut.rest) (ap (λ u. after question_mark (before number_sign u)) cut.rest)
+    (ap (up_to ends_path) cut.rest) (ap (λ u. after question_mark (before number_sign u)) cut.rest)
     (ap (after number_sign) cut.rest) (sym c.read_authority_if.ensures ∙ c.in_ok-authority.was) c.read_tail.result
     (tail_along c.is_some.result (is_some front.scheme) c.is_some-2.result (is_some front.authority) u c.read_tail.result c.is_some.ensures
     c.is_some-2.ensures c.read_tail.ensures)
