@@ -130,7 +130,7 @@ impl<'b, K: Kind> BuilderOf<'b, K> {
     /// unchanged.
     pub fn try_path(&mut self, alloc: Global, path: &'b [u8]) -> Result<(), K::Error>
         ensures settles { SettlesUnless (K.told (errors.Path OutOfMemory)) self.old self.new result (told_of K.told (path_read self.old path.now)) }
-        ensures fault { IsErr (paths.reading path.now) → Settles self.old self.new result (told_of K.told (path_read self.old path.now)) }
+        ensures always { IsErr (paths.reading path.now) → Settles self.old self.new result (told_of K.told (path_read self.old path.now)) }
     {
         told::<K, _>(self.builder.try_path(alloc, path))
     }

@@ -28,8 +28,8 @@ mod normal;
 /// [`URI`](crate::uri::URI) or [`RelativeReference`](crate::relative_reference::RelativeReference)
 /// alone; it is seen as the five parts of a reference.
 ///
-/// Its calls are those of the [`URIReference`] that it holds, whose refusals are told as the
-/// kind's. Two of them are equal where their references are.
+/// Each of its calls does what that of the same name does for the [`URIReference`] that it holds,
+/// its refusal told as the kind's. Two of them are equal where their references are.
 #[derive(Drop)]
 pub struct ReferenceOf<'r, K: Kind> {
     pub(crate) reference: URIReference<'r>,
@@ -80,10 +80,12 @@ impl<'r, K: Kind> ReferenceOf<'r, K> {
     /// wants memory.
     ///
     /// The text's first fault is answered as [`URIReference::try_from_bytes`] answers it, told as
-    /// the kind's error. A text without fault that is of the other kind is
+    /// the kind's error, whatever memory there is; of a URI the colon rule's is
+    /// [`NotURI`](crate::uri::URIError::NotURI). A text without fault that is of the other kind is
     /// [`NotURI`](crate::uri::URIError::NotURI) or
-    /// [`NotRelativeReference`](crate::relative_reference::RelativeReferenceError::NotRelativeReference);
-    /// for a URI, so is one whose fault is the colon rule.
+    /// [`NotRelativeReference`](crate::relative_reference::RelativeReferenceError::NotRelativeReference).
+    /// Where there is no memory for the list, want of memory is answered, and it may be for a text
+    /// of the other kind.
     pub fn try_from_bytes(alloc: Global, bytes: &'r [u8]) -> Result<ReferenceOf<'r, K>, K::Error>
         // What is read is what the grammar spells, and of the kind.
         ensures found { IfOk result (λ u. Spells bytes.now u) }
@@ -92,7 +94,7 @@ impl<'r, K: Kind> ReferenceOf<'r, K> {
         // What the grammar spells is read if it is of the kind, unless memory runs out.
         ensures only { (p : Parts) → Spells bytes.now p → IsOfKind K.has_scheme p → IsUnless (K.told (errors.Path OutOfMemory)) result (Ok p) }
 
-        // Else the text's fault is answered, or that it is of the other kind.
+        // A refusal is the text's fault, or that it is of the other kind, or want of memory.
         ensures fault { IfErr result (λ e. (fault_of K.has_scheme K.told K.other bytes.now ≡ Some e) ⊎ (e ≡ K.told (errors.Path OutOfMemory))) }
 
         // A fault is answered whatever memory there is.

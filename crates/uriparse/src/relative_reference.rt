@@ -78,6 +78,8 @@ pub type RelativeReference<'r> = ReferenceOf<'r, WithoutScheme>;
 pub type RelativeReferenceBuilder<'b> = BuilderOf<'b, WithoutScheme>;
 
 impl<'r> RelativeReference<'r> {
+    ghost use Rattle.uriparse_reference.specs.Reference.{Valid};
+
     /// The relative reference of these parts: RFC 3986, sections 3.3 and 4.2. Behind an authority
     /// the path is made absolute, else it is the one that its text spells. Takes no memory.
     ///
@@ -111,6 +113,7 @@ impl<'r> RelativeReference<'r> {
         ensures path { result.1 ≡ self.entry.path }
         ensures query { result.2 ≡ self.entry.query }
         ensures fragment { result.3 ≡ self.entry.fragment }
+        ensures valid { Valid self.entry }
     {
         let (_, authority, path, query, fragment) = self.reference.into_parts();
         (authority, path, query, fragment)

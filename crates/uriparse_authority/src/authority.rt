@@ -95,7 +95,7 @@ impl<'a> Authority<'a> {
     }
 
     /// The authority of these parts. It is never refused: a password without a user name brings an
-    /// empty one.
+    /// empty one. Takes no memory.
     pub fn from_parts(
         username: Option<Username<'a>>,
         password: Option<Password<'a>>,
@@ -114,7 +114,7 @@ impl<'a> Authority<'a> {
         })
     }
 
-    /// The user name, the password, the host and the port.
+    /// The user name, the password, the host and the port. Takes no memory.
     pub fn into_parts(
         self,
     ) -> (
@@ -181,7 +181,7 @@ impl<'a> Authority<'a> {
         self.port.is_some()
     }
 
-    /// The same authority, which borrows this one's texts.
+    /// The same authority, which borrows this one's texts. Takes no memory.
     pub fn as_borrowed(&self) -> Authority<'_>
         ensures { result ≡ self.now }
     {

@@ -1,7 +1,7 @@
 -- A path's length fault, told by the text: where the slash stands that would begin one segment too many.
 use Rattle.std.proofs.Common.{◌≡◌, ◌↔◌, ℕ, ◌<◌, Bool, true, false, cond, nat_lt, List, [], ◌∷◌, ◌++◌, length, take, drop, Option, Some, None, refl}
-use Rattle.std.proofs.Common.{sym, ap, subst, ◌∙◌, append_assoc, arith, length-append, length-drop}
-use Rattle.std.specs.Prelude.{◌==◌}
+use Rattle.std.proofs.Common.{sym, ap, subst, ◌∙◌, append_assoc, arith, length-append, length-drop, inl, inr}
+use Rattle.std.specs.Prelude.{◌==◌, ◌⊎◌}
 use Rattle.std.specs.Option.{option_or, option_map}
 use Rattle.std.specs.List.{list_all, slice_split, onto_first, join_with_byte}
 use Rattle.std.proofs.Math.Seq.{take-append_seam}
@@ -12,7 +12,7 @@ use Rattle.uriparse_text.specs.declared.parts.class.Class.TheVariants.{Segment}
 use Rattle.uriparse_text.specs.Bytes.{percent, slash}
 use Rattle.uriparse_text.specs.Faults as text
 use Rattle.uriparse_path.specs.declared.path.error.PathError.{PathError}
-use Rattle.uriparse_path.specs.declared.path.error.PathError.TheVariants.{ExceededMaximumLength, InvalidCharacter, InvalidPercentEncoding}
+use Rattle.uriparse_path.specs.declared.path.error.PathError.TheVariants.{ExceededMaximumLength, InvalidCharacter, InvalidPercentEncoding, OutOfMemory}
 use Rattle.uriparse_path.specs.Segment as segment
 use Rattle.uriparse_path.specs.Path as path
 use Rattle.uriparse_path.specs.Path.{max_segments, is_slash, is_rooted, root, unrooted, pieces}
@@ -65,25 +65,51 @@ at_slash front behind none full =
 
 -- ---- where it stands
 
-not_long : (s : List ℕ) → segment.fault s ≡ Some ExceededMaximumLength → ⊥
-not_long s h = by_fault (text.fault Segment s) h
-  where
-    by_test : (v : Bool) → Some (cond v InvalidPercentEncoding InvalidCharacter) ≡ Some ExceededMaximumLength → ⊥
-    by_test true e = cc
-    by_test false e = cc
+-- what a segment's fault is
+abbrev IsOfSegment : PathError → Type 0
+IsOfSegment e = (InvalidPercentEncoding ≡ e) ⊎ (InvalidCharacter ≡ e)
 
-    by_fault : (o : Option ℕ) → option_map segment.error_of o ≡ Some ExceededMaximumLength → ⊥
-    by_fault None e = cc
-    by_fault (Some b) e = by_test (b == percent) e
-
-first_not_long : (ps : List (List ℕ)) → first_fault ps ≡ Some ExceededMaximumLength → ⊥
-first_not_long [] h = cc
-first_not_long (s ∷ ss) h = by_fault (segment.fault s) refl (first_not_long ss) h
+segment_told : (s : List ℕ) (e : PathError) → segment.fault s ≡ Some e → IsOfSegment e
+segment_told s e h = by_fault (text.fault Segment s) h
   where
-    by_fault : (o : Option PathError) → segment.fault s ≡ o → (first_fault ss ≡ Some ExceededMaximumLength → ⊥)
-        → option_or o (first_fault ss) ≡ Some ExceededMaximumLength → ⊥
-    by_fault None e later k = later k
-    by_fault (Some x) e later k = not_long s (e ∙ k)
+    by_test : (v : Bool) → Some (cond v InvalidPercentEncoding InvalidCharacter) ≡ Some e → IsOfSegment e
+    by_test true k = inl cc
+    by_test false k = inr cc
+
+    by_fault : (o : Option ℕ) → option_map segment.error_of o ≡ Some e → IsOfSegment e
+    by_fault None k = absurd (cc)
+    by_fault (Some b) k = by_test (b == percent) k
+
+first_told : (ps : List (List ℕ)) (e : PathError) → first_fault ps ≡ Some e → IsOfSegment e
+first_told [] e h = absurd (cc)
+first_told (s ∷ ss) e h = by_fault (segment.fault s) refl (first_told ss e) h
+  where
+    by_fault : (o : Option PathError) → segment.fault s ≡ o → (first_fault ss ≡ Some e → IsOfSegment e) → option_or o (first_fault ss) ≡ Some e
+        → IsOfSegment e
+    by_fault None f later k = later k
+    by_fault (Some x) f later k = segment_told s e (f ∙ k)
+
+not_long : IsOfSegment ExceededMaximumLength → ⊥
+not_long (inl h) = cc
+not_long (inr h) = cc
+
+no_want : IsOfSegment OutOfMemory → ⊥
+no_want (inl h) = cc
+no_want (inr h) = cc
+
+-- want of memory is no text's fault
+pub never_memory : (t : List ℕ) → fault t ≡ Some OutOfMemory → ⊥
+unfolding fault
+never_memory t h = by_fault (first_fault (take max_segments (pieces t))) refl h
+  where
+    by_test : (v : Bool) → cond v (Some ExceededMaximumLength) None ≡ Some OutOfMemory → ⊥
+    by_test true k = cc
+    by_test false k = cc
+
+    by_fault : (o : Option PathError) → first_fault (take max_segments (pieces t)) ≡ o
+        → option_or o (length_fault max_segments (length (pieces t))) ≡ Some OutOfMemory → ⊥
+    by_fault None e k = by_test (nat_lt max_segments (length (pieces t))) k
+    by_fault (Some x) e k = no_want (first_told (take max_segments (pieces t)) OutOfMemory (e ∙ k))
 
 -- the segments as far as the limit goes are without fault, and there is one more
 long_behind : (n : ℕ) (ps : List (List ℕ)) → fault_within n ps ≡ Some ExceededMaximumLength
@@ -97,7 +123,7 @@ long_behind n ps h = by_fault (first_fault (take n ps)) refl h
     by_fault : (o : Option PathError) → first_fault (take n ps) ≡ o → option_or o (length_fault n (length ps)) ≡ Some ExceededMaximumLength
         → (list_all segment.is_segment (take n ps) ≡ true) × (n < length ps)
     by_fault None e k = (all_segments (take n ps) e, by_test (nat_lt n (length ps)) refl k)
-    by_fault (Some x) e k = absurd (first_not_long (take n ps) (e ∙ k))
+    by_fault (Some x) e k = absurd (not_long (first_told (take n ps) ExceededMaximumLength (e ∙ k)))
 
 pub joined-append : (s : List ℕ) (ss : List (List ℕ)) (r : List ℕ) (rs : List (List ℕ))
     → join_with_byte slash ((s ∷ ss) ++ r ∷ rs) ≡ join_with_byte slash (s ∷ ss) ++ slash ∷ join_with_byte slash (r ∷ rs)

@@ -13,7 +13,7 @@ use Rattle.uriparse_path.specs.Path.{PathParts, max_segments, pieces, spelled}
 abbrev pub ends_path : ℕ → Bool
 ends_path b = b == question_mark || b == number_sign
 
--- the path that a text begins with, where it may end before the text does
+-- the path that a text begins with, or, where it may not end before the text does, all of it: a word of a private function's clause alone
 abbrev pub path_front : Bool → List ℕ → List ℕ
 path_front ends t = up_to (λ b. ends && ends_path b) t
 

@@ -6,7 +6,7 @@ use Rattle.uriparse_text.specs.Bytes.{slash}
 use Rattle.uriparse_text.specs.Canonical.{fed_bytes}
 use Rattle.uriparse_path.specs.Segment.{is_segment}
 
--- whether it begins with a slash, and the segments, of any kind
+-- whether a slash stands before the segments, and these, of any kind
 pub record PartsOf (X : Type 0) : Type 0 where
   pub absolute : Bool
   pub segments : List X

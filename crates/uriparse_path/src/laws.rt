@@ -23,9 +23,11 @@ pub fn one_limit() -> usize
     MAX_SEGMENTS
 }
 
-/// A text has no fault exactly where its pieces are the segments of a path.
+/// A text has no fault exactly where its pieces are the segments of a path. Want of memory is no
+/// text's fault.
 pub fn no_fault()
-    ensures { (t : List ℕ) → (fault t ≡ None) ↔ IsListed (pieces t) }
+    ensures none { (t : List ℕ) → (fault t ≡ None) ↔ IsListed (pieces t) }
+    ensures memory { (t : List ℕ) → fault t ≡ Some errors.OutOfMemory → ⊥ }
 {}
 
 /// The fault of a text is that of its length exactly where a front without fault has as many

@@ -12,16 +12,8 @@ ghost use Rattle.uriparse_path.specs.Merge.{merging};
 ghost use Rattle.uriparse_path.specs.Normal.{is_canonical, is_normal_in, pnormal};
 
 pub use crate::path::read::{PathFront, counted_path, split_path};
-use crate::path::{Path, PathError, Segment};
+use crate::path::{Path, PathError};
 use std::alloc::{AllocError, Global};
-
-/// The path of this flag and these segments.
-pub fn path_of(absolute: bool, segments: Vec<Segment<'_>>) -> Path<'_>
-    requires { IsListed segments.items }
-    ensures { result ≡ record { absolute = absolute; segments = segments.entry.items } }
-{
-    Path::of(absolute, segments)
-}
 
 /// Removes the dot segments as [`Path::remove_dot_segments`] does. Where no authority stands before
 /// the path, a `.` comes in front of a text that would begin with two slashes then. Takes no
@@ -108,7 +100,7 @@ pub fn merged_path<'p>(
     reference: &'p Path<'_>,
 ) -> Result<Path<'p>, PathError>
     ensures answer { IsUnless errors.OutOfMemory result (merging base.now reference.now) }
-    ensures fault { IfErr (merging base.now reference.now) (λ e. result ≡ Err e) }
+    ensures always { IfErr (merging base.now reference.now) (λ e. result ≡ Err e) }
 {
     Path::merged(alloc, base, reference)
 }

@@ -54,8 +54,8 @@ pub struct PathOf<S> {
     segments: Vec<S>,
 }
 
-/// A path: whether it begins with a slash, and its segments, of which there are at least one and at
-/// most [`MAX_SEGMENTS`]. RFC 3986, section 3.3.
+/// A path: whether a slash stands before its segments, and these, of which there are at least one
+/// and at most [`MAX_SEGMENTS`]. RFC 3986, section 3.3.
 ///
 /// Its text is `/` if it is absolute, then the segments joined by `/`. So the empty path has one
 /// empty segment. The segments borrow the text that was read, or own their texts; their list takes
@@ -98,17 +98,17 @@ impl<'p> Path<'p> {
     /// [`OutOfMemory`](PathError::OutOfMemory) is answered.
     pub fn try_from_bytes(alloc: Global, bytes: &'p [u8]) -> Result<Path<'p>, PathError>
         ensures answer { IsUnless PathError.OutOfMemory result (reading bytes.now) }
-        ensures fault { IsErr (reading bytes.now) → result ≡ reading bytes.now }
+        ensures always { IsErr (reading bytes.now) → result ≡ reading bytes.now }
     {
         let (_, rest) = split_root(bytes);
-        let (segments, _) = count_segments(MAX_SEGMENTS, false, rest)?;
-        Ok(counted_path(alloc, segments, bytes)?)
+        let (count, _) = count_segments(MAX_SEGMENTS, false, rest)?;
+        Ok(counted_path(alloc, count, bytes)?)
     }
 
     /// The same for a text.
     pub fn try_from_str(alloc: Global, text: &'p str) -> Result<Path<'p>, PathError>
         ensures answer { IsUnless PathError.OutOfMemory result (reading text.now) }
-        ensures fault { IsErr (reading text.now) → result ≡ reading text.now }
+        ensures always { IsErr (reading text.now) → result ≡ reading text.now }
     {
         Path::try_from_bytes(alloc, text.as_bytes())
     }
@@ -122,14 +122,15 @@ impl<'p> Path<'p> {
         self.segments.as_slice()
     }
 
-    /// Whether the path begins with a slash.
+    /// Whether the path is absolute: a slash stands before its first segment. The text of a relative
+    /// path whose first segment is empty, with others behind it, begins with a slash too.
     pub fn is_absolute(&self) -> bool
         ensures { result ≡ self.now.absolute }
     {
         self.absolute
     }
 
-    /// Whether the path begins with no slash of its own.
+    /// Whether the path is relative: no slash stands before its first segment.
     pub fn is_relative(&self) -> bool
         ensures { result ≡ not self.now.absolute }
     {

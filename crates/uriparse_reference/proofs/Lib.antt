@@ -18,3 +18,4 @@ pub mod CommutationLemmas
 pub mod RunLemmas
 pub mod PrintedLemmas
 pub mod PieceLemmas
+pub mod SourceLemmas

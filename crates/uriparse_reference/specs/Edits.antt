@@ -8,7 +8,7 @@ use Rattle.uriparse_reference.specs.declared.uri_reference.error.URIReferenceErr
 use Rattle.uriparse_path.specs.declared.path.error.PathError.TheVariants.{OutOfMemory}
 use Rattle.uriparse_reference.specs.declared.uri_reference.error.URIReferenceError.TheVariants as errors
 use Rattle.uriparse_reference.specs.Reference.{Parts, path_refusal, print}
-use Rattle.uriparse_reference.specs.Normal.{normal}
+use Rattle.uriparse_reference.specs.Normal.{canonical_texts, normal}
 
 -- the path as a reference holds it: behind an authority it is made absolute, else it is the one that its text spells
 abbrev pub placed : Bool → path.PathParts → path.PathParts
@@ -45,10 +45,12 @@ replaced p (edits.Query query) = record p { query = query }
 replaced p (edits.Fragment fragment) = record p { fragment = fragment }
 replaced p edits.Normalize = normal p
 
--- The edit asks for the normal form of a reference that doesn't print as that form, and this tells that there was no memory.
+-- The edit asks for the normal form of a reference that doesn't print as that form, and one of whose texts isn't canonical; and this tells that
+-- there was no memory.
 pub record WantsMemory (p : Parts) (e : Edit) (x : URIReferenceError) : Type 0 where
   pub normalises : e ≡ edits.Normalize
   pub differs : print (normal p) ≡ print p → ⊥
+  pub spelled : canonical_texts p ≡ p → ⊥
   pub error : x ≡ errors.Path OutOfMemory
 
 -- the edit is refused with this, by its rule or for want of memory

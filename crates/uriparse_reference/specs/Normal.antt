@@ -17,7 +17,7 @@ abbrev pub shielded : Option authority.AuthorityParts → PathParts → PathPart
 shielded (Some a) p = p
 shielded None p = shield p
 
--- The normal form: each text in canonical spelling, and the normal form of the path, which is that of a relative one exactly where there is no scheme.
+-- The normal form: each text in canonical spelling, and the normal form of the path, as of a reference without a scheme exactly where there is none.
 abbrev pub normal : Parts → Parts
 normal p = record {
   scheme = option_map canonical_scheme p.scheme;

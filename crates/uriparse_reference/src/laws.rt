@@ -8,6 +8,8 @@ ghost use Rattle.uriparse_path.specs.Merge.{merged};
 ghost use Rattle.uriparse_path.specs.Dots.{LacksSlash};
 ghost use Rattle.uriparse_authority.specs.Authority.{ends_authority};
 ghost use Rattle.uriparse_scheme.specs.Scheme.{is_scheme};
+ghost use Rattle.uriparse_scheme.specs.declared.scheme.error.SchemeError.{SchemeError};
+ghost use Rattle.uriparse_path.specs.declared.path.error.PathError.TheVariants.{OutOfMemory};
 ghost use Rattle.uriparse_reference.specs.Reference.{Parts, Spells, Valid, ReadsBack, HidesAddress, OneHidesAddress, Same, joined, print, kind};
 ghost use Rattle.uriparse_reference.specs.Cuts.{scheme_text, authority_text, path_text, query_text, fragment_text};
 ghost use Rattle.uriparse_reference.specs.Edits.{IsWant, Run, edited, of_parts, replaced};
@@ -16,6 +18,7 @@ ghost use Rattle.uriparse_reference.specs.Examples.{are_equal, hold, is_normalis
 ghost use Rattle.uriparse_reference.specs.Key.{fed, fed_key, key};
 ghost use Rattle.uriparse_reference.specs.declared.uri_reference.edit.Edit.{Edit};
 ghost use Rattle.uriparse_reference.specs.declared.uri_reference.error.URIReferenceError.{URIReferenceError};
+ghost use Rattle.uriparse_reference.specs.declared.uri_reference.error.URIReferenceError.TheVariants as errors;
 ghost use Rattle.uriparse_reference.specs.Reading.{reading, fault};
 ghost use Rattle.uriparse_reference.specs.Normal.{normal, is_normal};
 ghost use Rattle.uriparse_reference.specs.Target.{through_last_slash, merge, target, is_merged, MergesAlike, AreSame};
@@ -27,6 +30,16 @@ pub fn one_reading()
     ensures reads { (t : List ℕ) (p : Parts) → (reading t ≡ Ok p) ↔ Spells t p }
     ensures none { (t : List ℕ) → (fault t ≡ None) ↔ ((p : Parts) × Spells t p) }
     ensures valid { (t : List ℕ) (p : Parts) → Spells t p → Valid p }
+{}
+
+/// No text's fault is that of a scheme, or a missing path, or a path of two slashes: what begins
+/// with no scheme belongs to the path, each text has a path, and two slashes begin an authority. Nor
+/// is it want of memory.
+pub fn faults_of_reading()
+    ensures slashes { (t : List ℕ) → fault t ≡ Some errors.AbsolutePathStartsWithTwoSlashes → ⊥ }
+    ensures missing { (t : List ℕ) → fault t ≡ Some errors.MissingPath → ⊥ }
+    ensures scheme { (t : List ℕ) (e : SchemeError) → fault t ≡ Some (errors.Scheme e) → ⊥ }
+    ensures memory { (t : List ℕ) → fault t ≡ Some (errors.Path OutOfMemory) → ⊥ }
 {}
 
 /// Every text is its pieces put together: before a `:` a scheme, if it is one; behind two slashes

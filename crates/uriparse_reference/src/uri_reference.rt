@@ -98,7 +98,7 @@ impl<'r> URIReference<'r> {
         // What the grammar spells is read, unless memory runs out.
         ensures only { (p : Parts) → Spells bytes.now p → IsUnless (errors.Path OutOfMemory) result (Ok p) }
 
-        // Else the text's fault is answered.
+        // A refusal is the text's fault, or want of memory.
         ensures fault { IfErr result (λ e. (fault bytes.now ≡ Some e) ⊎ (e ≡ errors.Path OutOfMemory)) }
 
         // A fault is answered whatever memory there is.

@@ -2,16 +2,26 @@
 //! bodies, as those of `wrong_references`.
 #![tactic(auto)]
 
-ghost use Rattle.std.specs.Prelude.{◌≡◌, Err, IsOk, MatchOption, Ok, OnOk, true};
+ghost use Rattle.std.specs.Prelude.{◌≡◌, Err, IsOk, MatchOption, Ok, OnOk, Some, true};
 ghost use Rattle.uriparse_text.specs.Readings.{IsUnless};
 ghost use Rattle.uriparse_path.specs.declared.path.error.PathError.TheVariants as paths;
 ghost use Rattle.uriparse_reference.specs.Normal.{canonical_texts, normal};
+ghost use Rattle.uriparse_reference.specs.Reading.{fault};
 ghost use Rattle.uriparse_reference.specs.Target.{target};
+ghost use Rattle.uriparse_reference.specs.declared.uri_reference.error.URIReferenceError.{URIReferenceError};
 ghost use Rattle.uriparse.specs.Kinds.{of_kind};
+ghost use Rattle.uriparse.specs.Uri.{told};
 ghost use Rattle.uriparse.specs.declared.uri.error.URIError.TheVariants as errors;
 
 use std::alloc::{AllocError, Global};
 use uriparse::{Query, URI, URIBuilder, URIError, URIReference};
+
+/// Reads a URI. A text's fault is told whatever memory there is.
+pub fn read(alloc: Global, bytes: &[u8]) -> Result<URI<'_>, URIError>
+    ensures { (e : URIReferenceError) → fault bytes.now ≡ Some e → result ≡ Err (told e) }
+{
+    URI::try_from_bytes(alloc, bytes)
+}
 
 /// Sets a builder's query.
 pub fn build_query<'b>(builder: &mut URIBuilder<'b>, query: Option<Query<'b>>)

@@ -25,12 +25,16 @@ pub enum RelativeReferenceError {
     /// It has a scheme.
     #[error("not relative reference")]
     NotRelativeReference,
+    /// The authority's fault.
     #[error(transparent)]
     Authority(AuthorityError),
+    /// The path's fault, or want of memory.
     #[error(transparent)]
     Path(PathError),
+    /// The query's fault.
     #[error(transparent)]
     Query(QueryError),
+    /// The fragment's fault.
     #[error(transparent)]
     Fragment(FragmentError),
 }

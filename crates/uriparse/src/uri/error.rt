@@ -25,12 +25,16 @@ pub enum URIError {
     /// It has no scheme.
     #[error("not URI")]
     NotURI,
+    /// The authority's fault.
     #[error(transparent)]
     Authority(AuthorityError),
+    /// The path's fault, want of memory or, of `resolve`, merged paths that are too long.
     #[error(transparent)]
     Path(PathError),
+    /// The query's fault.
     #[error(transparent)]
     Query(QueryError),
+    /// The fragment's fault.
     #[error(transparent)]
     Fragment(FragmentError),
     /// Reading never answers it: a text that begins with no scheme has none.

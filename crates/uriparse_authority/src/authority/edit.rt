@@ -7,7 +7,7 @@ use super::{Authority, AuthorityError, Host, Ipv4Addr, Password, Username, with_
 use std::mem;
 
 impl<'a> Authority<'a> {
-    /// Sets the host. It is never refused, and the other parts stay.
+    /// Sets the host. It is never refused, and the other parts stay. Takes no memory.
     pub fn set_host(&mut self, host: Host<'a>) -> Result<(), AuthorityError>
         ensures answer { result ≡ Ok tt }
         ensures value { self.new ≡ spec.with_host self.old host.entry }
@@ -18,7 +18,7 @@ impl<'a> Authority<'a> {
     }
 
     /// Sets the user name. It is never refused. Without a user name there is no password, so `None`
-    /// drops the password too; all else stays.
+    /// drops the password too; all else stays. Takes no memory.
     pub fn set_username(&mut self, username: Option<Username<'a>>) -> Result<(), AuthorityError>
         ensures answer { result ≡ Ok tt }
         ensures value { self.new ≡ spec.with_username self.old username.entry }
@@ -31,7 +31,7 @@ impl<'a> Authority<'a> {
     }
 
     /// Sets the password. It is never refused. A password brings an empty user name where there is
-    /// none; all else stays.
+    /// none; all else stays. Takes no memory.
     pub fn set_password(&mut self, password: Option<Password<'a>>) -> Result<(), AuthorityError>
         ensures answer { result ≡ Ok tt }
         ensures value { self.new ≡ spec.with_password self.old password.entry }
@@ -41,7 +41,7 @@ impl<'a> Authority<'a> {
         Ok(())
     }
 
-    /// Sets the port, and answers the port just set. The other parts stay.
+    /// Sets the port, and answers the port just set. The other parts stay. Takes no memory.
     pub fn set_port(&mut self, port: Option<u16>) -> Option<u16>
         ensures answer { result ≡ port }
         ensures value { self.new ≡ spec.with_port self.old port }
@@ -51,7 +51,7 @@ impl<'a> Authority<'a> {
     }
 
     /// Sets the host to what the closure makes of it. It is never refused, and the other parts
-    /// stay.
+    /// stay. Takes no memory of its own.
     pub fn map_host<F>(&mut self, make: F) -> Result<(), AuthorityError>
     where
         F: FnOnce(Host<'a>) -> Host<'a>,
@@ -65,7 +65,7 @@ impl<'a> Authority<'a> {
 
     /// Sets the user name to what the closure makes of it. It is never refused. Without a user name
     /// there is no password, so a closure that answers `None` drops the password too; all else
-    /// stays.
+    /// stays. Takes no memory of its own.
     pub fn map_username<F>(&mut self, make: F) -> Result<(), AuthorityError>
     where
         F: FnOnce(Option<Username<'a>>) -> Option<Username<'a>>,
@@ -78,7 +78,7 @@ impl<'a> Authority<'a> {
     }
 
     /// Sets the password to what the closure makes of it. It is never refused. A password brings an
-    /// empty user name where there is none; all else stays.
+    /// empty user name where there is none; all else stays. Takes no memory of its own.
     pub fn map_password<F>(&mut self, make: F) -> Result<(), AuthorityError>
     where
         F: FnOnce(Option<Password<'a>>) -> Option<Password<'a>>,
@@ -91,7 +91,7 @@ impl<'a> Authority<'a> {
     }
 
     /// Sets the port to what the closure makes of it, and answers the port just set. The other
-    /// parts stay.
+    /// parts stay. Takes no memory of its own.
     pub fn map_port<F>(&mut self, make: F) -> Option<u16>
     where
         F: FnOnce(Option<u16>) -> Option<u16>,

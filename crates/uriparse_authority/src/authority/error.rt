@@ -74,12 +74,16 @@ pub enum PortError {
 /// name, password, host, port.
 #[derive(Clone, Debug, Drop, PartialEq, Eq, Hash, Error)]
 pub enum AuthorityError {
+    /// The host's fault.
     #[error(transparent)]
     Host(HostError),
+    /// The password's fault.
     #[error(transparent)]
     Password(PasswordError),
+    /// The port's fault.
     #[error(transparent)]
     Port(PortError),
+    /// The user name's fault.
     #[error(transparent)]
     Username(UsernameError),
 }

@@ -56,7 +56,7 @@ impl<'p> Path<'p> {
     /// can't grow; it grows by doubling. After a refusal the path is as it was.
     pub fn push(&mut self, _alloc: Global, segment: Segment<'p>) -> Result<(), PathError>
         ensures answer { SettlesUnless errors.OutOfMemory self.old self.new result (spec.pushing self.old (Ok segment.entry)) }
-        ensures fault { IfErr (spec.pushing self.old (Ok segment.entry)) (λ e. result ≡ Err e) }
+        ensures always { IfErr (spec.pushing self.old (Ok segment.entry)) (λ e. result ≡ Err e) }
     {
         if self.segments.len() >= MAX_SEGMENTS {
             return Err(PathError::ExceededMaximumLength);
@@ -73,7 +73,7 @@ impl<'p> Path<'p> {
     /// [`OutOfMemory`](PathError::OutOfMemory). After a refusal the path is as it was.
     pub fn push_bytes(&mut self, alloc: Global, bytes: &'p [u8]) -> Result<(), PathError>
         ensures answer { SettlesUnless errors.OutOfMemory self.old self.new result (spec.pushing self.old (segment.reading bytes.now)) }
-        ensures fault { IfErr (spec.pushing self.old (segment.reading bytes.now)) (λ e. result ≡ Err e) }
+        ensures always { IfErr (spec.pushing self.old (segment.reading bytes.now)) (λ e. result ≡ Err e) }
     {
         if self.segments.len() >= MAX_SEGMENTS {
             return Err(PathError::ExceededMaximumLength);

@@ -53,7 +53,7 @@ impl<'p> Path<'p> {
         reference: &'p Path<'_>,
     ) -> Result<Path<'p>, PathError>
         ensures answer { IsUnless errors.OutOfMemory result (merging base.now reference.now) }
-        ensures fault { IfErr (merging base.now reference.now) (λ e. result ≡ Err e) }
+        ensures always { IfErr (merging base.now reference.now) (λ e. result ≡ Err e) }
     {
         let front = directory(base.segments());
         let back = reference.segments();

@@ -34,10 +34,10 @@ fn is_end(ends: bool, b: u8) -> bool
     ends && matches!(b, b'?' | b'#')
 }
 
-/// How many segments the path in front of a text is cut into where so many may be, and how many
-/// bytes it has; or its leftmost fault. The path is the whole text, or it may end at the first `?`
-/// or `#`. Each byte outside the class of a segment is a slash, ends the path, begins an escape or
-/// is the fault.
+/// Counts the segments and the bytes of the path that a text begins with, which may have `limit`
+/// segments, or tells its leftmost fault. Where `ends` is set the path runs to the first `?` or `#`,
+/// else it is the whole text. Each byte outside the class of a segment is a slash, ends the path,
+/// begins an escape or is the fault.
 #[inline(always)]
 pub(super) fn count_segments(
     limit: usize,
@@ -74,7 +74,7 @@ pub(super) fn count_segments(
 }
 
 /// The segments that the text is cut into, of which there are so many. Each slash ends one.
-pub(super) fn split_segments<'p>(
+fn split_segments<'p>(
     alloc: Global,
     count: usize,
     text: &'p [u8],
@@ -107,7 +107,7 @@ pub struct PathFront<'t> {
     /// The text of the path.
     pub text: &'t [u8],
     /// How many segments the path has.
-    pub segments: usize,
+    pub count: usize,
     /// What stands behind the path: nothing, or a `?` or `#` and more.
     pub behind: &'t [u8],
 }
@@ -115,26 +115,26 @@ pub struct PathFront<'t> {
 /// The path that a text begins with, which runs to the first `?` or `#`, or its leftmost fault. It
 /// is walked once. Takes no memory.
 pub fn split_path(text: &[u8]) -> Result<PathFront<'_>, PathError>
-    ensures { MatchResult result (λ r. (fault (up_to ends_path text.now) ≡ None) × (r.text.now ≡ up_to ends_path text.now) × (r.behind.now ≡ from_first ends_path text.now) × (r.segments ≡ length (pieces (up_to ends_path text.now)))) (λ e. fault (up_to ends_path text.now) ≡ Some e) }
+    ensures { MatchResult result (λ r. (fault (up_to ends_path text.now) ≡ None) × (r.text.now ≡ up_to ends_path text.now) × (r.behind.now ≡ from_first ends_path text.now) × (r.count ≡ length (pieces (up_to ends_path text.now)))) (λ e. fault (up_to ends_path text.now) ≡ Some e) }
 {
     let (_, rest) = split_root(text);
-    let (segments, len) = count_segments(MAX_SEGMENTS, true, rest)?;
+    let (count, len) = count_segments(MAX_SEGMENTS, true, rest)?;
     let (_, behind) = rest.split_at(len);
     let (text, _) = text.split_at(text.len() - behind.len());
     Ok(PathFront {
         text,
-        segments,
+        count,
         behind,
     })
 }
 
 /// The path that a text spells, which is known to be a path's. Room for so many segments is asked
 /// for at once, and for more where there are more; want of memory is answered where there is none.
-pub fn counted_path(alloc: Global, segments: usize, text: &[u8]) -> Result<Path<'_>, AllocError>
+pub fn counted_path(alloc: Global, count: usize, text: &[u8]) -> Result<Path<'_>, AllocError>
     requires { IsPath text.now }
     ensures { IfOk result (λ p. p ≡ spelled text.now) }
 {
     let (absolute, rest) = split_root(text);
-    let segments = split_segments(alloc, segments, rest)?;
+    let segments = split_segments(alloc, count, rest)?;
     Ok(Path::of(absolute, segments))
 }

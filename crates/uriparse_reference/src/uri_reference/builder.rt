@@ -191,7 +191,7 @@ impl<'b> URIReferenceBuilder<'b> {
     /// memory. After a refusal the builder is unchanged.
     pub fn try_path(&mut self, alloc: Global, path: &'b [u8]) -> Result<(), URIReferenceError>
         ensures settles { SettlesUnless (errors.Path OutOfMemory) self.old self.new result (path_read self.old path.now) }
-        ensures fault { IsErr (paths.reading path.now) → Settles self.old self.new result (path_read self.old path.now) }
+        ensures always { IsErr (paths.reading path.now) → Settles self.old self.new result (path_read self.old path.now) }
     {
         let path = Path::try_from_bytes(alloc, path)?;
         self.path(path);

@@ -266,9 +266,9 @@ impl<'r> URIReference<'r> {
     /// Makes the edits in order, up to the first refused one, whose index, from 0, and refusal are
     /// answered. The reference is then as the edits before that one made it.
     ///
-    /// Only [`Normalize`](Edit::Normalize) wants memory, and only where it changes the printed
-    /// text. Where there is none, it is refused with [`Path`](URIReferenceError::Path) of
-    /// [`OutOfMemory`](PathError::OutOfMemory).
+    /// Only [`Normalize`](Edit::Normalize) wants memory, and only where it changes the printed text
+    /// and some part's text isn't canonical. Where there is none, it is refused with
+    /// [`Path`](URIReferenceError::Path) of [`OutOfMemory`](PathError::OutOfMemory).
     pub fn apply_all(
         &mut self,
         alloc: Global,

@@ -120,9 +120,10 @@ impl<'r> URIReference<'r> {
 
     /// Brings the reference into its normal form: RFC 3986, section 6.2.2. Each text gets its
     /// canonical spelling; a name stays a name, also where it spells an IPv4 address then. The path
-    /// gets its normal form: that of a path which a base comes before exactly where there is no
-    /// scheme. Where there is no authority and the path's text would begin with two slashes then, a
-    /// `.` stands in front, so that it begins with `/.//`. A second call changes nothing.
+    /// gets its normal form, as the path of a reference without a scheme exactly where there is none
+    /// (see [`Path::normalize`]). Where there is no authority and the path's text would begin with
+    /// two slashes then, a `.` stands in front, so that it begins with `/.//`. A second call changes
+    /// nothing.
     ///
     /// A reference whose text is normal is kept as it is. No memory is wanted where each text is
     /// canonical, whatever dot segments the path has. Else the texts that aren't canonical are

@@ -61,7 +61,7 @@ fn behind_colon(rest: &[u8]) -> Option<&[u8]>
 }
 
 /// The scheme that the text begins with, and what stands behind its colon; or none, and the text.
-/// The two that most texts have are told by their bytes, with no search.
+/// `https` and `http`, which most texts have, are told by their bytes, with no search.
 fn split_scheme(text: &[u8]) -> (Option<Scheme<'_>>, &[u8])
     ensures scheme { result.0 ≡ option_map named (scheme_text text.now) }
     ensures rest { result.1.now ≡ after_scheme text.now }
@@ -194,18 +194,18 @@ fn read_behind(text: &[u8]) -> Result<(Option<Query<'_>>, Option<Fragment<'_>>),
     }
 }
 
-/// The path of a text that is known to be one's, absolute behind an authority. Room for so many
+/// The path that the text of a path stands for, absolute behind an authority. Room for so many
 /// segments is asked for.
 fn make_path(
     alloc: Global,
     has_authority: bool,
-    segments: usize,
+    count: usize,
     text: &[u8],
 ) -> Result<Path<'_>, URIReferenceError>
     requires { IsPath text.now }
     ensures { MatchResult result (λ p. p ≡ path_of has_authority text.now) (λ e. e ≡ errors.Path OutOfMemory) }
 {
-    match counted_path(alloc, segments, text) {
+    match counted_path(alloc, count, text) {
         Ok(path) => Ok(if has_authority {
             into_absolute(path)
         } else {
@@ -228,7 +228,7 @@ fn read_tail(
     let front = split_path(text)?;
     check_path(has_scheme, has_authority, front.text)?;
     let (query, fragment) = read_behind(front.behind)?;
-    let path = make_path(alloc, has_authority, front.segments, front.text)?;
+    let path = make_path(alloc, has_authority, front.count, front.text)?;
     Ok((path, query, fragment))
 }
 

@@ -14,8 +14,11 @@ returns-in_ok-canonical_copies-in-Some c =
 pub returns-in_err-canonical_copies-in-Some : goal.returns-in_err-canonical_copies-in-Some
 returns-in_err-canonical_copies-in-Some c =
     let answered : c.from_residual.result ≡ Err c.in_err-canonical_copies-in-Some.field-0.0 = search rules in
-    rw answered (record { copies = tt; takes_no_memory = λ h.
-      let a = c.in-Some.authority in
-      let same : Some (canonical_authority a) ≡ Some a = subst (λ o. option_map canonical_authority o ≡ o) c.in-Some.is h in
-      let kept : canonical_authority a ≡ a = cc in
-      c.in_err-canonical_copies-in-Some.ensures.takes_no_memory (ap print kept) })
+    rw answered (record {
+      copies = tt;
+      takes_no_memory = λ h.
+          let a = c.in-Some.authority in
+          let same : Some (canonical_authority a) ≡ Some a = subst (λ o. option_map canonical_authority o ≡ o) c.in-Some.is h in
+          let kept : canonical_authority a ≡ a = cc in
+          c.in_err-canonical_copies-in-Some.ensures.takes_no_memory (ap print kept);
+    })

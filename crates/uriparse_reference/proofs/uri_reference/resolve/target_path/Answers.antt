@@ -52,7 +52,7 @@ returns-in_err-merged-clause-answer c =
     merged_refused c.args.base.now reference c.path-inherited.result.now c.path-own.result.now c.path-inherited.ensures.path
     c.path-own.ensures.path c.path-inherited.ensures.valid c.path-own.ensures.valid (sym c.has_front.ensures ∙ c.if-has_front.false)
     (emptiness c.path-own.result.now reference.path c.is_empty.result _ c.path-own.ensures.path c.is_empty.ensures c.if-is_empty.false)
-    (sym c.is_absolute.ensures ∙ c.if-is_absolute.false) c.merged_path.result c.merged_path.ensures.answer c.merged_path.ensures.fault
+    (sym c.is_absolute.ensures ∙ c.if-is_absolute.false) c.merged_path.result c.merged_path.ensures.answer c.merged_path.ensures.always
     error c.from_residual-in_err-merged.result c.in_err-merged.was
     (error_is c.from_residual-in_err-merged.result error c.from_residual-in_err-merged.ensures.1)
 
@@ -64,7 +64,7 @@ returns-clause-answer c =
     merged_made base reference c.path-inherited.result.now c.path-own.result.now c.path-inherited.ensures.path c.path-own.ensures.path
     c.path-inherited.ensures.valid c.path-own.ensures.valid (sym c.has_front.ensures ∙ c.if-has_front.false)
     (emptiness c.path-own.result.now reference.path c.is_empty.result _ c.path-own.ensures.path c.is_empty.ensures c.if-is_empty.false)
-    (sym c.is_absolute.ensures ∙ c.if-is_absolute.false) c.merged_path.result c.merged_path.ensures.answer c.merged_path.ensures.fault
+    (sym c.is_absolute.ensures ∙ c.if-is_absolute.false) c.merged_path.result c.merged_path.ensures.answer c.merged_path.ensures.always
     c.is_some-has_authority.result path c.remove_dots.new.path c.in_ok-merged.was
     (there c.authority-2.result base.authority c.is_some-has_authority.result c.is_some-has_authority.ensures c.authority-2.ensures)
     (c.remove_dots.ensures ∙ flipped c.is_some-has_authority.result (without_dots path))

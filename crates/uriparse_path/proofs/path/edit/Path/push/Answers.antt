@@ -24,6 +24,6 @@ returns-clause-answer c =
     pushed_answer c.args.self.now c.self.inside.absolute c.self.inside.segments.items c.put_last.new.segments.items c.args.segment c.put_last.result
     c.self.view_is (room c) c.put_last.ensures
 
-pub returns-clause-fault : goal.returns-clause-fault
-returns-clause-fault c =
+pub returns-clause-always : goal.returns-clause-always
+returns-clause-always c =
     pushed_fault c.args.self.now c.self.inside.absolute c.self.inside.segments.items c.args.segment c.put_last.result c.self.view_is (room c)

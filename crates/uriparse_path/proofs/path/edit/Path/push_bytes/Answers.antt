@@ -16,9 +16,9 @@ returns-then-len-ge-MAX_SEGMENTS-clause-answer c =
     full_answer c.args.self.now (segment.reading c.args.bytes.now)
     (subst (λ p. max_segments ≤ length p.segments) c.self.view_is (subst (λ n. n ≤ length c.self.inside.segments.items) limit_is at))
 
-pub returns-then-len-ge-MAX_SEGMENTS-clause-fault :
-    goal.returns-then-len-ge-MAX_SEGMENTS-clause-fault
-returns-then-len-ge-MAX_SEGMENTS-clause-fault c =
+pub returns-then-len-ge-MAX_SEGMENTS-clause-always :
+    goal.returns-then-len-ge-MAX_SEGMENTS-clause-always
+returns-then-len-ge-MAX_SEGMENTS-clause-always c =
     let at : 65535 ≤ length c.self.inside.segments.items = omega arith in
     full_fault c.args.self.now (segment.reading c.args.bytes.now)
     (subst (λ p. max_segments ≤ length p.segments) c.self.view_is (subst (λ n. n ≤ length c.self.inside.segments.items) limit_is at))
@@ -35,8 +35,8 @@ returns-in_err-try_from_bytes-clause-answer c =
     subst (λ r. SettlesUnless OutOfMemory c.args.self.now c.args.self.now c.from_residual.result (pushing c.args.self.now r)) (sym (read c))
     (refused_answer c.args.self.now c.in_err-try_from_bytes.field-0.0 c.from_residual.result (room c) answered)
 
-pub returns-in_err-try_from_bytes-clause-fault : goal.returns-in_err-try_from_bytes-clause-fault
-returns-in_err-try_from_bytes-clause-fault c =
+pub returns-in_err-try_from_bytes-clause-always : goal.returns-in_err-try_from_bytes-clause-always
+returns-in_err-try_from_bytes-clause-always c =
     let answered : c.from_residual.result ≡ Err c.in_err-try_from_bytes.field-0.0 = search rules in
     subst (λ r. IfErr (pushing c.args.self.now r) (λ e. c.from_residual.result ≡ Err e)) (sym (read c))
     (refused_fault c.args.self.now c.in_err-try_from_bytes.field-0.0 c.from_residual.result (room c) answered)

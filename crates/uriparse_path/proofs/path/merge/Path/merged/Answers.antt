@@ -12,8 +12,8 @@ returns-then-front-back-gt-MAX_SEGMENTS-clause-answer c =
 pub joined-requires : goal.joined-requires
 joined-requires c = subst (λ n. length c.directory-front.result.now + length c.segments-back.result.now ≤ n) limit_is (omega arith)
 
-pub returns-in_err-segments-clause-fault : goal.returns-in_err-segments-clause-fault
-returns-in_err-segments-clause-fault c =
+pub returns-in_err-segments-clause-always : goal.returns-in_err-segments-clause-always
+returns-in_err-segments-clause-always c =
     let same = short_enough c.args.base.now c.args.reference.now c.segments.result.now c.directory-front.result.now c.segments-back.result.now
     c.segments.ensures.value c.directory-front.ensures c.segments-back.ensures.value (omega arith) in
     subst (λ r. IfErr r (λ e. c.from_residual.result ≡ Err e)) (sym same) tt

@@ -1,0 +1,5 @@
+use Rattle.uriparse_reference.proofs.SourceLemmas.{never_missing, never_scheme, never_slashes, never_want}
+use Rattle.uriparse_reference.proofs.laws.faults_of_reading.Goals as goal
+
+pub returns : goal.returns
+returns c = record { slashes = never_slashes; missing = never_missing; scheme = never_scheme; memory = never_want }
