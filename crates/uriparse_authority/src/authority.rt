@@ -33,7 +33,7 @@ pub use port::parse_port;
 use print::{write_port, write_user};
 use read::read_whole;
 pub use uriparse_text::address::{IpAddr, Ipv4Addr, Ipv6Addr};
-use uriparse_text::parts::{Kind, Text, borrowed_text, owned_text};
+use uriparse_text::parts::{borrowed_text, len_of, owned_text};
 pub use username::Username;
 use username::empty_username;
 
@@ -236,16 +236,6 @@ impl<'a> Authority<'a> {
             && self.password == other.password
             && self.host == other.host
             && self.port == other.port
-    }
-}
-
-/// How many bytes a part has, or none where there is no part.
-fn len_of<K: Kind>(part: &Option<Text<'_, K>>) -> usize
-    ensures { result ≡ length (unwrap_or part.now []) }
-{
-    match part {
-        Some(text) => text.as_str().len(),
-        None => 0,
     }
 }
 

@@ -18,4 +18,5 @@ pub mod CommutationLemmas
 pub mod RunLemmas
 pub mod PrintedLemmas
 pub mod PieceLemmas
+mod LengthLemmas
 pub mod SourceLemmas

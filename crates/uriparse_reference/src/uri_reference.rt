@@ -1,5 +1,5 @@
 //! A URI reference: RFC 3986, section 4.1.
-ghost use Rattle.std.specs.Prelude.{◌≡◌, ◌⊎◌, ◌&&◌, IfOk, IfErr, Ok, Err, Some, bytes_eq, fold, is_some, option_copied, string_bytes};
+ghost use Rattle.std.specs.Prelude.{◌≡◌, ◌⊎◌, ◌&&◌, IfOk, IfErr, Ok, Err, Some, ◌≤◌, bytes_eq, fold, is_some, length, option_copied, string_bytes};
 ghost use Rattle.std.proofs.Common.{rules};
 ghost use Rattle.std.specs.Ordering.{on};
 ghost use Rattle.std.specs.Cmp.Rules.{comparing, hashing};
@@ -18,11 +18,11 @@ use std::fmt::Write;
 use std::hash::{Hash, Hasher};
 use std::marker::Model;
 use uriparse_authority::authority::{Authority, Host, Password, Username};
-use uriparse_authority::parts::most_authority_bytes;
 use uriparse_path::parts::most_path_bytes;
 use uriparse_path::path::Path;
 use uriparse_scheme::scheme::Scheme;
 use uriparse_text::fragment::Fragment;
+use uriparse_text::parts::len_of;
 use uriparse_text::query::Query;
 
 mod builder;
@@ -38,7 +38,7 @@ pub(crate) mod resolve;
 pub use builder::URIReferenceBuilder;
 pub use edit::Edit;
 pub use error::URIReferenceError;
-use print::{write_authority, write_behind, write_scheme};
+use print::{len_of_scheme, most_of_authority, write_authority, write_behind, write_scheme};
 
 /// A URI reference, seen as its five parts: a URI or a relative reference. RFC 3986, section 4.1.
 ///
@@ -214,21 +214,17 @@ impl<'r> URIReference<'r> {
         self.fragment.as_ref()
     }
 
-    /// How many bytes the reference's text has at most.
-    fn most_bytes(&self) -> usize {
-        let scheme = self.scheme.as_ref().map_or(0, |s| s.as_str().len());
-        let authority = self.authority.as_ref().map_or(0, most_authority_bytes);
-        let query = self.query.as_ref().map_or(0, |q| q.as_str().len());
-        let fragment = self.fragment.as_ref().map_or(0, |f| f.as_str().len());
-        [
-            scheme,
-            authority,
-            most_path_bytes(&self.path),
-            query,
-            fragment,
-        ]
-        .iter()
-        .fold(5usize, |sum, part| sum.saturating_add(*part))
+    /// How many bytes the reference's text has at most: those of its parts, a `:`, two slashes, a
+    /// `?` and a `#`; or the most that a number holds.
+    fn most_bytes(&self) -> usize
+        ensures { length (print self.now) ≤ result ⊎ result ≡ usize.MAX }
+    {
+        5usize
+            .saturating_add(len_of_scheme(&self.scheme))
+            .saturating_add(len_of(&self.query))
+            .saturating_add(len_of(&self.fragment))
+            .saturating_add(most_of_authority(&self.authority))
+            .saturating_add(most_path_bytes(&self.path))
     }
 
     /// A copy of the reference's text, which wants memory.

@@ -21,5 +21,5 @@ pub use copy::{borrowed_text, canonical_copy, is_canonical_part, owned_text, put
 pub use cut::{split_at_mark, without_mark};
 pub use print::write_short;
 pub use scan::{ByteTest, Is, IsAny, Outside, first, next_marks};
-pub use text::{Kind, Text, checked_text, normalized_text, read_text_before, read_text_if};
+pub use text::{Kind, Text, checked_text, len_of, normalized_text, read_text_before, read_text_if};
 pub use token::{Token, is_escape, split_token};

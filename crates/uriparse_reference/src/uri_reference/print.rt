@@ -1,5 +1,5 @@
 //! The text of a reference: RFC 3986, section 5.3.
-ghost use Rattle.std.specs.Prelude.{◌≡◌, length, slice_index};
+ghost use Rattle.std.specs.Prelude.{◌≡◌, ◌≤◌, ◌⊎◌, [], length, slice_index, unwrap_or};
 ghost use Rattle.std.specs.Option.{option_copied, option_map};
 ghost use Rattle.std.specs.Fmt.{WritesOnOk, WritesStyledOnOk};
 ghost use Rattle.uriparse_text.specs.Bytes.{colon};
@@ -10,7 +10,29 @@ ghost use Rattle.uriparse_reference.specs.Reference.{behind_slashes};
 
 use std::fmt;
 use uriparse_authority::authority::Authority;
+use uriparse_authority::parts::most_authority_bytes;
 use uriparse_scheme::scheme::Scheme;
+
+/// How many bytes the scheme has, or none where there is no scheme.
+pub(super) fn len_of_scheme(scheme: &Option<Scheme<'_>>) -> usize
+    ensures { result ≡ length (unwrap_or (option_map schemes.text scheme.now) []) }
+{
+    match scheme {
+        Some(scheme) => scheme.as_str().len(),
+        None => 0,
+    }
+}
+
+/// How many bytes the authority's text has at most, none where there is no authority, or the most
+/// that a number holds.
+pub(super) fn most_of_authority(authority: &Option<Authority<'_>>) -> usize
+    ensures { length (unwrap_or (option_map authorities.print authority.now) []) ≤ result ⊎ result ≡ usize.MAX }
+{
+    match authority {
+        Some(authority) => most_authority_bytes(authority),
+        None => 0,
+    }
+}
 
 /// Writes the scheme, if there is one, and its colon.
 pub(super) fn write_scheme<W: fmt::Write>(

@@ -1,5 +1,5 @@
 //! A text whose tokens are in one class: what user names, segments, queries and the like share.
-ghost use Rattle.std.specs.Prelude.{◌≡◌, ◌↔◌, ℕ, List, IsTrue, IfOk, OnOk, OnErr, IsOk, MatchResult, Some, true, bytes_eq, string_bytes};
+ghost use Rattle.std.specs.Prelude.{◌≡◌, ◌↔◌, ℕ, List, [], IsTrue, IfOk, OnOk, OnErr, IsOk, MatchResult, Some, true, bytes_eq, length, string_bytes, unwrap_or};
 ghost use Rattle.std.proofs.Common.{rules};
 ghost use Rattle.std.specs.Option.{option_copied};
 ghost use Rattle.std.specs.Ordering.{on};
@@ -256,6 +256,16 @@ pub fn read_text_if<'t, K: Kind>(text: Option<&'t [u8]>) -> Result<Option<Text<'
     match text {
         Some(text) => Ok(Some(Text::try_from_bytes(text)?)),
         None => Ok(None),
+    }
+}
+
+/// How many bytes a text has, or none where there is no text.
+pub fn len_of<K: Kind>(text: &Option<Text<'_, K>>) -> usize
+    ensures { result ≡ length (unwrap_or text.now []) }
+{
+    match text {
+        Some(text) => text.as_str().len(),
+        None => 0,
     }
 }
 
