@@ -327,7 +327,7 @@ userinfo_fault a e h = by_results (if_present username.reading (username_text a)
     by_results (Err f) i y j k = let same : errors.Username f ≡ e = cc in rw i (ap Err same)
 
 -- a password that is read stands with a user name
-paired : (i u w : Option (List ℕ)) → if_present username.reading (username_in i) ≡ Ok u → if_present password.reading (password_in i) ≡ Ok w
+pub paired : (i u w : Option (List ℕ)) → if_present username.reading (username_in i) ≡ Ok u → if_present password.reading (password_in i) ≡ Ok w
     → u ≡ with_empty u w
 paired i (Some u) w x y = refl
 paired i None None x y = refl
@@ -352,7 +352,7 @@ module _ (a : List ℕ) (i : Option (List ℕ)) (is_userinfo : i ≡ userinfo_te
   refused_userinfo e x = userinfo_fault a e (ap userinfo_reading (sym is_userinfo) ∙ x)
 
   module _ (u w : Option (List ℕ)) (x : userinfo_reading i ≡ Ok (u, w)) (t : List ℕ) (is_host : t ≡ host_text a) where
-    both_read : (if_present username.reading (username_text a) ≡ Ok u) × (if_present password.reading (password_text a) ≡ Ok w)
+    pub both_read : (if_present username.reading (username_text a) ≡ Ok u) × (if_present password.reading (password_text a) ≡ Ok w)
     both_read = userinfo_read (userinfo_text a) u w (ap userinfo_reading (sym is_userinfo) ∙ x)
 
     pub refused_host : (e : HostError) → host.reading t ≡ Err e → reading a ≡ Err (errors.Host e)
@@ -367,6 +367,20 @@ module _ (a : List ℕ) (i : Option (List ℕ)) (is_userinfo : i ≡ userinfo_te
 
       pub accepted : (n : Option ℕ) → port.reading (unwrap_or (port_text a) []) ≡ Ok n → reading a ≡ Ok (of_parts u w h n)
       accepted n z = parts_read a u w h n both_read.0 both_read.1 host_read z
+
+-- a text that spells a host is an authority of that alone
+pub host_alone : (a : List ℕ) (h : Host) → host.Spells a h → reading a ≡ Ok (of_parts None None h None)
+host_alone a h s =
+    again a (of_parts None None h None) (record {
+      host_text = a;
+      port_text = None;
+      whole = sym (append-nil a);
+      is_username = tt;
+      is_password = tt;
+      paired = tt;
+      is_host = s;
+      is_port = record { digits = refl; in_range = search arith; value = refl };
+    })
 
 pub exact : IsExact Spells reading
 exact = record { again = again; found = found }

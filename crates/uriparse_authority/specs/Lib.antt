@@ -5,3 +5,4 @@ pub mod Port
 pub mod Host
 pub mod Authority
 pub mod Normal
+pub mod Found

@@ -14,6 +14,7 @@ use std::marker::Model;
 
 mod edit;
 mod error;
+pub(crate) mod found;
 mod host;
 mod name;
 pub(crate) mod normal;

@@ -3,8 +3,9 @@ ghost use Rattle.std.specs.Prelude.{◌≡◌, ◌≤◌, ◌⊎◌, length};
 ghost use Rattle.uriparse_authority.specs.Authority.{print};
 
 use crate::authority::Authority;
+pub use crate::authority::found::FoundAuthority;
 pub use crate::authority::normal::{CanonicalCopies, canonical_copies, put_copies};
-pub use crate::authority::read::{read_authority, split_rest};
+pub use crate::authority::read::{find_authority, split_rest};
 
 /// How many bytes the authority's text has at most, or the most that a number holds.
 pub fn most_authority_bytes(authority: &Authority<'_>) -> usize

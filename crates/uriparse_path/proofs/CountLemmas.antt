@@ -7,7 +7,10 @@ use Rattle.std.proofs.lemmas.Bool.{eqb-true, false≢true}
 use Rattle.std.specs.List.{slice_split}
 use Rattle.std.specs.Int.{bit_at}
 use Rattle.std.proofs.lemmas.List.{drop_more}
-use Rattle.std.proofs.lemmas.Nat.Bits.{bit_at-zero}
+use Rattle.std.proofs.lemmas.Nat.Bits.{bit_at-zero, bit_at-lt}
+use Rattle.std.proofs.Common.{inl, inr, ◌%◌, ◌^◌, count_ones}
+use Rattle.std.proofs.lemmas.Bool.{cases_lt}
+use Rattle.uriparse_text.proofs.BitLemmas.{ones_none, ones_next, ones_below, ones_whole}
 use Rattle.uriparse_text.specs.declared.parts.class.Class.TheVariants.{Segment}
 use Rattle.uriparse_text.specs.Bytes.{slash, question_mark, number_sign, is_hex, is_unreserved, is_sub_delim}
 use Rattle.uriparse_text.specs.Classes.{is_plain}
@@ -254,3 +257,153 @@ module _ (limit : ℕ) (ends : Bool) (t : List ℕ) where
   run_ends at n count left is none =
       reached_up_to count is.here (at + n) is.reached is.high is.room
       (run_plain at n count left n is (omega arith) (λ k _. ap (λ m. bit_at m k) none ∙ bit_at-zero k))
+
+  -- ---- the slashes of so many bytes counted at once
+
+  -- of so many bytes the slashes have their bit set, and all are within the limit
+  pub record AreSlashes (at n slashes count : ℕ) : Type 0 where
+    pub room : at + n ≤ length t
+    pub marks : AreMarks is_slash t at n slashes
+    pub fits : count + count_ones slashes ≤ limit
+
+  -- as far as byte j of them
+  abbrev pub IsSwept : ℕ → ℕ → ℕ → ℕ → Type 0
+  IsSwept at slashes count j = IsReached (count + count_ones (slashes % 2 ^ j)) (at + j)
+
+  set_is_slash : (at n slashes count j : ℕ) → AreSlashes at n slashes count → j < n → is_slash (get_or t (at + j) 0) ≡ true → bit_at slashes j ≡ 1
+  set_is_slash at n slashes count j are h is = are.marks.0 j h ∙ ap (λ v. cond v 1 0) is
+
+  unset_is_other : (at n slashes count j : ℕ) → AreSlashes at n slashes count → j < n → is_slash (get_or t (at + j) 0) ≡ false → bit_at slashes j ≡ 0
+  unset_is_other at n slashes count j are h is = are.marks.0 j h ∙ ap (λ v. cond v 1 0) is
+
+  swept_same : (at n slashes count j : ℕ) → AreSlashes at n slashes count → j < n → is_slash (get_or t (at + j) 0) ≡ false
+      → IsReached (count + count_ones (slashes % 2 ^ j)) (at + j + 1) → IsSwept at slashes count (j + 1)
+  swept_same at n slashes count j are h other reached =
+      let next = ones_next slashes j in
+      let unset = unset_is_other at n slashes count j are h other in
+      let same : count + count_ones (slashes % 2 ^ j) ≡ count + count_ones (slashes % 2 ^ (j + 1)) = omega (arith, next, unset) in
+      let place : at + j + 1 ≡ at + (j + 1) = omega arith in
+      subst (IsReached (count + count_ones (slashes % 2 ^ (j + 1)))) place (subst (λ c. IsReached c (at + j + 1)) same reached)
+
+  swept_next : (at n slashes count j : ℕ) → AreSlashes at n slashes count → j < n
+      → (bit_at slashes j ≡ 0 → is_plain Segment (get_or t (at + j) 0) ≡ true) → IsSwept at slashes count j → IsSwept at slashes count (j + 1)
+  swept_next at n slashes count j are h plain is = by_test (is_slash (get_or t (at + j) 0)) refl
+    where
+      by_test : (v : Bool) → is_slash (get_or t (at + j) 0) ≡ v → IsSwept at slashes count (j + 1)
+      by_test true e =
+          let b = get_or t (at + j) 0 in
+          let so_far = count + count_ones (slashes % 2 ^ j) in
+          let next = ones_next slashes j in
+          let set = set_is_slash at n slashes count j are h e in
+          let room = are.room in
+          let below = ones_below slashes (j + 1) in
+          let fits = are.fits in
+          let free : so_far ≢ limit = λ full. omega (arith, next, set, below, fits, full) in
+          let goes = slash_goes_on ends b e in
+          let within : at + j < length t = omega arith in
+          let here = reached_here so_far (at + j) is within goes in
+          let reached = reached_on so_far (so_far + 1) (at + j) is within goes
+          (counted_slash limit (path_front ends t) so_far b (path_front ends (drop (at + j + 1) t)) here e free) in
+          let same : so_far + 1 ≡ count + count_ones (slashes % 2 ^ (j + 1)) = omega (arith, next, set) in
+          let place : at + j + 1 ≡ at + (j + 1) = omega arith in
+          subst (IsReached (count + count_ones (slashes % 2 ^ (j + 1)))) place (subst (λ c. IsReached c (at + j + 1)) same reached)
+      by_test false e =
+          let room = are.room in
+          swept_same at n slashes count j are h e
+          (reached_plain (count + count_ones (slashes % 2 ^ j)) (at + j) is (omega arith) (plain (unset_is_other at n slashes count j are h e)))
+
+  swept_more : (at n slashes count from d : ℕ) → AreSlashes at n slashes count → from + d ≤ n
+      → ((j : ℕ) → from ≤ j → j < from + d → bit_at slashes j ≡ 0 → is_plain Segment (get_or t (at + j) 0) ≡ true)
+      → IsSwept at slashes count from → IsSwept at slashes count (from + d)
+  swept_more at n slashes count from zero are h plain is =
+      let same : from ≡ from + 0 = omega arith in subst (IsSwept at slashes count) same is
+  swept_more at n slashes count from (suc d) are h plain is =
+      let before = swept_more at n slashes count from d are (omega arith) (λ j low high. plain j low (omega arith)) is in
+      let place : from + d + 1 ≡ from + suc d = omega arith in
+      subst (IsSwept at slashes count) place (swept_next at n slashes count (from + d) are (omega arith) (plain (from + d) (omega arith) (omega arith)) before)
+
+  swept_up_to : (at n slashes count from to : ℕ) → AreSlashes at n slashes count → from ≤ to → to ≤ n
+      → ((j : ℕ) → from ≤ j → j < to → bit_at slashes j ≡ 0 → is_plain Segment (get_or t (at + j) 0) ≡ true)
+      → IsSwept at slashes count from → IsSwept at slashes count to
+  swept_up_to at n slashes count from to are le h plain is =
+      let place : from + (to - from) ≡ to = omega arith in
+      subst (IsSwept at slashes count) place
+      (swept_more at n slashes count from (to - from) are (omega arith) (λ j low high. plain j low (omega arith)) is)
+
+  -- those before some place are swept, and of the others those without a bit in either mask are plain
+  pub record IsSweep (at n slashes count left : ℕ) : Type 0 where
+    pub are : AreSlashes at n slashes count
+    pub here : ℕ
+    pub high : here ≤ n
+    pub swept : IsSwept at slashes count here
+    pub passed : (k : ℕ) → here ≤ k → k < n → bit_at left k ≡ 0 → bit_at slashes k ≡ 0 → is_plain Segment (get_or t (at + k) 0) ≡ true
+    pub waiting : (k : ℕ) → bit_at left k ≡ 1
+        → (here ≤ k) × (k < n) × (is_plain Segment (get_or t (at + k) 0) ≡ false) × (is_slash (get_or t (at + k) 0) ≡ false)
+
+  not_slash : (v : Bool) → ◌≡◌ {A = ℕ} (cond v 1 0) 0 → v ≡ false
+  not_slash true h = absurd (omega (arith, h))
+  not_slash false h = refl
+
+  pub sweep_begins : (at n slashes count marks left : ℕ) → AreSlashes at n slashes count → n ≤ 64 → IsReached count at
+      → AreMarks (λ b. not (is_plain Segment b)) t at n marks
+      → ((k : ℕ) → bit_at left k ≡ 1 → (bit_at marks k ≡ 1) × (bit_at slashes k ≡ 0))
+      → ((k : ℕ) → k < 64 → bit_at left k ≡ 0 → bit_at marks k ≡ 1 → bit_at slashes k ≡ 1) → IsSweep at n slashes count left
+  sweep_begins at n slashes count marks left are few is outs no_more gone =
+      let none : count ≡ count + count_ones (slashes % 2 ^ 0) = omega (arith, ones_none slashes) in
+      let place : at ≡ at + 0 = omega arith in
+      record {
+        are = are;
+        here = 0;
+        high = omega arith;
+        swept = subst (IsReached (count + count_ones (slashes % 2 ^ 0))) place (subst (λ c. IsReached c at) none is);
+        passed = λ k _ h unset other.
+            unset_is_plain Segment t at n marks k outs h (unmarked k h unset other);
+        waiting = λ k set.
+            let both = no_more k set in
+            let w = set_is_outside Segment t at n marks k outs both.0 in
+            (omega arith, w.0, w.1, not_slash (is_slash (get_or t (at + k) 0)) (sym (are.marks.0 k w.0) ∙ both.1));
+      }
+    where
+      unmarked : (k : ℕ) → k < n → bit_at left k ≡ 0 → bit_at slashes k ≡ 0 → bit_at marks k ≡ 0
+      unmarked k h unset other = elim (cases_lt (bit_at marks k) 1) [
+        | inl none ↦ omega (arith, none)
+        | inr some ↦ absurd (
+            let one : bit_at marks k ≡ 1 = omega (arith, some, bit_at-lt marks k) in
+            omega (arith, gone k (omega arith) unset one, other))
+      ]
+
+  pub sweep_within : (at n slashes count left k : ℕ) → IsSweep at n slashes count left → bit_at left k ≡ 1 → at + k < length t
+  sweep_within at n slashes count left k is set = let short = (is.waiting k set).1 in let room = is.are.room in omega arith
+
+  -- up to the lowest bit
+  pub sweep_to : (at n slashes count left k : ℕ) → IsSweep at n slashes count left → bit_at left k ≡ 1 → ((j : ℕ) → j < k → bit_at left j ≡ 0)
+      → IsSwept at slashes count k
+  sweep_to at n slashes count left k is set below =
+      let w = is.waiting k set in
+      swept_up_to at n slashes count is.here k is.are w.0 (omega (arith, w.1))
+      (λ j low high other. is.passed j low (omega (arith, high, w.1)) (below j high) other) is.swept
+
+  pub sweep_on : (at n slashes count left k next : ℕ) → IsSweep at n slashes count left → bit_at left k ≡ 1 → ((j : ℕ) → j < k → bit_at left j ≡ 0)
+      → ((j : ℕ) → j ≢ k → bit_at next j ≡ bit_at left j) → ((j : ℕ) → bit_at next j ≡ 1 → bit_at left j ≡ 1) → bit_at next k ≡ 0
+      → IsReached (count + count_ones (slashes % 2 ^ k)) (at + k + 1) → IsSweep at n slashes count next
+  sweep_on at n slashes count left k next is set below kept no_more cleared reached =
+      let w = is.waiting k set in
+      let short = w.1 in
+      record {
+        are = is.are;
+        here = k + 1;
+        high = omega arith;
+        swept = swept_same at n slashes count k is.are short w.3 reached;
+        passed = λ j past h unset other. is.passed j (omega (arith, w.0, past)) h (sym (kept j (λ same. omega (arith, past, same))) ∙ unset) other;
+        waiting = λ j e.
+            let v = is.waiting j (no_more j e) in
+            let past = above_lowest left next k below no_more cleared j e in
+            (omega (arith, past), v.1, v.2, v.3);
+      }
+
+  pub sweep_ends : (at n slashes count left : ℕ) → IsSweep at n slashes count left → left ≡ 0
+      → IsReached (count + count_ones slashes) (at + n)
+  sweep_ends at n slashes count left is none =
+      subst (λ c. IsReached (count + c) (at + n)) (ones_whole slashes n is.are.marks.1)
+      (swept_up_to at n slashes count is.here n is.are is.high (omega arith)
+      (λ j low high other. is.passed j low high (ap (λ m. bit_at m j) none ∙ bit_at-zero j) other) is.swept)

@@ -14,6 +14,10 @@ pub record PartsOf (X : Type 0) : Type 0 where
 abbrev pub PathParts : Type 0
 PathParts = PartsOf (List ℕ)
 
+-- the flag that a word stands for
+abbrev pub flag : ℕ → Bool
+flag n = not (n == 0)
+
 -- the most segments that a path may have
 unfoldable pub max_segments : ℕ
 max_segments = 65535

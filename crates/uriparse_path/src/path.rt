@@ -10,7 +10,7 @@ ghost use Rattle.uriparse_text.specs.Bytes.{colon, slash};
 ghost use Rattle.uriparse_text.specs.Cuts.{from_first, lacks, up_to};
 ghost use Rattle.uriparse_text.specs.Canonical.{canonical, SpellsAlike};
 ghost use Rattle.uriparse_text.specs.Readings.{IsUnless};
-ghost use Rattle.uriparse_path.specs.Path.{IsListed, fed, fed_piece, has_two_slashes, hides_root, is_rooted, is_slash, made_absolute, spelled, text};
+ghost use Rattle.uriparse_path.specs.Path.{IsListed, fed, fed_piece, flag, has_two_slashes, hides_root, is_rooted, is_slash, made_absolute, spelled, text};
 ghost use Rattle.uriparse_path.specs.Segment.{is_segment};
 ghost use Rattle.uriparse_path.specs.Faults.{reading};
 ghost use Rattle.uriparse_path.specs.Dots.{without_dots};
@@ -50,7 +50,8 @@ pub const MAX_SEGMENTS: usize = 65535;
 /// What a [`Path`] is made of, for segments of any type. Users name it by [`Path`] alone.
 #[derive(Drop)]
 pub struct PathOf<S> {
-    absolute: bool,
+    // 0 or 1: a word, since a `bool` would be moved with its padding.
+    absolute: usize,
     segments: Vec<S>,
 }
 
@@ -68,12 +69,20 @@ pub struct PathOf<S> {
 /// ```
 pub type Path<'p> = PathOf<Segment<'p>>;
 
+/// The word that stands for the flag.
+#[inline(always)]
+fn word_of(absolute: bool) -> usize
+    ensures { flag result ≡ absolute }
+{
+    if absolute { 1 } else { 0 }
+}
+
 impl<S> Model for PathOf<S> {
-    ghost use Rattle.uriparse_path.specs.Path.{PartsOf, IsCounted};
+    ghost use Rattle.uriparse_path.specs.Path.{PartsOf, IsCounted, flag};
 
     ghost Value = { PartsOf S };
 
-    ghost view = { λ p. record { absolute = p.absolute; segments = p.segments.items } };
+    ghost view = { λ p. record { absolute = flag p.absolute; segments = p.segments.items } };
 
     ghost invariant = { λ p. IsCounted p.segments.items };
 }
@@ -84,7 +93,10 @@ impl<'p> Path<'p> {
         requires { IsListed segments.items }
         ensures { result ≡ record { absolute = absolute; segments = segments.entry.items } }
     {
-        Path { absolute, segments }
+        Path {
+            absolute: word_of(absolute),
+            segments,
+        }
     }
 
     /// Reads a path, whose segments borrow the bytes.
@@ -127,14 +139,14 @@ impl<'p> Path<'p> {
     pub fn is_absolute(&self) -> bool
         ensures { result ≡ self.now.absolute }
     {
-        self.absolute
+        self.absolute != 0
     }
 
     /// Whether the path is relative: no slash stands before its first segment.
     pub fn is_relative(&self) -> bool
         ensures { result ≡ not self.now.absolute }
     {
-        !self.absolute
+        self.absolute == 0
     }
 
     /// Removes the dot segments as RFC 3986, section 5.2.4, rewrites the path's text; dots may be
@@ -155,11 +167,11 @@ impl<'p> Path<'p> {
         if !has_dot_segment(self.segments()) {
             return;
         }
-        let (rooted, kept) = replay(self.absolute, &mut self.segments);
+        let (rooted, kept) = replay(self.absolute != 0, &mut self.segments);
         let (absolute, kept) = root_first(rooted, &mut self.segments, kept);
         let shielded = needs_shield(shields, absolute, &self.segments[..kept]);
         guard(&mut self.segments, shielded, kept);
-        self.absolute = absolute;
+        self.absolute = word_of(absolute);
     }
 
     /// Whether the path's text begins with a slash.
@@ -257,7 +269,7 @@ impl<'p> Path<'p> {
     {
         match self.segments().split_first() {
             Some((first, later)) => {
-                self.absolute
+                self.is_absolute()
                     && first.as_str() == "."
                     && hides_root(later)
                     && is_normal(false, later)
@@ -320,7 +332,7 @@ impl<'p> Path<'p> {
             return;
         }
         let _ = self.segments.remove(0);
-        self.absolute = true;
+        self.absolute = 1;
     }
 
     /// The same path, made absolute.
@@ -328,7 +340,7 @@ impl<'p> Path<'p> {
         ensures { result ≡ made_absolute self.entry }
     {
         Path {
-            absolute: true,
+            absolute: 1,
             segments: self.segments,
         }
     }
@@ -491,7 +503,7 @@ impl<'p> fmt::Display for Path<'p> {
 impl<'p> fmt::Debug for Path<'p> {
     fn fmt<W: fmt::Write>(&self, f: &mut fmt::Formatter<W>) -> fmt::Result {
         f.debug_struct("Path")
-            .field("absolute", &self.absolute)
+            .field("absolute", &self.is_absolute())
             .field("segments", &self.segments)
             .finish()
     }

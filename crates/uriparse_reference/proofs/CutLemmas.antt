@@ -1,4 +1,5 @@
 -- How the text of a reference is cut, and that a text which is joined from pieces is cut into them.
+use Rattle.std.proofs.Common.{subst}
 use Rattle.std.proofs.Common.{◌≡◌, ℕ, Bool, true, false, cond, List, [], ◌∷◌, ◌++◌, drop, length, take, Option, Some, None, Ok, refl, sym, ap, ◌∙◌}
 use Rattle.std.proofs.Common.{append-nil, append_assoc, ◌&&◌, ◌||◌, inl, inr, arith}
 use Rattle.std.specs.Prelude.{◌⊎◌, not, ◌==◌, IfSome, Err, is_some, unwrap_or}
@@ -13,7 +14,7 @@ use Rattle.std.proofs.lemmas.List.Folds.{list_all-append}
 use Rattle.uriparse_text.specs.declared.parts.class.Class.TheVariants.{Query}
 use Rattle.uriparse_text.specs.Bytes.{slash, colon, question_mark, number_sign, is_unreserved, is_sub_delim}
 use Rattle.uriparse_text.specs.Classes.{is_plain}
-use Rattle.uriparse_text.specs.Cuts.{lacks, none_pass, behind, before, after, rest, part, up_to, from_first}
+use Rattle.uriparse_text.specs.Cuts.{lacks, none_pass, behind, before, after, front, rest, part, up_to, from_first}
 use Rattle.uriparse_text.specs.Query.{IsQuery}
 use Rattle.uriparse_text.proofs.CutLemmas.{weaker, up_to-none, from_first-head, lacks_by, lacks-append, lacks-behind, lacks-in_class, cut-whole, up_to-append}
 use Rattle.uriparse_text.proofs.CutLemmas.{from_first-append, before_of, after_of, front_of}
@@ -32,7 +33,7 @@ use Rattle.uriparse_scheme.proofs.SchemeLemmas as schemes
 use Rattle.uriparse_scheme.proofs.GrammarLemmas as grammar
 use Rattle.uriparse_reference.specs.declared.uri_reference.error.URIReferenceError.TheVariants as errors
 use Rattle.uriparse_reference.specs.Reference.{behind_slashes, joined, is_abempty, is_noscheme, path_refusal}
-use Rattle.uriparse_reference.specs.Cuts.{if_scheme, scheme_text, ends_scheme, unless_scheme, after_scheme, cut_authority, authority_text, without_authority}
+use Rattle.uriparse_reference.specs.Cuts.{if_scheme, if_some, scheme_text, ends_scheme, unless_scheme, after_scheme, cut_authority, authority_text, without_authority}
 use Rattle.uriparse_reference.specs.Cuts.{after_authority}
 use Rattle.uriparse_reference.specs.Cuts.{path_text, query_text, fragment_text, tail_query, tail_fragment}
 use Rattle.uriparse_path.specs.Faults.{ends_path}
@@ -336,6 +337,47 @@ registered_there s t u e =
     scheme_there t u (Registered s) (ap (after colon) e ∙ after_of colon name (Some u) refl colonless)
     (ap scheme.reading (ap (before colon) e ∙ before_of colon name (Some u) refl colonless)
     ∙ (schemes.reads name (Registered s)).1 (schemes.spells_back (Registered s) tt))
+
+-- the same by the texts alone: what is answered for a scheme, or the empty text for none
+pub record IsTextCut (t s u : List ℕ) : Type 0 where
+  pub scheme : if_some s ≡ scheme_text t
+  pub rest : u ≡ after_scheme t
+
+pub no_text : (t : List ℕ) → scheme_text t ≡ None → IsTextCut t [] t
+no_text t none = record { scheme = sym none; rest = sym (ap (λ o. unless_scheme o t (rest colon t)) none) }
+
+pub no_text_there : (t u : List ℕ) → after colon t ≡ Some u → scheme.is_scheme (before colon t) ≡ false → IsTextCut t [] t
+no_text_there t u e is = no_text t (before_is t u e ∙ rw is refl)
+
+pub text_there : (t s u : List ℕ) → after colon t ≡ Some u → before colon t ≡ s → scheme.is_scheme s ≡ true → IsTextCut t s u
+text_there t s u e k is =
+    let some : scheme_text t ≡ Some s = before_is t u e ∙ rw (k, is) refl in
+    record {
+      scheme = never_empty s is ∙ sym some;
+      rest = sym (ap (λ o. unless_scheme o t (rest colon t)) some ∙ ap (λ o. unwrap_or o t) e);
+    }
+  where
+    never_empty : (s : List ℕ) → scheme.is_scheme s ≡ true → if_some s ≡ Some s
+    never_empty [] h = cc
+    never_empty (b ∷ s) h = refl
+
+pub registered_text : (s : RegisteredScheme) (t u : List ℕ) → t ≡ name_of s ++ colon ∷ u → IsTextCut t (name_of s) u
+registered_text s t u e =
+    let name = name_of s in
+    let colonless : lacks colon name ≡ true = scheme_colon name (name_is_scheme s) in
+    text_there t name u (ap (after colon) e ∙ after_of colon name (Some u) refl colonless)
+    (ap (before colon) e ∙ before_of colon name (Some u) refl colonless) (name_is_scheme s)
+
+pub is_scheme_text : (t s : List ℕ) → if_some s ≡ scheme_text t → IfSome (if_some s) (λ s. scheme.is_scheme s ≡ true)
+is_scheme_text t s e = subst (λ o. IfSome o (λ s. scheme.is_scheme s ≡ true)) (sym e) (by_front (front colon t))
+  where
+    by_test : (s : List ℕ) (v : Bool) → scheme.is_scheme s ≡ v → IfSome (cond v (Some s) None) (λ s. scheme.is_scheme s ≡ true)
+    by_test s true is = is
+    by_test s false is = tt
+
+    by_front : (o : Option (List ℕ)) → IfSome (if_scheme o) (λ s. scheme.is_scheme s ≡ true)
+    by_front None = tt
+    by_front (Some s) = by_test s (scheme.is_scheme s) refl
 
 -- a text without the bytes that it begins with
 pub stripped : (t front u : List ℕ) → bytes_eq (take (length front) t) front ≡ true → u ≡ drop (length front) t → t ≡ front ++ u

@@ -9,7 +9,7 @@ use Rattle.std.proofs.lemmas.Bool.Decides.{nat_tests}
 use Rattle.uriparse_text.specs.declared.parts.class.Class.TheVariants.{Query}
 use Rattle.uriparse_text.specs.Bytes.{slash, colon, question_mark, number_sign}
 use Rattle.uriparse_text.specs.Cuts.{behind, ahead, before, after, front, rest, up_to, from_first}
-use Rattle.uriparse_text.specs.Readings.{IsUnless, ◌>>=◌, of_piece, if_present, fault_in, unless_fault, IfPresent}
+use Rattle.uriparse_text.specs.Readings.{IsUnless, ◌>>=◌, of_piece, some_of, if_present, fault_in, unless_fault, IfPresent}
 use Rattle.uriparse_text.specs.Query as query
 use Rattle.uriparse_text.specs.Fragment as fragment
 use Rattle.uriparse_text.proofs.CutLemmas.{from_first-head, cut-whole, before_after, front_rest}
@@ -28,6 +28,7 @@ use Rattle.uriparse_scheme.proofs.SchemeLemmas as schemes
 use Rattle.uriparse_path.specs.declared.path.error.PathError.TheVariants.{OutOfMemory}
 use Rattle.uriparse_reference.specs.declared.uri_reference.error.URIReferenceError.{URIReferenceError}
 use Rattle.uriparse_reference.specs.declared.uri_reference.error.URIReferenceError.TheVariants as errors
+use Rattle.uriparse_authority.specs.declared.authority.error.AuthorityError.{AuthorityError}
 use Rattle.uriparse_reference.specs.Reference.{Parts, behind_slashes, joined, is_abempty, path_refusal, path_of, Spells}
 use Rattle.uriparse_reference.specs.Cuts.{if_scheme, scheme_text, unless_scheme, after_scheme, cut_authority, authority_text, without_authority}
 use Rattle.uriparse_reference.specs.Cuts.{after_authority, path_text, query_text, fragment_text}
@@ -224,7 +225,7 @@ authority_back (Some a) h k = authorities.back a h k
 
 -- ---- what the readers of the pieces make
 
-scheme_present : (t : List ℕ) → is_some (option_map scheme.named (scheme_text t)) ≡ is_some (scheme_text t)
+pub scheme_present : (t : List ℕ) → is_some (option_map scheme.named (scheme_text t)) ≡ is_some (scheme_text t)
 scheme_present t = by_option (scheme_text t)
   where
     by_option : (o : Option (List ℕ)) → is_some (option_map scheme.named o) ≡ is_some o
@@ -266,15 +267,30 @@ module _ (t : List ℕ) (s : Option Scheme) (o : Option (Bor (List ℕ))) (h : L
       by_results (Ok x) (Err e) f = refl
       by_results (Err e) q f = refl
 
-  pub tail_answer : (r : Result Tail URIReferenceError) → IsUnlessMemory r (tail_reading (is_some s) (is_some o) h q f)
-      → IsAnswer t (r >>= λ x. Ok (with_tail s a x))
+  pub tail_answer : (v w : Bool) → v ≡ is_some (scheme_text t) → w ≡ is_some o → (r : Result Tail URIReferenceError) → tail_reading v w h q f ≡ r
+      → reading t ≡ (r >>= λ x. Ok (with_tail s a x))
   unfolding tail_made
-  tail_answer r (inl e) = inl (rw e (sym by_tail))
-  tail_answer r (inr e) = inr (ap fault_in by_tail ∙ no_fault (tail_reading (is_some s) (is_some o) h q f) e.0, rw e.1 refl)
-    where
-      no_fault : (r : Result Tail URIReferenceError) → fault_in r ≡ None → fault_in (r >>= λ x. Ok (with_tail s a x)) ≡ None
-      no_fault (Ok x) k = refl
-      no_fault (Err x) k = cc
+  tail_answer v w e k r made =
+      let along : tail_reading (is_some s) (is_some o) h q f ≡ tail_reading v w h q f =
+          ap (λ b. tail_reading b (is_some o) h q f) (ap is_some scheme_is ∙ scheme_present t ∙ sym e) ∙ ap (λ b. tail_reading v b h q f) (sym k) in
+      by_tail ∙ ap (λ r. r >>= λ x. Ok (with_tail s a x)) (along ∙ made)
+
+-- an authority was read where the text has one
+pub read_present : (o : Option (Bor (List ℕ))) (a : Option AuthorityParts) → of_piece errors.Authority (if_present authority.reading (option_copied o)) ≡ Ok a
+    → is_some a ≡ is_some o
+read_present None None h = refl
+read_present None (Some p) h = cc
+read_present (Some t) a h = by_reading (authority.reading t.now) a h
+  where
+    by_reading : (r : Result AuthorityParts AuthorityError) (a : Option AuthorityParts) → of_piece errors.Authority (some_of r) ≡ Ok a → is_some a ≡ true
+    by_reading (Ok p) (Some q) k = refl
+    by_reading (Ok p) None k = cc
+    by_reading (Err e) a k = cc
+
+-- whether an authority stands before a path is told by the authority that was read
+pub in_place : (s : Option Scheme) (a : Option AuthorityParts) (w : Bool) → w ≡ is_some a → (h : List ℕ) (q f : Option (List ℕ))
+    → with_tail s a (path_of w h, q, f) ≡ record { scheme = s; authority = a; path = path_of (is_some a) h; query = q; fragment = f }
+in_place s a w e h q f = ap (λ w. with_tail s a (path_of w h, q, f)) e
 
 pub read_whole : (t : List ℕ) (p : Parts) → IsAnswer t (Ok p) → reading t ≡ Ok p
 read_whole t p (inl h) = sym h

@@ -1,13 +1,12 @@
 -- What reading gives of the text behind an authority, piece by piece.
-use Rattle.std.proofs.Common.{◌≡◌, ℕ, Bool, List, Option, Some, None, Ok, Err, refl, sym, ap, subst, ◌∙◌, inl, inr}
+use Rattle.std.proofs.Common.{◌≡◌, ℕ, Bool, List, Option, Some, None, Ok, Err, refl, sym, ap, ◌∙◌}
 use Rattle.std.specs.Prelude.{Result}
 use Rattle.uriparse_text.specs.Bytes.{question_mark, number_sign}
 use Rattle.uriparse_text.specs.Cuts.{before, after, up_to, from_first}
-use Rattle.uriparse_text.specs.Readings.{◌>>=◌, fault_in, if_present, of_piece, unless_fault}
+use Rattle.uriparse_text.specs.Readings.{◌>>=◌, if_present, of_piece, unless_fault}
 use Rattle.uriparse_text.specs.Query as query
 use Rattle.uriparse_text.specs.Fragment as fragment
 use Rattle.uriparse_path.specs.declared.path.error.PathError.{PathError}
-use Rattle.uriparse_path.specs.declared.path.error.PathError.TheVariants.{OutOfMemory}
 use Rattle.uriparse_path.specs.Path.{PathParts}
 use Rattle.uriparse_path.specs.Faults as paths
 use Rattle.uriparse_path.specs.Faults.{ends_path}
@@ -15,7 +14,7 @@ use Rattle.uriparse_reference.specs.declared.uri_reference.error.URIReferenceErr
 use Rattle.uriparse_reference.specs.declared.uri_reference.error.URIReferenceError.TheVariants as errors
 use Rattle.uriparse_reference.specs.Reference.{path_of, path_refusal}
 use Rattle.uriparse_reference.specs.Cuts.{tail_query, tail_fragment}
-use Rattle.uriparse_reference.specs.Reading.{IsUnlessMemory, behind_reading, tail_reading}
+use Rattle.uriparse_reference.specs.Reading.{behind_reading, tail_reading, text_tail}
 use Rattle.uriparse_reference.proofs.CutLemmas.{query_cut, fragment_cut}
 
 abbrev pub Tail : Type 0
@@ -23,11 +22,6 @@ Tail = PathParts × Option (List ℕ) × Option (List ℕ)
 
 abbrev pub with_path : PathParts → Option (List ℕ) × Option (List ℕ) → Tail
 with_path p x = (p, x.0, x.1)
-
--- The path, the query and the fragment are read from the text: what may be answered.
-abbrev pub IsTail : Bool → Bool → List ℕ → Result Tail URIReferenceError → Type 0
-IsTail v w u answer =
-    IsUnlessMemory answer (tail_reading v w (up_to ends_path u) (after question_mark (before number_sign u)) (after number_sign u))
 
 module _ (v w : Bool) where
   module _ (h : List ℕ) (q f : Option (List ℕ)) where
@@ -49,42 +43,34 @@ module _ (v w : Bool) where
           by_results (Err e) f = refl
 
   module _ (u : List ℕ) where
-    tail_is : tail_reading v w (up_to ends_path u) (after question_mark (before number_sign u)) (after number_sign u)
+    tail_is : text_tail v w u
         ≡ tail_reading v w (up_to ends_path u) (tail_query (from_first ends_path u)) (tail_fragment (from_first ends_path u))
     tail_is =
         ap (λ q. tail_reading v w (up_to ends_path u) q (after number_sign u)) (sym (query_cut u))
         ∙ ap (tail_reading v w (up_to ends_path u) (tail_query (from_first ends_path u))) (sym (fragment_cut u))
 
-    pub refused_path : (e : PathError) → paths.fault (up_to ends_path u) ≡ Some e → IsTail v w u (Err (errors.Path e))
-    refused_path e is = inl (sym (tail_is ∙ path_first (up_to ends_path u) _ _ e is))
+    pub refused_path : (e : PathError) → paths.fault (up_to ends_path u) ≡ Some e → text_tail v w u ≡ Err (errors.Path e)
+    refused_path e is = tail_is ∙ path_first (up_to ends_path u) _ _ e is
 
     module _ (h back : List ℕ) (none : paths.fault (up_to ends_path u) ≡ None) (front : h ≡ up_to ends_path u) (rest : back ≡ from_first ends_path u) where
-      pub refused_place : (e : URIReferenceError) → path_refusal v w h ≡ Some e → IsTail v w u (Err e)
-      refused_place e is =
-          inl (sym (tail_is ∙ place_next (up_to ends_path u) _ _ none e (ap (path_refusal v w) (sym front) ∙ is)))
+      pub refused_place : (e : URIReferenceError) → path_refusal v w h ≡ Some e → text_tail v w u ≡ Err e
+      refused_place e is = tail_is ∙ place_next (up_to ends_path u) _ _ none e (ap (path_refusal v w) (sym front) ∙ is)
 
       module _ (placed : path_refusal v w h ≡ None) where
         read_is : (r : Result (Option (List ℕ) × Option (List ℕ)) URIReferenceError) → r ≡ behind_reading (tail_query back) (tail_fragment back)
-            → tail_reading v w (up_to ends_path u) (after question_mark (before number_sign u)) (after number_sign u)
-            ≡ (r >>= λ x. Ok (with_path (path_of w h) x))
+            → text_tail v w u ≡ (r >>= λ x. Ok (with_path (path_of w h) x))
         read_is r is =
             tail_is ∙ behind_last (up_to ends_path u) _ _ none (ap (path_refusal v w) (sym front) ∙ placed)
             ∙ ap (λ b. behind_reading (tail_query b) (tail_fragment b) >>= λ x. Ok (with_path (path_of w (up_to ends_path u)) x)) (sym rest)
             ∙ ap (λ r. r >>= λ x. Ok (with_path (path_of w (up_to ends_path u)) x)) (sym is)
             ∙ ap (λ t. r >>= λ x. Ok (with_path (path_of w t) x)) (sym front)
 
-        pub refused_behind : (e : URIReferenceError) → Err e ≡ behind_reading (tail_query back) (tail_fragment back) → IsTail v w u (Err e)
-        refused_behind e is = inl (sym (read_is (Err e) is))
+        pub refused_behind : (e : URIReferenceError) → Err e ≡ behind_reading (tail_query back) (tail_fragment back) → text_tail v w u ≡ Err e
+        refused_behind e is = read_is (Err e) is
 
-        module _ (x : Option (List ℕ) × Option (List ℕ)) (is : Ok x ≡ behind_reading (tail_query back) (tail_fragment back)) where
-          pub accepted_tail : (p : PathParts) → p ≡ path_of w h → IsTail v w u (Ok (with_path p x))
-          accepted_tail p made = inl (ap (λ p. Ok (with_path p x)) made ∙ sym (read_is (Ok x) is))
-
-          pub memory_wanted : (e : URIReferenceError) → e ≡ errors.Path OutOfMemory → IsTail v w u (Err e)
-          memory_wanted e same = inr (ap fault_in (read_is (Ok x) is), ap Err same)
-
-pub tail_along : (v v' w w' : Bool) (u : List ℕ) (r : Result Tail URIReferenceError) → v ≡ v' → w ≡ w' → IsTail v w u r → IsTail v' w' u r
-tail_along v v' w w' u r e f h = subst (λ b. IsTail v' b u r) f (subst (λ b. IsTail b w u r) e h)
+        pub accepted_tail : (x : Option (List ℕ) × Option (List ℕ)) → Ok x ≡ behind_reading (tail_query back) (tail_fragment back)
+            → text_tail v w u ≡ Ok (with_path (path_of w h) x)
+        accepted_tail x is = read_is (Ok x) is
 
 -- where a path may stand, and where it may not
 pub is_placed : (o : Option URIReferenceError) → ◌≡◌ {A = Result (Unit {0}) URIReferenceError} (Ok tt) (unless_fault o tt) → o ≡ None

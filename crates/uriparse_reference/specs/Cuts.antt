@@ -55,6 +55,11 @@ fragment_text t = after number_sign (after_authority t)
 
 -- ---- words of the clauses of private functions alone
 
+-- a piece that is never empty, or none where it is
+abbrev pub if_some : List ℕ → Option (List ℕ)
+if_some [] = None
+if_some (b ∷ t) = Some (b ∷ t)
+
 -- the query and the fragment of what stands behind a path
 abbrev pub tail_query : List ℕ → Option (List ℕ)
 tail_query [] = None

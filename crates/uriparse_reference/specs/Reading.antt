@@ -2,11 +2,14 @@
 use Rattle.std.specs.Prelude.{◌≡◌, ◌⊎◌, ℕ, Bool, List, Option, None, Result, Ok, Err, is_some}
 use Rattle.std.specs.Option.{option_map}
 use Rattle.uriparse_text.specs.Readings.{◌>>=◌, of_piece, if_present, fault_in, unless_fault}
+use Rattle.uriparse_text.specs.Bytes.{question_mark, number_sign}
+use Rattle.uriparse_text.specs.Cuts.{up_to, before, after}
 use Rattle.uriparse_text.specs.Query as query
 use Rattle.uriparse_text.specs.Fragment as fragment
 use Rattle.uriparse_path.specs.declared.path.error.PathError.TheVariants.{OutOfMemory}
 use Rattle.uriparse_path.specs.Path.{PathParts}
 use Rattle.uriparse_path.specs.Faults as path
+use Rattle.uriparse_path.specs.Faults.{ends_path}
 use Rattle.uriparse_authority.specs.Authority as authority
 use Rattle.uriparse_scheme.specs.Scheme as scheme
 use Rattle.uriparse_reference.specs.declared.uri_reference.error.URIReferenceError.{URIReferenceError}
@@ -57,3 +60,13 @@ tail_reading has_scheme has_authority h q f = do
   query ← of_piece errors.Query (if_present query.reading q)
   fragment ← of_piece errors.Fragment (if_present fragment.reading f)
   Ok (path, query, fragment)
+
+-- the same of the text that they stand in
+abbrev pub text_tail : Bool → Bool → List ℕ → Result (PathParts × Option (List ℕ) × Option (List ℕ)) URIReferenceError
+text_tail has_scheme has_authority u =
+    tail_reading has_scheme has_authority (up_to ends_path u) (after question_mark (before number_sign u)) (after number_sign u)
+
+-- the parts of a text that were found in it
+abbrev pub parts_of : List ℕ → Option authority.AuthorityParts → List ℕ → Option (List ℕ) → Option (List ℕ) → Parts
+parts_of t a h q f =
+    record { scheme = option_map scheme.named (scheme_text t); authority = a; path = path_of (is_some a) h; query = q; fragment = f }

@@ -17,7 +17,7 @@ mod error;
 mod find;
 mod lookup;
 mod microsoft;
-mod read;
+pub(crate) mod read;
 mod registered;
 mod rows;
 mod spelling;
@@ -72,6 +72,17 @@ impl<'s> Scheme<'s> {
         match registered_named(bytes) {
             Some(scheme) => Ok(Scheme::Registered(scheme)),
             None => Ok(Scheme::Unregistered(UnregisteredScheme::of_checked(bytes))),
+        }
+    }
+
+    /// The scheme of bytes that are known to be one.
+    pub(crate) fn of_checked(bytes: &'s [u8]) -> Scheme<'s>
+        requires { spec.is_scheme bytes.now ≡ true }
+        ensures { result ≡ spec.named bytes.now }
+    {
+        match registered_named(bytes) {
+            Some(scheme) => Scheme::Registered(scheme),
+            None => Scheme::Unregistered(UnregisteredScheme::of_checked(bytes)),
         }
     }
 

@@ -1,9 +1,9 @@
 -- The bits of a mask.
-use Rattle.std.proofs.Common.{◌≡◌, ℕ, zero, suc, ◌+◌, ◌-◌, ◌*◌, ◌/◌, ◌%◌, ◌^◌, ◌<◌, ◌≤◌, sym, ap, ◌∙◌, arith}
+use Rattle.std.proofs.Common.{◌≡◌, ℕ, zero, suc, ◌+◌, ◌-◌, ◌*◌, ◌/◌, ◌%◌, ◌^◌, ◌<◌, ◌≤◌, refl, sym, ap, ◌∙◌, arith, count_ones}
 use Rattle.std.specs.Int.{bit_at}
-use Rattle.std.proofs.lemmas.Nat.{shr-shr, shr_split}
-use Rattle.std.proofs.lemmas.Nat.Bits.{bit_at_lowest, bit_at-suc, bit_at_cat_low, bit_at_cat_high}
-use Rattle.std.proofs.Math.Nat.{mod-lt}
+use Rattle.std.proofs.lemmas.Nat.{shr-shr, shr_split, mod-pow-add, ones_cat}
+use Rattle.std.proofs.lemmas.Nat.Bits.{bit_at_lowest, bit_at-suc, bit_at_cat_low, bit_at_cat_high, bit_at-lt}
+use Rattle.std.proofs.Math.Nat.{mod-lt, mod-eq_of_lt, two-pow-succ, pow-le-pow_right}
 use Rattle.std.proofs.Common.{pow_pos}
 
 -- one less than a mask: its lowest bit is unset, and those above it are kept
@@ -37,3 +37,51 @@ joined-low m s w k h =
 pub joined-high : (m s w k : ℕ) → w ≤ k → bit_at (m / 2 ^ s * 2 ^ w + m % 2 ^ w) k ≡ bit_at m (s + (k - w))
 joined-high m s w k h =
     bit_at_cat_high (m / 2 ^ s) w (m % 2 ^ w) k (mod-lt m (pow_pos w)) h ∙ bit_at_shr m s (k - w)
+
+-- ---- how many bits are set
+
+one_bit : (b : ℕ) → b < 2 → count_ones b ≡ b
+unfolding lib.Count.ones
+one_bit zero h = refl
+one_bit (suc zero) h = refl
+one_bit (suc (suc b)) h = absurd (omega arith)
+
+pub ones_none : (m : ℕ) → count_ones (m % 2 ^ 0) ≡ 0
+ones_none m = let below = mod-lt m (pow_pos 0) in let none : m % 2 ^ 0 ≡ 0 = omega (arith, below) in ap count_ones none ∙ one_bit 0 (omega arith)
+
+pub ones_next : (m j : ℕ) → count_ones (m % 2 ^ (j + 1)) ≡ count_ones (m % 2 ^ j) + bit_at m j
+ones_next m j =
+    let place : j + 1 ≡ 1 + j = omega arith in
+    let split : count_ones (m % 2 ^ (1 + j)) ≡ count_ones (bit_at m j * 2 ^ j + m % 2 ^ j) = ap count_ones (mod-pow-add m 1 j) in
+    let cat = ones_cat j (bit_at m j) (m % 2 ^ j) (mod-lt m (pow_pos j)) in
+    let bit = one_bit (bit_at m j) (bit_at-lt m j) in
+    ap (λ e. count_ones (m % 2 ^ e)) place ∙ split ∙ omega (arith, cat, bit)
+
+pub ones_below : (m j : ℕ) → count_ones (m % 2 ^ j) ≤ count_ones m
+ones_below m j =
+    let split : count_ones (m / 2 ^ j * 2 ^ j + m % 2 ^ j) ≡ count_ones m = ap count_ones (shr_split m j) in
+    let cat = ones_cat j (m / 2 ^ j) (m % 2 ^ j) (mod-lt m (pow_pos j)) in
+    omega (arith, split, cat)
+
+ones_up : (m n d : ℕ) → ((k : ℕ) → n ≤ k → bit_at m k ≡ 0) → count_ones (m % 2 ^ (n + d)) ≡ count_ones (m % 2 ^ n)
+ones_up m n zero none = let place : n + 0 ≡ n = omega arith in ap (λ e. count_ones (m % 2 ^ e)) place
+ones_up m n (suc d) none =
+    let place : n + suc d ≡ n + d + 1 = omega arith in
+    let next = ones_next m (n + d) in
+    let before = ones_up m n d none in
+    let unset = none (n + d) (omega arith) in
+    ap (λ e. count_ones (m % 2 ^ e)) place ∙ omega (arith, next, before, unset)
+
+below_own_power : (m : ℕ) → m < 2 ^ m
+below_own_power zero = omega arith
+below_own_power (suc m) =
+    let half = below_own_power m in
+    let double : 2 ^ suc m ≡ 2 ^ m + 2 ^ m = two-pow-succ m in
+    omega (arith, half, double)
+
+-- all of them stand below n
+pub ones_whole : (m n : ℕ) → ((k : ℕ) → n ≤ k → bit_at m k ≡ 0) → count_ones (m % 2 ^ n) ≡ count_ones m
+ones_whole m n none =
+    let longer : 2 ^ m ≤ 2 ^ (n + m) = pow-le-pow_right (omega arith) (omega arith) in
+    let fits : m < 2 ^ (n + m) = omega (arith, below_own_power m, longer) in
+    sym (ones_up m n m none) ∙ ap count_ones (mod-eq_of_lt fits)

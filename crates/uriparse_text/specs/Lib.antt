@@ -11,3 +11,4 @@ pub mod Fragment
 pub mod Address
 pub mod IpAddr
 pub mod Alike
+pub mod Found

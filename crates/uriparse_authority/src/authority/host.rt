@@ -14,9 +14,10 @@ use std::fmt::Write;
 use std::hash::{Hash, Hasher};
 use uriparse_text::address::{IpAddr, Ipv4Addr, Ipv6Addr};
 
-mod read;
+pub(in crate::authority) mod found;
+pub(in crate::authority) mod read;
 
-use read::read_host;
+use read::find_host;
 
 /// The host of an authority: an IPv4 address, an IPv6 address, which stands in brackets, or a
 /// registered name.
@@ -65,7 +66,10 @@ impl<'h> Host<'h> {
     pub fn try_from_bytes(bytes: &'h [u8]) -> Result<Host<'h>, HostError>
         ensures { result ≡ spec.reading bytes.now }
     {
-        read_host(bytes)
+        match find_host(bytes) {
+            Ok(found) => Ok(found.to_host()),
+            Err(error) => Err(error),
+        }
     }
 
     /// The same for a text.

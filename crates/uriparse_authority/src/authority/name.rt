@@ -15,7 +15,7 @@ use std::fmt;
 use std::hash::{Hash, Hasher};
 use std::marker::Model;
 use uriparse_text::address::Ipv4Addr;
-use uriparse_text::parts::{Case, Class, Kind, Text, normalized_text};
+use uriparse_text::parts::{Case, Class, Kind, Text, checked_text, normalized_text};
 
 /// The kind of text that a name is.
 struct NameKind;
@@ -85,8 +85,19 @@ impl<'n> RegisteredName<'n> {
         RegisteredName::of_class(bytes)
     }
 
+    /// The name of bytes that are known to be one.
+    #[inline(always)]
+    pub(super) fn of_checked(bytes: &'n [u8]) -> RegisteredName<'n>
+        requires { spec.IsName bytes.now }
+        ensures { result ≡ bytes.now }
+    {
+        RegisteredName {
+            text: checked_text(bytes),
+        }
+    }
+
     /// Reads a name of bytes that are known to spell no address.
-    pub(super) fn of_class(bytes: &'n [u8]) -> Result<RegisteredName<'n>, RegisteredNameError>
+    fn of_class(bytes: &'n [u8]) -> Result<RegisteredName<'n>, RegisteredNameError>
         ensures { result ≡ reading_in class.Name spec.error_of bytes.now }
     {
         Ok(RegisteredName {

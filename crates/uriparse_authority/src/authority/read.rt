@@ -1,16 +1,20 @@
 //! How an authority is cut and its pieces are read: RFC 3986, sections 3.2 to 3.2.3.
-ghost use Rattle.std.specs.Prelude.{◌≡◌, position};
+ghost use Rattle.std.specs.Prelude.{◌≡◌, Ok, position};
 ghost use Rattle.std.specs.Option.{option_copied};
 ghost use Rattle.uriparse_text.specs.Cuts.{up_to, from_first};
 ghost use Rattle.uriparse_authority.specs.Authority as authority;
+ghost use Rattle.uriparse_authority.specs.Host as host;
+ghost use Rattle.uriparse_authority.specs.Name.{IsName};
 
+use super::found::{FoundAuthority, found_authority};
+use super::host::found::{FoundHost, found_ipv4, found_name};
+use super::host::read::find_host;
 use super::password::PasswordKind;
 use super::username::UsernameKind;
-use super::{
-    Authority, AuthorityError, Host, HostError, Password, PortError, Username, parse_port,
-};
+use super::{Authority, AuthorityError, Host, HostError, PortError, parse_port};
+use uriparse_text::address::Ipv4Addr;
 use uriparse_text::parts::{
-    IsAny, first, read_text_before, read_text_if, split_at_mark, without_mark,
+    Class, Found, IsAny, fault_of, find_text_before, find_text_if, first, no_text, split_at_mark, without_mark,
 };
 
 /// The user information, if there is an `@` behind it, and what stands behind the `@`; or none, and
@@ -30,14 +34,14 @@ fn split_userinfo(text: &[u8]) -> (Option<&[u8]>, &[u8])
 /// password behind it.
 fn read_userinfo(
     text: Option<&[u8]>,
-) -> Result<(Option<Username<'_>>, Option<Password<'_>>), AuthorityError>
+) -> Result<(Found<'_, UsernameKind>, Found<'_, PasswordKind>), AuthorityError>
     ensures { result ≡ authority.userinfo_reading (option_copied text.entry) }
 {
     let Some(text) = text else {
-        return Ok((None, None));
+        return Ok((no_text(), no_text()));
     };
-    match read_text_before::<UsernameKind>(text, b':') {
-        Ok((username, password)) => Ok((Some(username), read_text_if::<PasswordKind>(password)?)),
+    match find_text_before::<UsernameKind>(text, b':') {
+        Ok((username, password)) => Ok((username, find_text_if::<PasswordKind>(password)?)),
         Err(error) => Err(AuthorityError::Username(error)),
     }
 }
@@ -61,17 +65,61 @@ fn split_port(text: &[u8]) -> (&[u8], Option<&[u8]>)
     (text, None)
 }
 
-/// Reads an authority, whose parts borrow the bytes. It takes no memory.
+/// Finds the host that a text of the class of names is.
+#[inline(always)]
+fn find_name_host(bytes: &[u8]) -> FoundHost<'_>
+    requires { IsName bytes.now }
+    ensures { host.Spells bytes.now result }
+{
+    if let Some(address) = Ipv4Addr::parse_bytes(bytes) {
+        return found_ipv4(address);
+    }
+    found_name(bytes)
+}
+
+/// Finds the authority that such a text is: that host alone.
+#[inline(always)]
+fn find_host_alone(bytes: &[u8]) -> FoundAuthority<'_>
+    requires { IsName bytes.now }
+    ensures { authority.reading bytes.now ≡ Ok result }
+{
+    found_authority(no_text(), no_text(), find_name_host(bytes), None)
+}
+
+/// Finds an authority, whose pieces borrow the bytes. It takes no memory. One that is of the class
+/// of names, as most are, is walked once.
+#[inline(always)]
+pub fn find_authority(bytes: &[u8]) -> Result<FoundAuthority<'_>, AuthorityError>
+    ensures { result ≡ authority.reading bytes.now }
+{
+    match fault_of(Class::Name, bytes) {
+        None => Ok(find_host_alone(bytes)),
+        Some(_) => find_any_authority(bytes),
+    }
+}
+
+/// The same for an authority of any form, by the cuts of its text.
+#[inline(never)]
 #[tactic(auto, unfolding(crate::specs::Authority::reading))]
-pub fn read_authority(bytes: &[u8]) -> Result<Authority<'_>, AuthorityError>
+fn find_any_authority(bytes: &[u8]) -> Result<FoundAuthority<'_>, AuthorityError>
     ensures { result ≡ authority.reading bytes.now }
 {
     let (userinfo, host_and_port) = split_userinfo(bytes);
     let (host, port) = split_port(host_and_port);
     let (username, password) = read_userinfo(userinfo)?;
-    let host = Host::try_from_bytes(host)?;
+    let host = find_host(host)?;
     let port = parse_port(port.unwrap_or(b""))?;
-    Authority::from_parts(username, password, host, port)
+    Ok(found_authority(username, password, host, port))
+}
+
+/// Reads an authority, whose parts borrow the bytes. It takes no memory.
+fn read_authority(bytes: &[u8]) -> Result<Authority<'_>, AuthorityError>
+    ensures { result ≡ authority.reading bytes.now }
+{
+    match find_authority(bytes) {
+        Ok(found) => Ok(found.to_authority()),
+        Err(error) => Err(error),
+    }
 }
 
 fn ends_authority(b: u8) -> bool

@@ -9,7 +9,7 @@ ghost use Rattle.uriparse_path.specs.Edits as spec;
 ghost use Rattle.uriparse_path.specs.Dots.{all_but_last};
 ghost use Rattle.uriparse_path.specs.Relative.{filled};
 
-use super::{MAX_SEGMENTS, Path, PathError, PathOf, Segment};
+use super::{MAX_SEGMENTS, Path, PathError, PathOf, Segment, word_of};
 use std::alloc::{AllocError, Global};
 
 /// Whether the segment takes the place of the only one, as that is empty and it isn't.
@@ -102,7 +102,7 @@ impl<'p> Path<'p> {
     pub fn set_absolute(&mut self, absolute: bool)
         ensures { self.new ≡ record self.old { absolute = absolute } }
     {
-        self.absolute = absolute;
+        self.absolute = word_of(absolute);
     }
 }
 

@@ -12,7 +12,10 @@ use super::error::PathError;
 use super::segment::{Segment, fault_at};
 use super::{MAX_SEGMENTS, Path};
 use std::alloc::{AllocError, Global};
-use uriparse_text::parts::{Class, Is, Outside, is_escape, lowest, next_marks, without_lowest};
+use uriparse_text::parts::{
+    Class, Is, Outside, count_below, is_escape, lowest, next_marks, next_marks_by_two, without,
+    without_lowest,
+};
 
 /// Whether the text begins with a slash, and the text without it.
 pub(super) fn split_root(text: &[u8]) -> (bool, &[u8])
@@ -37,13 +40,51 @@ fn is_end(ends: bool, b: u8) -> bool
 /// Counts the segments and the bytes of the path that a text begins with, which may have `limit`
 /// segments, or tells its leftmost fault. Where `ends` is set the path runs to the first `?` or `#`,
 /// else it is the whole text. Each byte outside the class of a segment is a slash, ends the path,
-/// begins an escape or is the fault.
+/// begins an escape or is the fault. The slashes of a block are counted at once.
 #[inline(always)]
 pub(super) fn count_segments(
     limit: usize,
     ends: bool,
     text: &[u8],
 ) -> Result<(usize, usize), PathError>
+    requires { 0 < limit }
+    ensures count { let front = path_front ends text.now in let ps = slice_split is_slash front in result ≡ unless_fault (fault_within limit ps) (length ps, length front) }
+    ensures within { IfOk result (λ m. m.1 ≤ length text.now) }
+{
+    let mut count = 1;
+    let mut at = 0;
+    'runs: while at < text.len() {
+        let (marks, slashes, len) = next_marks_by_two(
+            &Outside(Class::Segment),
+            &Is(b'/'),
+            text,
+            at,
+        );
+        let more = slashes.count_ones() as usize;
+        if more > limit - count {
+            return count_by_one(limit, ends, text);
+        }
+        let mut left = without(marks, slashes);
+        'marks: while left != 0 {
+            let k = lowest(left);
+            let b = text[at + k];
+            if is_end(ends, b) {
+                return Ok((count + count_below(slashes, k), at + k));
+            }
+            if !is_escape(b, &text[at + k + 1..]) {
+                return Err(fault_at(b));
+            }
+            left = without_lowest(left);
+        }
+        count += more;
+        at += len;
+    }
+    Ok((count, at))
+}
+
+/// The same by one slash after the other, for a text in which the limit is near.
+#[inline(never)]
+fn count_by_one(limit: usize, ends: bool, text: &[u8]) -> Result<(usize, usize), PathError>
     requires { 0 < limit }
     ensures count { let front = path_front ends text.now in let ps = slice_split is_slash front in result ≡ unless_fault (fault_within limit ps) (length ps, length front) }
     ensures within { IfOk result (λ m. m.1 ≤ length text.now) }
@@ -74,6 +115,7 @@ pub(super) fn count_segments(
 }
 
 /// The segments that the text is cut into, of which there are so many. Each slash ends one.
+#[inline(always)]
 fn split_segments<'p>(
     alloc: Global,
     count: usize,
@@ -130,6 +172,7 @@ pub fn split_path(text: &[u8]) -> Result<PathFront<'_>, PathError>
 
 /// The path that a text spells, which is known to be a path's. Room for so many segments is asked
 /// for at once, and for more where there are more; want of memory is answered where there is none.
+#[inline(always)]
 pub fn counted_path(alloc: Global, count: usize, text: &[u8]) -> Result<Path<'_>, AllocError>
     requires { IsPath text.now }
     ensures { IfOk result (λ p. p ≡ spelled text.now) }

@@ -17,7 +17,7 @@ use uriparse_authority::authority::Authority;
 use uriparse_path::path::Path;
 use uriparse_scheme::scheme::Scheme;
 use uriparse_text::fragment::{Fragment, FragmentKind};
-use uriparse_text::parts::read_text_if;
+use uriparse_text::parts::find_text_if;
 use uriparse_text::query::{Query, QueryKind};
 
 /// The parts of a reference that were given so far. Only the path has to be given before it is
@@ -203,8 +203,8 @@ impl<'b> URIReferenceBuilder<'b> {
     pub fn try_query(&mut self, query: Option<&'b [u8]>) -> Result<(), URIReferenceError>
         ensures { Settles self.old self.new result (query_read self.old (option_copied query.entry)) }
     {
-        let query = read_text_if::<QueryKind>(query)?;
-        self.query(query);
+        let query = find_text_if::<QueryKind>(query)?;
+        self.query(query.to_text());
         Ok(())
     }
 
@@ -213,8 +213,8 @@ impl<'b> URIReferenceBuilder<'b> {
     pub fn try_fragment(&mut self, fragment: Option<&'b [u8]>) -> Result<(), URIReferenceError>
         ensures { Settles self.old self.new result (fragment_read self.old (option_copied fragment.entry)) }
     {
-        let fragment = read_text_if::<FragmentKind>(fragment)?;
-        self.fragment(fragment);
+        let fragment = find_text_if::<FragmentKind>(fragment)?;
+        self.fragment(fragment.to_text());
         Ok(())
     }
 

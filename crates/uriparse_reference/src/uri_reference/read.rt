@@ -1,32 +1,31 @@
 //! How the text of a reference is cut and its pieces are read: RFC 3986, sections 3 and 4.
-ghost use Rattle.std.specs.Prelude.{◌≡◌, position, ◌||◌, not, Option, drop, is_some, true, false, Ok, Err, MatchOption, MatchResult};
+ghost use Rattle.std.specs.Prelude.{◌≡◌, position, ◌||◌, not, Option, drop, IfSome, is_some, true, false, Ok, Err, MatchOption, MatchResult};
 ghost use Rattle.std.specs.Option.{option_copied, option_map};
-ghost use Rattle.uriparse_text.specs.Bytes.{question_mark, number_sign};
 ghost use Rattle.uriparse_text.specs.Readings.{if_present, of_piece, unless_fault};
 ghost use Rattle.uriparse_text.specs.Query as query;
 ghost use Rattle.uriparse_authority.specs.Authority as authority;
 ghost use Rattle.uriparse_authority.specs.Authority.{colon_part};
-ghost use Rattle.uriparse_text.specs.Cuts.{up_to, from_first, before, after};
+ghost use Rattle.uriparse_text.specs.Cuts.{up_to, from_first};
 ghost use Rattle.uriparse_path.specs.Path.{IsPath, has_two_slashes};
-ghost use Rattle.uriparse_path.specs.Faults.{ends_path};
+ghost use Rattle.uriparse_scheme.specs.Scheme as schemes;
 ghost use Rattle.uriparse_scheme.specs.Scheme.{named};
-ghost use Rattle.uriparse_reference.specs.Cuts.{after_authority, after_scheme, authority_text, cut_authority, ends_scheme, scheme_text, tail_fragment, tail_query, without_authority};
+ghost use Rattle.uriparse_reference.specs.Cuts.{after_authority, after_scheme, authority_text, cut_authority, ends_scheme, if_some, scheme_text, tail_fragment, tail_query, without_authority};
 ghost use Rattle.uriparse_path.specs.declared.path.error.PathError.TheVariants.{OutOfMemory};
 ghost use Rattle.uriparse_reference.specs.declared.uri_reference.error.URIReferenceError.TheVariants as errors;
-ghost use Rattle.uriparse_reference.specs.Reading.{IsAnswer, IsUnlessMemory, behind_reading, tail_reading};
+ghost use Rattle.uriparse_reference.specs.Reading.{IsAnswer, behind_reading, parts_of, reading, text_tail};
 ghost use Rattle.uriparse_reference.specs.Reference.{is_noscheme, path_of, path_refusal};
 
 use super::URIReference;
 use super::error::URIReferenceError;
 use std::alloc::Global;
-use uriparse_authority::authority::Authority;
-use uriparse_authority::parts::{read_authority, split_rest};
+use uriparse_authority::parts::{FoundAuthority, find_authority, split_rest};
 use uriparse_path::parts::{counted_path, into_absolute, split_path};
 use uriparse_path::path::{Path, PathError};
+use uriparse_scheme::parts::{is_scheme, scheme_of};
 use uriparse_scheme::scheme::Scheme;
-use uriparse_text::fragment::{Fragment, FragmentKind};
-use uriparse_text::parts::{read_text_before, read_text_if, split_at_mark};
-use uriparse_text::query::{Query, QueryError, QueryKind};
+use uriparse_text::fragment::FragmentKind;
+use uriparse_text::parts::{Found, find_text_before, find_text_if, no_text, split_at_mark};
+use uriparse_text::query::{QueryError, QueryKind};
 
 /// A `:` ends a scheme, and behind a `/`, `?` or `#` none ends.
 fn ends_scheme(b: u8) -> bool
@@ -60,33 +59,56 @@ fn behind_colon(rest: &[u8]) -> Option<&[u8]>
     }
 }
 
-/// The scheme that the text begins with, and what stands behind its colon; or none, and the text.
-/// `https` and `http`, which most texts have, are told by their bytes, with no search.
-fn split_scheme(text: &[u8]) -> (Option<Scheme<'_>>, &[u8])
-    ensures scheme { result.0 ≡ option_map named (scheme_text text.now) }
+/// The text of the scheme that the text begins with, and what stands behind its colon; or the empty
+/// text, and the whole. `https` and `http`, which most texts have, are told by their bytes, with no
+/// search.
+#[inline(always)]
+fn split_scheme(text: &[u8]) -> (&[u8], &[u8])
+    ensures scheme { if_some result.0.now ≡ scheme_text text.now }
     ensures rest { result.1.now ≡ after_scheme text.now }
 {
-    if let Some(behind) = text.strip_prefix(b"https:") {
-        return (Some(Scheme::HTTPS), behind);
+    match text {
+        [b'h', b't', b't', b'p', b's', b':', behind @ ..] => (b"https", behind),
+        [b'h', b't', b't', b'p', b':', behind @ ..] => (b"http", behind),
+        _ => split_any_scheme(text),
     }
-    if let Some(behind) = text.strip_prefix(b"http:") {
-        return (Some(Scheme::HTTP), behind);
-    }
-    split_any_scheme(text)
 }
 
 /// The same, by a search for the colon.
-fn split_any_scheme(text: &[u8]) -> (Option<Scheme<'_>>, &[u8])
-    ensures scheme { result.0 ≡ option_map named (scheme_text text.now) }
+fn split_any_scheme(text: &[u8]) -> (&[u8], &[u8])
+    ensures scheme { if_some result.0.now ≡ scheme_text text.now }
     ensures rest { result.1.now ≡ after_scheme text.now }
 {
     let (front, rest) = split_at_scheme_end(text);
     let Some(behind) = behind_colon(rest) else {
-        return (None, text);
+        return (b"", text);
     };
-    match Scheme::try_from_bytes(front) {
-        Ok(scheme) => (Some(scheme), behind),
-        Err(_) => (None, text),
+    if is_scheme(front) {
+        (front, behind)
+    } else {
+        (b"", text)
+    }
+}
+
+/// The scheme of a text that is one, or none where the text is empty.
+#[inline(always)]
+fn scheme_if(text: &[u8]) -> Option<Scheme<'_>>
+    requires { IfSome (if_some text.now) (λ s. schemes.is_scheme s ≡ true) }
+    ensures { result ≡ option_map named (if_some text.now) }
+{
+    match text {
+        [] => None,
+        _ => Some(scheme_of(text)),
+    }
+}
+
+/// Whether the text of a scheme is there.
+fn is_there(scheme: &[u8]) -> bool
+    ensures { result ≡ is_some (if_some scheme.now) }
+{
+    match scheme {
+        [] => false,
+        _ => true,
     }
 }
 
@@ -113,18 +135,18 @@ fn split_authority(text: &[u8]) -> (Option<&[u8]>, &[u8])
     (Some(authority), rest)
 }
 
-/// What a text begins with: a scheme, which is read, and the text of an authority, if they are there;
-/// and what follows them.
-#[derive(Drop)]
+/// What a text begins with: the text of a scheme, which is empty where there is none, and that of an
+/// authority, if one is there; and what follows them.
+#[derive(Clone, Copy)]
 struct Front<'t> {
-    scheme: Option<Scheme<'t>>,
+    scheme: &'t [u8],
     authority: Option<&'t [u8]>,
     rest: &'t [u8],
 }
 
 /// Cuts off the front of a reference's text.
 fn cut(text: &[u8]) -> Front<'_>
-    ensures scheme { result.scheme ≡ option_map named (scheme_text text.now) }
+    ensures scheme { if_some result.scheme.now ≡ scheme_text text.now }
     ensures authority { option_copied result.authority ≡ authority_text text.now }
     ensures rest { result.rest.now ≡ after_authority text.now }
 {
@@ -136,9 +158,6 @@ fn cut(text: &[u8]) -> Front<'_>
         rest,
     }
 }
-
-/// A path, a query and a fragment.
-type Tail<'t> = (Path<'t>, Option<Query<'t>>, Option<Fragment<'t>>);
 
 /// Whether no colon stands in the first segment.
 fn lacks_colon_segment(path: &[u8]) -> bool
@@ -160,38 +179,97 @@ fn check_path(has_scheme: bool, has_authority: bool, path: &[u8]) -> Result<(), 
     }
 }
 
-/// Reads the authority, if there is one.
-fn read_authority_if(text: Option<&[u8]>) -> Result<Option<Authority<'_>>, URIReferenceError>
+/// Finds the authority, if there is one.
+fn find_authority_if(
+    text: Option<&[u8]>,
+) -> Result<Option<FoundAuthority<'_>>, URIReferenceError>
     ensures { result ≡ of_piece errors.Authority (if_present authority.reading (option_copied text.entry)) }
 {
     match text {
-        Some(text) => Ok(Some(read_authority(text)?)),
+        Some(text) => Ok(Some(find_authority(text)?)),
         None => Ok(None),
     }
 }
 
 /// The query that stands behind a path, if there is one, and the text of the fragment behind it.
-fn read_query(text: &[u8]) -> Result<(Option<Query<'_>>, Option<&[u8]>), QueryError>
+fn find_query(text: &[u8]) -> Result<(Found<'_, QueryKind>, Option<&[u8]>), QueryError>
     ensures { MatchResult result (λ r. (if_present query.reading (tail_query text.now) ≡ Ok r.0) × (option_copied r.1 ≡ tail_fragment text.now)) (λ e. if_present query.reading (tail_query text.now) ≡ Err e) }
 {
     match text {
-        [b'?', behind @ ..] => match read_text_before::<QueryKind>(behind, b'#') {
-            Ok((query, fragment)) => Ok((Some(query), fragment)),
-            Err(error) => Err(error),
-        },
-        [b'#', behind @ ..] => Ok((None, Some(behind))),
-        _ => Ok((None, None)),
+        [b'?', behind @ ..] => find_text_before::<QueryKind>(behind, b'#'),
+        [b'#', behind @ ..] => Ok((no_text(), Some(behind))),
+        _ => Ok((no_text(), None)),
     }
 }
 
-/// Reads the query and the fragment that stand behind a path.
-fn read_behind(text: &[u8]) -> Result<(Option<Query<'_>>, Option<Fragment<'_>>), URIReferenceError>
+/// Finds the query and the fragment that stand behind a path.
+fn find_behind(
+    text: &[u8],
+) -> Result<(Found<'_, QueryKind>, Found<'_, FragmentKind>), URIReferenceError>
     ensures { result ≡ behind_reading (tail_query text.now) (tail_fragment text.now) }
 {
-    match read_query(text) {
-        Ok((query, fragment)) => Ok((query, read_text_if::<FragmentKind>(fragment)?)),
+    match find_query(text) {
+        Ok((query, fragment)) => Ok((query, find_text_if::<FragmentKind>(fragment)?)),
         Err(error) => Err(URIReferenceError::Query(error)),
     }
+}
+
+/// A path, a query and a fragment that were found.
+#[derive(Drop)]
+struct FoundTail<'t> {
+    path: &'t [u8],
+    count: usize,
+    query: Found<'t, QueryKind>,
+    fragment: Found<'t, FragmentKind>,
+}
+
+/// Finds the path, the query and the fragment of what follows a scheme, or none, and an authority,
+/// or none. Takes no memory.
+fn find_tail(
+    has_scheme: bool,
+    has_authority: bool,
+    text: &[u8],
+) -> Result<FoundTail<'_>, URIReferenceError>
+    ensures { MatchResult result (λ t. IsPath t.path.now × (text_tail has_scheme has_authority text.now ≡ Ok (path_of has_authority t.path.now, t.query, t.fragment))) (λ e. text_tail has_scheme has_authority text.now ≡ Err e) }
+{
+    let front = split_path(text)?;
+    check_path(has_scheme, has_authority, front.text)?;
+    let (query, fragment) = find_behind(front.behind)?;
+    Ok(FoundTail {
+        path: front.text,
+        count: front.count,
+        query,
+        fragment,
+    })
+}
+
+/// The pieces of a reference, which borrow the text that they stand in: words that nothing has to be
+/// dropped of. The scheme is its text, which is empty where there is none.
+#[derive(Drop)]
+struct Pieces<'t> {
+    scheme: &'t [u8],
+    authority: Option<FoundAuthority<'t>>,
+    tail: FoundTail<'t>,
+}
+
+/// Finds the pieces of a reference, or its fault. Takes no memory.
+#[inline(always)]
+#[tactic(auto, unfolding(crate::specs::Reading::reading))]
+fn find_pieces(text: &[u8]) -> Result<Pieces<'_>, URIReferenceError>
+    ensures { MatchResult result (λ p. (if_some p.scheme.now ≡ scheme_text text.now) × IsPath p.tail.path.now × (reading text.now ≡ Ok (parts_of text.now p.authority p.tail.path.now p.tail.query p.tail.fragment))) (λ e. reading text.now ≡ Err e) }
+{
+    let front = cut(text);
+    let authority = find_authority_if(front.authority)?;
+    let tail = find_tail(
+        is_there(front.scheme),
+        front.authority.is_some(),
+        front.rest,
+    )?;
+    Ok(Pieces {
+        scheme: front.scheme,
+        authority,
+        tail,
+    })
 }
 
 /// The path that the text of a path stands for, absolute behind an authority. Room for so many
@@ -215,46 +293,46 @@ fn make_path(
     }
 }
 
-/// Reads the path, the query and the fragment of what follows a scheme, or none, and an authority,
-/// or none. Memory is asked for last, so each fault is answered whatever memory there is.
-fn read_tail(
-    alloc: Global,
-    has_scheme: bool,
-    has_authority: bool,
-    text: &[u8],
-) -> Result<Tail<'_>, URIReferenceError>
-    ensures { IsUnlessMemory result (tail_reading has_scheme has_authority (up_to ends_path text.now) (after question_mark (before number_sign text.now)) (after number_sign text.now)) }
-{
-    let front = split_path(text)?;
-    check_path(has_scheme, has_authority, front.text)?;
-    let (query, fragment) = read_behind(front.behind)?;
-    let path = make_path(alloc, has_authority, front.count, front.text)?;
-    Ok((path, query, fragment))
-}
-
 impl<'r> URIReference<'r> {
-    /// Reads by the cuts of the text.
-    #[tactic(auto, unfolding(crate::specs::Reading::reading))]
+    /// The reference of pieces that were found in the text. Memory is wanted for the segments of its
+    /// path, and asked for first.
+    #[inline(always)]
+    fn of_pieces(
+        alloc: Global,
+        text: &'r [u8],
+        pieces: &Pieces<'r>,
+    ) -> Result<URIReference<'r>, URIReferenceError>
+        requires scheme { if_some pieces.now.scheme.now ≡ scheme_text text.now }
+        requires path { IsPath pieces.now.tail.path.now }
+        requires found { reading text.now ≡ Ok (parts_of text.now pieces.now.authority pieces.now.tail.path.now pieces.now.tail.query pieces.now.tail.fragment) }
+        ensures { MatchResult result (λ r. reading text.now ≡ Ok r) (λ e. e ≡ errors.Path OutOfMemory) }
+    {
+        let tail = &pieces.tail;
+        let path = make_path(alloc, pieces.authority.is_some(), tail.count, tail.path)?;
+        let authority = match &pieces.authority {
+            Some(found) => Some(found.to_authority()),
+            None => None,
+        };
+        Ok(URIReference {
+            scheme: scheme_if(pieces.scheme),
+            authority,
+            path,
+            query: tail.query.to_text(),
+            fragment: tail.fragment.to_text(),
+        })
+    }
+
+    /// Finds the pieces of the text, and makes the reference of them: a fault is answered whatever
+    /// memory there is.
     pub(super) fn read(
         alloc: Global,
         bytes: &'r [u8],
     ) -> Result<URIReference<'r>, URIReferenceError>
         ensures { IsAnswer bytes.now result }
     {
-        let front = cut(bytes);
-        let authority = read_authority_if(front.authority)?;
-        let (path, query, fragment) = read_tail(
-            alloc,
-            front.scheme.is_some(),
-            front.authority.is_some(),
-            front.rest,
-        )?;
-        Ok(URIReference {
-            scheme: front.scheme,
-            authority,
-            path,
-            query,
-            fragment,
-        })
+        match find_pieces(bytes) {
+            Ok(pieces) => Self::of_pieces(alloc, bytes, &pieces),
+            Err(error) => Err(error),
+        }
     }
 }

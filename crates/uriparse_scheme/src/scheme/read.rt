@@ -19,7 +19,7 @@ fn all_scheme_bytes(bytes: &[u8]) -> bool
 }
 
 /// Whether the bytes are a scheme.
-pub(super) fn is_scheme(bytes: &[u8]) -> bool
+pub fn is_scheme(bytes: &[u8]) -> bool
     ensures { result ≡ spec.is_scheme bytes.now }
 {
     match bytes.split_first() {

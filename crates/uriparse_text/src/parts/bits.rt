@@ -1,5 +1,5 @@
 //! Masks of 64 bits, bit by bit.
-ghost use Rattle.std.specs.Prelude.{◌≡◌, ◌≢◌, ℕ, ◌+◌, ◌-◌, ◌<◌, ◌≤◌};
+ghost use Rattle.std.specs.Prelude.{◌≡◌, ◌≢◌, ℕ, ◌+◌, ◌-◌, ◌<◌, ◌≤◌, ◌%◌, ◌^◌, count_ones};
 ghost use Rattle.std.specs.Int.{bit_at};
 ghost use Rattle.uriparse_text.specs.Marks.{IsLowest};
 
@@ -24,6 +24,24 @@ pub fn without_lowest(m: u64) -> u64
     ensures no_more { (k : ℕ) → bit_at result k ≡ 1 → bit_at m k ≡ 1 }
 {
     m & (m - 1)
+}
+
+/// The mask without the bits of the other.
+#[inline(always)]
+pub fn without(m: u64, other: u64) -> u64
+    ensures no_more { (k : ℕ) → bit_at result k ≡ 1 → (bit_at m k ≡ 1) × (bit_at other k ≡ 0) }
+    ensures gone { (k : ℕ) → k < 64 → bit_at result k ≡ 0 → bit_at m k ≡ 1 → bit_at other k ≡ 1 }
+{
+    m & !other
+}
+
+/// How many of the lowest so many bits are set.
+#[inline(always)]
+pub fn count_below(m: u64, k: usize) -> usize
+    requires { k < 64 }
+    ensures { result ≡ count_ones (m % 2 ^ k) }
+{
+    (m % (1 << k)).count_ones() as usize
 }
 
 /// The mask moved down by so many bits.

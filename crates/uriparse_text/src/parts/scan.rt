@@ -250,6 +250,41 @@ pub fn next_marks<T: ByteTest>(test: &T, text: &[u8], at: usize) -> (u64, usize)
     }
 }
 
+/// The same by two tests.
+#[inline(always)]
+pub fn next_marks_by_two<T: ByteTest, U: ByteTest>(
+    test: &T,
+    other: &U,
+    text: &[u8],
+    at: usize,
+) -> (u64, u64, usize)
+    requires { at ≤ length text.now }
+    ensures marks { AreMarks (T.passes test.now) text.now at result.2 result.0 }
+    ensures others { AreMarks (U.passes other.now) text.now at result.2 result.1 }
+    ensures room { at + result.2 ≤ length text.now }
+    ensures some { at < length text.now → 0 < result.2 }
+    ensures few { result.2 ≤ 16 }
+{
+    let len = text.len();
+    if len - at >= 16 {
+        (
+            marks_of_run(test, text, at, at),
+            marks_of_run(other, text, at, at),
+            16,
+        )
+    } else if len >= 16 {
+        let marks = marks_of_run(test, text, len - 16, at);
+        (marks, marks_of_run(other, text, len - 16, at), len - at)
+    } else if len >= 8 {
+        let marks = shifted_down(marks_of_short(test, text), at);
+        let others = shifted_down(marks_of_short(other, text), at);
+        (marks, others, len - at)
+    } else {
+        let (marks, others) = marks_by_one_by_two(test, other, text, at);
+        (marks, others, len - at)
+    }
+}
+
 /// The marks of a short text's bytes from a place on, byte by byte.
 #[inline(always)]
 fn marks_by_one<T: ByteTest>(test: &T, text: &[u8], from: usize) -> u64
@@ -267,6 +302,37 @@ fn marks_by_one<T: ByteTest>(test: &T, text: &[u8], from: usize) -> u64
         }
     }
     marks
+}
+
+/// The same by two tests.
+#[inline(always)]
+fn marks_by_one_by_two<T: ByteTest, U: ByteTest>(
+    test: &T,
+    other: &U,
+    text: &[u8],
+    from: usize,
+) -> (u64, u64)
+    requires few { length text.now ≤ 16 }
+    requires within { from ≤ length text.now }
+    ensures marks { AreMarks (T.passes test.now) text.now from (length text.now - from) result.0 }
+    ensures others { AreMarks (U.passes other.now) text.now from (length text.now - from) result.1 }
+{
+    let mut marks: u64 = 0;
+    let mut others: u64 = 0;
+    let mut at = text.len();
+    'bytes: while at > from {
+        at -= 1;
+        let b = text[at];
+        marks *= 2;
+        if test.has(b) {
+            marks += 1;
+        }
+        others *= 2;
+        if other.has(b) {
+            others += 1;
+        }
+    }
+    (marks, others)
 }
 
 /// The same for a short text, byte by byte.

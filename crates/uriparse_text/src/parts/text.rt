@@ -1,20 +1,18 @@
 //! A text whose tokens are in one class: what user names, segments, queries and the like share.
-ghost use Rattle.std.specs.Prelude.{◌≡◌, ◌↔◌, ℕ, List, [], IsTrue, IfOk, OnOk, OnErr, IsOk, MatchResult, Some, true, bytes_eq, length, string_bytes, unwrap_or};
+ghost use Rattle.std.specs.Prelude.{◌≡◌, ◌↔◌, ℕ, List, [], IsTrue, IfOk, OnOk, OnErr, IsOk, Some, true, bytes_eq, length, string_bytes, unwrap_or};
 ghost use Rattle.std.proofs.Common.{rules};
-ghost use Rattle.std.specs.Option.{option_copied};
 ghost use Rattle.std.specs.Ordering.{on};
 ghost use Rattle.std.specs.Cmp.Rules.{comparing, hashing};
 ghost use Rattle.uriparse_text.specs.declared.parts.class.Class.{Class};
 ghost use Rattle.uriparse_text.specs.declared.parts.canonical.Case.{Case};
 ghost use Rattle.uriparse_text.specs.Tokens.{is_well_formed};
-ghost use Rattle.uriparse_text.specs.Cuts.{after, before};
-ghost use Rattle.uriparse_text.specs.Faults.{EndsClass, IsIn};
+ghost use Rattle.uriparse_text.specs.Faults.{IsIn};
 ghost use Rattle.uriparse_text.specs.Canonical.{canonical_in, fed_text, SpellsAlike};
-ghost use Rattle.uriparse_text.specs.Readings.{if_present, reading_in};
+ghost use Rattle.uriparse_text.specs.Readings.{reading_in};
 
 use super::alike::same_spelling;
 use super::canonical::{Case, canonical_bytes, feed_text, is_canonical};
-use super::class::{Class, fault_of, fault_place};
+use super::class::{Class, fault_of};
 use std::alloc::{AllocError, Global};
 use std::borrow::CowStr;
 use std::hash::{Hash, Hasher};
@@ -249,16 +247,6 @@ impl<'t, K: Kind> fmt::Debug for Text<'t, K> {
     }
 }
 
-/// Reads a text of this kind, if there is one.
-pub fn read_text_if<'t, K: Kind>(text: Option<&'t [u8]>) -> Result<Option<Text<'t, K>>, K::Error>
-    ensures { result ≡ if_present (reading_in K.class K.error_of) (option_copied text.entry) }
-{
-    match text {
-        Some(text) => Ok(Some(Text::try_from_bytes(text)?)),
-        None => Ok(None),
-    }
-}
-
 /// How many bytes a text has, or none where there is no text.
 pub fn len_of<K: Kind>(text: &Option<Text<'_, K>>) -> usize
     ensures { result ≡ length (unwrap_or text.now []) }
@@ -266,29 +254,5 @@ pub fn len_of<K: Kind>(text: &Option<Text<'_, K>>) -> usize
     match text {
         Some(text) => text.as_str().len(),
         None => 0,
-    }
-}
-
-/// Reads the text of this kind that stands before the first such mark, and answers what stands
-/// behind the mark too, if there is one. The mark stands in no text of the kind. The bytes are
-/// walked once, up to the mark or the leftmost fault before it. Takes no memory.
-///
-/// That fault is refused, as the kind's error names it; one behind the mark isn't looked for.
-pub fn read_text_before<'t, K: Kind>(
-    bytes: &'t [u8],
-    mark: u8,
-) -> Result<(Text<'t, K>, Option<&'t [u8]>), K::Error>
-    requires { EndsClass K.class mark }
-    ensures { MatchResult result (λ r. (reading_in K.class K.error_of (before mark bytes.now) ≡ Ok r.0) × (option_copied r.1 ≡ after mark bytes.now)) (λ e. reading_in K.class K.error_of (before mark bytes.now) ≡ Err e) }
-{
-    let place = fault_place(K::class(), bytes);
-    if place == bytes.len() {
-        return Ok((checked_text(bytes), None));
-    }
-    let (front, rest) = bytes.split_at(place);
-    if bytes[place] == mark {
-        Ok((checked_text(front), Some(&rest[1..])))
-    } else {
-        Err(K::error_of(bytes[place]))
     }
 }

@@ -5,9 +5,10 @@ ghost use Rattle.std.specs.List.{list_all};
 ghost use Rattle.uriparse_text.specs.Address.{is_ipv6_byte};
 ghost use Rattle.uriparse_authority.specs.Host as host;
 
-use super::{Host, HostError, RegisteredName};
+use super::HostError;
+use super::found::{FoundHost, found_ipv4, found_ipv6, found_name};
 use uriparse_text::address::{Ipv4Addr, Ipv6Addr};
-use uriparse_text::parts::Class;
+use uriparse_text::parts::{Class, fault_of};
 
 /// The text before a last closing bracket, where the text ends with one.
 fn before_closing(bytes: &[u8]) -> Option<&[u8]>
@@ -59,7 +60,8 @@ fn are_ipv6_bytes(bytes: &[u8]) -> bool
 }
 
 /// Reads the text between brackets.
-fn read_literal(bytes: &[u8]) -> Result<Host<'_>, HostError>
+#[inline(never)]
+fn read_literal(bytes: &[u8]) -> Result<FoundHost<'_>, HostError>
     ensures { result ≡ host.literal_reading bytes.now }
 {
     if begins_future(bytes) {
@@ -73,26 +75,26 @@ fn read_literal(bytes: &[u8]) -> Result<Host<'_>, HostError>
         return Err(HostError::InvalidIPv6Character);
     }
     match Ipv6Addr::parse_bytes(bytes) {
-        Some(address) => Ok(Host::IPv6Address(address)),
+        Some(address) => Ok(found_ipv6(address)),
         None => Err(HostError::InvalidIPv6Format),
     }
 }
 
 /// Reads a text without brackets: an IPv4 address, or else a name.
-fn read_name(bytes: &[u8]) -> Result<Host<'_>, HostError>
+fn read_name(bytes: &[u8]) -> Result<FoundHost<'_>, HostError>
     ensures { result ≡ host.name_reading bytes.now }
 {
     if let Some(address) = Ipv4Addr::parse_bytes(bytes) {
-        return Ok(Host::IPv4Address(address));
+        return Ok(found_ipv4(address));
     }
-    match RegisteredName::of_class(bytes) {
-        Ok(name) => Ok(Host::RegisteredName(name)),
-        Err(_) => Err(HostError::InvalidIPv4OrRegisteredNameCharacter),
+    match fault_of(Class::Name, bytes) {
+        Some(_) => Err(HostError::InvalidIPv4OrRegisteredNameCharacter),
+        None => Ok(found_name(bytes)),
     }
 }
 
-/// Reads a host, whose name borrows the bytes.
-pub(super) fn read_host(bytes: &[u8]) -> Result<Host<'_>, HostError>
+/// Finds a host, whose name borrows the bytes. Takes no memory.
+pub(in crate::authority) fn find_host(bytes: &[u8]) -> Result<FoundHost<'_>, HostError>
     ensures { result ≡ host.reading bytes.now }
 {
     match in_brackets(bytes) {

@@ -3,6 +3,6 @@ use Rattle.uriparse_text.specs.Bytes.{is_unreserved, is_sub_delim}
 use Rattle.uriparse_text.specs.Classes.{is_plain}
 use Rattle.uriparse_authority.proofs.authority.read.read_userinfo.Goals as goal
 
-pub read_text_before-requires : goal.read_text_before-requires
+pub find_text_before-requires : goal.find_text_before-requires
 unfolding is_plain is_unreserved is_sub_delim
-read_text_before-requires c = record { outside = refl; no_sign = refl; no_digit = refl }
+find_text_before-requires c = record { outside = refl; no_sign = refl; no_digit = refl }

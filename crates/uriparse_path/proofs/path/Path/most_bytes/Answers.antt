@@ -2,14 +2,14 @@ use Rattle.std.proofs.Common.{◌≡◌, ◌⊎◌, ◌≤◌, ℕ, ◌∷◌, L
 use Rattle.std.specs.List.{flat_map}
 use Rattle.uriparse_text.specs.Bytes.{slash}
 use Rattle.uriparse_text.proofs.SumLemmas.{most_of}
-use Rattle.uriparse_path.specs.Path.{PathParts, text}
+use Rattle.uriparse_path.specs.Path.{PathParts, flag, text}
 use Rattle.uriparse_path.proofs.TextLemmas.{length-text}
 use Rattle.uriparse_path.proofs.path.Path.most_bytes.Goals as goal
 
 pub returns : goal.returns
 returns c =
     let m : ℕ = 18446744073709551615 in
-    let p : PathParts = record { absolute = c.self.inside.absolute; segments = c.self.inside.segments.items } in
+    let p : PathParts = record { absolute = flag c.self.inside.absolute; segments = c.self.inside.segments.items } in
     let ss : List (List ℕ) = c.deref-segment-items.result.now in
     let read : length (text p) ≤ length (flat_map (λ s. slash ∷ s) ss) =
     subst (λ l. length (text p) ≤ length (flat_map (λ s. slash ∷ s) l)) (sym c.deref-segment-items.ensures.value) (length-text p c.self.invariant.some) in

@@ -1,5 +1,5 @@
 use Rattle.std.proofs.Common.{◌≡◌, false, ◌&&◌, take, arith, sym, ap, subst, ◌∙◌}
-use Rattle.uriparse_path.specs.Path.{PathParts, IsListed, IsCounted, hides_root}
+use Rattle.uriparse_path.specs.Path.{PathParts, IsListed, IsCounted, flag, hides_root}
 use Rattle.uriparse_path.specs.Dots.{has_dot_segment, without_dots}
 use Rattle.uriparse_path.proofs.ShieldLemmas.{Pass, shielded, twice, kept_shielded, room_left, counted_left, passed}
 use Rattle.uriparse_path.proofs.path.Path.remove_dots.Goals.{After-needs_shield-shielded}
@@ -12,7 +12,7 @@ returns-then-not-has_dot_segment c =
     kept_shielded c.args.shields c.args.self.now c.segments.ensures.listed none c.requires
 
 abbrev old : After-needs_shield-shielded → PathParts
-old c = record { absolute = c.self.inside.absolute; segments = c.self.inside.segments.items }
+old c = record { absolute = flag c.self.inside.absolute; segments = c.self.inside.segments.items }
 
 pass : (c : After-needs_shield-shielded)
     → Pass c.args.shields (old c) c.replay-rooted.result.0 c.replay-rooted.result.1 c.replay-rooted.new.segments.items
@@ -43,6 +43,7 @@ invariant_of-self c = subst IsCounted (sym c.guard.ensures) (counted_left (pass 
 
 pub returns : goal.returns
 returns c =
-    ap (λ l. record { absolute = c.root_first-absolute.result.0; segments = l }) c.guard.ensures
+    ap (λ v. record { absolute = v; segments = c.guard.new.segments.items }) c.word_of-self-inside.ensures
+    ∙ ap (λ l. record { absolute = c.root_first-absolute.result.0; segments = l }) c.guard.ensures
     ∙ passed (pass (goal.at.returns c).After-needs_shield-shielded)
     ∙ ap (λ q. shielded c.args.shields (without_dots q)) c.self.view_is

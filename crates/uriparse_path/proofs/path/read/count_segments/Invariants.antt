@@ -1,5 +1,5 @@
 use Rattle.std.proofs.Common.{◌≤◌, ◌-◌, length}
-use Rattle.uriparse_path.proofs.CountLemmas.{IsReached, IsRun}
+use Rattle.uriparse_path.proofs.CountLemmas.{IsReached, IsSweep}
 use Rattle.uriparse_path.proofs.path.read.count_segments.Given as goal
 
 abbrev pub invariant-runs : goal.invariant-runs
@@ -9,7 +9,7 @@ abbrev pub decreases-runs : goal.decreases-runs
 decreases-runs l = length l.text - l.at
 
 abbrev pub invariant-marks : goal.invariant-marks
-invariant-marks l = IsRun l.limit l.ends l.text l.at l.len l.count l.left
+invariant-marks l = IsSweep l.limit l.ends l.text l.at l.len l.slashes l.count l.left
 
 abbrev pub decreases-marks : goal.decreases-marks
 decreases-marks l = l.left

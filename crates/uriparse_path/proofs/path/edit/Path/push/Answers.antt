@@ -1,5 +1,5 @@
 use Rattle.std.proofs.Common.{◌<◌, ◌≤◌, length, Ok, subst, arith}
-use Rattle.uriparse_path.specs.Path.{max_segments}
+use Rattle.uriparse_path.specs.Path.{flag, max_segments}
 use Rattle.uriparse_path.proofs.ReadLemmas.{limit_is}
 use Rattle.uriparse_path.proofs.EditLemmas.{full_answer, pushed_answer, pushed_fault, counted_pushed}
 use Rattle.uriparse_path.proofs.path.edit.Path.push.Goals.{After-put_last}
@@ -21,9 +21,9 @@ invariant_of-self c = counted_pushed c.self.inside.segments.items c.put_last.new
 
 pub returns-clause-answer : goal.returns-clause-answer
 returns-clause-answer c =
-    pushed_answer c.args.self.now c.self.inside.absolute c.self.inside.segments.items c.put_last.new.segments.items c.args.segment c.put_last.result
+    pushed_answer c.args.self.now (flag c.self.inside.absolute) c.self.inside.segments.items c.put_last.new.segments.items c.args.segment c.put_last.result
     c.self.view_is (room c) c.put_last.ensures
 
 pub returns-clause-always : goal.returns-clause-always
 returns-clause-always c =
-    pushed_fault c.args.self.now c.self.inside.absolute c.self.inside.segments.items c.args.segment c.put_last.result c.self.view_is (room c)
+    pushed_fault c.args.self.now (flag c.self.inside.absolute) c.self.inside.segments.items c.args.segment c.put_last.result c.self.view_is (room c)

@@ -3,22 +3,22 @@ use Rattle.std.specs.Option.{option_map}
 use Rattle.std.proofs.lemmas.Bool.{eq-eqb, ne_eqb}
 use Rattle.std.proofs.lemmas.List.{take_rest, drop-drop}
 use Rattle.uriparse_text.specs.Cuts.{before}
-use Rattle.uriparse_text.specs.Readings.{unless_fault}
+use Rattle.uriparse_text.specs.Readings.{unless_fault, some_of}
 use Rattle.uriparse_text.proofs.EndLemmas.{whole_text, text_before, fault_before, reading-in}
-use Rattle.uriparse_text.proofs.parts.text.read_text_before.Goals as goal
+use Rattle.uriparse_text.proofs.parts.found.find_text_before.Goals as goal
 
-pub checked_text-requires : goal.checked_text-requires
-checked_text-requires g c =
+pub found_text-requires : goal.found_text-requires
+found_text-requires g c =
     (whole_text g.K.Kind.class c.args.mark c.requires _ c.class.ensures c.args.bytes.now _ c.fault_place-place.ensures c.if-place-bytes.true).1
 
 pub returns-then-place-bytes : goal.returns-then-place-bytes
 returns-then-place-bytes g c =
     let text = c.args.bytes.now in
     let whole = whole_text g.K.Kind.class c.args.mark c.requires _ c.class.ensures text _ c.fault_place-place.ensures c.if-place-bytes.true in
-    (rw c.checked_text.ensures (reading-in g.K.Kind.class g.K.Kind.error_of (before c.args.mark text) text whole.0 whole.1), whole.2)
+    (rw c.found_text.ensures (ap some_of (reading-in g.K.Kind.class g.K.Kind.error_of (before c.args.mark text) text whole.0 whole.1)), whole.2)
 
-pub checked_text-requires-then-bytes-place : goal.checked_text-requires-then-bytes-place
-checked_text-requires-then-bytes-place g c =
+pub found_text-requires-then-bytes-place : goal.found_text-requires-then-bytes-place
+found_text-requires-then-bytes-place g c =
     rw c.split_at.ensures.front
     (text_before g.K.Kind.class c.args.mark c.requires _ c.class.ensures c.args.bytes.now _ c.fault_place-place.ensures (omega arith)
     (eq-eqb _ _ c.if-bytes-place.true)).1
@@ -29,8 +29,8 @@ returns-then-bytes-place g c =
     let place = c.fault_place-place.result in
     let cut = text_before g.K.Kind.class c.args.mark c.requires _ c.class.ensures text place c.fault_place-place.ensures (omega arith)
     (eq-eqb _ _ c.if-bytes-place.true) in (
-      rw (c.checked_text-then-bytes-place.ensures, c.split_at.ensures.front)
-          (reading-in g.K.Kind.class g.K.Kind.error_of (before c.args.mark text) (take place text) cut.0 cut.1),
+      rw (c.found_text-then-bytes-place.ensures, c.split_at.ensures.front)
+          (ap some_of (reading-in g.K.Kind.class g.K.Kind.error_of (before c.args.mark text) (take place text) cut.0 cut.1)),
       ap Some (take_rest c.split_at.result.1.now 1 ∙ ap (drop 1) c.split_at.ensures.back ∙ drop-drop 1 place text) ∙ cut.2,
     )
 
@@ -38,6 +38,6 @@ pub returns-else-bytes-place : goal.returns-else-bytes-place
 returns-else-bytes-place g c =
     let text = c.args.bytes.now in
     rw c.error_of.ensures
-    (ap (λ f. unless_fault (option_map g.K.Kind.error_of f) (before c.args.mark text))
+    (ap (λ f. some_of (unless_fault (option_map g.K.Kind.error_of f) (before c.args.mark text)))
     (fault_before g.K.Kind.class c.args.mark c.requires _ c.class.ensures text _ c.fault_place-place.ensures (omega arith)
     (ne_eqb _ _ c.if-bytes-place.false)))

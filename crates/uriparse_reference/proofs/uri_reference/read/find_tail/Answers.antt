@@ -1,15 +1,14 @@
 use Rattle.std.proofs.Common.{◌≡◌, Some, Ok, Err, ap, ◌∙◌, rules}
 use Rattle.uriparse_text.specs.Cuts.{up_to}
-use Rattle.uriparse_path.specs.declared.path.error.PathError.TheVariants.{OutOfMemory}
 use Rattle.uriparse_path.specs.Faults as paths
 use Rattle.uriparse_path.specs.Faults.{ends_path}
 use Rattle.uriparse_path.proofs.ReadLemmas.{no_fault_iff}
 use Rattle.uriparse_reference.specs.Cuts.{tail_query, tail_fragment}
 use Rattle.uriparse_reference.specs.Reading.{behind_reading}
 use Rattle.uriparse_reference.specs.Reference.{path_refusal}
-use Rattle.uriparse_reference.proofs.TailLemmas.{refused_path, refused_place, refused_behind, accepted_tail, memory_wanted, is_refused, is_placed}
+use Rattle.uriparse_reference.proofs.TailLemmas.{refused_path, refused_place, refused_behind, accepted_tail, is_refused, is_placed}
 use Rattle.uriparse_reference.specs.declared.uri_reference.error.URIReferenceError.TheVariants as errors
-use Rattle.uriparse_reference.proofs.uri_reference.read.read_tail.Goals as goal
+use Rattle.uriparse_reference.proofs.uri_reference.read.find_tail.Goals as goal
 
 pub returns-in_err-front : goal.returns-in_err-front
 returns-in_err-front c =
@@ -27,11 +26,6 @@ returns-in_err-check_path c =
     rw answered (refused_place c.args.has_scheme c.args.has_authority c.args.text.now front.text.now front.behind.now cut.0 cut.1 cut.2 e
     (is_refused (path_refusal c.args.has_scheme c.args.has_authority front.text.now) e c.in_err-check_path.ensures))
 
-pub make_path-requires : goal.make_path-requires
-make_path-requires c =
-    let cut = c.in_ok-front.ensures in
-    (no_fault_iff c.in_ok-front.front.text.now).0 (ap paths.fault cut.1 ∙ cut.0)
-
 pub returns-in_err-query : goal.returns-in_err-query
 returns-in_err-query c =
     let cut = c.in_ok-front.ensures in
@@ -42,24 +36,12 @@ returns-in_err-query c =
     rw answered (refused_behind c.args.has_scheme c.args.has_authority c.args.text.now front.text.now front.behind.now cut.0 cut.1 cut.2
     (is_placed (path_refusal c.args.has_scheme c.args.has_authority front.text.now) c.in_ok-check_path.ensures) e refused)
 
-pub returns-in_err-path : goal.returns-in_err-path
-returns-in_err-path c =
-    let cut = c.in_ok-front.ensures in
-    let front = c.in_ok-front.front in
-    let e = c.in_err-path.field-0.0 in
-    let answered : c.from_residual-in_err-path.result ≡ Err e = search rules in
-    let read : Ok (c.in_ok-query.query, c.in_ok-query.fragment) ≡ behind_reading (tail_query front.behind.now) (tail_fragment front.behind.now) =
-    c.in_ok-query.ensures in
-    let wanted : e ≡ errors.Path OutOfMemory = c.in_err-path.ensures in
-    rw answered (memory_wanted c.args.has_scheme c.args.has_authority c.args.text.now front.text.now front.behind.now cut.0 cut.1 cut.2
-    (is_placed (path_refusal c.args.has_scheme c.args.has_authority front.text.now) c.in_ok-check_path.ensures) (c.in_ok-query.query, c.in_ok-query.fragment) read e wanted)
-
 pub returns : goal.returns
 returns c =
     let cut = c.in_ok-front.ensures in
     let front = c.in_ok-front.front in
     let read : Ok (c.in_ok-query.query, c.in_ok-query.fragment) ≡ behind_reading (tail_query front.behind.now) (tail_fragment front.behind.now) =
     c.in_ok-query.ensures in
+    ((no_fault_iff front.text.now).0 (ap paths.fault cut.1 ∙ cut.0),
     accepted_tail c.args.has_scheme c.args.has_authority c.args.text.now front.text.now front.behind.now cut.0 cut.1 cut.2
-    (is_placed (path_refusal c.args.has_scheme c.args.has_authority front.text.now) c.in_ok-check_path.ensures) (c.in_ok-query.query, c.in_ok-query.fragment) read
-    c.in_ok-path.path c.in_ok-path.ensures
+    (is_placed (path_refusal c.args.has_scheme c.args.has_authority front.text.now) c.in_ok-check_path.ensures) (c.in_ok-query.query, c.in_ok-query.fragment) read)

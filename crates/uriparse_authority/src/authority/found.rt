@@ -1,0 +1,93 @@
+//! An authority that a reader found: words that nothing has to be dropped of.
+ghost use Rattle.std.specs.Prelude.{◌≡◌};
+ghost use Rattle.uriparse_authority.specs.Authority as spec;
+ghost use Rattle.uriparse_text.specs.Found.{if_there};
+
+use super::host::found::FoundHost;
+use super::password::PasswordKind;
+use super::username::UsernameKind;
+use super::Authority;
+use std::marker::Model;
+use uriparse_text::parts::Found;
+
+/// The pieces of an authority, which borrow the bytes that they stand in. It is seen as the parts
+/// that they are.
+#[derive(Drop)]
+pub struct FoundAuthority<'a> {
+    username: Found<'a, UsernameKind>,
+    password: Found<'a, PasswordKind>,
+    host: FoundHost<'a>,
+    // 0 where there is no port.
+    has_port: usize,
+    port: usize,
+}
+
+impl<'a> Model for FoundAuthority<'a> {
+    ghost use Rattle.uriparse_text.specs.Found.{if_there};
+    ghost use Rattle.uriparse_authority.specs.Authority.{AuthorityParts, Valid};
+
+    ghost Value = { AuthorityParts };
+
+    ghost view = { λ f. record { username = f.username; password = f.password; host = f.host; port = if_there f.has_port f.port } };
+
+    ghost invariant = { λ f. Valid (record { username = f.username; password = f.password; host = f.host; port = if_there f.has_port f.port }) };
+}
+
+/// The port as two words: whether there is one, and its number.
+#[inline(always)]
+fn port_words(port: Option<u16>) -> (usize, usize)
+    ensures { if_there result.0 result.1 ≡ port }
+{
+    match port {
+        Some(number) => (1, usize::from(number)),
+        None => (0, 0),
+    }
+}
+
+/// These pieces, where no password stands without a user name.
+#[inline(always)]
+pub(super) fn found_authority<'a>(
+    username: Found<'a, UsernameKind>,
+    password: Found<'a, PasswordKind>,
+    host: FoundHost<'a>,
+    port: Option<u16>,
+) -> FoundAuthority<'a>
+    requires { username ≡ spec.with_empty username password }
+    ensures { result ≡ spec.of_parts username.entry password.entry host.entry port }
+{
+    let (has_port, port) = port_words(port);
+    FoundAuthority {
+        username,
+        password,
+        host,
+        has_port,
+        port,
+    }
+}
+
+impl<'a> FoundAuthority<'a> {
+    /// The port, if there is one.
+    #[inline(always)]
+    fn to_port(&self) -> Option<u16>
+        ensures { result ≡ self.now.port }
+    {
+        if self.has_port == 0 {
+            None
+        } else {
+            Some(self.port as u16)
+        }
+    }
+
+    /// The authority, whose parts borrow the bytes. Takes no memory.
+    #[inline(always)]
+    pub fn to_authority(&self) -> Authority<'a>
+        ensures { result ≡ self.now }
+    {
+        Authority {
+            username: self.username.to_text(),
+            password: self.password.to_text(),
+            host: self.host.to_host(),
+            port: self.to_port(),
+        }
+    }
+}

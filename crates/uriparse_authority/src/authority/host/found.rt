@@ -1,0 +1,100 @@
+//! A host that a reader found: words that nothing has to be dropped of.
+ghost use Rattle.std.specs.Prelude.{◌≡◌};
+ghost use Rattle.uriparse_authority.specs.declared.authority.host.Host.TheVariants as hosts;
+ghost use Rattle.uriparse_authority.specs.Name.{IsName};
+
+use super::Host;
+use super::super::name::RegisteredName;
+use std::marker::Model;
+use uriparse_text::address::{Ipv4Addr, Ipv6Addr};
+
+/// The bytes of a name, or an address. It is seen as the host that it is.
+#[derive(Drop)]
+pub(in crate::authority) struct FoundHost<'h> {
+    // 0 a name, 4 and 6 an address: a word, since a narrow tag would be moved with its padding.
+    kind: usize,
+    name: &'h [u8],
+    ipv6: Ipv6Addr,
+    ipv4: Ipv4Addr,
+}
+
+impl<'h> Model for FoundHost<'h> {
+    ghost use Rattle.uriparse_authority.specs.declared.authority.host.Host.{Host};
+    ghost use Rattle.uriparse_authority.specs.Found.{found_host};
+    ghost use Rattle.uriparse_authority.specs.Host.{Valid};
+
+    ghost Value = { Host };
+
+    ghost view = { λ f. found_host f.kind f.name.now f.ipv4 f.ipv6 };
+
+    ghost invariant = { λ f. Valid (found_host f.kind f.name.now f.ipv4 f.ipv6) };
+}
+
+/// The bytes are a name.
+#[inline(always)]
+pub(in crate::authority) fn found_name(bytes: &[u8]) -> FoundHost<'_>
+    requires { IsName bytes.now }
+    ensures { result ≡ hosts.RegisteredName bytes.now }
+{
+    FoundHost {
+        kind: 0,
+        name: bytes,
+        ipv6: Ipv6Addr::new(0, 0, 0, 0, 0, 0, 0, 0),
+        ipv4: Ipv4Addr::new(0, 0, 0, 0),
+    }
+}
+
+/// There is an IPv4 address.
+#[inline(always)]
+pub(in crate::authority) fn found_ipv4(address: Ipv4Addr) -> FoundHost<'static>
+    ensures { result ≡ hosts.IPv4Address address }
+{
+    let _octets = address.octets();
+    FoundHost {
+        kind: 4,
+        name: b"",
+        ipv6: Ipv6Addr::new(0, 0, 0, 0, 0, 0, 0, 0),
+        ipv4: address,
+    }
+}
+
+/// There is an IPv6 address.
+pub(super) fn found_ipv6(address: Ipv6Addr) -> FoundHost<'static>
+    ensures { result ≡ hosts.IPv6Address address }
+{
+    let _segments = address.segments();
+    FoundHost {
+        kind: 6,
+        name: b"",
+        ipv6: address,
+        ipv4: Ipv4Addr::new(0, 0, 0, 0),
+    }
+}
+
+impl<'h> FoundHost<'h> {
+    /// The host, whose name borrows the bytes. Takes no memory.
+    #[inline(always)]
+    pub(in crate::authority) fn to_host(&self) -> Host<'h>
+        ensures { result ≡ self.now }
+    {
+        if self.kind == 0 {
+            Host::RegisteredName(RegisteredName::of_checked(self.name))
+        } else {
+            self.to_any_host()
+        }
+    }
+
+    /// The same, out of the way of a name, which most hosts are.
+    #[inline(never)]
+    fn to_any_host(&self) -> Host<'h>
+        ensures { result ≡ self.now }
+    {
+        if self.kind == 0 {
+            Host::RegisteredName(RegisteredName::of_checked(self.name))
+        } else if self.kind == 4 {
+            Host::IPv4Address(self.ipv4)
+        } else {
+            Host::IPv6Address(self.ipv6)
+        }
+    }
+}

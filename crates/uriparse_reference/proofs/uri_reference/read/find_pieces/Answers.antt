@@ -1,0 +1,44 @@
+use Rattle.std.proofs.Common.{◌≡◌, List, Option, Ok, Err, refl, sym, ap, ◌∙◌, rules}
+use Rattle.std.specs.Prelude.{Result, ℕ, is_some}
+use Rattle.std.specs.Option.{option_map}
+use Rattle.uriparse_text.specs.Bytes.{question_mark, number_sign}
+use Rattle.uriparse_text.specs.Cuts.{before, after, up_to}
+use Rattle.uriparse_text.specs.Readings.{◌>>=◌}
+use Rattle.uriparse_path.specs.Faults.{ends_path}
+use Rattle.uriparse_scheme.specs.Scheme.{named}
+use Rattle.uriparse_reference.specs.declared.uri_reference.error.URIReferenceError.{URIReferenceError}
+use Rattle.uriparse_reference.specs.Cuts.{scheme_text}
+use Rattle.uriparse_reference.specs.Reading.{reading, text_tail}
+use Rattle.uriparse_reference.proofs.ReferenceLemmas.{in_place, read_present, tail_answer, with_tail}
+use Rattle.uriparse_reference.proofs.TailLemmas.{Tail}
+use Rattle.uriparse_reference.proofs.uri_reference.read.find_pieces.Goals.{After-find_tail}
+use Rattle.uriparse_reference.proofs.uri_reference.read.find_pieces.Goals as goal
+
+told : (c : After-find_tail) (r : Result Tail URIReferenceError) → text_tail c.is_there.result c.is_some.result c.cut-front.result.rest.now ≡ r
+    → reading c.args.text.now ≡ (r >>= λ x. Ok (with_tail (option_map named (scheme_text c.args.text.now)) c.in_ok-authority.authority x))
+told c r made =
+    let cut = c.cut-front.ensures in
+    let front = c.cut-front.result in
+    let t = c.args.text.now in
+    let u = front.rest.now in
+    tail_answer t (option_map named (scheme_text t)) front.authority (up_to ends_path u) (after question_mark (before number_sign u))
+    (after number_sign u) c.in_ok-authority.authority refl cut.authority
+    (ap (up_to ends_path) cut.rest) (ap (λ u. after question_mark (before number_sign u)) cut.rest)
+    (ap (after number_sign) cut.rest) (sym c.find_authority_if.ensures ∙ c.in_ok-authority.was)
+    c.is_there.result c.is_some.result (c.is_there.ensures ∙ ap is_some cut.scheme) c.is_some.ensures r made
+
+pub returns-in_err-tail : goal.returns-in_err-tail
+returns-in_err-tail c =
+    let e = c.in_err-tail.field-0.0 in
+    let answered : c.from_residual-in_err-tail.result ≡ Err e = search rules in
+    rw answered (told (goal.at.returns-in_err-tail c).After-find_tail (Err e) c.in_err-tail.ensures)
+
+pub returns : goal.returns
+returns c =
+    let is = c.in_ok-tail.ensures in
+    (c.cut-front.ensures.scheme,
+    is.0,
+    told (goal.at.returns c).After-find_tail _ is.1
+    ∙ ap Ok (in_place (option_map named (scheme_text c.args.text.now)) c.in_ok-authority.authority c.is_some.result
+    (c.is_some.ensures ∙ sym (read_present c.cut-front.result.authority c.in_ok-authority.authority (sym c.find_authority_if.ensures ∙ c.in_ok-authority.was)))
+    c.in_ok-tail.tail.path.now c.in_ok-tail.tail.query c.in_ok-tail.tail.fragment))
