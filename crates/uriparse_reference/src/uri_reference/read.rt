@@ -180,9 +180,7 @@ fn check_path(has_scheme: bool, has_authority: bool, path: &[u8]) -> Result<(), 
 }
 
 /// Finds the authority, if there is one.
-fn find_authority_if(
-    text: Option<&[u8]>,
-) -> Result<Option<FoundAuthority<'_>>, URIReferenceError>
+fn find_authority_if(text: Option<&[u8]>) -> Result<Option<FoundAuthority<'_>>, URIReferenceError>
     ensures { result ≡ of_piece errors.Authority (if_present authority.reading (option_copied text.entry)) }
 {
     match text {

@@ -3,8 +3,8 @@ ghost use Rattle.std.specs.Prelude.{◌≡◌};
 ghost use Rattle.uriparse_authority.specs.declared.authority.host.Host.TheVariants as hosts;
 ghost use Rattle.uriparse_authority.specs.Name.{IsName};
 
-use super::Host;
 use super::super::name::RegisteredName;
+use super::Host;
 use std::marker::Model;
 use uriparse_text::address::{Ipv4Addr, Ipv6Addr};
 
