@@ -80,11 +80,18 @@ fn frequent(text: &[u8]) -> Option<RegisteredScheme> {
     }
 }
 
-/// The registered scheme with this name, in any case. One of those that most texts have is tried
-/// before the table is searched.
+/// The registered scheme with this name, in any case. `https` and `http` are compared first, since
+/// most texts have them, and then the one other frequent scheme that it may be; else the table is
+/// searched.
 pub(super) fn registered_named(text: &[u8]) -> Option<RegisteredScheme>
     ensures { result ≡ spec.registered_named (str_to_ascii_lowercase text.now) }
 {
+    if text == b"https".as_slice() {
+        return Some(RegisteredScheme::HTTPS);
+    }
+    if text == b"http".as_slice() {
+        return Some(RegisteredScheme::HTTP);
+    }
     match frequent(text) {
         Some(scheme) if text.eq_ignore_ascii_case(scheme.name().as_bytes()) => Some(scheme),
         _ => searched_scheme(text),
