@@ -26,5 +26,5 @@ pub use found::{Found, find_text_before, find_text_if, no_text};
 pub use print::write_short;
 pub use settled::check_bytes;
 pub use scan::{ByteTest, Is, IsAny, Outside, first, next_marks, next_marks_by_two};
-pub use text::{Kind, Text, canonical_text, checked_text, len_of, normalized_text};
+pub use text::{Kind, Text, checked_text, kept_text, len_of, normalized_text};
 pub use token::{Token, is_escape, split_token};

@@ -81,7 +81,7 @@ impl<'t, K: Kind> Model for Text<'t, K> {
 /// The text of bytes that are in the kind's class, and canonical where that is said. It borrows
 /// them, and doesn't allocate.
 #[inline(always)]
-pub(super) fn kept_text<K: Kind>(bytes: &[u8], canonical: bool) -> Text<'_, K>
+pub fn kept_text<K: Kind>(bytes: &[u8], canonical: bool) -> Text<'_, K>
     requires { IsKept K.class K.case canonical bytes.now }
     ensures { result ≡ bytes.now }
 {
@@ -97,15 +97,6 @@ pub fn checked_text<K: Kind>(bytes: &[u8]) -> Text<'_, K>
     ensures { result ≡ bytes.now }
 {
     kept_text(bytes, false)
-}
-
-/// The same for bytes that are known to be canonical, too.
-pub fn canonical_text<K: Kind>(bytes: &[u8]) -> Text<'_, K>
-    requires class { IsIn K.class bytes.now }
-    requires canonical { canonical_in K.case bytes.now ≡ bytes.now }
-    ensures { result ≡ bytes.now }
-{
-    kept_text(bytes, true)
 }
 
 /// A text that owns the canonical spelling of this one. Wants memory.
