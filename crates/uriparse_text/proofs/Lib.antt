@@ -22,5 +22,6 @@ pub mod AddressByteLemmas
 pub mod AddressFitLemmas
 pub mod AddressCanonicalLemmas
 pub mod RunLemmas
+pub mod SettledLemmas
 pub mod SumLemmas
 pub mod AlikeLemmas

@@ -12,3 +12,4 @@ pub mod Address
 pub mod IpAddr
 pub mod Alike
 pub mod Found
+pub mod Spelling

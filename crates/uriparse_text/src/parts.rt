@@ -11,6 +11,8 @@ mod found;
 mod print;
 mod run;
 mod scan;
+mod settled;
+mod spelling;
 mod text;
 mod token;
 
@@ -20,8 +22,9 @@ pub use canonical::{Case, canonical_bytes, feed_spelling, feed_text, is_canonica
 pub use class::{Class, fault_of, is_unreserved};
 pub use copy::{borrowed_text, canonical_copy, is_canonical_part, owned_text, put_copy};
 pub use cut::{split_at_mark, without_mark};
-pub use found::{Found, find_text_before, find_text_if, found_text, no_text};
+pub use found::{Found, find_text_before, find_text_if, no_text};
 pub use print::write_short;
+pub use settled::check_bytes;
 pub use scan::{ByteTest, Is, IsAny, Outside, first, next_marks, next_marks_by_two};
-pub use text::{Kind, Text, checked_text, len_of, normalized_text};
+pub use text::{Kind, Text, checked_text, kept_text, len_of, normalized_text};
 pub use token::{Token, is_escape, split_token};

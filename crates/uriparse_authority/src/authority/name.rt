@@ -7,6 +7,7 @@ ghost use Rattle.uriparse_text.specs.declared.parts.class.Class.TheVariants as c
 ghost use Rattle.uriparse_text.specs.declared.parts.canonical.Case.TheVariants as case;
 ghost use Rattle.uriparse_text.specs.Canonical.{canonical_lowered, fed_text, SpellsAlike};
 ghost use Rattle.uriparse_text.specs.Readings.{reading_in};
+ghost use Rattle.uriparse_text.specs.Spelling.{IsKept};
 ghost use Rattle.uriparse_authority.specs.Name as spec;
 
 use super::error::RegisteredNameError;
@@ -15,7 +16,7 @@ use std::fmt;
 use std::hash::{Hash, Hasher};
 use std::marker::Model;
 use uriparse_text::address::Ipv4Addr;
-use uriparse_text::parts::{Case, Class, Kind, Text, checked_text, normalized_text};
+use uriparse_text::parts::{Case, Class, Kind, Text, kept_text, normalized_text};
 
 /// The kind of text that a name is.
 struct NameKind;
@@ -85,14 +86,14 @@ impl<'n> RegisteredName<'n> {
         RegisteredName::of_class(bytes)
     }
 
-    /// The name of bytes that are known to be one.
+    /// The name of bytes that are one, and canonical where that is said.
     #[inline(always)]
-    pub(super) fn of_checked(bytes: &'n [u8]) -> RegisteredName<'n>
-        requires { spec.IsName bytes.now }
+    pub(super) fn of_kept(bytes: &'n [u8], canonical: bool) -> RegisteredName<'n>
+        requires { IsKept class.Name case.Lowered canonical bytes.now }
         ensures { result ≡ bytes.now }
     {
         RegisteredName {
-            text: checked_text(bytes),
+            text: kept_text(bytes, canonical),
         }
     }
 

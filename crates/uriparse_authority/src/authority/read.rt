@@ -1,10 +1,12 @@
 //! How an authority is cut and its pieces are read: RFC 3986, sections 3.2 to 3.2.3.
 ghost use Rattle.std.specs.Prelude.{◌≡◌, Ok, position};
 ghost use Rattle.std.specs.Option.{option_copied};
+ghost use Rattle.uriparse_text.specs.declared.parts.class.Class.TheVariants as class;
+ghost use Rattle.uriparse_text.specs.declared.parts.canonical.Case.TheVariants as case;
 ghost use Rattle.uriparse_text.specs.Cuts.{up_to, from_first};
+ghost use Rattle.uriparse_text.specs.Spelling.{IsKept};
 ghost use Rattle.uriparse_authority.specs.Authority as authority;
 ghost use Rattle.uriparse_authority.specs.Host as host;
-ghost use Rattle.uriparse_authority.specs.Name.{IsName};
 
 use super::found::{FoundAuthority, found_authority};
 use super::host::found::{FoundHost, found_ipv4, found_name};
@@ -14,8 +16,8 @@ use super::username::UsernameKind;
 use super::{Authority, AuthorityError, Host, HostError, PortError, parse_port};
 use uriparse_text::address::Ipv4Addr;
 use uriparse_text::parts::{
-    Class, Found, IsAny, fault_of, find_text_before, find_text_if, first, no_text, split_at_mark,
-    without_mark,
+    Case, Class, Found, IsAny, check_bytes, find_text_before, find_text_if, first, no_text,
+    split_at_mark, without_mark,
 };
 
 /// The user information, if there is an `@` behind it, and what stands behind the `@`; or none, and
@@ -66,25 +68,25 @@ fn split_port(text: &[u8]) -> (&[u8], Option<&[u8]>)
     (text, None)
 }
 
-/// Finds the host that a text of the class of names is.
+/// Finds the host that a text of the class of names is, which is canonical where that is said.
 #[inline(always)]
-fn find_name_host(bytes: &[u8]) -> FoundHost<'_>
-    requires { IsName bytes.now }
+fn find_name_host(bytes: &[u8], canonical: bool) -> FoundHost<'_>
+    requires { IsKept class.Name case.Lowered canonical bytes.now }
     ensures { host.Spells bytes.now result }
 {
     if let Some(address) = Ipv4Addr::parse_bytes(bytes) {
         return found_ipv4(address);
     }
-    found_name(bytes)
+    found_name(bytes, canonical)
 }
 
 /// Finds the authority that such a text is: that host alone.
 #[inline(always)]
-fn find_host_alone(bytes: &[u8]) -> FoundAuthority<'_>
-    requires { IsName bytes.now }
+fn find_host_alone(bytes: &[u8], canonical: bool) -> FoundAuthority<'_>
+    requires { IsKept class.Name case.Lowered canonical bytes.now }
     ensures { authority.reading bytes.now ≡ Ok result }
 {
-    found_authority(no_text(), no_text(), find_name_host(bytes), None)
+    found_authority(no_text(), no_text(), find_name_host(bytes, canonical), None)
 }
 
 /// Finds an authority, whose pieces borrow the bytes. It takes no memory. One that is of the class
@@ -93,9 +95,9 @@ fn find_host_alone(bytes: &[u8]) -> FoundAuthority<'_>
 pub fn find_authority(bytes: &[u8]) -> Result<FoundAuthority<'_>, AuthorityError>
     ensures { result ≡ authority.reading bytes.now }
 {
-    match fault_of(Class::Name, bytes) {
-        None => Ok(find_host_alone(bytes)),
-        Some(_) => find_any_authority(bytes),
+    match check_bytes(Class::Name, Case::Lowered, bytes) {
+        Ok(canonical) => Ok(find_host_alone(bytes, canonical)),
+        Err(_) => find_any_authority(bytes),
     }
 }
 

@@ -8,6 +8,7 @@ ghost use Rattle.uriparse_text.specs.declared.parts.class.Class.TheVariants as c
 ghost use Rattle.uriparse_text.specs.declared.parts.canonical.Case.TheVariants as case;
 ghost use Rattle.uriparse_text.specs.Bytes.{dot};
 ghost use Rattle.uriparse_text.specs.Canonical.{canonical, fed_text, SpellsAlike};
+ghost use Rattle.uriparse_text.specs.Spelling.{IsKept};
 ghost use Rattle.uriparse_path.specs.Segment as spec;
 ghost use Rattle.uriparse_path.specs.Dots as dots;
 ghost use Rattle.uriparse_path.specs.Relative as relative;
@@ -17,7 +18,7 @@ use std::alloc::{AllocError, Global};
 use std::fmt;
 use std::hash::{Hash, Hasher};
 use std::marker::Model;
-use uriparse_text::parts::{Case, Class, Kind, Text, checked_text, normalized_text};
+use uriparse_text::parts::{Case, Class, Kind, Text, kept_text, normalized_text};
 
 /// The refusal of a segment whose leftmost fault stands at this byte.
 pub(super) fn fault_at(byte: u8) -> PathError
@@ -111,14 +112,23 @@ impl<'s> Segment<'s> {
         Segment::try_from_bytes(text.as_bytes())
     }
 
+    /// The segment of bytes that are one, and canonical where that is said.
+    #[inline(always)]
+    pub(super) fn of_kept(bytes: &'s [u8], canonical: bool) -> Segment<'s>
+        requires { IsKept class.Segment case.Kept canonical bytes.now }
+        ensures { result ≡ bytes.now }
+    {
+        Segment {
+            text: kept_text(bytes, canonical),
+        }
+    }
+
     /// The segment of bytes that are known to be one.
     pub(super) fn of_checked(bytes: &'s [u8]) -> Segment<'s>
         requires { spec.IsSegment bytes.now }
         ensures { result ≡ bytes.now }
     {
-        Segment {
-            text: checked_text(bytes),
-        }
+        Segment::of_kept(bytes, false)
     }
 
     /// The empty segment.

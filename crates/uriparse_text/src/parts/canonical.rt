@@ -138,6 +138,15 @@ pub fn feed_text<H: Hasher>(case: Case, text: &[u8], state: &mut H)
     state.write_u8(0xff);
 }
 
+/// The same for a text that is known to be its canonical spelling.
+#[inline]
+pub(super) fn feed_known<H: Hasher>(text: &[u8], state: &mut H)
+    ensures { state.new ≡ fold H.write state.old (spec.fed_text text.now) }
+{
+    feed_bytes(text, state);
+    state.write_u8(0xff);
+}
+
 /// Whether the text is its own canonical spelling. Most texts are one run of bytes that stay as
 /// they are.
 #[inline]

@@ -3,43 +3,45 @@
 ghost use Rattle.std.specs.Prelude.{◌≡◌, MatchResult, None, Ok, Err, Some};
 ghost use Rattle.std.specs.Option.{option_copied};
 ghost use Rattle.uriparse_text.specs.Cuts.{after, before};
-ghost use Rattle.uriparse_text.specs.Faults.{EndsClass, IsIn};
+ghost use Rattle.uriparse_text.specs.Faults.{EndsClass};
 ghost use Rattle.uriparse_text.specs.Readings.{if_present, reading_in};
+ghost use Rattle.uriparse_text.specs.Spelling.{IsKept};
 
-use super::class::{fault_of, fault_place};
-use super::text::{Kind, Text, checked_text};
+use super::settled::{check_bytes, fault_behind, settled_len};
+use super::text::{Kind, Text, kept_text};
 use std::marker::{Model, PhantomData};
 
 /// The bytes of a text of this kind, which are known to be in its class, or none where there is no
 /// such text. It is seen as these bytes.
 #[derive(Drop)]
 pub struct Found<'t, K: Kind> {
-    // 0 where there is no text: a word, since a narrow tag would be moved with its padding.
+    // 0 where there is no text, and 2 where it is canonical: a word, since a narrow tag would be
+    // moved with its padding.
     present: usize,
     bytes: &'t [u8],
     kind: PhantomData<K>,
 }
 
 impl<'t, K: Kind> Model for Found<'t, K> {
-    ghost use Rattle.std.specs.Prelude.{ℕ, List, Option, IfSome};
-    ghost use Rattle.uriparse_text.specs.Faults.{IsIn};
+    ghost use Rattle.std.specs.Prelude.{ℕ, ◌==◌, List, Option};
     ghost use Rattle.uriparse_text.specs.Found.{if_there};
+    ghost use Rattle.uriparse_text.specs.Spelling.{IsKept};
 
     ghost Value = { Option (List ℕ) };
 
     ghost view = { λ f. if_there f.present f.bytes.now };
 
-    ghost invariant = { λ f. IfSome (if_there f.present f.bytes.now) (λ t. IsIn K.class t) };
+    ghost invariant = { λ f. IsKept K.class K.case (f.present == 2) f.bytes.now };
 }
 
-/// The bytes are a text.
+/// The bytes are a text, and it is canonical where that is said.
 #[inline(always)]
-pub fn found_text<K: Kind>(bytes: &[u8]) -> Found<'_, K>
-    requires { IsIn K.class bytes.now }
+fn found_text<K: Kind>(bytes: &[u8], canonical: bool) -> Found<'_, K>
+    requires { IsKept K.class K.case canonical bytes.now }
     ensures { result ≡ Some bytes.now }
 {
     Found {
-        present: 1,
+        present: if canonical { 2 } else { 1 },
         bytes,
         kind: PhantomData,
     }
@@ -66,7 +68,7 @@ impl<'t, K: Kind> Found<'t, K> {
         if self.present == 0 {
             None
         } else {
-            Some(checked_text(self.bytes))
+            Some(kept_text(self.bytes, self.present == 2))
         }
     }
 }
@@ -79,9 +81,9 @@ pub fn find_text_if<'t, K: Kind>(text: Option<&'t [u8]>) -> Result<Found<'t, K>,
     ensures { result ≡ if_present (reading_in K.class K.error_of) (option_copied text.entry) }
 {
     match text {
-        Some(bytes) => match fault_of(K::class(), bytes) {
-            Some(byte) => Err(K::error_of(byte)),
-            None => Ok(found_text(bytes)),
+        Some(bytes) => match check_bytes(K::class(), K::case(), bytes) {
+            Ok(canonical) => Ok(found_text(bytes, canonical)),
+            Err(byte) => Err(K::error_of(byte)),
         },
         None => Ok(no_text()),
     }
@@ -100,13 +102,16 @@ pub fn find_text_before<'t, K: Kind>(
     requires { EndsClass K.class mark }
     ensures { MatchResult result (λ r. (if_present (reading_in K.class K.error_of) (Some (before mark bytes.now)) ≡ Ok r.0) × (option_copied r.1 ≡ after mark bytes.now)) (λ e. if_present (reading_in K.class K.error_of) (Some (before mark bytes.now)) ≡ Err e) }
 {
-    let place = fault_place(K::class(), bytes);
+    let class = K::class();
+    let case = K::case();
+    let settled = settled_len(class, case, bytes);
+    let place = fault_behind(class, case, bytes, settled);
     if place == bytes.len() {
-        return Ok((found_text(bytes), None));
+        return Ok((found_text(bytes, place == settled), None));
     }
     let (front, rest) = bytes.split_at(place);
     if bytes[place] == mark {
-        Ok((found_text(front), Some(&rest[1..])))
+        Ok((found_text(front, place == settled), Some(&rest[1..])))
     } else {
         Err(K::error_of(bytes[place]))
     }

@@ -9,7 +9,7 @@ use std::simd::prelude::*;
 
 /// The byte may change in a canonical spelling.
 #[derive(Clone, Copy, Debug)]
-struct MayChange(Case);
+pub(super) struct MayChange(pub(super) Case);
 
 // The kinds of bytes, a bit each, by the low half and the high half of a byte: 1 `%`, 2 and 4
 // upper-case letters.

@@ -337,7 +337,7 @@ fn marks_by_one_by_two<T: ByteTest, U: ByteTest>(
 
 /// The same for a short text, byte by byte.
 #[inline(always)]
-fn first_by_one<T: ByteTest>(test: &T, text: &[u8]) -> usize
+pub(super) fn first_by_one<T: ByteTest>(test: &T, text: &[u8]) -> usize
     ensures { result ≡ position_or_len (T.passes test.now) text.now }
 {
     let mut at = 0;

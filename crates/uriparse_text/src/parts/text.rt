@@ -8,16 +8,18 @@ ghost use Rattle.uriparse_text.specs.declared.parts.canonical.Case.{Case};
 ghost use Rattle.uriparse_text.specs.Tokens.{is_well_formed};
 ghost use Rattle.uriparse_text.specs.Faults.{IsIn};
 ghost use Rattle.uriparse_text.specs.Canonical.{canonical_in, fed_text, SpellsAlike};
+ghost use Rattle.uriparse_text.specs.Spelling.{IsKept};
 ghost use Rattle.uriparse_text.specs.Readings.{reading_in};
 
 use super::alike::same_spelling;
-use super::canonical::{Case, canonical_bytes, feed_text, is_canonical};
-use super::class::{Class, fault_of};
+use super::canonical::{Case, canonical_bytes, feed_known, feed_text, is_canonical};
+use super::class::Class;
+use super::settled::check_bytes;
+use super::spelling::Spelling;
 use std::alloc::{AllocError, Global};
-use std::borrow::CowStr;
 use std::hash::{Hash, Hasher};
 use std::marker::{Model, PhantomData};
-use std::{fmt, str};
+use std::{fmt, mem, str};
 
 /// A kind of text: its name, its class, what its canonical spelling does to letters, and its
 /// refusals.
@@ -61,20 +63,32 @@ fn text_in(class: Class, bytes: &[u8]) -> &str
 /// 6.2.2.1 and 6.2.2.2); equal texts feed a Hasher the same bytes.
 #[derive(Drop)]
 pub struct Text<'t, K: Kind> {
-    text: CowStr<'t>,
+    text: Spelling<'t>,
     kind: PhantomData<K>,
 }
 
 impl<'t, K: Kind> Model for Text<'t, K> {
     ghost use Rattle.std.specs.Prelude.{ℕ, List};
-    ghost use Rattle.std.specs.Cow.{cow_str_bytes};
-    ghost use Rattle.uriparse_text.specs.Faults.{IsIn};
+    ghost use Rattle.uriparse_text.specs.Spelling.{spelled, is_known, IsKept};
 
     ghost Value = { List ℕ };
 
-    ghost view = { λ t. cow_str_bytes t.text };
+    ghost view = { λ t. spelled t.text };
 
-    ghost invariant = { λ t. IsIn K.class (cow_str_bytes t.text) };
+    ghost invariant = { λ t. IsKept K.class K.case (is_known t.text) (spelled t.text) };
+}
+
+/// The text of bytes that are in the kind's class, and canonical where that is said. It borrows
+/// them, and doesn't allocate.
+#[inline(always)]
+pub fn kept_text<K: Kind>(bytes: &[u8], canonical: bool) -> Text<'_, K>
+    requires { IsKept K.class K.case canonical bytes.now }
+    ensures { result ≡ bytes.now }
+{
+    Text {
+        text: Spelling::borrowed(text_in(K::class(), bytes), canonical),
+        kind: PhantomData,
+    }
 }
 
 /// The text of bytes that are known to be in the kind's class. It borrows them. Takes no memory.
@@ -82,10 +96,7 @@ pub fn checked_text<K: Kind>(bytes: &[u8]) -> Text<'_, K>
     requires { IsIn K.class bytes.now }
     ensures { result ≡ bytes.now }
 {
-    Text {
-        text: CowStr::Borrowed(text_in(K::class(), bytes)),
-        kind: PhantomData,
-    }
+    kept_text(bytes, false)
 }
 
 /// A text that owns the canonical spelling of this one. Wants memory.
@@ -97,7 +108,7 @@ pub fn normalized_text<K: Kind>(
 {
     let bytes = canonical_bytes(alloc, K::case(), text.as_bytes())?;
     Ok(Text {
-        text: CowStr::Owned(unsafe { String::from_utf8_unchecked(bytes) }),
+        text: Spelling::owned(unsafe { String::from_utf8_unchecked(bytes) }, true),
         kind: PhantomData,
     })
 }
@@ -110,9 +121,9 @@ impl<'t, K: Kind> Text<'t, K> {
     pub fn try_from_bytes(bytes: &'t [u8]) -> Result<Text<'t, K>, K::Error>
         ensures { result ≡ reading_in K.class K.error_of bytes.now }
     {
-        match fault_of(K::class(), bytes) {
-            Some(byte) => Err(K::error_of(byte)),
-            None => Ok(checked_text(bytes)),
+        match check_bytes(K::class(), K::case(), bytes) {
+            Ok(canonical) => Ok(kept_text(bytes, canonical)),
+            Err(byte) => Err(K::error_of(byte)),
         }
     }
 
@@ -145,7 +156,7 @@ impl<'t, K: Kind> Text<'t, K> {
         ensures { result ≡ self.now }
     {
         Text {
-            text: CowStr::Borrowed(self.text.as_str()),
+            text: Spelling::borrowed(self.text.as_str(), self.text.is_known()),
             kind: PhantomData,
         }
     }
@@ -156,7 +167,7 @@ impl<'t, K: Kind> Text<'t, K> {
         ensures { IfOk result (λ t. t ≡ self.entry) }
     {
         Ok(Text {
-            text: CowStr::Owned(self.text.into_owned(alloc)?),
+            text: self.text.into_owned(alloc)?,
             kind: PhantomData,
         })
     }
@@ -172,7 +183,16 @@ impl<'t, K: Kind> Text<'t, K> {
     pub fn is_normalized(&self) -> bool
         ensures { IsTrue result ↔ (canonical_in K.case self.now ≡ self.now) }
     {
-        is_canonical(K::case(), self.as_bytes())
+        self.text.is_known() || is_canonical(K::case(), self.as_bytes())
+    }
+
+    /// Keeps that the text is canonical.
+    fn set_canonical(&mut self)
+        requires { canonical_in K.case self.old ≡ self.old }
+        ensures { self.new ≡ self.old }
+    {
+        let text = mem::replace(&mut self.text, Spelling::Borrowed(""));
+        self.text = text.into_canonical();
     }
 
     /// Puts the canonical spelling in the text's place; it is its own canonical spelling. Memory is
@@ -184,6 +204,7 @@ impl<'t, K: Kind> Text<'t, K> {
         ensures takes_no_memory { canonical_in K.case self.old ≡ self.old → IsOk result }
     {
         if self.is_normalized() {
+            self.set_canonical();
             return Ok(());
         }
         *self = normalized_text(alloc, self)?;
@@ -212,6 +233,9 @@ impl<'t, K: Kind> PartialEq for Text<'t, K> {
     ghost laws = { Prim.search (comparing, rules) };
 
     fn eq(&self, other: &Text<'t, K>) -> bool {
+        if self.text.is_known() && other.text.is_known() {
+            return self.as_bytes() == other.as_bytes();
+        }
         same_spelling(K::case(), self.as_bytes(), other.as_bytes())
     }
 }
@@ -226,6 +250,9 @@ impl<'t, K: Kind> Hash for Text<'t, K> {
     ghost respects_eq = { Prim.search (hashing, rules) };
 
     fn hash<H: Hasher>(&self, state: &mut H) {
+        if self.text.is_known() {
+            return feed_known(self.as_bytes(), state);
+        }
         feed_text(K::case(), self.as_bytes(), state);
     }
 }

@@ -1,7 +1,9 @@
 //! A host that a reader found: words that nothing has to be dropped of.
 ghost use Rattle.std.specs.Prelude.{◌≡◌};
 ghost use Rattle.uriparse_authority.specs.declared.authority.host.Host.TheVariants as hosts;
-ghost use Rattle.uriparse_authority.specs.Name.{IsName};
+ghost use Rattle.uriparse_text.specs.declared.parts.class.Class.TheVariants as class;
+ghost use Rattle.uriparse_text.specs.declared.parts.canonical.Case.TheVariants as case;
+ghost use Rattle.uriparse_text.specs.Spelling.{IsKept};
 
 use super::super::name::RegisteredName;
 use super::Host;
@@ -14,11 +16,16 @@ pub(in crate::authority) struct FoundHost<'h> {
     // 0 a name, 4 and 6 an address: a word, since a narrow tag would be moved with its padding.
     kind: usize,
     name: &'h [u8],
+    // 1 where the name is canonical.
+    canonical: usize,
     ipv6: Ipv6Addr,
     ipv4: Ipv4Addr,
 }
 
 impl<'h> Model for FoundHost<'h> {
+    ghost use Rattle.std.specs.Prelude.{◌≡◌, ◌==◌, true};
+    ghost use Rattle.uriparse_text.specs.declared.parts.canonical.Case.TheVariants as case;
+    ghost use Rattle.uriparse_text.specs.Canonical.{canonical_in};
     ghost use Rattle.uriparse_authority.specs.declared.authority.host.Host.{Host};
     ghost use Rattle.uriparse_authority.specs.Found.{found_host};
     ghost use Rattle.uriparse_authority.specs.Host.{Valid};
@@ -27,18 +34,19 @@ impl<'h> Model for FoundHost<'h> {
 
     ghost view = { λ f. found_host f.kind f.name.now f.ipv4 f.ipv6 };
 
-    ghost invariant = { λ f. Valid (found_host f.kind f.name.now f.ipv4 f.ipv6) };
+    ghost invariant = { λ f. Valid (found_host f.kind f.name.now f.ipv4 f.ipv6) × ((f.canonical == 1) ≡ true → canonical_in case.Lowered f.name.now ≡ f.name.now) };
 }
 
-/// The bytes are a name.
+/// The bytes are a name, and it is canonical where that is said.
 #[inline(always)]
-pub(in crate::authority) fn found_name(bytes: &[u8]) -> FoundHost<'_>
-    requires { IsName bytes.now }
+pub(in crate::authority) fn found_name(bytes: &[u8], canonical: bool) -> FoundHost<'_>
+    requires { IsKept class.Name case.Lowered canonical bytes.now }
     ensures { result ≡ hosts.RegisteredName bytes.now }
 {
     FoundHost {
         kind: 0,
         name: bytes,
+        canonical: usize::from(canonical),
         ipv6: Ipv6Addr::new(0, 0, 0, 0, 0, 0, 0, 0),
         ipv4: Ipv4Addr::new(0, 0, 0, 0),
     }
@@ -53,6 +61,7 @@ pub(in crate::authority) fn found_ipv4(address: Ipv4Addr) -> FoundHost<'static>
     FoundHost {
         kind: 4,
         name: b"",
+        canonical: 0,
         ipv6: Ipv6Addr::new(0, 0, 0, 0, 0, 0, 0, 0),
         ipv4: address,
     }
@@ -66,6 +75,7 @@ pub(super) fn found_ipv6(address: Ipv6Addr) -> FoundHost<'static>
     FoundHost {
         kind: 6,
         name: b"",
+        canonical: 0,
         ipv6: address,
         ipv4: Ipv4Addr::new(0, 0, 0, 0),
     }
@@ -78,7 +88,7 @@ impl<'h> FoundHost<'h> {
         ensures { result ≡ self.now }
     {
         if self.kind == 0 {
-            Host::RegisteredName(RegisteredName::of_checked(self.name))
+            Host::RegisteredName(RegisteredName::of_kept(self.name, self.canonical == 1))
         } else {
             self.to_any_host()
         }
@@ -90,7 +100,7 @@ impl<'h> FoundHost<'h> {
         ensures { result ≡ self.now }
     {
         if self.kind == 0 {
-            Host::RegisteredName(RegisteredName::of_checked(self.name))
+            Host::RegisteredName(RegisteredName::of_kept(self.name, self.canonical == 1))
         } else if self.kind == 4 {
             Host::IPv4Address(self.ipv4)
         } else {

@@ -8,7 +8,7 @@ ghost use Rattle.uriparse_authority.specs.Host as host;
 use super::HostError;
 use super::found::{FoundHost, found_ipv4, found_ipv6, found_name};
 use uriparse_text::address::{Ipv4Addr, Ipv6Addr};
-use uriparse_text::parts::{Class, fault_of};
+use uriparse_text::parts::{Case, Class, check_bytes};
 
 /// The text before a last closing bracket, where the text ends with one.
 fn before_closing(bytes: &[u8]) -> Option<&[u8]>
@@ -87,9 +87,9 @@ fn read_name(bytes: &[u8]) -> Result<FoundHost<'_>, HostError>
     if let Some(address) = Ipv4Addr::parse_bytes(bytes) {
         return Ok(found_ipv4(address));
     }
-    match fault_of(Class::Name, bytes) {
-        Some(_) => Err(HostError::InvalidIPv4OrRegisteredNameCharacter),
-        None => Ok(found_name(bytes)),
+    match check_bytes(Class::Name, Case::Lowered, bytes) {
+        Err(_) => Err(HostError::InvalidIPv4OrRegisteredNameCharacter),
+        Ok(canonical) => Ok(found_name(bytes, canonical)),
     }
 }
 

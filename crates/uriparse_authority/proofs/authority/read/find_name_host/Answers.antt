@@ -5,4 +5,4 @@ pub returns : goal.returns
 returns c =
     let none : c.parse_bytes.result ≡ None = search rules in
     rw c.found_name.ensures
-    (refl, c.requires, (λ a s. let some : c.parse_bytes.result ≡ Some a = c.parse_bytes.ensures.only a s in cc))
+    (refl, c.requires.inside, (λ a s. let some : c.parse_bytes.result ≡ Some a = c.parse_bytes.ensures.only a s in cc))

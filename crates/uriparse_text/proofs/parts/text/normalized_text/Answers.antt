@@ -3,6 +3,8 @@ use Rattle.uriparse_text.specs.declared.parts.class.Class.{Class}
 use Rattle.uriparse_text.specs.declared.parts.canonical.Case.{Case}
 use Rattle.uriparse_text.specs.Faults.{IsIn}
 use Rattle.uriparse_text.specs.Canonical.{canonical_in}
+use Rattle.uriparse_text.specs.Spelling.{spelled}
+use Rattle.uriparse_text.proofs.CanonicalLemmas.{canonical_in-canonical_in}
 use Rattle.uriparse_text.proofs.ClassLemmas.{IsUtf8-in_class, IsIn-canonical_in}
 use Rattle.uriparse_text.proofs.parts.text.normalized_text.Goals as goal
 
@@ -18,6 +20,13 @@ from_utf8_unchecked-requires g c =
 
 pub invariant_of-result : goal.invariant_of-result
 invariant_of-result g c =
-    subst (λ v. IsIn g.K.Kind.class v.items) (sym c.from_utf8_unchecked.ensures.value)
-    (spelled_in g.K.Kind.class c.case.result c.args.text.now c.as_bytes.result.now c.in_ok-bytes.bytes.items c.as_bytes.ensures.value
-    c.as_bytes.ensures.class c.in_ok-bytes.ensures)
+    let case = g.K.Kind.case in
+    let text = c.args.text.now in
+    let same : spelled c.owned.result ≡ c.in_ok-bytes.bytes.items =
+    c.owned.ensures.text ∙ ap (λ v. v.items) c.from_utf8_unchecked.ensures.value in
+    let is : c.in_ok-bytes.bytes.items ≡ canonical_in case text =
+    c.in_ok-bytes.ensures ∙ ap (canonical_in c.case.result) c.as_bytes.ensures.value ∙ ap (λ k. canonical_in k text) c.case.ensures in
+    record {
+      inside = subst (IsIn g.K.Kind.class) (sym (same ∙ is)) (IsIn-canonical_in g.K.Kind.class case text c.as_bytes.ensures.class);
+      canonical = λ _. subst (λ u. canonical_in case u ≡ u) (sym (same ∙ is)) (canonical_in-canonical_in case text c.as_bytes.ensures.formed);
+    }

@@ -8,8 +8,3 @@ use Rattle.uriparse_authority.proofs.authority.host.read.read_name.Goals as goal
 pub returns-in-Some : goal.returns-in-Some
 returns-in-Some c =
     ap Ok c.found_ipv4.ensures ∙ sym (ipv4_first c.args.bytes.now c.in-Some.address (sym c.in-Some.ensures.value))
-
-pub found_name-requires : goal.found_name-requires
-found_name-requires c =
-    let clean : fault class.Name c.args.bytes.now ≡ None = search rules in
-    (no_fault class.Name c.args.bytes.now).0 clean

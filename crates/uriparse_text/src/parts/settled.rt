@@ -1,0 +1,87 @@
+//! Runs of bytes that are of a class and stay as they are in a canonical spelling. Most texts are
+//! one such run, so their reading tells that they are canonical, too.
+ghost use Rattle.std.specs.Prelude.{◌≡◌, ◌≤◌, MatchResult, None, Some, not, length, map};
+ghost use Rattle.std.specs.List.{position_or_len};
+ghost use Rattle.uriparse_text.specs.Faults.{fault, IsFaultPlace};
+ghost use Rattle.uriparse_text.specs.Spelling as spec;
+
+use super::canonical::Case;
+use super::class::{Class, fault_of, fault_place};
+use super::run::MayChange;
+use super::scan::{ByteTest, Outside, first, first_by_one};
+use std::simd::prelude::*;
+
+/// The byte isn't of the class, or another one stands for it in a canonical spelling.
+#[derive(Clone, Copy, Debug)]
+struct Unsettled(Class, Case);
+
+impl ByteTest for Unsettled {
+    ghost passes = { λ s b. not (spec.is_settled s.0 s.1 b) };
+
+    #[inline(always)]
+    fn has(&self, b: u8) -> bool {
+        !self.0.has(b) || self.1.of(b) != b
+    }
+
+    #[inline(always)]
+    fn marks(&self, lanes: u8x16) -> u64 {
+        let outside = Outside(self.0).marks(lanes);
+        match self.1 {
+            Case::Kept => outside,
+            Case::Lowered => outside | MayChange(self.1).marks(lanes),
+        }
+    }
+}
+
+/// How many bytes in front are of the class and stay as they are.
+#[inline]
+pub(super) fn settled_len(class: Class, case: Case, text: &[u8]) -> usize
+    ensures place { result ≡ position_or_len (λ b. not (spec.is_settled class case b)) text.now }
+    ensures within { result ≤ length text.now }
+{
+    if text.len() < 8 {
+        first_by_one(&Unsettled(class, case), text)
+    } else {
+        settled_by_lanes(class, case, text)
+    }
+}
+
+/// The same for a text that isn't short.
+#[inline(never)]
+fn settled_by_lanes(class: Class, case: Case, text: &[u8]) -> usize
+    ensures { result ≡ position_or_len (λ b. not (spec.is_settled class case b)) text.now }
+{
+    first(&Unsettled(class, case), text)
+}
+
+/// Whether a text of the class is known to be canonical, or the byte of its leftmost fault. The
+/// text is walked once, and nothing is allocated.
+#[inline]
+pub fn check_bytes(class: Class, case: Case, text: &[u8]) -> Result<bool, u8>
+    ensures { MatchResult result (λ known. (fault class text.now ≡ None) × spec.IsKept class case known text.now) (λ byte. fault class text.now ≡ Some byte) }
+{
+    let len = settled_len(class, case, text);
+    if len == text.len() {
+        return Ok(true);
+    }
+    match fault_of(class, &text[len..]) {
+        Some(byte) => Err(byte),
+        None => Ok(false),
+    }
+}
+
+/// Where the leftmost fault stands, or the length, behind so many bytes that are settled.
+#[inline]
+pub(super) fn fault_behind(class: Class, case: Case, text: &[u8], len: usize) -> usize
+    requires place { len ≡ position_or_len (λ b. not (spec.is_settled class case b)) text.now }
+    requires within { len ≤ length text.now }
+    ensures { IsFaultPlace class text.now result }
+{
+    if len == text.len() {
+        return len;
+    }
+    if text[len] != b'%' && !class.has(text[len]) {
+        return len;
+    }
+    len + fault_place(class, &text[len..])
+}
