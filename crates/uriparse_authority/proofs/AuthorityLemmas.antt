@@ -275,7 +275,7 @@ spells_cuts a u w h n x y z v =
       is_port = port_exact.found (unwrap_or (port_text a) []) n v;
     }
 
-found : (a : List ℕ) (p : AuthorityParts) → reading a ≡ Ok p → Spells a p
+pub found : (a : List ℕ) (p : AuthorityParts) → reading a ≡ Ok p → Spells a p
 unfolding reading
 found a p k =
     let x = bind_ok (of_piece errors.Username (if_present username.reading (username_text a))) _ p k in
@@ -387,15 +387,22 @@ exact = record { again = again; found = found }
 
 -- ---- a text by itself, which may go on behind an authority
 
+-- an authority is cut off where what follows it begins with a byte that ends one
+pub cut_there : (a rest : List ℕ) (p : AuthorityParts) → Spells a p → up_to ends_authority rest ≡ [] → from_first ends_authority rest ≡ rest
+    → (up_to ends_authority (a ++ rest) ≡ a) × (from_first ends_authority (a ++ rest) ≡ rest)
+cut_there a rest p s h k =
+    let plain = spelled_lacks a p s in (
+      up_to-append ends_authority a rest plain ∙ ap (λ u. a ++ u) h ∙ append-nil a,
+      from_first-append ends_authority a rest plain ∙ k,
+    )
+
 ends_at : (a rest : List ℕ) (p : AuthorityParts) → Spells a p → up_to ends_authority rest ≡ [] → from_first ends_authority rest ≡ rest
     → whole_reading (a ++ rest) ≡ unless_rest rest p
 ends_at a rest p s h k =
-    let plain = spelled_lacks a p s in
-    let front : up_to ends_authority (a ++ rest) ≡ a = up_to-append ends_authority a rest plain ∙ ap (λ u. a ++ u) h ∙ append-nil a in
-    let left : from_first ends_authority (a ++ rest) ≡ rest = from_first-append ends_authority a rest plain ∙ k in
-    ap (λ u. reading u >>= unless_rest (from_first ends_authority (a ++ rest))) front
+    let cut = cut_there a rest p s h k in
+    ap (λ u. reading u >>= unless_rest (from_first ends_authority (a ++ rest))) cut.0
     ∙ ap (λ r. r >>= unless_rest (from_first ends_authority (a ++ rest))) (again a p s)
-    ∙ ap (λ u. unless_rest u p) left
+    ∙ ap (λ u. unless_rest u p) cut.1
 
 whole_again : (t : List ℕ) (p : AuthorityParts) → Spells t p → whole_reading t ≡ Ok p
 whole_again t p s = ap whole_reading (sym (append-nil t)) ∙ ends_at t [] p s refl refl

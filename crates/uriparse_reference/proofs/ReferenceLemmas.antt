@@ -232,18 +232,14 @@ scheme_present t = by_option (scheme_text t)
     by_option None = refl
     by_option (Some s) = refl
 
-text_present : (o : Option (Bor (List ℕ))) → is_some o ≡ is_some (option_copied o)
-text_present None = refl
-text_present (Some s) = refl
-
 abbrev pub with_tail : Option Scheme → Option AuthorityParts → Tail → Parts
 with_tail s a x = record { scheme = s; authority = a; path = x.0; query = x.1; fragment = x.2 }
 
 -- the authority of a text was read, and then the pieces of its tail: so its reader answers
-module _ (t : List ℕ) (s : Option Scheme) (o : Option (Bor (List ℕ))) (h : List ℕ) (q f : Option (List ℕ)) (a : Option AuthorityParts)
-    (scheme_is : s ≡ option_map scheme.named (scheme_text t)) (authority_is : option_copied o ≡ authority_text t) (path_is : h ≡ path_text t)
+module _ (t : List ℕ) (s : Option Scheme) (o : Option (List ℕ)) (h : List ℕ) (q f : Option (List ℕ)) (a : Option AuthorityParts)
+    (scheme_is : s ≡ option_map scheme.named (scheme_text t)) (authority_is : o ≡ authority_text t) (path_is : h ≡ path_text t)
     (query_is : q ≡ query_text t) (fragment_is : f ≡ fragment_text t)
-    (read : of_piece errors.Authority (if_present authority.reading (option_copied o)) ≡ Ok a) where
+    (read : of_piece errors.Authority (if_present authority.reading o) ≡ Ok a) where
   tail_made : Result Tail URIReferenceError
   tail_made = tail_reading (is_some s) (is_some o) h q f
 
@@ -251,9 +247,9 @@ module _ (t : List ℕ) (s : Option Scheme) (o : Option (Bor (List ℕ))) (h : L
   unfolding reading tail_made
   by_tail =
       let has_scheme : is_some s ≡ is_some (scheme_text t) = ap is_some scheme_is ∙ scheme_present t in
-      let has_authority : is_some o ≡ is_some (authority_text t) = text_present o ∙ ap is_some authority_is in
+      let has_authority : is_some o ≡ is_some (authority_text t) = ap is_some authority_is in
       rw (has_scheme, has_authority, scheme_is, path_is, query_is, fragment_is, sym authority_is, read) (by_results
-      (path_reading (is_some (scheme_text t)) (is_some (option_copied o)) (path_text t)) (of_piece errors.Query (if_present query.reading (query_text t)))
+      (path_reading (is_some (scheme_text t)) (is_some o) (path_text t)) (of_piece errors.Query (if_present query.reading (query_text t)))
       (of_piece errors.Fragment (if_present fragment.reading (fragment_text t))))
     where
       s' : Option Scheme
@@ -276,11 +272,11 @@ module _ (t : List ℕ) (s : Option Scheme) (o : Option (Bor (List ℕ))) (h : L
       by_tail ∙ ap (λ r. r >>= λ x. Ok (with_tail s a x)) (along ∙ made)
 
 -- an authority was read where the text has one
-pub read_present : (o : Option (Bor (List ℕ))) (a : Option AuthorityParts) → of_piece errors.Authority (if_present authority.reading (option_copied o)) ≡ Ok a
+pub read_present : (o : Option (List ℕ)) (a : Option AuthorityParts) → of_piece errors.Authority (if_present authority.reading o) ≡ Ok a
     → is_some a ≡ is_some o
 read_present None None h = refl
 read_present None (Some p) h = cc
-read_present (Some t) a h = by_reading (authority.reading t.now) a h
+read_present (Some t) a h = by_reading (authority.reading t) a h
   where
     by_reading : (r : Result AuthorityParts AuthorityError) (a : Option AuthorityParts) → of_piece errors.Authority (some_of r) ≡ Ok a → is_some a ≡ true
     by_reading (Ok p) (Some q) k = refl

@@ -1,5 +1,5 @@
 //! How an authority is cut and its pieces are read: RFC 3986, sections 3.2 to 3.2.3.
-ghost use Rattle.std.specs.Prelude.{◌≡◌, Ok, position};
+ghost use Rattle.std.specs.Prelude.{◌≡◌, MatchResult, Err, Ok, IsTrue, [], position, true};
 ghost use Rattle.std.specs.Option.{option_copied};
 ghost use Rattle.uriparse_text.specs.declared.parts.class.Class.TheVariants as class;
 ghost use Rattle.uriparse_text.specs.declared.parts.canonical.Case.TheVariants as case;
@@ -16,8 +16,8 @@ use super::username::UsernameKind;
 use super::{Authority, AuthorityError, Host, HostError, PortError, parse_port};
 use uriparse_text::address::Ipv4Addr;
 use uriparse_text::parts::{
-    Case, Class, Found, IsAny, check_bytes, find_text_before, find_text_if, first, no_text,
-    split_at_mark, without_mark,
+    Case, Class, Found, IsAny, find_text_before, find_text_if, first, no_text, split_at_mark,
+    split_settled, without_mark,
 };
 
 /// The user information, if there is an `@` behind it, and what stands behind the `@`; or none, and
@@ -89,19 +89,7 @@ fn find_host_alone(bytes: &[u8], canonical: bool) -> FoundAuthority<'_>
     found_authority(no_text(), no_text(), find_name_host(bytes, canonical), None)
 }
 
-/// Finds an authority, whose pieces borrow the bytes. It takes no memory. One that is of the class
-/// of names, as most are, is walked once.
-#[inline(always)]
-pub fn find_authority(bytes: &[u8]) -> Result<FoundAuthority<'_>, AuthorityError>
-    ensures { result ≡ authority.reading bytes.now }
-{
-    match check_bytes(Class::Name, Case::Lowered, bytes) {
-        Ok(canonical) => Ok(find_host_alone(bytes, canonical)),
-        Err(_) => find_any_authority(bytes),
-    }
-}
-
-/// The same for an authority of any form, by the cuts of its text.
+/// Finds the authority that a text is, of any form, by the cuts of its text.
 #[inline(never)]
 #[tactic(auto, unfolding(crate::specs::Authority::reading))]
 fn find_any_authority(bytes: &[u8]) -> Result<FoundAuthority<'_>, AuthorityError>
@@ -113,16 +101,6 @@ fn find_any_authority(bytes: &[u8]) -> Result<FoundAuthority<'_>, AuthorityError
     let host = find_host(host)?;
     let port = parse_port(port.unwrap_or(b""))?;
     Ok(found_authority(username, password, host, port))
-}
-
-/// Reads an authority, whose parts borrow the bytes. It takes no memory.
-fn read_authority(bytes: &[u8]) -> Result<Authority<'_>, AuthorityError>
-    ensures { result ≡ authority.reading bytes.now }
-{
-    match find_authority(bytes) {
-        Ok(found) => Ok(found.to_authority()),
-        Err(error) => Err(error),
-    }
 }
 
 fn ends_authority(b: u8) -> bool
@@ -143,11 +121,40 @@ fn end_of_authority(text: &[u8]) -> Option<usize>
 }
 
 /// The authority that the text begins with, up to a `/`, `?` or `#`, and what follows it.
-pub fn split_rest(text: &[u8]) -> (&[u8], &[u8])
+fn split_rest(text: &[u8]) -> (&[u8], &[u8])
     ensures front { result.0.now ≡ up_to authority.ends_authority text.now }
     ensures rest { result.1.now ≡ from_first authority.ends_authority text.now }
 {
     text.split_at(end_of_authority(text).unwrap_or(text.len()))
+}
+
+/// Whether an authority ends where this rest of a text begins.
+#[inline(always)]
+fn ends_before(rest: &[u8]) -> bool
+    ensures { IsTrue result → (up_to authority.ends_authority rest.now ≡ []) × (from_first authority.ends_authority rest.now ≡ rest.now) }
+{
+    match rest {
+        [b, ..] => ends_authority(*b),
+        [] => true,
+    }
+}
+
+/// Finds the authority that the text begins with, up to a `/`, `?` or `#`, and what follows it.
+/// Both borrow the text, and nothing is allocated. A canonical name, as most authorities are, is
+/// walked once.
+#[inline(always)]
+pub fn find_authority(text: &[u8]) -> Result<(FoundAuthority<'_>, &[u8]), AuthorityError>
+    ensures { MatchResult result (λ r. (authority.reading (up_to authority.ends_authority text.now) ≡ Ok r.0) × (r.1.now ≡ from_first authority.ends_authority text.now)) (λ e. authority.reading (up_to authority.ends_authority text.now) ≡ Err e) }
+{
+    let (name, rest) = split_settled(Class::Name, Case::Lowered, text);
+    if ends_before(rest) {
+        return Ok((find_host_alone(name, true), rest));
+    }
+    let (front, rest) = split_rest(text);
+    match find_any_authority(front) {
+        Ok(found) => Ok((found, rest)),
+        Err(error) => Err(error),
+    }
 }
 
 /// The error of a text that goes on behind an authority.
@@ -167,8 +174,8 @@ fn rest_error(read: &Authority<'_>) -> AuthorityError
 pub(super) fn read_whole(bytes: &[u8]) -> Result<Authority<'_>, AuthorityError>
     ensures { result ≡ authority.whole_reading bytes.now }
 {
-    let (front, rest) = split_rest(bytes);
-    let read = read_authority(front)?;
+    let (found, rest) = find_authority(bytes)?;
+    let read = found.to_authority();
     if rest.is_empty() {
         Ok(read)
     } else {

@@ -18,7 +18,7 @@ ghost use Rattle.uriparse_reference.specs.Reference.{is_noscheme, path_of, path_
 use super::URIReference;
 use super::error::URIReferenceError;
 use std::alloc::Global;
-use uriparse_authority::parts::{FoundAuthority, find_authority, split_rest};
+use uriparse_authority::parts::{FoundAuthority, find_authority};
 use uriparse_path::parts::{counted_path, into_absolute, split_path};
 use uriparse_path::path::{Path, PathError};
 use uriparse_scheme::parts::{is_scheme, scheme_of};
@@ -122,40 +122,18 @@ fn behind_two_slashes(text: &[u8]) -> Option<&[u8]>
     }
 }
 
-/// The authority that the text begins with behind two slashes, and what follows it; or none, and
-/// the text.
-fn split_authority(text: &[u8]) -> (Option<&[u8]>, &[u8])
-    ensures authority { option_copied result.0 ≡ cut_authority text.now }
-    ensures rest { result.1.now ≡ without_authority text.now }
+/// Finds the authority that the text begins with after two slashes, and what follows it; or none,
+/// and the text.
+#[inline(always)]
+fn find_front(text: &[u8]) -> Result<(Option<FoundAuthority<'_>>, &[u8]), URIReferenceError>
+    ensures { MatchResult result (λ r. (of_piece errors.Authority (if_present authority.reading (cut_authority text.now)) ≡ Ok r.0) × (r.1.now ≡ without_authority text.now)) (λ e. of_piece errors.Authority (if_present authority.reading (cut_authority text.now)) ≡ Err e) }
 {
-    let Some(behind) = behind_two_slashes(text) else {
-        return (None, text);
-    };
-    let (authority, rest) = split_rest(behind);
-    (Some(authority), rest)
-}
-
-/// What a text begins with: the text of a scheme, which is empty where there is none, and that of an
-/// authority, if one is there; and what follows them.
-#[derive(Clone, Copy)]
-struct Front<'t> {
-    scheme: &'t [u8],
-    authority: Option<&'t [u8]>,
-    rest: &'t [u8],
-}
-
-/// Cuts off the front of a reference's text.
-fn cut(text: &[u8]) -> Front<'_>
-    ensures scheme { if_some result.scheme.now ≡ scheme_text text.now }
-    ensures authority { option_copied result.authority ≡ authority_text text.now }
-    ensures rest { result.rest.now ≡ after_authority text.now }
-{
-    let (scheme, rest) = split_scheme(text);
-    let (authority, rest) = split_authority(rest);
-    Front {
-        scheme,
-        authority,
-        rest,
+    match behind_two_slashes(text) {
+        Some(behind) => match find_authority(behind) {
+            Ok((found, rest)) => Ok((Some(found), rest)),
+            Err(error) => Err(URIReferenceError::Authority(error)),
+        },
+        None => Ok((None, text)),
     }
 }
 
@@ -176,16 +154,6 @@ fn check_path(has_scheme: bool, has_authority: bool, path: &[u8]) -> Result<(), 
         [b'/', b'/', ..] => Err(URIReferenceError::AbsolutePathStartsWithTwoSlashes),
         _ if has_scheme || lacks_colon_segment(path) => Ok(()),
         _ => Err(URIReferenceError::SchemelessPathStartsWithColonSegment),
-    }
-}
-
-/// Finds the authority, if there is one.
-fn find_authority_if(text: Option<&[u8]>) -> Result<Option<FoundAuthority<'_>>, URIReferenceError>
-    ensures { result ≡ of_piece errors.Authority (if_present authority.reading (option_copied text.entry)) }
-{
-    match text {
-        Some(text) => Ok(Some(find_authority(text)?)),
-        None => Ok(None),
     }
 }
 
@@ -256,15 +224,11 @@ struct Pieces<'t> {
 fn find_pieces(text: &[u8]) -> Result<Pieces<'_>, URIReferenceError>
     ensures { MatchResult result (λ p. (if_some p.scheme.now ≡ scheme_text text.now) × IsPath p.tail.path.now × (reading text.now ≡ Ok (parts_of text.now p.authority p.tail.path.now p.tail.query p.tail.fragment))) (λ e. reading text.now ≡ Err e) }
 {
-    let front = cut(text);
-    let authority = find_authority_if(front.authority)?;
-    let tail = find_tail(
-        is_there(front.scheme),
-        front.authority.is_some(),
-        front.rest,
-    )?;
+    let (scheme, rest) = split_scheme(text);
+    let (authority, rest) = find_front(rest)?;
+    let tail = find_tail(is_there(scheme), authority.is_some(), rest)?;
     Ok(Pieces {
-        scheme: front.scheme,
+        scheme,
         authority,
         tail,
     })

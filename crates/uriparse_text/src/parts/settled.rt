@@ -1,6 +1,6 @@
 //! Runs of bytes that are of a class and stay as they are in a canonical spelling. Most texts are
 //! one such run, so their reading tells that they are canonical, too.
-ghost use Rattle.std.specs.Prelude.{◌≡◌, ◌≤◌, MatchResult, None, Some, not, length, map};
+ghost use Rattle.std.specs.Prelude.{◌≡◌, ◌≤◌, ◌++◌, MatchResult, None, Some, not, length, map, true};
 ghost use Rattle.std.specs.List.{position_or_len};
 ghost use Rattle.uriparse_text.specs.Faults.{fault, IsFaultPlace};
 ghost use Rattle.uriparse_text.specs.Spelling as spec;
@@ -52,6 +52,15 @@ fn settled_by_lanes(class: Class, case: Case, text: &[u8]) -> usize
     ensures { result ≡ position_or_len (λ b. not (spec.is_settled class case b)) text.now }
 {
     first(&Unsettled(class, case), text)
+}
+
+/// The bytes in front that are of the class and stay as they are, and what follows them.
+#[inline]
+pub fn split_settled(class: Class, case: Case, bytes: &[u8]) -> (&[u8], &[u8])
+    ensures whole { result.0.now ++ result.1.now ≡ bytes.now }
+    ensures front { spec.IsKept class case true result.0.now }
+{
+    bytes.split_at(settled_len(class, case, bytes))
 }
 
 /// Whether a text of the class is known to be canonical, or the byte of its leftmost fault. The

@@ -3,29 +3,35 @@ use Rattle.std.specs.Prelude.{Result, ℕ, is_some}
 use Rattle.std.specs.Option.{option_map}
 use Rattle.uriparse_text.specs.Bytes.{question_mark, number_sign}
 use Rattle.uriparse_text.specs.Cuts.{before, after, up_to}
-use Rattle.uriparse_text.specs.Readings.{◌>>=◌}
+use Rattle.uriparse_text.specs.Readings.{◌>>=◌, of_piece, if_present}
+use Rattle.uriparse_authority.specs.Authority as authority
 use Rattle.uriparse_path.specs.Faults.{ends_path}
 use Rattle.uriparse_scheme.specs.Scheme.{named}
 use Rattle.uriparse_reference.specs.declared.uri_reference.error.URIReferenceError.{URIReferenceError}
-use Rattle.uriparse_reference.specs.Cuts.{scheme_text}
+use Rattle.uriparse_reference.specs.declared.uri_reference.error.URIReferenceError.TheVariants as errors
+use Rattle.uriparse_reference.specs.Cuts.{scheme_text, authority_text, cut_authority, without_authority, after_authority}
 use Rattle.uriparse_reference.specs.Reading.{reading, text_tail}
 use Rattle.uriparse_reference.proofs.ReferenceLemmas.{in_place, read_present, tail_answer, with_tail}
 use Rattle.uriparse_reference.proofs.TailLemmas.{Tail}
 use Rattle.uriparse_reference.proofs.uri_reference.read.find_pieces.Goals.{After-find_tail}
 use Rattle.uriparse_reference.proofs.uri_reference.read.find_pieces.Goals as goal
 
-told : (c : After-find_tail) (r : Result Tail URIReferenceError) → text_tail c.is_there.result c.is_some.result c.cut-front.result.rest.now ≡ r
-    → reading c.args.text.now ≡ (r >>= λ x. Ok (with_tail (option_map named (scheme_text c.args.text.now)) c.in_ok-authority.authority x))
+told : (c : After-find_tail) (r : Result Tail URIReferenceError) → text_tail c.is_there.result c.is_some.result c.in_ok-find_front.rest.now ≡ r
+    → reading c.args.text.now ≡ (r >>= λ x. Ok (with_tail (option_map named (scheme_text c.args.text.now)) c.in_ok-find_front.authority x))
 told c r made =
-    let cut = c.cut-front.ensures in
-    let front = c.cut-front.result in
     let t = c.args.text.now in
-    let u = front.rest.now in
-    tail_answer t (option_map named (scheme_text t)) front.authority (up_to ends_path u) (after question_mark (before number_sign u))
-    (after number_sign u) c.in_ok-authority.authority refl cut.authority
-    (ap (up_to ends_path) cut.rest) (ap (λ u. after question_mark (before number_sign u)) cut.rest)
-    (ap (after number_sign) cut.rest) (sym c.find_authority_if.ensures ∙ c.in_ok-authority.was)
-    c.is_there.result c.is_some.result (c.is_there.ensures ∙ ap is_some cut.scheme) c.is_some.ensures r made
+    let cut = c.split_scheme.ensures in
+    let found = c.in_ok-find_front.ensures in
+    let a = c.in_ok-find_front.authority in
+    let u = c.in_ok-find_front.rest.now in
+    let is_rest : u ≡ after_authority t = found.1 ∙ ap without_authority cut.rest in
+    let read : of_piece errors.Authority (if_present authority.reading (authority_text t)) ≡ Ok a =
+    ap (λ v. of_piece errors.Authority (if_present authority.reading (cut_authority v))) (sym cut.rest) ∙ found.0 in
+    tail_answer t (option_map named (scheme_text t)) (authority_text t) (up_to ends_path u) (after question_mark (before number_sign u))
+    (after number_sign u) a refl refl
+    (ap (up_to ends_path) is_rest) (ap (λ u. after question_mark (before number_sign u)) is_rest)
+    (ap (after number_sign) is_rest) read
+    c.is_there.result c.is_some.result (c.is_there.ensures ∙ ap is_some cut.scheme) (c.is_some.ensures ∙ read_present (authority_text t) a read) r made
 
 pub returns-in_err-tail : goal.returns-in_err-tail
 returns-in_err-tail c =
@@ -36,10 +42,10 @@ returns-in_err-tail c =
 pub returns : goal.returns
 returns c =
     let is = c.in_ok-tail.ensures in (
-      c.cut-front.ensures.scheme,
+      c.split_scheme.ensures.scheme,
       is.0,
       told (goal.at.returns c).After-find_tail _ is.1
-          ∙ ap Ok (in_place (option_map named (scheme_text c.args.text.now)) c.in_ok-authority.authority c.is_some.result
-          (c.is_some.ensures ∙ sym (read_present c.cut-front.result.authority c.in_ok-authority.authority (sym c.find_authority_if.ensures ∙ c.in_ok-authority.was)))
+          ∙ ap Ok (in_place (option_map named (scheme_text c.args.text.now)) c.in_ok-find_front.authority c.is_some.result
+          c.is_some.ensures
           c.in_ok-tail.tail.path.now c.in_ok-tail.tail.query c.in_ok-tail.tail.fragment),
     )
