@@ -24,7 +24,7 @@ pub use copy::{borrowed_text, canonical_copy, is_canonical_part, owned_text, put
 pub use cut::{split_at_mark, without_mark};
 pub use found::{Found, find_text_before, find_text_if, no_text};
 pub use print::write_short;
-pub use settled::check_bytes;
 pub use scan::{ByteTest, Is, IsAny, Outside, first, next_marks, next_marks_by_two};
+pub use settled::check_bytes;
 pub use text::{Kind, Text, checked_text, kept_text, len_of, normalized_text};
 pub use token::{Token, is_escape, split_token};
