@@ -1,27 +1,26 @@
 -- Bytes of a class that stay as they are in a canonical spelling.
-use Rattle.std.proofs.Common.{◌≡◌, ℕ, zero, suc, ◌+◌, ◌-◌, ◌<◌, ◌≤◌, cond, Bool, true, false, ◌&&◌, ◌||◌, List, [], ◌∷◌, length, map, max, bit_or, take, take_all, drop, get_or, None, Some}
-use Rattle.std.proofs.Common.{refl, sym, ap, subst, ◌∙◌, arith, inl, inr}
+use Rattle.std.proofs.Common.{◌≡◌, ℕ, zero, suc, ◌+◌, ◌-◌, ◌<◌, ◌≤◌, cond, Bool, true, false, ◌&&◌, ◌||◌, List, [], ◌∷◌, length, map, max, bit_or, take, take_all, drop, get_or}
+use Rattle.std.proofs.Common.{refl, sym, ap, subst, ◌∙◌, arith}
 use Rattle.std.specs.Prelude.{not, ◌==◌}
 use Rattle.std.specs.List.{list_all, position_or_len}
 use Rattle.std.proofs.Math.Numerals.{one-add}
-use Rattle.std.specs.Int.{bit_at}
 use Rattle.std.specs.Simd.Lanes.{mask_l}
 use Rattle.std.proofs.lemmas.Nat.Bits.{bit_at_or, same_from_bits}
 use Rattle.std.proofs.lemmas.Simd.{bit_mask_l}
-use Rattle.std.proofs.lemmas.Bool.{and_from, and_parts, cases_lt, eqb-true, false≢true}
-use Rattle.std.proofs.lemmas.List.{drop-drop, length-drop, drop_more}
+use Rattle.std.proofs.lemmas.Bool.{and_from, and_parts, eqb-true, false≢true}
+use Rattle.std.proofs.lemmas.List.{drop-drop, length-drop}
 use Rattle.std.proofs.lemmas.List.Sums.{fails_before_first}
 use Rattle.uriparse_text.specs.declared.parts.class.Class.{Class}
 use Rattle.uriparse_text.specs.declared.parts.canonical.Case.{Case}
 use Rattle.uriparse_text.specs.Bytes.{percent}
 use Rattle.uriparse_text.specs.Classes.{is_plain}
-use Rattle.uriparse_text.specs.Faults.{fault, begins_fine, AllFine, IsIn, IsFaultPlace}
+use Rattle.uriparse_text.specs.Faults.{begins_fine, AllFine, IsIn, IsFaultPlace}
 use Rattle.uriparse_text.specs.Canonical.{canonical_in, in_case, may_change}
 use Rattle.uriparse_text.specs.Spelling.{IsKept, is_settled}
 use Rattle.uriparse_text.proofs.ClassLemmas.{is_token-allows}
 use Rattle.uriparse_text.proofs.CanonicalLemmas.{canonical_in-nil}
 use Rattle.uriparse_text.proofs.CutLemmas.{weaker}
-use Rattle.uriparse_text.proofs.FaultLemmas.{fault-plain, IsIn-plain, no_fault}
+use Rattle.uriparse_text.proofs.FaultLemmas.{IsIn-plain}
 use Rattle.uriparse_text.proofs.FineLemmas.{all_fine_then, is_fine_plain, not_fine_at}
 use Rattle.uriparse_text.proofs.RunLemmas.{canonical_in-stays, no_escape}
 use Rattle.uriparse_text.specs.declared.parts.token.Token.TheVariants.{Byte}
@@ -106,15 +105,6 @@ module _ (class : Class) (case : Case) where
       by_first true e h = rw one-add (and_from _ _ e h)
       by_first false e h = refl
 
-  pub fault-settled : (t : List ℕ) → fault class (drop (position_or_len unsettled t) t) ≡ fault class t
-  fault-settled [] = refl
-  fault-settled (b ∷ t) = by_first (is_settled class case b) refl (fault-settled t)
-    where
-      by_first : (v : Bool) → is_settled class case b ≡ v → fault class (drop (position_or_len unsettled t) t) ≡ fault class t
-          → fault class (drop (cond (not (not v)) (1 + position_or_len unsettled t) 0) (b ∷ t)) ≡ fault class (b ∷ t)
-      by_first true e h = rw one-add (h ∙ sym (fault-plain class b t (settled_plain b e)))
-      by_first false e h = refl
-
   module _ (t : List ℕ) (n : ℕ) (at : n ≡ position_or_len unsettled t) where
     -- all of the text is settled
     pub all_settled : n ≡ length t → (known : Bool) → IsKept class case known t
@@ -125,26 +115,11 @@ module _ (class : Class) (case : Case) where
     settled_take known =
         settled_kept (take n t) (subst (λ i. list_all (is_settled class case) (take i t) ≡ true) (sym at) (settled_front t)) known
 
-    pub fault_rest : fault class (drop n t) ≡ fault class t
-    fault_rest = ap (λ i. fault class (drop i t)) at ∙ fault-settled t
-
     pub settled_fine : n ≤ length t → AllFine class t 0 n
     settled_fine within k low high =
         let passes : is_settled class case (get_or t k 0) ≡ true =
         not_false (is_settled class case (get_or t k 0)) (fails_before_first unsettled t k 0 (subst (λ i. k < i) at high)) in
         is_fine_plain class t k (omega arith) (settled_plain (get_or t k 0) passes)
-
-    -- the leftmost fault of the rest
-    pub fault_place_behind : n ≤ length t → (place : ℕ) → IsFaultPlace class (drop n t) place → IsFaultPlace class t (n + place)
-    fault_place_behind within place is =
-        let inside = is.within in
-        record {
-          within = omega (arith, length-drop n t);
-          fine = all_fine_then class t n (n + place) (settled_fine within) (λ k low high.
-              let same : drop (k - n) (drop n t) ≡ drop k t = drop-drop (k - n) n t ∙ ap (λ i. drop i t) (let e : n + (k - n) ≡ k = omega arith in e) in
-              subst (λ u. begins_fine class u ≡ true) same (is.fine (k - n) (omega arith) (omega arith)));
-          faulty = λ more. subst (λ u. begins_fine class u ≡ false) (drop-drop place n t) (is.faulty (omega (arith, length-drop n t)));
-        }
 
     pub fault_place_end : n ≡ length t → IsFaultPlace class t n
     fault_place_end end = record { within = omega arith; fine = settled_fine (omega arith); faulty = λ more. absurd (omega arith) }
@@ -154,6 +129,20 @@ module _ (class : Class) (case : Case) where
       within = omega arith;
       fine = settled_fine (omega arith);
       faulty = λ more. not_fine_at class t n within outside (no_escape (get_or t n 0) (drop (n + 1) t) no_sign);
+    }
+
+-- ---- the leftmost fault of the rest after fine bytes
+
+pub fault_place_after : (class : Class) (t : List ℕ) (n place : ℕ) → n ≤ length t → AllFine class t 0 n → IsFaultPlace class (drop n t) place
+    → IsFaultPlace class t (n + place)
+fault_place_after class t n place within fine is =
+    let inside = is.within in
+    record {
+      within = omega (arith, length-drop n t);
+      fine = all_fine_then class t n (n + place) fine (λ k low high.
+          let same : drop (k - n) (drop n t) ≡ drop k t = drop-drop (k - n) n t ∙ ap (λ i. drop i t) (let e : n + (k - n) ≡ k = omega arith in e) in
+          subst (λ u. begins_fine class u ≡ true) same (is.fine (k - n) (omega arith) (omega arith)));
+      faulty = λ more. subst (λ u. begins_fine class u ≡ false) (drop-drop place n t) (is.faulty (omega (arith, length-drop n t)));
     }
 
 -- ---- what is known of a text whose settled bytes were counted, by a class and a case as calls answer them

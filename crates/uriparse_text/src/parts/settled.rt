@@ -2,11 +2,11 @@
 //! one such run, so their reading tells that they are canonical, too.
 ghost use Rattle.std.specs.Prelude.{◌≡◌, ◌≤◌, ◌++◌, MatchResult, None, Some, not, length, map, true};
 ghost use Rattle.std.specs.List.{position_or_len};
-ghost use Rattle.uriparse_text.specs.Faults.{fault, IsFaultPlace};
+ghost use Rattle.uriparse_text.specs.Faults.{fault, AllFine, IsFaultPlace};
 ghost use Rattle.uriparse_text.specs.Spelling as spec;
 
 use super::canonical::Case;
-use super::class::{Class, fault_of, fault_place};
+use super::class::{Class, fault_place};
 use super::run::MayChange;
 use super::scan::{ByteTest, Outside, first, first_by_one};
 use std::simd::prelude::*;
@@ -46,7 +46,7 @@ pub(super) fn settled_len(class: Class, case: Case, text: &[u8]) -> usize
     }
 }
 
-/// The same for a text that isn't short.
+/// The same by sixteen bytes at a time.
 #[inline(never)]
 fn settled_by_lanes(class: Class, case: Case, text: &[u8]) -> usize
     ensures { result ≡ position_or_len (λ b. not (spec.is_settled class case b)) text.now }
@@ -63,24 +63,8 @@ pub fn split_settled(class: Class, case: Case, bytes: &[u8]) -> (&[u8], &[u8])
     bytes.split_at(settled_len(class, case, bytes))
 }
 
-/// Whether a text of the class is known to be canonical, or the byte of its leftmost fault. The
-/// text is walked once, and nothing is allocated.
-#[inline]
-pub fn check_bytes(class: Class, case: Case, text: &[u8]) -> Result<bool, u8>
-    ensures { MatchResult result (λ known. (fault class text.now ≡ None) × spec.IsKept class case known text.now) (λ byte. fault class text.now ≡ Some byte) }
-{
-    let len = settled_len(class, case, text);
-    if len == text.len() {
-        return Ok(true);
-    }
-    match fault_of(class, &text[len..]) {
-        Some(byte) => Err(byte),
-        None => Ok(false),
-    }
-}
-
-/// Where the leftmost fault stands, or the length, behind so many bytes that are settled.
-#[inline]
+/// Where the leftmost fault stands, or the length, if the first `len` bytes are settled.
+#[inline(always)]
 pub(super) fn fault_behind(class: Class, case: Case, text: &[u8], len: usize) -> usize
     requires place { len ≡ position_or_len (λ b. not (spec.is_settled class case b)) text.now }
     requires within { len ≤ length text.now }
@@ -92,5 +76,33 @@ pub(super) fn fault_behind(class: Class, case: Case, text: &[u8], len: usize) ->
     if text[len] != b'%' && !class.has(text[len]) {
         return len;
     }
+    fault_after(class, text, len)
+}
+
+/// The same if an escape or a letter of the other case follows the first `len` bytes, which are
+/// fine. It is a call of its own, since few texts need it.
+#[inline(never)]
+fn fault_after(class: Class, text: &[u8], len: usize) -> usize
+    requires fine { AllFine class text.now 0 len }
+    requires within { len ≤ length text.now }
+    ensures { IsFaultPlace class text.now result }
+{
     len + fault_place(class, &text[len..])
+}
+
+/// Whether a text is known to be canonical, or the byte of its leftmost fault. Walks the text once,
+/// and doesn't allocate.
+#[inline(always)]
+pub fn check_bytes(class: Class, case: Case, text: &[u8]) -> Result<bool, u8>
+    ensures { MatchResult result (λ known. (fault class text.now ≡ None) × spec.IsKept class case known text.now) (λ byte. fault class text.now ≡ Some byte) }
+{
+    let len = settled_len(class, case, text);
+    if len == text.len() {
+        return Ok(true);
+    }
+    let place = fault_behind(class, case, text, len);
+    if place < text.len() {
+        return Err(text[place]);
+    }
+    Ok(false)
 }

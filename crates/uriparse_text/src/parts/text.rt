@@ -180,6 +180,7 @@ impl<'t, K: Kind> Text<'t, K> {
     }
 
     /// Whether the text is its own canonical spelling. Takes no memory.
+    #[inline]
     pub fn is_normalized(&self) -> bool
         ensures { IsTrue result ↔ (canonical_in K.case self.now ≡ self.now) }
     {

@@ -1,9 +1,8 @@
-use Rattle.std.proofs.Common.{◌≡◌, ◌∙◌, sym, ap, drop, Some, None, true, rules}
+use Rattle.std.proofs.Common.{sym, true, arith}
 use Rattle.std.proofs.lemmas.Bool.{false≢true}
-use Rattle.std.proofs.lemmas.List.{take_rest}
-use Rattle.uriparse_text.specs.Faults.{fault}
 use Rattle.uriparse_text.proofs.FaultLemmas.{no_fault}
-use Rattle.uriparse_text.proofs.SettledLemmas.{all_settled, fault_rest}
+use Rattle.uriparse_text.proofs.FineLemmas.{fault_found, fault_absent}
+use Rattle.uriparse_text.proofs.SettledLemmas.{all_settled}
 use Rattle.uriparse_text.proofs.parts.settled.check_bytes.Goals as goal
 
 pub returns-then-len-text : goal.returns-then-len-text
@@ -11,15 +10,10 @@ returns-then-len-text c =
     let kept = all_settled c.args.class c.args.case c.args.text.now c.settled_len-len.result c.settled_len-len.ensures.place c.if-len-text.true in
     ((no_fault c.args.class c.args.text.now).1 (kept true).inside, kept true)
 
-pub returns-in-Some : goal.returns-in-Some
-returns-in-Some c =
-    let rest : fault c.args.class (drop c.settled_len-len.result c.args.text.now) ≡ Some c.in-Some.byte =
-    ap (fault c.args.class) (sym (take_rest c.args.text.now c.settled_len-len.result)) ∙ (search rules) in
-    sym (fault_rest c.args.class c.args.case c.args.text.now c.settled_len-len.result c.settled_len-len.ensures.place) ∙ rest
+pub returns-then-place-text : goal.returns-then-place-text
+returns-then-place-text c = sym (fault_found c.args.class c.args.text.now c.fault_behind-place.result c.fault_behind-place.ensures c.if-place-text.true)
 
-pub returns-in-None : goal.returns-in-None
-returns-in-None c =
-    let rest : fault c.args.class (drop c.settled_len-len.result c.args.text.now) ≡ None =
-    ap (fault c.args.class) (sym (take_rest c.args.text.now c.settled_len-len.result)) ∙ (search rules) in
-    let none = sym (fault_rest c.args.class c.args.case c.args.text.now c.settled_len-len.result c.settled_len-len.ensures.place) ∙ rest in
+pub returns : goal.returns
+returns c =
+    let none = sym (fault_absent c.args.class c.args.text.now c.fault_behind-place.result c.fault_behind-place.ensures (omega arith)) in
     (none, record { inside = (no_fault c.args.class c.args.text.now).0 none; canonical = λ h. absurd (false≢true h) })
