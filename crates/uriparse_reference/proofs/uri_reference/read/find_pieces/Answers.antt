@@ -16,14 +16,14 @@ use Rattle.uriparse_reference.proofs.TailLemmas.{Tail}
 use Rattle.uriparse_reference.proofs.uri_reference.read.find_pieces.Goals.{After-find_tail}
 use Rattle.uriparse_reference.proofs.uri_reference.read.find_pieces.Goals as goal
 
-told : (c : After-find_tail) (r : Result Tail URIReferenceError) → text_tail c.is_there.result c.is_some.result c.in_ok-find_front.rest.now ≡ r
-    → reading c.args.text.now ≡ (r >>= λ x. Ok (with_tail (option_map named (scheme_text c.args.text.now)) c.in_ok-find_front.authority x))
+told : (c : After-find_tail) (r : Result Tail URIReferenceError) → text_tail c.is_there.result c.is_some.result c.in_ok-authority.rest.now ≡ r
+    → reading c.args.text.now ≡ (r >>= λ x. Ok (with_tail (option_map named (scheme_text c.args.text.now)) c.in_ok-authority.authority x))
 told c r made =
     let t = c.args.text.now in
     let cut = c.split_scheme.ensures in
-    let found = c.in_ok-find_front.ensures in
-    let a = c.in_ok-find_front.authority in
-    let u = c.in_ok-find_front.rest.now in
+    let found = c.in_ok-authority.ensures in
+    let a = c.in_ok-authority.authority in
+    let u = c.in_ok-authority.rest.now in
     let is_rest : u ≡ after_authority t = found.1 ∙ ap without_authority cut.rest in
     let read : of_piece errors.Authority (if_present authority.reading (authority_text t)) ≡ Ok a =
     ap (λ v. of_piece errors.Authority (if_present authority.reading (cut_authority v))) (sym cut.rest) ∙ found.0 in
@@ -45,7 +45,7 @@ returns c =
       c.split_scheme.ensures.scheme,
       is.0,
       told (goal.at.returns c).After-find_tail _ is.1
-          ∙ ap Ok (in_place (option_map named (scheme_text c.args.text.now)) c.in_ok-find_front.authority c.is_some.result
+          ∙ ap Ok (in_place (option_map named (scheme_text c.args.text.now)) c.in_ok-authority.authority c.is_some.result
           c.is_some.ensures
           c.in_ok-tail.tail.path.now c.in_ok-tail.tail.query c.in_ok-tail.tail.fragment),
     )
