@@ -16,7 +16,8 @@ use super::username::UsernameKind;
 use super::{Authority, AuthorityError, Host, HostError, PortError, parse_port};
 use uriparse_text::address::Ipv4Addr;
 use uriparse_text::parts::{
-    Case, Class, Found, IsAny, check_bytes, find_text_before, find_text_if, first, no_text, split_at_mark, without_mark,
+    Case, Class, Found, IsAny, check_bytes, find_text_before, find_text_if, first, no_text,
+    split_at_mark, without_mark,
 };
 
 /// The user information, if there is an `@` behind it, and what stands behind the `@`; or none, and

@@ -5,8 +5,8 @@ ghost use Rattle.uriparse_text.specs.declared.parts.class.Class.TheVariants as c
 ghost use Rattle.uriparse_text.specs.declared.parts.canonical.Case.TheVariants as case;
 ghost use Rattle.uriparse_text.specs.Spelling.{IsKept};
 
-use super::Host;
 use super::super::name::RegisteredName;
+use super::Host;
 use std::marker::Model;
 use uriparse_text::address::{Ipv4Addr, Ipv6Addr};
 
