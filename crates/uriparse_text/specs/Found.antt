@@ -1,5 +1,5 @@
 -- What a reader found.
-use Rattle.std.specs.Prelude.{ℕ, ◌==◌, List, Option, Some, None, if◌then◌else◌}
+use Rattle.std.specs.Prelude.{ℕ, ◌==◌, Option, Some, None, if◌then◌else◌}
 
 -- the text, where the word that tells of it isn't 0
 abbrev pub if_there : {A : Type 0} → ℕ → A → Option A
