@@ -3,10 +3,10 @@ ghost use Rattle.std.specs.Prelude.{◌≡◌};
 ghost use Rattle.uriparse_authority.specs.Authority as spec;
 ghost use Rattle.uriparse_text.specs.Found.{if_there};
 
+use super::Authority;
 use super::host::found::FoundHost;
 use super::password::PasswordKind;
 use super::username::UsernameKind;
-use super::Authority;
 use std::marker::Model;
 use uriparse_text::parts::Found;
 

@@ -14,7 +14,8 @@ use super::username::UsernameKind;
 use super::{Authority, AuthorityError, Host, HostError, PortError, parse_port};
 use uriparse_text::address::Ipv4Addr;
 use uriparse_text::parts::{
-    Class, Found, IsAny, fault_of, find_text_before, find_text_if, first, no_text, split_at_mark, without_mark,
+    Class, Found, IsAny, fault_of, find_text_before, find_text_if, first, no_text, split_at_mark,
+    without_mark,
 };
 
 /// The user information, if there is an `@` behind it, and what stands behind the `@`; or none, and
@@ -156,6 +157,7 @@ fn rest_error(read: &Authority<'_>) -> AuthorityError
     }
     AuthorityError::Host(match read.host() {
         Host::IPv6Address(_) => HostError::InvalidIPv6Character,
+        Host::IPvFuture(_) => HostError::InvalidIPvFutureCharacter,
         _ => HostError::InvalidIPv4OrRegisteredNameCharacter,
     })
 }

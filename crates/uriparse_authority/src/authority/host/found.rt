@@ -1,19 +1,22 @@
 //! A host that a reader found: words that nothing has to be dropped of.
 ghost use Rattle.std.specs.Prelude.{◌≡◌};
 ghost use Rattle.uriparse_authority.specs.declared.authority.host.Host.TheVariants as hosts;
+ghost use Rattle.uriparse_authority.specs.Future.{IsFuture};
 ghost use Rattle.uriparse_authority.specs.Name.{IsName};
 
-use super::Host;
+use super::super::future::IPvFuture;
 use super::super::name::RegisteredName;
+use super::Host;
 use std::marker::Model;
 use uriparse_text::address::{Ipv4Addr, Ipv6Addr};
 
-/// The bytes of a name, or an address. It is seen as the host that it is.
+/// The bytes of a name or of an address of a later version, or an IPv4 or IPv6 address. It is seen
+/// as the host that it is.
 #[derive(Drop)]
 pub(in crate::authority) struct FoundHost<'h> {
-    // 0 a name, 4 and 6 an address: a word, since a narrow tag would be moved with its padding.
+    // 0 a name, 4, 6 and 7 an address: a word, since a narrow tag would be moved with its padding.
     kind: usize,
-    name: &'h [u8],
+    text: &'h [u8],
     ipv6: Ipv6Addr,
     ipv4: Ipv4Addr,
 }
@@ -25,9 +28,9 @@ impl<'h> Model for FoundHost<'h> {
 
     ghost Value = { Host };
 
-    ghost view = { λ f. found_host f.kind f.name.now f.ipv4 f.ipv6 };
+    ghost view = { λ f. found_host f.kind f.text.now f.ipv4 f.ipv6 };
 
-    ghost invariant = { λ f. Valid (found_host f.kind f.name.now f.ipv4 f.ipv6) };
+    ghost invariant = { λ f. Valid (found_host f.kind f.text.now f.ipv4 f.ipv6) };
 }
 
 /// The bytes are a name.
@@ -38,7 +41,7 @@ pub(in crate::authority) fn found_name(bytes: &[u8]) -> FoundHost<'_>
 {
     FoundHost {
         kind: 0,
-        name: bytes,
+        text: bytes,
         ipv6: Ipv6Addr::new(0, 0, 0, 0, 0, 0, 0, 0),
         ipv4: Ipv4Addr::new(0, 0, 0, 0),
     }
@@ -52,7 +55,7 @@ pub(in crate::authority) fn found_ipv4(address: Ipv4Addr) -> FoundHost<'static>
     let _octets = address.octets();
     FoundHost {
         kind: 4,
-        name: b"",
+        text: b"",
         ipv6: Ipv6Addr::new(0, 0, 0, 0, 0, 0, 0, 0),
         ipv4: address,
     }
@@ -65,20 +68,33 @@ pub(super) fn found_ipv6(address: Ipv6Addr) -> FoundHost<'static>
     let _segments = address.segments();
     FoundHost {
         kind: 6,
-        name: b"",
+        text: b"",
         ipv6: address,
         ipv4: Ipv4Addr::new(0, 0, 0, 0),
     }
 }
 
+/// The bytes are an address of a later version.
+pub(super) fn found_future(bytes: &[u8]) -> FoundHost<'_>
+    requires { IsFuture bytes.now }
+    ensures { result ≡ hosts.IPvFuture bytes.now }
+{
+    FoundHost {
+        kind: 7,
+        text: bytes,
+        ipv6: Ipv6Addr::new(0, 0, 0, 0, 0, 0, 0, 0),
+        ipv4: Ipv4Addr::new(0, 0, 0, 0),
+    }
+}
+
 impl<'h> FoundHost<'h> {
-    /// The host, whose name borrows the bytes. Takes no memory.
+    /// The host, whose text borrows the bytes. Takes no memory.
     #[inline(always)]
     pub(in crate::authority) fn to_host(&self) -> Host<'h>
         ensures { result ≡ self.now }
     {
         if self.kind == 0 {
-            Host::RegisteredName(RegisteredName::of_checked(self.name))
+            Host::RegisteredName(RegisteredName::of_checked(self.text))
         } else {
             self.to_any_host()
         }
@@ -90,9 +106,11 @@ impl<'h> FoundHost<'h> {
         ensures { result ≡ self.now }
     {
         if self.kind == 0 {
-            Host::RegisteredName(RegisteredName::of_checked(self.name))
+            Host::RegisteredName(RegisteredName::of_checked(self.text))
         } else if self.kind == 4 {
             Host::IPv4Address(self.ipv4)
+        } else if self.kind == 7 {
+            Host::IPvFuture(IPvFuture::of_checked(self.text))
         } else {
             Host::IPv6Address(self.ipv6)
         }
