@@ -242,6 +242,11 @@ authorities [::1]: [::1] -> equal
 borrowed-authority [::1]: -> equal
 copied-authority [::1]: -> [::1]
 authority-of-its-parts [::1]: -> [::1]
+authority u@[V1.X:y]:8 -> u@[V1.X:y]:8
+authorities u@[V1.X:y]:8 u@[v1.x:Y]:8 -> equal
+borrowed-authority u@[V1.X:y]:8 -> equal
+copied-authority u@[V1.X:y]:8 -> u@[V1.X:y]:8
+authority-of-its-parts u@[V1.X:y]:8 -> u@[V1.X:y]:8
 authority u:p:q@1.2.3.4:0 -> u:p:q@1.2.3.4:0
 authorities u:p:q@1.2.3.4:0 u:p:q@1.2.3.4:0 -> equal
 borrowed-authority u:p:q@1.2.3.4:0 -> equal
@@ -270,6 +275,9 @@ authority 'a b@h:99999' -> invalid username character
 authority u:%zz@h -> invalid password percent encoding
 authority h:80/x -> invalid port character
 authority [::1]/ -> invalid host IPv6 character
+authority [v1.x]/ -> invalid host IPvFuture character
+authority [v1.x]:/ -> invalid host IPvFuture character
+authority [v1.x]:8/ -> invalid port character
 authority h? -> invalid host IPv4 or registered name character
 authority h:/x -> invalid host IPv4 or registered name character
 authority u/x@h -> invalid host IPv4 or registered name character
@@ -290,6 +298,7 @@ authorities u:P@h u:p@h -> different
 authorities h:0 h -> different
 authorities h:80 h:8 -> different
 authorities %31.2.3.4 1.2.3.4 -> different
+authorities [v1.x]:8 v1.x:8 -> different
 set-username u:p@h v -> v:p@h
 drop-username u:p@h -> h
 set-username h:1 '' -> @h:1
@@ -300,6 +309,7 @@ set-password u:p@h '' -> u:@h
 drop-password u:p@h -> u@h
 drop-password h -> h
 set-host u@h:8 [::1] -> u@[::1]:8
+set-host u@h:8 [V1.X] -> u@[V1.X]:8
 set-host u:p@[::1]:8 '' -> u:p@:8
 set-port u@h 8 -> u@h:8
 set-port u@h:8 65535 -> u@h:65535
@@ -327,4 +337,6 @@ normal-authority %3A@h -> normal
 normal-authority [::A] -> normal
 normal-authority U@[::A]:8 -> normal
 normal-authority %7E@[::A]:8 -> ~@[::a]:8
+normal-authority [V1.X:y]:8 -> [v1.x:y]:8
+normal-authority U@[v1.x:y]:8 -> normal
 normal-authority h:99999 -> port overflow";

@@ -5,7 +5,7 @@ use rows::same::hash_of;
 use std::alloc::{AllocError, Global};
 use std::fmt::Display;
 use std::hash::Hash;
-use uriparse_authority::authority::{Password, RegisteredName, Username};
+use uriparse_authority::authority::{IPvFuture, Password, RegisteredName, Username};
 use uriparse_path::path::Segment;
 use uriparse_scheme::scheme::{Scheme, UnregisteredScheme};
 use uriparse_text::fragment::Fragment;
@@ -242,6 +242,25 @@ impl<'s> Component for UnregisteredScheme<'s> {
 }
 
 impl<'n> Component for RegisteredName<'n> {
+    fn told(&self, other: &str) -> Told<'_> {
+        Told {
+            text: self.as_str(),
+            bytes: self.as_bytes(),
+            is_other: (self.eq_str(other), self.eq_bytes(other.as_bytes())),
+            is_normal: self.is_normalized(),
+        }
+    }
+
+    fn copied(&self, alloc: Global) -> Answer {
+        self.as_borrowed().into_owned(alloc)?.to_string(alloc)
+    }
+
+    fn make_normal(&mut self, alloc: Global) -> Result<(), AllocError> {
+        self.normalize(alloc)
+    }
+}
+
+impl<'host> Component for IPvFuture<'host> {
     fn told(&self, other: &str) -> Told<'_> {
         Told {
             text: self.as_str(),

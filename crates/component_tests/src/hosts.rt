@@ -202,20 +202,31 @@ host [::1.2.3] -> invalid host IPv6 format
 host [1.2.3.4::] -> invalid host IPv6 format
 host [::01.2.3.4] -> invalid host IPv6 format
 host [:1::2] -> invalid host IPv6 format
-host [v1.x] -> host address mechanism not supported
-host [v1] -> host address mechanism not supported
-host [V1] -> host address mechanism not supported
+host [v1.x] -> ipvfuture=[v1.x]
+host [V1.X] -> ipvfuture=[V1.X]
+host [vFF.a.b] -> ipvfuture=[vFF.a.b]
+host [v1] -> invalid host IPvFuture format
+host [V1] -> invalid host IPvFuture format
+host [v1.] -> invalid host IPvFuture format
+host [v.x] -> invalid host IPvFuture format
+host [1v.x] -> invalid host IPv6 character
 host [v1.%41] -> invalid host IPvFuture character
+host [v1.[] -> invalid host IPvFuture character
+host [v1.]] -> invalid host IPvFuture character
+host [v%4] -> invalid host IPvFuture character
 host [::g] -> invalid host IPv6 character
-host [v] -> invalid host IPv6 character
+host [v] -> invalid host IPvFuture format
 host [::1 -> invalid host IPv4 or registered name character
 host [ -> invalid host IPv4 or registered name character
 host ] -> invalid host IPv4 or registered name character
 host [::1]x -> invalid host IPv4 or registered name character
 host ::1 -> invalid host IPv4 or registered name character
 host a%4 -> invalid host IPv4 or registered name character
-host [vg.x] -> invalid host IPv6 character
-host [v1x.y] -> host address mechanism not supported
+host [vg.x] -> invalid host IPvFuture format
+host [v1x.y] -> invalid host IPvFuture format
+host v1.x -> name=v1.x
+copied-host [V1.X] -> [V1.X]
+copied-host [v1.a.long.address:of.a.later.version] -> [v1.a.long.address:of.a.later.version]
 hosts EXAMPLE.com example.COM -> equal
 hosts %41 a -> equal
 hosts [::ffff:1.2.3.4] [::FFFF:102:304] -> equal
@@ -223,6 +234,10 @@ hosts %31.2.3.4 1.2.3.4 -> different
 hosts [::ffff:1.2.3.4] 1.2.3.4 -> different
 hosts 1.2.3.4 1.2.3.5 -> different
 hosts '' a -> different
+hosts [v1.X] [V1.x] -> equal
+hosts [v1.x] v1.x -> different
+hosts [v1.x] [v1.y] -> different
+hosts [v6.::1] [::1] -> different
 hosts abc %41bc -> equal
 ipv4 1.2.3.4 -> 1.2.3.4
 ipv4 255.255.255.255 -> 255.255.255.255
@@ -258,6 +273,8 @@ host-of-address 1.2.3 -> none
 normal-host EXAMPLE.com -> name=example.com
 normal-host %31.2.3.4 -> name=1.2.3.4
 normal-host %41 -> name=a
+normal-host [V1.X:y] -> ipvfuture=[v1.x:y]
+normal-host [v1.x:y] -> normal
 normal-host A%7e%2fB -> name=a~%2Fb
 normal-host example.com -> normal
 normal-host '' -> normal

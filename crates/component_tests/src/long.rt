@@ -1,6 +1,6 @@
 //! Long texts.
 
-use crate::{authorities, paths, users};
+use crate::{authorities, hosts, paths, users};
 use rows::answer::{Answer, repeated, said, split_long, verdict};
 use std::alloc::Global;
 use uriparse_text::query::Query;
@@ -26,11 +26,38 @@ fn repeated_queries(alloc: Global, count: usize, left: &str, right: &str) -> Ans
     queries(alloc, left.as_str(), right.as_str())
 }
 
+/// Whether the normal form of an address of a later version with so many of a letter is that with
+/// the other one, alone and as a host.
+fn long_future(alloc: Global, count: usize, large: &str, small: &str) -> Answer {
+    let large = repeated(alloc, count, large)?;
+    let small = repeated(alloc, count, small)?;
+    let address = users::answer(
+        alloc,
+        format!(in alloc; "normal-future V1.{large}")?.as_str(),
+    )?;
+    let host = hosts::answer(
+        alloc,
+        format!(in alloc; "normal-host [V1.{large}]")?.as_str(),
+    )?;
+    let wanted = format!(in alloc; "v1.{small}")?;
+    let wanted_host = format!(in alloc; "ipvfuture=[v1.{small}]")?;
+    verdict(
+        alloc,
+        &[
+            address.as_str() == wanted.as_str(),
+            host.as_str() == wanted_host.as_str(),
+        ],
+    )
+}
+
 /// The answer to a question about a long text.
 pub fn answer(alloc: Global, asked: &str) -> Answer {
     let (command, front, count, middle, back) = split_long(asked);
     if command == "queries" {
         return repeated_queries(alloc, count, middle, back);
+    }
+    if command == "long-future" {
+        return long_future(alloc, count, middle, back);
     }
     let middle = repeated(alloc, count, middle)?;
     let asked = format!(in alloc; "{command} '{front}{middle}{back}'")?;
@@ -53,4 +80,8 @@ path ' ' 65536 / '' -> invalid path character
 path %4 65536 / '' -> invalid path percent encoding
 queries '' 100000 %7e ~ -> equal
 queries '' 100000 %7E %7f -> different
+long-future '' 1 A a -> equal
+long-future '' 64 A a -> equal
+long-future '' 32768 A a -> equal
+long-future '' 1048576 A a -> equal
 remove-dots / 32767 x/../ g -> /g";

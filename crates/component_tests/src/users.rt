@@ -1,9 +1,9 @@
-//! User names, passwords, registered names and ports.
+//! User names, passwords, addresses of later versions, registered names and ports.
 
 use crate::component::{compared, normal, read};
 use rows::answer::{Answer, printed, said, words};
 use std::alloc::Global;
-use uriparse_authority::authority::{Password, RegisteredName, Username, parse_port};
+use uriparse_authority::authority::{IPvFuture, Password, RegisteredName, Username, parse_port};
 
 fn usernames(alloc: Global, left: &str, right: &str) -> Answer {
     let a = Username::try_from_bytes(left.as_bytes());
@@ -13,6 +13,11 @@ fn usernames(alloc: Global, left: &str, right: &str) -> Answer {
 fn passwords(alloc: Global, left: &str, right: &str) -> Answer {
     let a = Password::try_from_bytes(left.as_bytes());
     compared(alloc, a, Password::try_from_str(right), right)
+}
+
+fn futures(alloc: Global, left: &str, right: &str) -> Answer {
+    let a = IPvFuture::try_from_bytes(left.as_bytes());
+    compared(alloc, a, IPvFuture::try_from_str(right), right)
 }
 
 fn names(alloc: Global, left: &str, right: &str) -> Answer {
@@ -36,6 +41,9 @@ pub fn answer(alloc: Global, asked: &str) -> Answer {
         "usernames" => usernames(alloc, text, other),
         "password" => read(alloc, Password::try_from_str(text)),
         "passwords" => passwords(alloc, text, other),
+        "future" => read(alloc, IPvFuture::try_from_str(text)),
+        "futures" => futures(alloc, text, other),
+        "normal-future" => normal(alloc, IPvFuture::try_from_str(text)),
         "name" => read(alloc, RegisteredName::try_from_str(text)),
         "names" => names(alloc, text, other),
         "normal-username" => normal(alloc, Username::try_from_str(text)),
@@ -70,6 +78,30 @@ passwords a:B%7e a:B~ -> equal
 passwords a:B%7e a:B%7E -> equal
 passwords a:B%7e a:b~ -> different
 passwords %3a : -> different
+future v1.x -> v1.x
+future V1F.Fe80::A-._~!$&()*+,;= -> V1F.Fe80::A-._~!$&()*+,;=
+future vFF.a.b -> vFF.a.b
+future '' -> invalid host IPvFuture format
+future 1v.x -> invalid host IPvFuture format
+future v -> invalid host IPvFuture format
+future v1 -> invalid host IPvFuture format
+future v1. -> invalid host IPvFuture format
+future v.x -> invalid host IPvFuture format
+future vg.x -> invalid host IPvFuture format
+future v1x.y -> invalid host IPvFuture format
+future v1:x -> invalid host IPvFuture format
+future v1.%41 -> invalid host IPvFuture character
+future v1.@ -> invalid host IPvFuture character
+future [v1.x] -> invalid host IPvFuture character
+future % -> invalid host IPvFuture character
+futures v1.x V1.X -> equal
+futures v1F.x V1f.x -> equal
+futures v1.x v1.y -> different
+futures v1.x v01.x -> different
+futures v1.x %761.x -> different
+normal-future V1.X:y -> v1.x:y
+normal-future v1.x -> normal
+normal-future VF.ABCDEFGHIJKLMNOPQRSTUVWXYZ0123456789 -> vf.abcdefghijklmnopqrstuvwxyz0123456789
 name 1.2.3.4 -> invalid registered name
 name 255.255.255.255 -> invalid registered name
 name 'a b' -> invalid registered name

@@ -166,17 +166,52 @@ fn first_refusal(rows: &[Row<'_>]) -> Option<&'static str> {
     None
 }
 
-/// What is said of the authority's first faulty part. No host of the texts that are tried has
-/// three points, or both brackets, so each is to be a name.
+/// What is said of an address of a later version that has no fault but perhaps in its form.
+fn form_refusal(address: &[u8]) -> Option<&'static str> {
+    let (version, rest) = cut(address.get(1..).unwrap_or(&[]), b".");
+    let is_version = !version.is_empty() && version.iter().all(|b| b.is_ascii_hexdigit());
+    match is_version && rest.len() > 1 {
+        true => None,
+        false => Some("invalid host IPvFuture format"),
+    }
+}
+
+/// What is said of the text between brackets. None of those that are tried is an IPv6 address.
+fn literal_refusal(literal: &[u8]) -> Option<&'static str> {
+    if !matches!(literal, [b'v' | b'V', ..]) {
+        return Some("invalid host IPv6 character");
+    }
+    match literal.contains(&b'%') || fault(literal, b":").is_some() {
+        true => Some("invalid host IPvFuture character"),
+        false => form_refusal(literal),
+    }
+}
+
+/// What stands between the brackets of a host, if it has both.
+fn literal_of(host: &[u8]) -> Option<&[u8]> {
+    match host {
+        [b'[', literal @ .., b']'] => Some(literal),
+        _ => None,
+    }
+}
+
+/// What is said of a faulty host. None of those that are tried has three points, so each is to be a
+/// name or to stand in brackets.
+fn host_refusal(host: &[u8]) -> Option<&'static str> {
+    match literal_of(host) {
+        Some(literal) => literal_refusal(literal),
+        None => fault(host, b"").and(Some("invalid host IPv4 or registered name character")),
+    }
+}
+
+/// What is said of the authority's first faulty part.
 #[rattlefmt::skip]
 fn authority_refusal(pieces: &AuthorityPieces<'_>) -> Option<&'static str> {
-    let name = "invalid host IPv4 or registered name character";
     let texts = first_refusal(&[
         (pieces.username, b"", "invalid username percent encoding", "invalid username character"),
         (pieces.password, b":", "invalid password percent encoding", "invalid password character"),
-        (Some(pieces.host), b"", name, name),
     ]);
-    texts.or(port_number(pieces.port.unwrap_or(&[])).err())
+    texts.or(host_refusal(pieces.host)).or(port_number(pieces.port.unwrap_or(&[])).err())
 }
 
 /// What is said of a path of these pieces that begins as a scheme would.
@@ -225,12 +260,18 @@ fn scheme_of<'r>(reference: &'r URIReference<'_>) -> Option<&'r [u8]> {
     }
 }
 
+/// Whether the host is of this text, which has no fault.
+fn is_host(host: &Host<'_>, text: &[u8]) -> bool {
+    match (host, literal_of(text)) {
+        (Host::RegisteredName(name), None) => name.as_bytes() == text,
+        (Host::IPvFuture(address), Some(literal)) => address.as_bytes() == literal,
+        _ => false,
+    }
+}
+
 /// Whether the authority is of these pieces, which have no fault.
 fn is_authority(authority: &Authority<'_>, pieces: &AuthorityPieces<'_>) -> bool {
-    let Host::RegisteredName(name) = authority.host() else {
-        return false;
-    };
-    name.as_bytes() == pieces.host
+    is_host(authority.host(), pieces.host)
         && bytes_of(authority.username()) == pieces.username
         && bytes_of(authority.password()) == pieces.password
         && port_number(pieces.port.unwrap_or(&[])) == Ok(authority.port())
@@ -307,6 +348,21 @@ fn reads_as_the_slow_reading(rt: HostRuntime) -> Result<(), Fail> {
     for at in 0..17 {
         for value in 0..=255u8 {
             let mut text = *b"s://u:p@h:1/a?q#f";
+            if let Some(byte) = text.get_mut(at) {
+                *byte = value;
+            }
+            let right = is_right(rt.alloc(), &text)?;
+            assert!(rt; right, "byte {at} replaced by {value}");
+        }
+    }
+    Ok(())
+}
+
+#[test]
+fn reads_addresses_as_the_slow_reading(rt: HostRuntime) -> Result<(), Fail> {
+    for at in 0..22 {
+        for value in 0..=255u8 {
+            let mut text = *b"s://u:p@[v1.x]:1/a?q#f";
             if let Some(byte) = text.get_mut(at) {
                 *byte = value;
             }

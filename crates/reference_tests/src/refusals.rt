@@ -14,7 +14,7 @@ use uriparse_text::fragment::FragmentError;
 use uriparse_text::query::QueryError;
 
 #[rattlefmt::skip]
-static ROWS: [(URIReferenceError, &str); 26] = [
+static ROWS: [(URIReferenceError, &str); 27] = [
     (URIReferenceError::Scheme(SchemeError::Empty), "scheme is empty"),
     (URIReferenceError::Scheme(SchemeError::StartsWithNonAlphabetic), "scheme starts with non-alphabetic character"),
     (URIReferenceError::Scheme(SchemeError::InvalidCharacter), "invalid scheme character"),
@@ -28,6 +28,7 @@ static ROWS: [(URIReferenceError, &str); 26] = [
     (URIReferenceError::Authority(AuthorityError::Host(HostError::InvalidIPv6Character)), "invalid host IPv6 character"),
     (URIReferenceError::Authority(AuthorityError::Host(HostError::InvalidIPv6Format)), "invalid host IPv6 format"),
     (URIReferenceError::Authority(AuthorityError::Host(HostError::InvalidIPvFutureCharacter)), "invalid host IPvFuture character"),
+    (URIReferenceError::Authority(AuthorityError::Host(HostError::InvalidIPvFutureFormat)), "invalid host IPvFuture format"),
     (URIReferenceError::Authority(AuthorityError::Port(PortError::InvalidCharacter)), "invalid port character"),
     (URIReferenceError::Authority(AuthorityError::Port(PortError::Overflow)), "port overflow"),
     (URIReferenceError::Path(PathError::ExceededMaximumLength), "exceeded maximum path length"),

@@ -4,13 +4,15 @@ use crate::answer::{Answer, add, said};
 use std::alloc::{AllocError, Global};
 use uriparse_authority::authority::{Authority, Host, Password, Username};
 
-/// The host's kind, where its three tests agree.
+/// The host's kind, where its four tests agree.
 pub fn kind_of(host: &Host<'_>) -> &'static str {
     let address = (host.is_ipv4_address(), host.is_ipv6_address());
-    match (host, address, host.is_registered_name()) {
-        (Host::IPv4Address(_), (true, false), false) => "ipv4",
-        (Host::IPv6Address(_), (false, true), false) => "ipv6",
-        (Host::RegisteredName(_), (false, false), true) => "name",
+    let other = (host.is_ipvfuture_address(), host.is_registered_name());
+    match (host, address, other) {
+        (Host::IPv4Address(_), (true, false), (false, false)) => "ipv4",
+        (Host::IPv6Address(_), (false, true), (false, false)) => "ipv6",
+        (Host::IPvFuture(_), (false, false), (true, false)) => "ipvfuture",
+        (Host::RegisteredName(_), (false, false), (false, true)) => "name",
         _ => "several kinds",
     }
 }

@@ -19,7 +19,7 @@ uri help              these lines
 ";
 
 // (the words with bars between them, the status, what is printed, what is said of a failure)
-static ROWS: [(&str, u8, &str, &str); 65] = [
+static ROWS: [(&str, u8, &str, &str); 67] = [
     ("help", 0, HELP, ""),
     ("--help", 0, HELP, ""),
     ("help|parse", 2, "", USAGE),
@@ -73,6 +73,13 @@ static ROWS: [(&str, u8, &str, &str); 65] = [
         "//1.2.3.4/\nhost.ipv4=1.2.3.4\npath=/\n",
         "",
     ),
+    (
+        "parse|//[V1.X:y]:8",
+        0,
+        "//[V1.X:y]:8/\nhost.ipvfuture=[V1.X:y]\nport=8\npath=/\n",
+        "",
+    ),
+    ("parse|//[v1]", 1, "", "invalid host IPvFuture format\n"),
     (
         "parse|HTTP://User:@EXAMPLE.com:0080/%7Ea",
         0,

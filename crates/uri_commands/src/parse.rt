@@ -39,6 +39,7 @@ fn host_name(host: &Host<'_>) -> &'static str {
     match host {
         Host::IPv4Address(_) => "host.ipv4",
         Host::IPv6Address(_) => "host.ipv6",
+        Host::IPvFuture(_) => "host.ipvfuture",
         Host::RegisteredName(_) => "host.name",
     }
 }

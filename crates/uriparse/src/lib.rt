@@ -15,7 +15,7 @@ pub use relative_reference::{RelativeReference, RelativeReferenceBuilder, Relati
 pub use uri::{URI, URIBuilder, URIError};
 pub use uriparse_authority::authority;
 pub use uriparse_authority::authority::{
-    Authority, AuthorityError, Host, HostError, IpAddr, Ipv4Addr, Ipv6Addr, Password,
+    Authority, AuthorityError, Host, HostError, IPvFuture, IpAddr, Ipv4Addr, Ipv6Addr, Password,
     PasswordError, PortError, RegisteredName, RegisteredNameError, Username, UsernameError,
 };
 pub use uriparse_path::path;

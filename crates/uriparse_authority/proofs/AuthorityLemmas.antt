@@ -1,11 +1,11 @@
 -- Reading an authority is exact; what its texts are cut into; and how authorities compare.
 use Rattle.std.proofs.Common.{◌≡◌, ◌↔◌, ℕ, Bool, true, false, cond, List, [], ◌∷◌, ◌++◌, Option, Some, None, Ok, Err, refl, sym, ap, ◌∙◌, subst, append-nil}
-use Rattle.std.proofs.Common.{fold, arith, IsTrue}
+use Rattle.std.proofs.Common.{fold, length, arith, IsTrue}
 use Rattle.std.specs.Prelude.{not, ◌==◌, ◌||◌, IfSome, IsSome, Result, unwrap_or, bytes_eq}
 use Rattle.std.specs.Option.{option_map, option_eq}
 use Rattle.std.specs.Char.{is_digit}
 use Rattle.std.specs.Hash.{HashWrites, option, u16}
-use Rattle.std.proofs.lemmas.Bool.{eqb-true, and_parts, and_from}
+use Rattle.std.proofs.lemmas.Bool.{false≢true, eqb-true, and_parts, and_from}
 use Rattle.std.proofs.lemmas.Bool.Decides.{same_from_decides}
 use Rattle.std.proofs.lemmas.Slice.Eq.{bytes_eq-Decides}
 use Rattle.std.proofs.lemmas.Grind.{fold-append}
@@ -411,6 +411,20 @@ whole_again t p s = ap whole_reading (sym (append-nil t)) ∙ ends_at t [] p s r
 pub rest_answers : (a : List ℕ) (b : ℕ) (u : List ℕ) (p : AuthorityParts) → Spells a p → ends_authority b ≡ true
     → whole_reading (a ++ b ∷ u) ≡ Err (rest_error p.port (kind p))
 rest_answers a b u p s h = ends_at a (b ∷ u) p s (ap (λ v. cond v [] (b ∷ up_to ends_authority u)) h) (ap (λ v. cond v (b ∷ u) (from_first ends_authority u)) h)
+
+-- the same, by the two parts that the text was cut into
+pub rest_told : (t a r : List ℕ) (p : AuthorityParts) (e : AuthorityError) → a ≡ up_to ends_authority t → r ≡ from_first ends_authority t → Ok p ≡ reading a
+    → (length r == 0) ≡ false → e ≡ rest_error p.port (kind p) → Err e ≡ whole_reading t
+rest_told t a r p e i j k there m =
+    ap Err m
+    ∙ by_rest r there
+    ∙ ap (λ x. x >>= unless_rest r) k
+    ∙ ap (λ x. reading x >>= unless_rest r) i
+    ∙ ap (λ x. reading (up_to ends_authority t) >>= unless_rest x) j
+  where
+    by_rest : (u : List ℕ) → (length u == 0) ≡ false → Err (rest_error p.port (kind p)) ≡ unless_rest u p
+    by_rest [] h = absurd (false≢true (sym h))
+    by_rest (b ∷ u) h = refl
 
 no_rest : (rest : List ℕ) (q p : AuthorityParts) → unless_rest rest q ≡ Ok p → (rest ≡ []) × (q ≡ p)
 no_rest [] q p h = let e : q ≡ p = cc in (refl, e)

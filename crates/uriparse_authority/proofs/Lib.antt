@@ -1,5 +1,6 @@
 pub mod UserLemmas
 pub mod PortLemmas
+pub mod FutureLemmas
 pub mod HostLemmas
 pub mod CutLemmas
 pub mod AuthorityLemmas

@@ -7,7 +7,7 @@ use Rattle.uriparse_text.specs.declared.parts.class.Class.{Class}
 use Rattle.uriparse_text.specs.declared.parts.class.Class.TheVariants.{Name, UserInfo}
 use Rattle.uriparse_text.specs.declared.parts.canonical.Case.TheVariants.{Kept, Lowered}
 use Rattle.uriparse_text.specs.Faults.{IsIn}
-use Rattle.uriparse_text.specs.Canonical.{canonical}
+use Rattle.uriparse_text.specs.Canonical.{canonical, canonical_lowered}
 use Rattle.uriparse_text.proofs.CanonicalLemmas.{canonical_in-canonical_in}
 use Rattle.uriparse_text.proofs.ClassLemmas.{well_formed-in_class, IsIn-canonical_in}
 use Rattle.uriparse_authority.specs.Authority.{AuthorityParts, IsPaired, Valid, joined, print, canonical_text, kind, username_text, password_text, host_text}
@@ -16,11 +16,12 @@ use Rattle.uriparse_authority.specs.Host as host
 use Rattle.uriparse_authority.specs.Port as port
 use Rattle.uriparse_authority.specs.Normal.{canonical_host, canonical_authority}
 use Rattle.uriparse_authority.proofs.AuthorityLemmas.{print_cut, one_port}
+use Rattle.uriparse_authority.proofs.FutureLemmas.{IsFuture-canonical_lowered, IsFuture-twice}
 use Rattle.uriparse_authority.proofs.HostLemmas.{bracketed-injective}
 use Rattle.uriparse_text.proofs.AddressLemmas.{ipv4_text-injective, ipv6_text-injective}
 use Rattle.uriparse_text.specs.Address.{ipv6_text}
 use Rattle.uriparse_authority.specs.declared.authority.host.Host.{Host}
-use Rattle.uriparse_authority.specs.declared.authority.host.Host.TheVariants.{IPv4Address, IPv6Address, RegisteredName}
+use Rattle.uriparse_authority.specs.declared.authority.host.Host.TheVariants.{IPv4Address, IPv6Address, IPvFuture, RegisteredName}
 
 -- ---- texts that may be absent
 
@@ -44,22 +45,38 @@ canonical_part (Some t) r e =
 pub host_text-canonical : (h : Host) → host.text (canonical_host h) ≡ host.canonical_text h
 host_text-canonical (IPv4Address a) = refl
 host_text-canonical (IPv6Address a) = refl
+host_text-canonical (IPvFuture f) = refl
 host_text-canonical (RegisteredName n) = refl
 
 pub host_kind-canonical : (h : Host) → host.kind (canonical_host h) ≡ host.kind h
 host_kind-canonical (IPv4Address a) = refl
 host_kind-canonical (IPv6Address a) = refl
+host_kind-canonical (IPvFuture f) = refl
 host_kind-canonical (RegisteredName n) = refl
 
 pub host_valid_canonical : (h : Host) → host.Valid h → host.Valid (canonical_host h)
 host_valid_canonical (IPv4Address a) v = v
 host_valid_canonical (IPv6Address a) v = v
+host_valid_canonical (IPvFuture f) v = IsFuture-canonical_lowered f v
 host_valid_canonical (RegisteredName n) v = IsIn-canonical_in Name Lowered n v
 
 pub host_twice : (h : Host) → host.Valid h → canonical_host (canonical_host h) ≡ canonical_host h
 host_twice (IPv4Address a) v = refl
 host_twice (IPv6Address a) v = refl
+host_twice (IPvFuture f) v = ap IPvFuture (IsFuture-twice f v)
 host_twice (RegisteredName n) v = ap RegisteredName (canonical_in-canonical_in Lowered n (well_formed-in_class Name n v))
+
+-- an address of a later version is canonical exactly if its text is
+pub future_normal : (h : Host) (f : List ℕ) (r : Bool) → h ≡ IPvFuture f → IsTrue r ↔ (canonical_lowered f ≡ f)
+    → IsTrue r ↔ (host.text (canonical_host h) ≡ host.text h)
+future_normal h f r e test = rw e (
+  (λ t. ap host.bracketed (test.0 t)),
+  (λ same. test.1 (bracketed-injective (canonical_lowered f) f same)),
+)
+
+pub future_same : (h : Host) (f : List ℕ) → h ≡ IPvFuture f → host.text (canonical_host h) ≡ host.text h → canonical_lowered f ≡ f
+future_same h f e same =
+    bracketed-injective (canonical_lowered f) f (subst (λ g. host.text (canonical_host g) ≡ host.text g) e same)
 
 -- ---- authorities
 
@@ -106,6 +123,7 @@ canonical_twice a v =
 host_kept : (h : Host) → host.text (canonical_host h) ≡ host.text h → canonical_host h ≡ h
 host_kept (IPv4Address a) e = refl
 host_kept (IPv6Address a) e = refl
+host_kept (IPvFuture f) e = ap IPvFuture (bracketed-injective (canonical_lowered f) f e)
 host_kept (RegisteredName n) e = ap RegisteredName e
 
 -- an authority whose parts are canonical is its normal form
@@ -133,13 +151,20 @@ kept_inside a p e v same = canonical_kept a v (subst (λ q. print (canonical_aut
 pub host_same : (g h : Host) → host.Valid g → host.Valid h → host.text g ≡ host.text h → host.kind g ≡ host.kind h → g ≡ h
 host_same (IPv4Address a) (IPv4Address b) v w e k = ap IPv4Address (ipv4_text-injective a b v w e)
 host_same (IPv6Address a) (IPv6Address b) v w e k = ap IPv6Address (ipv6_text-injective a b v w (bracketed-injective (ipv6_text a) (ipv6_text b) e))
+host_same (IPvFuture f) (IPvFuture g) v w e k = ap IPvFuture (bracketed-injective f g e)
 host_same (RegisteredName m) (RegisteredName n) v w e k = ap RegisteredName e
 host_same (IPv4Address a) (IPv6Address b) v w e k = absurd (cc)
+host_same (IPv4Address a) (IPvFuture g) v w e k = absurd (cc)
 host_same (IPv4Address a) (RegisteredName n) v w e k = absurd (cc)
 host_same (IPv6Address a) (IPv4Address b) v w e k = absurd (cc)
+host_same (IPv6Address a) (IPvFuture g) v w e k = absurd (cc)
 host_same (IPv6Address a) (RegisteredName n) v w e k = absurd (cc)
+host_same (IPvFuture f) (IPv4Address b) v w e k = absurd (cc)
+host_same (IPvFuture f) (IPv6Address b) v w e k = absurd (cc)
+host_same (IPvFuture f) (RegisteredName n) v w e k = absurd (cc)
 host_same (RegisteredName m) (IPv4Address b) v w e k = absurd (cc)
 host_same (RegisteredName m) (IPv6Address b) v w e k = absurd (cc)
+host_same (RegisteredName m) (IPvFuture g) v w e k = absurd (cc)
 
 pub one_printed : (p q : AuthorityParts) → Valid p → Valid q → print p ≡ print q → kind p ≡ kind q → p ≡ q
 one_printed p q v w e k =

@@ -12,6 +12,7 @@ use Rattle.uriparse_text.proofs.ClassLemmas.{IsIn-canonical_in}
 use Rattle.uriparse_text.proofs.CutLemmas.{lacks-in_class}
 use Rattle.uriparse_authority.specs.Username as username
 use Rattle.uriparse_authority.specs.Password as password
+use Rattle.uriparse_authority.specs.Future.{is_future_byte}
 
 -- ---- the bytes that they lack
 
@@ -32,6 +33,11 @@ gen_delim_not_name b h = grind (arith, nat_tests)
 gen_delim_not_user_info : (b : ℕ) → is_gen_delim b ≡ true → (b == colon) ≡ false → is_plain class.UserInfo b ≡ false
 unfolding is_plain is_unreserved is_sub_delim
 gen_delim_not_user_info b h other = grind (arith, nat_tests)
+
+-- nor has an address of a later version any but the colon
+pub gen_delim_not_future : (b : ℕ) → is_gen_delim b ≡ true → (b == colon) ≡ false → is_future_byte b ≡ false
+unfolding is_unreserved is_sub_delim
+gen_delim_not_future b h other = grind (arith, nat_tests)
 
 -- a user name has none of the standard's general delimiters
 pub username_lacks : (b : ℕ) → is_gen_delim b ≡ true → (t : List ℕ) → username.IsUsername t → lacks b t ≡ true

@@ -145,6 +145,7 @@ ends_authority b = b == slash || (b == question_mark || b == number_sign)
 abbrev pub rest_error : Option ℕ → host.Kind → AuthorityError
 rest_error (Some n) k = errors.Port port_errors.InvalidCharacter
 rest_error None host.V6 = errors.Host host_errors.InvalidIPv6Character
+rest_error None host.Future = errors.Host host_errors.InvalidIPvFutureCharacter
 rest_error None host.V4 = errors.Host host_errors.InvalidIPv4OrRegisteredNameCharacter
 rest_error None host.Name = errors.Host host_errors.InvalidIPv4OrRegisteredNameCharacter
 

@@ -2,6 +2,7 @@ pub mod Name
 pub mod Username
 pub mod Password
 pub mod Port
+pub mod Future
 pub mod Host
 pub mod Authority
 pub mod Normal

@@ -5,12 +5,13 @@ use Rattle.uriparse_text.specs.Canonical.{canonical, canonical_lowered}
 use Rattle.uriparse_authority.specs.Authority.{AuthorityParts}
 use Rattle.uriparse_authority.specs.declared.authority.normal.CanonicalCopies.{CanonicalCopies}
 use Rattle.uriparse_authority.specs.declared.authority.host.Host.{Host}
-use Rattle.uriparse_authority.specs.declared.authority.host.Host.TheVariants.{IPv4Address, IPv6Address, RegisteredName}
+use Rattle.uriparse_authority.specs.declared.authority.host.Host.TheVariants.{IPv4Address, IPv6Address, IPvFuture, RegisteredName}
 
 -- the same host in canonical spelling; a name stays one, even where its text becomes that of an address
 abbrev pub canonical_host : Host → Host
 canonical_host (IPv4Address a) = IPv4Address a
 canonical_host (IPv6Address a) = IPv6Address a
+canonical_host (IPvFuture f) = IPvFuture (canonical_lowered f)
 canonical_host (RegisteredName n) = RegisteredName (canonical_lowered n)
 
 -- the same authority, each part in canonical spelling

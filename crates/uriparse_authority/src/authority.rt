@@ -15,6 +15,7 @@ use std::marker::Model;
 mod edit;
 mod error;
 pub(crate) mod found;
+mod future;
 mod host;
 mod name;
 pub(crate) mod normal;
@@ -27,6 +28,7 @@ mod username;
 pub use error::{
     AuthorityError, HostError, PasswordError, PortError, RegisteredNameError, UsernameError,
 };
+pub use future::IPvFuture;
 pub use host::Host;
 pub use name::RegisteredName;
 pub use password::Password;

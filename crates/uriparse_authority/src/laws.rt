@@ -6,24 +6,27 @@ ghost use Rattle.uriparse_text.specs.Cuts.{lacks, none_pass};
 ghost use Rattle.uriparse_authority.specs.declared.authority.error.AuthorityError.{AuthorityError};
 ghost use Rattle.uriparse_authority.specs.declared.authority.error.PortError.TheVariants.{InvalidCharacter, Overflow};
 ghost use Rattle.uriparse_authority.specs.declared.authority.host.Host.{Host};
-ghost use Rattle.uriparse_authority.specs.declared.authority.host.Host.TheVariants.{IPv4Address, IPv6Address, RegisteredName};
+ghost use Rattle.uriparse_authority.specs.declared.authority.host.Host.TheVariants.{IPv4Address, IPv6Address, IPvFuture, RegisteredName};
 ghost use Rattle.uriparse_authority.specs.declared.authority.error.AuthorityError.TheVariants as errors;
 ghost use Rattle.uriparse_authority.specs.declared.authority.error.HostError.TheVariants as host_errors;
 ghost use Rattle.uriparse_authority.specs.declared.authority.error.PasswordError.TheVariants as password_errors;
 ghost use Rattle.uriparse_authority.specs.declared.authority.error.UsernameError.TheVariants as username_errors;
 ghost use Rattle.uriparse_authority.specs.Username as username;
 ghost use Rattle.uriparse_authority.specs.Name as name;
+ghost use Rattle.uriparse_authority.specs.Future.{IsFuture};
+ghost use Rattle.uriparse_authority.specs.Future as future;
 ghost use Rattle.uriparse_authority.specs.Host as host;
 ghost use Rattle.uriparse_authority.specs.Port as port;
 ghost use Rattle.uriparse_authority.specs.Normal.{canonical_host, canonical_authority};
 ghost use Rattle.uriparse_authority.specs.Authority.{AuthorityParts, Spells, Valid, ReadsBack, canonical_text, ends_authority, fault, fed, fed_key, host_text, joined, key, kind, password_text, port_text, print, reading, rest_error, username_text, whole_reading};
 
-/// Reading gives exactly what a text spells: a host, a name by itself, a port, an authority, and an
-/// authority that is the whole text. A text spells one authority at most, and has a fault exactly
+/// Reading gives exactly what a text spells: a host, a name by itself, an address of a later version
+/// by itself, a port, an authority, and an authority that is the whole text. A text spells one authority at most, and has a fault exactly
 /// where it spells none. What is spelled is valid.
 pub fn one_reading()
     ensures hosts { (t : List ℕ) (h : Host) → (host.reading t ≡ Ok h) ↔ host.Spells t h }
     ensures names { (t n : List ℕ) → (name.reading t ≡ Ok n) ↔ host.Spells t (RegisteredName n) }
+    ensures futures { (t f : List ℕ) → (future.reading t ≡ Ok f) ↔ ((f ≡ t) × IsFuture t) }
     ensures ports { (t : List ℕ) (n : Option ℕ) → (port.reading t ≡ Ok n) ↔ port.Spells t n }
     ensures reads { (a : List ℕ) (p : AuthorityParts) → (reading a ≡ Ok p) ↔ Spells a p }
     ensures whole { (t : List ℕ) (p : AuthorityParts) → (whole_reading t ≡ Ok p) ↔ Spells t p }
@@ -106,9 +109,18 @@ pub fn examples()
     ensures empty_brackets { host.reading (codes "[]") ≡ Err host_errors.InvalidIPv6Format }
     ensures nine_groups { host.reading (codes "[1:2:3:4:5:6:7:8::]") ≡ Err host_errors.InvalidIPv6Format }
     ensures no_group { host.reading (codes "[::g]") ≡ Err host_errors.InvalidIPv6Character }
-    ensures no_version { host.reading (codes "[v]") ≡ Err host_errors.InvalidIPv6Character }
-    ensures later_version { host.reading (codes "[v1.x]") ≡ Err host_errors.AddressMechanismNotSupported }
+    ensures later_version { host.reading (codes "[vFF.a.b]") ≡ Ok (IPvFuture (codes "vFF.a.b")) }
+    ensures later_version_colon { host.reading (codes "[V1.X:y]") ≡ Ok (IPvFuture (codes "V1.X:y")) }
+    ensures no_version { host.reading (codes "[v]") ≡ Err host_errors.InvalidIPvFutureFormat }
+    ensures no_dot { host.reading (codes "[v1]") ≡ Err host_errors.InvalidIPvFutureFormat }
+    ensures nothing_after_dot { host.reading (codes "[v1.]") ≡ Err host_errors.InvalidIPvFutureFormat }
+    ensures no_digit { host.reading (codes "[v.x]") ≡ Err host_errors.InvalidIPvFutureFormat }
+    ensures other_digit { host.reading (codes "[v1x.y]") ≡ Err host_errors.InvalidIPvFutureFormat }
     ensures later_version_escape { host.reading (codes "[v1.%41]") ≡ Err host_errors.InvalidIPvFutureCharacter }
+    ensures later_version_bracket { host.reading (codes "[v1.[]") ≡ Err host_errors.InvalidIPvFutureCharacter }
+    ensures digit_first { host.reading (codes "[1v.x]") ≡ Err host_errors.InvalidIPv6Character }
+    ensures digit_first_alone { future.reading (codes "1v.x") ≡ Err host_errors.InvalidIPvFutureFormat }
+    ensures empty_alone { future.reading [] ≡ Err host_errors.InvalidIPvFutureFormat }
     ensures open_bracket { host.reading (codes "[::1") ≡ Err host_errors.InvalidIPv4OrRegisteredNameCharacter }
     ensures no_port { port.reading (codes "") ≡ Ok None }
     ensures zeros { port.reading (codes "0080") ≡ Ok (Some 80) }
@@ -123,16 +135,18 @@ pub fn examples()
     ensures password_escape { fault (codes "u:%zz@h") ≡ Some (errors.Password password_errors.InvalidPercentEncoding) }
     ensures behind_port { whole_reading (codes "h:80/x") ≡ Err (errors.Port InvalidCharacter) }
     ensures behind_address { whole_reading (codes "[::1]/") ≡ Err (errors.Host host_errors.InvalidIPv6Character) }
+    ensures behind_later_version { whole_reading (codes "[v1.x]/") ≡ Err (errors.Host host_errors.InvalidIPvFutureCharacter) }
     ensures behind_name { whole_reading (codes "h?") ≡ Err (errors.Host host_errors.InvalidIPv4OrRegisteredNameCharacter) }
     ensures last_colon { reading (codes "u:p:w@[::1]:8") ≡ Ok (record { username = Some (codes "u"); password = Some (codes "p:w"); host = IPv6Address (0 ∷ 0 ∷ 0 ∷ 0 ∷ 0 ∷ 0 ∷ 0 ∷ 1 ∷ []); port = Some 8 }) }
 {}
 
 /// Worked examples of normal forms: names, one of which becomes the text of an address and stays a
-/// name, and a whole authority, whose user name and password keep the case of their letters.
+/// name, an address of a later version, and a whole authority, whose user name and password keep the case of their letters.
 pub fn normal_examples()
     ensures letters { canonical_host (RegisteredName (codes "EXAMPLE.%43om")) ≡ RegisteredName (codes "example.com") }
     ensures escape { canonical_host (RegisteredName (codes "a%2fB")) ≡ RegisteredName (codes "a%2Fb") }
     ensures hidden { canonical_host (RegisteredName (codes "%31.2.3.4")) ≡ RegisteredName (codes "1.2.3.4") }
     ensures empty { canonical_host (RegisteredName []) ≡ RegisteredName [] }
+    ensures later_version { canonical_host (IPvFuture (codes "V1.X:y")) ≡ IPvFuture (codes "v1.x:y") }
     ensures whole { canonical_authority (record { username = Some (codes "%7eU"); password = Some (codes "%7E%3a"); host = RegisteredName (codes "H"); port = Some 80 }) ≡ record { username = Some (codes "~U"); password = Some (codes "~%3A"); host = RegisteredName (codes "h"); port = Some 80 } }
 {}

@@ -198,6 +198,7 @@ alike p q v w e k =
 some_code : (k : host.Kind) → 0 ≡ host.kind_code k → ⊥
 some_code host.V4 e = cc
 some_code host.V6 e = cc
+some_code host.Future e = cc
 some_code host.Name e = cc
 
 same_kind : (k l : Option host.Kind) → kind_code k ≡ kind_code l → k ≡ l

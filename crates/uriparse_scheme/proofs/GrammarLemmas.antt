@@ -1,20 +1,19 @@
 -- What a text that is a scheme is known to be.
-use Rattle.std.proofs.Common.{◌≡◌, ◌↔◌, ℕ, ◌<◌, Bool, true, not, List, [], ◌∷◌, map, IsUtf8, refl, sym, ap, ◌∙◌, arith}
+use Rattle.std.proofs.Common.{◌≡◌, ◌↔◌, ℕ, ◌<◌, Bool, true, not, List, [], ◌∷◌, IsUtf8, refl, ap, ◌∙◌, arith}
 use Rattle.std.specs.Prelude.{◌==◌, IsTrue, bytes_eq}
 use Rattle.std.specs.Char.{is_ascii_alphabetic, to_ascii_lowercase}
-use Rattle.std.specs.List.{flat_map, list_all}
+use Rattle.std.specs.List.{list_all}
 use Rattle.std.specs.Str.{IsAscii, str_to_ascii_lowercase}
 use Rattle.std.proofs.lemmas.Bool.{and_from, and_parts}
-use Rattle.std.proofs.lemmas.Bool.Decides.{nat_tests, same_from_decides}
-use Rattle.std.proofs.lemmas.Slice.Eq.{bytes_eq-Decides}
+use Rattle.std.proofs.lemmas.Bool.Decides.{nat_tests}
 use Rattle.std.proofs.lemmas.Str.{IsUtf8-from_ascii}
 use Rattle.std.proofs.lemmas.Str.Ascii.{IsAscii-nil, IsAscii-cons}
-use Rattle.uriparse_text.specs.declared.parts.token.Token.TheVariants.{Byte}
-use Rattle.uriparse_text.specs.declared.parts.canonical.Case.TheVariants.{Lowered}
 use Rattle.uriparse_text.specs.Bytes.{percent}
-use Rattle.uriparse_text.specs.Tokens.{tokens, spell, is_token, is_well_formed}
-use Rattle.uriparse_text.specs.Canonical.{canonical_token, canonical_lowered, canonical_in}
-use Rattle.uriparse_text.proofs.TokenLemmas.{tokens-nil, tokens-spell}
+use Rattle.uriparse_text.specs.Tokens.{is_well_formed}
+use Rattle.uriparse_text.specs.Canonical.{canonical_lowered}
+use Rattle.uriparse_text.specs.Cuts.{lacks}
+use Rattle.uriparse_text.proofs.CutLemmas.{weaker}
+use Rattle.uriparse_text.proofs.PlainLemmas.{well_formed-plain, canonical_lowered-plain, same_plain}
 use Rattle.uriparse_scheme.specs.Grammar.{is_scheme_byte, is_scheme}
 
 byte_is_ascii : (b : ℕ) → is_scheme_byte b ≡ true → b < 128
@@ -42,32 +41,16 @@ ascii (b ∷ t) h =
 pub IsUtf8-scheme : (t : List ℕ) → is_scheme t ≡ true → IsUtf8 t
 IsUtf8-scheme t h = IsUtf8-from_ascii t (ascii t (scheme_bytes t h))
 
--- a scheme has no escapes, so its tokens are its bytes
-single : (t : List ℕ) → list_all is_scheme_byte t ≡ true → tokens t ≡ map Byte t
-single [] h = tokens-nil
-single (b ∷ t) h =
-    let both = and_parts (is_scheme_byte b) (list_all is_scheme_byte t) h in
-    tokens-spell (Byte b) t (byte_not_percent b both.0) ∙ ap (λ ts. Byte b ∷ ts) (single t both.1)
-
-single_formed : (t : List ℕ) → list_all is_scheme_byte t ≡ true → list_all is_token (map Byte t) ≡ true
-single_formed [] h = refl
-single_formed (b ∷ t) h =
-    let both = and_parts (is_scheme_byte b) (list_all is_scheme_byte t) h in
-    and_from _ _ (byte_not_percent b both.0) (single_formed t both.1)
+-- a scheme has no escapes
+pub scheme_lacks : (t : List ℕ) → is_scheme t ≡ true → lacks percent t ≡ true
+scheme_lacks t h = weaker is_scheme_byte (λ b. not (b == percent)) byte_not_percent t (scheme_bytes t h)
 
 pub well_formed-scheme : (t : List ℕ) → is_scheme t ≡ true → is_well_formed t ≡ true
-well_formed-scheme t h =
-    let each = scheme_bytes t h in ap (list_all is_token) (single t each) ∙ single_formed t each
-
-lowered : (t : List ℕ) → flat_map spell (map (canonical_token Lowered) (map Byte t)) ≡ str_to_ascii_lowercase t
-lowered [] = refl
-lowered (b ∷ t) = ap (λ u. to_ascii_lowercase b ∷ u) (lowered t)
+well_formed-scheme t h = well_formed-plain t (scheme_lacks t h)
 
 -- the canonical spelling of a scheme is the scheme in lower case
 pub canonical_low_of_scheme : (t : List ℕ) → is_scheme t ≡ true → canonical_lowered t ≡ str_to_ascii_lowercase t
-unfolding canonical_in
-canonical_low_of_scheme t h =
-    ap (λ ts. flat_map spell (map (canonical_token Lowered) ts)) (single t (scheme_bytes t h)) ∙ lowered t
+canonical_low_of_scheme t h = canonical_lowered-plain t (scheme_lacks t h)
 
 -- ---- in lower case it is a scheme
 
@@ -95,8 +78,4 @@ is_scheme-canonical_lowered t h = ap is_scheme (canonical_low_of_scheme t h) ∙
 -- a test of the texts in lower case is one of the canonical spellings
 pub same_from_lowered : (left right : List ℕ) (r : Bool) → is_scheme left ≡ true → is_scheme right ≡ true →
     (IsTrue r ↔ (str_to_ascii_lowercase left ≡ str_to_ascii_lowercase right)) → r ≡ bytes_eq (canonical_lowered left) (canonical_lowered right)
-same_from_lowered left right r h k iff =
-    let l = canonical_low_of_scheme left h in
-    let m = canonical_low_of_scheme right k in
-    same_from_decides r (bytes_eq (canonical_lowered left) (canonical_lowered right)) (λ e. l ∙ iff.0 e ∙ sym m, λ e. iff.1 (sym l ∙ e ∙ m))
-    (bytes_eq-Decides (canonical_lowered left) (canonical_lowered right))
+same_from_lowered left right r h k iff = same_plain left right r (scheme_lacks left h) (scheme_lacks right k) iff

@@ -2,20 +2,20 @@
 
 pub mod from_root {
     pub use uriparse::{
-        Authority, AuthorityError, Edit, Fragment, FragmentError, Host, HostError, IpAddr,
-        Ipv4Addr, Ipv6Addr, Password, PasswordError, Path, PathError, PortError, Query, QueryError,
-        RegisteredName, RegisteredNameError, RelativeReference, RelativeReferenceBuilder,
-        RelativeReferenceError, Scheme, SchemeError, SchemeStatus, Segment, URI, URIBuilder,
-        URIError, URIReference, URIReferenceBuilder, URIReferenceError, UnregisteredScheme,
-        Username, UsernameError,
+        Authority, AuthorityError, Edit, Fragment, FragmentError, Host, HostError, IPvFuture,
+        IpAddr, Ipv4Addr, Ipv6Addr, Password, PasswordError, Path, PathError, PortError, Query,
+        QueryError, RegisteredName, RegisteredNameError, RelativeReference,
+        RelativeReferenceBuilder, RelativeReferenceError, Scheme, SchemeError, SchemeStatus,
+        Segment, URI, URIBuilder, URIError, URIReference, URIReferenceBuilder, URIReferenceError,
+        UnregisteredScheme, Username, UsernameError,
     };
 }
 
 pub mod from_modules {
     pub use uriparse::authority::{
-        Authority, AuthorityError, Host, HostError, IpAddr, Ipv4Addr, Ipv6Addr, Password,
-        PasswordError, PortError, RegisteredName, RegisteredNameError, Username, UsernameError,
-        parse_port,
+        Authority, AuthorityError, Host, HostError, IPvFuture, IpAddr, Ipv4Addr, Ipv6Addr,
+        Password, PasswordError, PortError, RegisteredName, RegisteredNameError, Username,
+        UsernameError, parse_port,
     };
     pub use uriparse::fragment::{Fragment, FragmentError};
     pub use uriparse::path::{MAX_SEGMENTS, Path, PathError, Segment};

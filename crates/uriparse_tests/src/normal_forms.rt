@@ -65,6 +65,7 @@ normalize //h/a/..//b -> //h//b
 normalize s:a:b/../c -> s:/c
 normalize ?%7e#%c3%A9 -> ?~#%C3%A9
 normalize //%7eu:%7Ep@H/ -> //~u:~p@h/
+normalize //[V1.X:y]:8 -> //[v1.x:y]:8/
 normalize '' -> ''
 is-normal s:/.//b -> true
 is-normal ./c:d -> true
@@ -73,6 +74,8 @@ is-normal a/. -> false
 is-normal s:/.//. -> false
 is-normal SCHEME:a -> false
 is-normal //H -> false
+is-normal //[V1.x] -> false
+is-normal //[v1.x] -> true
 is-normal ?%7e -> false
 is-normal #%c3 -> false
 edits s:a/./%7e -> s:a/~?q~#f%7e

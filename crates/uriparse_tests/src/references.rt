@@ -249,7 +249,10 @@ reference //[::1]:8] -> invalid host IPv6 character
 reference a?b#d#e -> invalid fragment character
 reference a%2 -> invalid path percent encoding
 reference #% -> invalid fragment percent encoding
-reference //[v1.x] -> host address mechanism not supported
+reference //[v1.x] -> //[v1.x]/
+parts //[V1.X:y]:8 -> ipvfuture=[V1.X:y] port=8 path=/
+reference //[V1.X:y]:8 -> //[V1.X:y]:8/
+reference //[v1] -> invalid host IPvFuture format
 reference //[v1.%41] -> invalid host IPvFuture character
 reference //[] -> invalid host IPv6 format
 reference 'a b' -> invalid path character
@@ -270,5 +273,7 @@ references #%2F #/ -> different
 references http://h/%7e HTTP://H/~ -> equal
 references http://h http://h/ -> equal
 references //%31.2.3.4 //1.2.3.4 -> different
+references //[v1.X] //[V1.x] -> equal
+references //[v1.x] //v1.x -> different
 references scheme:x SCHEME:x -> equal
 references //[::FFFF:1.2.3.4] //[::ffff:102:304]/ -> equal";

@@ -10,6 +10,7 @@ pub mod FineLemmas
 pub mod ScanLemmas
 mod MeaningLemmas
 pub mod CutLemmas
+pub mod PlainLemmas
 pub mod EndLemmas
 pub mod OptionLemmas
 pub mod ReadingLemmas

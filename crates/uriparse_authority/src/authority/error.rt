@@ -12,8 +12,8 @@ pub struct RegisteredNameError;
 /// Why a text is no host.
 #[derive(Clone, Debug, Drop, PartialEq, Eq, Hash, Error)]
 pub enum HostError {
-    /// Between brackets stand `v` or `V`, a hexadecimal digit, and only bytes that an address of a
-    /// later version (`IPvFuture`) may have. None is read.
+    /// No call returns this. Earlier versions rejected each address of a later version
+    /// ([`IPvFuture`](super::IPvFuture)) with it.
     #[error("host address mechanism not supported")]
     AddressMechanismNotSupported,
     /// A byte that no name has, or a broken escape; or, where an authority is read by itself, a
@@ -27,10 +27,14 @@ pub enum HostError {
     /// Between brackets stand bytes of an IPv6 address, but none of its forms.
     #[error("invalid host IPv6 format")]
     InvalidIPv6Format,
-    /// Between brackets stand `v` or `V` and a hexadecimal digit, and a byte that no address of a
-    /// later version has.
+    /// A byte that no address of a later version has; or, if an authority is read by itself, a byte
+    /// that follows such an address and ends it.
     #[error("invalid host IPvFuture character")]
     InvalidIPvFutureCharacter,
+    /// Only bytes of an address of a later version, but not its form: `v`, hexadecimal digits, a
+    /// dot, and something after it.
+    #[error("invalid host IPvFuture format")]
+    InvalidIPvFutureFormat,
 }
 
 /// Why a text is no user name. The leftmost fault answers.

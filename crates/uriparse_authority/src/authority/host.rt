@@ -7,6 +7,7 @@ ghost use Rattle.uriparse_authority.specs.Host as spec;
 ghost use Rattle.uriparse_authority.specs.Normal.{canonical_host};
 
 use super::error::HostError;
+use super::future::IPvFuture;
 use super::name::RegisteredName;
 use std::alloc::{AllocError, Global};
 use std::fmt;
@@ -19,11 +20,11 @@ pub(in crate::authority) mod read;
 
 use read::find_host;
 
-/// The host of an authority: an IPv4 address, an IPv6 address, which stands in brackets, or a
-/// registered name.
+/// The host of an authority: an IPv4 address, an IPv6 address or one of a later version, which stand
+/// in brackets, or a registered name.
 ///
-/// RFC 3986, section 3.2.2. Addresses are held by value. A name borrows the text that it was read
-/// from, or owns its text. Its readers take no memory; [`HostError`] says what they refuse. Two
+/// RFC 3986, section 3.2.2. IPv4 and IPv6 addresses are held by value. An address of a later version
+/// and a name borrow the text that they were read from, or own their text. Its readers take no memory; [`HostError`] says what they refuse. Two
 /// hosts are equal where they are of one kind and their canonical spellings agree, so the name
 /// `%31.2.3.4` isn't the address `1.2.3.4`.
 ///
@@ -38,6 +39,8 @@ pub enum Host<'h> {
     IPv4Address(Ipv4Addr),
     /// An IPv6 address.
     IPv6Address(Ipv6Addr),
+    /// An address of a later version, without its brackets.
+    IPvFuture(IPvFuture<'h>),
     /// A name, which may be empty.
     RegisteredName(RegisteredName<'h>),
 }
@@ -51,18 +54,15 @@ const IPV4_BYTES: usize = 15;
 const IPV6_BYTES: usize = 41;
 
 impl<'h> Host<'h> {
-    /// Reads a host. A name borrows the bytes. Takes no memory.
+    /// Reads a host. A name and an address of a later version borrow the bytes. Does not allocate.
     ///
-    /// A text in brackets is an IPv6 address; any other is the IPv4 address that it spells, or else
-    /// a name. Between brackets,
-    /// [`AddressMechanismNotSupported`](HostError::AddressMechanismNotSupported) is answered for
-    /// `v` or `V`, a hexadecimal digit and then only bytes that an address of a later version may
-    /// have, [`InvalidIPvFutureCharacter`](HostError::InvalidIPvFutureCharacter) for the same with
-    /// another byte; else [`InvalidIPv6Character`](HostError::InvalidIPv6Character) for a byte that
-    /// no IPv6 address has, and [`InvalidIPv6Format`](HostError::InvalidIPv6Format) for no form of
-    /// one. Without brackets,
-    /// [`InvalidIPv4OrRegisteredNameCharacter`](HostError::InvalidIPv4OrRegisteredNameCharacter) is
-    /// answered for a byte that no name has and for a broken escape.
+    /// A text in brackets is an IPv6 address, or an [`IPvFuture`] if it begins with `v` or `V`; any
+    /// other text is the IPv4 address that it spells, or else a name. Between brackets, an
+    /// [`IPvFuture`] fails as [its own reader](IPvFuture::try_from_bytes) does, an IPv6 address with
+    /// [`InvalidIPv6Character`](HostError::InvalidIPv6Character) for a byte that none has, else with
+    /// [`InvalidIPv6Format`](HostError::InvalidIPv6Format). Without brackets, a byte that no name has
+    /// and a broken escape fail with
+    /// [`InvalidIPv4OrRegisteredNameCharacter`](HostError::InvalidIPv4OrRegisteredNameCharacter).
     pub fn try_from_bytes(bytes: &'h [u8]) -> Result<Host<'h>, HostError>
         ensures { result ≡ spec.reading bytes.now }
     {
@@ -93,6 +93,13 @@ impl<'h> Host<'h> {
         matches!(self, Host::IPv6Address(_))
     }
 
+    /// Whether the host is an address of a later version.
+    pub fn is_ipvfuture_address(&self) -> bool
+        ensures { IsTrue result ↔ (spec.kind self.now ≡ spec.Future) }
+    {
+        matches!(self, Host::IPvFuture(_))
+    }
+
     /// Whether the host is a registered name.
     pub fn is_registered_name(&self) -> bool
         ensures { IsTrue result ↔ (spec.kind self.now ≡ spec.Name) }
@@ -107,41 +114,50 @@ impl<'h> Host<'h> {
         match self {
             Host::IPv4Address(address) => Host::IPv4Address(*address),
             Host::IPv6Address(address) => Host::IPv6Address(*address),
+            Host::IPvFuture(address) => Host::IPvFuture(address.as_borrowed()),
             Host::RegisteredName(name) => Host::RegisteredName(name.as_borrowed()),
         }
     }
 
-    /// The same host, which owns its text. A name's borrowed text is copied, which wants memory;
-    /// where there is none, the host is gone.
+    /// The same host, which owns its text. Copies a borrowed text; if memory runs out, the host is
+    /// gone.
     pub fn into_owned(self, alloc: Global) -> Result<Host<'static>, AllocError>
         ensures { IfOk result (λ h. h ≡ self.entry) }
     {
         match self {
             Host::IPv4Address(address) => Ok(Host::IPv4Address(address)),
             Host::IPv6Address(address) => Ok(Host::IPv6Address(address)),
+            Host::IPvFuture(address) => Ok(Host::IPvFuture(address.into_owned(alloc)?)),
             Host::RegisteredName(name) => Ok(Host::RegisteredName(name.into_owned(alloc)?)),
         }
     }
 
-    /// Whether the host's text is its canonical spelling: RFC 3986, section 6.2.2. An address's
-    /// always is. Takes no memory.
+    /// Whether the host's text is its canonical spelling: RFC 3986, section 6.2.2. That of an IPv4
+    /// or IPv6 address always is. Does not allocate.
     pub fn is_normalized(&self) -> bool
         ensures { IsTrue result ↔ (spec.text (canonical_host self.now) ≡ spec.text self.now) }
     {
         match self {
             Host::IPv4Address(_) | Host::IPv6Address(_) => true,
+            Host::IPvFuture(address) => address.is_normalized(),
             Host::RegisteredName(name) => name.is_normalized(),
         }
     }
 
-    /// A copy in canonical spelling of a name that isn't canonical, or none. Wants memory for such
-    /// a name alone.
+    /// A copy in canonical spelling of a host whose text isn't canonical, or none. Allocates for
+    /// such a host alone.
     pub(super) fn canonical_copy(&self, alloc: Global) -> Result<Option<Host<'static>>, AllocError>
         ensures copy { IfOk result (λ copy. unwrap_or copy self.now ≡ canonical_host self.now) }
         ensures takes_no_memory { spec.text (canonical_host self.now) ≡ spec.text self.now → IsOk result }
     {
         match self {
             Host::IPv4Address(_) | Host::IPv6Address(_) => Ok(None),
+            Host::IPvFuture(address) => {
+                if address.is_normalized() {
+                    return Ok(None);
+                }
+                Ok(Some(Host::IPvFuture(address.to_normalized(alloc)?)))
+            }
             Host::RegisteredName(name) => {
                 if name.is_normalized() {
                     return Ok(None);
@@ -151,10 +167,10 @@ impl<'h> Host<'h> {
         }
     }
 
-    /// Puts a name in canonical spelling, in which letters are lower case: RFC 3986, section 6.2.2.
-    /// It stays a name, also where its text spells an IPv4 address then. Addresses stay as they
-    /// are. Memory is wanted only where the text changes; where there is none, the host is
-    /// unchanged. A second call changes nothing.
+    /// Puts a name and an address of a later version in canonical spelling, in which letters are
+    /// lower case: RFC 3986, section 6.2.2. A name stays one, even if its text then spells an IPv4
+    /// address. IPv4 and IPv6 addresses stay as they are. Allocates only if the text changes; if
+    /// memory runs out, the host is unchanged. A second call changes nothing.
     pub fn normalize(&mut self, alloc: Global) -> Result<(), AllocError>
         ensures ok { OnOk result (self.new ≡ canonical_host self.old) }
         ensures err { OnErr result (self.new ≡ self.old) }
@@ -162,6 +178,7 @@ impl<'h> Host<'h> {
     {
         match self {
             Host::IPv4Address(_) | Host::IPv6Address(_) => Ok(()),
+            Host::IPvFuture(address) => address.normalize(alloc),
             Host::RegisteredName(name) => name.normalize(alloc),
         }
     }
@@ -177,6 +194,9 @@ impl<'h> Host<'h> {
             Host::IPv6Address(address) => {
                 let _segments = address.segments();
             }
+            Host::IPvFuture(address) => {
+                let _text = address.as_str();
+            }
             Host::RegisteredName(name) => {
                 let _text = name.as_str();
             }
@@ -191,6 +211,7 @@ impl<'h> Host<'h> {
         match self {
             Host::IPv4Address(_) => IPV4_BYTES,
             Host::IPv6Address(_) => IPV6_BYTES,
+            Host::IPvFuture(address) => address.as_str().len() + 2,
             Host::RegisteredName(name) => name.as_str().len(),
         }
     }
@@ -225,6 +246,16 @@ impl<'h> From<Ipv6Addr> for Host<'h> {
     }
 }
 
+impl<'h> From<IPvFuture<'h>> for Host<'h> {
+    ghost use Rattle.uriparse_authority.specs.declared.authority.host.Host.TheVariants as hosts;
+
+    ghost from_gives = { λ f h. h ≡ hosts.IPvFuture f };
+
+    fn from(address: IPvFuture<'h>) -> Host<'h> {
+        Host::IPvFuture(address)
+    }
+}
+
 impl<'h> From<IpAddr> for Host<'h> {
     ghost use Rattle.uriparse_authority.specs.Host.{host_at};
 
@@ -249,6 +280,7 @@ impl<'h> PartialEq for Host<'h> {
             (Host::IPv6Address(left), Host::IPv6Address(right)) => {
                 left.segments() == right.segments()
             }
+            (Host::IPvFuture(left), Host::IPvFuture(right)) => left == right,
             (Host::RegisteredName(left), Host::RegisteredName(right)) => left == right,
             _ => false,
         }
@@ -277,6 +309,11 @@ impl<'h> Hash for Host<'h> {
                 state.write_u8(6);
                 address.segments().hash(state);
             }
+            Host::IPvFuture(address) => {
+                self.assert_valid();
+                state.write_u8(7);
+                address.hash(state);
+            }
             Host::RegisteredName(name) => {
                 state.write_u8(1);
                 name.hash(state);
@@ -299,6 +336,11 @@ impl<'h> fmt::Display for Host<'h> {
                 fmt::Display::fmt(address, f)?;
                 f.write_str("]")
             }
+            Host::IPvFuture(address) => {
+                f.write_str("[")?;
+                f.write_str(address.as_str())?;
+                f.write_str("]")
+            }
             Host::RegisteredName(name) => f.write_str(name.as_str()),
         }
     }
@@ -309,6 +351,7 @@ impl<'h> fmt::Debug for Host<'h> {
         match self {
             Host::IPv4Address(address) => f.debug_tuple("IPv4Address").field(address).finish(),
             Host::IPv6Address(address) => f.debug_tuple("IPv6Address").field(address).finish(),
+            Host::IPvFuture(address) => fmt::Debug::fmt(address, f),
             Host::RegisteredName(name) => fmt::Debug::fmt(name, f),
         }
     }

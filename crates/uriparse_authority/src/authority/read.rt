@@ -166,6 +166,7 @@ fn rest_error(read: &Authority<'_>) -> AuthorityError
     }
     AuthorityError::Host(match read.host() {
         Host::IPv6Address(_) => HostError::InvalidIPv6Character,
+        Host::IPvFuture(_) => HostError::InvalidIPvFutureCharacter,
         _ => HostError::InvalidIPv4OrRegisteredNameCharacter,
     })
 }

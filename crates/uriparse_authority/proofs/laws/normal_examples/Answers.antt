@@ -6,4 +6,4 @@ use Rattle.uriparse_authority.proofs.laws.normal_examples.Goals as goal
 
 pub returns : goal.returns
 unfolding is_unreserved canonical_in tokens
-returns c = record { letters = refl; escape = refl; hidden = refl; empty = refl; whole = refl }
+returns c = record { letters = refl; escape = refl; hidden = refl; empty = refl; later_version = refl; whole = refl }

@@ -4,18 +4,21 @@ ghost use Rattle.uriparse_authority.specs.declared.authority.host.Host.TheVarian
 ghost use Rattle.uriparse_text.specs.declared.parts.class.Class.TheVariants as class;
 ghost use Rattle.uriparse_text.specs.declared.parts.canonical.Case.TheVariants as case;
 ghost use Rattle.uriparse_text.specs.Spelling.{IsKept};
+ghost use Rattle.uriparse_authority.specs.Future.{IsFuture};
 
+use super::super::future::IPvFuture;
 use super::super::name::RegisteredName;
 use super::Host;
 use std::marker::Model;
 use uriparse_text::address::{Ipv4Addr, Ipv6Addr};
 
-/// The bytes of a name, or an address. It is seen as the host that it is.
+/// The bytes of a name or of an address of a later version, or an IPv4 or IPv6 address. It is seen
+/// as the host that it is.
 #[derive(Drop)]
 pub(in crate::authority) struct FoundHost<'h> {
-    // 0 a name, 4 and 6 an address: a word, since a narrow tag would be moved with its padding.
+    // 0 a name, 4, 6 and 7 an address: a word, since a narrow tag would be moved with its padding.
     kind: usize,
-    name: &'h [u8],
+    text: &'h [u8],
     // 1 where the name is canonical.
     canonical: usize,
     ipv6: Ipv6Addr,
@@ -32,9 +35,9 @@ impl<'h> Model for FoundHost<'h> {
 
     ghost Value = { Host };
 
-    ghost view = { λ f. found_host f.kind f.name.now f.ipv4 f.ipv6 };
+    ghost view = { λ f. found_host f.kind f.text.now f.ipv4 f.ipv6 };
 
-    ghost invariant = { λ f. Valid (found_host f.kind f.name.now f.ipv4 f.ipv6) × ((f.canonical == 1) ≡ true → canonical_in case.Lowered f.name.now ≡ f.name.now) };
+    ghost invariant = { λ f. Valid (found_host f.kind f.text.now f.ipv4 f.ipv6) × ((f.canonical == 1) ≡ true → canonical_in case.Lowered f.text.now ≡ f.text.now) };
 }
 
 /// The bytes are a name, and it is canonical where that is said.
@@ -45,7 +48,7 @@ pub(in crate::authority) fn found_name(bytes: &[u8], canonical: bool) -> FoundHo
 {
     FoundHost {
         kind: 0,
-        name: bytes,
+        text: bytes,
         canonical: usize::from(canonical),
         ipv6: Ipv6Addr::new(0, 0, 0, 0, 0, 0, 0, 0),
         ipv4: Ipv4Addr::new(0, 0, 0, 0),
@@ -60,7 +63,7 @@ pub(in crate::authority) fn found_ipv4(address: Ipv4Addr) -> FoundHost<'static>
     let _octets = address.octets();
     FoundHost {
         kind: 4,
-        name: b"",
+        text: b"",
         canonical: 0,
         ipv6: Ipv6Addr::new(0, 0, 0, 0, 0, 0, 0, 0),
         ipv4: address,
@@ -74,21 +77,35 @@ pub(super) fn found_ipv6(address: Ipv6Addr) -> FoundHost<'static>
     let _segments = address.segments();
     FoundHost {
         kind: 6,
-        name: b"",
+        text: b"",
         canonical: 0,
         ipv6: address,
         ipv4: Ipv4Addr::new(0, 0, 0, 0),
     }
 }
 
+/// The bytes are an address of a later version.
+pub(super) fn found_future(bytes: &[u8]) -> FoundHost<'_>
+    requires { IsFuture bytes.now }
+    ensures { result ≡ hosts.IPvFuture bytes.now }
+{
+    FoundHost {
+        kind: 7,
+        text: bytes,
+        canonical: 0,
+        ipv6: Ipv6Addr::new(0, 0, 0, 0, 0, 0, 0, 0),
+        ipv4: Ipv4Addr::new(0, 0, 0, 0),
+    }
+}
+
 impl<'h> FoundHost<'h> {
-    /// The host, whose name borrows the bytes. Takes no memory.
+    /// The host, whose text borrows the bytes. Takes no memory.
     #[inline(always)]
     pub(in crate::authority) fn to_host(&self) -> Host<'h>
         ensures { result ≡ self.now }
     {
         if self.kind == 0 {
-            Host::RegisteredName(RegisteredName::of_kept(self.name, self.canonical == 1))
+            Host::RegisteredName(RegisteredName::of_kept(self.text, self.canonical == 1))
         } else {
             self.to_any_host()
         }
@@ -100,9 +117,11 @@ impl<'h> FoundHost<'h> {
         ensures { result ≡ self.now }
     {
         if self.kind == 0 {
-            Host::RegisteredName(RegisteredName::of_kept(self.name, self.canonical == 1))
+            Host::RegisteredName(RegisteredName::of_kept(self.text, self.canonical == 1))
         } else if self.kind == 4 {
             Host::IPv4Address(self.ipv4)
+        } else if self.kind == 7 {
+            Host::IPvFuture(IPvFuture::of_checked(self.text))
         } else {
             Host::IPv6Address(self.ipv6)
         }

@@ -3,10 +3,12 @@ ghost use Rattle.std.specs.Prelude.{◌≡◌};
 ghost use Rattle.std.specs.Option.{option_copied};
 ghost use Rattle.std.specs.List.{list_all};
 ghost use Rattle.uriparse_text.specs.Address.{is_ipv6_byte};
+ghost use Rattle.uriparse_authority.specs.Future as future;
 ghost use Rattle.uriparse_authority.specs.Host as host;
 
+use super::super::future::{begins_future, future_fault};
 use super::HostError;
-use super::found::{FoundHost, found_ipv4, found_ipv6, found_name};
+use super::found::{FoundHost, found_future, found_ipv4, found_ipv6, found_name};
 use uriparse_text::address::{Ipv4Addr, Ipv6Addr};
 use uriparse_text::parts::{Case, Class, check_bytes};
 
@@ -28,29 +30,6 @@ fn in_brackets(bytes: &[u8]) -> Option<&[u8]>
     }
 }
 
-/// Whether the text begins with `v` and a hexadecimal digit, as an address of a later version does.
-fn begins_future(bytes: &[u8]) -> bool
-    ensures { result ≡ host.begins_future bytes.now }
-{
-    match bytes {
-        [v, digit, ..] => matches!(v, b'v' | b'V') && digit.is_ascii_hexdigit(),
-        _ => false,
-    }
-}
-
-#[tactic(auto, unfolding(uriparse_text::specs::Classes::is_plain))]
-fn is_future_byte(b: u8) -> bool
-    ensures { result ≡ host.is_future_byte b }
-{
-    Class::UserInfo.has(b)
-}
-
-fn are_future_bytes(bytes: &[u8]) -> bool
-    ensures { result ≡ list_all host.is_future_byte bytes.now }
-{
-    bytes.iter().all(|b| is_future_byte(*b))
-}
-
 fn are_ipv6_bytes(bytes: &[u8]) -> bool
     ensures { result ≡ list_all is_ipv6_byte bytes.now }
 {
@@ -59,17 +38,23 @@ fn are_ipv6_bytes(bytes: &[u8]) -> bool
         .all(|b| b.is_ascii_hexdigit() || *b == b':' || *b == b'.')
 }
 
+/// Reads an address of a later version.
+fn read_future(bytes: &[u8]) -> Result<FoundHost<'_>, HostError>
+    ensures { result ≡ host.future_host (future.reading bytes.now) }
+{
+    match future_fault(bytes) {
+        Some(error) => Err(error),
+        None => Ok(found_future(bytes)),
+    }
+}
+
 /// Reads the text between brackets.
 #[inline(never)]
 fn read_literal(bytes: &[u8]) -> Result<FoundHost<'_>, HostError>
     ensures { result ≡ host.literal_reading bytes.now }
 {
     if begins_future(bytes) {
-        return Err(if are_future_bytes(bytes) {
-            HostError::AddressMechanismNotSupported
-        } else {
-            HostError::InvalidIPvFutureCharacter
-        });
+        return read_future(bytes);
     }
     if !are_ipv6_bytes(bytes) {
         return Err(HostError::InvalidIPv6Character);
@@ -93,7 +78,7 @@ fn read_name(bytes: &[u8]) -> Result<FoundHost<'_>, HostError>
     }
 }
 
-/// Finds a host, whose name borrows the bytes. Takes no memory.
+/// Finds a host, whose text borrows the bytes. Takes no memory.
 pub(in crate::authority) fn find_host(bytes: &[u8]) -> Result<FoundHost<'_>, HostError>
     ensures { result ≡ host.reading bytes.now }
 {

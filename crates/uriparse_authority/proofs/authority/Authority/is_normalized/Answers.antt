@@ -36,3 +36,14 @@ returns-else-is_canonical_part-2-clause-text c =
             ∙ (canonical_part _ _ c.is_canonical_part.ensures).1 (ap (λ p. p.username) (kept_inside _ _ c.self.view_is c.self.invariant same)))),
       )
     ]
+
+pub returns-then-is_canonical_part-2-clause-form : goal.returns-then-is_canonical_part-2-clause-form
+returns-then-is_canonical_part-2-clause-form c is =
+    elim c.if-is_canonical_part.branch [
+      | then-is_canonical_part w ↦ (
+          let username = (canonical_part _ _ c.is_canonical_part.ensures).0 w.if-is_canonical_part.true in
+          let password = (canonical_part _ _ w.is_canonical_part-then-is_canonical_part.ensures).0 (sym w.value-is ∙ c.if-is_canonical_part-2.true) in
+          subst (λ p. canonical_authority p ≡ p) c.self.view_is (canonical_of_parts _ username password (c.is_normalized.ensures.0 is))
+          )
+      | else-is_canonical_part w ↦ absurd (false≢true (sym w.if-is_canonical_part.false ∙ sym w.value-is ∙ c.if-is_canonical_part-2.true))
+    ]

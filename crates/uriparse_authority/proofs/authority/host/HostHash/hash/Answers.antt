@@ -1,4 +1,6 @@
-use Rattle.uriparse_authority.proofs.HostLemmas.{feeds_ipv4, feeds_ipv6}
+use Rattle.std.proofs.Common.{subst}
+use Rattle.uriparse_authority.specs.Host.{Valid}
+use Rattle.uriparse_authority.proofs.HostLemmas.{feeds_ipv4, feeds_ipv6, feeds_future}
 use Rattle.uriparse_authority.proofs.authority.host.HostHash.hash.Goals as goal
 
 pub returns-in-IPv4Address-clause-key : goal.returns-in-IPv4Address-clause-key
@@ -11,3 +13,8 @@ returns-in-IPv6Address-clause-key g c =
     feeds_ipv6 g.H.Hasher.write c.args.state.now c.write_u8-in-IPv6Address.new.self c.hash-in-IPv6Address.new.state c.args.self.now c.in-IPv6Address.address
     c.segments.result
     c.in-IPv6Address.is c.segments.ensures.segments c.segments.ensures.value c.write_u8-in-IPv6Address.ensures c.hash-in-IPv6Address.ensures
+
+pub returns-in-IPvFuture-clause-key : goal.returns-in-IPvFuture-clause-key
+returns-in-IPvFuture-clause-key g c =
+    feeds_future g.H.Hasher.write c.args.state.now c.write_u8-in-IPvFuture.new.self c.hash-in-IPvFuture.new.state c.args.self.now c.in-IPvFuture.address
+    c.in-IPvFuture.is (subst Valid c.in-IPvFuture.is c.assert_valid.ensures) c.write_u8-in-IPvFuture.ensures c.hash-in-IPvFuture.ensures
