@@ -21,6 +21,7 @@ mod CopyLemmas
 mod CountLemmas
 mod CutLemmas
 mod EditLemmas
+mod TallyLemmas
 mod ElementLemmas
 pub mod ReadLemmas
 pub mod LimitLemmas

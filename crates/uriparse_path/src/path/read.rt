@@ -8,6 +8,7 @@ ghost use Rattle.uriparse_text.specs.Cuts.{from_first, up_to};
 ghost use Rattle.uriparse_path.specs.Path.{IsPath, is_slash, is_rooted, pieces, spelled, unrooted};
 ghost use Rattle.uriparse_path.specs.Faults.{ends_path, fault, fault_within, path_front};
 
+use super::counts::Counts;
 use super::error::PathError;
 use super::segment::{Segment, fault_at};
 use super::{MAX_SEGMENTS, Path};
@@ -179,5 +180,5 @@ pub fn counted_path(alloc: Global, count: usize, text: &[u8]) -> Result<Path<'_>
 {
     let (absolute, rest) = split_root(text);
     let segments = split_segments(alloc, count, rest)?;
-    Ok(Path::of(absolute, segments))
+    Ok(Path::of(absolute, segments, Counts::none(), false))
 }
