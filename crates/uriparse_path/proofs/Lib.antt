@@ -21,6 +21,7 @@ mod CopyLemmas
 mod CountLemmas
 mod CutLemmas
 mod EditLemmas
+mod PlainLemmas
 mod TallyLemmas
 mod ElementLemmas
 pub mod ReadLemmas

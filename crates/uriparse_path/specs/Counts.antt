@@ -1,10 +1,15 @@
 -- How many segments of a list are of each kind that dot removal and normal forms ask for. A path keeps these numbers.
-use Rattle.std.specs.Prelude.{◌≡◌, ℕ, ◌<◌, ◌≤◌, Bool, true, not, List, length}
+use Rattle.std.specs.Prelude.{◌≡◌, ℕ, ◌<◌, ◌≤◌, Bool, true, false, not, ◌==◌, List, [], ◌∷◌, length}
 use Rattle.std.specs.List.{count_by, prefix_len}
+use Rattle.uriparse_text.specs.Bytes.{dot}
 use Rattle.uriparse_path.specs.declared.path.counts.Counts.{Counts}
 use Rattle.uriparse_path.specs.Path.{max_segments}
 use Rattle.uriparse_path.specs.Dots.{is_single_dot, is_double_dot}
 use Rattle.uriparse_path.specs.Normal.{is_canonical}
+
+abbrev pub begins_with_dot : List ℕ → Bool
+begins_with_dot [] = false
+begins_with_dot (b ∷ s) = b == dot
 
 abbrev pub is_stray : List ℕ → Bool
 is_stray s = not (is_canonical s)

@@ -168,8 +168,8 @@ impl<'p> Path<'p> {
         ensures always { IsErr (reading bytes.now) → result ≡ reading bytes.now }
     {
         let (_, rest) = split_root(bytes);
-        let (count, _) = count_segments(MAX_SEGMENTS, false, rest)?;
-        Ok(counted_path(alloc, count, bytes)?)
+        let (count, _, escaped) = count_segments(MAX_SEGMENTS, false, rest)?;
+        Ok(counted_path(alloc, count, escaped, bytes)?)
     }
 
     /// The same for a text.

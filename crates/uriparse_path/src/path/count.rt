@@ -73,19 +73,6 @@ impl Counts {
         }
     }
 
-    /// The same where the counts are known.
-    #[inline(always)]
-    pub(super) fn add_known(&mut self, known: bool, segments: &[Segment<'_>], last: &Segment<'_>)
-        requires counted { known ≡ true → self.old ≡ spec.counts segments.now }
-        requires room { length segments.now < u32.MAX }
-        requires canonical { known ≡ true → canonical last.now ≡ last.now }
-        ensures { known ≡ true → self.new ≡ spec.counts (segments.now ++ last.now ∷ []) }
-    {
-        if known {
-            self.add(segments, last);
-        }
-    }
-
     /// Those with one canonical segment more behind these segments: one of dots is `.` or `..` itself.
     #[inline(never)]
     fn with_canonical(self, segments: &[Segment<'_>], last: &Segment<'_>) -> Counts
