@@ -272,7 +272,7 @@ module _ (t : List ℕ) (s : Option Scheme) (o : Option (Bor (List ℕ))) (h : L
   unfolding tail_made
   tail_answer v w e k r made =
       let along : tail_reading (is_some s) (is_some o) h q f ≡ tail_reading v w h q f =
-          ap (λ b. tail_reading b (is_some o) h q f) (ap is_some scheme_is ∙ scheme_present t ∙ sym e) ∙ ap (λ b. tail_reading v b h q f) (sym k) in
+      ap (λ b. tail_reading b (is_some o) h q f) (ap is_some scheme_is ∙ scheme_present t ∙ sym e) ∙ ap (λ b. tail_reading v b h q f) (sym k) in
       by_tail ∙ ap (λ r. r >>= λ x. Ok (with_tail s a x)) (along ∙ made)
 
 -- an authority was read where the text has one

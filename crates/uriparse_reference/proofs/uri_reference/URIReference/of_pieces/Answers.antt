@@ -14,7 +14,7 @@ invariant_of-result c =
       | in-None w ↦ search rules
     ] in
     let r : reading t ≡ Ok (record { scheme = c.scheme_if.result; authority = c.match-pieces.authority; path = c.in_ok-path.path; query = c.to_text.result; fragment = c.to_text-2.result }) =
-      rw (c.scheme_if.ensures, c.requires.scheme, a, c.in_ok-path.ensures, c.to_text.ensures, c.to_text-2.ensures, c.is_some.ensures) c.requires.found in
+    rw (c.scheme_if.ensures, c.requires.scheme, a, c.in_ok-path.ensures, c.to_text.ensures, c.to_text-2.ensures, c.is_some.ensures) c.requires.found in
     valid t _ (found t _ r)
 
 pub scheme_if-requires : goal.scheme_if-requires

@@ -35,10 +35,12 @@ returns-in_err-tail c =
 
 pub returns : goal.returns
 returns c =
-    let is = c.in_ok-tail.ensures in
-    (c.cut-front.ensures.scheme,
-    is.0,
-    told (goal.at.returns c).After-find_tail _ is.1
-    ∙ ap Ok (in_place (option_map named (scheme_text c.args.text.now)) c.in_ok-authority.authority c.is_some.result
-    (c.is_some.ensures ∙ sym (read_present c.cut-front.result.authority c.in_ok-authority.authority (sym c.find_authority_if.ensures ∙ c.in_ok-authority.was)))
-    c.in_ok-tail.tail.path.now c.in_ok-tail.tail.query c.in_ok-tail.tail.fragment))
+    let is = c.in_ok-tail.ensures in (
+      c.cut-front.ensures.scheme,
+      is.0,
+      is.1,
+      told (goal.at.returns c).After-find_tail _ is.2
+          ∙ ap Ok (in_place (option_map named (scheme_text c.args.text.now)) c.in_ok-authority.authority c.is_some.result
+          (c.is_some.ensures ∙ sym (read_present c.cut-front.result.authority c.in_ok-authority.authority (sym c.find_authority_if.ensures ∙ c.in_ok-authority.was)))
+          c.in_ok-tail.tail.path.now c.in_ok-tail.tail.query c.in_ok-tail.tail.fragment),
+    )
