@@ -1,9 +1,7 @@
-use Rattle.std.proofs.Common.{sym, ap, subst, ◌∙◌}
-use Rattle.std.specs.List.{list_any, slice_split}
+use Rattle.std.proofs.Common.{sym, ap, ◌∙◌}
 use Rattle.uriparse_text.specs.Bytes.{percent}
 use Rattle.uriparse_text.specs.Cuts.{lacks}
 use Rattle.uriparse_path.specs.Counts.{counts}
-use Rattle.uriparse_path.specs.Path.{IsListed, is_slash}
 use Rattle.uriparse_path.proofs.PlainLemmas.{unrooted_lacks, plain_counts}
 use Rattle.uriparse_path.proofs.path.read.counted_path.Goals as goal
 
