@@ -48,6 +48,31 @@ fn write_last<'t>(path: &mut Path<'t>, segment: &'t str) {
     }
 }
 
+/// Another second segment written through the loan.
+fn write_at_second<'t>(path: &mut Path<'t>, segment: &'t str) {
+    if let Ok(segment) = Segment::try_from_str(segment) {
+        if let Some(second) = path.segments_mut().get_mut(1) {
+            *second = segment;
+        }
+    }
+}
+
+/// What is said of a path, by whether it is normal.
+fn state(is_normal: bool) -> &'static str {
+    if is_normal { "normal" } else { "other" }
+}
+
+/// Whether the path is normal once another second segment is written, by itself and as that of a
+/// reference, and what its normal form as the latter is.
+fn write_second<'t>(alloc: Global, path: &mut Path<'t>, segment: &'t str) -> Answer {
+    write_at_second(path, segment);
+    let alone = state(path.is_normalized(false));
+    let in_reference = state(path.is_normalized(true));
+    path.normalize(alloc, true)?;
+    let text = told(alloc, path)?;
+    format!(in alloc; "{alone} {in_reference} {text}")
+}
+
 /// The text of a copy that owns it, of a copy that borrows.
 fn copy(alloc: Global, path: &Path<'_>) -> Answer {
     told(alloc, &path.to_borrowed(alloc)?.into_owned(alloc)?)
@@ -79,6 +104,7 @@ fn edited<'t>(
         "push-bytes" => push_bytes(alloc, path, text, other),
         "push" => push(alloc, path, text, other),
         "push-behind-empty" => push_behind_empty(alloc, path, other),
+        "write-second" => write_second(alloc, path, other),
         "copy" => copy(alloc, path),
         "pop" | "clear" | "set-absolute" | "write-last" => changed(alloc, command, path, other),
         _ => said(alloc, "no such command"),
@@ -143,5 +169,10 @@ set-absolute // false -> /
 write-last a/b/c .. -> a/
 write-last a/b d -> a/d
 write-last /a/b %2E%2e -> /
+write-second a/b/c .. -> other other c
+write-second a/b/c x -> normal normal a/x/c
+write-second a/../c x -> normal normal a/x/c
+write-second ../b/c .. -> other normal ../../c
+write-second a/b/c %7e -> other other a/~/c
 copy '' -> ''
 copy /a/%7eb//c -> /a/%7eb//c";

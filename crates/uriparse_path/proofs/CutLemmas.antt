@@ -1,6 +1,11 @@
 -- One walk over a text that cuts it into segments at its slashes.
 use Rattle.std.proofs.Common.{◌≡◌, ◌≢◌, ℕ, ◌+◌, ◌-◌, ◌<◌, ◌≤◌, true, false, List, [], ◌∷◌, ◌++◌, length, take, drop, get_or, sym, ap, subst, ◌∙◌}
-use Rattle.std.proofs.Common.{inl, inr, arith, append_assoc, length-drop}
+use Rattle.std.proofs.Common.{inl, inr, arith, append_assoc, length-drop, length-append, Bool, cond, not, suc, refl, ◌&&◌}
+use Rattle.std.specs.Prelude.{◌==◌}
+use Rattle.std.specs.List.{prefix_len, position_or_len}
+use Rattle.uriparse_text.specs.Bytes.{percent}
+use Rattle.uriparse_text.specs.Cuts.{lacks}
+use Rattle.uriparse_text.proofs.CutLemmas.{lacks-left, lacks-right}
 use Rattle.std.specs.List.{All, list_all, slice_split}
 use Rattle.std.specs.Int.{bit_at}
 use Rattle.std.proofs.lemmas.Bool.{cases_lt, and_parts}
@@ -47,6 +52,29 @@ one_of : (items : List (List ℕ)) (s : List ℕ) (ss : List (List ℕ)) → lis
 one_of items s ss h =
     let later = (and_parts (list_all is_segment items) (list_all is_segment (s ∷ ss)) (sym (list_all-append is_segment items (s ∷ ss)) ∙ h)).1 in
     (and_parts (is_segment s) (list_all is_segment ss) later).0
+
+fewer : (items : List (List ℕ)) (s : List ℕ) (ss all : List (List ℕ)) → items ++ s ∷ ss ≡ all → length items < length all
+fewer items s ss all e = let whole = ap length e in let parts = length-append items (s ∷ ss) in omega arith
+
+-- ---- a text in which no escape is found
+
+all_pass : (p : ℕ → Bool) (t : List ℕ) → prefix_len p t ≡ length t → list_all p t ≡ true
+all_pass p [] h = refl
+all_pass p (b ∷ t) h = by_first (p b) refl h (all_pass p t)
+  where
+    by_first : (v : Bool) → p b ≡ v → cond v (1 + prefix_len p t) 0 ≡ suc (length t) → (prefix_len p t ≡ length t → list_all p t ≡ true) → (v && list_all p t) ≡ true
+    by_first true e k more = more (omega (arith, k))
+    by_first false e k more = absurd (omega (arith, k))
+
+pub none_found : (t : List ℕ) (i : ℕ) → i ≡ position_or_len (λ b. b == percent) t → i ≡ length t → lacks percent t ≡ true
+none_found t i e k = all_pass (λ b. not (b == percent)) t (sym e ∙ k)
+
+pub lacks_rest : (t : List ℕ) (start : ℕ) → lacks percent t ≡ true → lacks percent (drop start t) ≡ true
+lacks_rest t start h = lacks-right percent (take start t) (drop start t) (ap (lacks percent) (take-append-drop start t) ∙ h)
+
+pub lacks_piece : (t : List ℕ) (start len : ℕ) → lacks percent t ≡ true → lacks percent (take len (drop start t)) ≡ true
+lacks_piece t start len h =
+    lacks-left percent (take len (drop start t)) (drop len (drop start t)) (ap (lacks percent) (take-append-drop len (drop start t)) ∙ lacks_rest t start h)
 
 module _ (t : List ℕ) (items : List (List ℕ)) (start at n left : ℕ) (is : IsCutRun t items start at n left) where
   -- no slash stands before a place below which no bit is set
@@ -98,6 +126,9 @@ module _ (t : List ℕ) (items : List (List ℕ)) (start at n left : ℕ) (is : 
     pub whole_with : items ++ piece ∷ slice_split is_slash (drop (at + k + 1) t) ≡ slice_split is_slash t
     whole_with = ap (λ ps. items ++ ps) (sym pieces) ∙ is.whole
 
+    pub fewer_cut : length items < length (slice_split is_slash t)
+    fewer_cut = fewer items piece (slice_split is_slash (drop (at + k + 1) t)) (slice_split is_slash t) whole_with
+
     pub piece_is_segment : list_all is_segment (slice_split is_slash t) ≡ true → is_segment piece ≡ true
     piece_is_segment each = one_of items piece (slice_split is_slash (drop (at + k + 1) t)) (ap (list_all is_segment) whole_with ∙ each)
 
@@ -123,6 +154,9 @@ module _ (t : List ℕ) (items : List (List ℕ)) (start at : ℕ) (is : IsCutTo
       let none : All (λ b. is_slash b ≡ false) (drop start t) = All-from_get_or (λ b. is_slash b ≡ false) (drop start t) 0 (λ i h.
       ap is_slash (get_or-drop start t i 0) ∙ is.none (start + i) (omega arith) (omega (arith, h, length-drop start t))) in
       ap (λ ps. items ++ ps) (sym (slice_split_none is_slash (drop start t) none)) ∙ is.whole
+
+  pub last_fewer : length items < length (slice_split is_slash t)
+  last_fewer = fewer items (drop start t) [] (slice_split is_slash t) last_whole
 
   pub last_is_segment : list_all is_segment (slice_split is_slash t) ≡ true → is_segment (drop start t) ≡ true
   last_is_segment each = one_of items (drop start t) [] (ap (list_all is_segment) last_whole ∙ each)

@@ -1,6 +1,7 @@
 -- Dot segments, plain and escaped, and what their canonical spelling tells of a segment.
 use Rattle.std.proofs.Common.{◌≡◌, ℕ, ◌<◌, Bool, true, false, not, ◌&&◌, ◌||◌, List, [], ◌∷◌, ◌++◌, length, map, flat_map, refl, sym, ap, ◌∙◌, arith, Some}
-use Rattle.std.proofs.Common.{None, slice_get, ◌⊎◌, inl, inr, ⊎_elim}
+use Rattle.std.proofs.Common.{None, slice_get, ◌⊎◌, inl, inr, ⊎_elim, ◌≤◌, ◌*◌, cond, subst, length-append}
+use Rattle.std.specs.Char.{to_ascii_uppercase}
 use Rattle.std.specs.Prelude.{◌==◌, ◌↔◌, IsTrue, bytes_eq}
 use Rattle.std.specs.Bool.{one_answer}
 use Rattle.std.specs.List.{list_all, list_any}
@@ -249,3 +250,31 @@ dot_lacks_slash s h = by_single (is_single_dot s) refl
     by_single : (v : Bool) → is_single_dot s ≡ v → LacksSlash s
     by_single true e = single_lacks_slash s e
     by_single false e = double_lacks_slash s (second (is_single_dot s) (is_double_dot s) h e)
+
+-- ---- how long a segment of dots is
+
+-- a token has three bytes at most, and at least one in canonical form
+at_most : (ts : List Token) → length (flat_map spell ts) ≤ 3 * length (flat_map spell (map (canonical_token Kept) ts))
+at_most [] = omega arith
+at_most (Byte b ∷ ts) =
+    let rest = at_most ts in
+    let long = length-append (b ∷ []) (flat_map spell ts) in
+    let short = length-append (spell (canonical_token Kept (Byte b))) (flat_map spell (map (canonical_token Kept) ts)) in
+    omega (arith, rest, long, short)
+at_most (Escape high low ∷ ts) =
+    let rest = at_most ts in
+    let long = length-append (spell (Escape high low)) (flat_map spell ts) in
+    let short = length-append (spell (canonical_token Kept (Escape high low))) (flat_map spell (map (canonical_token Kept) ts)) in
+    let some = one_byte (is_unreserved (escaped_byte high low)) in
+    omega (arith, rest, long, short, some)
+  where
+    one_byte : (v : Bool) → 0 < length (spell (cond v (Byte (escaped_byte high low)) (Escape (to_ascii_uppercase high) (to_ascii_uppercase low))))
+    one_byte true = omega arith
+    one_byte false = omega arith
+
+canonical_length : (s : List ℕ) → length s ≤ 3 * length (canonical s)
+unfolding canonical_in
+canonical_length s = subst (λ t. length t ≤ 3 * length (canonical s)) (spell-tokens s) (at_most (tokens s))
+
+pub dots_short : (s : List ℕ) → is_dot_segment s ≡ true → length s ≤ 6
+dots_short s h = ⊎_elim (λ e. omega (arith, canonical_length s, ap length e)) (λ e. omega (arith, canonical_length s, ap length e)) (single_or_double s h)

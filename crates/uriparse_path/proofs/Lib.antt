@@ -21,6 +21,8 @@ mod CopyLemmas
 mod CountLemmas
 mod CutLemmas
 mod EditLemmas
+mod PlainLemmas
+mod TallyLemmas
 mod ElementLemmas
 pub mod ReadLemmas
 pub mod LimitLemmas

@@ -26,7 +26,7 @@ limit_is = refl
 not_end : (b : ℕ) → is_slash b ≡ true → ends_path b ≡ false
 not_end b e = ap ends_path (eqb-true b slash e)
 
-front_unrooted : (t : List ℕ) → unrooted (up_to ends_path t) ≡ up_to ends_path (unrooted t)
+pub front_unrooted : (t : List ℕ) → unrooted (up_to ends_path t) ≡ up_to ends_path (unrooted t)
 front_unrooted [] = refl
 front_unrooted (b ∷ t) = by_slash (is_slash b) refl
   where
@@ -137,6 +137,14 @@ front_counts t n h = by_fault (fault_within MAX_SEGMENTS (slice_split is_slash f
     by_fault None k =
         let same = sym (ok_is {A = ℕ × ℕ} (length (slice_split is_slash front), length front) n k) in
         (ap (λ m. m.0) same ∙ ap (λ u. length (slice_split is_slash u)) (sym (front_unrooted t)), ap (λ m. m.1) same)
+    by_fault (Some x) k = cc
+
+-- how long a text without fault is
+pub counted_len : (t : List ℕ) (n : ℕ × ℕ) → answer MAX_SEGMENTS t ≡ Ok n → n.1 ≡ length t
+counted_len t n h = by_fault (fault_within MAX_SEGMENTS (slice_split is_slash t)) h
+  where
+    by_fault : (f : Option PathError) → unless_fault {A = ℕ × ℕ} f (length (slice_split is_slash t), length t) ≡ Ok n → n.1 ≡ length t
+    by_fault None k = ap (λ m. m.1) (sym (ok_is {A = ℕ × ℕ} (length (slice_split is_slash t), length t) n k))
     by_fault (Some x) k = cc
 
 -- what stands behind it, and it

@@ -1,6 +1,7 @@
 -- Paths without their dot segments or in normal form, with a "." in front where they would begin with two slashes.
 use Rattle.std.proofs.Common.{◌≡◌, ℕ, ◌+◌, ◌<◌, ◌≤◌, Bool, true, false, ◌&&◌, ◌||◌, cond, List, [], ◌∷◌, length, take, drop, refl, sym, ap, ◌∙◌, subst}
 use Rattle.std.proofs.Common.{arith}
+use Rattle.std.specs.List.{list_all}
 use Rattle.std.proofs.lemmas.Bool.{and_parts}
 use Rattle.std.proofs.lemmas.List.{length-take-le}
 use Rattle.uriparse_text.specs.Bytes.{dot}
@@ -8,10 +9,13 @@ use Rattle.uriparse_path.specs.Path.{PathParts, IsListed, IsCounted, text, spell
 use Rattle.uriparse_path.specs.Dots.{has_dot_segment, replay, replayed, rooted_after, undot, without_dots}
 use Rattle.uriparse_path.specs.Edits.{dotted, shield}
 use Rattle.uriparse_path.specs.Relative.{filled}
-use Rattle.uriparse_path.specs.Normal.{stays_relative, pnormal}
+use Rattle.uriparse_path.specs.Normal.{stays_relative, pnormal, is_normal, is_canonical}
+use Rattle.uriparse_path.specs.declared.path.counts.Counts.{Counts}
+use Rattle.uriparse_path.specs.Counts.{counts}
 use Rattle.uriparse_path.proofs.TextLemmas.{spelled-text}
-use Rattle.uriparse_path.proofs.RelativeLemmas.{hides_relative}
-use Rattle.uriparse_path.proofs.NormalLemmas.{listed_replayed, listed_pnormal, pnormal_relative, undot_path}
+use Rattle.uriparse_path.proofs.RelativeLemmas.{hides_relative, all_canonical_same}
+use Rattle.uriparse_path.proofs.NormalLemmas.{listed_replayed, listed_pnormal, pnormal_relative, normal_kept, normal_iff, pnormal_twice, no_dots_left, undot_path}
+use Rattle.uriparse_path.proofs.CommuteLemmas.{pnormal_without_dots}
 use Rattle.uriparse_path.proofs.PlaceLemmas.{two_slashes-text}
 use Rattle.uriparse_path.proofs.MergeLemmas.{undotted, listed_undotted, shorter}
 
@@ -45,6 +49,11 @@ pub shown_stays : (v : Bool) (q : PathParts) → IsListed q.segments → (v ≡ 
 shown_stays false q is h = refl
 shown_stays true q is h = shield_is q is ∙ ap (λ w. cond w (dotted q) q) (not_twice q (h refl))
 
+-- a normal path is left as it is
+pub normal_shielded : (v : Bool) (p : PathParts) (r : Bool) → IsListed p.segments → is_normal p r ≡ true → (v ≡ true → hides_root p.segments ≡ false)
+    → p ≡ shielded v (pnormal p r)
+normal_shielded v p r listed h shown = sym (ap (shielded v) (normal_kept p r listed h) ∙ shown_stays v p listed shown)
+
 pub kept_shielded : (v : Bool) (p : PathParts) → IsListed p.segments → has_dot_segment p.segments ≡ false → (v ≡ true → hides_root p.segments ≡ false)
     → p ≡ shielded v (without_dots p)
 kept_shielded v p is h f = sym (ap (λ w. shielded v (cond w (spelled (undot (text p))) p)) h ∙ shown_stays v p is f)
@@ -63,6 +72,14 @@ hidden_before q = by_shape q.absolute q.segments
 
 pub undotted_is : (p : PathParts) → IsListed p.segments → has_dot_segment p.segments ≡ true → without_dots p ≡ undotted p
 undotted_is p is h = ap (λ v. cond v (spelled (undot (text p))) p) h ∙ ap spelled (undot_path p is) ∙ spelled-text (replayed p) (listed_replayed p is)
+
+canonical_left : (p : PathParts) → IsListed p.segments → list_all is_canonical p.segments ≡ true → list_all is_canonical (without_dots p).segments ≡ true
+canonical_left p is all =
+    let same : without_dots p ≡ pnormal p false =
+    ap (λ l. without_dots (make p.absolute l)) (sym (all_canonical_same p.segments all)) ∙ pnormal_without_dots p false is refl in
+    let normal : is_normal (pnormal p false) false ≡ true =
+    (normal_iff (pnormal p false) false (listed_pnormal p false is)).1 (ap text (pnormal_twice p false is)) in
+    ap (λ q. list_all is_canonical q.segments) same ∙ (and_parts (list_all is_canonical (pnormal p false).segments) _ normal).0
 
 -- The pass over the path p left the first `kept` of the list `first`, and of these, as their text spells them, the
 -- first `left` of the list `rest`; n tells whether a "." comes in front of them.
@@ -135,6 +152,28 @@ module _ {v : Bool} {p : PathParts} {rooted : Bool} {kept : ℕ} {first : List (
           by_test : (t : Bool) → make absolute (behind t out.segments) ≡ cond t (dotted out) out
           by_test true = refl
           by_test false = ap (make absolute) (filled_some out.segments listed_out.some)
+
+  -- what is left of canonical segments is canonical, and has no dot segment but the "."
+  pub counts_left : (c : Counts) → list_all is_canonical p.segments ≡ true
+      → ((ss : List (List ℕ)) → has_dot_segment ss ≡ false → list_all is_canonical ss ≡ true → n ≡ false → c ≡ counts ss)
+      → ((ss : List (List ℕ)) → has_dot_segment ss ≡ false → list_all is_canonical ss ≡ true → n ≡ true → c ≡ counts ((dot ∷ []) ∷ ss))
+      → c ≡ counts (behind n out.segments)
+  counts_left c all plain dots =
+      by_need n (plain out.segments none canonical) (dots out.segments none canonical)
+    where
+      same : out ≡ without_dots p
+      same = came ∙ sym (undotted_is p is.listed is.dots)
+
+      none : has_dot_segment out.segments ≡ false
+      none = ap (λ q. has_dot_segment q.segments) same ∙ no_dots_left p is.listed
+
+      canonical : list_all is_canonical out.segments ≡ true
+      canonical = ap (λ q. list_all is_canonical q.segments) same ∙ canonical_left p is.listed all
+
+      by_need : (w : Bool) → (w ≡ false → c ≡ counts out.segments) → (w ≡ true → c ≡ counts ((dot ∷ []) ∷ out.segments))
+          → c ≡ counts (behind w out.segments)
+      by_need true f g = g refl
+      by_need false f g = f refl ∙ ap counts (sym (filled_some out.segments listed_out.some))
 
 -- ---- normal forms
 

@@ -1,6 +1,7 @@
 -- What is wrong with a text that is no path: RFC 3986, section 3.3, and the limit of segments.
 use Rattle.std.specs.Prelude.{◌≡◌, ℕ, Bool, nat_lt, ◌==◌, ◌&&◌, ◌||◌, List, [], ◌∷◌, ◌++◌, length, take, Option, Some, None, Result, if◌then◌else◌}
 use Rattle.std.specs.Option.{option_or}
+use Rattle.std.specs.Result.{result_map_both}
 use Rattle.uriparse_text.specs.Bytes.{slash, question_mark, number_sign}
 use Rattle.uriparse_text.specs.Cuts.{up_to}
 use Rattle.uriparse_text.specs.Readings.{unless_fault}
@@ -16,6 +17,10 @@ ends_path b = b == question_mark || b == number_sign
 -- the path that a text begins with, or, where it may not end before the text does, all of it: a word of a private function's clause alone
 abbrev pub path_front : Bool → List ℕ → List ℕ
 path_front ends t = up_to (λ b. ends && ends_path b) t
+
+-- how many segments, and how long: a word of private functions' clauses alone
+abbrev pub measured : Result (ℕ × ℕ × ℕ) PathError → Result (ℕ × ℕ) PathError
+measured r = result_map_both (λ m. (m.0, m.1)) (λ e. e) r
 
 -- the fault of the first of these pieces that has one
 abbrev pub first_fault : List (List ℕ) → Option PathError

@@ -7,3 +7,4 @@ pub mod Normal
 pub mod Edits
 pub mod Merge
 pub mod Lends
+pub mod Counts

@@ -1,5 +1,5 @@
 //! A path: RFC 3986, section 3.3.
-ghost use Rattle.std.specs.Prelude.{◌≡◌, ◌≤◌, ◌⊎◌, ◌↔◌, ◌∷◌, ◌++◌, fold, length, IsTrue, IfOk, IfSome, IsSome, OnOk, OnErr, IsOk, IsErr, Some, true, false, if◌then◌else◌, not, map, filter, bytes_eq, string_bytes};
+ghost use Rattle.std.specs.Prelude.{◌≡◌, ◌≤◌, ◌⊎◌, ◌↔◌, ◌&&◌, ◌||◌, ◌∷◌, ◌++◌, fold, length, IsTrue, IfOk, IfSome, IsSome, OnOk, OnErr, IsOk, IsErr, Some, true, false, if◌then◌else◌, not, map, filter, bytes_eq, string_bytes};
 ghost use Rattle.std.proofs.Common.{rules};
 ghost use Rattle.std.specs.Ordering.{on};
 ghost use Rattle.std.specs.Cmp.Rules.{comparing, hashing};
@@ -13,10 +13,11 @@ ghost use Rattle.uriparse_text.specs.Readings.{IsUnless};
 ghost use Rattle.uriparse_path.specs.Path.{IsListed, fed, fed_piece, flag, has_two_slashes, hides_root, is_rooted, is_slash, made_absolute, spelled, text};
 ghost use Rattle.uriparse_path.specs.Segment.{is_segment};
 ghost use Rattle.uriparse_path.specs.Faults.{reading};
-ghost use Rattle.uriparse_path.specs.Dots.{without_dots};
+ghost use Rattle.uriparse_path.specs.Dots.{has_dot_segment, without_dots};
 ghost use Rattle.uriparse_path.specs.Edits.{shield};
 ghost use Rattle.uriparse_path.specs.Relative.{ended, reduced};
-ghost use Rattle.uriparse_path.specs.Normal.{canonical_path, is_canonical, is_normal_in, is_shielded, pnormal, stays_relative};
+ghost use Rattle.uriparse_path.specs.Normal.{canonical_path, climbs_first, is_canonical, is_guarded, is_normal_in, is_shielded, pnormal, stays_relative};
+ghost use Rattle.uriparse_path.specs.Counts as spec;
 
 use std::alloc::{AllocError, Global};
 use std::fmt;
@@ -26,6 +27,8 @@ use std::marker::Model;
 use uriparse_text::parts::{Case, feed_spelling, same_spelling, split_at_mark};
 
 mod copy;
+mod count;
+pub mod counts;
 mod dots;
 mod edit;
 mod error;
@@ -34,11 +37,12 @@ mod normal;
 pub(crate) mod read;
 mod segment;
 
+use counts::{Counts, Dotted};
 use dots::{has_dot_segment, replay, root_first};
 pub use error::PathError;
 use normal::{
-    begins_twice, canonical_copies, guard, has_first_colon, hides_root, is_normal, make_relative,
-    needs_shield, put_copies,
+    begins_twice, canonical_copies, guard, has_first_colon, hides_root, is_counted_normal,
+    is_normal, make_relative, needs_shield, put_copies,
 };
 use read::{count_segments, counted_path, split_root};
 pub use segment::Segment;
@@ -47,12 +51,16 @@ use segment::each_is_segment;
 /// The most segments that a path may have.
 pub const MAX_SEGMENTS: usize = 65535;
 
-/// What a [`Path`] is made of, for segments of any type. Users name it by [`Path`] alone.
+/// What a [`Path`] is made of, for segments of any type that can be counted. Users name it by [`Path`]
+/// alone.
 #[derive(Drop)]
-pub struct PathOf<S> {
-    // 0 or 1: a word, since a `bool` would be moved with its padding.
-    absolute: usize,
+pub struct PathOf<S: Dotted> {
     segments: Vec<S>,
+    // 0 or 1 each: words, since a `bool` would be moved with its padding.
+    absolute: u32,
+    known: u32,
+    // Those of the segments, where they are known.
+    counts: Counts,
 }
 
 /// A path: whether a slash stands before its segments, and these, of which there are at least one
@@ -71,31 +79,78 @@ pub type Path<'p> = PathOf<Segment<'p>>;
 
 /// The word that stands for the flag.
 #[inline(always)]
-fn word_of(absolute: bool) -> usize
-    ensures { flag result ≡ absolute }
+fn word_of(is_set: bool) -> u32
+    ensures { flag result ≡ is_set }
 {
-    if absolute { 1 } else { 0 }
+    if is_set { 1 } else { 0 }
 }
 
-impl<S> Model for PathOf<S> {
-    ghost use Rattle.uriparse_path.specs.Path.{PartsOf, IsCounted, flag};
+impl<S: Dotted> Model for PathOf<S> {
+    ghost use Rattle.uriparse_path.specs.Path.{PartsOf, flag};
+    ghost use Rattle.uriparse_path.specs.Counts.{IsKept};
 
     ghost Value = { PartsOf S };
 
     ghost view = { λ p. record { absolute = flag p.absolute; segments = p.segments.items } };
 
-    ghost invariant = { λ p. IsCounted p.segments.items };
+    ghost invariant = { λ p. IsKept S.counts p.segments.items (flag p.known) p.counts };
 }
 
 impl<'p> Path<'p> {
-    /// The path of this flag and these segments.
-    pub(crate) fn of(absolute: bool, segments: Vec<Segment<'p>>) -> Path<'p>
-        requires { IsListed segments.items }
+    /// The path of this flag and these segments, and how many of them are of each kind, where that
+    /// is known.
+    #[inline(always)]
+    pub(crate) fn of(
+        absolute: bool,
+        segments: Vec<Segment<'p>>,
+        counts: Counts,
+        known: bool,
+    ) -> Path<'p>
+        requires listed { IsListed segments.items }
+        requires counted { known ≡ true → counts ≡ spec.counts segments.items }
         ensures { result ≡ record { absolute = absolute; segments = segments.entry.items } }
     {
         Path {
-            absolute: word_of(absolute),
             segments,
+            absolute: word_of(absolute),
+            known: word_of(known),
+            counts,
+        }
+    }
+
+    /// How many segments of each kind there are, where that is known.
+    fn known_counts(&self) -> Option<Counts>
+        ensures { IfSome result (λ c. c ≡ spec.counts self.now.segments) }
+    {
+        if self.known != 0 {
+            Some(self.counts)
+        } else {
+            None
+        }
+    }
+
+    /// Counts the segments, each of which is canonical, where their numbers are not known.
+    fn count_canonical(&mut self)
+        requires { list_all is_canonical self.old.segments ≡ true }
+        ensures { self.new ≡ self.old }
+    {
+        if self.known != 0 {
+            return;
+        }
+        self.counts = Counts::of(&self.segments);
+        self.known = 1;
+    }
+
+    /// Whether a dot segment is among the segments.
+    #[inline]
+    fn has_dots(&self) -> bool
+        ensures answer { result ≡ has_dot_segment self.now.segments }
+        ensures listed { IsListed self.now.segments }
+    {
+        let segments = self.segments();
+        match self.known_counts() {
+            Some(counts) => counts.has_dots(),
+            None => has_dot_segment(segments),
         }
     }
 
@@ -113,8 +168,8 @@ impl<'p> Path<'p> {
         ensures always { IsErr (reading bytes.now) → result ≡ reading bytes.now }
     {
         let (_, rest) = split_root(bytes);
-        let (count, _) = count_segments(MAX_SEGMENTS, false, rest)?;
-        Ok(counted_path(alloc, count, bytes)?)
+        let (count, _, escaped) = count_segments(MAX_SEGMENTS, false, rest)?;
+        Ok(counted_path(alloc, count, escaped, bytes)?)
     }
 
     /// The same for a text.
@@ -164,13 +219,35 @@ impl<'p> Path<'p> {
         requires { shields ≡ true → hides_root self.old.segments ≡ false }
         ensures { self.new ≡ (if shields then shield (without_dots self.old) else without_dots self.old) }
     {
-        if !has_dot_segment(self.segments()) {
-            return;
+        if self.has_dots() {
+            self.take_dots(shields);
         }
+    }
+
+    /// Whether it is known that each segment is canonical.
+    fn is_known_canonical(&self) -> bool
+        ensures { result ≡ true → list_all is_canonical self.now.segments ≡ true }
+    {
+        match self.known_counts() {
+            Some(counts) => counts.all_canonical(),
+            None => false,
+        }
+    }
+
+    /// The same, where a dot segment is among the segments.
+    fn take_dots(&mut self, shields: bool)
+        requires shown { shields ≡ true → hides_root self.old.segments ≡ false }
+        requires dots { has_dot_segment self.old.segments ≡ true }
+        ensures { self.new ≡ (if shields then shield (without_dots self.old) else without_dots self.old) }
+    {
+        self.segments();
+        let all_canonical = self.is_known_canonical();
         let (rooted, kept) = replay(self.absolute != 0, &mut self.segments);
         let (absolute, kept) = root_first(rooted, &mut self.segments, kept);
         let shielded = needs_shield(shields, absolute, &self.segments[..kept]);
         guard(&mut self.segments, shielded, kept);
+        self.counts = Counts::without_dots(shielded);
+        self.known = word_of(all_canonical);
         self.absolute = word_of(absolute);
     }
 
@@ -195,7 +272,31 @@ impl<'p> Path<'p> {
         ensures text { IsTrue result ↔ (text (pnormal self.now as_reference) ≡ text self.now) }
         ensures form { IsTrue result → pnormal self.now as_reference ≡ self.now }
     {
-        is_normal(self.stays_relative(as_reference), self.segments())
+        self.is_normal(self.stays_relative(as_reference))
+    }
+
+    /// Whether the segments are those of a normal form, of a path that stays relative or of another.
+    fn is_normal(&self, stays_relative: bool) -> bool
+        ensures answer { result ≡ (list_all is_canonical self.now.segments && (if stays_relative then climbs_first self.now.segments || is_guarded self.now.segments else not (has_dot_segment self.now.segments))) }
+        ensures listed { IsListed self.now.segments }
+    {
+        let segments = self.segments();
+        match self.known_counts() {
+            Some(counts) => is_counted_normal(stays_relative, counts, segments),
+            None => is_normal(stays_relative, segments),
+        }
+    }
+
+    /// Whether it is known that the segments are those of a normal form.
+    fn is_known_normal(&self, stays_relative: bool) -> bool
+        ensures answer { result ≡ true → (list_all is_canonical self.now.segments && (if stays_relative then climbs_first self.now.segments || is_guarded self.now.segments else not (has_dot_segment self.now.segments))) ≡ true }
+        ensures listed { IsListed self.now.segments }
+    {
+        let segments = self.segments();
+        match self.known_counts() {
+            Some(counts) => is_counted_normal(stays_relative, counts, segments),
+            None => false,
+        }
     }
 
     /// Puts canonical copies in the place of the segments that aren't canonical.
@@ -203,17 +304,40 @@ impl<'p> Path<'p> {
         requires { copies.items ≡ map canonical (filter (λ s. not (is_canonical s)) self.old.segments) }
         ensures { self.new ≡ canonical_path self.old }
     {
+        each_is_segment(&self.segments);
+        let counts = self.counts.of_canonical();
         put_copies(&mut self.segments, copies);
+        self.counts = counts;
     }
 
-    /// Brings a path whose text begins with no slash into its relative normal form, but for the
-    /// spelling of its segments.
+    /// Brings each segment into canonical spelling. Where there is no memory, the path is kept.
+    fn make_canonical(&mut self, alloc: Global) -> Result<(), AllocError>
+        ensures ok { OnOk result (self.new ≡ canonical_path self.old) }
+        ensures err { OnErr result (self.new ≡ self.old) }
+        ensures takes_no_memory { list_all is_canonical self.old.segments ≡ true → IsOk result }
+        ensures listed { IsListed self.old.segments }
+    {
+        let segments = self.segments();
+        if self.is_known_canonical() {
+            return Ok(());
+        }
+        let copies = canonical_copies(alloc, segments)?;
+        self.put_canonical(copies);
+        self.count_canonical();
+        Ok(())
+    }
+
+    /// Brings a path whose text begins with no slash and whose segments are canonical into its
+    /// relative normal form.
     fn shape_relative(&mut self)
+        requires canonical { list_all is_canonical self.old.segments ≡ true }
         requires relative { self.old.absolute ≡ false }
         requires shown { hides_root self.old.segments ≡ false }
         ensures { self.new ≡ record { absolute = false; segments = ended self.old.segments (reduced self.old.segments) } }
     {
         make_relative(&mut self.segments);
+        self.counts = Counts::of(&self.segments);
+        self.known = 1;
     }
 
     /// Brings the path into its normal form: RFC 3986, sections 4.2 and 6.2.2. Each segment gets its
@@ -252,8 +376,10 @@ impl<'p> Path<'p> {
         ensures listed { IsListed self.old.segments }
     {
         let stays_relative = self.stays_relative(as_reference);
-        let copies = canonical_copies(alloc, self.segments())?;
-        self.put_canonical(copies);
+        if self.is_known_normal(stays_relative) {
+            return Ok(());
+        }
+        self.make_canonical(alloc)?;
         if stays_relative {
             self.shape_relative();
         } else {
@@ -283,7 +409,7 @@ impl<'p> Path<'p> {
         ensures { result ≡ is_normal_in shields self.now as_reference }
     {
         let relative = self.stays_relative(as_reference);
-        is_normal(relative, self.segments()) || (shields && self.is_shielded())
+        self.is_normal(relative) || (shields && self.is_shielded())
     }
 
     /// How many bytes the path's text has at most, or the most that a number holds.
@@ -332,6 +458,7 @@ impl<'p> Path<'p> {
             return;
         }
         let _ = self.segments.remove(0);
+        self.known = 0;
         self.absolute = 1;
     }
 
@@ -340,8 +467,10 @@ impl<'p> Path<'p> {
         ensures { result ≡ made_absolute self.entry }
     {
         Path {
-            absolute: 1,
             segments: self.segments,
+            absolute: 1,
+            known: self.known,
+            counts: self.counts,
         }
     }
 

@@ -5,7 +5,7 @@
 //! here, no body of the library does.
 #![tactic(auto)]
 
-ghost use Rattle.std.specs.Prelude.{◌≡◌, OnOk, true, false, if◌then◌else◌, bytes_eq};
+ghost use Rattle.std.specs.Prelude.{◌≡◌, ◌↔◌, IsTrue, IfOk, OnOk, true, false, if◌then◌else◌, bytes_eq};
 ghost use Rattle.uriparse_text.specs.Canonical.{canonical};
 ghost use Rattle.uriparse_text.specs.Readings.{IsUnless};
 ghost use Rattle.uriparse_path.specs.declared.path.error.PathError.TheVariants as errors;
@@ -51,6 +51,25 @@ pub fn normalize_shielded(
     ensures { OnOk result (path.new ≡ (if shields then shield (pnormal path.old false) else pnormal path.old false)) }
 {
     normalize_path(path, alloc, false, shields)
+}
+
+/// Whether a path has the text of its normal form.
+pub fn is_normalized(path: &Path<'_>, as_reference: bool) -> bool
+    ensures { IsTrue result ↔ (text (pnormal path.now as_reference) ≡ text path.now) }
+{
+    path.is_normalized(as_reference)
+}
+
+/// Puts a segment at the end, and answers whether the path has the text of its normal form then.
+pub fn push_and_test<'p>(
+    alloc: Global,
+    path: &mut Path<'p>,
+    segment: Segment<'p>,
+) -> Result<bool, PathError>
+    ensures { IfOk result (λ r. IsTrue r ↔ (text (pnormal path.new false) ≡ text path.new)) }
+{
+    path.push(alloc, segment)?;
+    Ok(path.is_normalized(false))
 }
 
 /// Puts the path of a reference behind that of a base.

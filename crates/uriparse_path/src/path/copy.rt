@@ -38,8 +38,10 @@ impl<'p> Path<'p> {
         ensures { IfOk result (λ p. p ≡ self.now) }
     {
         Ok(Path {
-            absolute: self.absolute,
             segments: borrowed_segments(alloc, &self.segments)?,
+            absolute: self.absolute,
+            known: self.known,
+            counts: self.counts,
         })
     }
 
@@ -49,8 +51,10 @@ impl<'p> Path<'p> {
         ensures { IfOk result (λ p. p ≡ self.entry) }
     {
         Ok(Path {
-            absolute: self.absolute,
             segments: owned_segments(alloc, self.segments)?,
+            absolute: self.absolute,
+            known: self.known,
+            counts: self.counts,
         })
     }
 }

@@ -1,20 +1,23 @@
 //! What changes a path, segment by segment: RFC 3986, section 3.3.
-ghost use Rattle.std.specs.Prelude.{◌≡◌, ◌<◌, ◌∷◌, ◌++◌, [], IfErr, OnOk, OnErr, MatchResult, if◌then◌else◌, length, vec_len};
+ghost use Rattle.std.specs.Prelude.{◌≡◌, ◌<◌, ◌∷◌, ◌++◌, [], IfErr, OnOk, OnErr, MatchResult, if◌then◌else◌, length, vec_len, true};
 ghost use Rattle.std.specs.Borrow.{sem};
 ghost use Rattle.uriparse_text.specs.Readings.{SettlesUnless};
 ghost use Rattle.uriparse_path.specs.declared.path.error.PathError.TheVariants as errors;
 ghost use Rattle.uriparse_path.specs.Segment as segment;
 ghost use Rattle.uriparse_path.specs.Path.{max_segments};
 ghost use Rattle.uriparse_path.specs.Edits as spec;
+ghost use Rattle.uriparse_path.specs.Counts as counting;
 ghost use Rattle.uriparse_path.specs.Dots.{all_but_last};
 ghost use Rattle.uriparse_path.specs.Relative.{filled};
 
+use super::counts::{Counts, Dotted};
 use super::{MAX_SEGMENTS, Path, PathError, PathOf, Segment, word_of};
 use std::alloc::{AllocError, Global};
 
 /// Whether the segment takes the place of the only one, as that is empty and it isn't.
-fn takes_the_place(segments: &[Segment<'_>], segment: &Segment<'_>) -> bool
-    ensures { spec.with_last segments.now segment.now ≡ (if result then segment.now ∷ [] else segments.now ++ segment.now ∷ []) }
+pub(super) fn takes_the_place(segments: &[Segment<'_>], segment: &Segment<'_>) -> bool
+    ensures empty { result ≡ true → segments.now ≡ [] ∷ [] }
+    ensures with { spec.with_last segments.now segment.now ≡ (if result then segment.now ∷ [] else segments.now ++ segment.now ∷ []) }
 {
     match segments {
         [only] => only.as_bytes().is_empty() && !segment.as_bytes().is_empty(),
@@ -47,6 +50,43 @@ fn take_last(segments: &mut Vec<Segment<'_>>)
     let _ = segments.pop();
 }
 
+/// The counts with the segment put at the end, where they were known.
+fn pushed_counts(
+    known: bool,
+    counts: Counts,
+    segments: &[Segment<'_>],
+    segment: &Segment<'_>,
+) -> Counts
+    requires counted { known ≡ true → counts ≡ counting.counts segments.now }
+    requires room { length segments.now < u32.MAX }
+    ensures { known ≡ true → result ≡ counting.counts (spec.with_last segments.now segment.now) }
+{
+    if known {
+        counts.pushed(segments, segment)
+    } else {
+        counts
+    }
+}
+
+/// The counts with the last segment taken away, where they were known.
+fn popped_counts(known: bool, counts: Counts, segments: &[Segment<'_>]) -> Counts
+    requires { known ≡ true → counts ≡ counting.counts segments.now }
+    ensures { known ≡ true → result ≡ counting.counts (filled (all_but_last segments.now)) }
+{
+    if known {
+        counts.without_last(segments)
+    } else {
+        counts
+    }
+}
+
+/// The new counts or the old ones.
+fn new_or_old(is_new: bool, new: Counts, old: Counts) -> Counts
+    ensures { result ≡ (if is_new then new else old) }
+{
+    if is_new { new } else { old }
+}
+
 impl<'p> Path<'p> {
     /// Puts the segment at the end. One that isn't empty takes the place of the only segment, where
     /// that is empty: so `a` pushed on the empty path makes `a`, and not `/a`.
@@ -61,7 +101,10 @@ impl<'p> Path<'p> {
         if self.segments.len() >= MAX_SEGMENTS {
             return Err(PathError::ExceededMaximumLength);
         }
-        put_last(&mut self.segments, segment)
+        let counts = pushed_counts(self.known != 0, self.counts, &self.segments, &segment);
+        let result = put_last(&mut self.segments, segment);
+        self.counts = new_or_old(result.is_ok(), counts, self.counts);
+        result
     }
 
     /// Reads a segment, which borrows the bytes, and puts it at the end as [`push`](Path::push)
@@ -86,7 +129,9 @@ impl<'p> Path<'p> {
     pub fn pop(&mut self)
         ensures { self.new ≡ spec.popped self.old }
     {
+        let counts = popped_counts(self.known != 0, self.counts, &self.segments);
         take_last(&mut self.segments);
+        self.counts = counts;
     }
 
     /// Takes all segments away and leaves an empty one. The path stays absolute or relative. Takes
@@ -96,6 +141,8 @@ impl<'p> Path<'p> {
     {
         self.segments.truncate(1);
         self.segments[0] = Segment::empty();
+        self.counts = Counts::none();
+        self.known = 1;
     }
 
     /// Makes the path absolute or relative, with the segments as they are. Takes no memory.
@@ -106,15 +153,16 @@ impl<'p> Path<'p> {
     }
 }
 
-impl<S> PathOf<S> {
+impl<S: Dotted> PathOf<S> {
     ghost use Rattle.uriparse_path.specs.Lends.{lends_segments};
 
     /// The segments in order, for writing: what is written are the new segments, and nothing else
     /// changes. Their number stays. Takes no memory.
     pub fn segments_mut(&mut self) -> &mut [S]
-        ensures* lends { sem 𝓛 (lends_segments S.row self.entry result) }
+        ensures* lends { sem 𝓛 (lends_segments S.row S.Dotted self.entry result) }
         ensures value { result.now ≡ self.old.segments }
     {
+        self.known = 0;
         self.segments.as_mut_slice()
     }
 }

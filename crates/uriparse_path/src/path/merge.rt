@@ -1,11 +1,13 @@
 //! The path of a reference behind that of a base: RFC 3986, section 5.2.3.
-ghost use Rattle.std.specs.Prelude.{◌≡◌, ◌+◌, ◌<◌, ◌≤◌, ◌++◌, Err, IfErr, IfOk, OnOk, length};
+ghost use Rattle.std.specs.Prelude.{◌≡◌, ◌+◌, ◌<◌, ◌≤◌, ◌++◌, Err, IfErr, IfOk, OnOk, length, true};
 ghost use Rattle.uriparse_text.specs.Readings.{IsUnless};
 ghost use Rattle.uriparse_path.specs.declared.path.error.PathError.TheVariants as errors;
 ghost use Rattle.uriparse_path.specs.Path.{max_segments};
 ghost use Rattle.uriparse_path.specs.Dots.{all_but_last};
 ghost use Rattle.uriparse_path.specs.Merge.{merging};
+ghost use Rattle.uriparse_path.specs.Counts as tally;
 
+use super::counts::Counts;
 use super::{MAX_SEGMENTS, Path, PathError, Segment};
 use std::alloc::{AllocError, Global};
 
@@ -45,6 +47,23 @@ fn joined<'p>(
     Ok(segments)
 }
 
+/// The counts of the base's segments but for the last one, and the reference's, where they are known.
+fn merged_counts(base: &Path<'_>, reference: &Path<'_>) -> (Counts, bool)
+    requires { length (all_but_last base.now.segments) + length reference.now.segments ≤ u32.MAX }
+    ensures { result.1 ≡ true → result.0 ≡ tally.counts (all_but_last base.now.segments ++ reference.now.segments) }
+{
+    match (base.known_counts(), reference.known_counts()) {
+        (Some(front), Some(back)) => {
+            let segments = base.segments();
+            let counts = front
+                .without_last(segments)
+                .joined(directory(segments), back, reference.segments());
+            (counts, true)
+        }
+        _ => (Counts::none(), false),
+    }
+}
+
 impl<'p> Path<'p> {
     /// The base's path up to and with its last slash, and then the reference's.
     pub(crate) fn merged(
@@ -61,6 +80,7 @@ impl<'p> Path<'p> {
             return Err(PathError::ExceededMaximumLength);
         }
         let segments = joined(alloc, front, back)?;
-        Ok(Path::of(base.is_absolute(), segments))
+        let (counts, is_known) = merged_counts(base, reference);
+        Ok(Path::of(base.is_absolute(), segments, counts, is_known))
     }
 }

@@ -7,7 +7,9 @@ ghost use Rattle.uriparse_path.specs.Path as path;
 ghost use Rattle.uriparse_path.specs.Dots as dots;
 ghost use Rattle.uriparse_path.specs.Relative as relative;
 ghost use Rattle.uriparse_path.specs.Normal as spec;
+ghost use Rattle.uriparse_path.specs.Counts as tally;
 
+use super::counts::Counts;
 use super::dots::has_dot_segment;
 use super::segment::Segment;
 use std::alloc::{AllocError, Global};
@@ -104,6 +106,25 @@ pub(super) fn is_normal(stays_relative: bool, segments: &[Segment<'_>]) -> bool
         climbs_first(segments) || is_guarded(segments)
     } else {
         !has_dot_segment(segments)
+    }
+}
+
+/// The same, by the counts of the segments.
+pub(super) fn is_counted_normal(
+    stays_relative: bool,
+    counts: Counts,
+    segments: &[Segment<'_>],
+) -> bool
+    requires { counts ≡ tally.counts segments.now }
+    ensures { result ≡ (list_all spec.is_canonical segments.now && (if stays_relative then spec.climbs_first segments.now || spec.is_guarded segments.now else not (dots.has_dot_segment segments.now))) }
+{
+    if !counts.all_canonical() {
+        return false;
+    }
+    if stays_relative {
+        counts.climbs_first() || is_guarded(segments)
+    } else {
+        !counts.has_dots()
     }
 }
 

@@ -1,13 +1,16 @@
 //! How a text is cut into segments: one walk that finds the leftmost fault and counts, and one
 //! that cuts.
-ghost use Rattle.std.specs.Prelude.{◌≡◌, ◌<◌, ◌≤◌, ◌&&◌, IfOk, MatchResult, None, Some, true, length};
-ghost use Rattle.std.specs.List.{list_all, slice_split};
+ghost use Rattle.std.specs.Prelude.{◌≡◌, ◌<◌, ◌≤◌, ◌&&◌, IfOk, MatchResult, None, Some, true, false, length, take, ◌||◌};
+ghost use Rattle.std.specs.List.{list_all, list_any, slice_split};
 ghost use Rattle.uriparse_text.specs.Readings.{unless_fault};
 ghost use Rattle.uriparse_path.specs.Segment as segment;
-ghost use Rattle.uriparse_text.specs.Cuts.{from_first, up_to};
+ghost use Rattle.uriparse_text.specs.Bytes.{percent};
+ghost use Rattle.uriparse_text.specs.Cuts.{from_first, lacks, up_to};
 ghost use Rattle.uriparse_path.specs.Path.{IsPath, is_slash, is_rooted, pieces, spelled, unrooted};
-ghost use Rattle.uriparse_path.specs.Faults.{ends_path, fault, fault_within, path_front};
+ghost use Rattle.uriparse_path.specs.Faults.{ends_path, fault, fault_within, measured, path_front};
+ghost use Rattle.uriparse_path.specs.Counts as tally;
 
+use super::counts::Counts;
 use super::error::PathError;
 use super::segment::{Segment, fault_at};
 use super::{MAX_SEGMENTS, Path};
@@ -40,18 +43,21 @@ fn is_end(ends: bool, b: u8) -> bool
 /// Counts the segments and the bytes of the path that a text begins with, which may have `limit`
 /// segments, or tells its leftmost fault. Where `ends` is set the path runs to the first `?` or `#`,
 /// else it is the whole text. Each byte outside the class of a segment is a slash, ends the path,
-/// begins an escape or is the fault. The slashes of a block are counted at once.
+/// begins an escape or is the fault. The slashes of a block are counted at once. The last number is 0
+/// only where no escape is met.
 #[inline(always)]
 pub(super) fn count_segments(
     limit: usize,
     ends: bool,
     text: &[u8],
-) -> Result<(usize, usize), PathError>
+) -> Result<(usize, usize, usize), PathError>
     requires { 0 < limit }
-    ensures count { let front = path_front ends text.now in let ps = slice_split is_slash front in result ≡ unless_fault (fault_within limit ps) (length ps, length front) }
+    ensures count { let front = path_front ends text.now in let ps = slice_split is_slash front in measured result ≡ unless_fault (fault_within limit ps) (length ps, length front) }
     ensures within { IfOk result (λ m. m.1 ≤ length text.now) }
+    ensures escaped { IfOk result (λ m. m.2 ≡ 0 → lacks percent (take m.1 text.now) ≡ true) }
 {
     let mut count = 1;
+    let mut escaped = 0;
     let mut at = 0;
     'runs: while at < text.len() {
         let (marks, slashes, len) = next_marks_by_two(
@@ -69,25 +75,28 @@ pub(super) fn count_segments(
             let k = lowest(left);
             let b = text[at + k];
             if is_end(ends, b) {
-                return Ok((count + count_below(slashes, k), at + k));
+                return Ok((count + count_below(slashes, k), at + k, escaped));
             }
             if !is_escape(b, &text[at + k + 1..]) {
                 return Err(fault_at(b));
             }
+            escaped = 1;
             left = without_lowest(left);
         }
         count += more;
         at += len;
     }
-    Ok((count, at))
+    Ok((count, at, escaped))
 }
 
-/// The same by one slash after the other, for a text in which the limit is near.
+/// The same by one slash after the other, for a text in which the limit is near. Whether an escape
+/// is met is left open.
 #[inline(never)]
-fn count_by_one(limit: usize, ends: bool, text: &[u8]) -> Result<(usize, usize), PathError>
+fn count_by_one(limit: usize, ends: bool, text: &[u8]) -> Result<(usize, usize, usize), PathError>
     requires { 0 < limit }
-    ensures count { let front = path_front ends text.now in let ps = slice_split is_slash front in result ≡ unless_fault (fault_within limit ps) (length ps, length front) }
+    ensures count { let front = path_front ends text.now in let ps = slice_split is_slash front in measured result ≡ unless_fault (fault_within limit ps) (length ps, length front) }
     ensures within { IfOk result (λ m. m.1 ≤ length text.now) }
+    ensures escaped { IfOk result (λ m. m.2 ≡ 0 → lacks percent (take m.1 text.now) ≡ true) }
 {
     let mut count = 1;
     let mut at = 0;
@@ -103,7 +112,7 @@ fn count_by_one(limit: usize, ends: bool, text: &[u8]) -> Result<(usize, usize),
                 }
                 count += 1;
             } else if is_end(ends, b) {
-                return Ok((count, at + k));
+                return Ok((count, at + k, 1));
             } else if !is_escape(b, &text[at + k + 1..]) {
                 return Err(fault_at(b));
             }
@@ -111,20 +120,30 @@ fn count_by_one(limit: usize, ends: bool, text: &[u8]) -> Result<(usize, usize),
         }
         at += len;
     }
-    Ok((count, at))
+    Ok((count, at, 1))
 }
 
-/// The segments that the text is cut into, of which there are so many. Each slash ends one.
+/// Whether one of the pieces so far begins with a dot, by whether one before this piece does.
+#[inline(always)]
+fn is_dotted(dotted: bool, piece: &[u8]) -> bool
+    ensures { result ≡ (dotted || tally.begins_with_dot piece.now) }
+{
+    dotted || matches!(piece, [b'.', ..])
+}
+
+/// The segments that the text is cut into, of which there are so many, and whether one of them begins
+/// with a dot. Each slash ends one.
 #[inline(always)]
 fn split_segments<'p>(
     alloc: Global,
     count: usize,
     text: &'p [u8],
-) -> Result<Vec<Segment<'p>>, AllocError>
+) -> Result<(Vec<Segment<'p>>, bool), AllocError>
     requires { list_all segment.is_segment (slice_split is_slash text.now) ≡ true }
-    ensures { IfOk result (λ v. v.items ≡ slice_split is_slash text.now) }
+    ensures { IfOk result (λ v. (v.0.items ≡ slice_split is_slash text.now) × (v.1 ≡ list_any tally.begins_with_dot (slice_split is_slash text.now))) }
 {
     let mut segments = Vec::with_capacity(alloc, count)?;
+    let mut dotted = false;
     let mut start = 0;
     let mut at = 0;
     'runs: while at < text.len() {
@@ -132,24 +151,31 @@ fn split_segments<'p>(
         let mut left = marks;
         'marks: while left != 0 {
             let end = at + lowest(left);
-            segments.push(Segment::of_checked(&text[start..end]))?;
+            let piece = &text[start..end];
+            dotted = is_dotted(dotted, piece);
+            segments.push(Segment::of_checked(piece))?;
             start = end + 1;
             left = without_lowest(left);
         }
         at += len;
     }
-    segments.push(Segment::of_checked(&text[start..]))?;
-    Ok(segments)
+    let piece = &text[start..];
+    let dotted = is_dotted(dotted, piece);
+    segments.push(Segment::of_checked(piece))?;
+    Ok((segments, dotted))
 }
 
-/// The path that a text begins with, which has no fault, how many segments it has, and what stands
-/// behind it.
+/// The path that a text begins with, which has no fault, how many segments it has, whether an escape
+/// stands in it, and what stands behind it.
 #[derive(Clone, Copy)]
 pub struct PathFront<'t> {
     /// The text of the path.
     pub text: &'t [u8],
     /// How many segments the path has.
     pub count: usize,
+    /// 0 only where no escape stands in the path: a word, since a `bool` would be moved with its
+    /// padding.
+    pub escaped: usize,
     /// What stands behind the path: nothing, or a `?` or `#` and more.
     pub behind: &'t [u8],
 }
@@ -157,27 +183,45 @@ pub struct PathFront<'t> {
 /// The path that a text begins with, which runs to the first `?` or `#`, or its leftmost fault. It
 /// is walked once. Takes no memory.
 pub fn split_path(text: &[u8]) -> Result<PathFront<'_>, PathError>
-    ensures { MatchResult result (λ r. (fault (up_to ends_path text.now) ≡ None) × (r.text.now ≡ up_to ends_path text.now) × (r.behind.now ≡ from_first ends_path text.now) × (r.count ≡ length (pieces (up_to ends_path text.now)))) (λ e. fault (up_to ends_path text.now) ≡ Some e) }
+    ensures { MatchResult result (λ r. (fault (up_to ends_path text.now) ≡ None) × (r.text.now ≡ up_to ends_path text.now) × (r.behind.now ≡ from_first ends_path text.now) × (r.count ≡ length (pieces (up_to ends_path text.now))) × (r.escaped ≡ 0 → lacks percent r.text.now ≡ true)) (λ e. fault (up_to ends_path text.now) ≡ Some e) }
 {
     let (_, rest) = split_root(text);
-    let (count, len) = count_segments(MAX_SEGMENTS, true, rest)?;
+    let (count, len, escaped) = count_segments(MAX_SEGMENTS, true, rest)?;
     let (_, behind) = rest.split_at(len);
     let (text, _) = text.split_at(text.len() - behind.len());
     Ok(PathFront {
         text,
         count,
+        escaped,
         behind,
     })
 }
 
+/// Whether it is told that no segment begins with a dot and that none has an escape. Then none is a
+/// dot segment, and each is canonical.
+#[inline(always)]
+fn is_plain(escaped: usize, dotted: bool) -> bool
+    ensures { result ≡ true → (escaped ≡ 0) × (dotted ≡ false) }
+{
+    escaped == 0 && !dotted
+}
+
 /// The path that a text spells, which is known to be a path's. Room for so many segments is asked
 /// for at once, and for more where there are more; want of memory is answered where there is none.
+/// `escaped` is 0 only where no escape stands in the text.
 #[inline(always)]
-pub fn counted_path(alloc: Global, count: usize, text: &[u8]) -> Result<Path<'_>, AllocError>
-    requires { IsPath text.now }
+pub fn counted_path(
+    alloc: Global,
+    count: usize,
+    escaped: usize,
+    text: &[u8],
+) -> Result<Path<'_>, AllocError>
+    requires path { IsPath text.now }
+    requires escaped { escaped ≡ 0 → lacks percent text.now ≡ true }
     ensures { IfOk result (λ p. p ≡ spelled text.now) }
 {
     let (absolute, rest) = split_root(text);
-    let segments = split_segments(alloc, count, rest)?;
-    Ok(Path::of(absolute, segments))
+    let (segments, dotted) = split_segments(alloc, count, rest)?;
+    let plain = is_plain(escaped, dotted);
+    Ok(Path::of(absolute, segments, Counts::none(), plain))
 }

@@ -1,5 +1,5 @@
 //! One segment of a path: RFC 3986, section 3.3.
-ghost use Rattle.std.specs.Prelude.{◌≡◌, ◌↔◌, ◌∷◌, [], IsTrue, IsOk, IfOk, OnOk, OnErr, Some, bytes_eq, string_bytes, true};
+ghost use Rattle.std.specs.Prelude.{◌≡◌, ◌↔◌, ◌∷◌, [], IsTrue, IsOk, IfOk, OnOk, OnErr, Some, bytes_eq, string_bytes, true, false};
 ghost use Rattle.std.proofs.Common.{rules};
 ghost use Rattle.std.specs.List.{list_all};
 ghost use Rattle.std.specs.Ordering.{on};
@@ -13,6 +13,7 @@ ghost use Rattle.uriparse_path.specs.Segment as spec;
 ghost use Rattle.uriparse_path.specs.Dots as dots;
 ghost use Rattle.uriparse_path.specs.Relative as relative;
 
+use super::counts::Dotted;
 use super::error::PathError;
 use std::alloc::{AllocError, Global};
 use std::fmt;
@@ -89,6 +90,12 @@ impl<'s> Model for Segment<'s> {
     ghost Value = { List ℕ };
 
     ghost view = { λ s. s.text };
+}
+
+impl<'s> Dotted for Segment<'s> {
+    ghost use Rattle.uriparse_path.specs.Counts.{counts as segment_counts};
+
+    ghost counts = { segment_counts };
 }
 
 impl<'s> Segment<'s> {
@@ -187,12 +194,27 @@ impl<'s> Segment<'s> {
         self.text.to_string(alloc)
     }
 
-    /// Whether the segment may be one of dots: it begins with a dot or an escape.
+    /// Whether the segment may be one of dots: it begins with a dot or an escape, and isn't longer
+    /// than two escapes.
     fn may_be_dots(&self) -> bool
         ensures { dots.is_dot_segment self.now ≡ true → IsTrue result }
     {
+        if self.as_bytes().len() > 6 {
+            return false;
+        }
         match self.as_bytes().first() {
             Some(&b) => b == b'.' || b == b'%',
+            None => false,
+        }
+    }
+
+    /// Whether the segment begins with a dot. Else it is none of dots, if it is canonical.
+    #[inline(always)]
+    pub(super) fn begins_with_dot(&self) -> bool
+        ensures { result ≡ false → canonical self.now ≡ self.now → dots.is_dot_segment self.now ≡ false }
+    {
+        match self.as_bytes().first() {
+            Some(&b) => b == b'.',
             None => false,
         }
     }

@@ -2,10 +2,11 @@
 ghost use Rattle.std.specs.Prelude.{◌≡◌, position, ◌||◌, not, Option, drop, IfSome, is_some, true, false, Ok, Err, MatchOption, MatchResult};
 ghost use Rattle.std.specs.Option.{option_copied, option_map};
 ghost use Rattle.uriparse_text.specs.Readings.{if_present, of_piece, unless_fault};
+ghost use Rattle.uriparse_text.specs.Bytes.{percent};
 ghost use Rattle.uriparse_text.specs.Query as query;
 ghost use Rattle.uriparse_authority.specs.Authority as authority;
 ghost use Rattle.uriparse_authority.specs.Authority.{colon_part};
-ghost use Rattle.uriparse_text.specs.Cuts.{up_to, from_first};
+ghost use Rattle.uriparse_text.specs.Cuts.{lacks, up_to, from_first};
 ghost use Rattle.uriparse_path.specs.Path.{IsPath, has_two_slashes};
 ghost use Rattle.uriparse_scheme.specs.Scheme as schemes;
 ghost use Rattle.uriparse_scheme.specs.Scheme.{named};
@@ -185,6 +186,7 @@ fn find_behind(
 struct FoundTail<'t> {
     path: &'t [u8],
     count: usize,
+    escaped: usize,
     query: Found<'t, QueryKind>,
     fragment: Found<'t, FragmentKind>,
 }
@@ -196,7 +198,7 @@ fn find_tail(
     has_authority: bool,
     text: &[u8],
 ) -> Result<FoundTail<'_>, URIReferenceError>
-    ensures { MatchResult result (λ t. IsPath t.path.now × (text_tail has_scheme has_authority text.now ≡ Ok (path_of has_authority t.path.now, t.query, t.fragment))) (λ e. text_tail has_scheme has_authority text.now ≡ Err e) }
+    ensures { MatchResult result (λ t. IsPath t.path.now × (t.escaped ≡ 0 → lacks percent t.path.now ≡ true) × (text_tail has_scheme has_authority text.now ≡ Ok (path_of has_authority t.path.now, t.query, t.fragment))) (λ e. text_tail has_scheme has_authority text.now ≡ Err e) }
 {
     let front = split_path(text)?;
     check_path(has_scheme, has_authority, front.text)?;
@@ -204,6 +206,7 @@ fn find_tail(
     Ok(FoundTail {
         path: front.text,
         count: front.count,
+        escaped: front.escaped,
         query,
         fragment,
     })
@@ -222,7 +225,7 @@ struct Pieces<'t> {
 #[inline(always)]
 #[tactic(auto, unfolding(crate::specs::Reading::reading))]
 fn find_pieces(text: &[u8]) -> Result<Pieces<'_>, URIReferenceError>
-    ensures { MatchResult result (λ p. (if_some p.scheme.now ≡ scheme_text text.now) × IsPath p.tail.path.now × (reading text.now ≡ Ok (parts_of text.now p.authority p.tail.path.now p.tail.query p.tail.fragment))) (λ e. reading text.now ≡ Err e) }
+    ensures { MatchResult result (λ p. (if_some p.scheme.now ≡ scheme_text text.now) × IsPath p.tail.path.now × (p.tail.escaped ≡ 0 → lacks percent p.tail.path.now ≡ true) × (reading text.now ≡ Ok (parts_of text.now p.authority p.tail.path.now p.tail.query p.tail.fragment))) (λ e. reading text.now ≡ Err e) }
 {
     let (scheme, rest) = split_scheme(text);
     let (authority, rest) = find_front(rest)?;
@@ -235,17 +238,19 @@ fn find_pieces(text: &[u8]) -> Result<Pieces<'_>, URIReferenceError>
 }
 
 /// The path that the text of a path stands for, absolute behind an authority. Room for so many
-/// segments is asked for.
+/// segments is asked for. `escaped` is 0 only where no escape stands in the text.
 fn make_path(
     alloc: Global,
     has_authority: bool,
     count: usize,
+    escaped: usize,
     text: &[u8],
 ) -> Result<Path<'_>, URIReferenceError>
-    requires { IsPath text.now }
+    requires path { IsPath text.now }
+    requires escaped { escaped ≡ 0 → lacks percent text.now ≡ true }
     ensures { MatchResult result (λ p. p ≡ path_of has_authority text.now) (λ e. e ≡ errors.Path OutOfMemory) }
 {
-    match counted_path(alloc, count, text) {
+    match counted_path(alloc, count, escaped, text) {
         Ok(path) => Ok(if has_authority {
             into_absolute(path)
         } else {
@@ -266,11 +271,18 @@ impl<'r> URIReference<'r> {
     ) -> Result<URIReference<'r>, URIReferenceError>
         requires scheme { if_some pieces.now.scheme.now ≡ scheme_text text.now }
         requires path { IsPath pieces.now.tail.path.now }
+        requires escaped { pieces.now.tail.escaped ≡ 0 → lacks percent pieces.now.tail.path.now ≡ true }
         requires found { reading text.now ≡ Ok (parts_of text.now pieces.now.authority pieces.now.tail.path.now pieces.now.tail.query pieces.now.tail.fragment) }
         ensures { MatchResult result (λ r. reading text.now ≡ Ok r) (λ e. e ≡ errors.Path OutOfMemory) }
     {
         let tail = &pieces.tail;
-        let path = make_path(alloc, pieces.authority.is_some(), tail.count, tail.path)?;
+        let path = make_path(
+            alloc,
+            pieces.authority.is_some(),
+            tail.count,
+            tail.escaped,
+            tail.path,
+        )?;
         let authority = match &pieces.authority {
             Some(found) => Some(found.to_authority()),
             None => None,

@@ -1,50 +1,60 @@
-use Rattle.std.proofs.Common.{◌≡◌, sym, ap, ◌∙◌, map, not, true, false}
+use Rattle.std.proofs.Common.{◌≡◌, ◌&&◌, ◌||◌, cond, sym, ap, ◌∙◌, map, not, true, false}
 use Rattle.std.proofs.lemmas.Bool.{and_parts, or_parts, not-true}
 use Rattle.uriparse_text.specs.Canonical.{canonical}
 use Rattle.uriparse_path.specs.Path.{PathParts, IsListed, hides_root, is_rooted, text}
-use Rattle.uriparse_path.specs.Dots.{without_dots}
+use Rattle.std.specs.List.{list_all}
+use Rattle.uriparse_path.specs.Dots.{without_dots, has_dot_segment}
 use Rattle.uriparse_path.specs.Relative.{ended, reduced}
-use Rattle.uriparse_path.specs.Normal.{canonical_path, stays_relative}
+use Rattle.uriparse_path.specs.Normal.{canonical_path, stays_relative, is_canonical, climbs_first, is_guarded}
 use Rattle.uriparse_path.proofs.CanonicalLemmas.{canonical-text, is_rooted-canonical, listed-canonical}
-use Rattle.uriparse_path.proofs.RelativeLemmas.{each_reduced, hides-canonical}
+use Rattle.uriparse_path.proofs.RelativeLemmas.{all_canonical-canonical, each_reduced, hides-canonical}
 use Rattle.uriparse_path.proofs.NormalLemmas.{pnormal_relative, rooted-text}
 use Rattle.uriparse_path.proofs.CommuteLemmas.{shaped-canonical, pnormal_without_dots}
-use Rattle.uriparse_path.proofs.ShieldLemmas.{shielded, relative_stays}
+use Rattle.uriparse_path.proofs.ShieldLemmas.{shielded, relative_stays, normal_shielded}
 use Rattle.uriparse_path.proofs.path.Path.put_normal.Goals as goal
 
 -- a path that stays relative begins with no slash, nor does its canonical form
 pub shape_relative-requires : goal.shape_relative-requires
 shape_relative-requires c =
     let p : PathParts = c.args.self.now in
-    let listed : IsListed p.segments = c.segments.ensures.listed in
+    let listed : IsListed p.segments = c.in_ok-make_canonical.ensures.listed in
     let asked = and_parts c.args.as_reference (not (is_rooted (text p))) (sym c.stays_relative-stays_relative.ensures ∙ c.if-stays_relative.true) in
     let parts = or_parts p.absolute (hides_root (map canonical p.segments))
     (sym (rooted-text (canonical_path p) (listed-canonical p.segments listed)) ∙ ap is_rooted (sym (canonical-text p listed)) ∙ is_rooted-canonical (text p)
     ∙ not-true (is_rooted (text p)) asked.1) in
     record {
-      relative = ap (λ q. q.absolute) c.put_canonical.ensures ∙ parts.0;
-      shown = ap (λ q. hides_root q.segments) c.put_canonical.ensures ∙ parts.1;
+      canonical = ap (λ q. list_all is_canonical q.segments) c.in_ok-make_canonical.ensures.ok ∙ all_canonical-canonical p.segments listed.each;
+      relative = ap (λ q. q.absolute) c.in_ok-make_canonical.ensures.ok ∙ parts.0;
+      shown = ap (λ q. hides_root q.segments) c.in_ok-make_canonical.ensures.ok ∙ parts.1;
     }
 
 pub returns-then-stays_relative-clause-ok : goal.returns-then-stays_relative-clause-ok
 returns-then-stays_relative-clause-ok c =
     let p : PathParts = c.args.self.now in
-    let listed : IsListed p.segments = c.segments.ensures.listed in
+    let listed : IsListed p.segments = c.in_ok-make_canonical.ensures.listed in
     let relative : stays_relative p c.args.as_reference ≡ true = sym c.stays_relative-stays_relative.ensures ∙ c.if-stays_relative.true in
     c.shape_relative.ensures
-    ∙ ap (λ q. record { absolute = false; segments = ended q.segments (reduced q.segments) }) c.put_canonical.ensures
+    ∙ ap (λ q. record { absolute = false; segments = ended q.segments (reduced q.segments) }) c.in_ok-make_canonical.ensures.ok
     ∙ ap (λ l. record { absolute = false; segments = l }) (shaped-canonical p.segments listed.each (each_reduced p.segments listed.each))
     ∙ sym (pnormal_relative p c.args.as_reference relative)
     ∙ sym (relative_stays c.args.shields p c.args.as_reference listed relative)
 
 -- canonical segments hide a root where these do
 pub remove_dots-requires : goal.remove_dots-requires
-remove_dots-requires c h = ap (λ q. hides_root q.segments) c.put_canonical.ensures ∙ hides-canonical c.args.self.now.segments ∙ c.requires h
+remove_dots-requires c h = ap (λ q. hides_root q.segments) c.in_ok-make_canonical.ensures.ok ∙ hides-canonical c.args.self.now.segments ∙ c.requires h
 
 pub returns-else-stays_relative-clause-ok : goal.returns-else-stays_relative-clause-ok
 returns-else-stays_relative-clause-ok c =
-    let listed : IsListed c.args.self.now.segments = c.segments.ensures.listed in
+    let listed : IsListed c.args.self.now.segments = c.in_ok-make_canonical.ensures.listed in
     let other : stays_relative c.args.self.now c.args.as_reference ≡ false = sym c.stays_relative-stays_relative.ensures ∙ c.if-stays_relative.false in
     c.remove_dots.ensures
-    ∙ ap (λ q. shielded c.args.shields (without_dots q)) c.put_canonical.ensures
+    ∙ ap (λ q. shielded c.args.shields (without_dots q)) c.in_ok-make_canonical.ensures.ok
     ∙ ap (shielded c.args.shields) (pnormal_without_dots c.args.self.now c.args.as_reference listed other)
+
+pub returns-then-is_known_normal-clause-ok : goal.returns-then-is_known_normal-clause-ok
+returns-then-is_known_normal-clause-ok c =
+    let p : PathParts = c.args.self.now in
+    normal_shielded c.args.shields p c.args.as_reference c.is_known_normal.ensures.listed
+    (ap (λ v. list_all is_canonical p.segments && cond v (climbs_first p.segments || is_guarded p.segments) (not (has_dot_segment p.segments)))
+    (sym c.stays_relative-stays_relative.ensures) ∙ c.is_known_normal.ensures.answer c.if-is_known_normal.true)
+    c.requires

@@ -1,18 +1,21 @@
-use Rattle.std.proofs.Common.{◌≡◌, ℕ, ap, sym, ◌∙◌, Err, Ok, rules}
-use Rattle.uriparse_text.specs.Cuts.{up_to}
+use Rattle.std.proofs.Common.{◌≡◌, ℕ, ap, sym, subst, ◌∙◌, true, take, Err, Ok, rules}
+use Rattle.std.specs.Prelude.{IfOk}
+use Rattle.uriparse_text.specs.Bytes.{percent}
+use Rattle.uriparse_text.specs.Cuts.{lacks, up_to}
 use Rattle.uriparse_path.specs.declared.path.TheConstants.{MAX_SEGMENTS}
 use Rattle.uriparse_path.specs.Path.{unrooted}
-use Rattle.uriparse_path.specs.Faults.{ends_path}
+use Rattle.uriparse_path.specs.Faults.{ends_path, measured}
 use Rattle.uriparse_path.proofs.CountLemmas.{answer}
 use Rattle.uriparse_path.proofs.ReadLemmas.{counted_front, refused_front, front_counts, behind_front, front_before}
+use Rattle.uriparse_path.proofs.PlainLemmas.{front_lacks}
 use Rattle.uriparse_path.proofs.path.read.split_path.Goals as goal
 
 pub returns-in_err-count : goal.returns-in_err-count
 returns-in_err-count c =
     let text = c.args.text.now in
     let e = c.in_err-count.field-0.0 in
-    let told : c.count_segments.result ≡ answer MAX_SEGMENTS (up_to ends_path c.split_root.result.1.now) = c.count_segments.ensures.count in
-    let was : c.count_segments.result ≡ Err e = c.in_err-count.was in
+    let told : measured c.count_segments.result ≡ answer MAX_SEGMENTS (up_to ends_path c.split_root.result.1.now) = c.count_segments.ensures.count in
+    let was : measured c.count_segments.result ≡ Err e = ap measured c.in_err-count.was in
     let counted : answer MAX_SEGMENTS (up_to ends_path (unrooted text)) ≡ Err e =
     ap (λ t. answer MAX_SEGMENTS (up_to ends_path t)) (sym c.split_root.ensures.rest) ∙ sym told ∙ was in
     let answered : c.from_residual.result ≡ Err e = search rules in
@@ -22,13 +25,18 @@ pub returns : goal.returns
 returns c =
     let text = c.args.text.now in
     let m : ℕ × ℕ = (c.in_ok-count.count, c.in_ok-count.len) in
-    let told : c.count_segments.result ≡ answer MAX_SEGMENTS (up_to ends_path c.split_root.result.1.now) = c.count_segments.ensures.count in
-    let was : c.count_segments.result ≡ Ok m = c.in_ok-count.was in
+    let told : measured c.count_segments.result ≡ answer MAX_SEGMENTS (up_to ends_path c.split_root.result.1.now) = c.count_segments.ensures.count in
+    let was : measured c.count_segments.result ≡ Ok m = ap measured c.in_ok-count.was in
     let counted : answer MAX_SEGMENTS (up_to ends_path (unrooted text)) ≡ Ok m =
     ap (λ t. answer MAX_SEGMENTS (up_to ends_path t)) (sym c.split_root.ensures.rest) ∙ sym told ∙ was in
-    let behind = c.split_at.ensures.back ∙ behind_front text c.split_root.result.1.now c.in_ok-count.len c.split_root.ensures.rest (front_counts text m counted).1 in (
+    let behind = c.split_at.ensures.back ∙ behind_front text c.split_root.result.1.now c.in_ok-count.len c.split_root.ensures.rest (front_counts text m counted).1 in
+    let front = c.split_at-2.ensures.front ∙ front_before text c.split_at.result.1.now behind in (
       counted_front text m counted,
-      c.split_at-2.ensures.front ∙ front_before text c.split_at.result.1.now behind,
+      front,
       behind,
       (front_counts text m counted).0,
+      λ h. ap (lacks percent) front
+          ∙ front_lacks text c.in_ok-count.len (front_counts text m counted).1
+          (ap (λ t. lacks percent (take c.in_ok-count.len t)) (sym c.split_root.ensures.rest)
+          ∙ subst (λ r. IfOk r (λ n. n.2 ≡ 0 → lacks percent (take n.1 c.split_root.result.1.now) ≡ true)) c.in_ok-count.was c.count_segments.ensures.escaped h),
     )

@@ -1,7 +1,12 @@
-use Rattle.std.proofs.Common.{sym, subst}
-use Rattle.uriparse_path.specs.Path.{IsCounted}
-use Rattle.uriparse_path.proofs.EditLemmas.{counted_popped}
+use Rattle.std.proofs.Common.{ap, ◌∙◌}
+use Rattle.uriparse_path.specs.Path.{flag}
+use Rattle.uriparse_path.specs.Dots.{all_but_last}
+use Rattle.uriparse_path.specs.Relative.{filled}
+use Rattle.uriparse_path.specs.Counts.{counts}
+use Rattle.uriparse_path.proofs.TallyLemmas.{popped_kept}
 use Rattle.uriparse_path.proofs.path.edit.Path.pop.Goals as goal
 
 pub invariant_of-self : goal.invariant_of-self
-invariant_of-self c = subst IsCounted (sym c.take_last.ensures) (counted_popped c.self.inside.segments.items c.self.invariant)
+invariant_of-self c =
+    popped_kept c.self.inside.segments.items _ (flag c.self.inside.known) c.self.inside.counts _ c.self.invariant c.take_last.ensures
+    (λ h. c.popped_counts-counts.ensures h ∙ ap (λ l. counts (filled (all_but_last l))) c.deref.ensures.value)

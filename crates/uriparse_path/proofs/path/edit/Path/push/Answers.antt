@@ -1,11 +1,14 @@
-use Rattle.std.proofs.Common.{◌<◌, ◌≤◌, length, Ok, subst, arith}
+use Rattle.std.proofs.Common.{◌<◌, ◌≤◌, length, Ok, ap, ◌∙◌, cond, subst, arith}
 use Rattle.uriparse_path.specs.Path.{flag, max_segments}
+use Rattle.uriparse_path.specs.Edits.{with_last}
+use Rattle.uriparse_path.specs.Counts.{counts}
 use Rattle.uriparse_path.proofs.ReadLemmas.{limit_is}
-use Rattle.uriparse_path.proofs.EditLemmas.{full_answer, pushed_answer, pushed_fault, counted_pushed}
-use Rattle.uriparse_path.proofs.path.edit.Path.push.Goals.{After-put_last}
+use Rattle.uriparse_path.proofs.EditLemmas.{full_answer, pushed_answer, pushed_fault}
+use Rattle.uriparse_path.proofs.TallyLemmas.{pushed_kept}
+use Rattle.uriparse_path.proofs.path.edit.Path.push.Goals.{After-put_last-result}
 use Rattle.uriparse_path.proofs.path.edit.Path.push.Goals as goal
 
-room : (c : After-put_last) → length c.self.inside.segments.items < max_segments
+room : (c : After-put_last-result) → length c.self.inside.segments.items < max_segments
 room c = subst (λ n. length c.self.inside.segments.items < n) limit_is (omega arith)
 
 pub returns-then-len-ge-MAX_SEGMENTS-clause-answer :
@@ -16,14 +19,19 @@ returns-then-len-ge-MAX_SEGMENTS-clause-answer c =
     (subst (λ p. max_segments ≤ length p.segments) c.self.view_is (subst (λ n. n ≤ length c.self.inside.segments.items) limit_is at))
 
 pub invariant_of-self : goal.invariant_of-self
-invariant_of-self c = counted_pushed c.self.inside.segments.items c.put_last.new.segments.items c.args.segment c.put_last.result c.self.invariant (room c)
-    c.put_last.ensures
+invariant_of-self c =
+    pushed_kept c.self.inside.segments.items c.put_last-result.new.segments.items c.args.segment c.put_last-result.result (flag c.self.inside.known)
+    c.self.inside.counts c.pushed_counts-counts.result c.new_or_old-self-inside.result c.self.invariant
+    (room (goal.at.invariant_of-self c).After-put_last-result) c.put_last-result.ensures
+    (λ h. c.pushed_counts-counts.ensures h ∙ ap (λ l. counts (with_last l c.args.segment)) c.deref.ensures.value)
+    (c.new_or_old-self-inside.ensures ∙ ap (λ v. cond v c.pushed_counts-counts.result c.self.inside.counts) c.is_ok.ensures.value)
 
 pub returns-clause-answer : goal.returns-clause-answer
 returns-clause-answer c =
-    pushed_answer c.args.self.now (flag c.self.inside.absolute) c.self.inside.segments.items c.put_last.new.segments.items c.args.segment c.put_last.result
-    c.self.view_is (room c) c.put_last.ensures
+    pushed_answer c.args.self.now (flag c.self.inside.absolute) c.self.inside.segments.items c.put_last-result.new.segments.items c.args.segment
+    c.put_last-result.result c.self.view_is (room (goal.at.returns-clause-answer c).After-put_last-result) c.put_last-result.ensures
 
 pub returns-clause-always : goal.returns-clause-always
 returns-clause-always c =
-    pushed_fault c.args.self.now (flag c.self.inside.absolute) c.self.inside.segments.items c.args.segment c.put_last.result c.self.view_is (room c)
+    pushed_fault c.args.self.now (flag c.self.inside.absolute) c.self.inside.segments.items c.args.segment c.put_last-result.result c.self.view_is
+    (room (goal.at.returns-clause-always c).After-put_last-result)

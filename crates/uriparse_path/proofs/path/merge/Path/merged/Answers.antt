@@ -18,8 +18,8 @@ returns-in_err-segments-clause-always c =
     c.segments.ensures.value c.directory-front.ensures c.segments-back.ensures.value (omega arith) in
     subst (λ r. IfErr r (λ e. c.from_residual.result ≡ Err e)) (sym same) tt
 
-pub of-requires : goal.of-requires
-of-requires c =
+pub of-requires-clause-listed : goal.of-requires-clause-listed
+of-requires-clause-listed c =
     listed_list c.args.base.now c.args.reference.now c.segments.result.now c.directory-front.result.now c.segments-back.result.now c.segments.ensures.value
     c.directory-front.ensures c.segments-back.ensures.value c.segments.ensures.listed c.segments-back.ensures.listed (omega arith)
     c.in_ok-segments.segments.items c.in_ok-segments.ensures

@@ -1,0 +1,5 @@
+use Rattle.uriparse_path.proofs.TallyLemmas.{counts-nil}
+use Rattle.uriparse_path.proofs.path.counts.Counts.none.Goals as goal
+
+pub returns : goal.returns
+returns c = counts-nil

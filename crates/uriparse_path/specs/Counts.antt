@@ -1,0 +1,30 @@
+-- How many segments of a list are of each kind that dot removal and normal forms ask for. A path keeps these numbers.
+use Rattle.std.specs.Prelude.{◌≡◌, ℕ, ◌<◌, ◌≤◌, Bool, true, false, not, ◌==◌, List, [], ◌∷◌, length}
+use Rattle.std.specs.List.{count_by, prefix_len}
+use Rattle.uriparse_text.specs.Bytes.{dot}
+use Rattle.uriparse_path.specs.declared.path.counts.Counts.{Counts}
+use Rattle.uriparse_path.specs.Path.{max_segments}
+use Rattle.uriparse_path.specs.Dots.{is_single_dot, is_double_dot}
+use Rattle.uriparse_path.specs.Normal.{is_canonical}
+
+abbrev pub begins_with_dot : List ℕ → Bool
+begins_with_dot [] = false
+begins_with_dot (b ∷ s) = b == dot
+
+abbrev pub is_stray : List ℕ → Bool
+is_stray s = not (is_canonical s)
+
+-- the single dot segments, the double dot segments, those of these that stand first, and the segments that aren't canonical
+unfoldable pub counts : List (List ℕ) → Counts
+counts ss = record {
+  single = count_by is_single_dot ss;
+  double = count_by is_double_dot ss;
+  leading = prefix_len is_double_dot ss;
+  strays = count_by is_stray ss;
+}
+
+-- one segment at least and so many at most; the counts that are kept are those of the list, where they are known
+pub record IsKept {X : Type 0} (counts : List X → Counts) (segments : List X) (known : Bool) (kept : Counts) : Type 0 where
+  pub some : 0 < length segments
+  pub short : length segments ≤ max_segments
+  pub right : known ≡ true → kept ≡ counts segments
