@@ -1,7 +1,7 @@
 -- What a text keeps beside its bytes.
 use Rattle.std.specs.Prelude.{◌≡◌, ℕ, Bool, true, false, ◌&&◌, ◌==◌, List, string_bytes}
 use Rattle.uriparse_text.specs.declared.parts.spelling.Spelling.{Spelling}
-use Rattle.uriparse_text.specs.declared.parts.spelling.Spelling.TheVariants.{Borrowed, BorrowedCanonical, Owned, OwnedCanonical}
+use Rattle.uriparse_text.specs.declared.parts.spelling.Spelling.TheVariants.{Borrowed, Owned, OwnedCanonical}
 use Rattle.uriparse_text.specs.declared.parts.class.Class.{Class}
 use Rattle.uriparse_text.specs.declared.parts.canonical.Case.{Case}
 use Rattle.uriparse_text.specs.Faults.{IsIn}
@@ -10,15 +10,13 @@ use Rattle.uriparse_text.specs.Canonical.{canonical_in, in_case}
 
 -- the bytes
 abbrev pub spelled : Spelling → List ℕ
-spelled (Borrowed t) = t.now
-spelled (BorrowedCanonical t) = t.now
+spelled (Borrowed t known) = t.now
 spelled (Owned s) = string_bytes s
 spelled (OwnedCanonical s) = string_bytes s
 
 -- they are said to be canonical
 abbrev pub is_known : Spelling → Bool
-is_known (Borrowed t) = false
-is_known (BorrowedCanonical t) = true
+is_known (Borrowed t known) = known == 1
 is_known (Owned s) = false
 is_known (OwnedCanonical s) = true
 

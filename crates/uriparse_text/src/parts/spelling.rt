@@ -4,14 +4,13 @@ ghost use Rattle.uriparse_text.specs.Spelling as spec;
 
 use std::alloc::{AllocError, Global};
 
-/// Text that is borrowed or owned, and canonical or of unknown spelling. Both are told by the
-/// variant, so that a text is no larger than one that doesn't tell the second.
+/// Text that is borrowed or owned, and known to be canonical or not. This takes no more room than
+/// text that doesn't keep the second.
 #[derive(Drop)]
 pub enum Spelling<'t> {
-    /// Borrowed text, whose spelling is unknown.
-    Borrowed(&'t str),
-    /// Borrowed text that is canonical.
-    BorrowedCanonical(&'t str),
+    /// Borrowed text, with 1 if it is known to be canonical. What reading finds is a word and not
+    /// the variant, so that the variant is known where a part is built and moved.
+    Borrowed(&'t str, usize),
     /// Owned text, whose spelling is unknown.
     Owned(String),
     /// Owned text that is canonical.
@@ -25,11 +24,7 @@ impl<'t> Spelling<'t> {
         ensures text { spec.spelled result ≡ text.now }
         ensures known { spec.is_known result ≡ canonical }
     {
-        if canonical {
-            Spelling::BorrowedCanonical(text)
-        } else {
-            Spelling::Borrowed(text)
-        }
+        Spelling::Borrowed(text, usize::from(canonical))
     }
 
     /// Owned text.
@@ -51,7 +46,7 @@ impl<'t> Spelling<'t> {
         ensures { result.now ≡ spec.spelled self.now }
     {
         match self {
-            Spelling::Borrowed(text) | Spelling::BorrowedCanonical(text) => text,
+            Spelling::Borrowed(text, _) => text,
             Spelling::Owned(text) | Spelling::OwnedCanonical(text) => text.as_str(),
         }
     }
@@ -61,10 +56,11 @@ impl<'t> Spelling<'t> {
     pub(super) fn is_known(&self) -> bool
         ensures { result ≡ spec.is_known self.now }
     {
-        matches!(
-            self,
-            Spelling::BorrowedCanonical(_) | Spelling::OwnedCanonical(_)
-        )
+        match self {
+            Spelling::Borrowed(_, known) => *known == 1,
+            Spelling::Owned(_) => false,
+            Spelling::OwnedCanonical(_) => true,
+        }
     }
 
     /// The same text, which is owned. Borrowed text is copied, which allocates.
@@ -72,9 +68,8 @@ impl<'t> Spelling<'t> {
         ensures { IfOk result (λ s. (spec.spelled s ≡ spec.spelled self.entry) × (spec.is_known s ≡ spec.is_known self.entry)) }
     {
         match self {
-            Spelling::Borrowed(text) => Ok(Spelling::Owned(String::from_str(alloc, text)?)),
-            Spelling::BorrowedCanonical(text) => {
-                Ok(Spelling::OwnedCanonical(String::from_str(alloc, text)?))
+            Spelling::Borrowed(text, known) => {
+                Ok(Spelling::owned(String::from_str(alloc, text)?, known == 1))
             }
             Spelling::Owned(text) => Ok(Spelling::Owned(text)),
             Spelling::OwnedCanonical(text) => Ok(Spelling::OwnedCanonical(text)),
@@ -87,9 +82,9 @@ impl<'t> Spelling<'t> {
         ensures known { spec.is_known result ≡ true }
     {
         match self {
-            Spelling::Borrowed(text) => Spelling::BorrowedCanonical(text),
+            Spelling::Borrowed(text, _) => Spelling::Borrowed(text, 1),
             Spelling::Owned(text) => Spelling::OwnedCanonical(text),
-            canonical => canonical,
+            Spelling::OwnedCanonical(text) => Spelling::OwnedCanonical(text),
         }
     }
 }

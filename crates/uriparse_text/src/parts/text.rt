@@ -192,7 +192,7 @@ impl<'t, K: Kind> Text<'t, K> {
         requires { canonical_in K.case self.old ≡ self.old }
         ensures { self.new ≡ self.old }
     {
-        let text = mem::replace(&mut self.text, Spelling::Borrowed(""));
+        let text = mem::replace(&mut self.text, Spelling::Borrowed("", 0));
         self.text = text.into_canonical();
     }
 
