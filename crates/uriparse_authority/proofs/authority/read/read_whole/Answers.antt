@@ -1,8 +1,12 @@
-use Rattle.std.proofs.Common.{sym, ◌∙◌}
+use Rattle.std.proofs.Common.{Ok, refl, sym, ap, ◌∙◌}
+use Rattle.uriparse_text.specs.Cuts.{up_to}
+use Rattle.uriparse_authority.specs.Authority.{ends_authority}
 use Rattle.uriparse_authority.proofs.AuthorityLemmas.{rest_told}
 use Rattle.uriparse_authority.proofs.authority.read.read_whole.Goals as goal
 
 pub returns : goal.returns
 returns c =
-    rest_told c.args.bytes.now _ _ c.in_ok-read.read c.rest_error.result c.split_rest.ensures.front c.split_rest.ensures.rest c.in_ok-read.ensures
+    let cut = c.in_ok-found.ensures in
+    rest_told c.args.bytes.now (up_to ends_authority c.args.bytes.now) c.in_ok-found.rest.now c.to_authority-read.result c.rest_error.result refl cut.1
+    (ap Ok c.to_authority-read.ensures ∙ sym cut.0)
     (sym c.is_empty.ensures ∙ c.if-is_empty.false) c.rest_error.ensures
