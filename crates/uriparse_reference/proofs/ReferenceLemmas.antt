@@ -2,8 +2,7 @@
 use Rattle.std.proofs.Common.{◌≡◌, ℕ, Bool, true, false, cond, List, [], ◌∷◌, ◌++◌, drop, Option, Some, None, Ok, refl, sym, ap, ◌∙◌, subst, append_assoc, ◌&&◌}
 use Rattle.std.proofs.Common.{inl, inr, arith}
 use Rattle.std.specs.Prelude.{◌⊎◌, ◌==◌, IfSome, IfOk, IfErr, Result, Err, is_some}
-use Rattle.std.specs.Option.{option_map, option_copied}
-use Rattle.std.proofs.Common.{Bor}
+use Rattle.std.specs.Option.{option_map}
 use Rattle.std.proofs.lemmas.Bool.{false≢true, eqb-true}
 use Rattle.std.proofs.lemmas.Bool.Decides.{nat_tests}
 use Rattle.uriparse_text.specs.declared.parts.class.Class.TheVariants.{Query}
@@ -32,7 +31,7 @@ use Rattle.uriparse_authority.specs.declared.authority.error.AuthorityError.{Aut
 use Rattle.uriparse_reference.specs.Reference.{Parts, behind_slashes, joined, is_abempty, path_refusal, path_of, Spells}
 use Rattle.uriparse_reference.specs.Cuts.{if_scheme, scheme_text, unless_scheme, after_scheme, cut_authority, authority_text, without_authority}
 use Rattle.uriparse_reference.specs.Cuts.{after_authority, path_text, query_text, fragment_text}
-use Rattle.uriparse_reference.specs.Reading.{path_reading, tail_reading, reading, fault, IsAnswer, IsUnlessMemory}
+use Rattle.uriparse_reference.specs.Reading.{path_reading, tail_reading, reading, fault, IsAnswer}
 use Rattle.uriparse_reference.proofs.TailLemmas.{Tail}
 use Rattle.uriparse_reference.proofs.CutLemmas.{tail, ArePieces, cut_again, path_cut}
 

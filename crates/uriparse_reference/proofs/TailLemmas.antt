@@ -1,8 +1,8 @@
 -- What reading gives of the text behind an authority, piece by piece.
 use Rattle.std.proofs.Common.{◌≡◌, ℕ, Bool, List, Option, Some, None, Ok, Err, refl, sym, ap, ◌∙◌}
 use Rattle.std.specs.Prelude.{Result}
-use Rattle.uriparse_text.specs.Bytes.{question_mark, number_sign}
-use Rattle.uriparse_text.specs.Cuts.{before, after, up_to, from_first}
+use Rattle.uriparse_text.specs.Bytes.{number_sign}
+use Rattle.uriparse_text.specs.Cuts.{after, up_to, from_first}
 use Rattle.uriparse_text.specs.Readings.{◌>>=◌, if_present, of_piece, unless_fault}
 use Rattle.uriparse_text.specs.Query as query
 use Rattle.uriparse_text.specs.Fragment as fragment

@@ -1,5 +1,5 @@
-use Rattle.std.proofs.Common.{◌≡◌, List, Option, Ok, Err, refl, sym, ap, ◌∙◌, rules}
-use Rattle.std.specs.Prelude.{Result, ℕ, is_some}
+use Rattle.std.proofs.Common.{◌≡◌, Ok, Err, refl, sym, ap, ◌∙◌, rules}
+use Rattle.std.specs.Prelude.{Result, is_some}
 use Rattle.std.specs.Option.{option_map}
 use Rattle.uriparse_text.specs.Bytes.{question_mark, number_sign}
 use Rattle.uriparse_text.specs.Cuts.{before, after, up_to}

@@ -1,5 +1,5 @@
-use Rattle.std.proofs.Common.{◌≡◌, None, Some, refl, true, false, ap, sym, ◌∙◌, rules}
-use Rattle.uriparse_text.specs.Cuts.{up_to, from_first}
+use Rattle.std.proofs.Common.{◌≡◌, None, Some, ap, sym, ◌∙◌, rules}
+use Rattle.uriparse_text.specs.Cuts.{from_first}
 use Rattle.uriparse_authority.specs.Authority.{colon_part}
 use Rattle.uriparse_scheme.specs.Scheme.{is_scheme}
 use Rattle.uriparse_reference.specs.Cuts.{ends_scheme}

@@ -1,4 +1,4 @@
-use Rattle.std.proofs.Common.{take, sym, subst, true, ap, ◌∙◌}
+use Rattle.std.proofs.Common.{sym, subst, true}
 use Rattle.uriparse_text.specs.Spelling.{IsKept}
 use Rattle.uriparse_text.proofs.SettledLemmas.{settled_take}
 use Rattle.uriparse_text.proofs.parts.settled.split_settled.Goals as goal

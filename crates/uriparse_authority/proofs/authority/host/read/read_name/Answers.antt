@@ -1,7 +1,4 @@
-use Rattle.std.proofs.Common.{◌≡◌, None, Ok, sym, ap, ◌∙◌, rules}
-use Rattle.uriparse_text.specs.declared.parts.class.Class.TheVariants as class
-use Rattle.uriparse_text.specs.Faults.{fault}
-use Rattle.uriparse_text.proofs.FaultLemmas.{no_fault}
+use Rattle.std.proofs.Common.{Ok, sym, ap, ◌∙◌}
 use Rattle.uriparse_authority.proofs.HostLemmas.{ipv4_first}
 use Rattle.uriparse_authority.proofs.authority.host.read.read_name.Goals as goal
 
