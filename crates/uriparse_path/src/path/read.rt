@@ -131,15 +131,17 @@ fn is_dotted(dotted: bool, piece: &[u8]) -> bool
     dotted || matches!(piece, [b'.', ..])
 }
 
-/// The segments that the text is cut into, of which there are so many, and whether one of them begins
-/// with a dot. Each slash ends one.
+/// The `count` segments that the text is cut into, and whether one of them begins with a dot. Each
+/// slash ends one. `escaped` is 0 only if no escape stands in the text: then each is canonical.
 #[inline(always)]
 fn split_segments<'p>(
     alloc: Global,
     count: usize,
+    escaped: usize,
     text: &'p [u8],
 ) -> Result<(Vec<Segment<'p>>, bool), AllocError>
-    requires { list_all segment.is_segment (slice_split is_slash text.now) ≡ true }
+    requires segments { list_all segment.is_segment (slice_split is_slash text.now) ≡ true }
+    requires escaped { escaped ≡ 0 → lacks percent text.now ≡ true }
     ensures { IfOk result (λ v. (v.0.items ≡ slice_split is_slash text.now) × (v.1 ≡ list_any tally.begins_with_dot (slice_split is_slash text.now))) }
 {
     let mut segments = Vec::with_capacity(alloc, count)?;
@@ -153,7 +155,7 @@ fn split_segments<'p>(
             let end = at + lowest(left);
             let piece = &text[start..end];
             dotted = is_dotted(dotted, piece);
-            segments.push(Segment::of_checked(piece))?;
+            segments.push(Segment::of_kept(piece, escaped == 0))?;
             start = end + 1;
             left = without_lowest(left);
         }
@@ -161,7 +163,7 @@ fn split_segments<'p>(
     }
     let piece = &text[start..];
     let dotted = is_dotted(dotted, piece);
-    segments.push(Segment::of_checked(piece))?;
+    segments.push(Segment::of_kept(piece, escaped == 0))?;
     Ok((segments, dotted))
 }
 
@@ -221,7 +223,7 @@ pub fn counted_path(
     ensures { IfOk result (λ p. p ≡ spelled text.now) }
 {
     let (absolute, rest) = split_root(text);
-    let (segments, dotted) = split_segments(alloc, count, rest)?;
+    let (segments, dotted) = split_segments(alloc, count, escaped, rest)?;
     let plain = is_plain(escaped, dotted);
     Ok(Path::of(absolute, segments, Counts::none(), plain))
 }

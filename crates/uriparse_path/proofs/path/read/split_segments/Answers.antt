@@ -3,14 +3,19 @@ use Rattle.std.proofs.lemmas.List.{take_rest}
 use Rattle.std.specs.List.{list_any}
 use Rattle.uriparse_path.specs.Segment.{is_segment}
 use Rattle.uriparse_path.specs.Counts.{begins_with_dot}
-use Rattle.uriparse_path.proofs.CutLemmas.{piece_is_segment, run_on, run_begins, run_ends, last_whole, last_is_segment}
+use Rattle.uriparse_path.proofs.CutLemmas.{piece_is_segment, lacks_piece, run_on, run_begins, run_ends, last_whole, last_is_segment}
+use Rattle.std.proofs.lemmas.Bool.{eqb-true}
 use Rattle.uriparse_path.proofs.PlainLemmas.{any_push}
+use Rattle.uriparse_path.proofs.TallyLemmas.{unescaped_stays}
 use Rattle.uriparse_path.proofs.path.read.split_segments.Goals as goal
 
-pub of_checked-requires : goal.of_checked-requires
-of_checked-requires c =
-    piece_is_segment c.args.text.now c.marks.segments.items c.marks.start c.runs.at c.next_marks-marks.result.1 c.marks.left c.marks.invariant.0
-    c.lowest.result c.lowest.ensures.set c.lowest.ensures.below c.requires
+pub of_kept-requires : goal.of_kept-requires
+of_kept-requires c = record {
+  inside =
+      piece_is_segment c.args.text.now c.marks.segments.items c.marks.start c.runs.at c.next_marks-marks.result.1 c.marks.left c.marks.invariant.0
+      c.lowest.result c.lowest.ensures.set c.lowest.ensures.below c.requires.segments;
+  canonical = λ e. unescaped_stays _ (lacks_piece c.args.text.now c.marks.start _ (c.requires.escaped (eqb-true c.args.escaped 0 e)));
+}
 
 pub marks-init : goal.marks-init
 marks-init c = (
@@ -24,12 +29,12 @@ marks-preserved c =
     let low = c.lowest.ensures in
     let next = c.without_lowest-left.ensures in
     let k = c.lowest.result in (
-      rw (c.in_ok-push.ensures.items, c.of_checked.ensures)
+      rw (c.in_ok-push.ensures.items, c.of_kept.ensures)
           (run_on c.args.text.now c.marks.segments.items c.marks.start c.runs.at c.next_marks-marks.result.1 c.marks.left c.marks.invariant.0
           k low.set low.below c.without_lowest-left.result (λ j. next.kept k j (low.set, low.below)) next.no_more (next.cleared k (low.set, low.below))),
       c.is_dotted-dotted.ensures
           ∙ any_push begins_with_dot c.marks.segments.items _ c.marks.dotted c.marks.invariant.1
-          ∙ ap (λ s. list_any begins_with_dot (c.marks.segments.items ++ s ∷ [])) (sym c.of_checked.ensures)
+          ∙ ap (λ s. list_any begins_with_dot (c.marks.segments.items ++ s ∷ [])) (sym c.of_kept.ensures)
           ∙ ap (list_any begins_with_dot) (sym c.in_ok-push.ensures.items),
     )
 
@@ -39,16 +44,19 @@ runs-preserved c = (
   c.marks.invariant.1,
 )
 
-pub of_checked-requires-2 : goal.of_checked-requires-2
-of_checked-requires-2 c =
-    ap is_segment (take_rest c.args.text.now c.runs.start)
-    ∙ last_is_segment c.args.text.now c.runs.segments.items c.runs.start c.runs.at c.runs.invariant.0 c.runs-test.false c.requires
+pub of_kept-requires-2 : goal.of_kept-requires-2
+of_kept-requires-2 c = record {
+  inside =
+      ap is_segment (take_rest c.args.text.now c.runs.start)
+      ∙ last_is_segment c.args.text.now c.runs.segments.items c.runs.start c.runs.at c.runs.invariant.0 c.runs-test.false c.requires.segments;
+  canonical = λ e. unescaped_stays _ (lacks_piece c.args.text.now c.runs.start _ (c.requires.escaped (eqb-true c.args.escaped 0 e)));
+}
 
 pub returns : goal.returns
 returns c =
     let whole = last_whole c.args.text.now c.runs.segments.items c.runs.start c.runs.at c.runs.invariant.0 c.runs-test.false in
     let rest = take_rest c.args.text.now c.runs.start in (
-      rw (c.in_ok-push-2.ensures.items, c.of_checked-2.ensures, rest) whole,
+      rw (c.in_ok-push-2.ensures.items, c.of_kept-2.ensures, rest) whole,
       c.is_dotted-dotted-2.ensures
           ∙ any_push begins_with_dot c.runs.segments.items _ c.runs.dotted c.runs.invariant.1
           ∙ ap (λ s. list_any begins_with_dot (c.runs.segments.items ++ s ∷ [])) rest
