@@ -1,7 +1,7 @@
 //! Edits and copies of paths.
 
 use crate::paths::told;
-use rows::answer::{Answer, refused, said, words};
+use rows::answer::{Answer, refused, repeated, said, words};
 use std::alloc::Global;
 use std::test::Fail;
 use uriparse_path::path::{MAX_SEGMENTS, Path, PathError, Segment};
@@ -120,26 +120,35 @@ pub fn answer(alloc: Global, asked: &str) -> Answer {
     }
 }
 
-/// What a push on a path answers that has as many segments as it may have.
-fn push_on_full(alloc: Global) -> Answer {
-    let mut text = String::new(alloc);
-    for _ in 0..MAX_SEGMENTS {
-        text.push('/')?;
-    }
-    let slashes = text.as_str();
-    match Path::try_from_str(alloc, slashes) {
-        // No segment has a slash, but the length is looked at first.
-        Ok(mut path) => push_bytes(alloc, &mut path, slashes, slashes),
+/// What is answered to the push of these bytes on a path of this many empty segments.
+fn push_on_slashes(alloc: Global, count: usize, bytes: &str) -> Answer {
+    let slashes = repeated(alloc, count, "/")?;
+    match Path::try_from_str(alloc, slashes.as_str()) {
+        Ok(mut path) => push_bytes(alloc, &mut path, slashes.as_str(), bytes),
         Err(why) => refused(alloc, why),
     }
 }
 
 #[test]
 fn a_full_path_takes_no_segment(rt: HostRuntime) -> Result<(), Fail> {
+    let alloc = rt.alloc();
+    // The length is looked at before the bytes.
     assert_eq!(rt;
-        push_on_full(rt.alloc())?.as_str(),
+        push_on_slashes(alloc, MAX_SEGMENTS, "a b")?.as_str(),
         "exceeded maximum path length"
     );
+    assert_eq!(rt;
+        push_on_slashes(alloc, 65_535, "a b")?.as_str(),
+        "invalid path character"
+    );
+    Ok(())
+}
+
+#[test]
+fn a_path_takes_its_last_segment(rt: HostRuntime) -> Result<(), Fail> {
+    let text = push_on_slashes(rt.alloc(), 999_999, "x")?;
+    assert_eq!(rt; text.len(), 1_000_001);
+    assert_eq!(rt; MAX_SEGMENTS, 1_000_000);
     Ok(())
 }
 

@@ -228,7 +228,7 @@ pub counted_kept : (ss : List (List ℕ)) (v : Bool) (c : Counts) → IsKept cou
 counted_kept ss v c is = record { some = is.some; short = is.short }
 
 pub fits : (ss : List (List ℕ)) → length ss ≤ max_segments → length ss ≤ 4294967295
-fits ss h = let short : length ss ≤ 65535 = subst (λ n. length ss ≤ n) (sym limit_is) h in omega arith
+fits ss h = let short : length ss ≤ 1000000 = subst (λ n. length ss ≤ n) (sym limit_is) h in omega arith
 
 pub cleared_kept : (l : List (List ℕ)) (c : Counts) → l ≡ [] ∷ [] → c ≡ counts [] → IsKept counts l true c
 cleared_kept l c e f = subst (λ u. IsKept counts u true c) (sym e) (record {

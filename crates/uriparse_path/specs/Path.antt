@@ -20,7 +20,7 @@ flag n = not (n == 0)
 
 -- the most segments that a path may have
 unfoldable pub max_segments : ℕ
-max_segments = 65535
+max_segments = 1000000
 
 -- one segment at least and so many at most, each of a segment's tokens
 pub record IsListed (segments : List (List ℕ)) : Type 0 where

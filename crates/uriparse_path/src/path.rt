@@ -49,7 +49,7 @@ pub use segment::Segment;
 use segment::each_is_segment;
 
 /// The most segments that a path may have.
-pub const MAX_SEGMENTS: usize = 65535;
+pub const MAX_SEGMENTS: usize = 1_000_000;
 
 /// What a [`Path`] is made of, for segments of any type that can be counted. Users name it by [`Path`]
 /// alone.

@@ -29,22 +29,24 @@ pub fn answer(alloc: Global, asked: &str) -> Answer {
 pub const ROWS: &str = "\
 reference //h: 100000 0 80 -> //h:80/
 reference //h: 100000 9 '' -> port overflow
-reference //h 65536 / '' -> exceeded maximum path length
-reference ' ' 65536 / '' -> invalid path character
-reference //h 65536 / ' ' -> exceeded maximum path length
-reference //h 65536 / ?% -> exceeded maximum path length
+reference ' ' 1000001 / '' -> invalid path character
+reference //h 1000001 / '' -> exceeded maximum path length
+reference //h 1000001 / ' ' -> exceeded maximum path length
+reference //h 1000001 / ?% -> exceeded maximum path length
 scheme-length '' 1000000 a : -> 1000000
-resolve http://h 65535 / x/y -> exceeded maximum path length
-resolve-segments http://h 65535 / x -> 65535
-resolve http://h 65535 / ../x -> exceeded maximum path length
-resolve http://h 65535 / /g -> http://h/g
-resolve-segments http://h 65535 / '' -> 65535
-resolve-segments http://h 65534 / ../x -> 65533
-resolve-segments http://h 65534 / x/y -> 65535
-resolve s: 65534 a/ x/y -> exceeded maximum path length
-resolve-segments s: 65534 a/ x -> 65535
-resolve-segments s:/ 65534 a/ ../x -> exceeded maximum path length
-resolve-segments s:/ 65533 a/ ../x -> 65533
-resolve s:/ 32766 a/../ c -> s:/c
-resolve s:/ 32766 a/../ .//c -> s:/.//c
-resolve s:/ 32766 a/../ ././/c -> exceeded maximum path length";
+normalize '' 499999 x/../ x/.. -> ''
+resolve http://h 1000000 / x/y -> exceeded maximum path length
+resolve-segments http://h 65536 / x -> 65536
+resolve-segments http://h 1000000 / x -> 1000000
+resolve http://h 1000000 / ../x -> exceeded maximum path length
+resolve http://h 1000000 / /g -> http://h/g
+resolve-segments http://h 1000000 / '' -> 1000000
+resolve-segments http://h 999999 / ../x -> 999998
+resolve-segments http://h 999999 / x/y -> 1000000
+resolve s: 999999 a/ x/y -> exceeded maximum path length
+resolve-segments s: 999999 a/ x -> 1000000
+resolve-segments s:/ 999999 a/ ../x -> exceeded maximum path length
+resolve-segments s:/ 999998 a/ ../x -> 999998
+resolve s:/ 499998 a/../ c -> s:/c
+resolve s:/ 499998 a/../ ././/c -> s:/.//c
+resolve s:/ 499998 a/../ ./././/c -> exceeded maximum path length";

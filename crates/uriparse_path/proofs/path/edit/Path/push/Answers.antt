@@ -14,7 +14,7 @@ room c = subst (λ n. length c.self.inside.segments.items < n) limit_is (omega a
 pub returns-then-len-ge-MAX_SEGMENTS-clause-answer :
     goal.returns-then-len-ge-MAX_SEGMENTS-clause-answer
 returns-then-len-ge-MAX_SEGMENTS-clause-answer c =
-    let at : 65535 ≤ length c.self.inside.segments.items = omega arith in
+    let at : 1000000 ≤ length c.self.inside.segments.items = omega arith in
     full_answer c.args.self.now (Ok c.args.segment)
     (subst (λ p. max_segments ≤ length p.segments) c.self.view_is (subst (λ n. n ≤ length c.self.inside.segments.items) limit_is at))
 

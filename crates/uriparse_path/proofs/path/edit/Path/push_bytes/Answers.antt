@@ -12,14 +12,14 @@ use Rattle.uriparse_path.proofs.path.edit.Path.push_bytes.Goals as goal
 pub returns-then-len-ge-MAX_SEGMENTS-clause-answer :
     goal.returns-then-len-ge-MAX_SEGMENTS-clause-answer
 returns-then-len-ge-MAX_SEGMENTS-clause-answer c =
-    let at : 65535 ≤ length c.self.inside.segments.items = omega arith in
+    let at : 1000000 ≤ length c.self.inside.segments.items = omega arith in
     full_answer c.args.self.now (segment.reading c.args.bytes.now)
     (subst (λ p. max_segments ≤ length p.segments) c.self.view_is (subst (λ n. n ≤ length c.self.inside.segments.items) limit_is at))
 
 pub returns-then-len-ge-MAX_SEGMENTS-clause-always :
     goal.returns-then-len-ge-MAX_SEGMENTS-clause-always
 returns-then-len-ge-MAX_SEGMENTS-clause-always c =
-    let at : 65535 ≤ length c.self.inside.segments.items = omega arith in
+    let at : 1000000 ≤ length c.self.inside.segments.items = omega arith in
     full_fault c.args.self.now (segment.reading c.args.bytes.now)
     (subst (λ p. max_segments ≤ length p.segments) c.self.view_is (subst (λ n. n ≤ length c.self.inside.segments.items) limit_is at))
 
