@@ -5,13 +5,13 @@
 //! here, no body of the library does.
 #![tactic(auto)]
 
-ghost use Rattle.std.specs.Prelude.{◌≡◌, ◌↔◌, IsTrue, IfOk, OnOk, true, false, if◌then◌else◌, bytes_eq};
+ghost use Rattle.std.specs.Prelude.{◌≡◌, ◌↔◌, IsTrue, IfOk, Ok, OnOk, true, false, if◌then◌else◌, bytes_eq};
 ghost use Rattle.uriparse_text.specs.Canonical.{canonical};
-ghost use Rattle.uriparse_text.specs.Readings.{IsUnless};
+ghost use Rattle.uriparse_text.specs.Readings.{IsUnless, SettlesUnless};
 ghost use Rattle.uriparse_path.specs.declared.path.error.PathError.TheVariants as errors;
 ghost use Rattle.uriparse_path.specs.Path.{hides_root, text};
 ghost use Rattle.uriparse_path.specs.Dots.{without_dots};
-ghost use Rattle.uriparse_path.specs.Edits.{shield};
+ghost use Rattle.uriparse_path.specs.Edits.{pushing, shield};
 ghost use Rattle.uriparse_path.specs.Merge.{merging};
 ghost use Rattle.uriparse_path.specs.Normal.{pnormal};
 
@@ -81,4 +81,11 @@ pub fn merge<'p>(
     ensures { IsUnless errors.OutOfMemory result (merging base.now reference.now) }
 {
     merged_path(alloc, base, reference)
+}
+
+/// Puts a segment at the end.
+pub fn push<'p>(alloc: Global, path: &mut Path<'p>, last: Segment<'p>) -> Result<(), PathError>
+    ensures { SettlesUnless errors.OutOfMemory path.old path.new result (pushing path.old (Ok last.entry)) }
+{
+    path.push(alloc, last)
 }
