@@ -10,16 +10,24 @@ const USAGE: &str = "usage: uri COMMAND TEXT..\n";
 
 const HELP: &str = "\
 uri parse TEXT        the reference, and then each of its parts
-uri tail TEXT         path, query and fragment of a text, as it is and part by part
+uri tail TEXT         path, query and fragment of a text, and each of them
+uri get PART TEXT     that part alone: scheme, authority, username, password,
+                      host, port, path, query, fragment or origin
 uri normalize TEXT    the reference's normal form
 uri equal A B         `equal` or `different`
-uri resolve BASE REF  the target of the reference behind the base, which is a URI
-uri edit TEXT EDIT..  the reference with all edits made, from the left; an edit is scheme V, authority V, path V, query V, fragment V, drop-scheme, drop-authority, drop-query, drop-fragment or normalize
+uri resolve BASE REF  the target of the reference behind the base, a URI
+uri edit TEXT EDIT..  the reference with all edits made, from the left;
+                      an edit is scheme V, authority V, path V, query V,
+                      fragment V, drop-scheme, drop-authority, drop-query,
+                      drop-fragment or normalize
 uri help              these lines
+uri --quiet parse TEXT, uri --quiet equal A B
+                      nothing but the status
+uri --version         the version
 ";
 
 // (the words with bars between them, the status, what is printed, what is said of a failure)
-static ROWS: [(&str, u8, &str, &str); 67] = [
+static ROWS: [(&str, u8, &str, &str); 101] = [
     ("help", 0, HELP, ""),
     ("--help", 0, HELP, ""),
     ("help|parse", 2, "", USAGE),
@@ -176,6 +184,47 @@ static ROWS: [(&str, u8, &str, &str); 67] = [
     ("resolve|s:a", 2, "", USAGE),
     ("edit|x/%7e|normalize|scheme|HTTP", 0, "http:x/~\n", ""),
     ("edit|x|query|normalize", 0, "x?normalize\n", ""),
+    ("get|scheme|HTTP://h", 0, "http\n", ""),
+    ("get|authority|//u:p@h:8/a?q#f", 0, "u:p@h:8\n", ""),
+    ("get|username|//u:p@h:8/a?q#f", 0, "u\n", ""),
+    ("get|password|//u:p@h:8/a?q#f", 0, "p\n", ""),
+    ("get|host|//u:p@[::1]:8/a?q#f", 0, "[::1]\n", ""),
+    ("get|port|//u:p@h:0080/a?q#f", 0, "80\n", ""),
+    ("get|path|//u:p@h:8/a?q#f", 0, "/a\n", ""),
+    ("get|query|//u:p@h:8/a?q#f", 0, "q\n", ""),
+    ("get|fragment|//u:p@h:8/a?q#f", 0, "f\n", ""),
+    ("get|origin|HTTPS://u@h:8/a?q#f", 0, "https://h:8\n", ""),
+    ("get|origin|s://h:/a", 0, "s://h\n", ""),
+    ("get|origin|//h/a", 3, "", ""),
+    ("get|origin|mailto:a@b", 3, "", ""),
+    // What is absent isn't what is empty.
+    ("get|query|a?", 0, "\n", ""),
+    ("get|path|", 0, "\n", ""),
+    ("get|query|a", 3, "", ""),
+    ("get|port|//h", 3, "", ""),
+    ("get|host|a%", 1, "", "invalid path percent encoding\n"),
+    // The part's name is looked at before the text is read.
+    ("get|hosts|a%", 2, "", USAGE),
+    ("get|host", 2, "", USAGE),
+    ("get|host|a|b", 2, "", USAGE),
+    ("--quiet|parse|a?b", 0, "", ""),
+    ("--quiet|parse|a?[", 1, "", ""),
+    ("--quiet|equal|/%7e|/~", 0, "", ""),
+    ("--quiet|equal|/a|/b", 3, "", ""),
+    ("--quiet|equal|/a|%", 1, "", ""),
+    ("--quiet|equal|%|/a", 1, "", ""),
+    ("--quiet|equal|a", 2, "", USAGE),
+    ("--quiet|normalize|a", 2, "", USAGE),
+    ("--quiet", 2, "", USAGE),
+    (
+        "--version",
+        0,
+        "uri 0.1.0\nrattle-kit-13f logic dac8208d650f15bf\n",
+        "",
+    ),
+    ("--version|a", 2, "", USAGE),
+    ("parse|--version", 0, "--version\npath=--version\n", ""),
+    ("parse|--quiet", 0, "--quiet\npath=--quiet\n", ""),
 ];
 
 /// The status that these words end with, what is printed, and what is said of a failure.

@@ -23,6 +23,12 @@ pub enum Failure {
         index: usize,
         refusal: URIReferenceError,
     },
+    /// A part that the reference doesn't have. Nothing is said of it.
+    #[error("absent")]
+    Absent,
+    /// References that aren't equal, where the status alone tells it.
+    #[error("different")]
+    Different,
     #[error("out of memory")]
     Memory(#[from] AllocError),
     /// A write that failed.
@@ -41,6 +47,7 @@ impl Failure {
     pub fn status(&self) -> u8 {
         match self {
             Failure::Usage => 2,
+            Failure::Absent | Failure::Different => 3,
             _ => 1,
         }
     }
