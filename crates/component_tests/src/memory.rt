@@ -1,5 +1,6 @@
 //! What memory a path wants.
 
+use rows::answer::repeated;
 use rows::complaint;
 use scarce::{Outcome, starve};
 use std::alloc::Global;
@@ -49,5 +50,22 @@ fn a_path_asks_for_its_list_alone(rt: HostRuntime) -> Result<(), Fail> {
     let of_room = starve(rt.alloc(), 4096, room)?;
     assert_eq!(rt; complaint(&of_path, 4), "");
     assert_eq!(rt; refusals(&of_path), refusals(&of_room));
+    Ok(())
+}
+
+/// Reads a path that is as long as can be, but for one segment.
+fn long_path(alloc: Global, text: &str) -> Outcome {
+    match Path::try_from_str(alloc, text) {
+        Ok(path) if path.segments().len() == 999_999 => Outcome::Right,
+        Err(PathError::OutOfMemory) => Outcome::Refused,
+        _ => Outcome::Wrong,
+    }
+}
+
+#[test]
+fn a_long_path_is_read_or_wants_memory(rt: HostRuntime) -> Result<(), Fail> {
+    let text = repeated(rt.alloc(), 999_999, "/x")?;
+    let outcomes = starve(rt.alloc(), 4096, |alloc| long_path(alloc, text.as_str()))?;
+    assert_eq!(rt; complaint(&outcomes, 4), "");
     Ok(())
 }
