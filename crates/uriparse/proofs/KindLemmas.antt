@@ -1,13 +1,14 @@
 -- What reading a reference of one kind gives.
-use Rattle.std.proofs.Common.{◌≡◌, ℕ, Bool, true, false, cond, List, Ok, Err, inl, inr, refl, ap, ◌∙◌}
+use Rattle.std.proofs.Common.{◌≡◌, ℕ, Bool, true, false, cond, List, Option, None, Some, Ok, Err, inl, inr, refl, sym, ap, ◌∙◌}
 use Rattle.std.specs.Prelude.{IfOk, Result, is_some}
 use Rattle.std.specs.Bool.{beq}
-use Rattle.uriparse_text.specs.Readings.{◌>>=◌, IsUnless}
+use Rattle.std.specs.Option.{option_map}
+use Rattle.uriparse_text.specs.Readings.{◌>>=◌, IsUnless, fault_in, unless_fault}
 use Rattle.uriparse_reference.specs.declared.uri_reference.error.URIReferenceError.{URIReferenceError}
 use Rattle.uriparse_reference.specs.Reference.{Parts, Spells}
 use Rattle.uriparse_reference.specs.Reading.{reading}
 use Rattle.uriparse_reference.proofs.ReferenceLemmas.{again, found}
-use Rattle.uriparse.specs.Kinds.{IsOfKind, of_kind, reading_of, told_of}
+use Rattle.uriparse.specs.Kinds.{IsOfKind, fault_of, of_kind, reading_of, told_of}
 
 -- a reference of the kind is taken
 pub of_its_kind : {E : Type 0} (v : Bool) (other : E) (p : Parts) → IsOfKind v p → of_kind v other p ≡ Ok p
@@ -47,3 +48,26 @@ pub kind_only : {E : Type 0} (v : Bool) (told : URIReferenceError → E) (other 
     → IsUnless x r (reading_of v told other t) → (p : Parts) → Spells t p → IsOfKind v p → IsUnless x r (Ok p)
 kind_only v told other x t r (inl h) p s k = inl (h ∙ read_of v told other t p s ∙ of_its_kind v other p k)
 kind_only v told other x t r (inr h) p s k = inr h
+
+-- ---- what a check by the pieces tells
+
+pub map_some : {A B : Type 0} (f : A → B) (o : Option A) → is_some (option_map f o) ≡ is_some o
+map_some f None = refl
+map_some f (Some x) = refl
+
+checked_by : {E : Type 0} (other : E) (p : Parts) (b : Bool)
+    → ◌≡◌ {A = Result (Unit {0}) E} (cond b (Ok tt) (Err other)) (unless_fault (fault_in (cond b (Ok p) (Err other))) tt)
+checked_by other p true = refl
+checked_by other p false = refl
+
+-- a text that is read is refused for its kind alone
+pub checked : {E : Type 0} (v : Bool) (told : URIReferenceError → E) (other : E) (t : List ℕ) (p : Parts) (b : Bool) → b ≡ is_some p.scheme
+    → reading t ≡ Ok p → ◌≡◌ {A = Result (Unit {0}) E} (cond (beq b v) (Ok tt) (Err other)) (unless_fault (fault_of v told other t) tt)
+checked v told other t p b is h =
+    ap (λ x. cond (beq x v) (Ok tt) (Err other)) is ∙ checked_by other p (beq (is_some p.scheme) v)
+    ∙ ap (λ r. unless_fault (fault_in (told_of told r >>= of_kind v other)) tt) (sym h)
+
+-- a text that isn't read is refused for its fault
+pub unchecked : {E : Type 0} (v : Bool) (told : URIReferenceError → E) (other : E) (t : List ℕ) (e : URIReferenceError) → reading t ≡ Err e
+    → ◌≡◌ {A = Result (Unit {0}) E} (Err (told e)) (unless_fault (fault_of v told other t) tt)
+unchecked v told other t e h = ap (λ r. unless_fault (fault_in (told_of told r >>= of_kind v other)) tt) (sym h)

@@ -1,10 +1,10 @@
 //! A reference of one kind: what URIs and relative references share.
-ghost use Rattle.std.specs.Prelude.{◌≡◌, ◌⊎◌, IfOk, IfErr, Ok, Err, Some, bytes_eq, fold, is_some, string_bytes};
+ghost use Rattle.std.specs.Prelude.{◌≡◌, ◌⊎◌, if◌then◌else◌, IfOk, IfErr, Ok, Err, Some, bytes_eq, fold, is_some, string_bytes};
 ghost use Rattle.std.specs.Bool.{beq};
 ghost use Rattle.std.proofs.Common.{rules};
 ghost use Rattle.std.specs.Ordering.{on};
 ghost use Rattle.std.specs.Cmp.Rules.{comparing, hashing};
-ghost use Rattle.uriparse_text.specs.Readings.{IsUnless};
+ghost use Rattle.uriparse_text.specs.Readings.{IsUnless, unless_fault};
 ghost use Rattle.uriparse_path.specs.declared.path.error.PathError.TheVariants.{OutOfMemory};
 ghost use Rattle.uriparse_reference.specs.declared.uri_reference.error.URIReferenceError.TheVariants as errors;
 ghost use Rattle.uriparse_reference.specs.Key.{fed, fed_key, key};
@@ -18,6 +18,7 @@ use std::alloc::{AllocError, Global};
 use std::fmt;
 use std::hash::{Hash, Hasher};
 use std::marker::{Model, PhantomData};
+use uriparse_reference::parts::find_pieces;
 use uriparse_reference::uri_reference::{URIReference, URIReferenceError};
 
 mod access;
@@ -112,6 +113,30 @@ impl<'r, K: Kind> ReferenceOf<'r, K> {
         ensures always { (e : URIReferenceError) → fault text.now ≡ Some e → result ≡ Err (K.told e) }
     {
         Self::read(alloc, text.as_bytes())
+    }
+
+    /// Checks whether a text is a reference of this kind, as
+    /// [`try_from_bytes`](ReferenceOf::try_from_bytes) reads it: nothing is answered where it is one,
+    /// else its fault, told as the kind's, or that it is of the other kind. Takes no memory, and so
+    /// never answers want of it.
+    pub fn check(bytes: &[u8]) -> Result<(), K::Error>
+        ensures { result ≡ unless_fault (fault_of K.has_scheme K.told K.other bytes.now) tt }
+    {
+        match find_pieces(bytes) {
+            Ok(pieces) => Self::check_kind(pieces.has_scheme()),
+            Err(error) => Err(K::told(error)),
+        }
+    }
+
+    /// Refuses a reference of the other kind.
+    fn check_kind(has_scheme: bool) -> Result<(), K::Error>
+        ensures { result ≡ (if beq has_scheme K.has_scheme then Ok tt else Err K.other) }
+    {
+        if has_scheme == K::has_scheme() {
+            Ok(())
+        } else {
+            Err(K::other())
+        }
     }
 
     /// Reads by the reader of references.

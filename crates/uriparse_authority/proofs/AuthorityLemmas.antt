@@ -239,7 +239,7 @@ paired_is (Some i) = by_after (after colon i)
     by_after None = tt
     by_after (Some t) = refl
 
-right_is : (t : List ℕ) → cut_host t ++ behind colon (cut_port t) ≡ t
+pub right_is : (t : List ℕ) → cut_host t ++ behind colon (cut_port t) ≡ t
 right_is t = by_last (from_last ends_host t) (last-whole ends_host t)
   where
     by_last : (l : List ℕ) → up_to_last ends_host t ++ l ≡ t → unwrap_or (option_map (λ _. up_to_last ends_host t) (colon_part l)) t ++ behind colon

@@ -5,7 +5,7 @@ ghost use Rattle.uriparse_authority.specs.Authority.{print};
 use crate::authority::Authority;
 pub use crate::authority::found::FoundAuthority;
 pub use crate::authority::normal::{CanonicalCopies, canonical_copies, put_copies};
-pub use crate::authority::read::find_authority;
+pub use crate::authority::read::{find_authority, split_port, split_userinfo};
 
 /// How many bytes the authority's text has at most, or the most that a number holds.
 pub fn most_authority_bytes(authority: &Authority<'_>) -> usize

@@ -4,7 +4,7 @@ ghost use Rattle.std.proofs.Common.{rules};
 ghost use Rattle.std.specs.Ordering.{on};
 ghost use Rattle.std.specs.Cmp.Rules.{comparing, hashing};
 ghost use Rattle.uriparse_text.specs.Canonical.{canonical};
-ghost use Rattle.uriparse_text.specs.Readings.{IsUnless};
+ghost use Rattle.uriparse_text.specs.Readings.{IsUnless, unless_fault};
 ghost use Rattle.uriparse_path.specs.Path.{text};
 ghost use Rattle.uriparse_path.specs.declared.path.error.PathError.TheVariants.{OutOfMemory};
 ghost use Rattle.uriparse_reference.specs.declared.uri_reference.error.URIReferenceError.TheVariants as errors;
@@ -32,13 +32,14 @@ mod error;
 mod kind;
 mod normal;
 mod print;
-mod read;
+pub(crate) mod read;
 pub(crate) mod resolve;
 
 pub use builder::URIReferenceBuilder;
 pub use edit::Edit;
 pub use error::URIReferenceError;
 use print::{len_of_scheme, most_of_authority, write_authority, write_behind, write_scheme};
+use read::find_pieces;
 
 /// A URI reference, seen as its five parts: a URI or a relative reference. RFC 3986, section 4.1.
 ///
@@ -115,6 +116,18 @@ impl<'r> URIReference<'r> {
         ensures always { (e : URIReferenceError) → fault text.now ≡ Some e → result ≡ Err e }
     {
         Self::read(alloc, text.as_bytes())
+    }
+
+    /// Checks whether a text is a reference, as [`try_from_bytes`](URIReference::try_from_bytes)
+    /// reads it: nothing is answered where it is one, else the text's fault. Takes no memory, and so
+    /// never answers want of it.
+    pub fn check(bytes: &[u8]) -> Result<(), URIReferenceError>
+        ensures { result ≡ unless_fault (fault bytes.now) tt }
+    {
+        match find_pieces(bytes) {
+            Ok(_) => Ok(()),
+            Err(error) => Err(error),
+        }
     }
 
     /// The scheme, if there is one.

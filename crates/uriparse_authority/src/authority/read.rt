@@ -22,7 +22,7 @@ use uriparse_text::parts::{
 
 /// The user information, if there is an `@` behind it, and what stands behind the `@`; or none, and
 /// the text.
-fn split_userinfo(text: &[u8]) -> (Option<&[u8]>, &[u8])
+pub fn split_userinfo(text: &[u8]) -> (Option<&[u8]>, &[u8])
     ensures userinfo { option_copied result.0 ≡ authority.userinfo_text text.now }
     ensures host_and_port { result.1.now ≡ authority.host_and_port_text text.now }
 {
@@ -50,7 +50,7 @@ fn read_userinfo(
 }
 
 /// The host and, behind the last `:` that no `]` follows, the port.
-fn split_port(text: &[u8]) -> (&[u8], Option<&[u8]>)
+pub fn split_port(text: &[u8]) -> (&[u8], Option<&[u8]>)
     ensures host { result.0.now ≡ authority.cut_host text.now }
     ensures port { option_copied result.1 ≡ authority.cut_port text.now }
 {

@@ -183,12 +183,14 @@ fn find_behind(
 
 /// A path, a query and a fragment that were found.
 #[derive(Drop)]
-struct FoundTail<'t> {
-    path: &'t [u8],
-    count: usize,
-    escaped: usize,
-    query: Found<'t, QueryKind>,
-    fragment: Found<'t, FragmentKind>,
+pub struct FoundTail<'t> {
+    pub path: &'t [u8],
+    /// How many segments the path has.
+    pub count: usize,
+    /// 0 only where no escape stands in the path.
+    pub escaped: usize,
+    pub query: Found<'t, QueryKind>,
+    pub fragment: Found<'t, FragmentKind>,
 }
 
 /// Finds the path, the query and the fragment of what follows a scheme, or none, and an authority,
@@ -215,16 +217,25 @@ fn find_tail(
 /// The pieces of a reference, which borrow the text that they stand in: words that nothing has to be
 /// dropped of. The scheme is its text, which is empty where there is none.
 #[derive(Drop)]
-struct Pieces<'t> {
-    scheme: &'t [u8],
-    authority: Option<FoundAuthority<'t>>,
-    tail: FoundTail<'t>,
+pub struct Pieces<'t> {
+    pub scheme: &'t [u8],
+    pub authority: Option<FoundAuthority<'t>>,
+    pub tail: FoundTail<'t>,
+}
+
+impl<'t> Pieces<'t> {
+    /// Whether there is a scheme.
+    pub fn has_scheme(&self) -> bool
+        ensures { result ≡ is_some (if_some self.now.scheme.now) }
+    {
+        is_there(self.scheme)
+    }
 }
 
 /// Finds the pieces of a reference, or its fault. Takes no memory.
 #[inline(always)]
 #[tactic(auto, unfolding(crate::specs::Reading::reading))]
-fn find_pieces(text: &[u8]) -> Result<Pieces<'_>, URIReferenceError>
+pub fn find_pieces(text: &[u8]) -> Result<Pieces<'_>, URIReferenceError>
     ensures { MatchResult result (λ p. (if_some p.scheme.now ≡ scheme_text text.now) × IsPath p.tail.path.now × (p.tail.escaped ≡ 0 → lacks percent p.tail.path.now ≡ true) × (reading text.now ≡ Ok (parts_of text.now p.authority p.tail.path.now p.tail.query p.tail.fragment))) (λ e. reading text.now ≡ Err e) }
 {
     let (scheme, rest) = split_scheme(text);
