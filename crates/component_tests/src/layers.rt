@@ -1,6 +1,6 @@
 //! The rows of each layer, with ample memory and where it is refused.
 
-use crate::{authorities, components, hosts, long, path_edits, paths, schemes, users};
+use crate::{authorities, codings, components, hosts, long, path_edits, paths, schemes, users};
 use rows::answer::Answer;
 use rows::{Layer, wrong_row, wrong_row_of_all, wrong_starved_row_of_all};
 use std::alloc::Global;
@@ -9,6 +9,7 @@ use std::test::Fail;
 #[derive(Clone, Copy)]
 enum Parts {
     Components,
+    Codings,
     Schemes,
     Users,
     Hosts,
@@ -22,6 +23,7 @@ impl Layer for Parts {
     fn rows(&self) -> &'static str {
         match self {
             Parts::Components => components::ROWS,
+            Parts::Codings => codings::ROWS,
             Parts::Schemes => schemes::ROWS,
             Parts::Users => users::ROWS,
             Parts::Hosts => hosts::ROWS,
@@ -35,6 +37,7 @@ impl Layer for Parts {
     fn answer(&self, alloc: Global, asked: &str) -> Answer {
         match self {
             Parts::Components => components::answer(alloc, asked),
+            Parts::Codings => codings::answer(alloc, asked),
             Parts::Schemes => schemes::answer(alloc, asked),
             Parts::Users => users::answer(alloc, asked),
             Parts::Hosts => hosts::answer(alloc, asked),
@@ -47,8 +50,9 @@ impl Layer for Parts {
 }
 
 // Long texts want more memory than the runs in which it is refused have.
-static STARVED: [Parts; 7] = [
+static STARVED: [Parts; 8] = [
     Parts::Components,
+    Parts::Codings,
     Parts::Schemes,
     Parts::Users,
     Parts::Hosts,

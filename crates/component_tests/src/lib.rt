@@ -5,6 +5,8 @@
 #[cfg(test)]
 mod authorities;
 #[cfg(test)]
+mod codings;
+#[cfg(test)]
 mod component;
 #[cfg(test)]
 mod components;

@@ -1,16 +1,23 @@
 //! URIs, relative references and URI references: RFC 3986.
 //!
-//! Each part has a module, with its types and its errors. The main ones stand here too; in their
-//! modules alone stand `RegisteredScheme`, `MicrosoftScheme`, `UnregisteredSchemeError`,
-//! `parse_port` and `MAX_SEGMENTS`.
+//! Each component has a module, with its types and its errors. The main ones are here too; only in
+//! their modules are `RegisteredScheme`, `MicrosoftScheme`, `UnregisteredSchemeError`, `parse_port`
+//! and `MAX_SEGMENTS`.
+//!
+//! Some types are names for a more general one, which has their calls: [`Query`], [`Fragment`],
+//! [`Username`] and [`Password`] are a [`Text`] each, [`URI`] and [`RelativeReference`] are a
+//! [`ReferenceOf`], and their builders a [`BuilderOf`].
 #![tactic(auto)]
 
 mod builder_of;
 mod kind;
+pub mod laws;
 mod reference_of;
 pub mod relative_reference;
 pub mod uri;
 
+pub use builder_of::BuilderOf;
+pub use reference_of::ReferenceOf;
 pub use relative_reference::{RelativeReference, RelativeReferenceBuilder, RelativeReferenceError};
 pub use uri::{URI, URIBuilder, URIError};
 pub use uriparse_authority::authority;
@@ -27,5 +34,6 @@ pub use uriparse_reference::uri_reference::{
 pub use uriparse_scheme::scheme;
 pub use uriparse_scheme::scheme::{Scheme, SchemeError, SchemeStatus, UnregisteredScheme};
 pub use uriparse_text::fragment::{Fragment, FragmentError};
+pub use uriparse_text::parts::Text;
 pub use uriparse_text::query::{Query, QueryError};
 pub use uriparse_text::{fragment, query};

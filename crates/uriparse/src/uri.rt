@@ -17,6 +17,7 @@ use uriparse_text::fragment::Fragment;
 use uriparse_text::query::Query;
 
 mod error;
+mod relate;
 mod resolve;
 
 pub use error::URIError;

@@ -14,6 +14,7 @@ pub mod CommuteLemmas
 pub mod PlaceLemmas
 pub mod MergeLemmas
 pub mod MergingLemmas
+pub mod RelateLemmas
 pub mod ShieldLemmas
 mod PassLemmas
 mod PutLemmas

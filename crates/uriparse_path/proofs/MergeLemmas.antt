@@ -21,23 +21,23 @@ use Rattle.uriparse_path.proofs.CommuteLemmas.{replayed-canonical, canonical_twi
 
 -- ---- the directory behind which the segments come out, the last one's empty segment left out
 
-abbrev step : List (List ℕ) → List ℕ → List (List ℕ)
+abbrev pub step : List (List ℕ) → List ℕ → List (List ℕ)
 step out s = cond (is_single_dot s) out (cond (is_double_dot s) (all_but_last out) (out ++ s ∷ []))
 
-abbrev walk : List (List ℕ) → List (List ℕ) → List (List ℕ)
+abbrev pub walk : List (List ℕ) → List (List ℕ) → List (List ℕ)
 walk out [] = out
 walk out (s ∷ ss) = walk (step out s) ss
 
 step_single : (out : List (List ℕ)) (s : List ℕ) → is_single_dot s ≡ true → step out s ≡ out
 step_single out s h = rw h refl
 
-step_double : (out : List (List ℕ)) (s : List ℕ) → is_double_dot s ≡ true → step out s ≡ all_but_last out
+pub step_double : (out : List (List ℕ)) (s : List ℕ) → is_double_dot s ≡ true → step out s ≡ all_but_last out
 step_double out s h = rw (not_both s h, h) refl
 
-step_plain : (out : List (List ℕ)) (s : List ℕ) → is_dot_segment s ≡ false → step out s ≡ out ++ s ∷ []
+pub step_plain : (out : List (List ℕ)) (s : List ℕ) → is_dot_segment s ≡ false → step out s ≡ out ++ s ∷ []
 step_plain out s h = let n = neither s h in rw (n.0, n.1) refl
 
-walk-append : (out a b : List (List ℕ)) → walk out (a ++ b) ≡ walk (walk out a) b
+pub walk-append : (out a b : List (List ℕ)) → walk out (a ++ b) ≡ walk (walk out a) b
 walk-append out [] b = refl
 walk-append out (s ∷ a) b = walk-append (step out s) a b
 
@@ -46,11 +46,11 @@ all_but_last_push [] x = refl
 all_but_last_push (y ∷ []) x = refl
 all_but_last_push (y ∷ z ∷ xs) x = ap (λ u. y ∷ u) (all_but_last_push (z ∷ xs) x)
 
-some_behind : (a b : List (List ℕ)) → 0 < length b → 0 < length (a ++ b)
+pub some_behind : (a b : List (List ℕ)) → 0 < length b → 0 < length (a ++ b)
 some_behind a b h = omega (arith, length-append a b)
 
 -- a segment that isn't the last one makes a step
-replay_more : (out : List (List ℕ)) (s : List ℕ) (ss : List (List ℕ)) → 0 < length ss → replay out (s ∷ ss) ≡ replay (step out s) ss
+pub replay_more : (out : List (List ℕ)) (s : List ℕ) (ss : List (List ℕ)) → 0 < length ss → replay out (s ∷ ss) ≡ replay (step out s) ss
 replay_more out s [] h = absurd (omega arith)
 replay_more out s (r ∷ ss) h = by_kind (is_single_dot s) (is_double_dot s)
   where
@@ -61,7 +61,7 @@ replay_more out s (r ∷ ss) h = by_kind (is_single_dot s) (is_double_dot s)
     by_kind false true = refl
     by_kind false false = refl
 
-replay-append : (out a b : List (List ℕ)) → 0 < length b → replay out (a ++ b) ≡ replay (walk out a) b
+pub replay-append : (out a b : List (List ℕ)) → 0 < length b → replay out (a ++ b) ≡ replay (walk out a) b
 replay-append out [] b h = refl
 replay-append out (s ∷ a) b h = replay_more out s (a ++ b) (some_behind a b h) ∙ replay-append (step out s) a b h
 
@@ -221,7 +221,7 @@ no_dots_walk : (out ss : List (List ℕ)) → has_dot_segment out ≡ false → 
 no_dots_walk out [] h = h
 no_dots_walk out (s ∷ ss) h = no_dots_walk (step out s) ss (no_dots_step out s h)
 
-walk_plain : (out ss : List (List ℕ)) → has_dot_segment ss ≡ false → walk out ss ≡ out ++ ss
+pub walk_plain : (out ss : List (List ℕ)) → has_dot_segment ss ≡ false → walk out ss ≡ out ++ ss
 walk_plain out [] h = sym (append-nil out)
 walk_plain out (s ∷ ss) h =
     let parts = or_parts (is_dot_segment s) (has_dot_segment ss) h in

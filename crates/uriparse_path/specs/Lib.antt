@@ -6,5 +6,6 @@ pub mod Relative
 pub mod Normal
 pub mod Edits
 pub mod Merge
+pub mod Relate
 pub mod Lends
 pub mod Counts

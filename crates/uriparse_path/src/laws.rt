@@ -1,17 +1,19 @@
 //! Laws of the definitions that contracts cite. Each function has nothing to do: its contract is
 //! the law.
-ghost use Rattle.std.specs.Prelude.{◌≡◌, ◌≤◌, ◌↔◌, ◌∷◌, ℕ, List, Bool, None, Some, Ok, Err, codes, length, map, true, false};
+ghost use Rattle.std.specs.Prelude.{◌≡◌, ◌<◌, ◌≤◌, ◌↔◌, ◌∷◌, [], ℕ, List, Bool, None, Some, Ok, Err, codes, length, map, true, false};
 ghost use Rattle.std.specs.List.{list_all, slice_split, join_with_byte};
 ghost use Rattle.uriparse_text.specs.Bytes.{slash};
 ghost use Rattle.uriparse_text.specs.Canonical.{canonical};
 ghost use Rattle.uriparse_path.specs.Segment.{is_segment};
 ghost use Rattle.uriparse_path.specs.Path.{PathParts, IsListed, IsPath, max_segments, is_slash, is_rooted, pieces, text, spelled, respelled};
 ghost use Rattle.uriparse_path.specs.Faults.{PassesLimit, fault};
-ghost use Rattle.uriparse_path.specs.Dots.{has_dot_segment, Step, Undots, rooted_after, replayed, undot, without_dots};
+ghost use Rattle.uriparse_path.specs.Dots.{has_dot_segment, Step, Undots, replay, rooted_after, replayed, undot, without_dots};
 ghost use Rattle.uriparse_path.specs.Relative.{is_first, has_colon, Leads, IsIrreducible, IsRelNormal, reduced, relative_normal};
 ghost use Rattle.uriparse_path.specs.Edits.{cleared, popped, pushed, pushing};
 ghost use Rattle.uriparse_path.specs.Segment as segment;
 ghost use Rattle.uriparse_path.specs.declared.path.error.PathError.TheVariants as errors;
+ghost use Rattle.uriparse_path.specs.Merge.{merged};
+ghost use Rattle.uriparse_path.specs.Relate.{climbs_in, leading};
 ghost use Rattle.uriparse_path.specs.Normal.{canonical_path, pnormal, climbs_first, is_normal};
 
 use crate::path::MAX_SEGMENTS;
@@ -165,6 +167,38 @@ pub fn examples_of_other_normal_forms()
     ensures spelled { text (pnormal (spelled (codes "this/is/a/t%65st/path/%ff")) false) ≡ codes "this/is/a/test/path/%FF" }
     ensures rooted_empty { text (pnormal (spelled (codes "/a/..//b")) false) ≡ codes "//b" }
     ensures colon_popped { text (pnormal (spelled (codes "a:b/../c")) false) ≡ codes "/c" }
+{}
+
+/// The relative path that leads from a base's path to another one, merged with the base's, comes to
+/// the other one once its dot segments are removed. No other relative path comes there with fewer
+/// `..`.
+pub fn fewest_climbs()
+    ensures leads { (b t p : PathParts) → 0 < length t.segments → leading b t ≡ Some p → replay [] (merged b p).segments ≡ t.segments }
+    ensures fewest { (b t p q : PathParts) → leading b t ≡ Some p → 0 < length t.segments → 0 < length q.segments → replay [] (merged b q).segments ≡ t.segments → climbs_in p.segments ≤ climbs_in q.segments }
+{}
+
+/// Relative paths that lead from a base's path to another one, where there is one.
+#[tactic(auto, unfolding(crate::specs::Dots::is_single_dot, crate::specs::Dots::is_double_dot, uriparse_text::specs::Canonical::canonical_in, uriparse_text::specs::Tokens::tokens, uriparse_text::specs::Bytes::is_unreserved, crate::specs::Path::max_segments))]
+pub fn examples_of_leading()
+    ensures one_up { leading (spelled (codes "/b/c/d;p")) (spelled (codes "/b/g")) ≡ Some (spelled (codes "../g")) }
+    ensures directory { leading (spelled (codes "/b/c/d;p")) (spelled (codes "/b/c/")) ≡ Some (spelled (codes "./")) }
+    ensures root { leading (spelled (codes "/b/c/d;p")) (spelled (codes "/")) ≡ Some (spelled (codes "../../")) }
+    ensures below { leading (spelled (codes "/b/c")) (spelled (codes "/b/c/d")) ≡ Some (spelled (codes "c/d")) }
+    ensures above { leading (spelled (codes "/b/c/d")) (spelled (codes "/b")) ≡ Some (spelled (codes "../../b")) }
+    ensures same { leading (spelled (codes "/b/c")) (spelled (codes "/b/c")) ≡ Some (spelled (codes "c")) }
+    ensures colon { leading (spelled (codes "/b/c")) (spelled (codes "/b/g:h")) ≡ Some (spelled (codes "./g:h")) }
+    ensures empty_segment { leading (spelled (codes "/b/c")) (spelled (codes "/b//g")) ≡ Some (spelled (codes ".//g")) }
+    ensures two_slashes { leading (spelled (codes "/b/c")) (spelled (codes "//g")) ≡ Some (spelled (codes "..//g")) }
+    ensures spelling { leading (spelled (codes "/%7Eb/c")) (spelled (codes "/~b/c")) ≡ Some (spelled (codes "../~b/c")) }
+    ensures last_dots { leading (spelled (codes "/b/..")) (spelled (codes "/b/g")) ≡ Some (spelled (codes "g")) }
+    ensures dots_in_base { leading (spelled (codes "/b/../c")) (spelled (codes "/b/g")) ≡ None }
+    ensures dots_in_target { leading (spelled (codes "/b/c")) (spelled (codes "/b/%2E/g")) ≡ None }
+    ensures rootless { leading (spelled (codes "b")) (spelled (codes "c")) ≡ Some (spelled (codes "c")) }
+    ensures rootless_colon { leading (spelled (codes "b:1")) (spelled (codes "b:2")) ≡ Some (spelled (codes "./b:2")) }
+    ensures rootless_empty { leading (spelled (codes "b")) (spelled (codes "")) ≡ Some (spelled (codes "./")) }
+    ensures rootless_up { leading (spelled (codes "a/b/c")) (spelled (codes "a/d")) ≡ Some (spelled (codes "../d")) }
+    ensures rootless_out { leading (spelled (codes "a/b")) (spelled (codes "c")) ≡ None }
+    ensures one_root { leading (spelled (codes "/b")) (spelled (codes "c")) ≡ None }
 {}
 
 /// What edits make of paths.

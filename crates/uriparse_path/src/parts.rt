@@ -1,14 +1,15 @@
 //! What the crates above build on. Users have no need of it.
-ghost use Rattle.std.specs.Prelude.{◌≡◌, ◌≤◌, ◌⊎◌, Err, IfErr, IsOk, OnOk, OnErr, if◌then◌else◌, length, true, false};
+ghost use Rattle.std.specs.Prelude.{◌≡◌, ◌↔◌, ◌≤◌, ◌⊎◌, Err, IfErr, IfOk, IsOk, IsTrue, OnOk, OnErr, if◌then◌else◌, length, true, false};
 ghost use Rattle.std.specs.List.{list_all};
 ghost use Rattle.uriparse_text.specs.Bytes.{colon};
 ghost use Rattle.uriparse_text.specs.Cuts.{lacks, up_to};
 ghost use Rattle.uriparse_text.specs.Readings.{IsUnless};
 ghost use Rattle.uriparse_path.specs.declared.path.error.PathError.TheVariants as errors;
 ghost use Rattle.uriparse_path.specs.Path.{IsListed, has_two_slashes, hides_root, is_slash, made_absolute, spelled, text};
-ghost use Rattle.uriparse_path.specs.Dots.{without_dots};
+ghost use Rattle.uriparse_path.specs.Dots.{has_dot_segment, without_dots};
 ghost use Rattle.uriparse_path.specs.Edits.{shield};
 ghost use Rattle.uriparse_path.specs.Merge.{merging};
+ghost use Rattle.uriparse_path.specs.Relate.{leading, no_path};
 ghost use Rattle.uriparse_path.specs.Normal.{is_canonical, is_normal_in, pnormal};
 
 pub use crate::path::read::{PathFront, counted_path, split_path};
@@ -55,6 +56,44 @@ pub fn into_absolute(path: Path<'_>) -> Path<'_>
     ensures { result ≡ made_absolute path.entry }
 {
     path.into_absolute()
+}
+
+/// The relative path that leads from the base's path to the target's, if there is one: `..` for each
+/// of the base's directories that the target isn't in, and the target's segments behind those that
+/// it is in, with a `.` in front where the first would be taken for a slash, for no path or for a
+/// scheme. There is one where both are absolute, or neither is and the target is in the base's first
+/// directory or the base in none; where none of them has dot segments but for the base's last, and
+/// they aren't too long. It borrows the texts of the target's segments; room for the list is asked
+/// for once.
+pub fn leading_path<'p>(
+    alloc: Global,
+    base: &Path<'_>,
+    target: &'p Path<'_>,
+) -> Result<Option<Path<'p>>, AllocError>
+    ensures { IfOk result (λ o. o ≡ leading base.now target.now) }
+{
+    Path::leading(alloc, base, target)
+}
+
+/// The empty path, whose list of one segment wants memory.
+pub fn empty_path(alloc: Global) -> Result<Path<'static>, AllocError>
+    ensures { IfOk result (λ p. p ≡ no_path) }
+{
+    Path::empty(alloc)
+}
+
+/// Whether a dot segment is among the path's segments.
+pub fn has_dots(path: &Path<'_>) -> bool
+    ensures { result ≡ has_dot_segment path.now.segments }
+{
+    path.has_dots()
+}
+
+/// Whether the paths are one, segment for segment, in one spelling.
+pub fn is_same_path(left: &Path<'_>, right: &Path<'_>) -> bool
+    ensures { IsTrue result ↔ (left.now ≡ right.now) }
+{
+    left.is_same(right)
 }
 
 /// How many bytes the path's text has at most, or the most that a number holds.

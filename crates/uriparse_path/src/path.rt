@@ -35,6 +35,7 @@ mod error;
 mod merge;
 mod normal;
 pub(crate) mod read;
+mod relate;
 mod segment;
 
 use counts::{Counts, Dotted};
@@ -143,7 +144,7 @@ impl<'p> Path<'p> {
 
     /// Whether a dot segment is among the segments.
     #[inline]
-    fn has_dots(&self) -> bool
+    pub(crate) fn has_dots(&self) -> bool
         ensures answer { result ≡ has_dot_segment self.now.segments }
         ensures listed { IsListed self.now.segments }
     {

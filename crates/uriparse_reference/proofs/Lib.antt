@@ -12,6 +12,7 @@ pub mod NormalLemmas
 pub mod MergedLemmas
 pub mod TargetLemmas
 pub mod ResolveLemmas
+pub mod RelateLemmas
 pub mod AlikeLemmas
 pub mod TargetNormalLemmas
 pub mod CommutationLemmas

@@ -7,4 +7,5 @@ pub mod Key
 pub mod Reading
 pub mod Normal
 pub mod Target
+pub mod Relate
 pub mod Examples

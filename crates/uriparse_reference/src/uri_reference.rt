@@ -33,6 +33,7 @@ mod kind;
 mod normal;
 mod print;
 pub(crate) mod read;
+pub(crate) mod relate;
 pub(crate) mod resolve;
 
 pub use builder::URIReferenceBuilder;

@@ -1,7 +1,8 @@
 //! The rows of each layer, with ample memory and where it is refused.
 
 use crate::{
-    kinds, limits, normal_forms, reference_edits, references, relatives, resolutions, uris,
+    kinds, limits, normal_forms, reference_edits, references, relations, relatives, resolutions,
+    uris,
 };
 use rows::answer::Answer;
 use rows::{Layer, wrong_row_of_all, wrong_starved_row_of_all};
@@ -14,6 +15,7 @@ enum Part {
     ReferenceEdits,
     NormalForms,
     Resolutions,
+    Relations,
     Kinds,
     Uris,
     Relatives,
@@ -27,6 +29,7 @@ impl Layer for Part {
             Part::ReferenceEdits => reference_edits::ROWS,
             Part::NormalForms => normal_forms::ROWS,
             Part::Resolutions => resolutions::ROWS,
+            Part::Relations => relations::ROWS,
             Part::Kinds => kinds::ROWS,
             Part::Uris => uris::ROWS,
             Part::Relatives => relatives::ROWS,
@@ -40,6 +43,7 @@ impl Layer for Part {
                 references::answer(alloc, asked)
             }
             Part::Resolutions => resolutions::answer(alloc, asked),
+            Part::Relations => relations::answer(alloc, asked),
             Part::Uris => uris::answer(alloc, asked),
             Part::Relatives => relatives::answer(alloc, asked),
             Part::Limits => limits::answer(alloc, asked),
@@ -47,12 +51,13 @@ impl Layer for Part {
     }
 }
 
-static PARTS: [Part; 8] = [
+static PARTS: [Part; 9] = [
     Part::Limits,
     Part::References,
     Part::ReferenceEdits,
     Part::NormalForms,
     Part::Resolutions,
+    Part::Relations,
     Part::Kinds,
     Part::Uris,
     Part::Relatives,

@@ -19,6 +19,8 @@ mod reference_edits;
 #[cfg(test)]
 mod references;
 #[cfg(test)]
+mod relations;
+#[cfg(test)]
 mod relatives;
 #[cfg(test)]
 mod resolutions;

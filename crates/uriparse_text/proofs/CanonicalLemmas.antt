@@ -24,7 +24,7 @@ canonical_tokens-empty case text e = ap (canonical_tokens case) e ∙ ap (map (c
 pub upper_digit : (b : ℕ) → is_hex b ≡ true → is_hex (to_ascii_uppercase b) ≡ true
 upper_digit b h = grind (arith, nat_tests)
 
-upper_value : (b : ℕ) → is_hex b ≡ true → digit_value (to_ascii_uppercase b) ≡ digit_value b
+pub upper_value : (b : ℕ) → is_hex b ≡ true → digit_value (to_ascii_uppercase b) ≡ digit_value b
 upper_value b h = grind (arith, nat_tests)
 
 upper_twice : (b : ℕ) → to_ascii_uppercase (to_ascii_uppercase b) ≡ to_ascii_uppercase b

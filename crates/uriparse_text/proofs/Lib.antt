@@ -26,3 +26,4 @@ pub mod RunLemmas
 pub mod SettledLemmas
 pub mod SumLemmas
 pub mod AlikeLemmas
+pub mod CodingLemmas

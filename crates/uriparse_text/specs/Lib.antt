@@ -13,3 +13,4 @@ pub mod IpAddr
 pub mod Alike
 pub mod Found
 pub mod Spelling
+pub mod Coding

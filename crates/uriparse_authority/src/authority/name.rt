@@ -6,6 +6,8 @@ ghost use Rattle.std.specs.Cmp.Rules.{comparing, hashing};
 ghost use Rattle.uriparse_text.specs.declared.parts.class.Class.TheVariants as class;
 ghost use Rattle.uriparse_text.specs.declared.parts.canonical.Case.TheVariants as case;
 ghost use Rattle.uriparse_text.specs.Canonical.{canonical_lowered, fed_text, SpellsAlike};
+ghost use Rattle.uriparse_text.specs.Coding.{decoded};
+ghost use Rattle.uriparse_text.specs.Tokens.{is_well_formed};
 ghost use Rattle.uriparse_text.specs.Readings.{reading_in};
 ghost use Rattle.uriparse_text.specs.Spelling.{IsKept};
 ghost use Rattle.uriparse_authority.specs.Name as spec;
@@ -125,8 +127,19 @@ impl<'n> RegisteredName<'n> {
     pub fn as_bytes(&self) -> &[u8]
         ensures value { result.now ≡ self.now }
         ensures class { spec.IsName self.now }
+        ensures formed { is_well_formed self.now ≡ true }
     {
         self.text.as_bytes()
+    }
+
+    /// The bytes that the name stands for: of each escape the byte that its digits write, and of
+    /// each other byte itself. Letters keep their case. Reserves capacity for them once.
+    ///
+    /// No call encodes bytes as a name: the text could be that of an IPv4 address.
+    pub fn decode(&self, alloc: Global) -> Result<Vec<u8>, AllocError>
+        ensures { IfOk result (λ v. v.items ≡ decoded self.now) }
+    {
+        self.text.decode(alloc)
     }
 
     /// The same name, which borrows this one's text.

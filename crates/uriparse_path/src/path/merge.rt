@@ -12,7 +12,7 @@ use super::{MAX_SEGMENTS, Path, PathError, Segment};
 use std::alloc::{AllocError, Global};
 
 /// The segments but for the last one.
-fn directory<'d, 's>(segments: &'d [Segment<'s>]) -> &'d [Segment<'s>]
+pub(super) fn directory<'d, 's>(segments: &'d [Segment<'s>]) -> &'d [Segment<'s>]
     requires { 0 < length segments.now }
     ensures { result.now ≡ all_but_last segments.now }
 {

@@ -1,5 +1,5 @@
 //! One segment of a path: RFC 3986, section 3.3.
-ghost use Rattle.std.specs.Prelude.{◌≡◌, ◌↔◌, ◌∷◌, [], IsTrue, IsOk, IfOk, OnOk, OnErr, Some, bytes_eq, string_bytes, true, false};
+ghost use Rattle.std.specs.Prelude.{◌≡◌, ◌↔◌, ℕ, List, ◌∷◌, [], IsTrue, IsOk, IfOk, OnOk, OnErr, Some, bytes_eq, string_bytes, true, false};
 ghost use Rattle.std.proofs.Common.{rules};
 ghost use Rattle.std.specs.List.{list_all};
 ghost use Rattle.std.specs.Ordering.{on};
@@ -9,6 +9,8 @@ ghost use Rattle.uriparse_text.specs.declared.parts.canonical.Case.TheVariants a
 ghost use Rattle.uriparse_text.specs.Bytes.{dot};
 ghost use Rattle.uriparse_text.specs.Canonical.{canonical, fed_text, SpellsAlike};
 ghost use Rattle.uriparse_text.specs.Spelling.{IsKept};
+ghost use Rattle.uriparse_text.specs.Coding.{decoded, encoded};
+ghost use Rattle.uriparse_text.specs.Tokens.{is_well_formed};
 ghost use Rattle.uriparse_path.specs.Segment as spec;
 ghost use Rattle.uriparse_path.specs.Dots as dots;
 ghost use Rattle.uriparse_path.specs.Relative as relative;
@@ -152,6 +154,13 @@ impl<'s> Segment<'s> {
         Segment::of_checked(b".")
     }
 
+    /// The segment `..`.
+    pub(super) fn double_dot() -> Segment<'static>
+        ensures { result ≡ dot ∷ dot ∷ [] }
+    {
+        Segment::of_checked(b"..")
+    }
+
     /// The text.
     pub fn as_str(&self) -> &str
         ensures value { result.now ≡ self.now }
@@ -164,6 +173,7 @@ impl<'s> Segment<'s> {
     pub fn as_bytes(&self) -> &[u8]
         ensures value { result.now ≡ self.now }
         ensures class { spec.IsSegment self.now }
+        ensures formed { is_well_formed self.now ≡ true }
     {
         self.text.as_bytes()
     }
@@ -192,6 +202,30 @@ impl<'s> Segment<'s> {
         ensures { IfOk result (λ s. string_bytes s ≡ self.now) }
     {
         self.text.to_string(alloc)
+    }
+
+    /// The bytes that the segment stands for: of each escape the byte that its digits write, and each
+    /// other byte itself. Room for them is asked for once. Segments that are equal stand for the
+    /// same bytes.
+    pub fn decode(&self, alloc: Global) -> Result<Vec<u8>, AllocError>
+        ensures bytes { IfOk result (λ v. v.items ≡ decoded self.now) }
+        ensures alike { (other : List ℕ) → spec.IsSegment other → canonical other ≡ canonical self.now → decoded other ≡ decoded self.now }
+    {
+        self.text.decode(alloc)
+    }
+
+    /// The segment that stands for these bytes: a byte of a segment is itself, another one an escape
+    /// with upper-case digits, so that `/` is `%2F`. It is its own canonical spelling, and
+    /// [`decode`](Segment::decode) gives the bytes again. Room for it is asked for once. Dots are
+    /// kept: the bytes `..` make a dot segment.
+    pub fn encode(alloc: Global, bytes: &[u8]) -> Result<Segment<'static>, AllocError>
+        ensures text { IfOk result (λ s. s ≡ encoded class.Segment bytes.now) }
+        ensures back { IfOk result (λ s. decoded s ≡ bytes.now) }
+        ensures canonical { IfOk result (λ s. canonical s ≡ s) }
+    {
+        Ok(Segment {
+            text: Text::encode(alloc, bytes)?,
+        })
     }
 
     /// Whether the segment may be one of dots: it begins with a dot or an escape, and isn't longer

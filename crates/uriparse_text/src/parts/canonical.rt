@@ -177,7 +177,8 @@ fn begins_canonical(case: Case, text: &[u8]) -> bool
     true
 }
 
-fn push_token(bytes: &mut Vec<u8>, token: Token) -> Result<(), AllocError>
+/// Puts the bytes of a token at the end.
+pub(super) fn push_token(bytes: &mut Vec<u8>, token: Token) -> Result<(), AllocError>
     ensures { OnOk result (bytes.new.items ≡ bytes.old.items ++ spell token) }
 {
     match token {

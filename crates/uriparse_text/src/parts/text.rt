@@ -10,10 +10,13 @@ ghost use Rattle.uriparse_text.specs.Faults.{IsIn};
 ghost use Rattle.uriparse_text.specs.Canonical.{canonical_in, fed_text, SpellsAlike};
 ghost use Rattle.uriparse_text.specs.Spelling.{IsKept};
 ghost use Rattle.uriparse_text.specs.Readings.{reading_in};
+ghost use Rattle.uriparse_text.specs.Coding.{decoded, encoded};
+ghost use Rattle.uriparse_text.specs.declared.parts.canonical.Case.TheVariants.{Kept};
 
 use super::alike::same_spelling;
 use super::canonical::{Case, canonical_bytes, feed_known, feed_text, is_canonical};
 use super::class::Class;
+use super::coding::{decoded_bytes, encoded_bytes};
 use super::settled::check_bytes;
 use super::spelling::Spelling;
 use std::alloc::{AllocError, Global};
@@ -177,6 +180,36 @@ impl<'t, K: Kind> Text<'t, K> {
         ensures { IfOk result (λ s. string_bytes s ≡ self.now) }
     {
         String::from_str(alloc, self.as_str())
+    }
+
+    /// The bytes that the text stands for: of each escape the byte that its digits write, and each
+    /// other byte itself. Room for them is asked for once.
+    ///
+    /// Texts that are equal stand for the same bytes, where letters keep their case; so do texts
+    /// that aren't equal, as `%2F` and `/` in a query.
+    pub fn decode(&self, alloc: Global) -> Result<Vec<u8>, AllocError>
+        ensures bytes { IfOk result (λ v. v.items ≡ decoded self.now) }
+        ensures alike { (other : List ℕ) → IsIn K.class other → canonical_in Kept other ≡ canonical_in Kept self.now → decoded other ≡ decoded self.now }
+    {
+        decoded_bytes(alloc, self.as_bytes())
+    }
+
+    /// The text of this kind that stands for these bytes: a byte of the class is itself, another
+    /// one an escape with upper-case digits, as `/` in a segment. It is its own canonical spelling,
+    /// and [`decode`](Text::decode) gives the bytes again. Room for it is asked for once.
+    ///
+    /// The letters of the kind have to keep their case, so no registered name is written so.
+    pub fn encode(alloc: Global, bytes: &[u8]) -> Result<Text<'static, K>, AllocError>
+        requires { K.case ≡ Kept }
+        ensures text { IfOk result (λ t. t ≡ encoded K.class bytes.now) }
+        ensures back { IfOk result (λ t. decoded t ≡ bytes.now) }
+        ensures canonical { IfOk result (λ t. canonical_in K.case t ≡ t) }
+    {
+        let text = encoded_bytes(alloc, K::class(), bytes)?;
+        Ok(Text {
+            text: Spelling::owned(unsafe { String::from_utf8_unchecked(text) }, true),
+            kind: PhantomData,
+        })
     }
 
     /// Whether the text is its own canonical spelling. Takes no memory.

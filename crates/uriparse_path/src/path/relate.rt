@@ -1,0 +1,189 @@
+//! The relative path that leads from a base's path to another one: RFC 3986, sections 4.2 and 5.2.
+ghost use Rattle.std.specs.Prelude.{◌≡◌, ◌↔◌, IsTrue, ◌+◌, ◌<◌, ◌≤◌, ◌∷◌, ◌++◌, [], if◌then◌else◌, IfOk, OnOk, bytes_eq, drop, length};
+ghost use Rattle.uriparse_text.specs.Bytes.{dot};
+ghost use Rattle.uriparse_path.specs.Path.{max_segments};
+ghost use Rattle.uriparse_path.specs.Dots as dots;
+ghost use Rattle.uriparse_path.specs.Relate as spec;
+ghost use Rattle.uriparse_path.specs.Relative.{is_first};
+
+use super::counts::Counts;
+use super::dots::has_dot_segment;
+use super::merge::{directory, push_borrowed};
+use super::segment::each_is_segment;
+use super::{MAX_SEGMENTS, Path, Segment};
+use std::alloc::{AllocError, Global};
+
+/// Whether the segments have one text.
+fn is_same(left: &Segment<'_>, right: &Segment<'_>) -> bool
+    ensures { result ≡ bytes_eq left.now right.now }
+{
+    left.as_bytes() == right.as_bytes()
+}
+
+/// How many directories both lists have in front. The last segment is none.
+fn shared_len(directories: &[Segment<'_>], segments: &[Segment<'_>]) -> usize
+    requires { 0 < length segments.now }
+    ensures apart { spec.apart directories.now segments.now ≡ spec.climbs (drop result directories.now) ++ drop result segments.now }
+    ensures within { result ≤ length directories.now }
+    ensures some { result < length segments.now }
+{
+    let mut shared = 0;
+    'directories: while shared < directories.len() {
+        if shared + 1 == segments.len() {
+            return shared;
+        }
+        if !is_same(&directories[shared], &segments[shared]) {
+            return shared;
+        }
+        shared += 1;
+    }
+    shared
+}
+
+/// Puts `..` at the end of the list, once for each of the directories.
+fn push_climbs(list: &mut Vec<Segment<'_>>, directories: &[Segment<'_>]) -> Result<(), AllocError>
+    ensures { OnOk result (list.new.items ≡ list.old.items ++ spec.climbs directories.now) }
+{
+    for directory in directories {
+        let _ = directory;
+        list.push(Segment::double_dot())?;
+    }
+    Ok(())
+}
+
+/// Whether the first segment would be taken for a slash, for no path or for a scheme.
+fn begins_taken(segments: &[Segment<'_>]) -> bool
+    ensures { result ≡ is_first spec.is_taken segments.now }
+{
+    match segments.first() {
+        Some(first) => first.as_bytes().is_empty() || first.has_colon(),
+        None => false,
+    }
+}
+
+/// Whether a `.` is needed in front of `..` for each of the directories and then the segments.
+fn needs_dot(directories: &[Segment<'_>], segments: &[Segment<'_>]) -> bool
+    ensures { result ≡ is_first spec.is_taken (spec.climbs directories.now ++ segments.now) }
+{
+    directories.is_empty() && begins_taken(segments)
+}
+
+/// Puts a `.` at the end of the list where it is needed.
+fn push_dot(list: &mut Vec<Segment<'_>>, needed: bool) -> Result<(), AllocError>
+    ensures { OnOk result (list.new.items ≡ list.old.items ++ (if needed then (dot ∷ []) ∷ [] else [])) }
+{
+    if needed {
+        list.push(Segment::single_dot())?;
+    }
+    Ok(())
+}
+
+/// `..` for each of the directories, and then the segments, with a `.` in front where it is needed.
+/// They borrow the texts of the segments. Room for the list is asked for once.
+fn led<'p>(
+    alloc: Global,
+    directories: &[Segment<'_>],
+    segments: &'p [Segment<'_>],
+) -> Result<Vec<Segment<'p>>, AllocError>
+    requires { length directories.now + length segments.now < max_segments }
+    ensures { IfOk result (λ v. v.items ≡ spec.fronted (spec.climbs directories.now ++ segments.now)) }
+{
+    let mut list = Vec::with_capacity(alloc, directories.len() + segments.len() + 1)?;
+    push_dot(&mut list, needs_dot(directories, segments))?;
+    push_climbs(&mut list, directories)?;
+    push_borrowed(&mut list, segments)?;
+    Ok(list)
+}
+
+/// Whether there are no directories, or the first one is the first of the others too.
+fn stays_below(directories: &[Segment<'_>], segments: &[Segment<'_>]) -> bool
+    ensures { result ≡ spec.stays_below directories.now segments.now }
+{
+    match directories {
+        [first, ..] => match segments {
+            [own, _, ..] => is_same(first, own),
+            _ => false,
+        },
+        [] => true,
+    }
+}
+
+/// Whether both lists have the same segments, in one spelling.
+fn are_same(left: &[Segment<'_>], right: &[Segment<'_>]) -> bool
+    ensures { IsTrue result ↔ (left.now ≡ right.now) }
+{
+    if left.len() != right.len() {
+        return false;
+    }
+    let mut at = 0;
+    'segments: while at < left.len() {
+        if !is_same(&left[at], &right[at]) {
+            return false;
+        }
+        at += 1;
+    }
+    true
+}
+
+impl<'p> Path<'p> {
+    /// Whether the paths are one, segment for segment, in one spelling.
+    pub(crate) fn is_same(&self, other: &Path<'_>) -> bool
+        ensures { IsTrue result ↔ (self.now ≡ other.now) }
+    {
+        self.is_absolute() == other.is_absolute() && are_same(self.segments(), other.segments())
+    }
+
+    /// The empty path, whose list wants memory.
+    pub(crate) fn empty(alloc: Global) -> Result<Path<'static>, AllocError>
+        ensures { IfOk result (λ p. p ≡ spec.no_path) }
+    {
+        let mut list = Vec::with_capacity(alloc, 1)?;
+        list.push(Segment::empty())?;
+        Ok(Path::of(false, list, Counts::none(), false))
+    }
+
+    /// Whether both are absolute, or neither is, and one needn't climb out of the base's first
+    /// directory.
+    fn have_one_root(base: &Path<'_>, target: &Path<'_>) -> bool
+        ensures { result ≡ spec.have_one_root base.now target.now }
+    {
+        if base.is_absolute() {
+            return target.is_absolute();
+        }
+        target.is_relative() && stays_below(directory(base.segments()), target.segments())
+    }
+
+    /// Whether it is so, and no dot segment stands in either, but for the base's last one.
+    fn may_lead(base: &Path<'_>, target: &Path<'_>) -> bool
+        ensures { result ≡ spec.may_lead base.now target.now }
+    {
+        Path::have_one_root(base, target)
+            && !has_dot_segment(directory(base.segments()))
+            && !has_dot_segment(target.segments())
+    }
+
+    /// The relative path that leads from the base's path to the target's, if there is one. It
+    /// borrows the texts of the target's segments. Room for the list is asked for once.
+    pub(crate) fn leading(
+        alloc: Global,
+        base: &Path<'_>,
+        target: &'p Path<'_>,
+    ) -> Result<Option<Path<'p>>, AllocError>
+        ensures { IfOk result (λ o. o ≡ spec.leading base.now target.now) }
+    {
+        if !Path::may_lead(base, target) {
+            return Ok(None);
+        }
+        let directories = directory(base.segments());
+        let segments = target.segments();
+        let shared = shared_len(directories, segments);
+        let left = &directories[shared..];
+        let rest = &segments[shared..];
+        if directories.len() + (left.len() + rest.len()) >= MAX_SEGMENTS {
+            return Ok(None);
+        }
+        let list = led(alloc, left, rest)?;
+        each_is_segment(&list);
+        Ok(Some(Path::of(false, list, Counts::none(), false)))
+    }
+}

@@ -1,0 +1,11 @@
+use Rattle.std.proofs.Common.{sym, subst, ◌∙◌}
+use Rattle.std.specs.Prelude.{IfSome}
+use Rattle.uriparse_text.specs.Fragment.{IsFragment}
+use Rattle.uriparse_reference.proofs.RelateLemmas.{place_valid, left_query}
+use Rattle.uriparse_reference.proofs.uri_reference.relate.in_place.Goals as goal
+
+pub invariant_of-result : goal.invariant_of-result
+invariant_of-result c =
+    place_valid c.args.target.now c.in_ok-empty_path.field-0 c.query_left.result c.borrowed_text.result c.in_ok-empty_path.ensures
+    (left_query c.args.base.now c.args.target.now c.query_left.result c.path-valid.ensures.valid c.query_left.ensures)
+    (subst (λ o. IfSome o IsFragment) (sym (c.borrowed_text.ensures ∙ c.fragment.ensures)) c.path-valid.ensures.valid.is_fragment)

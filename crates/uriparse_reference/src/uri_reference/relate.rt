@@ -1,0 +1,210 @@
+//! The reference that leads from a base to a target: what RFC 3986, section 5.2, makes the target of
+//! again.
+ghost use Rattle.std.specs.Prelude.{◌≡◌, ◌↔◌, ◌⊎◌, IfOk, IsSome, IsTrue, None, Some, option_copied};
+ghost use Rattle.uriparse_path.specs.Dots.{has_dot_segment};
+ghost use Rattle.uriparse_path.specs.Path.{IsListed};
+ghost use Rattle.uriparse_path.specs.Relate.{no_path};
+ghost use Rattle.uriparse_reference.specs.Reference.{Valid};
+ghost use Rattle.uriparse_reference.specs.Relate as spec;
+
+use super::URIReference;
+use std::alloc::{AllocError, Global};
+use uriparse_authority::authority::{Authority, Host};
+use uriparse_path::parts::{empty_path, has_dots, has_two_slashes, is_same_path, leading_path};
+use uriparse_path::path::Path;
+use uriparse_scheme::scheme::Scheme;
+use uriparse_text::parts::{Kind, Text, borrowed_text};
+use uriparse_text::query::Query;
+
+// ---- what is one, part for part and in one spelling
+
+/// Whether the schemes are one, in one spelling.
+fn is_same_scheme(left: &Scheme<'_>, right: &Scheme<'_>) -> bool
+    ensures { IsTrue result ↔ (left.now ≡ right.now) }
+{
+    left.as_bytes() == right.as_bytes()
+}
+
+/// Whether there is one scheme, or none.
+fn has_same_scheme(left: Option<&Scheme<'_>>, right: Option<&Scheme<'_>>) -> bool
+    ensures { IsTrue result ↔ (option_copied left.entry ≡ option_copied right.entry) }
+{
+    match (left, right) {
+        (Some(one), Some(other)) => is_same_scheme(one, other),
+        (None, None) => true,
+        _ => false,
+    }
+}
+
+/// Whether there is one text, or none.
+fn has_same_text<K: Kind>(left: Option<&Text<'_, K>>, right: Option<&Text<'_, K>>) -> bool
+    ensures { IsTrue result ↔ (option_copied left.entry ≡ option_copied right.entry) }
+{
+    match (left, right) {
+        (Some(one), Some(other)) => one.as_bytes() == other.as_bytes(),
+        (None, None) => true,
+        _ => false,
+    }
+}
+
+/// Whether the hosts are one, in one spelling.
+fn is_same_host(left: &Host<'_>, right: &Host<'_>) -> bool
+    ensures { IsTrue result ↔ (left.now ≡ right.now) }
+{
+    match (left, right) {
+        (Host::IPv4Address(one), Host::IPv4Address(other)) => one == other,
+        (Host::IPv6Address(one), Host::IPv6Address(other)) => one == other,
+        (Host::IPvFuture(one), Host::IPvFuture(other)) => one.as_bytes() == other.as_bytes(),
+        (Host::RegisteredName(one), Host::RegisteredName(other)) => {
+            one.as_bytes() == other.as_bytes()
+        }
+        _ => false,
+    }
+}
+
+/// Whether the authorities are one, part for part and in one spelling.
+fn is_same_authority(left: &Authority<'_>, right: &Authority<'_>) -> bool
+    ensures { IsTrue result ↔ (left.now ≡ right.now) }
+{
+    is_same_host(left.host(), right.host())
+        && left.port() == right.port()
+        && has_same_text(left.username(), right.username())
+        && has_same_text(left.password(), right.password())
+}
+
+/// Whether there is one authority, or none.
+fn has_same_authority(left: Option<&Authority<'_>>, right: Option<&Authority<'_>>) -> bool
+    ensures { IsTrue result ↔ (option_copied left.entry ≡ option_copied right.entry) }
+{
+    match (left, right) {
+        (Some(one), Some(other)) => is_same_authority(one, other),
+        (None, None) => true,
+        _ => false,
+    }
+}
+
+// ---- what leads from a base to a target
+
+/// The target, without its scheme where it has an authority. It borrows the target's texts.
+fn network<'r>(alloc: Global, target: &'r URIReference<'_>) -> Result<URIReference<'r>, AllocError>
+    ensures { IfOk result (λ r. r ≡ spec.network target.now) }
+{
+    let mut copy = target.to_borrowed(alloc)?;
+    if target.authority().is_none() {
+        return Ok(copy);
+    }
+    let _ok = copy.set_scheme(None);
+    Ok(copy)
+}
+
+/// Whether the paths are one without dot segments, and the target has a query or the base has none.
+fn is_in_place(base: &URIReference<'_>, target: &URIReference<'_>) -> bool
+    ensures { IsTrue result ↔ spec.IsInPlace base.now target.now }
+{
+    is_same_path(base.path(), target.path())
+        && !has_dots(target.path())
+        && (target.query().is_some() || base.query().is_none())
+}
+
+/// The target's query, or none where the base has the same.
+fn query_left<'r>(base: &URIReference<'_>, target: &'r URIReference<'_>) -> Option<Query<'r>>
+    ensures { spec.IsQueryLeft base.now target.now result }
+{
+    if has_same_text(base.query(), target.query()) {
+        return None;
+    }
+    borrowed_text(target.query())
+}
+
+/// What leads from a base to a target in the same place: a query, if it isn't the same, and a
+/// fragment. It borrows their texts.
+fn in_place<'r>(
+    alloc: Global,
+    base: &URIReference<'_>,
+    target: &'r URIReference<'_>,
+) -> Result<URIReference<'r>, AllocError>
+    ensures { IfOk result (λ r. (r ≡ record { scheme = None; authority = None; path = no_path; query = r.query; fragment = target.now.fragment }) × spec.IsQueryLeft base.now target.now r.query) }
+{
+    let _valid = target.path();
+    Ok(URIReference {
+        scheme: None,
+        authority: None,
+        path: empty_path(alloc)?,
+        query: query_left(base, target),
+        fragment: borrowed_text(target.fragment()),
+    })
+}
+
+/// Whether the path is absolute, and its text begins with one slash alone.
+fn stands_alone(path: &Path<'_>) -> bool
+    ensures { result ≡ spec.stands_alone path.now }
+{
+    path.is_absolute() && !has_two_slashes(path)
+}
+
+/// The path that leads from the base's path to the target's, where schemes and authorities are one.
+/// It borrows the texts of the target's path.
+fn inner_path<'r>(
+    alloc: Global,
+    base: &Path<'_>,
+    target: &'r Path<'_>,
+) -> Result<Option<Path<'r>>, AllocError>
+    ensures { IfOk result (λ o. o ≡ spec.inner base.now target.now) }
+{
+    if let Some(path) = leading_path(alloc, base, target)? {
+        return Ok(Some(path));
+    }
+    if stands_alone(target) {
+        return Ok(Some(target.to_borrowed(alloc)?));
+    }
+    Ok(None)
+}
+
+/// The target's query and fragment behind a path that leads to the target's path.
+fn behind_path<'r>(
+    base: &URIReference<'_>,
+    target: &'r URIReference<'_>,
+    path: Path<'r>,
+) -> URIReference<'r>
+    requires { spec.inner base.now.path target.now.path ≡ Some path }
+    ensures { result ≡ spec.behind_path target.now path.entry }
+{
+    let _valid = target.path();
+    let _listed = path.segments();
+    URIReference {
+        scheme: None,
+        authority: None,
+        path,
+        query: borrowed_text(target.query()),
+        fragment: borrowed_text(target.fragment()),
+    }
+}
+
+/// The reference that leads from a base to a target that has a scheme: behind the base it has the
+/// target that the target itself has. It borrows the target's texts; room for the list of segments
+/// is asked for once.
+pub fn relativize<'r>(
+    alloc: Global,
+    base: &URIReference<'_>,
+    target: &'r URIReference<'_>,
+) -> Result<URIReference<'r>, AllocError>
+    requires { IsSome target.now.scheme }
+    ensures relates { IfOk result (λ r. spec.Relates base.now target.now r) }
+    ensures valid { Valid base.now × Valid target.now }
+{
+    let _base = base.path();
+    let _target = target.path();
+    if !has_same_scheme(base.scheme(), target.scheme()) {
+        return target.to_borrowed(alloc);
+    }
+    if !has_same_authority(base.authority(), target.authority()) {
+        return network(alloc, target);
+    }
+    if is_in_place(base, target) {
+        return in_place(alloc, base, target);
+    }
+    match inner_path(alloc, base.path(), target.path())? {
+        Some(path) => Ok(behind_path(base, target, path)),
+        None => network(alloc, target),
+    }
+}

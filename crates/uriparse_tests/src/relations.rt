@@ -1,0 +1,117 @@
+//! References that lead from a base to a URI.
+
+use rows::answer::{Answer, refused, said, words};
+use std::alloc::Global;
+use uriparse::{URI, URIReference};
+
+/// The text of the reference, if the base resolves it to what it resolves the URI to.
+fn led(alloc: Global, base: &URI<'_>, uri: URI<'_>, reference: &URIReference<'_>) -> Answer {
+    let Ok(target) = base.resolve(alloc, reference) else {
+        return said(alloc, "no target");
+    };
+    let whole = URIReference::from(uri);
+    match base.resolve(alloc, &whole) {
+        Ok(wanted) if wanted.to_string(alloc)?.as_str() == target.to_string(alloc)?.as_str() => {
+            reference.to_string(alloc)
+        }
+        Ok(_) => said(alloc, "another target"),
+        Err(why) => refused(alloc, why),
+    }
+}
+
+/// What leads from one to the other.
+fn related(alloc: Global, base: &URI<'_>, uri: URI<'_>) -> Answer {
+    let copy = uri.to_borrowed(alloc)?;
+    let reference = base.relativize(alloc, &uri)?;
+    led(alloc, base, copy, &reference)
+}
+
+/// The answer to a question about two URIs.
+pub fn answer(alloc: Global, asked: &str) -> Answer {
+    let (_, base, text) = words(asked);
+    let base = match URI::try_from_str(alloc, base) {
+        Ok(base) => base,
+        Err(why) => return refused(alloc, why),
+    };
+    match URI::try_from_str(alloc, text) {
+        Ok(uri) => related(alloc, &base, uri),
+        Err(why) => refused(alloc, why),
+    }
+}
+
+pub const ROWS: &str = "\
+relate http://a/b/c/d;p?q http://a/b/c/g -> g
+relate http://a/b/c/d;p?q http://a/b/c/d;p?q -> ''
+relate http://a/b/c/d;p?q http://a/b/c/d;p?q#s -> #s
+relate http://a/b/c/d;p?q http://a/b/c/d;p?y -> ?y
+relate http://a/b/c/d;p?q http://a/b/c/d;p -> d;p
+relate http://a/b/c/d;p?q http://a/b/c/ -> ./
+relate http://a/b/c/d;p?q http://a/b/ -> ../
+relate http://a/b/c/d;p?q http://a/ -> ../../
+relate http://a/b/c/d;p?q http://a -> ../../
+relate http://a/b/c/d;p?q http://a/g -> ../../g
+relate http://a/b/c/d;p?q http://g -> //g/
+relate http://a/b/c/d;p?q https://a/b/c/g -> https://a/b/c/g
+relate http://a/b/c/d;p?q http://a/b/c/g:h -> ./g:h
+relate http://a/b/c/d;p?q http://a/b/c//g -> .//g
+relate http://a/b http://a//c -> .//c
+relate http://a/b/c http://a//c -> ..//c
+relate http://a/b/../c http://a/b/d -> /b/d
+relate http://a/b/c http://a/b/./d -> /b/./d
+relate http://a/b/c http://a//b/./d -> //a//b/./d
+relate file:///a/b file:///a/c -> c
+relate file:/a/b file:/a/c -> c
+relate file:///a/b file:/a/c -> file:/a/c
+relate mailto:a mailto:b -> b
+relate mailto:a mailto:a#f -> #f
+relate urn:isbn:1 urn:isbn:2 -> ./isbn:2
+relate urn:a/b/c urn:a/d -> ../d
+relate urn:a/b/c urn:d -> urn:d
+relate x: x:a -> a
+relate http://a/b/c/ http://a/b/c -> ../c
+relate http://a/b/c http://a/b/c/ -> c/
+relate http://a/b/c?x http://a/b/c -> c
+relate http://a/b/?x http://a/b/ -> ./
+relate HTTP://a/b http://a/c -> c
+relate http://A/b http://a/c -> //a/c
+relate http://a/%7Eb/c http://a/~b/d -> ../~b/d
+relate http://a/b/c/d http://a/b -> ../../b
+relate http://a/b/c? http://a/b/c -> c
+relate http://a/b/c http://a/b/c? -> ?
+relate http://a/b?q http://a/b?q -> ''
+relate http://u@h/a http://u@h/b -> b
+relate http://u@h/a http://h/b -> //h/b
+relate http://h:80/a http://h/b -> //h/b
+relate http://1.2.3.4/a http://1.2.3.4/b -> b
+relate http://[::1]/a http://[::1]/b/ -> b/
+relate http://[::1]/a http://[0::1]/b -> b
+relate s:/.//a s:/.//b -> /.//b
+relate s:/a s:/.//b -> /.//b
+relate s:/a s: -> s:
+relate s: s: -> ''
+relate s:a?q s:a -> a
+relate s:a s:a?q -> ?q
+relate s:a/b s:a/b -> ''
+relate s:a/../b s:a/../b -> s:a/../b
+relate http://a/b/.. http://a/b/c -> c
+relate http://a/b/%2e%2E http://a/c -> ../c
+relate http://a/%2E/b http://a/c -> /c
+relate http://a/b/c//d http://a/b/c//e -> e
+relate http://a// http://a/ -> ../
+relate http://a/ http://a// -> .//
+relate http://a/b/c http://a/b// -> .//
+relate http://a/A/b http://a/%41/b -> ../%41/b
+relate foo:/a/b Foo:/a/c -> Foo:/a/c
+relate foo:/a/b foo:/a/c -> c
+relate foo:/a/b FOO:/a/c -> FOO:/a/c
+relate http://a/b#f http://a/b -> ''
+relate http://a/b#f http://a/b#f -> #f
+relate s:a/b/c s:a/b -> ../b
+relate s:a/b/c s:a/ -> ../
+relate s:a/b/c s:a -> s:a
+relate s:a/b s:b/c -> s:b/c
+relate s: s:?q -> ?q
+relate s:a s: -> ./
+relate s:a/b s:/a/c -> /a/c
+relate s:a/b?q s:a/b -> b
+relate s:a:b/c s:a:b/d:e -> ./d:e";
