@@ -1,3 +1,41 @@
+-- What contracts and callers cite. The definitions of the crates below are named here too, so that a caller need not list those crates.
 pub mod Kinds
 pub mod Uri
 pub mod RelativeReference
+-- texts: RFC 3986, section 2
+pub use Rattle.uriparse_text.specs.Bytes
+pub use Rattle.uriparse_text.specs.Readings
+pub use Rattle.uriparse_text.specs.Canonical
+pub use Rattle.uriparse_text.specs.Coding
+pub use Rattle.uriparse_text.specs.Query
+pub use Rattle.uriparse_text.specs.Fragment
+-- schemes: section 3.1
+pub use Rattle.uriparse_scheme.specs.Scheme
+pub use Rattle.uriparse_scheme.specs.declared.scheme.Scheme as SchemeValue
+-- authorities: section 3.2
+pub use Rattle.uriparse_authority.specs.Authority
+pub use Rattle.uriparse_authority.specs.declared.authority.host.Host as HostValue
+pub use Rattle.uriparse_authority.specs.Name
+pub use Rattle.uriparse_authority.specs.Username
+pub use Rattle.uriparse_authority.specs.Password
+pub use Rattle.uriparse_authority.specs.Port
+-- paths: section 3.3
+pub use Rattle.uriparse_path.specs.Segment
+pub use Rattle.uriparse_path.specs.Path
+pub use Rattle.uriparse_path.specs.Dots
+pub use Rattle.uriparse_path.specs.Relative
+pub use Rattle.uriparse_path.specs.Edits as PathEdits
+pub use Rattle.uriparse_path.specs.Normal as PathNormal
+pub use Rattle.uriparse_path.specs.Relate as PathRelate
+pub use Rattle.uriparse_path.specs.declared.path.error.PathError
+-- references: sections 4 and 5
+pub use Rattle.uriparse_reference.specs.Reference
+pub use Rattle.uriparse_reference.specs.Cuts
+pub use Rattle.uriparse_reference.specs.Reading
+pub use Rattle.uriparse_reference.specs.Edits
+pub use Rattle.uriparse_reference.specs.Builder
+pub use Rattle.uriparse_reference.specs.Key
+pub use Rattle.uriparse_reference.specs.Normal
+pub use Rattle.uriparse_reference.specs.Target
+pub use Rattle.uriparse_reference.specs.Relate
+pub use Rattle.uriparse_reference.specs.declared.uri_reference.error.URIReferenceError

@@ -2,9 +2,9 @@
 use Rattle.std.proofs.Common.{◌≡◌, true, false, Option, Some, None, Ok, Err, inl, inr, refl, sym, ap, subst, ◌∙◌}
 use Rattle.std.specs.Prelude.{Result, MatchResult, is_some}
 use Rattle.std.specs.Option.{IsSomeAnd}
-use Rattle.uriparse_text.specs.Readings.{IsUnless}
-use Rattle.uriparse_path.specs.declared.path.error.PathError.TheVariants.{OutOfMemory}
-use Rattle.uriparse_reference.specs.Reference.{Parts}
+use Rattle.uriparse.specs.Readings.{IsUnless}
+use Rattle.uriparse.specs.PathError.TheVariants.{OutOfMemory}
+use Rattle.uriparse.specs.Reference.{Parts}
 use Rattle.uriparse.specs.declared.uri.error.URIError.{URIError}
 use Rattle.uriparse.specs.declared.uri.error.URIError.TheVariants as uris
 use Rattle.uses.specs.declared.proxy.ProxyError.{ProxyError}

@@ -1,13 +1,13 @@
 -- What the answers of reading and resolving tell of a redirect.
 use Rattle.std.proofs.Common.{◌≡◌, ℕ, List, Option, Some, None, Ok, Err, inl, inr, refl, sym, ap, subst, ◌∙◌}
 use Rattle.std.specs.Prelude.{◌⊎◌, Result, IfOk, MatchOption}
-use Rattle.uriparse_text.specs.Readings.{IsUnless}
-use Rattle.uriparse_path.specs.declared.path.error.PathError.TheVariants.{ExceededMaximumLength, OutOfMemory}
-use Rattle.uriparse_authority.specs.Authority.{AuthorityParts}
-use Rattle.uriparse_reference.specs.declared.uri_reference.error.URIReferenceError.{URIReferenceError}
-use Rattle.uriparse_reference.specs.declared.uri_reference.error.URIReferenceError.TheVariants as references
-use Rattle.uriparse_reference.specs.Reference.{Parts, Spells}
-use Rattle.uriparse_reference.specs.Target.{target}
+use Rattle.uriparse.specs.Readings.{IsUnless}
+use Rattle.uriparse.specs.PathError.TheVariants.{ExceededMaximumLength, OutOfMemory}
+use Rattle.uriparse.specs.Authority.{AuthorityParts}
+use Rattle.uriparse.specs.URIReferenceError.{URIReferenceError}
+use Rattle.uriparse.specs.URIReferenceError.TheVariants as references
+use Rattle.uriparse.specs.Reference.{Parts, Spells}
+use Rattle.uriparse.specs.Target.{target}
 use Rattle.uriparse.specs.declared.uri.error.URIError.{URIError}
 use Rattle.uriparse.specs.declared.uri.error.URIError.TheVariants as uris
 use Rattle.uses.specs.declared.redirects.RedirectError.{RedirectError}

@@ -2,7 +2,7 @@
 use Rattle.std.proofs.Common.{◌≡◌, false, List, [], ◌∷◌, ◌++◌, refl, arith, ◌∙◌}
 use Rattle.std.proofs.lemmas.Grind.{common_steps}
 use Rattle.std.proofs.lemmas.List.Folds.{list_any-append}
-use Rattle.uriparse_reference.specs.Reference.{Parts}
+use Rattle.uriparse.specs.Reference.{Parts}
 use Rattle.uses.specs.Equal.{is_equal, is_among}
 use Rattle.uses.specs.Registry.{AreDistinct}
 

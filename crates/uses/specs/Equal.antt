@@ -1,8 +1,8 @@
 -- Equal URIs.
 use Rattle.std.specs.Prelude.{Bool, List, bytes_eq}
 use Rattle.std.specs.List.{list_any}
-use Rattle.uriparse_reference.specs.Reference.{Parts}
-use Rattle.uriparse_reference.specs.Key.{key}
+use Rattle.uriparse.specs.Reference.{Parts}
+use Rattle.uriparse.specs.Key.{key}
 
 -- what `==` answers
 abbrev pub is_equal : Parts → Parts → Bool

@@ -2,9 +2,9 @@
 use Rattle.std.specs.Prelude.{◌≡◌, ◌⊎◌, ℕ, true, List, [], ◌∷◌, ◌++◌, Some, None, map, take, is_some, slice_get}
 use Rattle.std.specs.List.{list_all}
 use Rattle.std.specs.Option.{IsSomeAnd}
-use Rattle.uriparse_path.specs.declared.path.error.PathError.TheVariants.{ExceededMaximumLength, OutOfMemory}
-use Rattle.uriparse_reference.specs.Reference.{Parts}
-use Rattle.uriparse_reference.specs.Target.{target}
+use Rattle.uriparse.specs.PathError.TheVariants.{ExceededMaximumLength, OutOfMemory}
+use Rattle.uriparse.specs.Reference.{Parts}
+use Rattle.uriparse.specs.Target.{target}
 use Rattle.uriparse.specs.declared.uri.error.URIError.{URIError}
 use Rattle.uriparse.specs.declared.uri.error.URIError.TheVariants.{Path}
 
@@ -28,3 +28,7 @@ pub record IsRefused (base : Parts) (links : List Parts) (index : ℕ) (error : 
 -- the link's target stands behind the others
 abbrev pub Gains : Parts → Parts → List Parts → List Parts → Type 0
 Gains base link old new = (t : Parts) × (target base link ≡ Some t) × (new ≡ old ++ t ∷ [])
+
+-- each of these links has the target of the URI in its place
+abbrev pub MeanTheSame : Parts → List Parts → List Parts → Type 0
+MeanTheSame base uris links = map (target base) links ≡ map (target base) uris

@@ -2,14 +2,14 @@
 use Rattle.std.specs.Prelude.{◌≡◌, ◌⊎◌, ℕ, true, List, [], Some, None, IsSome, codes}
 use Rattle.std.specs.Option.{IsSomeAnd}
 use Rattle.std.specs.Str.{str_to_ascii_lowercase}
-use Rattle.uriparse_scheme.specs.declared.scheme.Scheme.{Scheme}
-use Rattle.uriparse_scheme.specs.Scheme as scheme
-use Rattle.uriparse_authority.specs.declared.authority.host.Host.TheVariants.{RegisteredName}
-use Rattle.uriparse_reference.specs.Reference.{Parts, Spells, host_of}
+use Rattle.uriparse.specs.SchemeValue.{Scheme}
+use Rattle.uriparse.specs.Scheme as scheme
+use Rattle.uriparse.specs.HostValue.TheVariants.{RegisteredName}
+use Rattle.uriparse.specs.Reference.{Parts, Spells, host_of}
 use Rattle.uriparse.specs.declared.uri.error.URIError.TheVariants as uris
 use Rattle.uriparse.specs.Kinds.{fault_of}
 use Rattle.uriparse.specs.Uri.{told}
-use Rattle.uriparse_path.specs.declared.path.error.PathError.TheVariants.{OutOfMemory}
+use Rattle.uriparse.specs.PathError.TheVariants.{OutOfMemory}
 use Rattle.uses.specs.declared.proxy.ProxyError.{ProxyError}
 use Rattle.uses.specs.declared.proxy.ProxyError.TheVariants as errors
 

@@ -1,11 +1,11 @@
 -- Where a redirect leads to, and whether that is allowed.
 use Rattle.std.specs.Prelude.{◌≡◌, ◌⊎◌, ⊤, ℕ, List, Option, Some, None, Result, Ok, Err}
 use Rattle.std.specs.Option.{IsSomeAnd}
-use Rattle.uriparse_path.specs.declared.path.error.PathError.TheVariants.{OutOfMemory}
-use Rattle.uriparse_authority.specs.Authority as authority
-use Rattle.uriparse_reference.specs.declared.uri_reference.error.URIReferenceError.TheVariants as references
-use Rattle.uriparse_reference.specs.Reference.{Parts, Spells}
-use Rattle.uriparse_reference.specs.Target.{target}
+use Rattle.uriparse.specs.PathError.TheVariants.{OutOfMemory}
+use Rattle.uriparse.specs.Authority as authority
+use Rattle.uriparse.specs.URIReferenceError.TheVariants as references
+use Rattle.uriparse.specs.Reference.{Parts, Spells}
+use Rattle.uriparse.specs.Target.{target}
 use Rattle.uriparse.specs.declared.uri.error.URIError.TheVariants as uris
 use Rattle.uses.specs.declared.redirects.RedirectError.{RedirectError}
 use Rattle.uses.specs.declared.redirects.RedirectError.TheVariants as errors

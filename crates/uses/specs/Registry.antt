@@ -1,7 +1,7 @@
 -- Identifiers of which no two are equal.
 use Rattle.std.specs.Prelude.{◌≡◌, false, List, [], ◌∷◌}
 use Rattle.std.specs.List.{list_any}
-use Rattle.uriparse_reference.specs.Reference.{Parts}
+use Rattle.uriparse.specs.Reference.{Parts}
 use Rattle.uses.specs.Equal.{is_equal}
 
 -- no identifier equals a later one

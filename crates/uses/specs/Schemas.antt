@@ -1,7 +1,7 @@
 -- Which schema a reference names.
 use Rattle.std.specs.Prelude.{◌≡◌, ℕ, true, false, List, Option, Some, None, take, slice_get}
 use Rattle.std.specs.Option.{IsSomeAnd}
-use Rattle.uriparse_reference.specs.Reference.{Parts}
+use Rattle.uriparse.specs.Reference.{Parts}
 use Rattle.uses.specs.Equal.{is_equal, is_among}
 
 -- The first URI that equals the wanted one stands at this index.

@@ -1,9 +1,9 @@
-//! A link rewriter: what the links of a page lead to.
+//! A link rewriter: the targets of a page's links, and relative links in place of absolute ones.
 ghost use Rattle.std.specs.Prelude.{◌≡◌, ◌++◌, ◌∷◌, [], IfOk, IfErr, MatchResult, OnOk};
-ghost use Rattle.uriparse_path.specs.declared.path.error.PathError.TheVariants.{OutOfMemory};
-ghost use Rattle.uses.specs.Links.{AreTargets, Gains, IsRefusal, IsRefused};
+ghost use Rattle.uriparse.specs.PathError.TheVariants.{OutOfMemory};
+ghost use Rattle.uses.specs.Links.{AreTargets, Gains, IsRefusal, IsRefused, MeanTheSame};
 
-use std::alloc::Global;
+use std::alloc::{AllocError, Global};
 use uriparse::{PathError, URI, URIError, URIReference};
 
 /// Where each link of a page leads to, in order: its target behind the page's base, RFC 3986,
@@ -64,4 +64,35 @@ fn put_last<'l>(targets: &mut Vec<URI<'l>>, target: URI<'l>) -> Result<(), PathE
 {
     targets.push(target)?;
     Ok(())
+}
+
+/// Relative links for the absolute ones of a page, in order: each resolves against the page's base
+/// to what the absolute link resolves to, and leaves out what it has in common with the base. The
+/// links borrow the texts of the absolute ones.
+///
+/// Reserves capacity for the links once, and each link allocates its path. Fails only if memory
+/// runs out.
+///
+/// ```
+/// let base = URI::try_from_str(alloc, "http://a/b/c")?;
+/// let mut uris = Vec::new(alloc);
+/// uris.push(URI::try_from_str(alloc, "http://a/d?q")?)?;
+/// uris.push(URI::try_from_str(alloc, "https://a/b/c")?)?;
+/// let links = make_relative(alloc, &base, &uris)?;
+/// assert_eq!(links[0].to_string(alloc)?.as_str(), "../d?q");
+/// assert_eq!(links[1].to_string(alloc)?.as_str(), "https://a/b/c");
+/// ```
+pub fn make_relative<'l>(
+    alloc: Global,
+    base: &URI<'_>,
+    uris: &'l [URI<'_>],
+) -> Result<Vec<URIReference<'l>>, AllocError>
+    ensures { IfOk result (λ links. MeanTheSame base.now uris.now links.items) }
+{
+    let mut links = Vec::with_capacity(alloc, uris.len())?;
+    for uri in uris {
+        let link = base.relativize(alloc, uri)?;
+        links.push(link)?;
+    }
+    Ok(links)
 }

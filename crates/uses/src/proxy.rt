@@ -7,10 +7,10 @@
 //! assert!(matches!(refused, Err(ProxyError::Scheme)));
 //! ```
 ghost use Rattle.std.specs.Prelude.{◌≡◌, ◌↔◌, [], IsTrue, IfOk, IfErr, MatchOption, MatchResult, Ok};
-ghost use Rattle.uriparse_text.specs.Readings.{IsUnless};
-ghost use Rattle.uriparse_path.specs.declared.path.error.PathError.TheVariants.{OutOfMemory};
-ghost use Rattle.uriparse_authority.specs.declared.authority.host.Host.TheVariants.{RegisteredName};
-ghost use Rattle.uriparse_reference.specs.Reference.{Parts, Spells};
+ghost use Rattle.uriparse.specs.Readings.{IsUnless};
+ghost use Rattle.uriparse.specs.PathError.TheVariants.{OutOfMemory};
+ghost use Rattle.uriparse.specs.HostValue.TheVariants.{RegisteredName};
+ghost use Rattle.uriparse.specs.Reference.{Parts, Spells};
 ghost use Rattle.uriparse.specs.declared.uri.error.URIError.TheVariants as uris;
 ghost use Rattle.uses.specs.declared.proxy.ProxyError.TheVariants as errors;
 ghost use Rattle.uses.specs.Proxy.{HasHost, IsProxyTarget, IsReason, IsWebScheme, Refuses};

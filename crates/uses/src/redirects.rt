@@ -1,7 +1,7 @@
 //! A redirect checker: whether an answer's `Location` stays at an allowed authority.
 ghost use Rattle.std.specs.Prelude.{◌≡◌, ◌↔◌, IsTrue, IfOk, MatchResult, Err, Some};
-ghost use Rattle.uriparse_reference.specs.Reference.{Parts};
-ghost use Rattle.uriparse_reference.specs.Target.{target};
+ghost use Rattle.uriparse.specs.Reference.{Parts};
+ghost use Rattle.uriparse.specs.Target.{target};
 ghost use Rattle.uses.specs.declared.redirects.RedirectError.TheVariants.{Elsewhere, Memory};
 ghost use Rattle.uses.specs.Redirects.{GoesTo, IsAt};
 ghost use Rattle.uses.specs.Redirects as spec;

@@ -42,7 +42,7 @@ pub struct Registry<'r> {
 
 impl<'r> Model for Registry<'r> {
     ghost use Rattle.std.specs.Prelude.{List};
-    ghost use Rattle.uriparse_reference.specs.Reference.{Parts};
+    ghost use Rattle.uriparse.specs.Reference.{Parts};
     ghost use Rattle.uses.specs.Registry.{AreDistinct};
 
     ghost Value = { List Parts };

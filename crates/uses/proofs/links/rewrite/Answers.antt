@@ -1,5 +1,5 @@
 use Rattle.std.proofs.Common.{take}
-use Rattle.uriparse_reference.specs.Target.{target}
+use Rattle.uriparse.specs.Target.{target}
 use Rattle.uses.specs.Links.{IsRefusal}
 use Rattle.uses.proofs.ListLemmas.{all_have, images_more, in_place}
 use Rattle.uses.proofs.links.rewrite.Goals as goal

@@ -1,4 +1,4 @@
-use Rattle.uriparse_reference.specs.Target.{target}
+use Rattle.uriparse.specs.Target.{target}
 use Rattle.uses.proofs.RedirectLemmas.{unresolved}
 use Rattle.uses.proofs.links.rewrite_one.Goals as goal
 

@@ -1,4 +1,4 @@
-use Rattle.uriparse_reference.specs.Target.{target}
+use Rattle.uriparse.specs.Target.{target}
 use Rattle.uses.proofs.RedirectLemmas.{untargeted}
 use Rattle.uses.proofs.redirects.follow_to.Goals as goal
 

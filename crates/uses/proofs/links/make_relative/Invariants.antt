@@ -1,0 +1,6 @@
+use Rattle.std.proofs.Common.{take}
+use Rattle.uses.specs.Links.{MeanTheSame}
+use Rattle.uses.proofs.links.make_relative.Given as goal
+
+abbrev pub invariant-loop-uri : goal.invariant-loop-uri
+invariant-loop-uri l = MeanTheSame l.base (take l.uri-index l.uris) l.links.items
