@@ -68,14 +68,3 @@ pub fn set_host<'a>(authority: &mut Authority<'a>, host: Host<'a>) -> Result<(),
 {
     authority.set_host(host)
 }
-
-/// Sets an authority's host to what the closure makes of it.
-pub fn map_host<'a, F>(authority: &mut Authority<'a>, make: F) -> Result<(), AuthorityError>
-where
-    F: FnOnce(Host<'a>) -> Host<'a>,
-    requires { F.pre make authority.old.host }
-    ensures answer { result ≡ Ok tt }
-    ensures value { (host : _) × F.post make authority.old.host host × (authority.new ≡ with_host authority.old host) }
-{
-    authority.map_host(make)
-}

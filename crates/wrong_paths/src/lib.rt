@@ -1,22 +1,19 @@
 //! Promises of paths for which the must-fail edits beside this file put wrong bodies.
 //!
-//! Each function hands on the answer of one call of the library, and its clause follows from that
-//! call's alone. So a body that breaks the clause breaks the library's too: what the prover refuses
-//! here, no body of the library does.
+//! They are made as those of `wrong_references`.
 #![tactic(auto)]
 
 ghost use Rattle.std.specs.Prelude.{◌≡◌, ◌↔◌, IsTrue, IfOk, Ok, OnOk, true, false, if◌then◌else◌, bytes_eq};
 ghost use Rattle.uriparse_text.specs.Canonical.{canonical};
-ghost use Rattle.uriparse_text.specs.Readings.{IsUnless, SettlesUnless};
+ghost use Rattle.uriparse_text.specs.Readings.{SettlesUnless};
 ghost use Rattle.uriparse_path.specs.declared.path.error.PathError.TheVariants as errors;
 ghost use Rattle.uriparse_path.specs.Path.{hides_root, text};
 ghost use Rattle.uriparse_path.specs.Dots.{without_dots};
 ghost use Rattle.uriparse_path.specs.Edits.{pushing, shield};
-ghost use Rattle.uriparse_path.specs.Merge.{merging};
 ghost use Rattle.uriparse_path.specs.Normal.{pnormal};
 
 use std::alloc::{AllocError, Global};
-use uriparse_path::parts::{merged_path, normalize_path};
+use uriparse_path::parts::normalize_path;
 use uriparse_path::path::{Path, PathError, Segment};
 
 /// Whether two paths are equal, so that their texts have one canonical spelling.
@@ -70,17 +67,6 @@ pub fn push_and_test<'p>(
 {
     path.push(alloc, segment)?;
     Ok(path.is_normalized(false))
-}
-
-/// Puts the path of a reference behind that of a base.
-pub fn merge<'p>(
-    alloc: Global,
-    base: &'p Path<'_>,
-    reference: &'p Path<'_>,
-) -> Result<Path<'p>, PathError>
-    ensures { IsUnless errors.OutOfMemory result (merging base.now reference.now) }
-{
-    merged_path(alloc, base, reference)
 }
 
 /// Puts a segment at the end.

@@ -1,26 +1,30 @@
 //! Promises of `URIReference`, of schemes and of dot segments for which the must-fail edits beside
 //! this file put wrong bodies.
 //!
-//! Each function hands on the answer of one call of the library, by its cases where a wrong body
-//! changes one of them, and its clause follows from that call's alone. So a body that breaks the
-//! clause breaks the library's too: what the prover refuses here, no body of the library does.
+//! Each function hands on what one call of the library returns, and its clauses follow from that
+//! call's alone. So a body that breaks a clause breaks the library's too: what the prover refuses
+//! here, no body of the library does. No proof is written for a function: the search finds it, as
+//! it would for another right body.
 #![tactic(auto)]
 
-ghost use Rattle.std.specs.Prelude.{◌≡◌, IfOk, MatchResult, None, OnOk, Some, length};
-ghost use Rattle.uriparse_text.specs.Readings.{Settles};
+ghost use Rattle.std.specs.Prelude.{◌≡◌, ◌↔◌, Err, IfOk, IsTrue, MatchResult, None, Ok, OnErr, OnOk, Some, length};
+ghost use Rattle.uriparse_text.specs.Readings.{IsUnless, Settles};
 ghost use Rattle.uriparse_path.specs.Dots as dots;
+ghost use Rattle.uriparse_path.specs.declared.path.error.PathError.TheVariants.{OutOfMemory};
 ghost use Rattle.uriparse_scheme.specs.Scheme as schemes;
-ghost use Rattle.uriparse_reference.specs.Edits.{Run, edited, of_parts};
+ghost use Rattle.uriparse_reference.specs.Edits.{Run, edited};
 ghost use Rattle.uriparse_reference.specs.declared.uri_reference.edit.Edit.TheVariants as edits;
+ghost use Rattle.uriparse_reference.specs.declared.uri_reference.error.URIReferenceError.{URIReferenceError};
+ghost use Rattle.uriparse_reference.specs.declared.uri_reference.error.URIReferenceError.TheVariants as errors;
 ghost use Rattle.uriparse_reference.specs.Normal.{normal};
-ghost use Rattle.uriparse_reference.specs.Reference.{Spells};
+ghost use Rattle.uriparse_reference.specs.Reading.{fault};
+ghost use Rattle.uriparse_reference.specs.Reference.{Parts, Spells, print};
 
 use std::alloc::{AllocError, Global};
 use uriparse_authority::authority::Authority;
 use uriparse_path::path::{Path, Segment};
 use uriparse_reference::uri_reference::{Edit, URIReference, URIReferenceError};
 use uriparse_scheme::scheme::{Scheme, SchemeError};
-use uriparse_text::fragment::Fragment;
 use uriparse_text::query::Query;
 
 /// Reads a scheme, which is looked up in the table of registered ones.
@@ -30,40 +34,37 @@ pub fn read_scheme(bytes: &[u8]) -> Result<Scheme<'_>, SchemeError>
     Scheme::try_from_bytes(bytes)
 }
 
-/// Reads a reference: what is read is what the grammar spells.
+/// Reads a reference: what is read is what the grammar spells, what it spells is read unless memory
+/// runs out, and a fault is returned whatever memory there is.
 pub fn read(alloc: Global, bytes: &[u8]) -> Result<URIReference<'_>, URIReferenceError>
-    ensures { IfOk result (λ r. Spells bytes.now r) }
+    ensures found { IfOk result (λ r. Spells bytes.now r) }
+    ensures only { (p : Parts) → Spells bytes.now p → IsUnless (errors.Path OutOfMemory) result (Ok p) }
+    ensures fault { (e : URIReferenceError) → fault bytes.now ≡ Some e → result ≡ Err e }
 {
     URIReference::try_from_bytes(alloc, bytes)
 }
 
-/// Makes a reference of its parts.
-pub fn from_parts<'r>(
-    scheme: Option<Scheme<'r>>,
-    authority: Option<Authority<'r>>,
-    path: Path<'r>,
-    query: Option<Query<'r>>,
-    fragment: Option<Fragment<'r>>,
-) -> Result<URIReference<'r>, URIReferenceError>
-    ensures { result ≡ of_parts (record { scheme = scheme.entry; authority = authority.entry; path = path.entry; query = query.entry; fragment = fragment.entry }) }
-{
-    URIReference::from_parts(scheme, authority, path, query, fragment)
-}
-
-/// Sets a reference's authority, or takes it away.
+/// Sets a reference's authority, or removes it.
 pub fn set_authority<'r>(
     reference: &mut URIReference<'r>,
     authority: Option<Authority<'r>>,
 ) -> Result<(), URIReferenceError>
     ensures { Settles reference.old reference.new result (edited reference.old (edits.Authority authority.entry)) }
 {
-    match reference.set_authority(authority) {
-        Ok(()) => Ok(()),
-        Err(refusal) => Err(refusal),
-    }
+    reference.set_authority(authority)
 }
 
-/// Makes the edits up to the first refused one, which is told by its index.
+/// Sets a reference's query, or removes it.
+pub fn set_query<'r>(
+    reference: &mut URIReference<'r>,
+    query: Option<Query<'r>>,
+) -> Result<(), URIReferenceError>
+    ensures { Settles reference.old reference.new result (edited reference.old (edits.Query query.entry)) }
+{
+    reference.set_query(query)
+}
+
+/// Makes the edits up to the first that is rejected, and returns its index.
 pub fn apply_all<'r>(
     alloc: Global,
     reference: &mut URIReference<'r>,
@@ -71,20 +72,36 @@ pub fn apply_all<'r>(
 ) -> Result<(), (usize, URIReferenceError)>
     ensures { MatchResult result (λ _. Run reference.old edits.entry.items (length edits.entry.items) reference.new None) (λ e. Run reference.old edits.entry.items e.0 reference.new (Some e.1)) }
 {
-    match reference.apply_all(alloc, edits) {
-        Ok(()) => Ok(()),
-        Err((index, refusal)) => Err((index, refusal)),
-    }
+    reference.apply_all(alloc, edits)
 }
 
-/// Brings a reference into its normal form.
+/// Brings a reference into its normal form, or leaves it as it was.
 pub fn normalize(alloc: Global, reference: &mut URIReference<'_>) -> Result<(), AllocError>
-    ensures { OnOk result (reference.new ≡ normal reference.old) }
+    ensures ok { OnOk result (reference.new ≡ normal reference.old) }
+    ensures err { OnErr result (reference.new ≡ reference.old) }
 {
     reference.normalize(alloc)
 }
 
-/// Whether a segment is `..`, where each dot may be escaped.
+/// Whether a reference prints as its normal form does.
+pub fn is_normalized(reference: &URIReference<'_>) -> bool
+    ensures { IsTrue result ↔ (print (normal reference.now) ≡ print reference.now) }
+{
+    reference.is_normalized()
+}
+
+/// Sets a reference's path, and tells whether the reference prints as its normal form does then.
+pub fn set_path_and_test<'r>(
+    reference: &mut URIReference<'r>,
+    path: Path<'r>,
+) -> Result<bool, URIReferenceError>
+    ensures { IfOk result (λ r. IsTrue r ↔ (print (normal reference.new) ≡ print reference.new)) }
+{
+    reference.set_path(path)?;
+    Ok(reference.is_normalized())
+}
+
+/// Whether a segment is `..`, where each dot may be percent-encoded.
 pub fn is_double_dot(segment: &Segment<'_>) -> bool
     ensures { result ≡ dots.is_double_dot segment.now }
 {

@@ -7,7 +7,10 @@ ghost use Rattle.std.specs.Fmt.{DisplaysOnOk};
 ghost use Rattle.uriparse_text.specs.declared.parts.canonical.Case.TheVariants as case;
 ghost use Rattle.uriparse_text.specs.Address.{ipv4_reading, ipv6_text};
 ghost use Rattle.uriparse_text.specs.Canonical.{SpellsAlike, canonical, fed_text};
+ghost use Rattle.uriparse_text.specs.Coding.{decoded, encoded};
+ghost use Rattle.uriparse_text.specs.declared.parts.class.Class.TheVariants as class;
 
+use std::alloc::{AllocError, Global};
 use std::fmt;
 use std::hash::{Hash, Hasher};
 use uriparse_text::address::{Ipv4Addr, Ipv6Addr};
@@ -53,4 +56,19 @@ pub fn write_address<W: fmt::Write>(address: &Ipv6Addr, f: &mut fmt::Formatter<W
     ensures { DisplaysOnOk W.write_str_gives f.old result (Some (ipv6_text address.now)) f.new }
 {
     fmt::Display::fmt(address, f)
+}
+
+/// The query that stands for these bytes.
+pub fn encode(alloc: Global, bytes: &[u8]) -> Result<Query<'static>, AllocError>
+    ensures text { IfOk result (λ q. q ≡ encoded class.Query bytes.now) }
+    ensures back { IfOk result (λ q. decoded q ≡ bytes.now) }
+{
+    Query::encode(alloc, bytes)
+}
+
+/// The bytes that a query stands for.
+pub fn decode(alloc: Global, query: &Query<'_>) -> Result<Vec<u8>, AllocError>
+    ensures { IfOk result (λ v. v.items ≡ decoded query.now) }
+{
+    query.decode(alloc)
 }

@@ -53,6 +53,5 @@ pub fn resolve<'a>(
 ) -> Result<URI<'a>, URIError>
     ensures { MatchOption (target base.now reference.now) (result ≡ Err (errors.Path paths.ExceededMaximumLength)) (λ t. IsUnless (errors.Path paths.OutOfMemory) result (Ok t)) }
 {
-    let target = base.resolve(alloc, reference)?;
-    Ok(target)
+    base.resolve(alloc, reference)
 }
