@@ -3,7 +3,7 @@
 
 use std::process::ExitCode;
 use std::{env, io};
-pub use uri_commands::{refuse_arguments, run};
+pub use uri_commands::{refuse_arguments, run, run_with_input};
 
 fn main(rt: HostRuntime) -> io::Result<ExitCode> {
     let found = match env::args(&rt) {
@@ -21,7 +21,13 @@ fn main(rt: HostRuntime) -> io::Result<ExitCode> {
     for arg in &args {
         words.push(arg.as_str())?;
     }
-    let status = run(rt.alloc(), &words, &mut rt.stdout(), &mut rt.stderr());
+    let status = run_with_input(
+        rt.alloc(),
+        &words,
+        &mut rt.stdin(),
+        &mut rt.stdout(),
+        &mut rt.stderr(),
+    );
     Ok(ExitCode::from(status))
 }
 

@@ -122,5 +122,5 @@ fn print_changed<'w, O: Write>(
     out: &mut O,
 ) -> Result<(), Failure> {
     make_changes(alloc, reference, changes)?;
-    print_line(reference, out).map_err(Failure::Write)
+    print_line(reference, out).map_err(Failure::Io)
 }

@@ -8,8 +8,13 @@ use std::io::Write;
 use uriparse::URIReference;
 
 /// Prints whether the references are equal.
-pub fn equal<O: Write>(alloc: Global, left: &str, right: &str, out: &mut O) -> Result<(), Failure> {
-    let left = URIReference::try_from_str(alloc, left)?;
+pub fn equal<O: Write>(
+    alloc: Global,
+    left: &[u8],
+    right: &[u8],
+    out: &mut O,
+) -> Result<(), Failure> {
+    let left = URIReference::try_from_bytes(alloc, left)?;
     compare(alloc, &left, right, out)
 }
 
@@ -17,11 +22,11 @@ pub fn equal<O: Write>(alloc: Global, left: &str, right: &str, out: &mut O) -> R
 fn compare<O: Write>(
     alloc: Global,
     left: &URIReference<'_>,
-    right: &str,
+    right: &[u8],
     out: &mut O,
 ) -> Result<(), Failure> {
-    let right = URIReference::try_from_str(alloc, right)?;
-    print_answer(left, &right, out).map_err(Failure::Write)
+    let right = URIReference::try_from_bytes(alloc, right)?;
+    print_answer(left, &right, out).map_err(Failure::Io)
 }
 
 /// Prints whether the references are equal.

@@ -3,9 +3,9 @@
 use std::alloc::{AllocError, AllocFailed};
 use std::io;
 use thiserror::Error;
-use uriparse::{URIError, URIReferenceError};
+use uriparse::{PathError, QueryError, URIError, URIReferenceError};
 
-/// Why a command printed nothing, or not all.
+/// Why a command printed nothing, or not all of its output.
 #[derive(Debug, Drop, Error)]
 pub enum Failure {
     /// No such command or edit, or a wrong number of words.
@@ -14,26 +14,32 @@ pub enum Failure {
     /// A text that is no reference, or no part of one.
     #[error(transparent)]
     Reference(#[from] URIReferenceError),
-    /// A base that is no URI, or that the reference has no target behind.
+    /// A text that is no URI, or a reference that has no target against its base.
     #[error(transparent)]
     Uri(#[from] URIError),
-    /// An edit that was refused, by its index.
+    /// A rejected edit, by its index.
     #[error("edit {index}: {refusal}")]
     Edit {
         index: usize,
         refusal: URIReferenceError,
     },
-    /// A part that the reference doesn't have. Nothing is said of it.
+    /// A text that is no query.
+    #[error(transparent)]
+    Query(#[from] QueryError),
+    /// A line that should hold two texts.
+    #[error("no tab between two texts")]
+    NoTab,
+    /// A part that the reference doesn't have. The status alone reports it.
     #[error("absent")]
     Absent,
-    /// References that aren't equal, where the status alone tells it.
+    /// References that differ, when the status alone reports it.
     #[error("different")]
     Different,
     #[error("out of memory")]
     Memory(#[from] AllocError),
-    /// A write that failed.
+    /// A read or a write that failed.
     #[error(transparent)]
-    Write(#[from] io::Error),
+    Io(#[from] io::Error),
 }
 
 impl<T: Drop> From<AllocFailed<T>> for Failure {
@@ -43,12 +49,23 @@ impl<T: Drop> From<AllocFailed<T>> for Failure {
 }
 
 impl Failure {
-    /// The status that the program ends with.
+    /// The exit status of the program.
     pub fn status(&self) -> u8 {
         match self {
             Failure::Usage => 2,
             Failure::Absent | Failure::Different => 3,
             _ => 1,
         }
+    }
+
+    /// Whether it ends the work on many lines: memory ran out, or a read or a write failed.
+    pub fn ends_work(&self) -> bool {
+        matches!(
+            self,
+            Failure::Memory(_)
+                | Failure::Io(_)
+                | Failure::Reference(URIReferenceError::Path(PathError::OutOfMemory))
+                | Failure::Uri(URIError::Path(PathError::OutOfMemory))
+        )
     }
 }

@@ -8,9 +8,9 @@ use std::io;
 use std::io::Write;
 use uriparse::URIReference;
 
-/// A part of a reference that can be asked for.
+/// A part of a reference that can be printed alone.
 #[derive(Clone, Copy)]
-enum Part {
+pub enum Part {
     Scheme,
     Authority,
     Username,
@@ -24,7 +24,7 @@ enum Part {
 }
 
 /// The part of this name.
-fn read_part(name: &str) -> Result<Part, Failure> {
+pub fn read_part(name: &str) -> Result<Part, Failure> {
     match name {
         "scheme" => Ok(Part::Scheme),
         "authority" => Ok(Part::Authority),
@@ -40,24 +40,29 @@ fn read_part(name: &str) -> Result<Part, Failure> {
     }
 }
 
-/// Prints the part of this name, or fails with `Failure::Absent` where the reference has none. The
-/// name is looked at before the text is read.
-pub fn get<O: Write>(alloc: Global, name: &str, text: &str, out: &mut O) -> Result<(), Failure> {
+/// Prints the part of this name, or fails with `Failure::Absent` if the reference has no such part.
+/// The name is read before the text.
+pub fn get<O: Write>(alloc: Global, name: &str, text: &[u8], out: &mut O) -> Result<(), Failure> {
     let part = read_part(name)?;
     get_part(alloc, part, text, out)
 }
 
-/// Reads the text, and prints the part.
-fn get_part<O: Write>(alloc: Global, part: Part, text: &str, out: &mut O) -> Result<(), Failure> {
-    let reference = URIReference::try_from_str(alloc, text)?;
+/// Reads the text, and prints the part, or fails with `Failure::Absent`.
+pub fn get_part<O: Write>(
+    alloc: Global,
+    part: Part,
+    text: &[u8],
+    out: &mut O,
+) -> Result<(), Failure> {
+    let reference = URIReference::try_from_bytes(alloc, text)?;
     match print_part_of(&reference, part, out) {
         Ok(true) => Ok(()),
         Ok(false) => Err(Failure::Absent),
-        Err(error) => Err(Failure::Write(error)),
+        Err(error) => Err(Failure::Io(error)),
     }
 }
 
-/// Prints the part, and answers whether there is one.
+/// Prints the part, and returns whether there is one.
 fn print_part_of<O: Write>(
     reference: &URIReference<'_>,
     part: Part,
@@ -77,7 +82,7 @@ fn print_part_of<O: Write>(
     }
 }
 
-/// Prints the value if there is one, and answers whether there is.
+/// Prints the value if it is present, and returns whether it is.
 fn print_present<T: Display, O: Write>(value: Option<&T>, out: &mut O) -> io::Result<bool> {
     match value {
         Some(value) => {
@@ -88,8 +93,8 @@ fn print_present<T: Display, O: Write>(value: Option<&T>, out: &mut O) -> io::Re
     }
 }
 
-/// Prints scheme, host and port, if there are scheme and host, and answers whether there are. The
-/// port stands as in the text: the one that a scheme implies isn't put in or left out.
+/// Prints scheme, host and port if scheme and host are present, and returns whether they are. The
+/// port is that of the text: one that the scheme implies is neither added nor removed.
 fn print_origin<O: Write>(reference: &URIReference<'_>, out: &mut O) -> io::Result<bool> {
     let (Some(scheme), Some(host)) = (reference.scheme(), reference.host()) else {
         return Ok(false);

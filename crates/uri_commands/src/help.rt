@@ -1,9 +1,11 @@
-//! `uri help`: what commands there are.
+//! `uri help` and `uri --version`: the commands, one of them, and the version.
 
+use crate::failure::Failure;
+use crate::pages::page;
 use std::io;
 use std::io::Write;
 
-/// A line for each command: its words, and what it prints.
+/// The words of each command, and what it prints.
 const COMMANDS: &str = "\
 uri parse TEXT        the reference, and then each of its parts
 uri tail TEXT         path, query and fragment of a text, and each of them
@@ -11,14 +13,24 @@ uri get PART TEXT     that part alone: scheme, authority, username, password,
                       host, port, path, query, fragment or origin
 uri normalize TEXT    the reference's normal form
 uri equal A B         `equal` or `different`
-uri resolve BASE REF  the target of the reference behind the base, a URI
+uri resolve BASE REF  the target of the reference against the base, a URI
+uri relativize BASE URI
+                      the reference that leads from the base to the URI
+uri decode TEXT       the bytes that a query or a segment stands for
+uri encode KIND TEXT  the text as a segment, query, fragment, username or
+                      password
 uri edit TEXT EDIT..  the reference with all edits made, from the left;
                       an edit is scheme V, authority V, path V, query V,
                       fragment V, drop-scheme, drop-authority, drop-query,
                       drop-fragment or normalize
 uri help              these lines
+uri help COMMAND      more on a command or on an option, with an example
+uri --json parse TEXT the reference as a JSON object
 uri --quiet parse TEXT, uri --quiet equal A B
                       nothing but the status
+uri --lines parse, uri --lines normalize, uri --lines resolve BASE,
+uri --lines get PART, uri --lines equal
+                      the same for each line of the standard input
 uri --version         the version
 ";
 
@@ -36,4 +48,10 @@ pub fn version<O: Write>(out: &mut O) -> io::Result<()> {
 /// Prints the commands.
 pub fn help<O: Write>(out: &mut O) -> io::Result<()> {
     write!(out, "{COMMANDS}")
+}
+
+/// Prints the page on the command or the option of this name.
+pub fn help_on<O: Write>(name: &str, out: &mut O) -> Result<(), Failure> {
+    let page = page(name).ok_or(Failure::Usage)?;
+    write!(out, "{page}").map_err(Failure::Io)
 }

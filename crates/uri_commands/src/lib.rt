@@ -6,54 +6,84 @@
 
 ghost use Rattle.std.specs.Prelude.{◌≡◌};
 
+mod coding;
 mod edit;
 mod equal;
 mod failure;
 mod get;
 mod help;
+mod json;
+mod lines;
 mod normalize;
+mod options;
+mod pages;
 mod parse;
 mod print;
 mod quiet;
+mod relativize;
 mod resolve;
 mod tail;
 
+use coding::{decode, encode};
 use edit::edit;
 use equal::equal;
 use failure::Failure;
 use get::get;
-use help::{help, version};
+use help::{help, help_on, version};
+use json::parse_json;
+use lines::lines;
 use normalize::normalize;
+use options::{Options, split_options};
 use parse::parse;
 use quiet::quiet;
+use relativize::relativize;
 use resolve::resolve;
 use std::alloc::Global;
 use std::io;
-use std::io::Write;
+use std::io::{Read, Write};
 use tail::tail;
 
-/// Runs the command of these words, which come after the program's name, and answers the status:
-/// 0; 1 after a refusal, whose text is then one line of `err`; 2 where no command has these words;
-/// 3 where `get` finds no such part, or `--quiet equal` two texts that aren't equal, of which nothing
-/// is said. After `--quiet` nothing is printed at all, but for the line of status 2.
-///
-/// Nothing is written to `out` before all of the command's texts were read.
+/// Runs the command of these words, which follow the program's name, with an empty input, as
+/// [`run_with_input`] does.
 pub fn run<O: Write, E: Write>(alloc: Global, words: &[&str], out: &mut O, err: &mut E) -> u8 {
-    match words {
-        ["--quiet", rest @ ..] => status_of(true, quiet(alloc, rest), err),
-        _ => status_of(false, command(alloc, words, out), err),
-    }
+    run_with_input(alloc, words, &mut io::empty(), out, err)
 }
 
-/// The status of an answer, of whose failure a line is written to `err`: none of status 3, and where
-/// it is to be quiet that of wrong words alone.
-fn status_of<E: Write>(is_quiet: bool, answer: Result<(), Failure>, err: &mut E) -> u8 {
+/// Runs the command of these words, which follow the program's name, and returns the exit status:
+///
+/// - 0 on success;
+/// - 1 if a text is rejected, memory runs out, or a read or a write fails: `err` gets a line that says
+///   why, or one for each rejected line of the input;
+/// - 2 if no command has these words: `err` gets a line on the usage;
+/// - 3 if `get` finds no such part, or `--quiet equal` two references that differ. Nothing is written.
+///
+/// With `--quiet` nothing is written about rejected texts. Only `--lines` reads the input. Without it
+/// nothing is written to `out` before all texts of the command are read.
+pub fn run_with_input<I: Read, O: Write, E: Write>(
+    alloc: Global,
+    words: &[&str],
+    input: &mut I,
+    out: &mut O,
+    err: &mut E,
+) -> u8 {
+    let (options, words) = split_options(words);
+    if options.reads_lines {
+        let result = lines(alloc, options, words, input, out, err);
+        return status_of(false, result, err);
+    }
+    let result = command(alloc, options, words, out);
+    status_of(options.is_quiet, result.map(|()| 0), err)
+}
+
+/// The status of a command's result. A failure is reported in a line of `err`, but not if its status is 3, and
+/// if its status is 1 not with `--quiet`.
+fn status_of<E: Write>(is_quiet: bool, answer: Result<u8, Failure>, err: &mut E) -> u8 {
     match answer {
-        Ok(()) => 0,
+        Ok(status) => status,
         Err(failure) => {
             let status = failure.status();
             if status == 2 || (status == 1 && !is_quiet) {
-                // The status tells of a failure that can't be written either.
+                // The status reports a failure that can't be written either.
                 let _ = writeln!(err, "{failure}");
             }
             status
@@ -61,12 +91,12 @@ fn status_of<E: Write>(is_quiet: bool, answer: Result<(), Failure>, err: &mut E)
     }
 }
 
-/// Says why the program's arguments can't be had, in a line of `err`, and answers the status, 1.
+/// Reports on a line of `err` why the program's arguments can't be read, and returns the status, 1.
 /// Each has to be UTF-8.
 pub fn refuse_arguments<E: Write>(error: &io::Error, err: &mut E) -> u8
     ensures { result ≡ 1 }
 {
-    // The status tells of a failure that can't be written either.
+    // The status reports a failure that can't be written either.
     let _ = match error.kind() {
         io::ErrorKind::InvalidData => writeln!(err, "an argument is not UTF-8 text"),
         _ => writeln!(err, "{error}"),
@@ -74,17 +104,44 @@ pub fn refuse_arguments<E: Write>(error: &io::Error, err: &mut E) -> u8
     1
 }
 
-fn command<O: Write>(alloc: Global, words: &[&str], out: &mut O) -> Result<(), Failure> {
+/// Runs the command of these words, with its options.
+fn command<O: Write>(
+    alloc: Global,
+    options: Options,
+    words: &[&str],
+    out: &mut O,
+) -> Result<(), Failure> {
+    match (options.is_quiet, options.is_json, words) {
+        (false, false, _) => plain_command(alloc, words, out),
+        (true, false, _) => quiet(alloc, words),
+        (false, true, ["parse", text]) => parse_json(alloc, text.as_bytes(), out),
+        _ => Err(Failure::Usage),
+    }
+}
+
+/// Runs the command of these words, without options.
+fn plain_command<O: Write>(alloc: Global, words: &[&str], out: &mut O) -> Result<(), Failure> {
     match words {
-        ["help" | "--help"] => help(out).map_err(Failure::Write),
-        ["--version"] => version(out).map_err(Failure::Write),
+        ["help" | "--help"] => help(out).map_err(Failure::Io),
+        ["help", name] => help_on(name, out),
+        ["--version"] => version(out).map_err(Failure::Io),
+        ["edit", text, edits @ ..] => edit(alloc, text, edits, out),
         ["parse", text] => parse(alloc, text, out),
         ["tail", text] => tail(alloc, text, out),
-        ["get", part, text] => get(alloc, part, text, out),
-        ["normalize", text] => normalize(alloc, text, out),
-        ["equal", left, right] => equal(alloc, left, right, out),
-        ["resolve", base, reference] => resolve(alloc, base, reference, out),
-        ["edit", text, edits @ ..] => edit(alloc, text, edits, out),
+        _ => byte_command(alloc, words, out),
+    }
+}
+
+/// Runs a command whose texts are read as bytes.
+fn byte_command<O: Write>(alloc: Global, words: &[&str], out: &mut O) -> Result<(), Failure> {
+    match words {
+        ["get", part, text] => get(alloc, part, text.as_bytes(), out),
+        ["normalize", text] => normalize(alloc, text.as_bytes(), out),
+        ["decode", text] => decode(alloc, text.as_bytes(), out),
+        ["encode", kind, text] => encode(alloc, kind, text.as_bytes(), out),
+        ["equal", a, b] => equal(alloc, a.as_bytes(), b.as_bytes(), out),
+        ["resolve", base, text] => resolve(alloc, base.as_bytes(), text.as_bytes(), out),
+        ["relativize", base, text] => relativize(alloc, base.as_bytes(), text.as_bytes(), out),
         _ => Err(Failure::Usage),
     }
 }

@@ -7,8 +7,8 @@ use std::io::Write;
 use uriparse::URIReference;
 
 /// Prints the reference's normal form.
-pub fn normalize<O: Write>(alloc: Global, text: &str, out: &mut O) -> Result<(), Failure> {
-    let mut reference = URIReference::try_from_str(alloc, text)?;
+pub fn normalize<O: Write>(alloc: Global, text: &[u8], out: &mut O) -> Result<(), Failure> {
+    let mut reference = URIReference::try_from_bytes(alloc, text)?;
     print_normal(alloc, &mut reference, out)
 }
 
@@ -19,5 +19,5 @@ fn print_normal<O: Write>(
     out: &mut O,
 ) -> Result<(), Failure> {
     reference.normalize(alloc)?;
-    print_line(reference, out).map_err(Failure::Write)
+    print_line(reference, out).map_err(Failure::Io)
 }

@@ -10,7 +10,7 @@ use uriparse::{Authority, Host, URIReference};
 /// Prints the reference, its path, and its other parts where it has them, a line each.
 pub fn parse<O: Write>(alloc: Global, text: &str, out: &mut O) -> Result<(), Failure> {
     let reference = URIReference::try_from_str(alloc, text)?;
-    print_reference(&reference, out).map_err(Failure::Write)
+    print_reference(&reference, out).map_err(Failure::Io)
 }
 
 /// Prints the reference and its parts.

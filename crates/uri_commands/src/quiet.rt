@@ -4,26 +4,26 @@ use crate::failure::Failure;
 use std::alloc::Global;
 use uriparse::URIReference;
 
-/// What the status tells of words whose command prints nothing: `Failure::Different` where two
-/// references aren't equal, and else why a text was refused.
+/// Runs a command that prints nothing. The status reports `Failure::Different` if two references
+/// differ, and any other failure if a text is rejected.
 pub fn quiet(alloc: Global, words: &[&str]) -> Result<(), Failure> {
     match words {
-        ["parse", text] => parse(alloc, text),
-        ["equal", left, right] => equal(alloc, left, right),
+        ["parse", text] => check(text.as_bytes()),
+        ["equal", left, right] => check_equal(alloc, left.as_bytes(), right.as_bytes()),
         _ => Err(Failure::Usage),
     }
 }
 
-/// Reads a text.
-fn parse(alloc: Global, text: &str) -> Result<(), Failure> {
-    URIReference::try_from_str(alloc, text)?;
+/// Checks whether the text is a reference. Does not allocate.
+pub fn check(text: &[u8]) -> Result<(), Failure> {
+    URIReference::check(text)?;
     Ok(())
 }
 
 /// Reads two texts and compares them.
-fn equal(alloc: Global, left: &str, right: &str) -> Result<(), Failure> {
-    let left = URIReference::try_from_str(alloc, left)?;
-    let right = URIReference::try_from_str(alloc, right)?;
+pub fn check_equal(alloc: Global, left: &[u8], right: &[u8]) -> Result<(), Failure> {
+    let left = URIReference::try_from_bytes(alloc, left)?;
+    let right = URIReference::try_from_bytes(alloc, right)?;
     if left == right {
         Ok(())
     } else {

@@ -1,4 +1,4 @@
-//! `uri resolve BASE REF`: the target of a reference behind a base.
+//! `uri resolve BASE REF`: the target of a reference against a base.
 
 use crate::failure::Failure;
 use crate::print::print_line;
@@ -6,29 +6,29 @@ use std::alloc::Global;
 use std::io::Write;
 use uriparse::{URI, URIReference};
 
-/// Prints the target of the reference behind the base, which is read first.
+/// Prints the target of the reference against the base, which is read first.
 pub fn resolve<O: Write>(
     alloc: Global,
-    base: &str,
-    reference: &str,
+    base: &[u8],
+    reference: &[u8],
     out: &mut O,
 ) -> Result<(), Failure> {
-    let base = URI::try_from_str(alloc, base)?;
-    read_behind(alloc, &base, reference, out)
+    let base = URI::try_from_bytes(alloc, base)?;
+    resolve_against(alloc, &base, reference, out)
 }
 
-/// Reads the reference, and prints its target behind the base.
-fn read_behind<O: Write>(
+/// Reads the reference, and prints its target against the base.
+pub fn resolve_against<O: Write>(
     alloc: Global,
     base: &URI<'_>,
-    reference: &str,
+    reference: &[u8],
     out: &mut O,
 ) -> Result<(), Failure> {
-    let reference = URIReference::try_from_str(alloc, reference)?;
+    let reference = URIReference::try_from_bytes(alloc, reference)?;
     print_target(alloc, base, &reference, out)
 }
 
-/// Prints the target of the reference behind the base.
+/// Prints the target of the reference against the base.
 fn print_target<O: Write>(
     alloc: Global,
     base: &URI<'_>,
@@ -36,5 +36,5 @@ fn print_target<O: Write>(
     out: &mut O,
 ) -> Result<(), Failure> {
     let target = base.resolve(alloc, reference)?;
-    print_line(&target, out).map_err(Failure::Write)
+    print_line(&target, out).map_err(Failure::Io)
 }

@@ -31,7 +31,7 @@ fn read_tail(alloc: Global, text: &str) -> Result<Tail<'_>, URIReferenceError> {
 /// Prints the text, its path, and its query and its fragment where it has them, a line each.
 pub fn tail<O: Write>(alloc: Global, text: &str, out: &mut O) -> Result<(), Failure> {
     let tail = read_tail(alloc, text)?;
-    print_tail(text, &tail, out).map_err(Failure::Write)
+    print_tail(text, &tail, out).map_err(Failure::Io)
 }
 
 /// Prints the text and its parts.

@@ -1,0 +1,161 @@
+//! `uri --json parse TEXT`: a reference as a JSON object, on a line of its own.
+//!
+//! The object is written by hand. Its members always stand in the same order, without spaces:
+//!
+//! ```text
+//! object   = {"text":string,"scheme":value,"username":value,"password":value,"host":value,
+//!             "host_kind":kind,"port":port,"path":string,"query":value,"fragment":value,
+//!             "segments":[string,..]}
+//! value    = string or null
+//! kind     = "ipv4" or "ipv6" or "ipvfuture" or "name" or null
+//! port     = a number from 0 to 65535, or null
+//! ```
+
+use crate::failure::Failure;
+use std::alloc::Global;
+use std::fmt::Display;
+use std::io;
+use std::io::Write;
+use uriparse::{Host, Segment, URIReference};
+
+/// A writer of what stands between the quotes of a JSON string: it writes a `\` before each `"` and
+/// each `\`. A reference is ASCII text without control characters, and JSON escapes nothing else.
+#[derive(Drop)]
+struct Escaping<'o, O> {
+    out: &'o mut O,
+}
+
+impl<'o, O: Write> Write for Escaping<'o, O> {
+    fn write(&mut self, buf: &[u8]) -> io::Result<usize> {
+        write_escaped(buf, self.out)?;
+        Ok(buf.len())
+    }
+
+    fn flush(&mut self) -> io::Result<()> {
+        self.out.flush()
+    }
+}
+
+/// Whether a JSON string has this byte only behind a `\`.
+fn is_special(b: u8) -> bool {
+    matches!(b, b'"' | b'\\')
+}
+
+/// Writes a `\` before each special byte. A text without one, as each text of a reference is, is
+/// written in one piece.
+fn write_escaped<O: Write>(text: &[u8], out: &mut O) -> io::Result<()> {
+    if !text.iter().any(|b| is_special(*b)) {
+        return out.write_all(text);
+    }
+    for b in text {
+        write_byte(*b, out)?;
+    }
+    Ok(())
+}
+
+/// Writes the byte, behind a `\` if it is special.
+fn write_byte<O: Write>(b: u8, out: &mut O) -> io::Result<()> {
+    if is_special(b) {
+        out.write_all(b"\\")?;
+    }
+    out.write_all(&[b])
+}
+
+/// Writes the value's text as a JSON string.
+fn write_string<T: Display, O: Write>(value: &T, out: &mut O) -> io::Result<()> {
+    out.write_all(b"\"")?;
+    write!(Escaping { out: &mut *out }, "{value}")?;
+    out.write_all(b"\"")
+}
+
+/// Writes the member of this name, which isn't the first, as a string, or as `null` if the value is
+/// absent.
+fn write_member<T: Display, O: Write>(
+    name: &str,
+    value: Option<&T>,
+    out: &mut O,
+) -> io::Result<()> {
+    write!(out, ",\"{name}\":")?;
+    match value {
+        Some(value) => write_string(value, out),
+        None => out.write_all(b"null"),
+    }
+}
+
+/// Writes the member `text`, the first.
+fn write_text<O: Write>(text: &[u8], out: &mut O) -> io::Result<()> {
+    out.write_all(b"{\"text\":\"")?;
+    write_escaped(text, out)?;
+    out.write_all(b"\"")
+}
+
+/// What the object calls a host of this kind.
+fn host_kind(host: &Host<'_>) -> &'static str {
+    match host {
+        Host::IPv4Address(_) => "ipv4",
+        Host::IPv6Address(_) => "ipv6",
+        Host::IPvFuture(_) => "ipvfuture",
+        Host::RegisteredName(_) => "name",
+    }
+}
+
+/// Writes the members `host`, with the brackets that it has in the text, and `host_kind`.
+fn write_host<O: Write>(host: Option<&Host<'_>>, out: &mut O) -> io::Result<()> {
+    write_member("host", host, out)?;
+    write_member("host_kind", host.map(host_kind).as_ref(), out)
+}
+
+/// Writes the member `port`, a number.
+fn write_port<O: Write>(port: Option<u16>, out: &mut O) -> io::Result<()> {
+    match port {
+        Some(port) => write!(out, ",\"port\":{port}"),
+        None => out.write_all(b",\"port\":null"),
+    }
+}
+
+/// Writes the member `segments`, a list.
+fn write_segments<O: Write>(segments: &[Segment<'_>], out: &mut O) -> io::Result<()> {
+    out.write_all(b",\"segments\":[")?;
+    for (at, segment) in segments.iter().enumerate() {
+        if at > 0 {
+            out.write_all(b",")?;
+        }
+        write_string(&segment.as_str(), out)?;
+    }
+    out.write_all(b"]")
+}
+
+/// Writes the members of the scheme and the authority.
+fn write_front<O: Write>(reference: &URIReference<'_>, out: &mut O) -> io::Result<()> {
+    write_member("scheme", reference.scheme(), out)?;
+    write_member("username", reference.username(), out)?;
+    write_member("password", reference.password(), out)?;
+    write_host(reference.host(), out)?;
+    write_port(reference.port(), out)
+}
+
+/// Writes the members of the path, the query and the fragment.
+fn write_back<O: Write>(reference: &URIReference<'_>, out: &mut O) -> io::Result<()> {
+    write_member("path", Some(reference.path()), out)?;
+    write_member("query", reference.query(), out)?;
+    write_member("fragment", reference.fragment(), out)?;
+    write_segments(reference.path().segments(), out)
+}
+
+/// Writes the object, and a newline.
+fn write_object<O: Write>(
+    text: &[u8],
+    reference: &URIReference<'_>,
+    out: &mut O,
+) -> io::Result<()> {
+    write_text(text, out)?;
+    write_front(reference, out)?;
+    write_back(reference, out)?;
+    out.write_all(b"}\n")
+}
+
+/// Prints the reference that the text spells as a JSON object, with the text as it was given.
+pub fn parse_json<O: Write>(alloc: Global, text: &[u8], out: &mut O) -> Result<(), Failure> {
+    let reference = URIReference::try_from_bytes(alloc, text)?;
+    write_object(text, &reference, out).map_err(Failure::Io)
+}

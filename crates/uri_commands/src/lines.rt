@@ -1,0 +1,231 @@
+//! `uri --lines COMMAND`: a command for each line of the standard input.
+
+use crate::equal::equal;
+use crate::failure::Failure;
+use crate::get::{Part, get_part, read_part};
+use crate::json::parse_json;
+use crate::normalize::normalize;
+use crate::options::Options;
+use crate::quiet::{check, check_equal};
+use crate::resolve::resolve_against;
+use std::alloc::Global;
+use std::io;
+use std::io::{BufRead, BufReader, BufWriter, Read, Write};
+use uriparse::URI;
+
+/// How many bytes each of the three buffers has.
+const CAPACITY: usize = 65_536;
+
+/// What is done with each line.
+#[derive(Drop)]
+enum Task<'w> {
+    /// Print the reference as a JSON object.
+    Parse,
+    /// Print the reference's normal form.
+    Normalize,
+    /// Print the target of the reference against this base.
+    Resolve(URI<'w>),
+    /// Print this part of the reference, or an empty line if it is absent.
+    Get(Part),
+    /// Print whether the line's two references are equal.
+    Equal,
+    /// Check the reference.
+    Check,
+    /// Check that the line's two references are equal.
+    CheckEqual,
+}
+
+impl<'w> Task<'w> {
+    /// Whether the task prints nothing.
+    fn is_quiet(&self) -> bool {
+        matches!(self, Task::Check | Task::CheckEqual)
+    }
+}
+
+/// Reads a task from the words of the command. A base is read here, before any line.
+fn read_task<'w>(alloc: Global, options: Options, words: &[&'w str]) -> Result<Task<'w>, Failure> {
+    match (options.is_quiet, options.is_json, words) {
+        (false, _, ["parse"]) => Ok(Task::Parse),
+        (true, false, ["parse"]) => Ok(Task::Check),
+        (true, false, ["equal"]) => Ok(Task::CheckEqual),
+        (false, false, ["equal"]) => Ok(Task::Equal),
+        (false, false, ["normalize"]) => Ok(Task::Normalize),
+        (false, false, ["get", part]) => Ok(Task::Get(read_part(part)?)),
+        (false, false, ["resolve", base]) => { Ok(Task::Resolve(URI::try_from_str(alloc, base)?)) }
+        _ => Err(Failure::Usage),
+    }
+}
+
+/// The two texts that the line's first tab separates.
+fn split_pair(line: &[u8]) -> Result<(&[u8], &[u8]), Failure> {
+    match line.iter().position(|b| *b == b'\t') {
+        Some(at) => Ok((&line[..at], &line[at + 1..])),
+        None => Err(Failure::NoTab),
+    }
+}
+
+/// Compares the line's two references, and prints the result.
+fn equal_pair<O: Write>(alloc: Global, line: &[u8], out: &mut O) -> Result<(), Failure> {
+    let (left, right) = split_pair(line)?;
+    equal(alloc, left, right, out)
+}
+
+/// Compares the line's two references.
+fn check_pair(alloc: Global, line: &[u8]) -> Result<(), Failure> {
+    let (left, right) = split_pair(line)?;
+    check_equal(alloc, left, right)
+}
+
+/// Prints the part of the reference, or an empty line if it is absent.
+fn get_or_empty<O: Write>(
+    alloc: Global,
+    part: Part,
+    line: &[u8],
+    out: &mut O,
+) -> Result<(), Failure> {
+    match get_part(alloc, part, line, out) {
+        Err(Failure::Absent) => out.write_all(b"\n").map_err(Failure::Io),
+        result => result,
+    }
+}
+
+/// Does the task for a line.
+fn run_task<O: Write>(
+    alloc: Global,
+    task: &Task<'_>,
+    line: &[u8],
+    out: &mut O,
+) -> Result<(), Failure> {
+    match task {
+        Task::Parse => parse_json(alloc, line, out),
+        Task::Normalize => normalize(alloc, line, out),
+        Task::Resolve(base) => resolve_against(alloc, base, line, out),
+        Task::Get(part) => get_or_empty(alloc, *part, line, out),
+        Task::Equal => equal_pair(alloc, line, out),
+        Task::Check => check(line),
+        Task::CheckEqual => check_pair(alloc, line),
+    }
+}
+
+/// What a line came to, the worst last.
+#[derive(Clone, Copy, PartialEq, Eq, PartialOrd, Ord)]
+enum Outcome {
+    Done,
+    /// Two references differ, which the status alone reports.
+    Different,
+    Rejected,
+}
+
+impl Outcome {
+    /// The status of work whose worst outcome this is.
+    fn status(self) -> u8 {
+        match self {
+            Outcome::Done => 0,
+            Outcome::Different => 3,
+            Outcome::Rejected => 1,
+        }
+    }
+}
+
+/// Reads the next line into the buffer, without its newline, and returns whether there was one. The
+/// last line may have no newline.
+fn read_line<I: BufRead>(input: &mut I, line: &mut Vec<u8>) -> io::Result<bool> {
+    line.clear();
+    if input.read_until(b'\n', line)? == 0 {
+        return Ok(false);
+    }
+    if line.last() == Some(&b'\n') {
+        line.pop();
+    }
+    Ok(true)
+}
+
+/// Reports a rejected line.
+fn report<E: Write>(number: u64, failure: &Failure, line: &[u8], err: &mut E) -> io::Result<()> {
+    write!(err, "line {number}: {failure}: ")?;
+    err.write_all(line)?;
+    err.write_all(b"\n")
+}
+
+/// Does the task for a line, and reports a rejection unless the task is quiet. A failure of memory or
+/// of a write is returned.
+fn do_line<O: Write, E: Write>(
+    alloc: Global,
+    task: &Task<'_>,
+    number: u64,
+    line: &[u8],
+    out: &mut O,
+    err: &mut E,
+) -> Result<Outcome, Failure> {
+    match run_task(alloc, task, line, out) {
+        Ok(()) => Ok(Outcome::Done),
+        Err(Failure::Different) => Ok(Outcome::Different),
+        Err(failure) if failure.ends_work() => Err(failure),
+        Err(failure) => {
+            if !task.is_quiet() {
+                // The status reports a rejection that can't be written either.
+                let _ = report(number, &failure, line, err);
+            }
+            Ok(Outcome::Rejected)
+        }
+    }
+}
+
+/// Does the task for each line, and returns the worst outcome.
+fn do_lines<I: BufRead, O: Write, E: Write>(
+    alloc: Global,
+    task: &Task<'_>,
+    input: &mut I,
+    out: &mut O,
+    err: &mut E,
+) -> Result<Outcome, Failure> {
+    let mut worst = Outcome::Done;
+    let mut line = Vec::new(alloc);
+    for number in 1..u64::MAX {
+        if !read_line(input, &mut line)? {
+            break;
+        }
+        let outcome = do_line(alloc, task, number, &line, out, err)?;
+        worst = worst.max(outcome);
+    }
+    Ok(worst)
+}
+
+/// Does the task for each line with buffered output, which is written even if the work ends early.
+fn do_buffered<I: BufRead, O: Write, E: Write>(
+    alloc: Global,
+    task: &Task<'_>,
+    input: &mut I,
+    out: &mut O,
+    err: &mut E,
+) -> Result<Outcome, Failure> {
+    let mut out = BufWriter::with_capacity(alloc, CAPACITY, out)?;
+    let mut err = BufWriter::with_capacity(alloc, CAPACITY, err)?;
+    let worst = do_lines(alloc, task, input, &mut out, &mut err);
+    let flushed = out.flush();
+    // The status reports rejections that can't be written either.
+    let _ = err.flush();
+    let worst = worst?;
+    flushed?;
+    Ok(worst)
+}
+
+/// Runs the command of these words for each line of the input, and returns the status: 0, 1 if a line
+/// was rejected, else 3 if a quiet comparison found different references.
+///
+/// Each line is one text, or two with a tab between them. Its bytes need not be UTF-8, and a `\r` is a
+/// byte like any other. A rejected line is reported on `err`, and the work goes on; it ends early only
+/// if memory runs out or a read or a write fails.
+pub fn lines<I: Read, O: Write, E: Write>(
+    alloc: Global,
+    options: Options,
+    words: &[&str],
+    input: &mut I,
+    out: &mut O,
+    err: &mut E,
+) -> Result<u8, Failure> {
+    let task = read_task(alloc, options, words)?;
+    let mut input = BufReader::with_capacity(alloc, CAPACITY, input)?;
+    let worst = do_buffered(alloc, &task, &mut input, out, err)?;
+    Ok(worst.status())
+}

@@ -1,0 +1,281 @@
+//! The pages of `uri help COMMAND`. Each ends with an example that a shell takes as it stands, and
+//! with what it prints.
+
+const PARSE: &str = "\
+uri parse TEXT
+uri --json parse TEXT
+uri --quiet parse TEXT
+uri --lines parse
+uri --lines --quiet parse
+
+Prints the reference, and on a line each its components as NAME=VALUE: scheme,
+username, password, host, port, path, query and fragment, if present. The name
+of a host says what it is: host.ipv4, host.ipv6, host.ipvfuture or host.name.
+For the options see uri help --json, uri help --quiet and uri help --lines.
+
+Exit status: 0 on success, 1 if a text is no reference, 2 on a usage error.
+
+Example:
+    uri parse 'HTTP://u@h:80/%7Eb?q#f'
+prints
+    http://u@h:80/%7Eb?q#f
+    scheme=http
+    username=u
+    host.name=h
+    port=80
+    path=/%7Eb
+    query=q
+    fragment=f
+";
+
+const TAIL: &str = "\
+uri tail TEXT
+
+Reads what follows an authority: a path, a query and a fragment. Prints the
+text, and on a line each its components as NAME=VALUE.
+
+Exit status: 0 on success, 1 if the text is rejected, 2 on a usage error.
+
+Example:
+    uri tail 'a/b?q#f'
+prints
+    a/b?q#f
+    path=a/b
+    query=q
+    fragment=f
+";
+
+const GET: &str = "\
+uri get PART TEXT
+uri --lines get PART
+
+Prints one part of the reference: scheme, authority, username, password, host,
+port, path, query, fragment or origin. The origin is scheme, host and port. An
+IPv6 address has its brackets. With --lines an absent part is an empty line,
+and the status is 0.
+
+Exit status: 0 on success, 1 if a text is no reference, 2 on a usage error,
+3 if the part is absent; nothing is printed then.
+
+Example:
+    uri get host 'http://example.com:8080/a?b&c#d'
+prints
+    example.com
+";
+
+const NORMALIZE: &str = "\
+uri normalize TEXT
+uri --lines normalize
+
+Prints the normal form of the reference. Scheme and host are in lower case, an
+escape stands only where it is needed and has upper-case digits, and dot
+segments are removed.
+
+Exit status: 0 on success, 1 if a text is no reference, 2 on a usage error.
+
+Example:
+    uri normalize 'HTTP://EXAMPLE.com/a/../%7Eb'
+prints
+    http://example.com/~b
+";
+
+const EQUAL: &str = "\
+uri equal A B
+uri --quiet equal A B
+uri --lines equal
+uri --lines --quiet equal
+
+Prints `equal` if the two references differ at most by case and by escapes that
+stand for the same, else `different`. Dot segments count: normalize first. With
+--quiet the status alone reports the result. With --lines a line has the two
+texts, separated by a tab.
+
+Exit status: 0 on success, 1 if a text is no reference, 2 on a usage error,
+3 with --quiet if two references differ.
+
+Example:
+    uri equal 'http://h/%7ea' 'HTTP://H/~a'
+prints
+    equal
+";
+
+const RESOLVE: &str = "\
+uri resolve BASE REF
+uri --lines resolve BASE
+
+Prints the target of the reference against the base, a URI: RFC 3986, section
+5.2.
+
+Exit status: 0 on success, 1 if the base is no URI, a text is no reference or
+the target's path is too long, 2 on a usage error.
+
+Example:
+    uri resolve 'http://a/b/c/d;p?q' '../g#s'
+prints
+    http://a/b/g#s
+";
+
+const RELATIVIZE: &str = "\
+uri relativize BASE URI
+
+Prints the reference that leads from the base to the URI, without what both
+have in common: `uri resolve` makes the same of it as of the URI.
+
+Exit status: 0 on success, 1 if a text is no URI, 2 on a usage error.
+
+Example:
+    uri relativize 'http://a/b/c/d;p?q' 'http://a/b/g#s'
+prints
+    ../g#s
+";
+
+const DECODE: &str = "\
+uri decode TEXT
+
+Prints the bytes that a query stands for, or a segment or another component that
+`uri encode` made, and a newline. The bytes of escapes are printed as they are,
+control characters and broken UTF-8 too. A `+` is a `+`.
+
+Exit status: 0 on success, 1 if the text is no query, 2 on a usage error.
+
+Example:
+    uri decode 'caf%C3%A9%2Fa?b'
+prints
+    caf\u{e9}/a?b
+";
+
+const ENCODE: &str = "\
+uri encode KIND TEXT
+
+Prints a component that stands for the bytes of the text. KIND is segment,
+query, fragment, username or password. A byte that the component can't have is
+written as an escape: a space as %20, and a slash in a segment as %2F. A `%` is
+always %25, so encode a text once. A query keeps its `&` and `=`.
+
+Exit status: 0 on success, 2 on a usage error.
+
+Example:
+    uri encode segment 'a/b c'
+prints
+    a%2Fb%20c
+";
+
+const EDIT: &str = "\
+uri edit TEXT EDIT..
+
+Prints the reference with all edits made, from the left. An edit is scheme V,
+authority V, path V, query V or fragment V, which set a part, drop-scheme,
+drop-authority, drop-query or drop-fragment, which remove it, or normalize.
+
+Exit status: 0 on success, 1 if a text or an edit is rejected, 2 on a usage
+error.
+
+Example:
+    uri edit 'http://h/a?q#f' scheme https drop-query fragment g
+prints
+    https://h/a#g
+";
+
+const HELP: &str = "\
+uri help
+uri help COMMAND
+uri --help
+
+Prints the commands, or more on one of them or on one of the options --json,
+--quiet and --lines. Options come before the command, in any order: a word
+after the command is a text.
+
+Exit status: 0 on success, 2 on a usage error.
+
+Example:
+    uri parse --help
+prints
+    --help
+    path=--help
+";
+
+const JSON: &str = "\
+uri --json parse TEXT
+uri --lines --json parse
+
+Prints the reference as a JSON object, on one line. Its keys are, in this order,
+text, scheme, username, password, host, host_kind, port, path, query, fragment
+and segments. The text is as given. The host_kind is ipv4, ipv6, ipvfuture or
+name, the port is a number, and segments are the parts of the path between its
+slashes. What is absent is null, what is empty is \"\". With --lines the option
+changes nothing, since parse prints objects then.
+
+Exit status: 0 on success, 1 if a text is no reference, 2 on a usage error.
+
+Example:
+    uri --json parse '//h/a?'
+prints
+    {\"text\":\"//h/a?\",\"scheme\":null,\"username\":null,\"password\":null,\"host\":\"h\",\"host_kind\":\"name\",\"port\":null,\"path\":\"/a\",\"query\":\"\",\"fragment\":null,\"segments\":[\"a\"]}
+";
+
+const QUIET: &str = "\
+uri --quiet parse TEXT
+uri --quiet equal A B
+uri --lines --quiet parse
+uri --lines --quiet equal
+
+Prints nothing about texts; the status alone reports the result. With --lines,
+a read that fails is still reported.
+
+Exit status: 0 on success, 1 if a text is no reference, 2 on a usage error,
+3 if two references differ.
+
+Example:
+    uri --quiet parse 'a b' || echo rejected
+prints
+    rejected
+";
+
+const LINES: &str = "\
+uri --lines parse
+uri --lines normalize
+uri --lines resolve BASE
+uri --lines get PART
+uri --lines equal
+uri --lines --quiet parse
+uri --lines --quiet equal
+
+Runs the command for each line of the standard input, and prints one line for
+each, in order. A line is one text, or for equal two, separated by a tab; parse
+prints JSON objects. Lines are bytes and of any length, and end with a newline
+alone: a carriage return is part of the text, which is rejected for it. A
+rejected line is reported as `line N: ERROR: TEXT` on the standard error, prints
+nothing else, and the work goes on. It ends early if memory runs out, or a read
+or a write fails.
+
+Exit status: 0 on success, 1 if a line is rejected or the work ends early, 2 on
+a usage error, 3 with --quiet if no line is rejected and two references differ.
+
+Example:
+    printf '%s\\n' 'http://a/x?q' '/y' '//b' | uri --lines get host
+prints
+    a
+
+    b
+";
+
+/// The page on the command or the option of this name.
+pub fn page(name: &str) -> Option<&'static str> {
+    match name {
+        "parse" => Some(PARSE),
+        "tail" => Some(TAIL),
+        "get" => Some(GET),
+        "normalize" => Some(NORMALIZE),
+        "equal" => Some(EQUAL),
+        "resolve" => Some(RESOLVE),
+        "relativize" => Some(RELATIVIZE),
+        "decode" => Some(DECODE),
+        "encode" => Some(ENCODE),
+        "edit" => Some(EDIT),
+        "help" => Some(HELP),
+        "--json" => Some(JSON),
+        "--quiet" => Some(QUIET),
+        "--lines" => Some(LINES),
+        _ => None,
+    }
+}
