@@ -1,6 +1,10 @@
 //! The commands' output and statuses.
 
-use super::{refuse_arguments, run};
+mod lines;
+mod options;
+mod pages;
+
+use super::{refuse_arguments, run, run_with_input};
 use std::alloc::Global;
 use std::io::Write;
 use std::test::Fail;
@@ -15,14 +19,24 @@ uri get PART TEXT     that part alone: scheme, authority, username, password,
                       host, port, path, query, fragment or origin
 uri normalize TEXT    the reference's normal form
 uri equal A B         `equal` or `different`
-uri resolve BASE REF  the target of the reference behind the base, a URI
+uri resolve BASE REF  the target of the reference against the base, a URI
+uri relativize BASE URI
+                      the reference that leads from the base to the URI
+uri decode TEXT       the bytes that a query or a segment stands for
+uri encode KIND TEXT  the text as a segment, query, fragment, username or
+                      password
 uri edit TEXT EDIT..  the reference with all edits made, from the left;
                       an edit is scheme V, authority V, path V, query V,
                       fragment V, drop-scheme, drop-authority, drop-query,
                       drop-fragment or normalize
 uri help              these lines
+uri help COMMAND      more on a command or on an option, with an example
+uri --json parse TEXT the reference as a JSON object
 uri --quiet parse TEXT, uri --quiet equal A B
                       nothing but the status
+uri --lines parse, uri --lines normalize, uri --lines resolve BASE,
+uri --lines get PART, uri --lines equal
+                      the same for each line of the standard input
 uri --version         the version
 ";
 
@@ -30,7 +44,7 @@ uri --version         the version
 static ROWS: [(&str, u8, &str, &str); 101] = [
     ("help", 0, HELP, ""),
     ("--help", 0, HELP, ""),
-    ("help|parse", 2, "", USAGE),
+    ("help|parse|a", 2, "", USAGE),
     ("parse|--help", 0, "--help\npath=--help\n", ""),
     (
         "tail|a/%7Eb?q#f",
@@ -227,16 +241,19 @@ static ROWS: [(&str, u8, &str, &str); 101] = [
     ("parse|--quiet", 0, "--quiet\npath=--quiet\n", ""),
 ];
 
-/// The status that these words end with, what is printed, and what is said of a failure.
-fn ended(alloc: Global, words: &[&str]) -> (u8, Vec<u8>, Vec<u8>) {
+/// The status that these words end with on this input, what is printed, and what is said of a failure.
+fn ended(alloc: Global, words: &[&str], input: &[u8]) -> (u8, Vec<u8>, Vec<u8>) {
     let (mut out, mut err) = (Vec::new(alloc), Vec::new(alloc));
-    let status = run(alloc, words, &mut out, &mut err);
+    let mut input = input;
+    let status = run_with_input(alloc, words, &mut input, &mut out, &mut err);
     (status, out, err)
 }
 
-/// Whether these words end with this status, this is printed, and this is said of a failure.
+/// Whether these words end with this status without input, this is printed, and this is said of a
+/// failure.
 fn ends(alloc: Global, words: &[&str], status: u8, printed: &str, said: &str) -> bool {
-    let (ends_with, out, err) = ended(alloc, words);
+    let (mut out, mut err) = (Vec::new(alloc), Vec::new(alloc));
+    let ends_with = run(alloc, words, &mut out, &mut err);
     ends_with == status && out.as_slice() == printed.as_bytes() && err.as_slice() == said.as_bytes()
 }
 

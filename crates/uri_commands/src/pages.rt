@@ -208,9 +208,19 @@ changes nothing, since parse prints objects then.
 Exit status: 0 on success, 1 if a text is no reference, 2 on a usage error.
 
 Example:
-    uri --json parse '//h/a?'
+    uri --json parse '//h/a?' | tr ',' '\\n'
 prints
-    {\"text\":\"//h/a?\",\"scheme\":null,\"username\":null,\"password\":null,\"host\":\"h\",\"host_kind\":\"name\",\"port\":null,\"path\":\"/a\",\"query\":\"\",\"fragment\":null,\"segments\":[\"a\"]}
+    {\"text\":\"//h/a?\"
+    \"scheme\":null
+    \"username\":null
+    \"password\":null
+    \"host\":\"h\"
+    \"host_kind\":\"name\"
+    \"port\":null
+    \"path\":\"/a\"
+    \"query\":\"\"
+    \"fragment\":null
+    \"segments\":[\"a\"]}
 ";
 
 const QUIET: &str = "\
