@@ -1,0 +1,228 @@
+/* Rows with what is expected: the tables of RFC 3986, section 5.4, normal forms, components, and texts that are rejected.
+ * Prints a line for each check that fails and how many passed; the status is 0 if all did. */
+#include "uriparse.h"
+
+#include <stdio.h>
+#include <stdlib.h>
+#include <string.h>
+
+static int passed, failed;
+
+static void check(int holds, const char *what, const char *row) {
+  if (holds) {
+    passed++;
+  } else {
+    failed++;
+    printf("FAILED %s: %s\n", what, row);
+  }
+}
+
+/* Resolves into a buffer that has exactly the room that is needed, one byte less, and more. */
+static void resolves(const char *base, const char *text, const char *expected) {
+  size_t len = strlen(expected), needed = 99999;
+  uint8_t more[300];
+  memset(more, '~', sizeof more);
+  check(uriparse_resolve(base, strlen(base), text, strlen(text), more, sizeof more, &needed) == URIPARSE_OK, "resolve", text);
+  check(needed == len && memcmp(more, expected, len) == 0 && more[len] == '~' && more[299] == '~', "target", text);
+  uint8_t *exact = malloc(len + 1);
+  if (exact == NULL) {
+    abort();
+  }
+  memset(exact, '~', len + 1);
+  check(uriparse_resolve(base, strlen(base), text, strlen(text), exact, len, &needed) == URIPARSE_OK, "exact room", text);
+  check(needed == len && memcmp(exact, expected, len) == 0 && exact[len] == '~', "exact target", text);
+  if (len > 0) {
+    memset(exact, '~', len + 1);
+    check(uriparse_resolve(base, strlen(base), text, strlen(text), exact, len - 1, &needed) == URIPARSE_NO_ROOM, "no room", text);
+    check(needed == len && exact[0] == '~' && exact[len - 1] == '~', "unchanged", text);
+  }
+  free(exact);
+}
+
+static void normalizes(const char *text, const char *expected) {
+  size_t needed;
+  uint8_t out[300];
+  uint32_t code = uriparse_normalize(text, strlen(text), out, sizeof out, &needed);
+  check(code == URIPARSE_OK && needed == strlen(expected) && memcmp(out, expected, needed) == 0, "normalize", text);
+}
+
+static void rejects(const char *text, uint32_t expected) {
+  struct uriparse_parts parts, before;
+  memset(&parts, 0x5a, sizeof parts);
+  before = parts;
+  uint32_t code = uriparse_parse(text, strlen(text), &parts);
+  check(code == expected, "code of", text);
+  check(memcmp(&parts, &before, sizeof parts) == 0, "parts unchanged", text);
+  uint8_t out[4] = {1, 2, 3, 4};
+  size_t needed = 7;
+  check(uriparse_normalize(text, strlen(text), out, 4, &needed) == expected && needed == 0 && out[0] == 1, "normalize rejects", text);
+  check(uriparse_resolve(text, strlen(text), "x", 1, out, 4, &needed) == (expected | URIPARSE_IN_BASE) || expected == URIPARSE_COLON_IN_SEGMENT,
+        "base rejected", text);
+  check(uriparse_resolve("s:", 2, text, strlen(text), out, 4, &needed) == expected && needed == 0, "reference rejected", text);
+}
+
+static void is(const char *text, struct uriparse_span span, const char *piece) {
+  if (piece == NULL) {
+    check(!span.present && span.begin == 0 && span.end == 0, "absent", text);
+  } else {
+    check(span.present && span.begin <= span.end && span.end <= strlen(text) && span.end - span.begin == strlen(piece)
+              && memcmp(text + span.begin, piece, strlen(piece)) == 0, piece, text);
+  }
+}
+
+static void parses(const char *text, const char *scheme, const char *username, const char *password, const char *host, uint32_t kind,
+                   const char *port, uint32_t number, const char *path, const char *query, const char *fragment) {
+  struct uriparse_parts parts;
+  memset(&parts, 0x5a, sizeof parts);
+  check(uriparse_parse(text, strlen(text), &parts) == URIPARSE_OK, "parse", text);
+  is(text, parts.scheme, scheme);
+  is(text, parts.username, username);
+  is(text, parts.password, password);
+  is(text, parts.host, host);
+  is(text, parts.port, port);
+  is(text, parts.path, path);
+  is(text, parts.query, query);
+  is(text, parts.fragment, fragment);
+  check(parts.authority.present == (host != NULL), "authority", text);
+  check(parts.host_kind == kind && parts.port_number == number, "kind and port", text);
+}
+
+static void equals(const char *left, const char *right, uint32_t expected, bool answer) {
+  bool equal = !answer;
+  uint32_t code = uriparse_equal(left, strlen(left), right, strlen(right), &equal);
+  check(code == expected && equal == (expected == URIPARSE_OK ? answer : !answer), "equal", right);
+}
+
+static void hashes(const char *left, const char *right, bool alike) {
+  uint64_t one = 1, other = 2;
+  check(uriparse_hash(left, strlen(left), &one) == URIPARSE_OK && uriparse_hash(right, strlen(right), &other) == URIPARSE_OK
+            && (one == other) == alike, "hash", right);
+}
+
+/* Every code of the header has a text of its own, and no other has one. */
+static void texts(void) {
+  int named = 0;
+  for (uint32_t code = 0; code < 0x100; code++) {
+    named += strcmp(uriparse_error_text(code), "unknown code") != 0;
+  }
+  check(named == 23, "texts", "codes");
+  check(strcmp(uriparse_error_text(URIPARSE_IN_BASE | URIPARSE_PORT_RANGE), "the port is above 65535") == 0, "text", "0x142");
+  check(strcmp(uriparse_version(), URIPARSE_VERSION) == 0, "version", URIPARSE_VERSION);
+}
+
+int main(void) {
+  check(sizeof(struct uriparse_span) == 3 * sizeof(size_t) && offsetof(struct uriparse_parts, host_kind) == 9 * sizeof(struct uriparse_span)
+            && sizeof(struct uriparse_parts) == 9 * sizeof(struct uriparse_span) + 8, "layout", "uriparse_parts");
+  const char *base = "http://a/b/c/d;p?q";
+  static const char *const rows[][2] = {
+      {"g:h", "g:h"}, {"g", "http://a/b/c/g"}, {"./g", "http://a/b/c/g"}, {"g/", "http://a/b/c/g/"}, {"/g", "http://a/g"}, {"//g", "http://g/"},
+      {"?y", "http://a/b/c/d;p?y"}, {"g?y", "http://a/b/c/g?y"}, {"#s", "http://a/b/c/d;p?q#s"}, {"g#s", "http://a/b/c/g#s"},
+      {"g?y#s", "http://a/b/c/g?y#s"}, {";x", "http://a/b/c/;x"}, {"g;x", "http://a/b/c/g;x"}, {"g;x?y#s", "http://a/b/c/g;x?y#s"},
+      {"", "http://a/b/c/d;p?q"}, {".", "http://a/b/c/"}, {"./", "http://a/b/c/"}, {"..", "http://a/b/"}, {"../", "http://a/b/"},
+      {"../g", "http://a/b/g"}, {"../..", "http://a/"}, {"../../", "http://a/"}, {"../../g", "http://a/g"}, {"../../../g", "http://a/g"},
+      {"../../../../g", "http://a/g"}, {"/./g", "http://a/g"}, {"/../g", "http://a/g"}, {"g.", "http://a/b/c/g."}, {".g", "http://a/b/c/.g"},
+      {"g..", "http://a/b/c/g.."}, {"..g", "http://a/b/c/..g"}, {"./../g", "http://a/b/g"}, {"./g/.", "http://a/b/c/g/"},
+      {"g/./h", "http://a/b/c/g/h"}, {"g/../h", "http://a/b/c/h"}, {"g;x=1/./y", "http://a/b/c/g;x=1/y"}, {"g;x=1/../y", "http://a/b/c/y"},
+      {"g?y/./x", "http://a/b/c/g?y/./x"}, {"g?y/../x", "http://a/b/c/g?y/../x"}, {"g#s/./x", "http://a/b/c/g#s/./x"},
+      {"g#s/../x", "http://a/b/c/g#s/../x"}, {"http:g", "http:g"}};
+  for (size_t i = 0; i < sizeof rows / sizeof rows[0]; i++) {
+    resolves(base, rows[i][0], rows[i][1]);
+  }
+  resolves("s:/a/b", "..//c", "s:/.//c");
+
+  normalizes("HTTP://U@EXAMPLE.com:80/a/./b/../%7e%2f?%7E#%41", "http://U@example.com:80/a/~%2F?~#A");
+  normalizes("", "");
+  normalizes("a/b/..", "a/");
+  normalizes("http://[0:0:0:0:0:0:0:1]/", "http://[::1]/");
+
+  rejects("//u%@h", URIPARSE_USERNAME_ESCAPE);
+  rejects("//u\"@h", URIPARSE_USERNAME_BYTE);
+  rejects("//u:p%4@h", URIPARSE_PASSWORD_ESCAPE);
+  rejects("//u:p[@h", URIPARSE_PASSWORD_BYTE);
+  rejects("//h^/", URIPARSE_HOST_BYTE);
+  rejects("//[v1.]/", URIPARSE_HOST_FUTURE_FORM);
+  rejects("//[v1.^]/", URIPARSE_HOST_FUTURE_BYTE);
+  rejects("//[::g]/", URIPARSE_HOST_IPV6_BYTE);
+  rejects("//[1:2]/", URIPARSE_HOST_IPV6_FORM);
+  rejects("//h:8x/", URIPARSE_PORT_BYTE);
+  rejects("//h:65536/", URIPARSE_PORT_RANGE);
+  rejects("/a b", URIPARSE_PATH_BYTE);
+  rejects("/%g0", URIPARSE_PATH_ESCAPE);
+  rejects("1:2", URIPARSE_COLON_IN_SEGMENT);
+  rejects("?^", URIPARSE_QUERY_BYTE);
+  rejects("?%", URIPARSE_QUERY_ESCAPE);
+  rejects("#^", URIPARSE_FRAGMENT_BYTE);
+  rejects("#%f", URIPARSE_FRAGMENT_ESCAPE);
+  rejects("/\xc3\xa9", URIPARSE_PATH_BYTE);
+  {
+    uint8_t out[4];
+    size_t needed;
+    check(uriparse_resolve("/a", 2, "b", 1, out, 4, &needed) == (URIPARSE_NO_SCHEME | URIPARSE_IN_BASE), "no scheme", "/a");
+    struct uriparse_parts parts;
+    check(uriparse_parse("a\0b", 3, &parts) == URIPARSE_PATH_BYTE, "zero byte", "a\\0b");
+    size_t most = 1000000;
+    char *many = malloc(most + 1);
+    if (many == NULL) {
+      abort();
+    }
+    memset(many, '/', most + 1);
+    many[0] = 'a';
+    check(uriparse_parse(many, most, &parts) == URIPARSE_OK && parts.path.end == most, "1,000,000 segments", "a////..");
+    check(uriparse_parse(many, most + 1, &parts) == URIPARSE_TOO_MANY_SEGMENTS, "1,000,001 segments", "a////..");
+    needed = 7;
+    check(uriparse_resolve("s:/b/c", 6, many, most, out, 4, &needed) == URIPARSE_TOO_MANY_SEGMENTS && needed == 0,
+          "1,000,001 segments, resolved", "a////..");
+    check(uriparse_normalize(many, most, out, 4, &needed) == URIPARSE_NO_ROOM && needed == most, "long normal form", "a////..");
+    free(many);
+  }
+
+  equals("http://h/%7ea", "HTTP://H/~a", URIPARSE_OK, true);
+  equals("http://h", "http://h/", URIPARSE_OK, true);
+  equals("a/./b", "a/b", URIPARSE_OK, false);
+  equals("//%31.2.3.4", "//1.2.3.4", URIPARSE_OK, false);
+  equals("/a", "a", URIPARSE_OK, false);
+  equals("%", "?^", URIPARSE_PATH_ESCAPE, false);
+  equals("a", "?^", URIPARSE_QUERY_BYTE, false);
+  check(uriparse_is_uri("a:", 2) && !uriparse_is_uri("a", 1) && !uriparse_is_uri("a:%", 3), "is_uri", "a:");
+  texts();
+
+  hashes("http://h/%7ea", "HTTP://H/~a", true);
+  hashes("//[V1.x]", "//[v1.X]", true);
+  hashes("http://h/a", "http://h/b", false);
+  hashes("", "/", false);
+  {
+    uint64_t hash = 1;
+    check(uriparse_hash("%", 1, &hash) == URIPARSE_PATH_ESCAPE && hash == 1, "hash rejects", "%");
+  }
+
+  /* An empty text and an empty buffer may be NULL. */
+  {
+    struct uriparse_parts parts;
+    bool equal = false;
+    uint64_t hash;
+    size_t needed = 7;
+    check(uriparse_parse(NULL, 0, &parts) == URIPARSE_OK && parts.path.present && parts.path.end == 0, "parse", "NULL");
+    check(!uriparse_is_uri(NULL, 0), "is_uri", "NULL");
+    check(uriparse_equal(NULL, 0, "", 0, &equal) == URIPARSE_OK && equal, "equal", "NULL");
+    check(uriparse_hash(NULL, 0, &hash) == URIPARSE_OK, "hash", "NULL");
+    check(uriparse_normalize(NULL, 0, NULL, 0, &needed) == URIPARSE_OK && needed == 0, "normalize", "NULL");
+    check(uriparse_resolve("s:", 2, NULL, 0, NULL, 0, &needed) == URIPARSE_NO_ROOM && needed == 2, "resolve", "NULL");
+  }
+
+  parses("", NULL, NULL, NULL, NULL, 0, NULL, 0, "", NULL, NULL);
+  parses("HTTP://u:p@h:080/a/b?q?#f", "HTTP", "u", "p", "h", 1, "080", 80, "/a/b", "q?", "f");
+  parses("http://h", "http", NULL, NULL, "h", 1, NULL, 0, "", NULL, NULL);
+  parses("//h:?#", NULL, NULL, NULL, "h", 1, "", 0, "", "", "");
+  parses("//u@", NULL, "u", NULL, "", 1, NULL, 0, "", NULL, NULL);
+  parses("//@:0/", NULL, "", NULL, "", 1, "0", 0, "/", NULL, NULL);
+  parses("//u:@h", NULL, "u", "", "h", 1, NULL, 0, "", NULL, NULL);
+  parses("x-y://u:p:q@1.2.3.4:65535", "x-y", "u", "p:q", "1.2.3.4", 4, "65535", 65535, "", NULL, NULL);
+  parses("ldap://[2001:db8::7]/c=GB?one", "ldap", NULL, NULL, "[2001:db8::7]", 6, NULL, 0, "/c=GB", "one", NULL);
+  parses("//[::1]:22", NULL, NULL, NULL, "[::1]", 6, "22", 22, "", NULL, NULL);
+  parses("//[v7.A:b]:1", NULL, NULL, NULL, "[v7.A:b]", URIPARSE_HOST_FUTURE, "1", 1, "", NULL, NULL);
+  parses("mailto:John.Doe@example.com", "mailto", NULL, NULL, NULL, 0, NULL, 0, "John.Doe@example.com", NULL, NULL);
+  parses("urn:a:b#c?d", "urn", NULL, NULL, NULL, 0, NULL, 0, "a:b", NULL, "c?d");
+  parses("a/b:c?//d@e", NULL, NULL, NULL, NULL, 0, NULL, 0, "a/b:c", "//d@e", NULL);
+  parses("?", NULL, NULL, NULL, NULL, 0, NULL, 0, "", "", NULL);
+  return printf("%d passed, %d failed\n", passed, failed) < 0 || failed != 0;
+}

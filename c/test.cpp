@@ -1,0 +1,50 @@
+// The calls from C++. Prints how many checks passed; the status is 0 if all did.
+#include "uriparse.h"
+
+#include <cstdio>
+#include <string>
+
+static int passed, failed;
+
+static void check(bool holds, const char *what) {
+  if (holds) {
+    passed++;
+  } else {
+    failed++;
+    std::printf("FAILED %s\n", what);
+  }
+}
+
+static std::string cut(const std::string &text, uriparse_span span) {
+  return span.present ? text.substr(span.begin, span.end - span.begin) : std::string("absent");
+}
+
+static std::string normalize(const std::string &text) {
+  std::string out(text.size() + 16, '\0');
+  size_t needed;
+  if (uriparse_normalize(text.data(), text.size(), &out[0], out.size(), &needed) != URIPARSE_OK) {
+    return "rejected";
+  }
+  out.resize(needed);
+  return out;
+}
+
+int main() {
+  const std::string text = "http://user@example.com:80/a?q#f";
+  uriparse_parts parts;
+  check(uriparse_parse(text.data(), text.size(), &parts) == URIPARSE_OK, "parse");
+  check(cut(text, parts.host) == "example.com" && cut(text, parts.password) == "absent", "host");
+  check(parts.host_kind == URIPARSE_HOST_NAME && parts.port_number == 80, "kind and port");
+  check(uriparse_is_uri(text.data(), text.size()), "is_uri");
+  check(normalize("HTTP://h/%7e/../x") == "http://h/x" && normalize("%") == "rejected", "normalize");
+  bool equal = false;
+  check(uriparse_equal("a%7e", 4, "a~", 2, &equal) == URIPARSE_OK && equal, "equal");
+  uint64_t one = 1, other = 2;
+  check(uriparse_hash("a%7e", 4, &one) == 0 && uriparse_hash("a~", 2, &other) == 0 && one == other, "hash");
+  char out[8];
+  size_t needed;
+  check(uriparse_resolve("s:/b", 4, "c", 1, out, sizeof out, &needed) == URIPARSE_OK, "resolve");
+  check(std::string(out, needed) == "s:/c", "target");
+  std::printf("%d passed, %d failed\n", passed, failed);
+  return failed != 0;
+}

@@ -1,0 +1,27 @@
+"""The calls from Python. The status is 0 if each answer is right."""
+import uriparse
+
+
+def rejects(code, call, *arguments):
+    try:
+        call(*arguments)
+    except uriparse.URIError as error:
+        assert error.code == code, hex(error.code)
+    else:
+        raise AssertionError(arguments)
+
+
+PARSED = {"scheme": b"http", "authority": b"u@h:80", "username": b"u", "host": b"h", "port": b"80", "path": b"/a",
+          "query": b"q", "fragment": b""}
+assert uriparse.parse(b"http://u@h:80/a?q#") == PARSED
+assert uriparse.parse(b"") == {"path": b""}
+assert uriparse.spans(b"//[v1.x]").host_kind == 7
+assert uriparse.is_uri(b"a:b") and not uriparse.is_uri(b"a")
+assert uriparse.equal(b"a%7e", b"a~") and not uriparse.equal(b"a", b"b")
+assert uriparse.hash_of(b"a%7e") == uriparse.hash_of(b"a~")
+assert uriparse.normalize(b"HTTP://H/%7e/../x") == b"http://h/x"
+assert uriparse.resolve(b"http://a/b/c", b"../g#s") == b"http://a/g#s"
+rejects(0x52, uriparse.parse, b"/%")
+rejects(0x152, uriparse.resolve, b"s:%", b"a")
+rejects(0x103, uriparse.resolve, b"/a", b"b")
+print("ok")

@@ -1,0 +1,193 @@
+/* URIs and URI references of RFC 3986: read, compare, hash, normalize and resolve them. The code behind these calls is
+ * proved: it is safe, it ends, and it computes what this header says. README.md says what is proved and what isn't.
+ *
+ * Texts are bytes with a length in bytes, and need no zero byte at their end. A zero byte in a text is rejected as any
+ * other byte that no URI has. An empty text may be NULL with length 0: the calls below allow it, and `out` too may be
+ * NULL if `room` is 0. Each other pointer is valid and aligned for its type, each text readable for its whole length,
+ * and `out` writable for `room` bytes. A length is at most PTRDIFF_MAX.
+ *
+ * A text isn't written and isn't kept: after the call nothing points into it. What a call writes to (`out`, `needed`,
+ * `parts`, `equal`, `hash`) overlaps no other argument. It need not be initialized, and no other thread uses it during
+ * the call. On an error nothing is written but 0 to `*needed`.
+ *
+ * There is no state between calls, so calls may run at once in any threads. `uriparse_parse` and `uriparse_is_uri` do
+ * not allocate, and may be called in a signal handler. The other calls allocate by `malloc` and free what they
+ * allocated before they return; a call that finds no memory returns URIPARSE_OUT_OF_MEMORY. The caller frees nothing.
+ *
+ * Limits: a path has at most 1,000,000 segments, a port is at most 65535. Texts are as long as memory allows. */
+#ifndef URIPARSE_H
+#define URIPARSE_H
+
+#include <stdbool.h>
+#include <stddef.h>
+#include <stdint.h>
+
+#define URIPARSE_VERSION "0.1.0"
+
+#ifdef __cplusplus
+extern "C" {
+#endif
+
+/* What a call returns. The error of a text is its first one: of the authority (user name, password, host, port), then
+ * of the path, the colon rule, the query, the fragment; and within each of these the leftmost one. `code & 0xf0` names
+ * the component, and `code & URIPARSE_IN_BASE` says that it is the base which `uriparse_resolve` rejects. Later
+ * versions may add codes. */
+enum uriparse_code {
+  URIPARSE_OK = 0,
+  URIPARSE_OUT_OF_MEMORY = 1,     /* `malloc` returned NULL */
+  URIPARSE_NO_ROOM = 2,           /* `room` is too small: `*needed` bytes are enough */
+  URIPARSE_NO_SCHEME = 3,         /* of a base alone: it has no scheme */
+  URIPARSE_COLON_IN_SEGMENT = 4,  /* without a scheme, a colon precedes the first slash: "1:2" */
+  URIPARSE_TOO_MANY_SEGMENTS = 5, /* a path has more than 1,000,000 segments, or would have, resolved */
+
+  URIPARSE_USERNAME_BYTE = 0x11,   /* a byte that no user name has */
+  URIPARSE_USERNAME_ESCAPE = 0x12, /* a '%' that two hexadecimal digits don't follow */
+  URIPARSE_PASSWORD_BYTE = 0x21,
+  URIPARSE_PASSWORD_ESCAPE = 0x22,
+  URIPARSE_HOST_BYTE = 0x31,        /* a byte that no name has, or a '%' that two hexadecimal digits don't follow */
+  URIPARSE_HOST_IPV6_BYTE = 0x32,   /* in brackets, a byte that no IPv6 address has */
+  URIPARSE_HOST_IPV6_FORM = 0x33,   /* in brackets, no form of an IPv6 address */
+  URIPARSE_HOST_FUTURE_BYTE = 0x34, /* in brackets, after 'v', a byte that no address of a later version has */
+  URIPARSE_HOST_FUTURE_FORM = 0x35, /* in brackets, after 'v', no form of such an address */
+  URIPARSE_PORT_BYTE = 0x41,        /* a byte that is no digit */
+  URIPARSE_PORT_RANGE = 0x42,       /* the port is above 65535 */
+  URIPARSE_PATH_BYTE = 0x51,
+  URIPARSE_PATH_ESCAPE = 0x52,
+  URIPARSE_QUERY_BYTE = 0x61,
+  URIPARSE_QUERY_ESCAPE = 0x62,
+  URIPARSE_FRAGMENT_BYTE = 0x71,
+  URIPARSE_FRAGMENT_ESCAPE = 0x72,
+
+  URIPARSE_IN_BASE = 0x100 /* added to a code: it is the base's error */
+};
+
+/* Where a component is: the bytes from text[begin] up to text[end], without text[end]. An absent component has begin
+ * and end 0; one that is present may be empty ("http://h?" has an empty query, "http://h" has none). */
+struct uriparse_span {
+  size_t begin;
+  size_t end;
+  bool present;
+};
+
+enum uriparse_host_kind {
+  URIPARSE_NO_HOST = 0,     /* there is no authority */
+  URIPARSE_HOST_NAME = 1,   /* a registered name, which may be empty */
+  URIPARSE_HOST_IPV4 = 4,
+  URIPARSE_HOST_IPV6 = 6,
+  URIPARSE_HOST_FUTURE = 7  /* an address of a later version, IPvFuture: "[v1.x]" */
+};
+
+/* The components of a reference as its text spells them: without their delimiters (':', "//", '@', '?', '#'), not
+ * decoded and not normalized. An address in brackets has its brackets. `path` is always present, and `host` if
+ * `authority` is. */
+struct uriparse_parts {
+  struct uriparse_span scheme;
+  struct uriparse_span authority;
+  struct uriparse_span username;
+  struct uriparse_span password;
+  struct uriparse_span host;
+  struct uriparse_span port; /* the digits, which may be none: "h:" */
+  struct uriparse_span path;
+  struct uriparse_span query;
+  struct uriparse_span fragment;
+  uint32_t host_kind;   /* one of uriparse_host_kind */
+  uint32_t port_number; /* 0 to 65535; 0 if there are no digits */
+};
+
+/* Reads a URI or a relative reference (RFC 3986, section 4.1), and writes to `*parts` where its components are. The text
+ * is a URI if `parts->scheme.present`. Returns URIPARSE_OK or the text's error. Does not allocate.
+ *
+ * The caller ensures: `text` is readable for `len` bytes; `parts` is writable. */
+uint32_t uriparse_parse(const uint8_t *text, size_t len, struct uriparse_parts *parts);
+
+/* Whether a text is a URI: a reference that has a scheme. Does not allocate.
+ *
+ * The caller ensures: `text` is readable for `len` bytes. */
+bool uriparse_is_uri(const uint8_t *text, size_t len);
+
+/* Writes to `*equal` whether two references are equal: whether their hosts, if they have any, are of one kind, and their
+ * texts differ at most by case in schemes and hosts and by percent-encoding ("%7e" and "~"). Dot segments count:
+ * normalize first if they shouldn't. Of two faulty texts the left one is rejected.
+ *
+ * The caller ensures: each text is readable for its length; `equal` is writable. */
+uint32_t uriparse_equal(const uint8_t *left, size_t left_len, const uint8_t *right, size_t right_len, bool *equal);
+
+/* Writes to `*hash` a hash of a reference: equal references have equal hashes, on every machine and in every run. It is
+ * SipHash-1-3 with both keys 0; the key isn't secret, so it doesn't keep a table from texts chosen to collide.
+ *
+ * The caller ensures: `text` is readable for `len` bytes; `hash` is writable. */
+uint32_t uriparse_hash(const uint8_t *text, size_t len, uint64_t *hash);
+
+/* Writes to `out` the text of a reference's normal form (section 6.2.2: case, percent-encoding, dot segments), and to
+ * `*needed` its length. If `room` is less, returns URIPARSE_NO_ROOM, and `out` is unchanged. No zero byte follows the
+ * text; what follows it in `out` is unchanged.
+ *
+ * The caller ensures: `text` is readable for `len` bytes; `out` is writable for `room` bytes; `needed` is writable. */
+uint32_t uriparse_normalize(const uint8_t *text, size_t len, uint8_t *out, size_t room, size_t *needed);
+
+/* Resolves a reference against a base (section 5.2.2, strict), and writes the text of the target to `out` as
+ * `uriparse_normalize` does. The base has a scheme; its fragment doesn't matter. Of two faulty texts the base is
+ * rejected. Returns URIPARSE_TOO_MANY_SEGMENTS if the merged paths have more segments than a path may have.
+ *
+ * The caller ensures: each text is readable for its length; `out` is writable for `room` bytes; `needed` is writable. */
+uint32_t uriparse_resolve(const uint8_t *base, size_t base_len, const uint8_t *text, size_t len, uint8_t *out,
+                          size_t room, size_t *needed);
+
+#ifdef __cplusplus
+}
+#endif
+
+/* A pointer for a text, or for a buffer, that isn't NULL. */
+static inline const uint8_t *uriparse_text(const void *text) { return (const uint8_t *)(text ? text : ""); }
+
+static inline uint8_t *uriparse_room(void *out) {
+  static uint8_t none;
+  return out ? (uint8_t *)out : &none;
+}
+
+/* The functions themselves take no NULL. By these macros each call takes NULL with length 0, and a text of any type of
+ * bytes, such as `const char *`. */
+#define uriparse_parse(text, len, parts) (uriparse_parse)(uriparse_text(text), len, parts)
+#define uriparse_is_uri(text, len) (uriparse_is_uri)(uriparse_text(text), len)
+#define uriparse_equal(left, left_len, right, right_len, equal)                                                        \
+  (uriparse_equal)(uriparse_text(left), left_len, uriparse_text(right), right_len, equal)
+#define uriparse_hash(text, len, hash) (uriparse_hash)(uriparse_text(text), len, hash)
+#define uriparse_normalize(text, len, out, room, needed)                                                               \
+  (uriparse_normalize)(uriparse_text(text), len, uriparse_room(out), room, needed)
+#define uriparse_resolve(base, base_len, text, len, out, room, needed)                                                 \
+  (uriparse_resolve)(uriparse_text(base), base_len, uriparse_text(text), len, uriparse_room(out), room, needed)
+
+/* What a code means, in English. */
+static inline const char *uriparse_error_text(uint32_t code) {
+  switch (code & ~(uint32_t)URIPARSE_IN_BASE) {
+  case URIPARSE_OK: return "no error";
+  case URIPARSE_OUT_OF_MEMORY: return "out of memory";
+  case URIPARSE_NO_ROOM: return "the buffer is too small";
+  case URIPARSE_NO_SCHEME: return "the base has no scheme";
+  case URIPARSE_COLON_IN_SEGMENT: return "a colon in the first segment of a reference without a scheme";
+  case URIPARSE_TOO_MANY_SEGMENTS: return "the path has too many segments";
+  case URIPARSE_USERNAME_BYTE: return "invalid byte in the user name";
+  case URIPARSE_USERNAME_ESCAPE: return "invalid percent-encoding in the user name";
+  case URIPARSE_PASSWORD_BYTE: return "invalid byte in the password";
+  case URIPARSE_PASSWORD_ESCAPE: return "invalid percent-encoding in the password";
+  case URIPARSE_HOST_BYTE: return "invalid byte or percent-encoding in the host";
+  case URIPARSE_HOST_IPV6_BYTE: return "invalid byte in the IPv6 address";
+  case URIPARSE_HOST_IPV6_FORM: return "invalid form of the IPv6 address";
+  case URIPARSE_HOST_FUTURE_BYTE: return "invalid byte in the IPvFuture address";
+  case URIPARSE_HOST_FUTURE_FORM: return "invalid form of the IPvFuture address";
+  case URIPARSE_PORT_BYTE: return "invalid byte in the port";
+  case URIPARSE_PORT_RANGE: return "the port is above 65535";
+  case URIPARSE_PATH_BYTE: return "invalid byte in the path";
+  case URIPARSE_PATH_ESCAPE: return "invalid percent-encoding in the path";
+  case URIPARSE_QUERY_BYTE: return "invalid byte in the query";
+  case URIPARSE_QUERY_ESCAPE: return "invalid percent-encoding in the query";
+  case URIPARSE_FRAGMENT_BYTE: return "invalid byte in the fragment";
+  case URIPARSE_FRAGMENT_ESCAPE: return "invalid percent-encoding in the fragment";
+  default: return "unknown code";
+  }
+}
+
+/* The version of the header. */
+static inline const char *uriparse_version(void) { return URIPARSE_VERSION; }
+
+#endif

@@ -1,0 +1,109 @@
+"""URIs of RFC 3986 by proved code: a wrapper of liburiparse.so for ctypes. See uriparse.h.
+
+Texts are bytes. LIBURIPARSE in the environment names the shared library."""
+import ctypes
+import os
+
+_lib = ctypes.CDLL(os.environ.get("LIBURIPARSE", "liburiparse.so"))
+_size = ctypes.c_size_t
+_text = (ctypes.c_char_p, _size)
+_out = (ctypes.c_char_p, _size, ctypes.POINTER(_size))
+
+OUT_OF_MEMORY = 1
+NO_ROOM = 2
+IN_BASE = 0x100
+
+COMPONENTS = ("scheme", "authority", "username", "password", "host", "port", "path", "query", "fragment")
+
+
+class Span(ctypes.Structure):
+    _fields_ = [("begin", _size), ("end", _size), ("present", ctypes.c_bool)]
+
+
+class Parts(ctypes.Structure):
+    _fields_ = [(name, Span) for name in COMPONENTS] + [("host_kind", ctypes.c_uint32), ("port_number", ctypes.c_uint32)]
+
+
+def _export(name, result, *arguments):
+    call = getattr(_lib, "uriparse_" + name)
+    call.restype = result
+    call.argtypes = arguments
+    return call
+
+
+_parse = _export("parse", ctypes.c_uint32, *_text, ctypes.POINTER(Parts))
+_is_uri = _export("is_uri", ctypes.c_bool, *_text)
+_equal = _export("equal", ctypes.c_uint32, *_text, *_text, ctypes.POINTER(ctypes.c_bool))
+_hash = _export("hash", ctypes.c_uint32, *_text, ctypes.POINTER(ctypes.c_uint64))
+_normalize = _export("normalize", ctypes.c_uint32, *_text, *_out)
+_resolve = _export("resolve", ctypes.c_uint32, *_text, *_text, *_out)
+
+
+class URIError(ValueError):
+    """A text is rejected, with a code of uriparse.h."""
+
+    def __init__(self, code):
+        super().__init__("rejected: 0x%02x" % code)
+        self.code = code
+
+
+def _check(code):
+    if code == OUT_OF_MEMORY:
+        raise MemoryError
+    if code:
+        raise URIError(code)
+
+
+def spans(text: bytes) -> Parts:
+    """Where the components are."""
+    parts = Parts()
+    _check(_parse(text, len(text), parts))
+    return parts
+
+
+def parse(text: bytes) -> dict:
+    """The components that are present, by name."""
+    parts = spans(text)
+    found = ((name, getattr(parts, name)) for name in COMPONENTS)
+    return {name: text[span.begin:span.end] for name, span in found if span.present}
+
+
+def is_uri(text: bytes) -> bool:
+    """Whether it is a reference that has a scheme."""
+    return _is_uri(text, len(text))
+
+
+def equal(left: bytes, right: bytes) -> bool:
+    """Whether two references are equal."""
+    answer = ctypes.c_bool()
+    _check(_equal(left, len(left), right, len(right), answer))
+    return answer.value
+
+
+def hash_of(text: bytes) -> int:
+    """A hash of a reference: equal references have equal ones."""
+    answer = ctypes.c_uint64()
+    _check(_hash(text, len(text), answer))
+    return answer.value
+
+
+def _written(call, *texts) -> bytes:
+    arguments = [argument for text in texts for argument in (text, len(text))]
+    room, needed = 2 * sum(map(len, texts)) + 64, _size()
+    while True:
+        out = ctypes.create_string_buffer(room)
+        code = call(*arguments, out, room, needed)
+        if code != NO_ROOM:
+            _check(code)
+            return out.raw[:needed.value]
+        room = needed.value
+
+
+def normalize(text: bytes) -> bytes:
+    """The text of the normal form."""
+    return _written(_normalize, text)
+
+
+def resolve(base: bytes, reference: bytes) -> bytes:
+    """The text of the target of a reference against a base."""
+    return _written(_resolve, base, reference)

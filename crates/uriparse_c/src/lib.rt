@@ -1,0 +1,139 @@
+//! The library for callers in C, and in languages that call C.
+//!
+//! A `&[u8]` crosses as a pointer and a length, and a `Global` as nothing. `c/uriparse.h` declares
+//! the exports. Each restates the contract of the library's call that it makes. In the clauses `p`
+//! is what a text spells by the grammar, and `fault` is why it spells nothing.
+#![tactic(auto)]
+
+ghost use Rattle.std.specs.Prelude.{◌≡◌, ◌⊎◌, ◌↔◌, IsTrue, Some, None, bytes_eq, is_some, true, false};
+ghost use Rattle.uriparse_reference.specs.Key.{key};
+ghost use Rattle.uriparse_reference.specs.declared.uri_reference.error.URIReferenceError.{URIReferenceError};
+ghost use Rattle.uriparse_reference.specs.Normal.{normal};
+ghost use Rattle.uriparse_reference.specs.Reading.{fault};
+ghost use Rattle.uriparse_reference.specs.Reference.{Parts, Spells, print};
+ghost use Rattle.uriparse_reference.specs.Target.{target};
+ghost use Rattle.uriparse.specs.Uri.{told};
+ghost use Rattle.uriparse_c.specs.Code as spec;
+ghost use Rattle.uriparse_c.specs.Hash.{hash_of};
+ghost use Rattle.uriparse_c.specs.Places.{ArePlaces, host_number, port_number};
+ghost use Rattle.uriparse_c.specs.Put.{IsRefused, IsRefusedOrWant, IsWritten};
+
+mod code;
+pub mod laws;
+mod places;
+mod put;
+mod span;
+mod texts;
+
+use code::{ACCEPTED, code_of, truth_of};
+use places::{UriParts, places};
+use put::answer;
+use std::alloc::Global;
+use texts::{equal_texts, hashed, normalized, resolved};
+use uriparse_reference::parts::find_pieces;
+
+/// Reads a reference, and says where its components are. Does not allocate.
+#[unsafe(no_mangle)]
+pub extern "C" fn uriparse_parse(text: &[u8], out: &mut UriParts) -> u32
+    // Of a text that the grammar spells, each span is the component's.
+    ensures parsed { (p : Parts) (s : Spells text.now p) → (result ≡ spec.accepted) × ArePlaces s.scheme_text s.authority_text s.path_text p.query p.fragment out.new × (out.new.host_kind ≡ host_number p.authority) × (out.new.port_number ≡ port_number p.authority) }
+
+    // Any other text is rejected with its fault, and nothing is written.
+    ensures refused { (e : URIReferenceError) → fault text.now ≡ Some e → (result ≡ spec.code_of e) × (out.new ≡ out.old) }
+{
+    match find_pieces(text) {
+        Ok(pieces) => {
+            *out = places(text, &pieces);
+            ACCEPTED
+        }
+        Err(error) => code_of(error),
+    }
+}
+
+/// Whether a text is a URI: a reference that has a scheme. Does not allocate.
+#[unsafe(no_mangle)]
+pub extern "C" fn uriparse_is_uri(text: &[u8]) -> bool
+    ensures { IsTrue result ↔ ((p : Parts) × Spells text.now p × (is_some p.scheme ≡ true)) }
+{
+    match find_pieces(text) {
+        Ok(pieces) => pieces.has_scheme(),
+        Err(_) => false,
+    }
+}
+
+/// Whether two texts are equal references, as the library compares them.
+#[unsafe(no_mangle)]
+pub extern "C" fn uriparse_equal(alloc: Global, left: &[u8], right: &[u8], equal: &mut u8) -> u32
+    // Of two references the library's test is written, or memory runs out.
+    ensures compared { (p q : Parts) → Spells left.now p → Spells right.now q → ((result ≡ spec.accepted) × (equal.new ≡ spec.truth (bytes_eq (key p) (key q)))) ⊎ ((result ≡ spec.out_of_memory) × (equal.new ≡ equal.old)) }
+
+    // A faulty text is rejected, the left one first, and nothing is written.
+    ensures left { (e : URIReferenceError) → fault left.now ≡ Some e → (result ≡ spec.code_of e) × (equal.new ≡ equal.old) }
+    ensures right { (p : Parts) (e : URIReferenceError) → Spells left.now p → fault right.now ≡ Some e → ((result ≡ spec.code_of e) ⊎ (result ≡ spec.out_of_memory)) × (equal.new ≡ equal.old) }
+{
+    match equal_texts(alloc, left, right) {
+        Ok(answer) => {
+            *equal = truth_of(answer);
+            ACCEPTED
+        }
+        Err(code) => code,
+    }
+}
+
+/// Hashes a reference. Equal references have equal hashes.
+#[unsafe(no_mangle)]
+pub extern "C" fn uriparse_hash(alloc: Global, text: &[u8], hash: &mut u64) -> u32
+    // The hash is a number of the key that references are compared by, or memory runs out.
+    ensures hashed { (p : Parts) → Spells text.now p → ((result ≡ spec.accepted) × (hash.new ≡ hash_of (key p))) ⊎ ((result ≡ spec.out_of_memory) × (hash.new ≡ hash.old)) }
+
+    // A faulty text is rejected, and nothing is written.
+    ensures refused { (e : URIReferenceError) → fault text.now ≡ Some e → (result ≡ spec.code_of e) × (hash.new ≡ hash.old) }
+{
+    match hashed(alloc, text) {
+        Ok(number) => {
+            *hash = number;
+            ACCEPTED
+        }
+        Err(code) => code,
+    }
+}
+
+/// Writes the text of the normal form of a reference to the buffer.
+#[unsafe(no_mangle)]
+pub extern "C" fn uriparse_normalize(
+    alloc: Global,
+    text: &[u8],
+    out: &mut [u8],
+    needed: &mut usize,
+) -> u32
+    // The buffer holds the printed normal form, or it is too small, or memory runs out.
+    ensures written { (p : Parts) → Spells text.now p → IsWritten (print (normal p)) out.old out.new needed.new result }
+
+    // A faulty text is rejected, and the buffer is kept.
+    ensures refused { (e : URIReferenceError) → fault text.now ≡ Some e → IsRefused (spec.code_of e) out.old out.new needed.new result }
+{
+    answer(normalized(alloc, text), out, needed)
+}
+
+/// Resolves a reference against a base, and writes the text of the target to the buffer.
+#[unsafe(no_mangle)]
+pub extern "C" fn uriparse_resolve(
+    alloc: Global,
+    base: &[u8],
+    reference: &[u8],
+    out: &mut [u8],
+    needed: &mut usize,
+) -> u32
+    // The buffer holds the printed target of section 5.2.2, or it is too small, or memory runs out.
+    ensures written { (b r t : Parts) → Spells base.now b → is_some b.scheme ≡ true → Spells reference.now r → target b r ≡ Some t → IsWritten (print t) out.old out.new needed.new result }
+
+    // There is no target if the merged paths have too many segments.
+    ensures too_long { (b r : Parts) → Spells base.now b → is_some b.scheme ≡ true → Spells reference.now r → target b r ≡ None → IsRefusedOrWant spec.too_many_segments out.old out.new needed.new result }
+
+    // A base without a scheme is rejected, and so is a faulty text, the base first.
+    ensures relative { (b : Parts) → Spells base.now b → is_some b.scheme ≡ false → IsRefusedOrWant (spec.base_code spec.no_scheme) out.old out.new needed.new result }
+    ensures base { (e : URIReferenceError) → fault base.now ≡ Some e → IsRefused (spec.base_code (spec.uri_code (told e))) out.old out.new needed.new result }
+    ensures reference { (b : Parts) (e : URIReferenceError) → Spells base.now b → is_some b.scheme ≡ true → fault reference.now ≡ Some e → IsRefusedOrWant (spec.code_of e) out.old out.new needed.new result }
+{
+    answer(resolved(alloc, base, reference), out, needed)
+}
