@@ -74,3 +74,16 @@ pub fn starve<F: Fn(Global) -> Outcome>(
     outcomes.push(work(alloc))?;
     Ok(outcomes)
 }
+
+/// Runs the work where the heap refuses each request for memory. Answers whether one was refused
+/// and the work holds.
+pub fn holds_without_memory<F: FnOnce() -> bool>(alloc: Global, work: F) -> Result<bool, AllocError>
+    requires { F.IsAlwaysCallable work }
+{
+    let taken = take_all(alloc)?;
+    let one: Result<Vec<u8>, AllocError> = Vec::with_capacity(alloc, 1);
+    let is_refused = one.is_err();
+    let holds = work();
+    drop(taken);
+    Ok(is_refused && holds)
+}

@@ -6,4 +6,6 @@ mod components;
 #[cfg(test)]
 mod long;
 #[cfg(test)]
+mod no_memory;
+#[cfg(test)]
 mod texts;
