@@ -1,7 +1,9 @@
 //! Builders of references, URIs and relative references.
 
-use rows::answer::{Answer, refused, shown, verdict, word, words};
-use std::alloc::Global;
+use rows::answer::{
+    Answer, after_refusal, complaint_of_change, refused, shown, verdict, word, words,
+};
+use std::alloc::{AllocError, Global};
 use std::fmt::Display;
 use uriparse::{
     RelativeReference, RelativeReferenceBuilder, RelativeReferenceError, URI, URIBuilder, URIError,
@@ -328,6 +330,85 @@ fn builders(alloc: Global, command: &str, left: &str, right: &str) -> Answer {
     }
 }
 
+/// What is built after another path is given, of a builder that is equal to another one. After want
+/// of memory it is to be so still.
+fn with_path<'t>(
+    alloc: Global,
+    builder: URIReferenceBuilder<'t>,
+    same: &URIReferenceBuilder<'t>,
+    path: &'t str,
+) -> Answer {
+    let mut builder = builder;
+    let complaint = complaint_of_change(alloc)?;
+    match builder.try_path(alloc, path.as_bytes()) {
+        Ok(()) => made(alloc, builder.build()),
+        Err(_) => after_refusal(builder == *same, complaint),
+    }
+}
+
+/// The same of a builder of URIs.
+fn uri_with_path<'t>(
+    alloc: Global,
+    builder: URIBuilder<'t>,
+    same: &URIBuilder<'t>,
+    path: &'t str,
+) -> Answer {
+    let mut builder = builder;
+    let complaint = complaint_of_change(alloc)?;
+    match builder.try_path(alloc, path.as_bytes()) {
+        Ok(()) => made(alloc, builder.build()),
+        Err(_) => after_refusal(builder == *same, complaint),
+    }
+}
+
+/// The same of a builder of relative references.
+fn relative_with_path<'t>(
+    alloc: Global,
+    builder: RelativeReferenceBuilder<'t>,
+    same: &RelativeReferenceBuilder<'t>,
+    path: &'t str,
+) -> Answer {
+    let mut builder = builder;
+    let complaint = complaint_of_change(alloc)?;
+    match builder.try_path(alloc, path.as_bytes()) {
+        Ok(()) => made(alloc, builder.build()),
+        Err(_) => after_refusal(builder == *same, complaint),
+    }
+}
+
+/// What is built of the parts of what a text reads as, and another path.
+fn another_path(alloc: Global, text: &str, path: &str) -> Answer {
+    let Ok(builder) = builder_of(alloc, text) else {
+        return Err(AllocError);
+    };
+    match builder_of(alloc, text) {
+        Ok(same) => with_path(alloc, builder, &same, path),
+        Err(why) => refused(alloc, why),
+    }
+}
+
+/// The same of a URI.
+fn another_path_of_uri(alloc: Global, text: &str, path: &str) -> Answer {
+    let Ok(builder) = builder_of_uri(alloc, text) else {
+        return Err(AllocError);
+    };
+    match builder_of_uri(alloc, text) {
+        Ok(same) => uri_with_path(alloc, builder, &same, path),
+        Err(why) => refused(alloc, why),
+    }
+}
+
+/// The same of a relative reference.
+fn another_path_of_relative(alloc: Global, text: &str, path: &str) -> Answer {
+    let Ok(builder) = builder_of_relative(alloc, text) else {
+        return Err(AllocError);
+    };
+    match builder_of_relative(alloc, text) {
+        Ok(same) => relative_with_path(alloc, builder, &same, path),
+        Err(why) => refused(alloc, why),
+    }
+}
+
 /// The answer to a question about builders.
 pub fn answer(alloc: Global, asked: &str) -> Answer {
     let (command, rest) = word(asked);
@@ -341,6 +422,9 @@ pub fn answer(alloc: Global, asked: &str) -> Answer {
         "builders" | "uri-builders" | "relative-builders" => {
             builders(alloc, command, text, other)
         }
+        "another-path" => another_path(alloc, text, other),
+        "another-path-of-uri" => another_path_of_uri(alloc, text, other),
+        "another-path-of-relative" => another_path_of_relative(alloc, text, other),
         _ => of_texts(alloc, command, split_texts(rest)),
     }
 }
@@ -375,6 +459,10 @@ build-relative - h:x a - - -> invalid port character
 build-relative - - 'a b' - - -> invalid path character
 build-relative - - a % - -> invalid query percent encoding
 build-relative - - a - # -> invalid fragment character
+another-path s://u@h:8/a?q#f /b/c -> s://u@h:8/b/c?q#f
+another-path ?q '' -> ?q
+another-path-of-uri s://u@h:8/a?q#f /b/c -> s://u@h:8/b/c?q#f
+another-path-of-relative //u@h:8/a?q#f b -> //u@h:8/b?q#f
 after-refusals s h a q f -> s://h/a?q#f
 after-refusals - - a - - -> missing scheme
 after-refusals s - - - - -> missing path

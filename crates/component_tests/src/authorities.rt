@@ -1,7 +1,8 @@
 //! Authorities.
 
-use rows::answer::{Answer, printed, said, shown, told, words};
+use rows::answer::{Answer, after_refusal, complaint_of_change, printed, said, shown, told, words};
 use rows::same::{same, same_as};
+use rows::written::writes;
 use std::alloc::Global;
 use uriparse_authority::authority::{
     Authority, AuthorityError, Host, Password, Username, parse_port,
@@ -157,14 +158,27 @@ fn authority_of_password<'t>(alloc: Global, word: &'t str, host: &'t str) -> Ans
     }
 }
 
-/// The text of the normal form, or "normal" where the authority is that already.
-fn normalized(alloc: Global, authority: &mut Authority<'_>) -> Answer {
-    let was_normal = authority.is_normalized();
-    authority.normalize(alloc)?;
+/// The text of an authority that was brought into normal form, or "normal" where it was in it
+/// before.
+fn told_normal(alloc: Global, authority: &Authority<'_>, was_normal: bool) -> Answer {
     match (was_normal, authority.is_normalized()) {
         (_, false) => said(alloc, "not normal"),
         (true, true) => said(alloc, "normal"),
         (false, true) => authority.to_string(alloc),
+    }
+}
+
+/// The same of the normal form. After want of memory the authority is to be as it was.
+fn normalized(alloc: Global, authority: &mut Authority<'_>) -> Answer {
+    let was_normal = authority.is_normalized();
+    let text = authority.to_string(alloc)?;
+    let complaint = complaint_of_change(alloc)?;
+    match authority.normalize(alloc) {
+        Ok(()) => told_normal(alloc, authority, was_normal),
+        Err(_) => after_refusal(
+            !authority.is_normalized() && writes(authority, text.as_str()),
+            complaint,
+        ),
     }
 }
 

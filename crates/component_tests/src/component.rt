@@ -1,6 +1,6 @@
 //! What the components have in common: those that hold one text.
 
-use rows::answer::{Answer, printed, said, shown, verdict};
+use rows::answer::{Answer, after_refusal, complaint_of_change, printed, said, shown, verdict};
 use rows::same::hash_of;
 use std::alloc::{AllocError, Global};
 use std::fmt::Display;
@@ -60,14 +60,30 @@ pub fn read<T: Component, E: Display + Drop>(alloc: Global, answer: Result<T, E>
     }
 }
 
-/// The text of the normal form, or "normal" where the value is that already.
-fn normalized<T: Component>(alloc: Global, value: &mut T) -> Answer {
-    let was_normal = value.told("").is_normal;
-    value.make_normal(alloc)?;
+/// The text of a value that was brought into normal form, or "normal" where it was in it before.
+fn told_normal<T: Component>(alloc: Global, value: &T, was_normal: bool) -> Answer {
     match (was_normal, value.told("").is_normal) {
         (_, false) => said(alloc, "not normal"),
         (true, true) => said(alloc, "normal"),
         (false, true) => text_of(alloc, value),
+    }
+}
+
+/// Whether a value is in no normal form and has this text, as it is to be after want of memory.
+fn is_left<T: Component>(value: &T, text: &str) -> bool {
+    let told = value.told(text);
+    !told.is_normal && told.text == text && told.is_other == (true, true)
+}
+
+/// The text of the normal form, or "normal" where the value is that already. After want of memory
+/// the value is to be as it was.
+fn normalized<T: Component>(alloc: Global, value: &mut T) -> Answer {
+    let was_normal = value.told("").is_normal;
+    let text = said(alloc, value.told("").text)?;
+    let complaint = complaint_of_change(alloc)?;
+    match value.make_normal(alloc) {
+        Ok(()) => told_normal(alloc, value, was_normal),
+        Err(_) => after_refusal(is_left(value, text.as_str()), complaint),
     }
 }
 

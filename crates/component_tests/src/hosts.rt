@@ -1,8 +1,9 @@
 //! Hosts, addresses, and the parts of authorities behind their names.
 
-use rows::answer::{Answer, printed, said, shown, words};
+use rows::answer::{Answer, after_refusal, complaint_of_change, printed, said, shown, words};
 use rows::authorities::{kind_of, listed_authority};
 use rows::same::same_as;
+use rows::written::writes;
 use std::alloc::Global;
 use uriparse_authority::authority::{Authority, Host, IpAddr, Ipv4Addr, Ipv6Addr};
 
@@ -38,14 +39,27 @@ fn host(alloc: Global, command: &str, text: &str, other: &str) -> Answer {
     }
 }
 
-/// The kind and the text of the normal form, or "normal" where the host is that already.
-fn normalized(alloc: Global, host: &mut Host<'_>) -> Answer {
-    let was_normal = host.is_normalized();
-    host.normalize(alloc)?;
+/// The kind and the text of a host that was brought into normal form, or "normal" where it was in
+/// it before.
+fn told_normal(alloc: Global, host: &Host<'_>, was_normal: bool) -> Answer {
     match (was_normal, host.is_normalized()) {
         (_, false) => said(alloc, "not normal"),
         (true, true) => said(alloc, "normal"),
         (false, true) => told(alloc, host),
+    }
+}
+
+/// The same of the normal form. After want of memory the host is to be as it was.
+fn normalized(alloc: Global, host: &mut Host<'_>) -> Answer {
+    let was_normal = host.is_normalized();
+    let text = host.to_string(alloc)?;
+    let complaint = complaint_of_change(alloc)?;
+    match host.normalize(alloc) {
+        Ok(()) => told_normal(alloc, host, was_normal),
+        Err(_) => after_refusal(
+            !host.is_normalized() && writes(host, text.as_str()),
+            complaint,
+        ),
     }
 }
 

@@ -1,39 +1,55 @@
 //! Edits and copies of paths.
 
 use crate::paths::told;
-use rows::answer::{Answer, refused, repeated, said, words};
+use rows::answer::{Answer, complaint_of_change, refused, repeated, said, words};
+use rows::written::writes;
 use std::alloc::Global;
 use std::test::Fail;
 use uriparse_path::path::{MAX_SEGMENTS, Path, PathError, Segment};
 
-/// The path's text after a push, or the refusal, after which the path is to be as it was.
-fn pushed(alloc: Global, answer: Result<(), PathError>, path: &Path<'_>, text: &str) -> Answer {
+/// The path's text after a push, or the refusal, after which the path is to be as it was: else the
+/// complaint.
+fn pushed(
+    alloc: Global,
+    answer: Result<(), PathError>,
+    path: &Path<'_>,
+    text: &str,
+    complaint: String,
+) -> Answer {
     match answer {
         Ok(()) => told(alloc, path),
-        Err(why) if path.eq_str(text) => refused(alloc, why),
-        Err(_) => said(alloc, "refused and changed"),
+        Err(why) if writes(path, text) => refused(alloc, why),
+        Err(_) => Ok(complaint),
     }
 }
 
 fn push_bytes<'t>(alloc: Global, path: &mut Path<'t>, text: &str, bytes: &'t str) -> Answer {
+    let complaint = complaint_of_change(alloc)?;
     let answer = path.push_bytes(alloc, bytes.as_bytes());
-    pushed(alloc, answer, path, text)
+    pushed(alloc, answer, path, text, complaint)
 }
 
 fn push<'t>(alloc: Global, path: &mut Path<'t>, text: &str, segment: &'t str) -> Answer {
+    let complaint = complaint_of_change(alloc)?;
     match Segment::try_from_str(segment) {
         Ok(segment) => {
             let answer = path.push(alloc, segment);
-            pushed(alloc, answer, path, text)
+            pushed(alloc, answer, path, text, complaint)
         }
         Err(_) => said(alloc, "no segment"),
     }
 }
 
 /// An empty segment pushed, and then another.
-fn push_behind_empty<'t>(alloc: Global, path: &mut Path<'t>, segment: &'t str) -> Answer {
+fn push_behind_empty<'t>(
+    alloc: Global,
+    path: &mut Path<'t>,
+    text: &str,
+    segment: &'t str,
+) -> Answer {
+    let longer = format!(in alloc; "{text}/")?;
     match path.push(alloc, Segment::empty()) {
-        Ok(()) => push_bytes(alloc, path, "no text", segment),
+        Ok(()) => push_bytes(alloc, path, longer.as_str(), segment),
         Err(why) => refused(alloc, why),
     }
 }
@@ -103,7 +119,7 @@ fn edited<'t>(
     match command {
         "push-bytes" => push_bytes(alloc, path, text, other),
         "push" => push(alloc, path, text, other),
-        "push-behind-empty" => push_behind_empty(alloc, path, other),
+        "push-behind-empty" => push_behind_empty(alloc, path, text, other),
         "write-second" => write_second(alloc, path, other),
         "copy" => copy(alloc, path),
         "pop" | "clear" | "set-absolute" | "write-last" => changed(alloc, command, path, other),
@@ -162,6 +178,10 @@ push-bytes '' '' -> /
 push-bytes a '' -> a/
 push-bytes a/ b -> a//b
 push a %7e -> a/%7e
+push a/b/c/d %7e -> a/b/c/d/%7e
+push-bytes a/b/c/d %7e -> a/b/c/d/%7e
+push /a/b/c/d x -> /a/b/c/d/x
+push-bytes /a/b/c/d x -> /a/b/c/d/x
 push '' x -> x
 push /a b -> /a/b
 push-behind-empty '' x -> //x

@@ -1,7 +1,10 @@
 //! Paths.
 
-use rows::answer::{Answer, printed, refused, said, shows, verdict, words};
+use rows::answer::{
+    Answer, after_refusal, complaint_of_change, printed, refused, said, shows, verdict, words,
+};
 use rows::same::hash_of;
+use rows::written::writes;
 use std::alloc::{AllocError, Global};
 use uriparse_path::path::{Path, PathError};
 
@@ -89,12 +92,24 @@ fn segments_without_dots(alloc: Global, text: &str) -> Answer {
     }
 }
 
+/// Whether a path is in no normal form and prints this text, as it is to after want of memory.
+fn is_left(path: &Path<'_>, as_reference: bool, text: &str) -> bool {
+    !path.is_normalized(as_reference) && writes(path, text)
+}
+
+/// The text of the normal form. After want of memory the path, which was read from this text, is to
+/// be as it was.
+fn normalized(alloc: Global, as_reference: bool, path: &mut Path<'_>, text: &str) -> Answer {
+    let complaint = complaint_of_change(alloc)?;
+    match path.normalize(alloc, as_reference) {
+        Ok(()) => told(alloc, path),
+        Err(_) => after_refusal(is_left(path, as_reference, text), complaint),
+    }
+}
+
 fn normalize_path(alloc: Global, as_reference: bool, text: &str) -> Answer {
     match Path::try_from_str(alloc, text) {
-        Ok(mut path) => {
-            path.normalize(alloc, as_reference)?;
-            told(alloc, &path)
-        }
+        Ok(mut path) => normalized(alloc, as_reference, &mut path, text),
         Err(why) => refused(alloc, why),
     }
 }

@@ -79,6 +79,19 @@ pub fn refused<E: Display + Drop>(alloc: Global, why: E) -> Answer {
     Ok(text)
 }
 
+/// What is said of a value that want of memory changed. It is made before, while there is memory.
+pub fn complaint_of_change(alloc: Global) -> Answer {
+    said(alloc, "refused and changed")
+}
+
+/// Want of memory, where the value is as it was, else that complaint.
+pub fn after_refusal(is_unchanged: bool, complaint: String) -> Answer {
+    match is_unchanged {
+        true => Err(AllocError),
+        false => Ok(complaint),
+    }
+}
+
 /// Adds the part behind a space and its name, if there is one.
 pub fn add<T: Display>(text: &mut String, name: &str, part: Option<&T>) -> Result<(), AllocError> {
     let Some(part) = part else {

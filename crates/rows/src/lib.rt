@@ -10,6 +10,7 @@ mod ask;
 pub mod authorities;
 pub mod same;
 mod starved;
+pub mod written;
 
 pub use ask::{Layer, wrong_row, wrong_row_of_all};
 pub use starved::{complaint, wrong_starved_row_of_all};

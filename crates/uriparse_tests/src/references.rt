@@ -169,6 +169,7 @@ parts ./a:b?# -> path=./a:b query= fragment=
 reference //1.2.3.4?/? -> //1.2.3.4/?/?
 parts //1.2.3.4?/? -> ipv4=1.2.3.4 path=/ query=/?
 reference s://h/a?q#f -> s://h/a?q#f
+reference s://u:p@h/a/b/%7e?q#f -> s://u:p@h/a/b/%7e?q#f
 parts s://h/a?q#f -> scheme=s name=h path=/a query=q fragment=f
 reference a%2F/%7e#?/ -> a%2F/%7e#?/
 parts a%2F/%7e#?/ -> path=a%2F/%7e fragment=?/

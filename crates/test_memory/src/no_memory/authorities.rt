@@ -1,6 +1,7 @@
 //! Addresses, names, hosts, ports and authorities.
 
-use super::shown::{is_same, shows};
+use super::shown::is_same;
+use rows::written::writes as shows;
 use std::alloc::Global;
 use uriparse::authority::parse_port;
 use uriparse::{

@@ -1,6 +1,6 @@
 //! Builders, whose paths are read while there is memory.
 
-use super::shown::shows;
+use rows::written::writes as shows;
 use std::fmt::Display;
 use uriparse::{
     Path, RelativeReference, RelativeReferenceBuilder, RelativeReferenceError, Scheme, URI,

@@ -1,6 +1,7 @@
 //! Queries, fragments, user names, passwords and segments.
 
-use super::shown::{is_same, shows};
+use super::shown::is_same;
+use rows::written::writes as shows;
 use std::alloc::Global;
 use uriparse::authority::{PasswordError, UsernameError};
 use uriparse::{

@@ -1,6 +1,7 @@
 //! Paths, which are read while there is memory.
 
-use super::shown::{is_same, shows};
+use super::shown::is_same;
+use rows::written::writes as shows;
 use std::alloc::Global;
 use uriparse::{Path, Segment};
 

@@ -1,6 +1,7 @@
 //! References, which are read while there is memory.
 
-use super::shown::{is_same, shows};
+use super::shown::is_same;
+use rows::written::writes as shows;
 use std::alloc::Global;
 use uriparse::{Authority, Edit, Fragment, Path, Query, Scheme, URIReference, URIReferenceError};
 

@@ -1,6 +1,7 @@
 //! Schemes.
 
-use super::shown::{is_same, shows};
+use super::shown::is_same;
+use rows::written::writes as shows;
 use std::alloc::Global;
 use uriparse::scheme::UnregisteredSchemeError;
 use uriparse::{Scheme, SchemeError, SchemeStatus, UnregisteredScheme};
