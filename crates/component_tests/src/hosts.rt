@@ -2,9 +2,10 @@
 
 use rows::answer::{Answer, after_refusal, complaint_of_change, printed, said, shown, words};
 use rows::authorities::{kind_of, listed_authority};
-use rows::same::same_as;
+use rows::same::{same, same_as};
 use rows::written::writes;
 use std::alloc::Global;
+use std::hash::Hash;
 use uriparse_authority::authority::{Authority, Host, IpAddr, Ipv4Addr, Ipv6Addr};
 
 /// The kind and the text.
@@ -96,6 +97,32 @@ fn ipv6(alloc: Global, text: &str) -> Answer {
     }
 }
 
+/// The address of either version that the text spells.
+fn ip_of(text: &str) -> Option<IpAddr> {
+    match ipv4_of(text) {
+        Some(address) => Some(IpAddr::V4(address)),
+        None => Some(IpAddr::V6(ipv6_of(text)?)),
+    }
+}
+
+fn ip(alloc: Global, text: &str) -> Answer {
+    match ip_of(text) {
+        Some(address) => shown(alloc, &address),
+        None => said(alloc, "none"),
+    }
+}
+
+/// Whether two addresses are equal, by their tests and by what they feed a Hasher.
+fn same_address<T: Eq + Hash>(alloc: Global, left: Option<T>, right: Option<T>) -> Answer
+where
+    T: Drop,
+{
+    match (left, right) {
+        (Some(left), Some(right)) => same(alloc, &left, &right),
+        _ => said(alloc, "none"),
+    }
+}
+
 /// What a host tells of itself that is made of the address both ways.
 fn host_of(alloc: Global, host: Host<'_>, address: IpAddr) -> Answer {
     if host == Host::from(address) {
@@ -142,6 +169,10 @@ pub fn answer(alloc: Global, asked: &str) -> Answer {
         "normal-host" => normal_host(alloc, text),
         "ipv4" => ipv4(alloc, text),
         "ipv6" => ipv6(alloc, text),
+        "ip" => ip(alloc, text),
+        "ips" => same_address(alloc, ip_of(text), ip_of(other)),
+        "ipv4s" => same_address(alloc, ipv4_of(text), ipv4_of(other)),
+        "ipv6s" => same_address(alloc, ipv6_of(text), ipv6_of(other)),
         "host-of-address" => host_of_address(alloc, text),
         "parts-of-authority" => authority_parts(alloc, text),
         _ => host(alloc, command, text, other),
@@ -149,6 +180,20 @@ pub fn answer(alloc: Global, asked: &str) -> Answer {
 }
 
 pub const ROWS: &str = "\
+ip 1.2.3.4 -> 1.2.3.4
+ip 1:0:0:2:0:0:0:3 -> 1:0:0:2::3
+ip ::FFFF:1.2.3.4 -> ::ffff:1.2.3.4
+ip 1.2.3 -> none
+ip [::1] -> none
+ips 1.2.3.4 1.2.3.4 -> equal
+ips 1.2.3.4 1.2.3.5 -> different
+ips ::ABCD:0 ::abcd:0 -> equal
+ips ::1.2.3.4 1.2.3.4 -> different
+ipv4s 255.0.0.1 255.0.0.1 -> equal
+ipv4s 255.0.0.1 255.0.1.0 -> different
+ipv6s 1::0:2 1:0:0:0:0:0:0:2 -> equal
+ipv6s ::ffff:1.2.3.4 ::ffff:102:304 -> equal
+ipv6s 1::2 2::1 -> different
 host [1:0:0:2:0:0:0:3] -> ipv6=[1:0:0:2::3]
 copied-host [1:0:0:2:0:0:0:3] -> [1:0:0:2::3]
 hosts [1:0:0:2:0:0:0:3] [1:0:0:2::3] -> equal

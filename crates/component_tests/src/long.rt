@@ -81,6 +81,8 @@ path ' ' 1000001 / '' -> invalid path character
 path %4 1000001 / '' -> invalid path percent encoding
 queries '' 100000 %7e ~ -> equal
 queries '' 100000 %7E %7f -> different
+queries '' 1000000 %7e ~ -> equal
+queries '' 1000000 %7E %7f -> different
 long-future '' 1 A a -> equal
 long-future '' 64 A a -> equal
 long-future '' 32768 A a -> equal

@@ -64,6 +64,31 @@ fn write_last<'t>(path: &mut Path<'t>, segment: &'t str) {
     }
 }
 
+/// Another second segment written through the loan, and the dot segments removed.
+fn remove_second<'t>(alloc: Global, path: &mut Path<'t>, segment: &'t str) -> Answer {
+    write_at_second(path, segment);
+    path.remove_dot_segments();
+    told(alloc, path)
+}
+
+/// An empty segment, a double dot and another segment pushed, whether each push was accepted.
+fn push_three<'t>(alloc: Global, path: &mut Path<'t>, segment: &'t str) -> Result<(), PathError> {
+    path.push(alloc, Segment::empty())?;
+    path.push_bytes(alloc, b"..")?;
+    path.push_bytes(alloc, segment.as_bytes())
+}
+
+/// The same, and the dot segments removed.
+fn remove_behind_empty<'t>(alloc: Global, path: &mut Path<'t>, segment: &'t str) -> Answer {
+    match push_three(alloc, path, segment) {
+        Ok(()) => {
+            path.remove_dot_segments();
+            told(alloc, path)
+        }
+        Err(why) => refused(alloc, why),
+    }
+}
+
 /// Another second segment written through the loan.
 fn write_at_second<'t>(path: &mut Path<'t>, segment: &'t str) {
     if let Ok(segment) = Segment::try_from_str(segment) {
@@ -121,6 +146,8 @@ fn edited<'t>(
         "push" => push(alloc, path, text, other),
         "push-behind-empty" => push_behind_empty(alloc, path, text, other),
         "write-second" => write_second(alloc, path, other),
+        "remove-second" => remove_second(alloc, path, other),
+        "remove-behind-empty" => remove_behind_empty(alloc, path, other),
         "copy" => copy(alloc, path),
         "pop" | "clear" | "set-absolute" | "write-last" => changed(alloc, command, path, other),
         _ => said(alloc, "no such command"),
@@ -198,6 +225,9 @@ set-absolute // false -> /
 write-last a/b/c .. -> a/
 write-last a/b d -> a/d
 write-last /a/b %2E%2e -> /
+remove-second a/b/c .. -> /c
+remove-second a/b/c x -> a/x/c
+remove-behind-empty '' x -> /x
 write-second a/b/c .. -> other other c
 write-second a/b/c x -> normal normal a/x/c
 write-second a/../c x -> normal normal a/x/c

@@ -1,8 +1,8 @@
 //! The rows of each layer, with ample memory and where it is refused.
 
 use crate::{
-    kinds, limits, normal_forms, reference_edits, references, relations, relatives, resolutions,
-    uris,
+    kinds, limits, made, normal_forms, reference_edits, references, relations, relatives,
+    resolutions, uris,
 };
 use rows::answer::Answer;
 use rows::{Layer, wrong_row_of_all, wrong_starved_row_of_all};
@@ -20,6 +20,7 @@ enum Part {
     Uris,
     Relatives,
     Limits,
+    Made,
 }
 
 impl Layer for Part {
@@ -34,6 +35,7 @@ impl Layer for Part {
             Part::Uris => uris::ROWS,
             Part::Relatives => relatives::ROWS,
             Part::Limits => limits::ROWS,
+            Part::Made => made::ROWS,
         }
     }
 
@@ -47,11 +49,12 @@ impl Layer for Part {
             Part::Uris => uris::answer(alloc, asked),
             Part::Relatives => relatives::answer(alloc, asked),
             Part::Limits => limits::answer(alloc, asked),
+            Part::Made => made::answer(alloc, asked),
         }
     }
 }
 
-static PARTS: [Part; 9] = [
+static PARTS: [Part; 10] = [
     Part::Limits,
     Part::References,
     Part::ReferenceEdits,
@@ -61,6 +64,7 @@ static PARTS: [Part; 9] = [
     Part::Kinds,
     Part::Uris,
     Part::Relatives,
+    Part::Made,
 ];
 
 #[test]
