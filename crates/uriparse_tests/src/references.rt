@@ -8,7 +8,7 @@ use rows::answer::{Answer, printed, said, words};
 use rows::authorities::AuthorityParts;
 use std::alloc::{AllocError, Global};
 use std::convert::identity;
-use uriparse::{Authority, Fragment, Path, Query, URIReference, URIReferenceError};
+use uriparse::{Authority, Fragment, Path, Query, Scheme, URIReference, URIReferenceError};
 
 impl<'t> Shown<'t> for URIReference<'t> {
     fn as_reference(&self) -> &URIReference<'t> {

@@ -6,7 +6,8 @@ use rows::authorities::AuthorityParts;
 use std::alloc::{AllocError, Global};
 use std::convert::identity;
 use uriparse::{
-    Authority, Fragment, Path, Query, RelativeReference, RelativeReferenceError, URIReference,
+    Authority, Fragment, Path, Query, RelativeReference, RelativeReferenceError, Scheme,
+    URIReference,
 };
 
 impl<'t> Shown<'t> for RelativeReference<'t> {
