@@ -2,8 +2,9 @@
 
 use rows::answer::{Answer, printed, said, words};
 use std::alloc::Global;
+use std::fmt::Display;
 use std::str;
-use uriparse_authority::authority::{Password, Username};
+use uriparse_authority::authority::{Password, RegisteredName, Username};
 use uriparse_path::path::Segment;
 use uriparse_text::fragment::Fragment;
 use uriparse_text::parts::{Kind, Text};
@@ -58,10 +59,21 @@ fn segment_bytes(alloc: Global, text: &str) -> Answer {
     }
 }
 
-fn query_bytes(alloc: Global, text: &str) -> Answer {
-    match Query::try_from_str(text) {
-        Ok(query) => {
-            let bytes = query.decode(alloc)?;
+fn name_bytes(alloc: Global, text: &str) -> Answer {
+    match RegisteredName::try_from_str(text) {
+        Ok(name) => {
+            let bytes = name.decode(alloc)?;
+            shown(alloc, &bytes)
+        }
+        Err(why) => printed(alloc, why),
+    }
+}
+
+/// The bytes of what was read, or the refusal.
+fn text_bytes<K: Kind, E: Display + Drop>(alloc: Global, read: Result<Text<'_, K>, E>) -> Answer {
+    match read {
+        Ok(text) => {
+            let bytes = text.decode(alloc)?;
             shown(alloc, &bytes)
         }
         Err(why) => printed(alloc, why),
@@ -78,7 +90,11 @@ pub fn answer(alloc: Global, asked: &str) -> Answer {
         "encode-username" => written(alloc, &Username::encode(alloc, text.as_bytes())?, text),
         "encode-password" => written(alloc, &Password::encode(alloc, text.as_bytes())?, text),
         "decode-segment" => segment_bytes(alloc, text),
-        "decode-query" => query_bytes(alloc, text),
+        "decode-name" => name_bytes(alloc, text),
+        "decode-query" => text_bytes(alloc, Query::try_from_str(text)),
+        "decode-fragment" => text_bytes(alloc, Fragment::try_from_str(text)),
+        "decode-username" => text_bytes(alloc, Username::try_from_str(text)),
+        "decode-password" => text_bytes(alloc, Password::try_from_str(text)),
         _ => said(alloc, "no such command"),
     }
 }
@@ -115,6 +131,23 @@ encode-username é% -> %C3%A9%25
 encode-password a/b?c -> a%2Fb%3Fc
 encode-password a:b@c -> a:b%40c
 encode-password é% -> %C3%A9%25
+decode-name '' -> ''
+decode-name H%C3%A9.Example -> Hé.Example
+decode-name %31.2.3.4 -> 1.2.3.4
+decode-name %ff%00 -> [255, 0]
+decode-name 1.2.3.4 -> invalid registered name
+decode-fragment '' -> ''
+decode-fragment %23/?%7e -> #/?~
+decode-fragment %ff%00 -> [255, 0]
+decode-fragment %4 -> invalid fragment percent encoding
+decode-username '' -> ''
+decode-username u%3Av%40 -> u:v@
+decode-username %ff%00 -> [255, 0]
+decode-username a:b -> username contains a colon character
+decode-password '' -> ''
+decode-password p:%40%2f -> p:@/
+decode-password %ff%00 -> [255, 0]
+decode-password a@ -> invalid password character
 decode-segment '' -> ''
 decode-query '' -> ''
 decode-segment a%2Fb -> a/b

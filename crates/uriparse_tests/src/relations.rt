@@ -4,18 +4,22 @@ use rows::answer::{Answer, refused, said, words};
 use std::alloc::Global;
 use uriparse::{URI, URIReference};
 
+/// The text of the target of a reference against this base.
+fn target(alloc: Global, base: &URI<'_>, reference: &URIReference<'_>) -> Answer {
+    match base.resolve(alloc, reference) {
+        Ok(target) => target.to_string(alloc),
+        Err(why) => refused(alloc, why),
+    }
+}
+
 /// The text of the reference, if the base resolves it to what it resolves the URI to.
 fn led(alloc: Global, base: &URI<'_>, uri: URI<'_>, reference: &URIReference<'_>) -> Answer {
-    let Ok(target) = base.resolve(alloc, reference) else {
-        return said(alloc, "no target");
-    };
     let whole = URIReference::from(uri);
-    match base.resolve(alloc, &whole) {
-        Ok(wanted) if wanted.to_string(alloc)?.as_str() == target.to_string(alloc)?.as_str() => {
-            reference.to_string(alloc)
-        }
-        Ok(_) => said(alloc, "another target"),
-        Err(why) => refused(alloc, why),
+    let wanted = target(alloc, base, &whole)?;
+    let target = target(alloc, base, reference)?;
+    match target.as_str() == wanted.as_str() {
+        true => reference.to_string(alloc),
+        false => said(alloc, "another target"),
     }
 }
 
@@ -41,6 +45,28 @@ pub fn answer(alloc: Global, asked: &str) -> Answer {
 
 pub const ROWS: &str = "\
 relate http://a/b/c/d;p?q http://a/b/c/g -> g
+relate http://a/b/c/d;p?q g:h -> g:h
+relate http://a/b/c/d;p?q http:g -> http:g
+relate http://a/b/c/d;p?q http://a/b/c/g/ -> g/
+relate http://a/b/c/d;p?q http://a/b/c/g?y -> g?y
+relate http://a/b/c/d;p?q http://a/b/c/g#s -> g#s
+relate http://a/b/c/d;p?q http://a/b/c/g?y#s -> g?y#s
+relate http://a/b/c/d;p?q http://a/b/c/;x -> ;x
+relate http://a/b/c/d;p?q http://a/b/c/g;x -> g;x
+relate http://a/b/c/d;p?q http://a/b/c/g;x?y#s -> g;x?y#s
+relate http://a/b/c/d;p?q http://a/b/g -> ../g
+relate http://a/b/c/d;p?q http://a/b/c/g. -> g.
+relate http://a/b/c/d;p?q http://a/b/c/.g -> .g
+relate http://a/b/c/d;p?q http://a/b/c/g.. -> g..
+relate http://a/b/c/d;p?q http://a/b/c/..g -> ..g
+relate http://a/b/c/d;p?q http://a/b/c/g/h -> g/h
+relate http://a/b/c/d;p?q http://a/b/c/h -> h
+relate http://a/b/c/d;p?q http://a/b/c/g;x=1/y -> g;x=1/y
+relate http://a/b/c/d;p?q http://a/b/c/y -> y
+relate http://a/b/c/d;p?q http://a/b/c/g?y/./x -> g?y/./x
+relate http://a/b/c/d;p?q http://a/b/c/g?y/../x -> g?y/../x
+relate http://a/b/c/d;p?q http://a/b/c/g#s/./x -> g#s/./x
+relate http://a/b/c/d;p?q http://a/b/c/g#s/../x -> g#s/../x
 relate http://a/b/c/d;p?q http://a/b/c/d;p?q -> ''
 relate http://a/b/c/d;p?q http://a/b/c/d;p?q#s -> #s
 relate http://a/b/c/d;p?q http://a/b/c/d;p?y -> ?y
