@@ -55,6 +55,7 @@ normalize s:.//x -> s:/x
 normalize s:.///x -> s:/.//x
 normalize ../. -> ..
 normalize SCHEME: -> scheme:
+normalize SCHEME://%7e:%7e@H%7e/a/../%7e?%7e#%7e -> scheme://~:~@h~/~?~#~
 normalize a//.. -> a/
 normalize x/..//y -> .//y
 normalize a/../../b -> ../b
