@@ -49,23 +49,31 @@ struct Groups {
     is_dotted: bool,
 }
 
-/// Adds a group, if there is room.
-fn add(groups: &mut Groups, value: u16) -> Option<()> {
-    *groups.values.get_mut(groups.count)? = value;
-    groups.count = groups.count.saturating_add(1);
-    Some(())
+/// These groups and one more, if there is room.
+fn longer(groups: Groups, value: u16) -> Option<Groups> {
+    let mut values = groups.values;
+    let place = values.get_mut(groups.count)?;
+    *place = value;
+    Some(Groups {
+        values,
+        count: groups.count.saturating_add(1),
+        is_dotted: groups.is_dotted,
+    })
 }
 
-/// Adds the group that is written so, `h16`, or the two of an address of version 4.
-fn add_piece(groups: &mut Groups, piece: &[u8]) -> Option<()> {
-    match ipv4(piece) {
-        Some([a, b, c, d]) => {
-            groups.is_dotted = true;
-            add(groups, u16::from_be_bytes([a, b]))?;
-            add(groups, u16::from_be_bytes([c, d]))
-        }
-        None => add(groups, number(piece, 16, 4)?),
-    }
+/// These groups and the one that is written so, `h16`, or the two of an address of version 4.
+fn longer_by(groups: Groups, piece: &[u8]) -> Option<Groups> {
+    let Some(octets) = ipv4(piece) else {
+        return longer(groups, number(piece, 16, 4)?);
+    };
+    let [a, b, c, d] = octets;
+    let one = longer(groups, u16::from_be_bytes([a, b]))?;
+    let two = longer(one, u16::from_be_bytes([c, d]))?;
+    Some(Groups {
+        values: two.values,
+        count: two.count,
+        is_dotted: true,
+    })
 }
 
 /// The groups of a text with a colon between each two.
@@ -82,7 +90,7 @@ fn groups_of(text: &[u8]) -> Option<Groups> {
         if groups.is_dotted {
             return None;
         }
-        add_piece(&mut groups, piece)?;
+        groups = longer_by(groups, piece)?;
     }
     Some(groups)
 }
