@@ -2,14 +2,27 @@
 
 use crate::oracle::cut;
 
+/// The number that a digit stands for in the widest notation, which is the hexadecimal one.
+fn digit_value(digit: u8) -> Option<u32> {
+    match digit {
+        b'0'..=b'9' => Some(u32::from(digit - b'0')),
+        b'A'..=b'F' => Some(u32::from(digit - b'A') + 10),
+        b'a'..=b'f' => Some(u32::from(digit - b'a') + 10),
+        _ => None,
+    }
+}
+
 /// The number that these digits write, if there are any and no more than so many.
 fn number(digits: &[u8], radix: u32, most: usize) -> Option<u16> {
     if digits.is_empty() || digits.len() > most {
         return None;
     }
     let mut number = 0u32;
-    for digit in digits {
-        let value = char::from(*digit).to_digit(radix)?;
+    for &digit in digits {
+        let value = digit_value(digit)?;
+        if value >= radix {
+            return None;
+        }
         number = number.checked_mul(radix)?.checked_add(value)?;
     }
     u16::try_from(number).ok()
