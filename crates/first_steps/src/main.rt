@@ -14,18 +14,29 @@ fn main(rt: HostRuntime) -> io::Result<()> {
     follow(alloc, "example.com/a", "b", out)
 }
 
-/// Prints where a page's link leads and what it has, or why one of the texts is rejected.
+/// Prints where a page's link leads, or why one of the texts is rejected.
 fn follow<O: Write>(alloc: Global, page: &str, link: &str, out: &mut O) -> io::Result<()> {
-    let page = match URI::try_from_str(alloc, page) {
-        Ok(uri) => uri,
-        Err(error) => return writeln!(out, "{page}: {error}"),
-    };
-    let link = match URIReference::try_from_str(alloc, link) {
-        Ok(reference) => reference,
-        Err(error) => return writeln!(out, "{link}: {error}"),
-    };
-    match page.resolve(alloc, &link) {
-        Ok(target) if target == page => writeln!(out, "{target} is the page itself"),
+    match URI::try_from_str(alloc, page) {
+        Ok(base) => follow_from(alloc, &base, link, out),
+        Err(error) => writeln!(out, "{page}: {error}"),
+    }
+}
+
+fn follow_from<O: Write>(alloc: Global, page: &URI<'_>, link: &str, out: &mut O) -> io::Result<()> {
+    match URIReference::try_from_str(alloc, link) {
+        Ok(reference) => show(alloc, page, &reference, out),
+        Err(error) => writeln!(out, "{link}: {error}"),
+    }
+}
+
+fn show<O: Write>(
+    alloc: Global,
+    page: &URI<'_>,
+    link: &URIReference<'_>,
+    out: &mut O,
+) -> io::Result<()> {
+    match page.resolve(alloc, link) {
+        Ok(target) if target == *page => writeln!(out, "{target} is the page itself"),
         Ok(target) => writeln!(out, "{target} has the path {}", target.path()),
         Err(error) => writeln!(out, "{error}"),
     }
