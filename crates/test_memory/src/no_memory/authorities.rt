@@ -48,8 +48,14 @@ fn name_tells(value: &RegisteredName<'_>, text: &str) -> bool {
 }
 
 /// Whether a name that is in normal form is brought into it, and equals another.
-fn name_stays(alloc: Global, value: &mut RegisteredName<'_>, other: &RegisteredName<'_>) -> bool {
-    value.normalize(alloc).is_ok() && is_same(value, other) && is_same(&value.as_borrowed(), other)
+fn name_stays<'t>(
+    alloc: Global,
+    value: &mut RegisteredName<'t>,
+    other: &RegisteredName<'t>,
+) -> bool {
+    value.normalize(alloc).is_ok()
+        && is_same(value, other)
+        && is_same(&value.as_borrowed(), &other.as_borrowed())
 }
 
 fn name_is_read(alloc: Global, text: &str) -> bool {
@@ -73,8 +79,10 @@ fn future_tells(value: &IPvFuture<'_>, text: &str) -> bool {
 }
 
 /// Whether such an address that is in normal form is brought into it, and equals another.
-fn future_stays(alloc: Global, value: &mut IPvFuture<'_>, other: &IPvFuture<'_>) -> bool {
-    value.normalize(alloc).is_ok() && is_same(value, other) && is_same(&value.as_borrowed(), other)
+fn future_stays<'t>(alloc: Global, value: &mut IPvFuture<'t>, other: &IPvFuture<'t>) -> bool {
+    value.normalize(alloc).is_ok()
+        && is_same(value, other)
+        && is_same(&value.as_borrowed(), &other.as_borrowed())
 }
 
 fn future_is_read(alloc: Global, text: &str) -> bool {
@@ -120,12 +128,12 @@ fn kinds_of(host: &Host<'_>) -> [bool; 4] {
 
 /// Whether a host that is in normal form shows this text, is brought into that form, and equals
 /// another.
-fn host_stays(alloc: Global, value: &mut Host<'_>, other: &Host<'_>, text: &str) -> bool {
+fn host_stays<'t>(alloc: Global, value: &mut Host<'t>, other: &Host<'t>, text: &str) -> bool {
     shows(value, text)
         && value.is_normalized()
         && value.normalize(alloc).is_ok()
         && is_same(value, other)
-        && is_same(&value.as_borrowed(), other)
+        && is_same(&value.as_borrowed(), &other.as_borrowed())
 }
 
 /// Whether the host of this text has the kind that these tests tell.
@@ -212,8 +220,10 @@ fn authority_tells(authority: &Authority<'_>) -> bool {
 }
 
 /// Whether that authority stays as it is when it is brought into normal form, and equals another.
-fn authority_stays(alloc: Global, value: &mut Authority<'_>, other: &Authority<'_>) -> bool {
-    value.normalize(alloc).is_ok() && is_same(value, other) && is_same(&value.as_borrowed(), other)
+fn authority_stays<'t>(alloc: Global, value: &mut Authority<'t>, other: &Authority<'t>) -> bool {
+    value.normalize(alloc).is_ok()
+        && is_same(value, other)
+        && is_same(&value.as_borrowed(), &other.as_borrowed())
 }
 
 fn authority_is_read(alloc: Global) -> bool {

@@ -20,15 +20,17 @@ fn text_tells<K: Kind>(value: &Text<'_, K>, text: &str) -> bool {
 }
 
 /// Whether a value that is in normal form is brought into it, and equals another.
-fn text_stays<K: Kind>(alloc: Global, value: &mut Text<'_, K>, other: &Text<'_, K>) -> bool {
-    value.normalize(alloc).is_ok() && is_same(value, other) && is_same(&value.as_borrowed(), other)
+fn text_stays<'t, K: Kind>(alloc: Global, value: &mut Text<'t, K>, other: &Text<'t, K>) -> bool {
+    value.normalize(alloc).is_ok()
+        && is_same(value, other)
+        && is_same(&value.as_borrowed(), &other.as_borrowed())
 }
 
 /// Whether a text was read by both readers, and what they read tells it.
-fn is_text<K: Kind, E: Drop>(
+fn is_text<'t, K: Kind, E: Drop>(
     alloc: Global,
-    value: Result<Text<'_, K>, E>,
-    other: Result<Text<'_, K>, E>,
+    value: Result<Text<'t, K>, E>,
+    other: Result<Text<'t, K>, E>,
     text: &str,
 ) -> bool {
     let Ok(mut value) = value else {
@@ -138,8 +140,10 @@ fn segment_tells(value: &Segment<'_>, text: &str) -> bool {
 }
 
 /// Whether a segment that is in normal form is brought into it, and equals another.
-fn segment_stays(alloc: Global, value: &mut Segment<'_>, other: &Segment<'_>) -> bool {
-    value.normalize(alloc).is_ok() && is_same(value, other) && is_same(&value.as_borrowed(), other)
+fn segment_stays<'t>(alloc: Global, value: &mut Segment<'t>, other: &Segment<'t>) -> bool {
+    value.normalize(alloc).is_ok()
+        && is_same(value, other)
+        && is_same(&value.as_borrowed(), &other.as_borrowed())
 }
 
 fn segment_is_read(alloc: Global, text: &str) -> bool {

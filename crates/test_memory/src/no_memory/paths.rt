@@ -6,7 +6,7 @@ use std::alloc::Global;
 use uriparse::{Path, Segment};
 
 /// Whether the path of `/a/./%7e/b` tells so.
-pub fn path_tells(path: &Path<'_>, other: &Path<'_>) -> bool {
+pub fn path_tells<'t>(path: &Path<'t>, other: &Path<'t>) -> bool {
     path.segments().len() == 4
         && path.is_absolute()
         && !path.is_relative()

@@ -58,7 +58,7 @@ fn kinds_of(reference: &URIReference<'_>) -> [bool; 6] {
 }
 
 /// Whether the reference tells what it is, and equals another.
-pub fn reference_tells(reference: &URIReference<'_>, other: &URIReference<'_>) -> bool {
+pub fn reference_tells<'t>(reference: &URIReference<'t>, other: &URIReference<'t>) -> bool {
     parts_are_told(reference)
         && authority_is_told(reference)
         && tests_of(reference) == [true; 7]

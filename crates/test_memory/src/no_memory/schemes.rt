@@ -17,8 +17,10 @@ fn scheme_tells(value: &Scheme<'_>, text: &str) -> bool {
 }
 
 /// Whether a scheme that is in normal form is brought into it, and equals another.
-fn scheme_stays(alloc: Global, value: &mut Scheme<'_>, other: &Scheme<'_>) -> bool {
-    value.normalize(alloc).is_ok() && is_same(value, other) && is_same(&value.as_borrowed(), other)
+fn scheme_stays<'t>(alloc: Global, value: &mut Scheme<'t>, other: &Scheme<'t>) -> bool {
+    value.normalize(alloc).is_ok()
+        && is_same(value, other)
+        && is_same(&value.as_borrowed(), &other.as_borrowed())
 }
 
 fn scheme_is_read(alloc: Global, text: &str) -> bool {
@@ -42,12 +44,14 @@ fn unregistered_tells(value: &UnregisteredScheme<'_>, text: &str) -> bool {
 }
 
 /// Whether an unregistered scheme that is in normal form is brought into it, and equals another.
-fn unregistered_stays(
+fn unregistered_stays<'t>(
     alloc: Global,
-    value: &mut UnregisteredScheme<'_>,
-    other: &UnregisteredScheme<'_>,
+    value: &mut UnregisteredScheme<'t>,
+    other: &UnregisteredScheme<'t>,
 ) -> bool {
-    value.normalize(alloc).is_ok() && is_same(value, other) && is_same(&value.as_borrowed(), other)
+    value.normalize(alloc).is_ok()
+        && is_same(value, other)
+        && is_same(&value.as_borrowed(), &other.as_borrowed())
 }
 
 fn unregistered_is_read(alloc: Global, text: &str) -> bool {

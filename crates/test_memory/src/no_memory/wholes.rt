@@ -31,7 +31,7 @@ fn uri_tells_tests(uri: &URI<'_>) -> bool {
 }
 
 /// Whether the URI tells what it is, and equals another.
-pub fn uri_tells(uri: &URI<'_>, other: &URI<'_>) -> bool {
+pub fn uri_tells<'t>(uri: &URI<'t>, other: &URI<'t>) -> bool {
     uri_tells_parts(uri)
         && uri_tells_tests(uri)
         && !uri.can_be_a_base()
@@ -116,7 +116,7 @@ fn relative_tells_tests(relative: &RelativeReference<'_>) -> bool {
 }
 
 /// Whether the relative reference tells what it is, and equals another.
-pub fn relative_tells(relative: &RelativeReference<'_>, other: &RelativeReference<'_>) -> bool {
+pub fn relative_tells<'t>(relative: &RelativeReference<'t>, other: &RelativeReference<'t>) -> bool {
     relative_tells_parts(relative)
         && relative_tells_tests(relative)
         && relative.is_network_path_reference()
