@@ -1,8 +1,7 @@
 //! The rows of each layer, with ample memory and where it is refused.
 
 use crate::{
-    kinds, limits, made, normal_forms, reference_edits, references, relations, relatives,
-    resolutions, uris,
+    kinds, limits, normal_forms, reference_edits, references, relatives, resolutions, uris,
 };
 use rows::answer::Answer;
 use rows::{Layer, wrong_row_of_all, wrong_starved_row_of_all};
@@ -15,12 +14,10 @@ enum Part {
     ReferenceEdits,
     NormalForms,
     Resolutions,
-    Relations,
     Kinds,
     Uris,
     Relatives,
     Limits,
-    Made,
 }
 
 impl Layer for Part {
@@ -30,12 +27,10 @@ impl Layer for Part {
             Part::ReferenceEdits => reference_edits::ROWS,
             Part::NormalForms => normal_forms::ROWS,
             Part::Resolutions => resolutions::ROWS,
-            Part::Relations => relations::ROWS,
             Part::Kinds => kinds::ROWS,
             Part::Uris => uris::ROWS,
             Part::Relatives => relatives::ROWS,
             Part::Limits => limits::ROWS,
-            Part::Made => made::ROWS,
         }
     }
 
@@ -45,26 +40,22 @@ impl Layer for Part {
                 references::answer(alloc, asked)
             }
             Part::Resolutions => resolutions::answer(alloc, asked),
-            Part::Relations => relations::answer(alloc, asked),
             Part::Uris => uris::answer(alloc, asked),
             Part::Relatives => relatives::answer(alloc, asked),
             Part::Limits => limits::answer(alloc, asked),
-            Part::Made => made::answer(alloc, asked),
         }
     }
 }
 
-static PARTS: [Part; 10] = [
+static PARTS: [Part; 8] = [
     Part::Limits,
     Part::References,
     Part::ReferenceEdits,
     Part::NormalForms,
     Part::Resolutions,
-    Part::Relations,
     Part::Kinds,
     Part::Uris,
     Part::Relatives,
-    Part::Made,
 ];
 
 #[test]

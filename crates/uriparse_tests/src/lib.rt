@@ -9,8 +9,6 @@ mod layers;
 #[cfg(test)]
 mod limits;
 #[cfg(test)]
-mod made;
-#[cfg(test)]
 mod names;
 #[cfg(test)]
 mod normal_forms;
@@ -20,8 +18,6 @@ mod reference;
 mod reference_edits;
 #[cfg(test)]
 mod references;
-#[cfg(test)]
-mod relations;
 #[cfg(test)]
 mod relatives;
 #[cfg(test)]

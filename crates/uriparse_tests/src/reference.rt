@@ -38,9 +38,6 @@ pub trait Reads<'t>: Shown<'t> + Sized {
 
     /// `try_from_bytes`.
     fn of_bytes(alloc: Global, text: &'t [u8]) -> Result<Self, Self::Error>;
-
-    /// `check`.
-    fn check_bytes(text: &[u8]) -> Result<(), Self::Error>;
 }
 
 /// The other calls that references of each type have.
@@ -80,9 +77,6 @@ pub trait Reference<'t>: Reads<'t> + Eq + Hash {
 
     /// `set_fragment`.
     fn put_fragment(&mut self, new: Option<Fragment<'t>>) -> Result<(), Self::Error>;
-
-    /// `map_scheme`, to this scheme, where each reference of the type may have it.
-    fn swap_scheme(self, new: Scheme<'t>) -> Result<Self, Self::Error>;
 
     /// `map_authority`, to this authority where there is one.
     fn swap_authority(self, new: Option<Authority<'t>>) -> Result<Self, Self::Error>;
@@ -308,14 +302,6 @@ fn swapped<'t, T: Reference<'t>>(value: T, command: &str, new: &'t str) -> Resul
     }
 }
 
-/// The value with the scheme that a text reads as in place of its own.
-fn with_scheme<'t, T: Reference<'t>>(alloc: Global, value: T, new: &'t str) -> Answer {
-    match Scheme::try_from_str(new) {
-        Ok(scheme) => made(alloc, value.swap_scheme(scheme)),
-        Err(why) => refused(alloc, why),
-    }
-}
-
 /// What is made of a value that was read from this text, or the answer to another question.
 fn of_value<'t, T: Asked<'t>>(
     alloc: Global,
@@ -330,29 +316,10 @@ fn of_value<'t, T: Asked<'t>>(
         "put-together" => made(alloc, value.put_together()),
         "as-reference" => as_reference(alloc, value),
         "map-path" => made(alloc, value.keep_path()),
-        "map-scheme" => with_scheme(alloc, value, new),
         "map-authority" | "map-query" | "map-fragment" => {
             made(alloc, swapped(value, command, new))
         }
         _ => edited(alloc, command, &mut value, text, new),
-    }
-}
-
-/// What is answered where no value is asked for.
-fn outcome<V: Drop, E: Display + Drop>(alloc: Global, answer: Result<V, E>) -> Answer {
-    match answer {
-        Ok(_) => said(alloc, "accepted"),
-        Err(why) => refused(alloc, why),
-    }
-}
-
-/// What the check of a text answers, where reading the text answers the same.
-fn checked<'t, T: Reads<'t>>(alloc: Global, text: &'t str) -> Answer {
-    let by_check = outcome(alloc, T::check_bytes(text.as_bytes()))?;
-    let by_reading = outcome(alloc, T::of_bytes(alloc, text.as_bytes()))?;
-    match by_check.as_str() == by_reading.as_str() {
-        true => Ok(by_check),
-        false => format!(in alloc; "{by_check} or {by_reading}"),
     }
 }
 
@@ -374,7 +341,6 @@ pub fn answer_of<'t, T: Asked<'t>>(
     match command {
         "read" => made(alloc, T::of_str(alloc, text)),
         "as-uri" | "as-relative" => converted::<T>(alloc, text),
-        "check" => checked::<T>(alloc, text),
         _ => match T::of_bytes(alloc, text.as_bytes()) {
             Ok(value) => of_value(alloc, command, value, text, new),
             Err(why) => refused(alloc, why),

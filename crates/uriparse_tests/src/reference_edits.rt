@@ -1,10 +1,9 @@
 //! Edits of references, one by one and in lists.
 
 use crate::reference::{made, settled, told};
-use rows::answer::{Answer, after_refusal, complaint_of_change, printed, said};
-use rows::written::writes;
+use rows::answer::{Answer, printed, said};
 use std::alloc::{AllocError, Global};
-use uriparse::{Edit, Fragment, PathError, Query, Scheme, URIReference, URIReferenceError};
+use uriparse::{Edit, Fragment, Query, Scheme, URIReference, URIReferenceError};
 
 /// The reference with its path alone.
 fn path_alone(alloc: Global, reference: &URIReference<'_>) -> Answer {
@@ -39,8 +38,17 @@ fn edits<'t>(
     Ok(vec![in alloc; query, other, fragment]?)
 }
 
-/// How far a list of edits went, and what is left.
-fn stopped(
+/// How far a list of edits went, and what is left. Where the normal form, which is the second one,
+/// wants memory and there is none, the reference is to have the query alone.
+fn stopped(alloc: Global, index: usize, why: &str, left: &str) -> Answer {
+    if why == "out of memory" && index == 1 && left.ends_with("?q%7e") {
+        return Err(AllocError);
+    }
+    format!(in alloc; "{index}: {why}; {left}")
+}
+
+/// The same of the refusal itself.
+fn refused_edit(
     alloc: Global,
     index: usize,
     why: URIReferenceError,
@@ -48,7 +56,7 @@ fn stopped(
 ) -> Answer {
     let why = printed(alloc, why)?;
     let left = told(alloc, reference)?;
-    format!(in alloc; "{index}: {why}; {left}")
+    stopped(alloc, index, why.as_str(), left.as_str())
 }
 
 /// What a list of edits makes of a reference, or how far it went.
@@ -59,45 +67,8 @@ fn applied<'t>(
 ) -> Answer {
     match reference.apply_all(alloc, edits?) {
         Ok(()) => told(alloc, reference),
-        Err((index, why)) => stopped(alloc, index, why, reference),
+        Err((index, why)) => refused_edit(alloc, index, why, reference),
     }
-}
-
-/// Whether a list of edits stopped at its second one, the normal form, for want of memory.
-fn wants_memory(index: usize, why: URIReferenceError) -> bool {
-    index == 1 && matches!(why, URIReferenceError::Path(PathError::OutOfMemory))
-}
-
-/// What a query, the normal form and a fragment make of a reference. After want of memory it is to
-/// have the query alone, and to print this text.
-fn normalized_between<'t>(
-    alloc: Global,
-    reference: &mut URIReference<'t>,
-    edits: Result<Vec<Edit<'t>>, AllocError>,
-    with_query: &str,
-) -> Answer {
-    let complaint = complaint_of_change(alloc)?;
-    match reference.apply_all(alloc, edits?) {
-        Ok(()) => told(alloc, reference),
-        Err((index, why)) => after_refusal(
-            wants_memory(index, why) && writes(reference, with_query),
-            complaint,
-        ),
-    }
-}
-
-/// The same of this query and this fragment, and of a reference that was read from this text.
-fn edited_between<'t>(
-    alloc: Global,
-    reference: &mut URIReference<'t>,
-    text: &str,
-    query: &'t str,
-    fragment: &'t str,
-) -> Answer {
-    let front = text.split_once('?').unwrap_or((text, "")).0;
-    let with_query = format!(in alloc; "{front}?{query}")?;
-    let edits = edits(alloc, query, Edit::Normalize, fragment);
-    normalized_between(alloc, reference, edits, with_query.as_str())
 }
 
 /// What is answered after an edit in place that only a reference has.
@@ -110,8 +81,11 @@ pub fn edited<'t>(
 ) -> Answer {
     match command {
         "apply-all" => applied(alloc, reference, edits(alloc, new, Edit::Scheme(None), new)),
-        "edits" => edited_between(alloc, reference, text, "q%7e", "f%7e"),
-        "listed-edits" => edited_between(alloc, reference, text, "q", "f"),
+        "edits" => applied(
+            alloc,
+            reference,
+            edits(alloc, "q%7e", Edit::Normalize, "f%7e"),
+        ),
         "path-alone" => path_alone(alloc, reference),
         "set-scheme" | "drop-authority" => {
             let answer = set(command, reference, new);

@@ -6,8 +6,7 @@ use rows::authorities::AuthorityParts;
 use std::alloc::{AllocError, Global};
 use std::convert::identity;
 use uriparse::{
-    Authority, Fragment, Path, Query, RelativeReference, RelativeReferenceError, Scheme,
-    URIReference,
+    Authority, Fragment, Path, Query, RelativeReference, RelativeReferenceError, URIReference,
 };
 
 impl<'t> Shown<'t> for RelativeReference<'t> {
@@ -29,10 +28,6 @@ impl<'t> Reads<'t> for RelativeReference<'t> {
 
     fn of_bytes(alloc: Global, text: &'t [u8]) -> Result<Self, Self::Error> {
         RelativeReference::try_from_bytes(alloc, text)
-    }
-
-    fn check_bytes(text: &[u8]) -> Result<(), Self::Error> {
-        RelativeReference::check(text)
     }
 }
 
@@ -98,11 +93,6 @@ impl<'t> Reference<'t> for RelativeReference<'t> {
         self.set_fragment(new)
     }
 
-    /// There is no such call.
-    fn swap_scheme(self, _: Scheme<'t>) -> Result<Self, Self::Error> {
-        Ok(self)
-    }
-
     fn swap_authority(self, new: Option<Authority<'t>>) -> Result<Self, Self::Error> {
         self.map_authority(|old| old.and(new))
     }
@@ -163,12 +153,6 @@ pub fn answer(alloc: Global, asked: &str) -> Answer {
 }
 
 pub const ROWS: &str = "\
-check //h/a?q#f -> accepted
-check '' -> accepted
-check s:x -> not relative reference
-check s:x#% -> invalid fragment percent encoding
-check 1:x -> relative reference schemeless path starts with colon segment
-check //h:65536 -> port overflow
 read //h/a?q#f -> //h/a?q#f
 read '' -> ''
 read s:x -> not relative reference
