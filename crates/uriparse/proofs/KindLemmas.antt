@@ -60,14 +60,14 @@ checked_by : {E : Type 0} (other : E) (p : Parts) (b : Bool)
 checked_by other p true = refl
 checked_by other p false = refl
 
--- a text that is read is refused for its kind alone
+-- a text that is read is rejected for its kind alone
 pub checked : {E : Type 0} (v : Bool) (told : URIReferenceError → E) (other : E) (t : List ℕ) (p : Parts) (b : Bool) → b ≡ is_some p.scheme
     → reading t ≡ Ok p → ◌≡◌ {A = Result (Unit {0}) E} (cond (beq b v) (Ok tt) (Err other)) (unless_fault (fault_of v told other t) tt)
 checked v told other t p b is h =
     ap (λ x. cond (beq x v) (Ok tt) (Err other)) is ∙ checked_by other p (beq (is_some p.scheme) v)
     ∙ ap (λ r. unless_fault (fault_in (told_of told r >>= of_kind v other)) tt) (sym h)
 
--- a text that isn't read is refused for its fault
+-- a text that isn't read is rejected for its fault
 pub unchecked : {E : Type 0} (v : Bool) (told : URIReferenceError → E) (other : E) (t : List ℕ) (e : URIReferenceError) → reading t ≡ Err e
     → ◌≡◌ {A = Result (Unit {0}) E} (Err (told e)) (unless_fault (fault_of v told other t) tt)
 unchecked v told other t e h = ap (λ r. unless_fault (fault_in (told_of told r >>= of_kind v other)) tt) (sym h)

@@ -1,4 +1,4 @@
--- What resolving a reference tells of a URI's refusals.
+-- What resolving a reference tells of a URI's errors.
 use Rattle.std.proofs.Common.{◌≡◌, true, Option, Some, None, Ok, Err, inl, inr, sym, ap, ◌∙◌}
 use Rattle.std.specs.Prelude.{Result, MatchOption, is_some}
 use Rattle.uriparse_text.specs.Readings.{IsUnless}
@@ -16,7 +16,7 @@ use Rattle.uriparse.specs.Uri.{told}
 abbrev pub Answers : {E : Type 0} → E → E → Option Parts → Result Parts E → Type 0
 Answers long memory o r = MatchOption o (r ≡ Err long) (λ t. IsUnless memory r (Ok t))
 
--- a refusal that is told as a URI's
+-- an error that is told as a URI's
 pub refusal_told : (o : Option Parts) (e : URIReferenceError) (d : URIError) → d ≡ told e
     → Answers (references.Path paths.ExceededMaximumLength) (references.Path paths.OutOfMemory) o (Err e)
     → Answers (errors.Path paths.ExceededMaximumLength) (errors.Path paths.OutOfMemory) o (Err d)
@@ -28,13 +28,13 @@ refusal_told (Some t) e d k (inr h) =
     let same : e ≡ references.Path paths.OutOfMemory = cc in
     inr (ap Err (k ∙ ap told same))
 
--- the target that is answered
+-- the target that is returned
 answered : (o : Option Parts) (t : Parts) → Answers (references.Path paths.ExceededMaximumLength) (references.Path paths.OutOfMemory) o (Ok t) → o ≡ Some t
 answered None t h = absurd (cc)
 answered (Some u) t (inl h) = let same : t ≡ u = cc in ap Some (sym same)
 answered (Some u) t (inr h) = absurd (cc)
 
--- the law of commutation, of the target that is answered
+-- the law of commutation, of the target that is returned
 pub commutes_answered : (b r t : Parts) → Valid b → Valid r → is_some b.scheme ≡ true
     → Answers (references.Path paths.ExceededMaximumLength) (references.Path paths.OutOfMemory) (target b r) (Ok t)
     → (is_merged r ≡ true → MergesAlike b r) → (u : Parts) × (target (normal b) (normal r) ≡ Some u) × (normal t ≡ normal u)

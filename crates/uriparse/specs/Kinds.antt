@@ -19,11 +19,11 @@ IsOfKind has_scheme p = is_some p.scheme ≡ has_scheme
 abbrev pub of_kind : {E : Type 0} → Bool → E → Parts → Result Parts E
 of_kind has_scheme other p = if beq (is_some p.scheme) has_scheme then Ok p else Err other
 
--- What reading a text gives. Its fault comes before the refusal of another kind.
+-- What reading a text returns. Its fault comes before the error of another kind.
 abbrev pub reading_of : {E : Type 0} → Bool → (URIReferenceError → E) → E → List ℕ → Result Parts E
 reading_of has_scheme told other t = told_of told (reading t) >>= of_kind has_scheme other
 
--- why a text is refused
+-- why a text is rejected
 abbrev pub fault_of : {E : Type 0} → Bool → (URIReferenceError → E) → E → List ℕ → Option E
 fault_of has_scheme told other t = fault_in (reading_of has_scheme told other t)
 

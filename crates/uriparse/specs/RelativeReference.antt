@@ -8,7 +8,7 @@ use Rattle.uriparse.specs.declared.relative_reference.error.RelativeReferenceErr
 use Rattle.uriparse.specs.declared.relative_reference.error.RelativeReferenceError.TheVariants as errors
 use Rattle.uriparse.specs.Kinds.{told_of}
 
--- the refusal of a reference as one of a relative reference, where it is one: a fault of a scheme is none
+-- the error of a reference as one of a relative reference, where it is one: a fault of a scheme is none
 abbrev pub relative_error : URIReferenceError → Option RelativeReferenceError
 relative_error references.AbsolutePathStartsWithTwoSlashes = Some errors.AbsolutePathStartsWithTwoSlashes
 relative_error references.SchemelessPathStartsWithColonSegment = Some errors.SchemelessPathStartsWithColonSegment

@@ -9,7 +9,7 @@ use Rattle.uriparse.specs.declared.uri.error.URIError.{URIError}
 use Rattle.uriparse.specs.declared.uri.error.URIError.TheVariants as errors
 use Rattle.uriparse.specs.Kinds.{told_of, of_kind}
 
--- the refusal of a reference as one of a URI, where it is one: a path that only a scheme could stand before is none
+-- the error of a reference as one of a URI, where it is one: a path that only a scheme could precede is none
 abbrev pub uri_error : URIReferenceError → Option URIError
 uri_error references.AbsolutePathStartsWithTwoSlashes = Some errors.AbsolutePathStartsWithTwoSlashes
 uri_error references.SchemelessPathStartsWithColonSegment = None

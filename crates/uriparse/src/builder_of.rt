@@ -17,12 +17,12 @@ use uriparse_reference::uri_reference::URIReferenceBuilder;
 use uriparse_text::fragment::Fragment;
 use uriparse_text::query::Query;
 
-/// The parts of a URI or a relative reference that were given so far. Users name it by
+/// The components of a URI or a relative reference that were given so far. Users name it
 /// [`URIBuilder`](crate::uri::URIBuilder) or
-/// [`RelativeReferenceBuilder`](crate::relative_reference::RelativeReferenceBuilder) alone.
+/// [`RelativeReferenceBuilder`](crate::relative_reference::RelativeReferenceBuilder).
 ///
-/// Each call sets one part and leaves the others. Two builders are equal where both have the same
-/// parts, and these are equal.
+/// Each call sets one component and leaves the others. Two builders are equal if they have the same
+/// components, and these are equal.
 #[derive(Drop)]
 pub struct BuilderOf<'b, K: Kind> {
     pub(crate) builder: URIReferenceBuilder<'b>,
@@ -43,7 +43,7 @@ impl<'b, K: Kind> Model for BuilderOf<'b, K> {
 impl<'b, K: Kind> BuilderOf<'b, K> {
     ghost use Rattle.uriparse_reference.specs.Builder.{authority_read, fragment_read, nothing, path_read, query_read};
 
-    /// The builder of this kind that is known to be one.
+    /// The builder of this kind around one that is known to fit.
     pub(crate) fn of_checked(builder: URIReferenceBuilder<'b>) -> BuilderOf<'b, K>
         requires { HoldsKind K.has_scheme builder }
         ensures { result ≡ builder.entry }
@@ -54,80 +54,79 @@ impl<'b, K: Kind> BuilderOf<'b, K> {
         }
     }
 
-    /// A builder with no part. Takes no memory.
+    /// A builder with no component. Does not allocate.
     pub fn new() -> BuilderOf<'b, K>
         ensures { result ≡ nothing }
     {
         BuilderOf::of_checked(URIReferenceBuilder::new())
     }
 
-    /// Sets the authority, or takes it away. Takes no memory.
+    /// Sets or removes the authority. Does not allocate.
     pub fn authority(&mut self, authority: Option<Authority<'b>>)
         ensures { self.new ≡ record self.old { authority = authority.entry } }
     {
         self.builder.authority(authority);
     }
 
-    /// Sets the path. Takes no memory.
+    /// Sets the path. Does not allocate.
     pub fn path(&mut self, path: Path<'b>)
         ensures { self.new ≡ record self.old { path = Some path.entry } }
     {
         self.builder.path(path);
     }
 
-    /// Sets the query, or takes it away. Takes no memory.
+    /// Sets or removes the query. Does not allocate.
     pub fn query(&mut self, query: Option<Query<'b>>)
         ensures { self.new ≡ record self.old { query = query.entry } }
     {
         self.builder.query(query);
     }
 
-    /// Sets the fragment, or takes it away. Takes no memory.
+    /// Sets or removes the fragment. Does not allocate.
     pub fn fragment(&mut self, fragment: Option<Fragment<'b>>)
         ensures { self.new ≡ record self.old { fragment = fragment.entry } }
     {
         self.builder.fragment(fragment);
     }
 
-    /// The builder with this authority, or with none. Takes no memory.
+    /// The builder with this authority, or with none. Does not allocate.
     pub fn with_authority(self, authority: Option<Authority<'b>>) -> BuilderOf<'b, K>
         ensures { result ≡ record self.entry { authority = authority.entry } }
     {
         BuilderOf::of_checked(self.builder.with_authority(authority))
     }
 
-    /// The builder with this path. Takes no memory.
+    /// The builder with this path. Does not allocate.
     pub fn with_path(self, path: Path<'b>) -> BuilderOf<'b, K>
         ensures { result ≡ record self.entry { path = Some path.entry } }
     {
         BuilderOf::of_checked(self.builder.with_path(path))
     }
 
-    /// The builder with this query, or with none. Takes no memory.
+    /// The builder with this query, or with none. Does not allocate.
     pub fn with_query(self, query: Option<Query<'b>>) -> BuilderOf<'b, K>
         ensures { result ≡ record self.entry { query = query.entry } }
     {
         BuilderOf::of_checked(self.builder.with_query(query))
     }
 
-    /// The builder with this fragment, or with none. Takes no memory.
+    /// The builder with this fragment, or with none. Does not allocate.
     pub fn with_fragment(self, fragment: Option<Fragment<'b>>) -> BuilderOf<'b, K>
         ensures { result ≡ record self.entry { fragment = fragment.entry } }
     {
         BuilderOf::of_checked(self.builder.with_fragment(fragment))
     }
 
-    /// Reads the authority and sets it, or takes it away. A text that is no authority is refused as
-    /// `Authority` of the kind's error, and the builder is unchanged. Takes no memory.
+    /// Reads and sets the authority, or removes it. A faulty text is rejected with the kind's error
+    /// `Authority`, and the builder is unchanged. Does not allocate.
     pub fn try_authority(&mut self, authority: Option<&'b [u8]>) -> Result<(), K::Error>
         ensures { Settles self.old self.new result (told_of K.told (authority_read self.old (option_copied authority.entry))) }
     {
         told::<K, _>(self.builder.try_authority(authority))
     }
 
-    /// Reads the path and sets it. A text that is no path is refused as `Path` of the kind's error,
-    /// whatever memory there is; the list of segments wants memory. After a refusal the builder is
-    /// unchanged.
+    /// Reads and sets the path. A faulty text is rejected with the kind's error `Path`, whatever
+    /// memory there is. Allocates the list of segments. After an error the builder is unchanged.
     pub fn try_path(&mut self, alloc: Global, path: &'b [u8]) -> Result<(), K::Error>
         ensures settles { SettlesUnless (K.told (errors.Path OutOfMemory)) self.old self.new result (told_of K.told (path_read self.old path.now)) }
         ensures always { IsErr (paths.reading path.now) → Settles self.old self.new result (told_of K.told (path_read self.old path.now)) }
@@ -135,16 +134,16 @@ impl<'b, K: Kind> BuilderOf<'b, K> {
         told::<K, _>(self.builder.try_path(alloc, path))
     }
 
-    /// Reads the query and sets it, or takes it away. A text that is no query is refused as `Query`
-    /// of the kind's error, and the builder is unchanged. Takes no memory.
+    /// Reads and sets the query, or removes it. A faulty text is rejected with the kind's error
+    /// `Query`, and the builder is unchanged. Does not allocate.
     pub fn try_query(&mut self, query: Option<&'b [u8]>) -> Result<(), K::Error>
         ensures { Settles self.old self.new result (told_of K.told (query_read self.old (option_copied query.entry))) }
     {
         told::<K, _>(self.builder.try_query(query))
     }
 
-    /// Reads the fragment and sets it, or takes it away. A text that is no fragment is refused as
-    /// `Fragment` of the kind's error, and the builder is unchanged. Takes no memory.
+    /// Reads and sets the fragment, or removes it. A faulty text is rejected with the kind's error
+    /// `Fragment`, and the builder is unchanged. Does not allocate.
     pub fn try_fragment(&mut self, fragment: Option<&'b [u8]>) -> Result<(), K::Error>
         ensures { Settles self.old self.new result (told_of K.told (fragment_read self.old (option_copied fragment.entry))) }
     {

@@ -5,16 +5,16 @@ ghost use Rattle.uriparse.specs.Kinds.{told_of};
 
 use uriparse_reference::uri_reference::URIReferenceError;
 
-/// A kind of reference: whether its references have a scheme, and how their refusals are told.
+/// A kind of reference: whether its references have a scheme, and how errors are mapped to its own.
 pub trait Kind {
     type Error;
 
     ghost has_scheme: { Bool };
 
-    // How the refusal of a reference is told of one of this kind.
+    // The error of a reference, mapped to the kind's.
     ghost told: { URIReferenceError → Self.Error };
 
-    // The refusal of a reference of the other kind.
+    // The error of a reference of the other kind.
     ghost other: { Self.Error };
 
     /// What `Debug` calls a reference of this kind.
@@ -30,7 +30,7 @@ pub trait Kind {
         ensures { result ≡ other };
 }
 
-/// The same answer, its refusal told as the kind's.
+/// The same result, its error mapped to the kind's.
 pub(crate) fn told<K: Kind, T>(answer: Result<T, URIReferenceError>) -> Result<T, K::Error>
     ensures { result ≡ told_of K.told answer }
 {

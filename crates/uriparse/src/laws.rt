@@ -1,5 +1,5 @@
-//! Laws of the definitions that contracts cite. Each function has nothing to do: its contract is
-//! the law.
+//! Laws of the definitions that contracts cite. Each function does nothing: its contract is the
+//! law.
 ghost use Rattle.std.specs.Prelude.{◌≡◌, Ok, false, true};
 ghost use Rattle.uriparse_reference.specs.Builder.{held};
 ghost use Rattle.uriparse_reference.specs.Edits.{of_parts};

@@ -1,11 +1,11 @@
 //! URIs, relative references and URI references: RFC 3986.
 //!
-//! Each component has a module, with its types and its errors. The main ones are here too; only in
-//! their modules are `RegisteredScheme`, `MicrosoftScheme`, `UnregisteredSchemeError`, `parse_port`
-//! and `MAX_SEGMENTS`.
+//! Each component has a module, with its types and its errors. The main ones are re-exported here;
+//! `RegisteredScheme`, `MicrosoftScheme`, `UnregisteredSchemeError`, `parse_port` and
+//! `MAX_SEGMENTS` are only in their modules.
 //!
 //! Some types are names for a more general one, which has their calls: [`Query`], [`Fragment`],
-//! [`Username`] and [`Password`] are a [`Text`] each, [`URI`] and [`RelativeReference`] are a
+//! [`Username`] and [`Password`] are each a [`Text`], [`URI`] and [`RelativeReference`] are each a
 //! [`ReferenceOf`], and their builders a [`BuilderOf`].
 #![tactic(auto)]
 

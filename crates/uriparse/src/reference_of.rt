@@ -25,12 +25,12 @@ mod access;
 mod edit;
 mod normal;
 
-/// A reference that has a scheme, or one that has none, by its kind. Users name it by
-/// [`URI`](crate::uri::URI) or [`RelativeReference`](crate::relative_reference::RelativeReference)
-/// alone; it is seen as the five parts of a reference.
+/// A reference with a scheme or one without, by its kind. Users name it [`URI`](crate::uri::URI) or
+/// [`RelativeReference`](crate::relative_reference::RelativeReference). Contracts see it as the
+/// five components of a reference.
 ///
-/// Each of its calls does what that of the same name does for the [`URIReference`] that it holds,
-/// its refusal told as the kind's. Two of them are equal where their references are.
+/// Each of its calls does what the call of the same name does for the [`URIReference`] that it
+/// holds, with errors mapped to the kind's. Two of them are equal if their references are.
 #[derive(Drop)]
 pub struct ReferenceOf<'r, K: Kind> {
     pub(crate) reference: URIReference<'r>,
@@ -53,7 +53,7 @@ impl<'r, K: Kind> ReferenceOf<'r, K> {
     ghost use Rattle.uriparse_reference.specs.Reference.{Parts, Spells, Valid};
     ghost use Rattle.uriparse_reference.specs.declared.uri_reference.error.URIReferenceError.{URIReferenceError};
 
-    /// The reference of this kind that is known to be one.
+    /// The reference of this kind around one that is known to be of it.
     pub(crate) fn of_checked(reference: URIReference<'r>) -> ReferenceOf<'r, K>
         requires { IsOfKind K.has_scheme reference }
         ensures { result ≡ reference.entry }
@@ -64,7 +64,8 @@ impl<'r, K: Kind> ReferenceOf<'r, K> {
         }
     }
 
-    /// The same answer, its reference known to be one of this kind, its refusal told as the kind's.
+    /// The same result for a reference that is known to be of this kind, its error mapped to the
+    /// kind's.
     pub(crate) fn told_checked(
         answer: Result<URIReference<'r>, URIReferenceError>,
     ) -> Result<ReferenceOf<'r, K>, K::Error>
@@ -77,34 +78,34 @@ impl<'r, K: Kind> ReferenceOf<'r, K> {
         }
     }
 
-    /// Reads a reference of this kind, whose parts borrow the bytes. Only the list of segments
-    /// wants memory.
+    /// Reads a reference of this kind, whose components borrow the bytes. Allocates only the list
+    /// of segments.
     ///
-    /// The text's first fault is answered as [`URIReference::try_from_bytes`] answers it, told as
-    /// the kind's error, whatever memory there is; of a URI the colon rule's is
-    /// [`NotURI`](crate::uri::URIError::NotURI). A text without fault that is of the other kind is
-    /// [`NotURI`](crate::uri::URIError::NotURI) or
+    /// The text's first fault is that of [`URIReference::try_from_bytes`], mapped to the kind's
+    /// error, and is returned whatever memory there is; for a URI the colon rule's is
+    /// [`NotURI`](crate::uri::URIError::NotURI). A faultless text of the other kind is rejected
+    /// with [`NotURI`](crate::uri::URIError::NotURI) or
     /// [`NotRelativeReference`](crate::relative_reference::RelativeReferenceError::NotRelativeReference).
-    /// Where there is no memory for the list, want of memory is answered, and it may be for a text
+    /// If memory runs out, that is the error, also for a text of the other kind.
     /// of the other kind.
     pub fn try_from_bytes(alloc: Global, bytes: &'r [u8]) -> Result<ReferenceOf<'r, K>, K::Error>
-        // What is read is what the grammar spells, and of the kind.
+        // What is read is what the grammar spells, and is of the kind.
         ensures found { IfOk result (λ u. Spells bytes.now u) }
         ensures kind { IfOk result (λ u. IsOfKind K.has_scheme u) }
 
         // What the grammar spells is read if it is of the kind, unless memory runs out.
         ensures only { (p : Parts) → Spells bytes.now p → IsOfKind K.has_scheme p → IsUnless (K.told (errors.Path OutOfMemory)) result (Ok p) }
 
-        // A refusal is the text's fault, or that it is of the other kind, or want of memory.
+        // An error is the text's fault, or that it is of the other kind, or out of memory.
         ensures fault { IfErr result (λ e. (fault_of K.has_scheme K.told K.other bytes.now ≡ Some e) ⊎ (e ≡ K.told (errors.Path OutOfMemory))) }
 
-        // A fault is answered whatever memory there is.
+        // A fault is returned whatever memory there is.
         ensures always { (e : URIReferenceError) → fault bytes.now ≡ Some e → result ≡ Err (K.told e) }
     {
         Self::read(alloc, bytes)
     }
 
-    /// The same for a text.
+    /// The same for a `str`.
     pub fn try_from_str(alloc: Global, text: &'r str) -> Result<ReferenceOf<'r, K>, K::Error>
         ensures found { IfOk result (λ u. Spells text.now u) }
         ensures kind { IfOk result (λ u. IsOfKind K.has_scheme u) }
@@ -115,9 +116,9 @@ impl<'r, K: Kind> ReferenceOf<'r, K> {
         Self::read(alloc, text.as_bytes())
     }
 
-    /// Checks whether a text is a reference of this kind, as
-    /// [`try_from_bytes`](ReferenceOf::try_from_bytes) reads it: nothing is answered where it is one,
-    /// else its fault, told as the kind's, or that it is of the other kind. Takes no memory, and so
+    /// Checks whether [`try_from_bytes`](ReferenceOf::try_from_bytes) accepts a text: returns the
+    /// text's fault, mapped to the kind's error, or that it is of the other kind. Does not
+    /// allocate, so it never fails for lack of memory.
     /// never answers want of it.
     pub fn check(bytes: &[u8]) -> Result<(), K::Error>
         ensures { result ≡ unless_fault (fault_of K.has_scheme K.told K.other bytes.now) tt }
@@ -128,7 +129,7 @@ impl<'r, K: Kind> ReferenceOf<'r, K> {
         }
     }
 
-    /// Refuses a reference of the other kind.
+    /// Rejects a reference of the other kind.
     fn check_kind(has_scheme: bool) -> Result<(), K::Error>
         ensures { result ≡ (if beq has_scheme K.has_scheme then Ok tt else Err K.other) }
     {
@@ -168,7 +169,7 @@ impl<'r, K: Kind> ReferenceOf<'r, K> {
         }
     }
 
-    /// The reference that it is. Takes no memory.
+    /// The reference that it is. Does not allocate.
     pub fn as_uri_reference(&self) -> &URIReference<'r>
         ensures value { result.now ≡ self.now }
         ensures kind { IsOfKind K.has_scheme self.now }
@@ -176,14 +177,14 @@ impl<'r, K: Kind> ReferenceOf<'r, K> {
         &self.reference
     }
 
-    /// A builder with no part. Takes no memory.
+    /// A builder with no component. Does not allocate.
     pub fn builder() -> BuilderOf<'r, K>
         ensures { result ≡ nothing }
     {
         BuilderOf::new()
     }
 
-    /// A builder with the parts of this value, which builds it again. Takes no memory.
+    /// A builder with the components of this value, which builds it again. Does not allocate.
     pub fn into_builder(self) -> BuilderOf<'r, K>
         ensures parts { result ≡ held self.entry }
         ensures valid { Valid self.entry }
@@ -192,8 +193,7 @@ impl<'r, K: Kind> ReferenceOf<'r, K> {
         BuilderOf::of_checked(self.reference.into_builder())
     }
 
-    /// The same, with parts that borrow the texts of this one's. Memory is wanted once, for the
-    /// list of segments.
+    /// The same value, borrowed from this one. Allocates the list of segments.
     pub fn to_borrowed(&self, alloc: Global) -> Result<ReferenceOf<'_, K>, AllocError>
         ensures { IfOk result (λ u. u ≡ self.now) }
     {
@@ -203,8 +203,8 @@ impl<'r, K: Kind> ReferenceOf<'r, K> {
         })
     }
 
-    /// The same, with parts that own their texts. Memory is wanted for the list of segments and for
-    /// each borrowed text; where there is none, the value is gone.
+    /// The same value, owned. Allocates the list of segments and each borrowed text; if memory runs
+    /// out, the value is dropped.
     pub fn into_owned(self, alloc: Global) -> Result<ReferenceOf<'static, K>, AllocError>
         ensures { IfOk result (λ u. u ≡ self.entry) }
     {
@@ -214,7 +214,7 @@ impl<'r, K: Kind> ReferenceOf<'r, K> {
         })
     }
 
-    /// A copy of the text, which wants memory.
+    /// A copy of the text. Allocates.
     pub fn to_string(&self, alloc: Global) -> Result<String, AllocError>
         ensures { IfOk result (λ s. string_bytes s ≡ print self.now) }
     {
@@ -230,7 +230,7 @@ impl<'r, K: Kind> From<ReferenceOf<'r, K>> for URIReference<'r> {
     }
 }
 
-/// A reference of the other kind is refused, and gone.
+/// A reference of the other kind is rejected, and dropped.
 impl<'r, K: Kind> TryFrom<URIReference<'r>> for ReferenceOf<'r, K> {
     type Error = K::Error;
 
@@ -271,7 +271,7 @@ impl<'r, K: Kind> Hash for ReferenceOf<'r, K> {
 impl<'r, K: Kind> fmt::Display for ReferenceOf<'r, K> {
     ghost output = { λ u. Some (print u) };
 
-    // No option of the formatter changes it.
+    // The formatter's options have no effect.
     ghost styled_output = { λ u _. Some (print u) };
 
     fn fmt<W: fmt::Write>(&self, f: &mut fmt::Formatter<W>) -> fmt::Result {

@@ -53,13 +53,13 @@ impl Kind for WithoutScheme {
     }
 }
 
-/// A relative reference: one that has no scheme. RFC 3986, section 4.2.
+/// A relative reference: a reference without a scheme. RFC 3986, section 4.2.
 ///
-/// Its parts borrow the text that it was read from, or own their texts. Two of them are equal where
-/// their hosts, if they have any, are of one kind and the canonical spellings of their texts agree.
-/// Reading takes memory for the list of the path's segments alone, a copy that owns its texts and a
-/// normal form for texts too. A refused setter leaves it as it was. [`RelativeReferenceError`] says
-/// what is refused. The calls that it shares with URIs are those of [`ReferenceOf`].
+/// Its components borrow the text that it was read from, or own their texts. Two of them are equal
+/// if their hosts, if present, are of one kind and the canonical spellings of their texts agree.
+/// Reading allocates only the list of the path's segments; an owned copy and a normal form allocate
+/// texts too. A setter that fails changes nothing. [`RelativeReferenceError`] says what is
+/// rejected. The calls that it shares with URIs are those of [`ReferenceOf`].
 ///
 /// ```
 /// let reference = RelativeReference::try_from_str(alloc, "../a?q")?;
@@ -67,8 +67,8 @@ impl Kind for WithoutScheme {
 /// ```
 pub type RelativeReference<'r> = ReferenceOf<'r, WithoutScheme>;
 
-/// The parts of a relative reference that were given so far. Only the path has to be given before
-/// it is built. The calls that it shares with the builder of URIs are those of [`BuilderOf`].
+/// The components of a relative reference that were given so far. Only the path is required. The
+/// calls that it shares with the builder of URIs are those of [`BuilderOf`].
 ///
 /// ```
 /// let mut builder = RelativeReference::builder();
@@ -80,13 +80,15 @@ pub type RelativeReferenceBuilder<'b> = BuilderOf<'b, WithoutScheme>;
 impl<'r> RelativeReference<'r> {
     ghost use Rattle.uriparse_reference.specs.Reference.{Valid};
 
-    /// The relative reference of these parts: RFC 3986, sections 3.3 and 4.2. Behind an authority
-    /// the path is made absolute, else it is the one that its text spells. Takes no memory.
+    /// The relative reference of these components: RFC 3986, sections 3.3 and 4.2. With an
+    /// authority the path is made absolute, else it is the one that its text spells. Does not
+    /// allocate.
     ///
-    /// Refused are, in this order, a path without authority whose text begins with two slashes as
-    /// [`AbsolutePathStartsWithTwoSlashes`](RelativeReferenceError::AbsolutePathStartsWithTwoSlashes),
-    /// and one without authority whose text has a colon before any slash as
-    /// [`SchemelessPathStartsWithColonSegment`](RelativeReferenceError::SchemelessPathStartsWithColonSegment).
+    /// Without an authority, fails with
+    /// [`AbsolutePathStartsWithTwoSlashes`](RelativeReferenceError::AbsolutePathStartsWithTwoSlashes)
+    /// if the path's text begins with two slashes, else with
+    /// [`SchemelessPathStartsWithColonSegment`](RelativeReferenceError::SchemelessPathStartsWithColonSegment)
+    /// if it has a colon before any slash.
     pub fn from_parts(
         authority: Option<Authority<'r>>,
         path: Path<'r>,
@@ -99,7 +101,7 @@ impl<'r> RelativeReference<'r> {
         ReferenceOf::told_checked(answer)
     }
 
-    /// The authority, the path, the query and the fragment. Takes no memory.
+    /// The authority, the path, the query and the fragment. Does not allocate.
     pub fn into_parts(
         self,
     ) -> (
@@ -142,11 +144,10 @@ impl<'r> RelativeReference<'r> {
 }
 
 impl<'b> RelativeReferenceBuilder<'b> {
-    /// The relative reference of the parts. Takes no memory.
+    /// The relative reference of the components. Does not allocate.
     ///
-    /// Refused are, in this order, a builder without a path as
-    /// [`MissingPath`](RelativeReferenceError::MissingPath), and what
-    /// [`from_parts`](RelativeReference::from_parts) refuses. A refusal consumes the builder.
+    /// Fails with [`MissingPath`](RelativeReferenceError::MissingPath) if there is no path, else as
+    /// [`from_parts`](RelativeReference::from_parts) does. An error consumes the builder.
     pub fn build(self) -> Result<RelativeReference<'b>, RelativeReferenceError>
         ensures { result ≡ spec.relative_built self.entry }
     {

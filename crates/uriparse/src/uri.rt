@@ -55,14 +55,13 @@ impl Kind for WithScheme {
     }
 }
 
-/// A URI: a reference that has a scheme. RFC 3986, section 3.
+/// A URI: a reference with a scheme. RFC 3986, section 3.
 ///
-/// Its parts borrow the text that it was read from, or own their texts. Two URIs are equal where
-/// their hosts, if they have any, are of one kind and the canonical spellings of their texts agree.
-/// Reading takes memory for the list of the path's segments alone, a copy that owns its texts and a
-/// normal form for texts too. A refused setter leaves the URI as it was.
-/// [`URIError`] says what is refused. The calls that it shares with relative references are those
-/// of [`ReferenceOf`].
+/// Its components borrow the text that it was read from, or own their texts. Two URIs are equal if
+/// their hosts, if present, are of one kind and the canonical spellings of their texts agree.
+/// Reading allocates only the list of the path's segments; an owned copy and a normal form allocate
+/// texts too. A setter that fails changes nothing. [`URIError`] says what is rejected. The calls
+/// that it shares with relative references are those of [`ReferenceOf`].
 ///
 /// ```
 /// let uri = URI::try_from_str(alloc, "HTTP://h/%7Ea?q#f")?;
@@ -71,9 +70,8 @@ impl Kind for WithScheme {
 /// ```
 pub type URI<'u> = ReferenceOf<'u, WithScheme>;
 
-/// The parts of a URI that were given so far. A path and a scheme have to be given before it is
-/// built. The calls that it shares with the builder of relative references are those of
-/// [`BuilderOf`].
+/// The components of a URI that were given so far. A path and a scheme are required. The calls that
+/// it shares with the builder of relative references are those of [`BuilderOf`].
 ///
 /// ```
 /// let mut builder = URI::builder();
@@ -87,11 +85,11 @@ pub type URIBuilder<'b> = BuilderOf<'b, WithScheme>;
 impl<'u> URI<'u> {
     ghost use Rattle.uriparse_reference.specs.Reference.{Valid};
 
-    /// The URI of these parts: RFC 3986, sections 3 and 3.3. Behind an authority the path is made
-    /// absolute, else it is the one that its text spells. Takes no memory.
+    /// The URI of these components: RFC 3986, sections 3 and 3.3. With an authority the path is
+    /// made absolute, else it is the one that its text spells. Does not allocate.
     ///
-    /// A path without authority whose text begins with two slashes is refused as
-    /// [`AbsolutePathStartsWithTwoSlashes`](URIError::AbsolutePathStartsWithTwoSlashes).
+    /// Fails with [`AbsolutePathStartsWithTwoSlashes`](URIError::AbsolutePathStartsWithTwoSlashes)
+    /// if there is no authority and the path's text begins with two slashes.
     pub fn from_parts(
         scheme: Scheme<'u>,
         authority: Option<Authority<'u>>,
@@ -105,7 +103,7 @@ impl<'u> URI<'u> {
         ReferenceOf::told_checked(answer)
     }
 
-    /// The scheme, the authority, the path, the query and the fragment. Takes no memory.
+    /// The scheme, the authority, the path, the query and the fragment. Does not allocate.
     pub fn into_parts(
         self,
     ) -> (
@@ -133,15 +131,15 @@ impl<'u> URI<'u> {
         self.reference.scheme().unwrap()
     }
 
-    /// Whether it is an absolute URI, as a base shall be: it has no fragment. RFC 3986, sections 4.3
-    /// and 5.1. [`resolve`](URI::resolve) takes any URI, and doesn't look at its fragment.
+    /// Whether it is an absolute URI, without a fragment, as a base must be: RFC 3986, sections 4.3
+    /// and 5.1. [`resolve`](URI::resolve) accepts any URI as a base and ignores its fragment.
     pub fn can_be_a_base(&self) -> bool
         ensures { result ≡ is_none self.now.fragment }
     {
         !self.reference.has_fragment()
     }
 
-    /// The URI without its fragment. It is never refused. Takes no memory.
+    /// The URI without its fragment. Always succeeds. Does not allocate.
     pub fn into_base_uri(self) -> URI<'u>
         ensures { result ≡ spec.base self.entry }
     {
@@ -150,7 +148,7 @@ impl<'u> URI<'u> {
         uri
     }
 
-    /// Sets the scheme. It is never refused. Takes no memory.
+    /// Sets the scheme. Always succeeds. Does not allocate.
     pub fn set_scheme(&mut self, scheme: Scheme<'u>) -> Result<(), URIError>
         ensures answer { result ≡ Ok tt }
         ensures value { self.new ≡ record self.old { scheme = Some scheme.entry } }
@@ -158,7 +156,7 @@ impl<'u> URI<'u> {
         told::<WithScheme, _>(self.reference.set_scheme(Some(scheme)))
     }
 
-    /// Sets what the closure makes of the scheme. It is never refused.
+    /// Sets the scheme to what the closure returns for it. Always succeeds.
     pub fn map_scheme<F>(self, make: F) -> Result<URI<'u>, URIError>
     where
         F: FnOnce(Scheme<'u>) -> Scheme<'u>,
@@ -171,35 +169,35 @@ impl<'u> URI<'u> {
 }
 
 impl<'b> URIBuilder<'b> {
-    /// Sets the scheme. Takes no memory.
+    /// Sets the scheme. Does not allocate.
     pub fn scheme(&mut self, scheme: Scheme<'b>)
         ensures { self.new ≡ record self.old { scheme = Some scheme.entry } }
     {
         self.builder.scheme(Some(scheme));
     }
 
-    /// The builder with this scheme. Takes no memory.
+    /// The builder with this scheme. Does not allocate.
     pub fn with_scheme(self, scheme: Scheme<'b>) -> URIBuilder<'b>
         ensures { result ≡ record self.entry { scheme = Some scheme.entry } }
     {
         BuilderOf::of_checked(self.builder.with_scheme(Some(scheme)))
     }
 
-    /// Reads the scheme and sets it. A text that is no scheme is refused as
-    /// [`Scheme`](URIError::Scheme), and the builder is unchanged. Takes no memory.
+    /// Reads and sets the scheme. A faulty text is rejected with [`Scheme`](URIError::Scheme), and
+    /// the builder is unchanged. Does not allocate.
     pub fn try_scheme(&mut self, scheme: &'b [u8]) -> Result<(), URIError>
         ensures { Settles self.old self.new result (told_of spec.told (scheme_read self.old (Some scheme.now))) }
     {
         told::<WithScheme, _>(self.builder.try_scheme(Some(scheme)))
     }
 
-    /// The URI of the parts. Takes no memory.
+    /// The URI of the components. Does not allocate.
     ///
-    /// Refused are, in this order, a builder without a path as
-    /// [`MissingPath`](URIError::MissingPath), a path without authority whose text begins with two
-    /// slashes as [`AbsolutePathStartsWithTwoSlashes`](URIError::AbsolutePathStartsWithTwoSlashes),
-    /// and a builder without a scheme as [`MissingScheme`](URIError::MissingScheme). A refusal
-    /// consumes the builder.
+    /// Fails with [`MissingPath`](URIError::MissingPath) if there is no path, else with
+    /// [`AbsolutePathStartsWithTwoSlashes`](URIError::AbsolutePathStartsWithTwoSlashes) if there is
+    /// no authority and the path's text begins with two slashes, else with
+    /// [`MissingScheme`](URIError::MissingScheme) if there is no scheme. An error consumes the
+    /// builder.
     pub fn build(self) -> Result<URI<'b>, URIError>
         ensures { result ≡ spec.uri_built self.entry }
     {

@@ -84,7 +84,7 @@ port_of g (Some t) e h k =
     let a : cut_port (g ++ colon ∷ t) ≡ Some t = ap colon_part (from_last-of ends_host g colon t refl n) in
     (a, ap (λ o. unwrap_or (option_map (λ _. up_to_last ends_host (g ++ colon ∷ t)) o) (g ++ colon ∷ t)) a ∙ up_to_last-of ends_host g colon t refl n)
 
--- what stands behind an "@", or the whole text where there is none
+-- what follows an "@", or the whole text if there is none
 front_user : (o : Option (List ℕ)) (right : List ℕ) → IfSome o (λ t. lacks at_sign t ≡ true) → lacks at_sign right ≡ true
     → (front at_sign (ahead at_sign o ++ right) ≡ o) × (rest at_sign (ahead at_sign o ++ right) ≡ right)
 front_user (Some t) right h k = front_of at_sign t right refl h
@@ -345,7 +345,7 @@ unfolding reading
 parts_read a u w h n x y z v =
     rw x (rw y (rw z (rw v (ap (λ o. Ok (record { username = o; password = w; host = h; port = n })) (paired (userinfo_text a) u w x y)))))
 
--- ---- what reading answers, by the pieces that the text was cut into
+-- ---- what reading returns, by the pieces that the text was cut into
 
 module _ (a : List ℕ) (i : Option (List ℕ)) (is_userinfo : i ≡ userinfo_text a) where
   pub refused_userinfo : (e : AuthorityError) → userinfo_reading i ≡ Err e → reading a ≡ Err e
@@ -385,7 +385,7 @@ host_alone a h s =
 pub exact : IsExact Spells reading
 exact = record { again = again; found = found }
 
--- ---- a text by itself, which may go on behind an authority
+-- ---- a text by itself, which may go on after an authority
 
 -- an authority is cut off where what follows it begins with a byte that ends one
 pub cut_there : (a rest : List ℕ) (p : AuthorityParts) → Spells a p → up_to ends_authority rest ≡ [] → from_first ends_authority rest ≡ rest
@@ -407,7 +407,7 @@ ends_at a rest p s h k =
 whole_again : (t : List ℕ) (p : AuthorityParts) → Spells t p → whole_reading t ≡ Ok p
 whole_again t p s = ap whole_reading (sym (append-nil t)) ∙ ends_at t [] p s refl refl
 
--- behind a faultless authority a rest answers
+-- after a faultless authority the rest decides
 pub rest_answers : (a : List ℕ) (b : ℕ) (u : List ℕ) (p : AuthorityParts) → Spells a p → ends_authority b ≡ true
     → whole_reading (a ++ b ∷ u) ≡ Err (rest_error p.port (kind p))
 rest_answers a b u p s h = ends_at a (b ∷ u) p s (ap (λ v. cond v [] (b ∷ up_to ends_authority u)) h) (ap (λ v. cond v (b ∷ u) (from_first ends_authority u)) h)

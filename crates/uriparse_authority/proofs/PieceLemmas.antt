@@ -1,4 +1,4 @@
--- What the pieces lack that a text is cut into; and which fault of a text answers for a longer one.
+-- What the pieces lack that a text is cut into; and which fault of a text is that of a longer one.
 use Rattle.std.proofs.Common.{◌≡◌, ℕ, Bool, true, false, not, ◌&&◌, ◌||◌, List, [], ◌∷◌, ◌++◌, cond, Option, Some, None, Ok, Err, refl, sym, ap, subst, ◌∙◌}
 use Rattle.std.proofs.Common.{append-nil}
 use Rattle.std.proofs.lemmas.Bool.{false≢true, and_parts, not-true, eqb-true}
@@ -58,7 +58,7 @@ none_from p (b ∷ t) h = by_test (p b) (none_from p t) h
     by_test true f k = absurd (false≢true (sym k))
     by_test false f k = f k
 
--- behind the last byte that passes none does
+-- after the last byte that passes none does
 behind_last : (p : ℕ → Bool) (t : List ℕ) (b : ℕ) (u : List ℕ) → from_last p t ≡ b ∷ u → none_pass p u ≡ true
 behind_last p [] b u h = absurd (cc)
 behind_last p (c ∷ t) b u h = by_test (list_any p t) refl (p c) (behind_last p t b u) h
@@ -132,13 +132,13 @@ no_port_bracket a u v h e = by_test (lacks right_bracket v) refl
         absurd (port_starts (subst (λ t. BeginsWithColon (from_last ends_host t)) (sym whole) (colon_ends u v k)))
     by_test false k = refl
 
--- ---- a fault and what stands behind it
+-- ---- a fault and what follows it
 
 refused : {A E : Type 0} (r : Result A E) (e : E) → fault_in r ≡ Some e → r ≡ Err e
 refused (Ok x) e h = absurd (cc)
 refused (Err x) e h = let same : x ≡ e = cc in ap Err same
 
--- the fault of an authority is that of each text that goes on behind it
+-- the fault of an authority is that of each text that goes on after it
 pub front_answers : (a : List ℕ) (b : ℕ) (u : List ℕ) (e : AuthorityError) → none_pass ends_authority a ≡ true → ends_authority b ≡ true → fault a ≡ Some e
     → whole_reading (a ++ b ∷ u) ≡ Err e
 front_answers a b u e none ends h =

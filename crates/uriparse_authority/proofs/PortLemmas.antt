@@ -34,7 +34,7 @@ grows : (t : List ℕ) (n : ℕ) → n ≤ digits_value_after 10 n t
 grows [] n = omega arith
 grows (b ∷ t) n = let h = grows t (n * 10 + digit_value b) in omega (arith, h)
 
--- the fault of a text that stands behind the digits of this number
+-- the fault of a text that follows the digits of this number
 abbrev pub fault_after : ℕ → List ℕ → Option PortError
 fault_after n t = cond (nat_le (digits_value_after 10 n (up_to is_other t)) largest) (other_fault (from_first is_other t)) (Some Overflow)
 
@@ -54,7 +54,7 @@ fault_after-large n t h =
 
 -- ---- where the fault stands
 
--- what is read behind a front of digits, and what they write with a digit more
+-- what is read after a front of digits, and what they write with a digit more
 behind_digits : (n : ℕ) (front left : List ℕ) → are_digits front ≡ true → fault_after n (front ++ left) ≡ fault_after (digits_value_after 10 n front) left
 behind_digits n [] left h = refl
 behind_digits n (b ∷ front) left h =
@@ -65,7 +65,7 @@ digit_more : (n : ℕ) (front : List ℕ) (b : ℕ) → digits_value_after 10 n 
 digit_more n [] b = refl
 digit_more n (c ∷ front) b = digit_more (n * 10 + digit_value c) front b
 
--- a faulty text behind the digits of n: digits, and then the byte at fault
+-- a faulty text after the digits of n: digits, and then the byte at fault
 record IsAt (n : ℕ) (t : List ℕ) (AtFault : ℕ → ℕ → Type 0) : Type 0 where
   pub front : List ℕ
   pub byte : ℕ

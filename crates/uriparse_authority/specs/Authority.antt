@@ -73,7 +73,7 @@ kind p = host.kind p.host
 
 -- ---- the cuts of a text
 
--- The first "@" ends the user information, and the host and the port stand behind it.
+-- The first "@" ends the user information, and the host and the port follow it.
 abbrev pub userinfo_text : List ℕ → Option (List ℕ)
 userinfo_text a = front at_sign a
 
@@ -93,11 +93,11 @@ username_text a = username_in (userinfo_text a)
 abbrev pub password_text : List ℕ → Option (List ℕ)
 password_text a = password_in (userinfo_text a)
 
--- The last ":" behind that "@" and behind any "]" starts the port.
+-- The last ":" after that "@" and after any "]" starts the port.
 abbrev pub ends_host : ℕ → Bool
 ends_host b = b == colon || b == right_bracket
 
--- what stands behind the colon that a rest begins with, if it does
+-- what follows the colon that a rest begins with, if it does
 abbrev pub colon_part : List ℕ → Option (List ℕ)
 colon_part [] = None
 colon_part (b ∷ t) = if b == colon then Some t else None
@@ -135,13 +135,13 @@ userinfo_reading i = do
   password ← of_piece errors.Password (if_present password.reading (password_in i))
   Ok (username, password)
 
--- ---- an authority read by itself, from a text that may go on behind it
+-- ---- an authority read by itself, from a text that may go on after it
 
 -- "/", "?" and "#" end an authority
 abbrev pub ends_authority : ℕ → Bool
 ends_authority b = b == slash || (b == question_mark || b == number_sign)
 
--- the byte behind the authority has no place in its last part: a port, or else the host
+-- the byte after the authority has no place in its last part: a port, or else the host
 abbrev pub rest_error : Option ℕ → host.Kind → AuthorityError
 rest_error (Some n) k = errors.Port port_errors.InvalidCharacter
 rest_error None host.V6 = errors.Host host_errors.InvalidIPv6Character
@@ -149,12 +149,12 @@ rest_error None host.Future = errors.Host host_errors.InvalidIPvFutureCharacter
 rest_error None host.V4 = errors.Host host_errors.InvalidIPv4OrRegisteredNameCharacter
 rest_error None host.Name = errors.Host host_errors.InvalidIPv4OrRegisteredNameCharacter
 
--- the parts where nothing stands behind the authority, or else the error of that rest
+-- the parts where nothing follows the authority, or else the error of that rest
 abbrev pub unless_rest : List ℕ → AuthorityParts → Result AuthorityParts AuthorityError
 unless_rest [] p = Ok p
 unless_rest (b ∷ t) p = Err (rest_error p.port (kind p))
 
--- what reading a text by itself gives: the authority's own faults come before that of a rest behind it
+-- what reading a text by itself gives: the authority's own faults come before that of a rest after it
 abbrev pub whole_reading : List ℕ → Result AuthorityParts AuthorityError
 whole_reading t = reading (up_to ends_authority t) >>= unless_rest (from_first ends_authority t)
 
@@ -194,7 +194,7 @@ fed_key (code ∷ t) = fed_pieces code (username_text t) (password_text t) (host
 
 -- ---- making and changing
 
--- a password brings an empty user name where there is none
+-- a password brings an empty user name if there is none
 abbrev pub with_empty : Option (List ℕ) → Option (List ℕ) → Option (List ℕ)
 with_empty (Some u) w = Some u
 with_empty None (Some w) = Some []
@@ -210,7 +210,7 @@ with_host p h = record { username = p.username; password = p.password; host = h;
 abbrev pub with_port : AuthorityParts → Option ℕ → AuthorityParts
 with_port p n = record { username = p.username; password = p.password; host = p.host; port = n }
 
--- a password stays only behind a user name
+-- a password stays only after a user name
 abbrev pub password_behind : Option (List ℕ) → Option (List ℕ) → Option (List ℕ)
 password_behind (Some u) w = w
 password_behind None w = None

@@ -44,7 +44,7 @@ has_address None = false
 has_address (Some []) = false
 has_address (Some (b ∷ t)) = true
 
--- "v" 1*HEXDIG ".", and something behind it
+-- "v" 1*HEXDIG ".", and something after it
 abbrev pub has_form : List ℕ → Bool
 has_form [] = false
 has_form (b ∷ t) = is_future_letter b && (is_some_of is_hex (before dot t) && has_address (after dot t))

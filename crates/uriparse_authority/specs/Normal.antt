@@ -23,7 +23,7 @@ canonical_authority p = record {
   port = p.port;
 }
 
--- a copy in its place, or the part where there is none, is the part in canonical spelling
+-- a copy in its place, or the part if there is none, is the part in canonical spelling
 pub record AreCanonicalCopies (copies : CanonicalCopies) (p : AuthorityParts) : Type 0 where
   pub username : option_or copies.username p.username ≡ option_map canonical p.username
   pub password : option_or copies.password p.password ≡ option_map canonical p.password

@@ -7,7 +7,7 @@ use Rattle.uriparse_text.specs.Readings.{reading_in}
 use Rattle.uriparse_authority.specs.declared.authority.error.PasswordError.{PasswordError}
 use Rattle.uriparse_authority.specs.declared.authority.error.PasswordError.TheVariants.{InvalidCharacter, InvalidPercentEncoding}
 
--- what userinfo = *( unreserved / pct-encoded / sub-delims / ":" ) may have behind its first colon
+-- what userinfo = *( unreserved / pct-encoded / sub-delims / ":" ) may have after its first colon
 abbrev pub IsPassword : List ℕ → Type 0
 IsPassword t = IsIn class.UserInfo t
 

@@ -40,7 +40,7 @@ text n = decimal n
 abbrev pub is_other : ℕ → Bool
 is_other b = not (is_digit b 10)
 
--- a byte that is no digit is a fault, where there is one
+-- a byte that is no digit is a fault, if there is one
 abbrev pub other_fault : List ℕ → Option PortError
 other_fault [] = None
 other_fault (_ ∷ _) = Some InvalidCharacter

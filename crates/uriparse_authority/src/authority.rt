@@ -40,14 +40,14 @@ use uriparse_text::parts::{borrowed_text, len_of, owned_text};
 pub use username::Username;
 use username::empty_username;
 
-/// The authority of a reference, without its `//`: a user name and a password if there are any, the
-/// host, and a port if there is one. RFC 3986, section 3.2.
+/// The authority of a reference, without its `//`: an optional user name and password, the host,
+/// and an optional port. RFC 3986, section 3.2.
 ///
-/// A password stands only with a user name, which may be empty; a port is at most 65535, and an
-/// empty one is none. The parts borrow the text that they were read from, or own their texts. Its
-/// readers take no memory; [`AuthorityError`] says what they refuse. Its setters and maps are never
-/// refused; where [`normalize`](Authority::normalize) finds no memory, it is unchanged. Two
-/// authorities are equal where their hosts are of one kind and their canonical spellings agree.
+/// A password comes only with a user name, which may be empty; a port is at most 65535, and an
+/// empty one counts as none. The components borrow the text that they were read from, or own their
+/// texts. Its readers do not allocate; [`AuthorityError`] says what they reject. Its setters and
+/// maps always succeed; if memory runs out in [`normalize`](Authority::normalize), it is unchanged.
+/// Two authorities are equal if their hosts are of one kind and their canonical spellings agree.
 ///
 /// ```
 /// let authority = Authority::try_from_str("user:@EXAMPLE.com:0080")?;
@@ -75,30 +75,32 @@ impl<'a> Model for Authority<'a> {
 impl<'a> Authority<'a> {
     ghost use Rattle.uriparse_authority.specs.Authority.{Valid};
 
-    /// Reads an authority, whose parts borrow the bytes. Takes no memory.
+    /// Reads an authority, whose components borrow the bytes. Does not allocate.
     ///
     /// The first `@` ends the user information, whose first `:` starts the password; the last `:`
-    /// behind the `@` and behind any `]` starts the port. The first part that has a fault answers,
-    /// in the order [`Username`](AuthorityError::Username), [`Password`](AuthorityError::Password),
-    /// [`Host`](AuthorityError::Host), [`Port`](AuthorityError::Port). A `/`, `?` or `#` ends the
-    /// authority: behind one without fault it is answered as [`PortError::InvalidCharacter`] where
-    /// there is a port (an empty one is none), else as [`HostError::InvalidIPv6Character`] behind
-    /// an IPv6 address, else as [`HostError::InvalidIPv4OrRegisteredNameCharacter`].
+    /// after the `@` and after any `]` starts the port. The error is that of the first faulty
+    /// component, in the order [`Username`](AuthorityError::Username),
+    /// [`Password`](AuthorityError::Password), [`Host`](AuthorityError::Host),
+    /// [`Port`](AuthorityError::Port). A `/`, `?` or `#` ends the authority. After a faultless
+    /// authority it is an error: [`PortError::InvalidCharacter`] if there is a port (an empty one
+    /// is none), else [`HostError::InvalidIPv6Character`] after an IPv6 address,
+    /// [`HostError::InvalidIPvFutureCharacter`] after an address of a later version, and
+    /// [`HostError::InvalidIPv4OrRegisteredNameCharacter`] after any other host.
     pub fn try_from_bytes(bytes: &'a [u8]) -> Result<Authority<'a>, AuthorityError>
         ensures { result ≡ spec.whole_reading bytes.now }
     {
         read_whole(bytes)
     }
 
-    /// The same for a text.
+    /// The same for a `str`.
     pub fn try_from_str(text: &'a str) -> Result<Authority<'a>, AuthorityError>
         ensures { result ≡ spec.whole_reading text.now }
     {
         Authority::try_from_bytes(text.as_bytes())
     }
 
-    /// The authority of these parts. It is never refused: a password without a user name brings an
-    /// empty one. Takes no memory.
+    /// The authority of these components. Always succeeds: a password without a user name brings an
+    /// empty one. Does not allocate.
     pub fn from_parts(
         username: Option<Username<'a>>,
         password: Option<Password<'a>>,
@@ -117,7 +119,7 @@ impl<'a> Authority<'a> {
         })
     }
 
-    /// The user name, the password, the host and the port. Takes no memory.
+    /// The user name, the password, the host and the port. Does not allocate.
     pub fn into_parts(
         self,
     ) -> (
@@ -134,14 +136,14 @@ impl<'a> Authority<'a> {
         (self.username, self.password, self.host, self.port)
     }
 
-    /// The user name, if there is one.
+    /// The user name, if present.
     pub fn username(&self) -> Option<&Username<'a>>
         ensures { option_copied result ≡ self.now.username }
     {
         self.username.as_ref()
     }
 
-    /// The password, if there is one.
+    /// The password, if present.
     pub fn password(&self) -> Option<&Password<'a>>
         ensures { option_copied result ≡ self.now.password }
     {
@@ -156,7 +158,7 @@ impl<'a> Authority<'a> {
         &self.host
     }
 
-    /// The port, if there is one.
+    /// The port, if present.
     pub fn port(&self) -> Option<u16>
         ensures { result ≡ self.now.port }
     {
@@ -184,7 +186,7 @@ impl<'a> Authority<'a> {
         self.port.is_some()
     }
 
-    /// The same authority, which borrows this one's texts. Takes no memory.
+    /// The same authority, borrowed from this one. Does not allocate.
     pub fn as_borrowed(&self) -> Authority<'_>
         ensures { result ≡ self.now }
     {
@@ -196,8 +198,8 @@ impl<'a> Authority<'a> {
         }
     }
 
-    /// The same authority, which owns its texts. Borrowed texts are copied, which wants memory;
-    /// where there is none, the authority is gone.
+    /// The same authority, owned. Borrowed texts are copied, which allocates; if memory runs out,
+    /// the authority is dropped.
     pub fn into_owned(self, alloc: Global) -> Result<Authority<'static>, AllocError>
         ensures { IfOk result (λ a. a ≡ self.entry) }
     {
@@ -210,8 +212,8 @@ impl<'a> Authority<'a> {
         })
     }
 
-    /// How many bytes the authority's text has at most: those of its parts, two colons, an `@` and
-    /// the five digits of a port; or the most that a number holds.
+    /// An upper bound on the number of bytes of the authority's text: those of its components, two
+    /// colons, an `@` and the five digits of a port; or the largest number.
     pub(crate) fn most_bytes(&self) -> usize
         ensures { length (spec.print self.now) ≤ result ⊎ result ≡ usize.MAX }
     {
@@ -221,7 +223,7 @@ impl<'a> Authority<'a> {
             .saturating_add(self.host.most_bytes())
     }
 
-    /// A copy of the authority's text, which wants memory.
+    /// A copy of the authority's text. Allocates.
     pub fn to_string(&self, alloc: Global) -> Result<String, AllocError>
         ensures { IfOk result (λ s. string_bytes s ≡ spec.print self.now) }
     {
@@ -230,7 +232,7 @@ impl<'a> Authority<'a> {
         Ok(text)
     }
 
-    /// Whether each part is spelled like the other's.
+    /// Whether each component is spelled like the other's.
     fn is_each_alike(&self, other: &Authority<'a>) -> bool
         ensures test { result ≡ spec.each_alike self.now other.now }
         ensures valid { Valid self.now × Valid other.now }
@@ -242,7 +244,7 @@ impl<'a> Authority<'a> {
     }
 }
 
-/// The user name, or an empty one where there is none and a password needs it.
+/// The user name, or an empty one if there is none and a password needs it.
 fn with_empty(username: Option<Username<'_>>, has_password: bool) -> Option<Username<'_>>
     ensures { (w : Option (List ℕ)) → is_some w ≡ has_password → result ≡ spec.with_empty username.entry w }
 {
@@ -285,7 +287,7 @@ impl<'a> Hash for Authority<'a> {
 impl<'a> fmt::Display for Authority<'a> {
     ghost output = { λ a. Some (spec.print a) };
 
-    // No option of the formatter changes it.
+    // The formatter's options have no effect.
     ghost styled_output = { λ a _. Some (spec.print a) };
 
     fn fmt<W: fmt::Write>(&self, f: &mut fmt::Formatter<W>) -> fmt::Result {

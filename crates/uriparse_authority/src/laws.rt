@@ -1,5 +1,5 @@
-//! Laws of the definitions that contracts cite. Each function has nothing to do: its contract is
-//! the law.
+//! Laws of the definitions that contracts cite. Each function does nothing: its contract is the
+//! law.
 ghost use Rattle.std.specs.Prelude.{◌≡◌, ◌↔◌, ◌⊎◌, ◌∷◌, ◌++◌, true, false, ℕ, codes, IfSome, List, [], Err, None, Ok, Option, Some, decimal};
 ghost use Rattle.uriparse_text.specs.Bytes.{at_sign, colon, right_bracket};
 ghost use Rattle.uriparse_text.specs.Cuts.{lacks, none_pass};
@@ -20,9 +20,9 @@ ghost use Rattle.uriparse_authority.specs.Port as port;
 ghost use Rattle.uriparse_authority.specs.Normal.{canonical_host, canonical_authority};
 ghost use Rattle.uriparse_authority.specs.Authority.{AuthorityParts, Spells, Valid, ReadsBack, canonical_text, ends_authority, fault, fed, fed_key, host_text, joined, key, kind, password_text, port_text, print, reading, rest_error, username_text, whole_reading};
 
-/// Reading gives exactly what a text spells: a host, a name by itself, an address of a later version
-/// by itself, a port, an authority, and an authority that is the whole text. A text spells one authority at most, and has a fault exactly
-/// where it spells none. What is spelled is valid.
+/// Reading returns exactly what a text spells: a host, a name by itself, an address of a later
+/// version by itself, a port, an authority, and an authority that is the whole text. A text spells
+/// one authority at most, and has a fault exactly if it spells none. What is spelled is valid.
 pub fn one_reading()
     ensures hosts { (t : List ℕ) (h : Host) → (host.reading t ≡ Ok h) ↔ host.Spells t h }
     ensures names { (t n : List ℕ) → (name.reading t ≡ Ok n) ↔ host.Spells t (RegisteredName n) }
@@ -35,10 +35,10 @@ pub fn one_reading()
     ensures valid { (a : List ℕ) (p : AuthorityParts) → Spells a p → Valid p }
 {}
 
-/// Which fault answers. What stands in brackets is read as an address; a port's fault is a byte
-/// that is no digit, or the digit with which the number passes the largest, whichever comes first.
-/// The fault of an authority answers whatever stands behind the byte that ends it; behind a
-/// faultless one that byte answers.
+/// Which fault is returned. What is between brackets is read as an address; a port's fault is a
+/// byte that is not a digit, or the digit with which the number exceeds the largest, whichever
+/// comes first. The fault of an authority is returned whatever follows the byte that ends it; after
+/// a faultless authority that byte decides.
 pub fn first_fault()
     ensures brackets { (t inner : List ℕ) → (host.in_brackets t ≡ Some inner) ↔ (t ≡ host.bracketed inner) }
     ensures other { (t : List ℕ) → (port.fault t ≡ Some InvalidCharacter) ↔ port.HasOther t }
@@ -47,9 +47,10 @@ pub fn first_fault()
     ensures rest { (a : List ℕ) (b : ℕ) (u : List ℕ) (p : AuthorityParts) → Spells a p → ends_authority b ≡ true → whole_reading (a ++ b ∷ u) ≡ Err (rest_error p.port (kind p)) }
 {}
 
-/// Every text is its pieces put together. The user name lacks the marks that end it, the password
-/// the `@` that ends it; without a user name the text has no `@`. The port lacks the marks that
-/// would end a host behind it; without a port, a `]` stands behind each colon of the host.
+/// Every text is its pieces put together. The user name lacks the delimiters that end it, the
+/// password the `@` that ends it; without a user name the text has no `@`. The port lacks the
+/// delimiters that would end a host before it; without a port, a `]` follows each colon of the
+/// host.
 pub fn one_cut()
     ensures whole { (a : List ℕ) → a ≡ joined (username_text a) (password_text a) (host_text a) (port_text a) }
     ensures username_at { (a : List ℕ) → IfSome (username_text a) (λ t. lacks at_sign t ≡ true) }
@@ -62,9 +63,9 @@ pub fn one_cut()
 {}
 
 /// What a text spells reads back: its own printed text spells it. So does that of each valid host
-/// and authority, unless the host is a name that hides an IPv4 address. A port is read back from
-/// its decimal text. Two valid authorities that print alike are one, unless one holds as a name
-/// what the other holds as an IPv4 address.
+/// and authority, unless the host is a name whose text spells an IPv4 address. A port is read back
+/// from its decimal text. Two valid authorities that print alike are equal, unless one holds as a
+/// name what the other holds as an IPv4 address.
 pub fn reading_back()
     ensures host_spelled { (t : List ℕ) (h : Host) → host.Spells t h → host.ReadsBack h }
     ensures host { (h : Host) → host.Valid h → (host.IsHiddenAddress h → ⊥) → host.ReadsBack h }
@@ -76,9 +77,9 @@ pub fn reading_back()
     ensures one { (p q : AuthorityParts) → Valid p → Valid q → print p ≡ print q → (p ≡ q) ⊎ host.OneHidesAddress p.host q.host }
 {}
 
-/// Two hosts, or two authorities, have one key exactly where their canonical texts agree and their
-/// hosts are of one kind. What a Hasher is fed for a valid one, part by part, is told by the key
-/// alone.
+/// Two hosts, or two authorities, have one key exactly if their canonical texts agree and their
+/// hosts are of one kind. The key alone determines what a hasher is fed for a valid one, part by
+/// part.
 pub fn one_key()
     ensures hosts { (g h : Host) → (host.key g ≡ host.key h) ↔ ((host.canonical_text g ≡ host.canonical_text h) × (host.kind g ≡ host.kind h)) }
     ensures authorities { (p q : AuthorityParts) → (key p ≡ key q) ↔ ((canonical_text p ≡ canonical_text q) × (kind p ≡ kind q)) }
@@ -100,7 +101,8 @@ pub fn one_normal_form()
     ensures kept { (p : AuthorityParts) → Valid p → print (canonical_authority p) ≡ print p → canonical_authority p ≡ p }
 {}
 
-/// Worked examples: hosts, ports, user names and whole authorities, and what reading them answers.
+/// Worked examples: hosts, ports, user names and whole authorities, and the results of reading
+/// them.
 pub fn examples()
     ensures address { host.reading (codes "1.2.3.4") ≡ Ok (IPv4Address (1 ∷ 2 ∷ 3 ∷ 4 ∷ [])) }
     ensures leading_zero { host.reading (codes "01.2.3.4") ≡ Ok (RegisteredName (codes "01.2.3.4")) }
@@ -141,7 +143,8 @@ pub fn examples()
 {}
 
 /// Worked examples of normal forms: names, one of which becomes the text of an address and stays a
-/// name, an address of a later version, and a whole authority, whose user name and password keep the case of their letters.
+/// name, an address of a later version, and a whole authority, whose user name and password keep
+/// the case of their letters.
 pub fn normal_examples()
     ensures letters { canonical_host (RegisteredName (codes "EXAMPLE.%43om")) ≡ RegisteredName (codes "example.com") }
     ensures escape { canonical_host (RegisteredName (codes "a%2fB")) ≡ RegisteredName (codes "a%2Fb") }

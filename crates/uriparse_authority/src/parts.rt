@@ -1,4 +1,4 @@
-//! What the crates above build on. Users have no need of it.
+//! What the crates above build on. Users do not need it.
 ghost use Rattle.std.specs.Prelude.{◌≡◌, ◌≤◌, ◌⊎◌, length};
 ghost use Rattle.uriparse_authority.specs.Authority.{print};
 
@@ -7,7 +7,7 @@ pub use crate::authority::found::FoundAuthority;
 pub use crate::authority::normal::{CanonicalCopies, canonical_copies, put_copies};
 pub use crate::authority::read::{find_authority, split_port, split_userinfo};
 
-/// How many bytes the authority's text has at most, or the most that a number holds.
+/// An upper bound on the number of bytes of the authority's text, or the largest number.
 pub fn most_authority_bytes(authority: &Authority<'_>) -> usize
     ensures { length (print authority.now) ≤ result ⊎ result ≡ usize.MAX }
 {

@@ -1,4 +1,4 @@
--- What is answered where a text spells a reference.
+-- What is returned where a text spells a reference.
 use Rattle.std.proofs.Common.{◌≡◌, ◌⊎◌, ℕ, Bool, List, true, false, Option, Some, None, Ok, Err, inl, inr, refl, sym, ap, subst, ◌∙◌}
 use Rattle.std.specs.Prelude.{Result, MatchResult, MatchOption, IfOk, IfErr, is_some, string_bytes}
 use Rattle.std.specs.declared.string.String.{String}

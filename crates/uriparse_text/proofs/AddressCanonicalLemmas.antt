@@ -63,7 +63,7 @@ octets_fit (s ∷ segments) h zero = let first : s < 2 ^ 16 = h 0 in omega arith
 octets_fit (s ∷ segments) h (suc zero) = omega arith
 octets_fit (s ∷ segments) h (suc (suc k)) = octets_fit segments (λ j. h (suc j)) k
 
--- a dotted address behind `::ffff:`, or groups
+-- a dotted address after `::ffff:`, or groups
 small-ipv6_text : (segments : List ℕ) → AllSegments segments → list_all is_small (ipv6_text segments) ≡ true
 unfolding net.ipv6_text
 small-ipv6_text segments fit =

@@ -14,7 +14,7 @@ pub use Rattle.uriparse_text.proofs.OctetLemmas.{SpellsIpv4-ipv4_text}
 
 -- ---- exact readings
 
--- a whole text that was read leaves nothing behind it
+-- a whole text that was read leaves nothing after it
 whole_read : (r : Read (List ℕ)) (a : List ℕ) → whole_value r ≡ Some a → r ≡ Some (a, [])
 whole_read None a h = absurd (none-some a h)
 whole_read (Some (x, [])) a h = ap (λ y. Some (y, [])) (same_Some x a h)

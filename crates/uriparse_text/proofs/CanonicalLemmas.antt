@@ -51,7 +51,7 @@ by_escaped case high low P f g =
     cond_both (is_unreserved (escaped_byte high low)) (Byte (in_case case (escaped_byte high low)))
     (Escape (to_ascii_uppercase high) (to_ascii_uppercase low)) P f g
 
--- a canonical form is a token exactly where it is one of a token
+-- a canonical form is a token exactly if it is one of a token
 pub is_token-canonical_token : (case : Case) (t : Token) → has_digits t ≡ true → is_token (canonical_token case t) ≡ is_token t
 is_token-canonical_token case (Byte b) h = ap not (in_case_percent case b)
 is_token-canonical_token case (Escape high low) h =
@@ -83,7 +83,7 @@ all_tokens case (t ∷ ts) h =
     let both = and_parts _ _ h in
     rw (is_token-canonical_token case t both.0, all_tokens case ts both.1) refl
 
--- the canonical forms are tokens exactly where the text is well formed
+-- the canonical forms are tokens exactly if the text is well formed
 pub well_formed-canonical_token : (case : Case) (text : List ℕ) → list_all is_token (canonical_tokens case text) ≡ is_well_formed text
 well_formed-canonical_token case text = all_tokens case (tokens text) (digits-tokens text)
 
@@ -129,7 +129,7 @@ canonical_in-concatenation case ts text is =
     along [] = refl
     along (u ∷ us) = ap (λ x. spell (canonical_token case u) ++ x) (along us)
 
--- texts have the same canonical tokens exactly where they are spelled alike
+-- texts have the same canonical tokens exactly if they are spelled alike
 pub same_tokens : (case : Case) (bytes text : List ℕ) → is_well_formed text ≡ true
     → (canonical_tokens case bytes ≡ canonical_tokens case text) ↔ SpellsAlike case bytes text
 unfolding canonical_in

@@ -103,7 +103,7 @@ rest_is mark (b ∷ t) = by_test (b == mark) refl (rest_is mark t)
 pub before_after : (mark : ℕ) (t : List ℕ) → before mark t ++ behind mark (after mark t) ≡ t
 before_after mark t = ap (λ u. before mark t ++ u) (sym (rest_is mark t)) ∙ cut-whole (λ b. b == mark) t
 
--- the pieces before and behind a mark lack what the text lacks, and the one before it lacks the mark
+-- the pieces before and after a mark lack what the text lacks, and the one before it lacks the mark
 pub lacks-before : (b mark : ℕ) (t : List ℕ) → lacks b t ≡ true → lacks b (before mark t) ≡ true
 lacks-before b mark t h = lacks-left b (before mark t) (behind mark (after mark t)) (ap (lacks b) (before_after mark t) ∙ h)
 

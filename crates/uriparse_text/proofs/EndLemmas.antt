@@ -25,7 +25,7 @@ abbrev pub other_fault : ℕ → Option ℕ → Option ℕ
 other_fault mark None = None
 other_fault mark (Some b) = cond (b == mark) None (Some b)
 
--- an escape stands before the first byte that passes or behind it, where no digit passes
+-- an escape precedes the first byte that passes or follows it, where no digit passes
 pub escape-up_to : (p : ℕ → Bool) → ((c : ℕ) → p c ≡ true → is_hex c ≡ false) → (b : ℕ) (rest : List ℕ) → is_escape b (up_to p rest) ≡ is_escape b rest
 escape-up_to p no_digit b [] = refl
 escape-up_to p no_digit b (c ∷ []) = elim (p c) as (λ v. is_escape b (cond v [] (c ∷ [])) ≡ is_escape b (c ∷ [])) [ true ↦ refl | false ↦ refl ]
@@ -71,7 +71,7 @@ module _ (class : Class) (mark : ℕ) (ends : EndsClass class mark) where
           fault-nil class ∙ sym (ap (other_fault mark) (mark_is_fault b rest e) ∙ ap (λ v. cond v None (Some b)) e)
       by_mark false e h = by_fine (begins_fine class (b ∷ rest)) refl e h
 
-  -- the class as a call answers it
+  -- the class as a call returns it
   module _ (answered : Class) (same_class : answered ≡ class) (t : List ℕ) (place : ℕ) (found : IsFaultPlace answered t place) where
     is : IsFaultPlace class t place
     is = subst (λ k. IsFaultPlace k t place) same_class found
@@ -112,7 +112,7 @@ module _ (class : Class) (mark : ℕ) (ends : EndsClass class mark) where
           ap part (sym nothing ∙ ap (λ n. drop n t) at ∙ drop_place (λ b. b == mark) t),
         )
 
-    -- or what stands before the mark is,
+    -- or what precedes the mark is,
     pub text_before : place < length t → (get_or t place 0 == mark) ≡ true
         → (take place t ≡ before mark t) × IsIn class (take place t) × (Some (drop (place + 1) t) ≡ after mark t)
     text_before more e =

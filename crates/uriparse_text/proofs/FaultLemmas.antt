@@ -66,7 +66,7 @@ none_found : (p : Token → Bool) (ts : List Token) → list_all p ts ≡ true �
 none_found p [] h = refl
 none_found p (t ∷ ts) h = let both = and_parts (p t) (list_all p ts) h in rw both.0 (none_found p ts both.1)
 
--- a text has no fault exactly where it is in the class
+-- a text has no fault exactly if it is in the class
 pub no_fault : (class : Class) (text : List ℕ) → (fault class text ≡ None) ↔ IsIn class text
 unfolding fault
 no_fault class text = (

@@ -20,7 +20,7 @@ fed_last bytes h =
     let none : length bytes / 64 ≡ 0 = omega (arith, h) in
     ap (λ n. first_chunks 64 n bytes ++ drop (n * 64) bytes ∷ []) none
 
--- the first block goes before what stands behind it
+-- the first block goes before what follows it
 fed_first : (block bytes : List ℕ) → length block ≡ 64 → fed_bytes (block ++ bytes) ≡ block ∷ fed_bytes bytes
 unfolding fed_bytes
 fed_first block bytes h =

@@ -149,7 +149,7 @@ module _ (p : ℕ → Bool) where
       sym (position_or_len_is p text k 0 (omega arith) (λ j h. unmarked_front text m are j (omega arith) (below j h))
       (λ _. ap (λ i. p (get_or text i 0)) place ∙ w.1))
 
-  -- and where there is none, no byte passes
+  -- and if there is none, no byte passes
   pub none_marked : (text : List ℕ) (m : ℕ) → AreMarks p text 0 (length text) m → m ≡ 0 → length text ≡ position_or_len p text
   none_marked text m are none =
       sym (position_or_len_is p text (length text) 0 (omega arith)

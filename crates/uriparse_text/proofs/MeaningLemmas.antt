@@ -13,7 +13,7 @@ use Rattle.uriparse_text.proofs.TokenLemmas.{tokens-spell, tokens_of_concatenati
 use Rattle.uriparse_text.proofs.FaultLemmas.{fault-nil, fault-plain, fault-escape, fault-fine, fault-here, no_fault}
 use Rattle.uriparse_text.proofs.ClassLemmas.{is_token-allows, all_tokens-allowed}
 
--- all tokens of a text are in the class exactly where it is a concatenation of such tokens
+-- all tokens of a text are in the class exactly if it is a concatenation of such tokens
 pub in_class : (class : Class) (text : List ℕ) → IsIn class text ↔ IsOfClass class text
 in_class class text = (
   λ h. record { ts = tokens text; whole = sym (spell-tokens text); each = h },
@@ -28,7 +28,7 @@ none_iff class text =
 
 -- ---- from a fault to its place
 
--- a fault behind a token of the class
+-- a fault after a token of the class
 behind_token : (class : Class) (text : List ℕ) (t : Token) (rest : List ℕ) (byte : ℕ) → allows class t ≡ true → text ≡ spell t ++ rest
     → HasFaultAt class rest byte → HasFaultAt class text byte
 behind_token class text t rest byte fine cut at = record {

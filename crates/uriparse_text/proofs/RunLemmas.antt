@@ -34,7 +34,7 @@ canonical_in-run case (b ∷ t) = by_first (may_change case b) refl (canonical_i
     by_first true e h = refl
     by_first false e h = canonical_in-stays case b t e ∙ ap (λ u. b ∷ u) h
 
--- a token and the run behind it are written
+-- a token and the run after it are written
 pub spelled_run : (case : Case) (done front rest later whole : List ℕ) → (done ++ canonical_in case rest ≡ whole)
     → canonical_in case rest ≡ front ++ canonical_in case later → (done ++ front) ++ canonical_in case later ≡ whole
 spelled_run case done front rest later whole h e = append_assoc done front (canonical_in case later) ∙ ap (λ u. done ++ u) (sym e) ∙ h

@@ -1,4 +1,4 @@
--- Words of the clauses of private functions alone: how `same_spelling` compares texts, by the codes of their canonical tokens, behind what
+-- Words of the clauses of private functions alone: how `same_spelling` compares texts, by the codes of their canonical tokens, after what
 -- the texts have in common. No public clause needs them.
 use Rattle.std.specs.Prelude.{◌≡◌, ℕ, ◌-◌, ◌/◌, ◌%◌, ◌<◌, false, ◌==◌, if◌then◌else◌, List, slice_index}
 use Rattle.std.specs.Int.{is_in_range}

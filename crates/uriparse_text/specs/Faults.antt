@@ -79,7 +79,7 @@ abbrev pub BeginsWithNone : Class → List ℕ → Type 0
 BeginsWithNone class text =
     (t : Token) (rest : List ℕ) → allows class t ≡ true → text ≡ spell t ++ rest → ⊥
 
--- the least place where no token of the class begins, with what stands before it and after it
+-- the least place where no token of the class begins, with what precedes and follows it
 pub record HasFaultAt (class : Class) (text : List ℕ) (byte : ℕ) : Type 0 where
   pub before : List ℕ
   pub after : List ℕ

@@ -1,10 +1,10 @@
--- What a reader of one text answers.
+-- What a reader of one text returns.
 use Rattle.std.specs.Prelude.{◌≡◌, ◌⊎◌, ℕ, List, Option, Some, None, Result, Ok, Err, MatchResult}
 use Rattle.std.specs.Option.{option_map}
 use Rattle.uriparse_text.specs.declared.parts.class.Class.{Class}
 use Rattle.uriparse_text.specs.Faults.{fault}
 
--- the value, or the error where there is one
+-- the value, or the error if there is one
 abbrev pub unless_fault : {E A : Type 0} → Option E → A → Result A E
 unless_fault None x = Ok x
 unless_fault (Some e) x = Err e
@@ -17,9 +17,9 @@ reading_in class error_of text = unless_fault (option_map error_of (fault class 
 abbrev pub IsUnless : {E A : Type 0} → E → Result A E → Result A E → Type 0
 IsUnless error answer right = (answer ≡ right) ⊎ (answer ≡ Err error)
 
--- ---- what a call that changes a value answers
+-- ---- what a call that changes a value returns
 
--- it is Ok and the value is the new one, or it is the refusal and the value is the old one
+-- it is Ok and the value is the new one, or it is the error and the value is the old one
 abbrev pub Settles : {A E : Type 0} → A → A → Result (Unit {0}) E → Result A E → Type 0
 Settles old new result right = MatchResult result (λ _. right ≡ Ok new) (λ e. (right ≡ Err e) × (new ≡ old))
 

@@ -20,7 +20,7 @@ is_known (Borrowed t known) = known == 1
 is_known (Owned s) = false
 is_known (OwnedCanonical s) = true
 
--- the bytes are of the class, and canonical where that is said of them
+-- the bytes are of the class, and canonical if they are marked so
 pub record IsKept (class : Class) (case : Case) (known : Bool) (text : List ℕ) : Type 0 where
   pub inside : IsIn class text
   pub canonical : known ≡ true → canonical_in case text ≡ text

@@ -25,7 +25,7 @@ abbrev pub has_digits : Token → Bool
 has_digits (Byte b) = true
 has_digits (Escape high low) = is_hex high && is_hex low
 
--- the text, cut at its tokens. A `%` without two hexadecimal digits behind it stays a byte by itself, and is no token.
+-- the text, cut at its tokens. A `%` without two hexadecimal digits after it stays a byte by itself, and is no token.
 unfoldable pub tokens : List ℕ → List Token
 tokens [] = []
 tokens (b ∷ []) = Byte b ∷ []

@@ -1,7 +1,7 @@
 //! IPv4 and IPv6 addresses, which a host may be: RFC 3986, section 3.2.2.
 //!
-//! They are read and printed without the brackets that a URI puts round an IPv6 address. None of
-//! this takes memory.
+//! They are read and printed without the brackets that a URI puts around an IPv6 address. Nothing
+//! here allocates.
 
 mod ipv4;
 mod ipv6;
@@ -10,7 +10,7 @@ pub use ipv4::Ipv4Addr;
 pub use ipv6::Ipv6Addr;
 use std::fmt;
 
-/// An IPv4 or an IPv6 address, printed as the address that it is.
+/// An IPv4 or an IPv6 address.
 ///
 /// Equal addresses are of one kind: `1.2.3.4` is not `::ffff:1.2.3.4`.
 ///
@@ -32,7 +32,7 @@ impl fmt::Display for IpAddr {
 
     ghost output = { λ a. Some (ip_text a) };
 
-    // No option of the formatter changes it.
+    // The formatter's options have no effect.
     ghost styled_output = { λ a _. Some (ip_text a) };
 
     fn fmt<W: fmt::Write>(&self, f: &mut fmt::Formatter<W>) -> fmt::Result {

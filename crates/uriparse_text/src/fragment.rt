@@ -6,13 +6,13 @@ ghost use Rattle.uriparse_text.specs.Fragment as spec;
 use crate::parts::{Case, Class, Kind, Text};
 use thiserror::Error;
 
-/// Why a text is no fragment. The leftmost fault answers.
+/// Why a text is not a fragment: its leftmost fault.
 #[derive(Clone, Debug, Drop, PartialEq, Eq, Hash, Error)]
 pub enum FragmentError {
-    /// A byte that no fragment has.
+    /// A byte that is not allowed in a fragment.
     #[error("invalid fragment character")]
     InvalidCharacter,
-    /// A `%` without two hexadecimal digits behind it.
+    /// A `%` that two hexadecimal digits don't follow.
     #[error("invalid fragment percent encoding")]
     InvalidPercentEncoding,
 }
@@ -49,13 +49,13 @@ impl Kind for FragmentKind {
     }
 }
 
-/// The fragment of a URI or reference, without its `#`: a text of `pchar`, `/` and `?`, which may
-/// be empty. RFC 3986, section 3.5.
+/// The fragment of a URI or reference, without its `#`: a text of `pchar`, `/` and `?`, possibly
+/// empty. RFC 3986, section 3.5.
 ///
-/// It borrows the text that it was read from, or owns its text. Its readers take no memory and
-/// refuse the leftmost fault: [`InvalidPercentEncoding`](FragmentError::InvalidPercentEncoding) at
-/// a `%` without two hexadecimal digits behind it, else
-/// [`InvalidCharacter`](FragmentError::InvalidCharacter). Two fragments are equal where their
+/// It borrows the text that it was read from, or owns its text. Its readers do not allocate. They
+/// reject the leftmost fault: [`InvalidPercentEncoding`](FragmentError::InvalidPercentEncoding) for
+/// a `%` that two hexadecimal digits don't follow, else
+/// [`InvalidCharacter`](FragmentError::InvalidCharacter). Two fragments are equal if their
 /// canonical spellings are. The calls are those of [`Text`].
 ///
 /// ```

@@ -1,5 +1,5 @@
-//! Laws of the definitions that contracts cite. Each function has nothing to do: its contract is
-//! the law.
+//! Laws of the definitions that contracts cite. Each function does nothing: its contract is the
+//! law.
 ghost use Rattle.std.specs.Prelude.{◌≡◌, ◌==◌, ◌↔◌, ◌<◌, ◌∷◌, ◌++◌, ℕ, List, [], Some, None, true, false, flat_map, length, codes};
 ghost use Rattle.std.specs.List.{list_all};
 ghost use Rattle.uriparse_text.specs.declared.parts.token.Token.{Token};
@@ -14,15 +14,15 @@ ghost use Rattle.uriparse_text.specs.Canonical.{canonical_token, canonical_in, f
 ghost use Rattle.uriparse_text.specs.Cuts.{lacks};
 ghost use Rattle.uriparse_text.specs.Address.{IsOctets, IsSegments, SpellsIpv4, SpellsIpv6, ipv4_text, ipv6_text, ipv4_reading, ipv6_reading, IsPrintedIpv6, is_ipv4_byte, is_ipv6_byte};
 
-/// A text has no fault exactly where it is a concatenation of tokens of the class; else its fault
-/// stands at the least place where no such token begins.
+/// A text has no fault exactly if it is a concatenation of tokens of the class; else its fault is
+/// at the least place where no such token begins.
 pub fn one_leftmost_fault()
     ensures class { (class : Class) (text : List ℕ) → IsIn class text ↔ IsOfClass class text }
     ensures none { (class : Class) (text : List ℕ) → (fault class text ≡ None) ↔ IsOfClass class text }
     ensures place { (class : Class) (text : List ℕ) (byte : ℕ) → (fault class text ≡ Some byte) ↔ HasFaultAt class text byte }
 {}
 
-/// A text is well formed where it is a concatenation of tokens, and then of these alone.
+/// A text is well formed exactly if it is a concatenation of tokens, which are then unique.
 pub fn one_list_of_tokens()
     ensures some { (text : List ℕ) → (is_well_formed text ≡ true) ↔ ((ts : List Token) × IsConcatenation ts text) }
     ensures one { (text : List ℕ) (ts us : List Token) → IsConcatenation ts text → IsConcatenation us text → ts ≡ us }
@@ -37,8 +37,8 @@ pub fn one_canonical_spelling()
     ensures class { (class : Class) (case : Case) (text : List ℕ) → IsIn class text → IsIn class (canonical_in case text) }
 {}
 
-/// What a Hasher is fed of bytes: blocks of sixty-four as long as there are so many, and then the
-/// bytes that are left.
+/// What a hasher is fed of bytes: blocks of sixty-four as long as there are that many, and then the
+/// remaining bytes.
 pub fn one_list_of_writes()
     ensures { (blocks : List (List ℕ)) (last : List ℕ) → list_all (λ b. length b == 64) blocks ≡ true → length last < 64 → fed_bytes (flat_map (λ b. b) blocks ++ last) ≡ blocks ++ last ∷ [] }
 {}
@@ -56,8 +56,8 @@ pub fn one_address()
     ensures kinds { (text a b : List ℕ) → SpellsIpv4 text a → ¬ (SpellsIpv6 text b) }
 {}
 
-/// The bytes that the spellings of addresses are made of. So they lack every other byte, and an
-/// IPv4 address is spelled as a registered name too.
+/// The bytes that the spellings of addresses are made of. They contain no other byte, and an IPv4
+/// address also has the form of a registered name.
 pub fn spelled_bytes()
     ensures ipv4 { (text a : List ℕ) → SpellsIpv4 text a → list_all is_ipv4_byte text ≡ true }
     ensures ipv6 { (text a : List ℕ) → SpellsIpv6 text a → list_all is_ipv6_byte text ≡ true }

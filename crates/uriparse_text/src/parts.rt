@@ -1,4 +1,4 @@
-//! What the crates above build their own parts from. Users have no need of it.
+//! What the crates above build on. Users do not need it.
 
 mod alike;
 mod bits;

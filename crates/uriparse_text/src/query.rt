@@ -6,13 +6,13 @@ ghost use Rattle.uriparse_text.specs.Query as spec;
 use crate::parts::{Case, Class, Kind, Text};
 use thiserror::Error;
 
-/// Why a text is no query. The leftmost fault answers.
+/// Why a text is not a query: its leftmost fault.
 #[derive(Clone, Debug, Drop, PartialEq, Eq, Hash, Error)]
 pub enum QueryError {
-    /// A byte that no query has.
+    /// A byte that is not allowed in a query.
     #[error("invalid query character")]
     InvalidCharacter,
-    /// A `%` without two hexadecimal digits behind it.
+    /// A `%` that two hexadecimal digits don't follow.
     #[error("invalid query percent encoding")]
     InvalidPercentEncoding,
 }
@@ -49,13 +49,13 @@ impl Kind for QueryKind {
     }
 }
 
-/// The query of a URI or reference, without its `?`: a text of `pchar`, `/` and `?`, which may be
+/// The query of a URI or reference, without its `?`: a text of `pchar`, `/` and `?`, possibly
 /// empty. RFC 3986, section 3.4.
 ///
-/// It borrows the text that it was read from, or owns its text. Its readers take no memory and
-/// refuse the leftmost fault: [`InvalidPercentEncoding`](QueryError::InvalidPercentEncoding) at a
-/// `%` without two hexadecimal digits behind it, else
-/// [`InvalidCharacter`](QueryError::InvalidCharacter). Two queries are equal where their canonical
+/// It borrows the text that it was read from, or owns its text. Its readers do not allocate. They
+/// reject the leftmost fault: [`InvalidPercentEncoding`](QueryError::InvalidPercentEncoding) for a
+/// `%` that two hexadecimal digits don't follow, else
+/// [`InvalidCharacter`](QueryError::InvalidCharacter). Two queries are equal if their canonical
 /// spellings are. The calls are those of [`Text`].
 ///
 /// ```

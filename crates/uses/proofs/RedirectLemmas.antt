@@ -1,4 +1,4 @@
--- What the answers of reading and resolving tell of a redirect.
+-- What the results of reading and resolving tell of a redirect.
 use Rattle.std.proofs.Common.{◌≡◌, ℕ, List, Option, Some, None, Ok, Err, inl, inr, refl, sym, ap, subst, ◌∙◌}
 use Rattle.std.specs.Prelude.{◌⊎◌, Result, IfOk, MatchOption}
 use Rattle.uriparse.specs.Readings.{IsUnless}
@@ -14,7 +14,7 @@ use Rattle.uses.specs.declared.redirects.RedirectError.{RedirectError}
 use Rattle.uses.specs.declared.redirects.RedirectError.TheVariants as errors
 use Rattle.uses.specs.Redirects.{GoesTo, IsAt, IsWant, IsUnlessWant, Follows}
 
--- what resolving answers
+-- what resolving returns
 abbrev pub Resolves : Option Parts → Result Parts URIError → Type 0
 Resolves o r = MatchOption o (r ≡ Err (uris.Path ExceededMaximumLength)) (λ t. IsUnless (uris.Path OutOfMemory) r (Ok t))
 
@@ -31,7 +31,7 @@ resolved None t h = absurd (cc)
 resolved (Some u) t (inl h) = let same : t ≡ u = cc in ap Some (sym same)
 resolved (Some u) t (inr h) = absurd (cc)
 
--- what is refused behind the target, if there is one
+-- what is rejected after the target, if there is one
 pub untargeted : (o : Option Parts) (a : AuthorityParts) (e : URIError) → Resolves o (Err e) → Follows o a (Err (errors.Target e))
 untargeted o a e h = of_both (unresolved o e h)
   where
@@ -45,7 +45,7 @@ pub followed : (request r : Parts) (location : List ℕ) (a : AuthorityParts) (a
 followed request r location a (Ok t) s h = ((r, s, h.0), h.1)
 followed request r location a (Err e) s h = tt
 
--- an allowed target is answered
+-- an allowed target is returned
 allowed_at : (o : Option Parts) (t : Parts) (a : AuthorityParts) (answer : Result Parts RedirectError) → o ≡ Some t → IsAt a t → Follows o a answer
     → IsUnlessWant answer t
 allowed_at o t a (Ok u) is at h = cc
@@ -66,7 +66,7 @@ allowed request r location a answer only h t g at = allowed_at (target request r
     of_one (inl k) = let same : r ≡ g.0 = cc in ap (target request) same ∙ g.2
     of_one (inr k) = absurd (cc)
 
--- a Location that goes somewhere is refused for want of memory alone
+-- a Location that goes somewhere is rejected only if memory runs out
 pub unread : (e : URIReferenceError) (p : Parts) → IsUnless (references.Path OutOfMemory) (Err e) (Ok p) → IsWant (errors.Location e)
 unread e p (inl h) = absurd (cc)
 unread e p (inr h) = let same : e ≡ references.Path OutOfMemory = cc in inr (inl (ap errors.Location same))

@@ -4,7 +4,7 @@ use Rattle.std.specs.List.{list_any}
 use Rattle.uriparse.specs.Reference.{Parts}
 use Rattle.uriparse.specs.Key.{key}
 
--- what `==` answers
+-- what `==` returns
 abbrev pub is_equal : Parts → Parts → Bool
 is_equal p q = bytes_eq (key p) (key q)
 

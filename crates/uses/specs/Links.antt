@@ -12,7 +12,7 @@ use Rattle.uriparse.specs.declared.uri.error.URIError.TheVariants.{Path}
 abbrev pub AreTargets : Parts → List Parts → List Parts → Type 0
 AreTargets base links targets = map (target base) links ≡ map Some targets
 
--- Why a link is refused: it has no target, or memory was wanted.
+-- Why a link is rejected: it has no target, or memory ran out.
 abbrev pub IsRefusal : Parts → Parts → URIError → Type 0
 IsRefusal base link error = ((target base link ≡ None) × (error ≡ Path ExceededMaximumLength)) ⊎ (error ≡ Path OutOfMemory)
 
@@ -20,12 +20,12 @@ IsRefusal base link error = ((target base link ≡ None) × (error ≡ Path Exce
 abbrev pub HaveTargets : Parts → List Parts → Type 0
 HaveTargets base links = list_all (λ link. is_some (target base link)) links ≡ true
 
--- The link at this index is refused, and each before it has a target.
+-- The link at this index is rejected, and each before it has a target.
 pub record IsRefused (base : Parts) (links : List Parts) (index : ℕ) (error : URIError) : Type 0 where
   pub before : HaveTargets base (take index links)
   pub here : IsSomeAnd (slice_get links index) (λ link. IsRefusal base link error)
 
--- the link's target stands behind the others
+-- the link's target follows the others
 abbrev pub Gains : Parts → Parts → List Parts → List Parts → Type 0
 Gains base link old new = (t : Parts) × (target base link ≡ Some t) × (new ≡ old ++ t ∷ [])
 

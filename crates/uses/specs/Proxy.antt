@@ -37,7 +37,7 @@ IsReason u errors.Fragment = IsSome u.fragment
 IsReason u errors.Scheme = IsSomeAnd u.scheme IsWebScheme → ⊥
 IsReason u errors.Host = HasHost u → ⊥
 
--- why a text is refused: it spells no URI, memory was wanted, or it spells one that is no target
+-- why a text is rejected: it spells no URI, memory ran out, or it spells one that is no target
 abbrev pub Refuses : List ℕ → ProxyError → Type 0
 Refuses t (errors.Text e) = (fault_of true told uris.NotURI t ≡ Some e) ⊎ (e ≡ uris.Path OutOfMemory)
 Refuses t e = (u : Parts) × Spells t u × IsReason u e

@@ -10,7 +10,7 @@ use Rattle.uriparse.specs.declared.uri.error.URIError.TheVariants as uris
 use Rattle.uses.specs.declared.redirects.RedirectError.{RedirectError}
 use Rattle.uses.specs.declared.redirects.RedirectError.TheVariants as errors
 
--- The text of a Location is a reference, and this is its target behind the request's URI.
+-- The text of a Location is a reference, and this is its target against the request's URI.
 abbrev pub GoesTo : Parts → List ℕ → Parts → Type 0
 GoesTo request location t = (r : Parts) × Spells location r × (target request r ≡ Some t)
 
@@ -22,12 +22,12 @@ IsAt allowed t = IsSomeAnd t.authority (λ a. authority.key a ≡ authority.key 
 abbrev pub IsWant : RedirectError → Type 0
 IsWant e = (e ≡ errors.Memory) ⊎ ((e ≡ errors.Location (references.Path OutOfMemory)) ⊎ (e ≡ errors.Target (uris.Path OutOfMemory)))
 
--- this target is answered, or want of memory is
+-- this target is returned, or memory runs out
 abbrev pub IsUnlessWant : Result Parts RedirectError → Parts → Type 0
 IsUnlessWant (Ok u) t = u ≡ t
 IsUnlessWant (Err e) t = IsWant e
 
--- Behind the target, if there is one: it is answered if it is at the allowed authority. Else it is refused.
+-- After the target, if there is one: it is returned if it is at the allowed authority. Else it is rejected.
 abbrev pub Follows : Option Parts → authority.AuthorityParts → Result Parts RedirectError → Type 0
 Follows o allowed (Ok t) = (o ≡ Some t) × IsAt allowed t
 Follows o allowed (Err errors.Memory) = ⊤

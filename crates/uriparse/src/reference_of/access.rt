@@ -1,4 +1,4 @@
-//! The parts of a URI or a relative reference.
+//! The components of a URI or a relative reference.
 ghost use Rattle.std.specs.Prelude.{◌≡◌, is_some};
 ghost use Rattle.std.specs.Option.{option_copied};
 ghost use Rattle.uriparse_reference.specs.Reference.{host_of, password_of, port_of, username_of};
@@ -13,21 +13,21 @@ use uriparse_text::query::Query;
 impl<'r, K: Kind> ReferenceOf<'r, K> {
     ghost use Rattle.uriparse_reference.specs.Reference.{Valid};
 
-    /// The authority, if there is one.
+    /// The authority, if present.
     pub fn authority(&self) -> Option<&Authority<'r>>
         ensures { option_copied result ≡ self.now.authority }
     {
         self.reference.authority()
     }
 
-    /// The user name, if there is one.
+    /// The user name, if present.
     pub fn username(&self) -> Option<&Username<'r>>
         ensures { option_copied result ≡ username_of self.now }
     {
         self.reference.username()
     }
 
-    /// The password, if there is one.
+    /// The password, if present.
     pub fn password(&self) -> Option<&Password<'r>>
         ensures { option_copied result ≡ password_of self.now }
     {
@@ -41,7 +41,7 @@ impl<'r, K: Kind> ReferenceOf<'r, K> {
         self.reference.host()
     }
 
-    /// The port, if there is one.
+    /// The port, if present.
     pub fn port(&self) -> Option<u16>
         ensures { result ≡ port_of self.now }
     {
@@ -56,14 +56,14 @@ impl<'r, K: Kind> ReferenceOf<'r, K> {
         self.reference.path()
     }
 
-    /// The query, if there is one.
+    /// The query, if present.
     pub fn query(&self) -> Option<&Query<'r>>
         ensures { option_copied result ≡ self.now.query }
     {
         self.reference.query()
     }
 
-    /// The fragment, if there is one.
+    /// The fragment, if present.
     pub fn fragment(&self) -> Option<&Fragment<'r>>
         ensures { option_copied result ≡ self.now.fragment }
     {
@@ -98,14 +98,14 @@ impl<'r, K: Kind> ReferenceOf<'r, K> {
         self.reference.has_port()
     }
 
-    /// Whether there is a query, which may be empty.
+    /// Whether there is a query, even an empty one.
     pub fn has_query(&self) -> bool
         ensures { result ≡ is_some self.now.query }
     {
         self.reference.has_query()
     }
 
-    /// Whether there is a fragment, which may be empty.
+    /// Whether there is a fragment, even an empty one.
     pub fn has_fragment(&self) -> bool
         ensures { result ≡ is_some self.now.fragment }
     {

@@ -1,4 +1,4 @@
-//! Changing the parts of a URI or a relative reference, as those of the reference that it is.
+//! Changing the components of a URI or a relative reference.
 ghost use Rattle.std.specs.Prelude.{◌≡◌};
 ghost use Rattle.uriparse_text.specs.Readings.{Settles};
 ghost use Rattle.uriparse_reference.specs.declared.uri_reference.edit.Edit.TheVariants as edits;
@@ -13,40 +13,42 @@ use uriparse_text::fragment::Fragment;
 use uriparse_text::query::Query;
 
 impl<'r, K: Kind> ReferenceOf<'r, K> {
-    /// Sets the authority, behind which the path is made absolute. Without one, a path whose text
-    /// begins with two slashes is refused, and the value is unchanged. Takes no memory.
+    /// Sets or removes the authority. With one, the path is made absolute. Without one, a path
+    /// whose text begins with two slashes is rejected, and the value is unchanged. Does not
+    /// allocate.
     pub fn set_authority(&mut self, authority: Option<Authority<'r>>) -> Result<(), K::Error>
         ensures { Settles self.old self.new result (told_of K.told (edited self.old (edits.Authority authority.entry))) }
     {
         told::<K, _>(self.reference.set_authority(authority))
     }
 
-    /// Sets the path: behind an authority made absolute, else the one that its text spells. Without
-    /// an authority, a path whose text begins with two slashes is refused, and without a scheme too
-    /// one whose text has a colon before any slash; the value is then unchanged. Takes no memory.
+    /// Sets the path: with an authority it is made absolute, else it is the one that its text
+    /// spells. Without an authority, a path whose text begins with two slashes is rejected, and
+    /// without a scheme as well, one with a colon before any slash; the value is then unchanged.
+    /// Does not allocate.
     pub fn set_path(&mut self, path: Path<'r>) -> Result<(), K::Error>
         ensures { Settles self.old self.new result (told_of K.told (edited self.old (edits.Path path.entry))) }
     {
         told::<K, _>(self.reference.set_path(path))
     }
 
-    /// Sets the query. It is never refused. Takes no memory.
+    /// Sets or removes the query. Always succeeds. Does not allocate.
     pub fn set_query(&mut self, query: Option<Query<'r>>) -> Result<(), K::Error>
         ensures { Settles self.old self.new result (told_of K.told (edited self.old (edits.Query query.entry))) }
     {
         told::<K, _>(self.reference.set_query(query))
     }
 
-    /// Sets the fragment. It is never refused. Takes no memory.
+    /// Sets or removes the fragment. Always succeeds. Does not allocate.
     pub fn set_fragment(&mut self, fragment: Option<Fragment<'r>>) -> Result<(), K::Error>
         ensures { Settles self.old self.new result (told_of K.told (edited self.old (edits.Fragment fragment.entry))) }
     {
         told::<K, _>(self.reference.set_fragment(fragment))
     }
 
-    /// Sets what the closure makes of the authority, as
-    /// [`set_authority`](ReferenceOf::set_authority) does, but that a refusal consumes the value.
-    /// Takes no memory of its own.
+    /// Sets the authority to what the closure returns for it, as
+    /// [`set_authority`](ReferenceOf::set_authority) does, except that an error consumes the value.
+    /// Does not allocate, unless the closure does.
     pub fn map_authority<F>(self, make: F) -> Result<ReferenceOf<'r, K>, K::Error>
     where
         F: FnOnce(Option<Authority<'r>>) -> Option<Authority<'r>>,
@@ -56,8 +58,8 @@ impl<'r, K: Kind> ReferenceOf<'r, K> {
         ReferenceOf::told_checked(self.reference.map_authority(make))
     }
 
-    /// Sets what the closure makes of the path, as [`set_path`](ReferenceOf::set_path) does, but
-    /// that a refusal consumes the value. Takes no memory of its own.
+    /// Sets the path to what the closure returns for it, as [`set_path`](ReferenceOf::set_path)
+    /// does, except that an error consumes the value. Does not allocate, unless the closure does.
     pub fn map_path<F>(self, make: F) -> Result<ReferenceOf<'r, K>, K::Error>
     where
         F: FnOnce(Path<'r>) -> Path<'r>,
@@ -67,8 +69,8 @@ impl<'r, K: Kind> ReferenceOf<'r, K> {
         ReferenceOf::told_checked(self.reference.map_path(make))
     }
 
-    /// Sets what the closure makes of the query. It is never refused, and takes no memory of its
-    /// own.
+    /// Sets the query to what the closure returns for it. Always succeeds. Does not allocate,
+    /// unless the closure does.
     pub fn map_query<F>(self, make: F) -> Result<ReferenceOf<'r, K>, K::Error>
     where
         F: FnOnce(Option<Query<'r>>) -> Option<Query<'r>>,
@@ -78,8 +80,8 @@ impl<'r, K: Kind> ReferenceOf<'r, K> {
         ReferenceOf::told_checked(self.reference.map_query(make))
     }
 
-    /// Sets what the closure makes of the fragment. It is never refused, and takes no memory of its
-    /// own.
+    /// Sets the fragment to what the closure returns for it. Always succeeds. Does not allocate,
+    /// unless the closure does.
     pub fn map_fragment<F>(self, make: F) -> Result<ReferenceOf<'r, K>, K::Error>
     where
         F: FnOnce(Option<Fragment<'r>>) -> Option<Fragment<'r>>,

@@ -8,8 +8,8 @@ use crate::kind::Kind;
 use std::alloc::{AllocError, Global};
 
 impl<'r, K: Kind> ReferenceOf<'r, K> {
-    /// Whether the text is that of the normal form. Then the value is that form, part for part.
-    /// Takes no memory.
+    /// Whether the text is that of the normal form. Then the value is that form, component for
+    /// component. Does not allocate.
     pub fn is_normalized(&self) -> bool
         ensures text { IsTrue result ↔ (print (normal self.now) ≡ print self.now) }
         ensures form { IsTrue result → normal self.now ≡ self.now }
@@ -21,15 +21,15 @@ impl<'r, K: Kind> ReferenceOf<'r, K> {
     /// [`URIReference::normalize`](uriparse_reference::uri_reference::URIReference::normalize)
     /// does.
     ///
-    /// No memory is wanted where each text is canonical, whatever dot segments the path has. Where
-    /// some is wanted and there is none, the value is unchanged.
+    /// Does not allocate if each text is canonical, whatever dot segments the path has. If memory
+    /// runs out, the value is unchanged.
     pub fn normalize(&mut self, alloc: Global) -> Result<(), AllocError>
         ensures ok { OnOk result (self.new ≡ normal self.old) }
         ensures err { OnErr result (self.new ≡ self.old) }
         ensures takes_no_memory { print (normal self.old) ≡ print self.old → IsOk result }
         ensures canonical_takes_no_memory { canonical_texts self.old ≡ self.old → IsOk result }
 
-        // References that are the same get one normal form.
+        // References that are the same have one normal form.
         ensures equal { OnOk result ((q : Parts) → Valid q → Same self.old q → self.new ≡ normal q) }
     {
         self.reference.normalize(alloc)

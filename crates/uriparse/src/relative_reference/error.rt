@@ -1,4 +1,4 @@
-//! Why a relative reference is refused.
+//! Why a relative reference is rejected.
 ghost use Rattle.std.specs.Prelude.{◌≡◌};
 ghost use Rattle.uriparse.specs.declared.relative_reference.error.RelativeReferenceError.TheVariants as errors;
 
@@ -9,17 +9,17 @@ use uriparse_reference::uri_reference::URIReferenceError;
 use uriparse_text::fragment::FragmentError;
 use uriparse_text::query::QueryError;
 
-/// Why a text or a set of parts is no relative reference. The first of the parts that has a fault
-/// answers.
+/// Why a text or a set of components is not a relative reference: the fault of its first faulty
+/// component.
 #[derive(Clone, Debug, Drop, PartialEq, Eq, Hash, Error)]
 pub enum RelativeReferenceError {
-    /// Without an authority the path would begin with two slashes. Reading never answers it.
+    /// Without an authority the path would begin with two slashes. Reading never returns this.
     #[error("absolute path starts with two slashes")]
     AbsolutePathStartsWithTwoSlashes,
-    /// Without an authority a colon stands in the first segment of a relative path.
+    /// Without an authority the first segment of a relative path has a colon.
     #[error("relative reference schemeless path starts with colon segment")]
     SchemelessPathStartsWithColonSegment,
-    /// A builder was given no path. Reading never answers it.
+    /// A builder has no path. Reading never returns this.
     #[error("missing path")]
     MissingPath,
     /// It has a scheme.
@@ -28,7 +28,7 @@ pub enum RelativeReferenceError {
     /// The authority's fault.
     #[error(transparent)]
     Authority(AuthorityError),
-    /// The path's fault, or want of memory.
+    /// The path's fault, or out of memory.
     #[error(transparent)]
     Path(PathError),
     /// The query's fault.
@@ -71,8 +71,8 @@ impl From<FragmentError> for RelativeReferenceError {
     }
 }
 
-/// The refusal of a reference as that of a relative reference. A fault of a scheme is none: `Err`
-/// is answered.
+/// The error of a reference as that of a relative reference, or `Err` for a fault of a scheme,
+/// which no relative reference has.
 impl TryFrom<URIReferenceError> for RelativeReferenceError {
     type Error = ();
 

@@ -1,4 +1,4 @@
-//! Why a URI is refused.
+//! Why a URI is rejected.
 ghost use Rattle.std.specs.Prelude.{◌≡◌};
 ghost use Rattle.uriparse.specs.declared.uri.error.URIError.TheVariants as errors;
 
@@ -10,16 +10,16 @@ use uriparse_scheme::scheme::SchemeError;
 use uriparse_text::fragment::FragmentError;
 use uriparse_text::query::QueryError;
 
-/// Why a text or a set of parts is no URI. The first of the parts that has a fault answers.
+/// Why a text or a set of components is not a URI: the fault of its first faulty component.
 #[derive(Clone, Debug, Drop, PartialEq, Eq, Hash, Error)]
 pub enum URIError {
-    /// Without an authority the path would begin with two slashes. Reading never answers it.
+    /// Without an authority the path would begin with two slashes. Reading never returns this.
     #[error("absolute path URI starts with two slashes")]
     AbsolutePathStartsWithTwoSlashes,
-    /// A builder was given no path. Reading never answers it.
+    /// A builder has no path. Reading never returns this.
     #[error("missing path")]
     MissingPath,
-    /// A builder was given no scheme. Reading never answers it.
+    /// A builder has no scheme. Reading never returns this.
     #[error("missing scheme")]
     MissingScheme,
     /// It has no scheme.
@@ -28,7 +28,7 @@ pub enum URIError {
     /// The authority's fault.
     #[error(transparent)]
     Authority(AuthorityError),
-    /// The path's fault, want of memory or, of `resolve`, merged paths that are too long.
+    /// The path's fault, out of memory or, from `resolve`, merged paths that are too long.
     #[error(transparent)]
     Path(PathError),
     /// The query's fault.
@@ -37,7 +37,7 @@ pub enum URIError {
     /// The fragment's fault.
     #[error(transparent)]
     Fragment(FragmentError),
-    /// Reading never answers it: a text that begins with no scheme has none.
+    /// Reading never returns this: a text that does not begin with a scheme has none.
     #[error(transparent)]
     Scheme(SchemeError),
 }
@@ -82,8 +82,7 @@ impl From<SchemeError> for URIError {
     }
 }
 
-/// The refusal of a reference as that of a URI. A colon in the first segment of a reference without
-/// a scheme is no refusal of a URI: `Err` is answered.
+/// The error of a reference as that of a URI, or `Err` for the colon rule's, which no URI breaks.
 impl TryFrom<URIReferenceError> for URIError {
     type Error = ();
 

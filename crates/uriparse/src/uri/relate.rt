@@ -10,20 +10,20 @@ use uriparse_reference::parts::relativize;
 use uriparse_reference::uri_reference::URIReference;
 
 impl<'u> URI<'u> {
-    /// The reference that leads from this URI as its base to another one: [`resolve`](URI::resolve)
-    /// gives for it what it gives for the URI itself, so that URI again if its path has no dot
-    /// segments. It borrows the URI's texts.
+    /// The reference that leads from this URI to another one: [`resolve`](URI::resolve) returns for
+    /// it what it returns for that URI itself, so the same URI if its path has no dot segments. It
+    /// borrows the URI's texts.
     ///
-    /// Left out is what both have, part for part and in one spelling. Where scheme and authority are
-    /// one, a relative path leads there: `..` for each directory of this URI's path that the other
-    /// isn't in, and the segments behind those that it is in; a `.` stands in front of a first
-    /// segment that is empty or has a colon. Where the paths are one too, there is none, unless a
-    /// query has to go. No relative path leads there where dot segments stand in the paths, or one
-    /// path alone is absolute, or both are relative and `..` would climb out of the first directory,
-    /// or they are too long. Then the whole path is told; and where that can't stand alone, or the
-    /// authorities differ, the authority or the scheme too.
+    /// It omits the components that both have in one spelling. If scheme and authority are the
+    /// same, the path is relative: `..` for each directory of this URI's path that the other is not
+    /// in, then the segments after those that it is in; a leading `.` precedes a first segment that
+    /// is empty or has a colon. If the paths are the same too, there is no path, unless a query
+    /// must be dropped. No relative path leads there if the paths have dot segments, or only one is
+    /// absolute, or both are relative and `..` would climb out of the first directory, or they are
+    /// too long. Then the whole path is given; and if that cannot stand alone, or the authorities
+    /// differ, the authority or the scheme too.
     ///
-    /// Room for the list of segments is asked for once; want of memory is the only refusal.
+    /// Allocates the list of segments once; running out of memory is the only error.
     ///
     /// ```
     /// let base = URI::try_from_str(alloc, "http://a/b/c/d;p?q")?;

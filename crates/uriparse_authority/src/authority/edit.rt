@@ -1,4 +1,4 @@
-//! Setting and mapping the parts of an authority: RFC 3986, section 3.2.
+//! Setting and mapping the components of an authority: RFC 3986, section 3.2.
 ghost use Rattle.std.specs.Prelude.{◌≡◌, Ok};
 ghost use Rattle.uriparse_authority.specs.Authority as spec;
 
@@ -7,7 +7,7 @@ use super::{Authority, AuthorityError, Host, Ipv4Addr, Password, Username, with_
 use std::mem;
 
 impl<'a> Authority<'a> {
-    /// Sets the host. It is never refused, and the other parts stay. Takes no memory.
+    /// Sets the host. Always succeeds, and changes nothing else. Does not allocate.
     pub fn set_host(&mut self, host: Host<'a>) -> Result<(), AuthorityError>
         ensures answer { result ≡ Ok tt }
         ensures value { self.new ≡ spec.with_host self.old host.entry }
@@ -17,8 +17,8 @@ impl<'a> Authority<'a> {
         Ok(())
     }
 
-    /// Sets the user name. It is never refused. Without a user name there is no password, so `None`
-    /// drops the password too; all else stays. Takes no memory.
+    /// Sets the user name. Always succeeds. Without a user name there is no password, so `None`
+    /// drops the password too; nothing else changes. Does not allocate.
     pub fn set_username(&mut self, username: Option<Username<'a>>) -> Result<(), AuthorityError>
         ensures answer { result ≡ Ok tt }
         ensures value { self.new ≡ spec.with_username self.old username.entry }
@@ -30,8 +30,8 @@ impl<'a> Authority<'a> {
         Ok(())
     }
 
-    /// Sets the password. It is never refused. A password brings an empty user name where there is
-    /// none; all else stays. Takes no memory.
+    /// Sets the password. Always succeeds. A password brings an empty user name if there is none;
+    /// nothing else changes. Does not allocate.
     pub fn set_password(&mut self, password: Option<Password<'a>>) -> Result<(), AuthorityError>
         ensures answer { result ≡ Ok tt }
         ensures value { self.new ≡ spec.with_password self.old password.entry }
@@ -41,7 +41,7 @@ impl<'a> Authority<'a> {
         Ok(())
     }
 
-    /// Sets the port, and answers the port just set. The other parts stay. Takes no memory.
+    /// Sets the port, and returns it. Changes nothing else. Does not allocate.
     pub fn set_port(&mut self, port: Option<u16>) -> Option<u16>
         ensures answer { result ≡ port }
         ensures value { self.new ≡ spec.with_port self.old port }
@@ -50,8 +50,8 @@ impl<'a> Authority<'a> {
         port
     }
 
-    /// Sets the host to what the closure makes of it. It is never refused, and the other parts
-    /// stay. Takes no memory of its own.
+    /// Sets the host to what the closure returns for it. Always succeeds, and changes nothing else.
+    /// Does not allocate, unless the closure does.
     pub fn map_host<F>(&mut self, make: F) -> Result<(), AuthorityError>
     where
         F: FnOnce(Host<'a>) -> Host<'a>,
@@ -63,9 +63,9 @@ impl<'a> Authority<'a> {
         self.set_host(make(old))
     }
 
-    /// Sets the user name to what the closure makes of it. It is never refused. Without a user name
-    /// there is no password, so a closure that answers `None` drops the password too; all else
-    /// stays. Takes no memory of its own.
+    /// Sets the user name to what the closure returns for it. Always succeeds. Without a user name
+    /// there is no password, so a closure that returns `None` drops the password too; nothing else
+    /// changes. Does not allocate, unless the closure does.
     pub fn map_username<F>(&mut self, make: F) -> Result<(), AuthorityError>
     where
         F: FnOnce(Option<Username<'a>>) -> Option<Username<'a>>,
@@ -77,8 +77,9 @@ impl<'a> Authority<'a> {
         self.set_username(make(old))
     }
 
-    /// Sets the password to what the closure makes of it. It is never refused. A password brings an
-    /// empty user name where there is none; all else stays. Takes no memory of its own.
+    /// Sets the password to what the closure returns for it. Always succeeds. A password brings an
+    /// empty user name if there is none; nothing else changes. Does not allocate, unless the
+    /// closure does.
     pub fn map_password<F>(&mut self, make: F) -> Result<(), AuthorityError>
     where
         F: FnOnce(Option<Password<'a>>) -> Option<Password<'a>>,
@@ -90,8 +91,8 @@ impl<'a> Authority<'a> {
         self.set_password(make(old))
     }
 
-    /// Sets the port to what the closure makes of it, and answers the port just set. The other
-    /// parts stay. Takes no memory of its own.
+    /// Sets the port to what the closure returns for it, and returns the new port. Changes nothing
+    /// else. Does not allocate, unless the closure does.
     pub fn map_port<F>(&mut self, make: F) -> Option<u16>
     where
         F: FnOnce(Option<u16>) -> Option<u16>,

@@ -1,81 +1,81 @@
-//! Why an authority or a part of it is refused.
+//! Why an authority or a component of it is rejected.
 ghost use Rattle.std.specs.Prelude.{◌≡◌};
 ghost use Rattle.uriparse_authority.specs.declared.authority.error.AuthorityError.TheVariants as errors;
 
 use thiserror::Error;
 
-/// Why a text is no registered name.
+/// Why a text is not a registered name.
 #[derive(Clone, Debug, Drop, PartialEq, Eq, Hash, Error)]
 #[error("invalid registered name")]
 pub struct RegisteredNameError;
 
-/// Why a text is no host.
+/// Why a text is not a host.
 #[derive(Clone, Debug, Drop, PartialEq, Eq, Hash, Error)]
 pub enum HostError {
     /// No call returns this. Earlier versions rejected each address of a later version
     /// ([`IPvFuture`](super::IPvFuture)) with it.
     #[error("host address mechanism not supported")]
     AddressMechanismNotSupported,
-    /// A byte that no name has, or a broken escape; or, where an authority is read by itself, a
-    /// byte behind the IPv4 address or name that ends it.
+    /// A byte that is not allowed in a name, or a broken escape. Of an authority read by itself: a
+    /// byte that follows its IPv4 address or name.
     #[error("invalid host IPv4 or registered name character")]
     InvalidIPv4OrRegisteredNameCharacter,
-    /// Between brackets stands a byte that no IPv6 address has; or, where an authority is read by
-    /// itself, a byte behind the IPv6 address that ends it.
+    /// A byte between brackets that no IPv6 address has. Of an authority read by itself: a byte
+    /// that follows its IPv6 address.
     #[error("invalid host IPv6 character")]
     InvalidIPv6Character,
-    /// Between brackets stand bytes of an IPv6 address, but none of its forms.
+    /// Bytes of an IPv6 address between brackets, but not one of its forms.
     #[error("invalid host IPv6 format")]
     InvalidIPv6Format,
-    /// A byte that no address of a later version has; or, if an authority is read by itself, a byte
-    /// that follows such an address and ends it.
+    /// A byte that no address of a later version has. Of an authority read by itself: a byte that
+    /// follows such an address.
     #[error("invalid host IPvFuture character")]
     InvalidIPvFutureCharacter,
-    /// Only bytes of an address of a later version, but not its form: `v`, hexadecimal digits, a
-    /// dot, and something after it.
+    /// Bytes of an address of a later version, but not its form: `v`, hexadecimal digits, a dot,
+    /// and at least one byte more.
     #[error("invalid host IPvFuture format")]
     InvalidIPvFutureFormat,
 }
 
-/// Why a text is no user name. The leftmost fault answers.
+/// Why a text is not a user name: its leftmost fault.
 #[derive(Clone, Debug, Drop, PartialEq, Eq, Hash, Error)]
 pub enum UsernameError {
     /// A `:`, which ends a user name.
     #[error("username contains a colon character")]
     ContainsColon,
-    /// Another byte that no user name has.
+    /// Another byte that is not allowed in a user name.
     #[error("invalid username character")]
     InvalidCharacter,
-    /// A `%` without two hexadecimal digits behind it.
+    /// A `%` that two hexadecimal digits don't follow.
     #[error("invalid username percent encoding")]
     InvalidPercentEncoding,
 }
 
-/// Why a text is no password. The leftmost fault answers.
+/// Why a text is not a password: its leftmost fault.
 #[derive(Clone, Debug, Drop, PartialEq, Eq, Hash, Error)]
 pub enum PasswordError {
-    /// A byte that no password has.
+    /// A byte that is not allowed in a password.
     #[error("invalid password character")]
     InvalidCharacter,
-    /// A `%` without two hexadecimal digits behind it.
+    /// A `%` that two hexadecimal digits don't follow.
     #[error("invalid password percent encoding")]
     InvalidPercentEncoding,
 }
 
-/// Why a text is no port. The leftmost fault answers.
+/// Why a text is not a port: its leftmost fault.
 #[derive(Clone, Debug, Drop, PartialEq, Eq, Hash, Error)]
 pub enum PortError {
-    /// A byte that is no decimal digit; or, where an authority is read by itself, a byte behind the
-    /// port that ends it.
+    /// A byte that is not a decimal digit. Of an authority read by itself: a byte that follows its
+    /// port.
     #[error("invalid port character")]
     InvalidCharacter,
-    /// The digit with which the number passes 65535.
+    /// The digit with which the number exceeds 65535.
     #[error("port overflow")]
     Overflow,
 }
 
-/// Why a text is no authority. The first of its parts that has a fault answers, in the order user
-/// name, password, host, port.
+/// Why a text is not an authority: the fault of its first faulty component, in the order user name,
+/// password, host, port.
 #[derive(Clone, Debug, Drop, PartialEq, Eq, Hash, Error)]
 pub enum AuthorityError {
     /// The host's fault.

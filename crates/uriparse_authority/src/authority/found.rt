@@ -1,4 +1,4 @@
-//! An authority that a reader found: words that nothing has to be dropped of.
+//! An authority that a reader found: plain words that need no drop.
 ghost use Rattle.std.specs.Prelude.{◌≡◌};
 ghost use Rattle.uriparse_authority.specs.Authority as spec;
 ghost use Rattle.uriparse_text.specs.Found.{if_there};
@@ -10,14 +10,13 @@ use super::username::UsernameKind;
 use std::marker::Model;
 use uriparse_text::parts::Found;
 
-/// The pieces of an authority, which borrow the bytes that they stand in. It is seen as the parts
-/// that they are.
+/// The components of an authority, borrowed from its bytes. Seen as the parts that they stand for.
 #[derive(Drop)]
 pub struct FoundAuthority<'a> {
     username: Found<'a, UsernameKind>,
     password: Found<'a, PasswordKind>,
     host: FoundHost<'a>,
-    // 0 where there is no port.
+    // 0 if there is no port.
     has_port: usize,
     port: usize,
 }
@@ -44,7 +43,7 @@ fn port_words(port: Option<u16>) -> (usize, usize)
     }
 }
 
-/// These pieces, where no password stands without a user name.
+/// These components. Without a user name there is no password.
 #[inline(always)]
 pub(super) fn found_authority<'a>(
     username: Found<'a, UsernameKind>,
@@ -78,7 +77,7 @@ impl<'a> FoundAuthority<'a> {
         }
     }
 
-    /// The authority, whose parts borrow the bytes. Takes no memory.
+    /// The authority, whose components borrow the bytes. Does not allocate.
     #[inline(always)]
     pub fn to_authority(&self) -> Authority<'a>
         ensures { result ≡ self.now }

@@ -23,7 +23,7 @@ use uriparse_text::parts::{
     Case, Class, Kind, Text, checked_text, normalized_text, split_at_mark, without_mark,
 };
 
-/// The kind of text that such an address is, which has no escapes.
+/// The kind of text that such an address is. It has no escapes.
 struct FutureKind;
 
 impl Kind for FutureKind {
@@ -88,7 +88,7 @@ fn is_version(bytes: &[u8]) -> bool
     }
 }
 
-/// Whether there is a text that isn't empty.
+/// Whether there is a text and it isn't empty.
 fn is_address(text: Option<&[u8]>) -> bool
     ensures { result ≡ spec.has_address (option_copied text.entry) }
 {
@@ -116,7 +116,7 @@ fn has_form(bytes: &[u8]) -> bool
     }
 }
 
-/// Why the bytes are no such address, if they are none.
+/// Why the bytes are not such an address, if they are not.
 pub(super) fn future_fault(bytes: &[u8]) -> Option<HostError>
     ensures { result ≡ spec.fault bytes.now }
 {
@@ -130,12 +130,12 @@ pub(super) fn future_fault(bytes: &[u8]) -> Option<HostError>
 }
 
 /// The address of a later version of IP, without its brackets: `v`, the version in hexadecimal
-/// digits, a dot, and the address, which is one or more unreserved bytes, sub-delimiters and colons.
-/// RFC 3986, section 3.2.2.
+/// digits, a dot, and the address, which is one or more unreserved bytes, sub-delimiters and
+/// colons. RFC 3986, section 3.2.2.
 ///
 /// It borrows the text that it was read from, or owns its text. It has no escapes. Two of them are
-/// equal if they differ at most in the case of letters, and equal ones feed a hasher the same bytes:
-/// section 6.2.2.1.
+/// equal if they differ at most in the case of letters (section 6.2.2.1), and equal ones feed a
+/// hasher the same bytes.
 ///
 /// ```
 /// let address = IPvFuture::try_from_str("v1F.Fe80::A")?;
@@ -173,14 +173,14 @@ impl<'host> IPvFuture<'host> {
         }
     }
 
-    /// The same for a text.
+    /// The same for a `str`.
     pub fn try_from_str(text: &'host str) -> Result<IPvFuture<'host>, HostError>
         ensures { result ≡ spec.reading text.now }
     {
         IPvFuture::try_from_bytes(text.as_bytes())
     }
 
-    /// The address of bytes that are known to be one.
+    /// The address with these bytes, which are known to be one.
     pub(super) fn of_checked(bytes: &'host [u8]) -> IPvFuture<'host>
         requires { spec.IsFuture bytes.now }
         ensures { result ≡ bytes.now }
@@ -190,7 +190,7 @@ impl<'host> IPvFuture<'host> {
         }
     }
 
-    /// The text, as it was spelled.
+    /// The text.
     pub fn as_str(&self) -> &str
         ensures value { result.now ≡ self.now }
         ensures valid { spec.IsFuture self.now }
@@ -206,7 +206,7 @@ impl<'host> IPvFuture<'host> {
         self.text.as_bytes()
     }
 
-    /// The same address, which borrows this one's text.
+    /// The same address, borrowed from this one.
     pub fn as_borrowed(&self) -> IPvFuture<'_>
         ensures { result ≡ self.now }
     {
@@ -215,8 +215,8 @@ impl<'host> IPvFuture<'host> {
         }
     }
 
-    /// The same address, which owns its text. Copies a borrowed text; if memory runs out, the
-    /// address is gone.
+    /// The same address, owned. Borrowed text is copied, which allocates; if memory runs out, the
+    /// address is dropped.
     pub fn into_owned(self, alloc: Global) -> Result<IPvFuture<'static>, AllocError>
         ensures { IfOk result (λ f. f ≡ self.entry) }
     {
@@ -225,21 +225,21 @@ impl<'host> IPvFuture<'host> {
         })
     }
 
-    /// Returns a copy of the text.
+    /// A copy of the text. Allocates.
     pub fn to_string(&self, alloc: Global) -> Result<String, AllocError>
         ensures { IfOk result (λ s. string_bytes s ≡ self.now) }
     {
         self.text.to_string(alloc)
     }
 
-    /// Returns whether the text is in lower case: RFC 3986, section 6.2.2.1. Does not allocate.
+    /// Whether the text is in lower case: RFC 3986, section 6.2.2.1. Does not allocate.
     pub fn is_normalized(&self) -> bool
         ensures { IsTrue result ↔ (canonical_lowered self.now ≡ self.now) }
     {
         self.text.is_normalized()
     }
 
-    /// Returns an address that owns the lower case of this one.
+    /// The lower case of this address, owned. Allocates.
     pub(super) fn to_normalized(&self, alloc: Global) -> Result<IPvFuture<'static>, AllocError>
         ensures { IfOk result (λ f. f ≡ canonical_lowered self.now) }
     {
@@ -248,8 +248,8 @@ impl<'host> IPvFuture<'host> {
         })
     }
 
-    /// Puts the text in lower case: RFC 3986, section 6.2.2.1. Allocates only if that changes it; if
-    /// memory runs out, the address is unchanged. A second call changes nothing.
+    /// Puts the text in lower case: RFC 3986, section 6.2.2.1. A second call changes nothing.
+    /// Allocates only if the text changes; if memory runs out, the address is unchanged.
     pub fn normalize(&mut self, alloc: Global) -> Result<(), AllocError>
         ensures ok { OnOk result (self.new ≡ canonical_lowered self.old) }
         ensures err { OnErr result (self.new ≡ self.old) }
@@ -258,15 +258,15 @@ impl<'host> IPvFuture<'host> {
         self.text.normalize(alloc)
     }
 
-    /// Returns whether the bytes are this address in any case. Escapes are not read: an address has
-    /// none. Does not allocate.
+    /// Whether the bytes are this address in any case. Escapes are not read: an address has none.
+    /// Does not allocate.
     pub fn eq_bytes(&self, bytes: &[u8]) -> bool
         ensures { IsTrue result ↔ (str_to_ascii_lowercase bytes.now ≡ str_to_ascii_lowercase self.now) }
     {
         bytes.eq_ignore_ascii_case(self.as_bytes())
     }
 
-    /// The same for a text.
+    /// The same for a `str`.
     pub fn eq_str(&self, text: &str) -> bool
         ensures { IsTrue result ↔ (str_to_ascii_lowercase text.now ≡ str_to_ascii_lowercase self.now) }
     {
@@ -301,7 +301,7 @@ impl<'host> Hash for IPvFuture<'host> {
 impl<'host> fmt::Display for IPvFuture<'host> {
     ghost output = { λ f. Some f };
 
-    // No option of the formatter changes it.
+    // The formatter's options have no effect.
     ghost styled_output = { λ f _. Some f };
 
     fn fmt<W: fmt::Write>(&self, f: &mut fmt::Formatter<W>) -> fmt::Result {

@@ -20,13 +20,13 @@ pub(in crate::authority) mod read;
 
 use read::find_host;
 
-/// The host of an authority: an IPv4 address, an IPv6 address or one of a later version, which stand
-/// in brackets, or a registered name.
+/// The host of an authority: an IPv4 address; an IPv6 address or one of a later version, in
+/// brackets; or a registered name. RFC 3986, section 3.2.2.
 ///
-/// RFC 3986, section 3.2.2. IPv4 and IPv6 addresses are held by value. An address of a later version
-/// and a name borrow the text that they were read from, or own their text. Its readers take no memory; [`HostError`] says what they refuse. Two
-/// hosts are equal where they are of one kind and their canonical spellings agree, so the name
-/// `%31.2.3.4` isn't the address `1.2.3.4`.
+/// IPv4 and IPv6 addresses are held by value. An address of a later version and a name borrow the
+/// text that they were read from, or own their text. The readers do not allocate; [`HostError`]
+/// says what they reject. Two hosts are equal if they are of one kind and their canonical spellings
+/// agree, so the name `%31.2.3.4` isn't the address `1.2.3.4`.
 ///
 /// ```
 /// let host = Host::try_from_str("[::FFFF:1.2.3.4]")?;
@@ -41,7 +41,7 @@ pub enum Host<'h> {
     IPv6Address(Ipv6Addr),
     /// An address of a later version, without its brackets.
     IPvFuture(IPvFuture<'h>),
-    /// A name, which may be empty.
+    /// A name, possibly empty.
     RegisteredName(RegisteredName<'h>),
 }
 
@@ -58,10 +58,10 @@ impl<'h> Host<'h> {
     ///
     /// A text in brackets is an IPv6 address, or an [`IPvFuture`] if it begins with `v` or `V`; any
     /// other text is the IPv4 address that it spells, or else a name. Between brackets, an
-    /// [`IPvFuture`] fails as [its own reader](IPvFuture::try_from_bytes) does, an IPv6 address with
-    /// [`InvalidIPv6Character`](HostError::InvalidIPv6Character) for a byte that none has, else with
-    /// [`InvalidIPv6Format`](HostError::InvalidIPv6Format). Without brackets, a byte that no name has
-    /// and a broken escape fail with
+    /// [`IPvFuture`] fails as [its own reader](IPvFuture::try_from_bytes) does, an IPv6 address
+    /// with [`InvalidIPv6Character`](HostError::InvalidIPv6Character) for a byte that no such
+    /// address has, else with [`InvalidIPv6Format`](HostError::InvalidIPv6Format). Without
+    /// brackets, a byte that is not allowed in a name and a broken escape fail with
     /// [`InvalidIPv4OrRegisteredNameCharacter`](HostError::InvalidIPv4OrRegisteredNameCharacter).
     pub fn try_from_bytes(bytes: &'h [u8]) -> Result<Host<'h>, HostError>
         ensures { result ≡ spec.reading bytes.now }
@@ -72,7 +72,7 @@ impl<'h> Host<'h> {
         }
     }
 
-    /// The same for a text.
+    /// The same for a `str`.
     pub fn try_from_str(text: &'h str) -> Result<Host<'h>, HostError>
         ensures { result ≡ spec.reading text.now }
     {
@@ -107,7 +107,7 @@ impl<'h> Host<'h> {
         matches!(self, Host::RegisteredName(_))
     }
 
-    /// The same host, which borrows this one's text.
+    /// The same host, borrowed from this one.
     pub fn as_borrowed(&self) -> Host<'_>
         ensures { result ≡ self.now }
     {
@@ -119,8 +119,8 @@ impl<'h> Host<'h> {
         }
     }
 
-    /// The same host, which owns its text. Copies a borrowed text; if memory runs out, the host is
-    /// gone.
+    /// The same host, owned. Borrowed text is copied, which allocates; if memory runs out, the host
+    /// is dropped.
     pub fn into_owned(self, alloc: Global) -> Result<Host<'static>, AllocError>
         ensures { IfOk result (λ h. h ≡ self.entry) }
     {
@@ -144,8 +144,8 @@ impl<'h> Host<'h> {
         }
     }
 
-    /// A copy in canonical spelling of a host whose text isn't canonical, or none. Allocates for
-    /// such a host alone.
+    /// A canonical copy of a host whose text isn't canonical, else none. Allocates only for such a
+    /// host.
     pub(super) fn canonical_copy(&self, alloc: Global) -> Result<Option<Host<'static>>, AllocError>
         ensures copy { IfOk result (λ copy. unwrap_or copy self.now ≡ canonical_host self.now) }
         ensures takes_no_memory { spec.text (canonical_host self.now) ≡ spec.text self.now → IsOk result }
@@ -167,10 +167,10 @@ impl<'h> Host<'h> {
         }
     }
 
-    /// Puts a name and an address of a later version in canonical spelling, in which letters are
-    /// lower case: RFC 3986, section 6.2.2. A name stays one, even if its text then spells an IPv4
-    /// address. IPv4 and IPv6 addresses stay as they are. Allocates only if the text changes; if
-    /// memory runs out, the host is unchanged. A second call changes nothing.
+    /// Puts a name or an address of a later version in canonical spelling, with letters in lower
+    /// case: RFC 3986, section 6.2.2. A name stays a name, even if its text then spells an IPv4
+    /// address. IPv4 and IPv6 addresses do not change. A second call changes nothing. Allocates
+    /// only if the text changes; if memory runs out, the host is unchanged.
     pub fn normalize(&mut self, alloc: Global) -> Result<(), AllocError>
         ensures ok { OnOk result (self.new ≡ canonical_host self.old) }
         ensures err { OnErr result (self.new ≡ self.old) }
@@ -203,7 +203,7 @@ impl<'h> Host<'h> {
         }
     }
 
-    /// How many bytes the host's text has at most.
+    /// An upper bound on the number of bytes of the host's text.
     pub(super) fn most_bytes(&self) -> usize
         ensures { length (spec.text self.now) ≤ result }
     {
@@ -216,7 +216,7 @@ impl<'h> Host<'h> {
         }
     }
 
-    /// A copy of the host's text, which wants memory.
+    /// A copy of the host's text. Allocates.
     pub fn to_string(&self, alloc: Global) -> Result<String, AllocError>
         ensures { IfOk result (λ s. string_bytes s ≡ spec.text self.now) }
     {
@@ -325,7 +325,7 @@ impl<'h> Hash for Host<'h> {
 impl<'h> fmt::Display for Host<'h> {
     ghost output = { λ h. Some (spec.text h) };
 
-    // No option of the formatter changes it.
+    // The formatter's options have no effect.
     ghost styled_output = { λ h _. Some (spec.text h) };
 
     fn fmt<W: fmt::Write>(&self, f: &mut fmt::Formatter<W>) -> fmt::Result {

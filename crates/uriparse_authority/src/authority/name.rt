@@ -49,13 +49,13 @@ impl Kind for NameKind {
     }
 }
 
-/// A registered name: a text of unreserved bytes, escapes and sub-delimiters, which may be empty.
-/// RFC 3986, section 3.2.2. No reader takes the text of an IPv4 address for one.
+/// A registered name: a text of unreserved bytes, escapes and sub-delimiters, possibly empty. RFC
+/// 3986, section 3.2.2. No reader accepts the text of an IPv4 address as a name.
 ///
-/// It borrows the text that it was read from, or owns its text. Its readers take no memory and
-/// refuse a text of other bytes or with a broken escape, and that of an IPv4 address, by the one
-/// [`RegisteredNameError`]. Two names are equal where their canonical spellings are, in which
-/// letters are lower case.
+/// It borrows the text that it was read from, or owns its text. Its readers do not allocate. They
+/// reject a text with other bytes or a broken escape, and that of an IPv4 address, all with
+/// [`RegisteredNameError`]. Two names are equal if their canonical spellings are, in which letters
+/// are lower case.
 ///
 /// ```
 /// let name = RegisteredName::try_from_str("EXAMPLE.com")?;
@@ -75,10 +75,10 @@ impl<'n> Model for RegisteredName<'n> {
 }
 
 impl<'n> RegisteredName<'n> {
-    /// Reads a name, which borrows the bytes. Takes no memory.
+    /// Reads a name, which borrows the bytes. Does not allocate.
     ///
-    /// A byte that no name has, or a `%` without two hexadecimal digits behind it, is refused, and
-    /// so is a text that spells an IPv4 address.
+    /// Rejects a byte that is not allowed in a name, a `%` that two hexadecimal digits don't
+    /// follow, and a text that spells an IPv4 address.
     pub fn try_from_bytes(bytes: &'n [u8]) -> Result<RegisteredName<'n>, RegisteredNameError>
         ensures { result ≡ spec.reading bytes.now }
     {
@@ -88,7 +88,7 @@ impl<'n> RegisteredName<'n> {
         RegisteredName::of_class(bytes)
     }
 
-    /// The name of bytes that are one, and canonical where that is said.
+    /// The name with these bytes, canonical if so marked.
     #[inline(always)]
     pub(super) fn of_kept(bytes: &'n [u8], canonical: bool) -> RegisteredName<'n>
         requires { IsKept class.Name case.Lowered canonical bytes.now }
@@ -108,7 +108,7 @@ impl<'n> RegisteredName<'n> {
         })
     }
 
-    /// The same for a text.
+    /// The same for a `str`.
     pub fn try_from_str(text: &'n str) -> Result<RegisteredName<'n>, RegisteredNameError>
         ensures { result ≡ spec.reading text.now }
     {
@@ -132,17 +132,17 @@ impl<'n> RegisteredName<'n> {
         self.text.as_bytes()
     }
 
-    /// The bytes that the name stands for: of each escape the byte that its digits write, and of
-    /// each other byte itself. Letters keep their case. Reserves capacity for them once.
+    /// The bytes that the name stands for: the byte that its digits write for each escape, and each
+    /// other byte itself. Letters keep their case. Reserves capacity once.
     ///
-    /// No call encodes bytes as a name: the text could be that of an IPv4 address.
+    /// No call encodes bytes as a name, since the text could be that of an IPv4 address.
     pub fn decode(&self, alloc: Global) -> Result<Vec<u8>, AllocError>
         ensures { IfOk result (λ v. v.items ≡ decoded self.now) }
     {
         self.text.decode(alloc)
     }
 
-    /// The same name, which borrows this one's text.
+    /// The same name, borrowed from this one.
     pub fn as_borrowed(&self) -> RegisteredName<'_>
         ensures { result ≡ self.now }
     {
@@ -151,8 +151,8 @@ impl<'n> RegisteredName<'n> {
         }
     }
 
-    /// The same name, which owns its text. Borrowed text is copied, which wants memory; where
-    /// there is none, the name is gone.
+    /// The same name, owned. Borrowed text is copied, which allocates; if memory runs out, the name
+    /// is dropped.
     pub fn into_owned(self, alloc: Global) -> Result<RegisteredName<'static>, AllocError>
         ensures { IfOk result (λ n. n ≡ self.entry) }
     {
@@ -161,7 +161,7 @@ impl<'n> RegisteredName<'n> {
         })
     }
 
-    /// A copy of the text. Wants memory.
+    /// A copy of the text. Allocates.
     pub fn to_string(&self, alloc: Global) -> Result<String, AllocError>
         ensures { IfOk result (λ s. string_bytes s ≡ self.now) }
     {
@@ -169,14 +169,14 @@ impl<'n> RegisteredName<'n> {
     }
 
     /// Whether the name is its own canonical spelling, in which letters are lower case: RFC 3986,
-    /// sections 6.2.2.1 and 6.2.2.2. Takes no memory.
+    /// sections 6.2.2.1 and 6.2.2.2. Does not allocate.
     pub fn is_normalized(&self) -> bool
         ensures { IsTrue result ↔ (canonical_lowered self.now ≡ self.now) }
     {
         self.text.is_normalized()
     }
 
-    /// A name that owns the canonical spelling of this one. Wants memory.
+    /// The canonical spelling of this name, owned. Allocates.
     pub(super) fn to_normalized(&self, alloc: Global) -> Result<RegisteredName<'static>, AllocError>
         ensures { IfOk result (λ n. n ≡ canonical_lowered self.now) }
     {
@@ -185,9 +185,9 @@ impl<'n> RegisteredName<'n> {
         })
     }
 
-    /// Puts the canonical spelling in the name's place; it is its own canonical spelling. It stays
-    /// a name, also where it spells an IPv4 address then. Memory is wanted only where they differ;
-    /// where there is none, the name is kept.
+    /// Replaces the name by its canonical spelling. It stays a name, even if it then spells an IPv4
+    /// address. A second call changes nothing. Allocates only if they differ; if memory runs out,
+    /// the name is unchanged.
     pub fn normalize(&mut self, alloc: Global) -> Result<(), AllocError>
         ensures ok { OnOk result (self.new ≡ canonical_lowered self.old) }
         ensures err { OnErr result (self.new ≡ self.old) }
@@ -204,7 +204,7 @@ impl<'n> RegisteredName<'n> {
         self.text.eq_bytes(bytes)
     }
 
-    /// The same for a text.
+    /// The same for a `str`.
     pub fn eq_str(&self, text: &str) -> bool
         ensures { IsTrue result ↔ SpellsAlike case.Lowered text.now self.now }
     {
@@ -239,7 +239,7 @@ impl<'n> Hash for RegisteredName<'n> {
 impl<'n> fmt::Display for RegisteredName<'n> {
     ghost output = { λ n. Some n };
 
-    // No option of the formatter changes it.
+    // The formatter's options have no effect.
     ghost styled_output = { λ n _. Some n };
 
     fn fmt<W: fmt::Write>(&self, f: &mut fmt::Formatter<W>) -> fmt::Result {

@@ -7,18 +7,18 @@ use super::{Authority, Host, Password, Username};
 use std::alloc::{AllocError, Global};
 use uriparse_text::parts::{canonical_copy, is_canonical_part, put_copy};
 
-/// Copies in canonical spelling of those parts of an authority that are there and aren't canonical.
+/// Canonical copies of the components of an authority that are present and aren't canonical.
 #[derive(Drop)]
 pub struct CanonicalCopies {
-    /// The user name's, if it needs one.
+    /// That of the user name, if it needs one.
     pub username: Option<Username<'static>>,
-    /// The password's, if it needs one.
+    /// That of the password, if it needs one.
     pub password: Option<Password<'static>>,
-    /// The host's, if it needs one.
+    /// That of the host, if it needs one.
     pub host: Option<Host<'static>>,
 }
 
-/// Copies of the parts that aren't canonical, for [`put_copies`]. Wants memory for those alone.
+/// Copies of the components that aren't canonical, for [`put_copies`]. Allocates only for those.
 pub fn canonical_copies(
     alloc: Global,
     authority: &Authority<'_>,
@@ -42,7 +42,7 @@ fn put_host<'h>(host: &mut Host<'h>, copy: Option<Host<'h>>)
     }
 }
 
-/// Puts an authority's canonical copies in the places of its parts. Takes no memory.
+/// Puts an authority's canonical copies in the places of its components. Does not allocate.
 pub fn put_copies(authority: &mut Authority<'_>, copies: CanonicalCopies)
     requires { AreCanonicalCopies copies authority.old }
     ensures { authority.new ≡ canonical_authority authority.old }
@@ -54,7 +54,7 @@ pub fn put_copies(authority: &mut Authority<'_>, copies: CanonicalCopies)
 
 impl<'a> Authority<'a> {
     /// Whether the authority's text is its canonical spelling: RFC 3986, section 6.2.2. Then each
-    /// part is canonical. Takes no memory.
+    /// component is canonical. Does not allocate.
     pub fn is_normalized(&self) -> bool
         ensures text { IsTrue result ↔ (print (canonical_authority self.now) ≡ print self.now) }
         ensures form { IsTrue result → canonical_authority self.now ≡ self.now }
@@ -65,10 +65,10 @@ impl<'a> Authority<'a> {
     }
 
     /// Puts the user name, the password and the host in canonical spelling: RFC 3986, section
-    /// 6.2.2. The port stays, and so does the kind of the host. A second call changes nothing.
+    /// 6.2.2. The port and the kind of the host do not change. A second call changes nothing.
     ///
-    /// Memory is wanted only for the parts that this changes. All of them are copied before one is
-    /// put in place, so where there is no memory, the authority is unchanged.
+    /// Allocates only for the components that change. All of them are copied before any is put in
+    /// place, so if memory runs out, the authority is unchanged.
     ///
     /// ```
     /// let mut authority = Authority::try_from_str("%7eu@EXAMPLE.com:80")?;

@@ -39,15 +39,15 @@ impl Kind for PasswordKind {
 }
 
 /// The password of an authority, without the `:` before it: a text of unreserved bytes, escapes,
-/// sub-delimiters and `:`, which may be empty.
+/// sub-delimiters and `:`, possibly empty.
 ///
-/// RFC 3986, section 3.2.1, has user information alone, and calls it deprecated to put a password
-/// there. What stands behind its first `:` is the password.
+/// RFC 3986, section 3.2.1, defines only user information, and deprecates passwords there. The
+/// password is what follows its first `:`.
 ///
-/// It borrows the text that it was read from, or owns its text. Its readers take no memory and
-/// refuse the leftmost fault: [`InvalidPercentEncoding`](PasswordError::InvalidPercentEncoding) at
-/// a `%` without two hexadecimal digits behind it, else
-/// [`InvalidCharacter`](PasswordError::InvalidCharacter). Two passwords are equal where their
+/// It borrows the text that it was read from, or owns its text. Its readers do not allocate. They
+/// reject the leftmost fault: [`InvalidPercentEncoding`](PasswordError::InvalidPercentEncoding) for
+/// a `%` that two hexadecimal digits don't follow, else
+/// [`InvalidCharacter`](PasswordError::InvalidCharacter). Two passwords are equal if their
 /// canonical spellings are. The calls are those of [`Text`].
 ///
 /// ```

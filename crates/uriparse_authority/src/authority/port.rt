@@ -4,12 +4,12 @@ ghost use Rattle.uriparse_authority.specs.Port as port;
 
 use super::error::PortError;
 
-/// Reads a port, without the `:` before it: decimal digits, which write a number up to 65535. The
-/// empty text is none, and zeros may stand in front. Takes no memory.
+/// Reads a port, without the `:` before it: decimal digits that write a number of at most 65535.
+/// The empty text is no port, and leading zeros are allowed. Does not allocate.
 ///
-/// The leftmost fault is answered: [`InvalidCharacter`](PortError::InvalidCharacter) at a byte that
-/// is no decimal digit, and [`Overflow`](PortError::Overflow) at the digit with which the number
-/// passes 65535, whichever comes first.
+/// Rejects the leftmost fault: [`InvalidCharacter`](PortError::InvalidCharacter) for a byte that is
+/// not a decimal digit, or [`Overflow`](PortError::Overflow) for the digit with which the number
+/// exceeds 65535, whichever comes first.
 ///
 /// RFC 3986, section 3.2.3, sets no largest port; 65535 is the largest that 16 bits hold, as TCP's
 /// and UDP's ports do.

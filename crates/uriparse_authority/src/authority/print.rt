@@ -10,7 +10,7 @@ use super::{Password, Username};
 use std::fmt;
 use uriparse_text::parts::write_short;
 
-/// Writes a colon and the password behind it, if there is one.
+/// Writes a colon and the password, if there is one.
 fn write_password<W: fmt::Write>(
     password: &Option<Password<'_>>,
     f: &mut fmt::Formatter<W>,
@@ -42,7 +42,7 @@ pub(super) fn write_user<W: fmt::Write>(
     Ok(())
 }
 
-/// Writes a colon and the port behind it, if there is one.
+/// Writes a colon and the port, if there is one.
 pub(super) fn write_port<W: fmt::Write>(port: Option<u16>, f: &mut fmt::Formatter<W>) -> fmt::Result
     ensures writes { WritesOnOk W.write_str_gives f.old result (behind colon (option_map ports.text port)) f.new }
     ensures styled { WritesStyledOnOk W.write_str_gives f.old result (behind colon (option_map ports.text port)) f.new }

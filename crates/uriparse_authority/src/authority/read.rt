@@ -1,4 +1,4 @@
-//! How an authority is cut and its pieces are read: RFC 3986, sections 3.2 to 3.2.3.
+//! How an authority is cut and its components are read: RFC 3986, sections 3.2 to 3.2.3.
 ghost use Rattle.std.specs.Prelude.{◌≡◌, MatchResult, Err, Ok, IsTrue, [], position, true};
 ghost use Rattle.std.specs.Option.{option_copied};
 ghost use Rattle.uriparse_text.specs.declared.parts.class.Class.TheVariants as class;
@@ -20,8 +20,7 @@ use uriparse_text::parts::{
     split_settled, without_mark,
 };
 
-/// The user information, if there is an `@` behind it, and what stands behind the `@`; or none, and
-/// the text.
+/// The user information, if an `@` follows it, and what follows the `@`; else none, and the text.
 pub fn split_userinfo(text: &[u8]) -> (Option<&[u8]>, &[u8])
     ensures userinfo { option_copied result.0 ≡ authority.userinfo_text text.now }
     ensures host_and_port { result.1.now ≡ authority.host_and_port_text text.now }
@@ -34,7 +33,7 @@ pub fn split_userinfo(text: &[u8]) -> (Option<&[u8]>, &[u8])
 }
 
 /// Reads user information, if there is any: the user name, which runs to the first `:`, and the
-/// password behind it.
+/// password after it.
 fn read_userinfo(
     text: Option<&[u8]>,
 ) -> Result<(Found<'_, UsernameKind>, Found<'_, PasswordKind>), AuthorityError>
@@ -49,7 +48,7 @@ fn read_userinfo(
     }
 }
 
-/// The host and, behind the last `:` that no `]` follows, the port.
+/// The host and the port, which follows the last `:` that no `]` follows.
 pub fn split_port(text: &[u8]) -> (&[u8], Option<&[u8]>)
     ensures host { result.0.now ≡ authority.cut_host text.now }
     ensures port { option_copied result.1 ≡ authority.cut_port text.now }
@@ -68,7 +67,7 @@ pub fn split_port(text: &[u8]) -> (&[u8], Option<&[u8]>)
     (text, None)
 }
 
-/// Finds the host that a text of the class of names is, which is canonical where that is said.
+/// Finds the host that a text of the class of names stands for, canonical if so marked.
 #[inline(always)]
 fn find_name_host(bytes: &[u8], canonical: bool) -> FoundHost<'_>
     requires { IsKept class.Name case.Lowered canonical bytes.now }
@@ -80,7 +79,7 @@ fn find_name_host(bytes: &[u8], canonical: bool) -> FoundHost<'_>
     found_name(bytes, canonical)
 }
 
-/// Finds the authority that such a text is: that host alone.
+/// Finds the authority of such a text: that host alone.
 #[inline(always)]
 fn find_host_alone(bytes: &[u8], canonical: bool) -> FoundAuthority<'_>
     requires { IsKept class.Name case.Lowered canonical bytes.now }
@@ -89,7 +88,7 @@ fn find_host_alone(bytes: &[u8], canonical: bool) -> FoundAuthority<'_>
     found_authority(no_text(), no_text(), find_name_host(bytes, canonical), None)
 }
 
-/// Finds the authority that a text is, of any form, by the cuts of its text.
+/// Finds the authority of a text of any form, by cutting it.
 #[inline(never)]
 #[tactic(auto, unfolding(crate::specs::Authority::reading))]
 fn find_any_authority(bytes: &[u8]) -> Result<FoundAuthority<'_>, AuthorityError>
@@ -109,7 +108,7 @@ fn ends_authority(b: u8) -> bool
     matches!(b, b'/' | b'?' | b'#')
 }
 
-/// Where the first byte stands that ends an authority.
+/// The place of the first byte that ends an authority.
 fn end_of_authority(text: &[u8]) -> Option<usize>
     ensures { result ≡ position authority.ends_authority text.now }
 {
@@ -157,7 +156,7 @@ pub fn find_authority(text: &[u8]) -> Result<(FoundAuthority<'_>, &[u8]), Author
     }
 }
 
-/// The error of a text that goes on behind an authority.
+/// The error of a text that goes on after an authority.
 fn rest_error(read: &Authority<'_>) -> AuthorityError
     ensures { result ≡ authority.rest_error read.now.port (authority.kind read.now) }
 {

@@ -40,17 +40,17 @@ impl Kind for UsernameKind {
     }
 }
 
-/// The user name of an authority, without what stands behind it: a text of unreserved bytes,
-/// escapes and sub-delimiters, which may be empty.
+/// The user name of an authority, without what follows it: a text of unreserved bytes, escapes and
+/// sub-delimiters, possibly empty.
 ///
-/// RFC 3986, section 3.2.1, has user information alone. Here its first `:`, if it has one, ends the
-/// user name, and a [`Password`](super::Password) stands behind that colon.
+/// RFC 3986, section 3.2.1, defines only user information. Here its first `:`, if it has one, ends
+/// the user name, and a [`Password`](super::Password) follows that colon.
 ///
-/// It borrows the text that it was read from, or owns its text. Its readers take no memory and
-/// refuse the leftmost fault: [`InvalidPercentEncoding`](UsernameError::InvalidPercentEncoding) at
-/// a `%` without two hexadecimal digits behind it, [`ContainsColon`](UsernameError::ContainsColon)
-/// at a `:`, else [`InvalidCharacter`](UsernameError::InvalidCharacter). Two user names are equal
-/// where their canonical spellings are. The calls are those of [`Text`].
+/// It borrows the text that it was read from, or owns its text. Its readers do not allocate. They
+/// reject the leftmost fault: [`InvalidPercentEncoding`](UsernameError::InvalidPercentEncoding) for
+/// a `%` that two hexadecimal digits don't follow, [`ContainsColon`](UsernameError::ContainsColon)
+/// for a `:`, else [`InvalidCharacter`](UsernameError::InvalidCharacter). Two user names are equal
+/// if their canonical spellings are. The calls are those of [`Text`].
 ///
 /// ```
 /// let user = Username::try_from_str("j%2e+doe")?;

@@ -8,8 +8,8 @@ use std::{fmt, net};
 
 /// An IPv4 address: four octets.
 ///
-/// It is read from four decimal numbers of at most 255, with no leading zeros and with dots between
-/// them, and printed as that text. No other text spells it. It holds no text, and takes no memory.
+/// Its text is four decimal numbers of at most 255, without leading zeros, separated by dots. No
+/// other text spells it. No call allocates.
 ///
 /// ```
 /// let address = Ipv4Addr::parse_bytes(b"127.0.0.1");
@@ -51,7 +51,7 @@ impl Ipv4Addr {
         }
     }
 
-    /// The four octets, as they stand in the text from left to right.
+    /// The four octets, in the order of the text.
     pub fn octets(&self) -> [u8; 4]
         ensures value { result ≡ self.now }
         ensures octets { IsOctets self.now }
@@ -59,8 +59,7 @@ impl Ipv4Addr {
         self.octets
     }
 
-    /// The address that the bytes spell, all of them, or `None` where they spell none. Takes no
-    /// memory.
+    /// The address that the bytes spell, or `None` if they spell none. Does not allocate.
     pub fn parse_bytes(bytes: &[u8]) -> Option<Ipv4Addr>
         ensures value { result ≡ ipv4_reading bytes.now }
         ensures found { IfSome result (SpellsIpv4 bytes.now) }
@@ -81,7 +80,7 @@ impl Ipv4Addr {
 impl fmt::Display for Ipv4Addr {
     ghost output = { λ a. Some (ipv4_text a) };
 
-    // No option of the formatter changes it.
+    // The formatter's options have no effect.
     ghost styled_output = { λ a _. Some (ipv4_text a) };
 
     fn fmt<W: fmt::Write>(&self, f: &mut fmt::Formatter<W>) -> fmt::Result {

@@ -8,13 +8,13 @@ use std::{fmt, net};
 
 /// An IPv6 address: eight segments of 16 bits.
 ///
-/// It is read from groups of one to four hexadecimal digits of either case, with colons between
-/// them. `::` stands once at most, for one zero group or more, and a dotted IPv4 address may stand
-/// for the last two groups. Many texts spell one address, and no text spells two.
+/// Its text is groups of one to four hexadecimal digits of either case, separated by colons. `::`
+/// appears at most once, for one or more zero groups, and a dotted IPv4 address may take the place
+/// of the last two groups. Many texts spell one address; no text spells two.
 ///
-/// It is printed as RFC 5952 says: in lower case, with no leading zeros, with `::` for the first of
-/// the longest runs of two zero groups or more, and as `::ffff:a.b.c.d` where it stands for an IPv4
-/// address. It holds no text, and takes no memory.
+/// It is printed as RFC 5952 recommends: in lower case, without leading zeros, with `::` for the
+/// first of the longest runs of at least two zero groups, and as `::ffff:a.b.c.d` if it maps an
+/// IPv4 address. No call allocates.
 ///
 /// ```
 /// let address = Ipv6Addr::parse_bytes(b"2001:DB8:0:0::1");
@@ -44,14 +44,14 @@ impl Ipv6Addr {
         Ipv6Addr::of([a, b, c, d, e, f, g, h])
     }
 
-    // That the segments are eight, of 16 bits each, comes from a parameter's type.
+    // A parameter's type says that there are eight segments of 16 bits.
     fn of(segments: [u16; 8]) -> Ipv6Addr
         ensures { result ≡ segments }
     {
         Ipv6Addr { segments }
     }
 
-    /// The eight segments, as they stand in the text from left to right.
+    /// The eight segments, in the order of the text.
     pub fn segments(&self) -> [u16; 8]
         ensures value { result ≡ self.now }
         ensures segments { IsSegments self.now }
@@ -59,8 +59,8 @@ impl Ipv6Addr {
         self.segments
     }
 
-    /// The address that the bytes spell, all of them and without brackets, or `None` where they
-    /// spell none. Takes no memory.
+    /// The address that the bytes, without brackets, spell, or `None` if they spell none. Does not
+    /// allocate.
     pub fn parse_bytes(bytes: &[u8]) -> Option<Ipv6Addr>
         ensures value { result ≡ ipv6_reading bytes.now }
         ensures found { IfSome result (SpellsIpv6 bytes.now) }
@@ -76,7 +76,7 @@ impl Ipv6Addr {
 impl fmt::Display for Ipv6Addr {
     ghost output = { λ a. Some (ipv6_text a) };
 
-    // No option of the formatter changes it.
+    // The formatter's options have no effect.
     ghost styled_output = { λ a _. Some (ipv6_text a) };
 
     fn fmt<W: fmt::Write>(&self, f: &mut fmt::Formatter<W>) -> fmt::Result {

@@ -1,6 +1,5 @@
-//! Whether two texts have one canonical spelling: RFC 3986, sections 6.2.2.1 and 6.2.2.2. What they
-//! have in common byte by byte is passed over by sixteen bytes, and tokens are read only where they
-//! differ.
+//! Whether two texts have one canonical spelling: RFC 3986, sections 6.2.2.1 and 6.2.2.2. Equal
+//! bytes are skipped sixteen at a time; tokens are read only where the texts differ.
 ghost use Rattle.std.specs.Prelude.{◌≡◌, ◌↔◌, ◌+◌, ◌<◌, ◌≤◌, ◌∷◌, ◌==◌, [], ℕ, IsTrue, IfSome, MatchOption, Some, None, true, false, if◌then◌else◌, length, slice_index};
 ghost use Rattle.std.specs.Int.{bit_at};
 ghost use Rattle.uriparse_text.specs.Bytes.{percent};
@@ -44,7 +43,7 @@ fn same_tokens(case: Case, bytes: &[u8], text: &[u8]) -> bool
     right.is_empty()
 }
 
-/// What follows in two texts behind bytes that they have in common.
+/// What follows the bytes that two texts have in common.
 #[inline(always)]
 fn behind_common<'l, 'r>(left: &'l [u8], right: &'r [u8]) -> (&'l [u8], &'r [u8])
     ensures same { (case : Case) → (spec.canonical_tokens case result.0.now ≡ spec.canonical_tokens case result.1.now) ↔ (spec.canonical_tokens case left.now ≡ spec.canonical_tokens case right.now) }
@@ -54,7 +53,7 @@ fn behind_common<'l, 'r>(left: &'l [u8], right: &'r [u8]) -> (&'l [u8], &'r [u8]
     (&left[common..], &right[common..])
 }
 
-/// So many bytes in front are the same in both texts, and none of them is `%`.
+/// The number of leading bytes that are the same in both texts, none of them `%`.
 #[inline(always)]
 fn common_run(left: &[u8], right: &[u8]) -> usize
     ensures within { (result ≤ length left.now) × (result ≤ length right.now) }
@@ -79,7 +78,7 @@ fn common_run(left: &[u8], right: &[u8]) -> usize
     common_by_one(left, right, at)
 }
 
-/// Of so many bytes from a place on, those that differ or are `%`.
+/// Marks those of the next bytes that differ or are `%`.
 #[inline(always)]
 fn marks_of_pair<const N: usize>(left: &[u8], right: &[u8], at: usize) -> u64
     requires some { 0 < N }
@@ -94,7 +93,7 @@ fn marks_of_pair<const N: usize>(left: &[u8], right: &[u8], at: usize) -> u64
     x.simd_ne(y).to_bitmask() | x.simd_eq(Simd::splat(b'%')).to_bitmask()
 }
 
-/// The same run, which is known up to a place, byte by byte.
+/// The same run, known up to a place, byte by byte.
 #[inline(always)]
 fn common_by_one(left: &[u8], right: &[u8], from: usize) -> usize
     requires left { from ≤ length left.now }

@@ -35,7 +35,7 @@ pub fn without(m: u64, other: u64) -> u64
     m & !other
 }
 
-/// How many of the lowest so many bits are set.
+/// How many bits are set below a place.
 #[inline(always)]
 pub fn count_below(m: u64, k: usize) -> usize
     requires { k < 64 }
@@ -44,7 +44,7 @@ pub fn count_below(m: u64, k: usize) -> usize
     (m % (1 << k)).count_ones() as usize
 }
 
-/// The mask moved down by so many bits.
+/// The mask shifted down by some bits.
 #[inline(always)]
 pub(super) fn shifted_down(m: u64, by: usize) -> u64
     requires { by < 64 }

@@ -13,8 +13,7 @@ use std::hash::Hasher;
 /// How many bytes a hasher is fed at a time.
 const BLOCK: usize = 64;
 
-/// What becomes of the letters in a canonical spelling. The digits of escapes are upper case in
-/// both.
+/// What a canonical spelling does to letters. The digits of escapes are always in upper case.
 #[derive(Clone, Copy, Debug, PartialEq, Eq)]
 pub enum Case {
     /// They keep their case.
@@ -68,8 +67,8 @@ fn feed_bytes<H: Hasher>(bytes: &[u8], state: &mut H)
     state.write(last);
 }
 
-/// Puts a byte behind those that wait for the hasher, which is fed them once they fill the block.
-/// Answers how many wait then.
+/// Appends a byte to those that wait for the hasher, which is fed them when they fill the block.
+/// Returns how many wait then.
 #[inline]
 fn hold<H: Hasher>(b: u8, block: &mut [u8; BLOCK], len: usize, state: &mut H) -> usize
     requires { len < 64 }
@@ -117,7 +116,7 @@ fn feed_tokens<H: Hasher>(case: Case, text: &[u8], state: &mut H)
 }
 
 /// Feeds the bytes of the text's canonical spelling to the hasher, sixty-four at a time, and then
-/// those that are left. A text that is its canonical spelling is fed as it stands.
+/// the remaining ones. A canonical text is fed as it is.
 #[inline]
 pub fn feed_spelling<H: Hasher>(case: Case, text: &[u8], state: &mut H)
     ensures { state.new ≡ fold H.write state.old (spec.fed_bytes (spec.canonical_in case text.now)) }
@@ -138,7 +137,7 @@ pub fn feed_text<H: Hasher>(case: Case, text: &[u8], state: &mut H)
     state.write_u8(0xff);
 }
 
-/// The same for a text that is known to be its canonical spelling.
+/// The same for a text that is known to be canonical.
 #[inline]
 pub(super) fn feed_known<H: Hasher>(text: &[u8], state: &mut H)
     ensures { state.new ≡ fold H.write state.old (spec.fed_text text.now) }
@@ -147,8 +146,8 @@ pub(super) fn feed_known<H: Hasher>(text: &[u8], state: &mut H)
     state.write_u8(0xff);
 }
 
-/// Whether the text is its own canonical spelling. Most texts are one run of bytes that stay as
-/// they are.
+/// Whether the text is its own canonical spelling. Most texts are one run of bytes that do not
+/// change.
 #[inline]
 pub fn is_canonical(case: Case, text: &[u8]) -> bool
     ensures { IsTrue result ↔ (spec.canonical_in case text.now ≡ text.now) }
@@ -160,8 +159,8 @@ pub fn is_canonical(case: Case, text: &[u8]) -> bool
     begins_canonical(case, rest)
 }
 
-/// The same for a text that may begin with a token that isn't canonical. It is walked to the first
-/// that isn't, in a call of its own, so that the test before it stays small where it is taken in.
+/// The same for a text that may begin with a token that isn't canonical. It is walked up to the
+/// first such token, in a call of its own, so that the test before it stays small when inlined.
 #[inline(never)]
 fn begins_canonical(case: Case, text: &[u8]) -> bool
     ensures { IsTrue result ↔ (spec.canonical_in case text.now ≡ text.now) }
@@ -177,7 +176,7 @@ fn begins_canonical(case: Case, text: &[u8]) -> bool
     true
 }
 
-/// Puts the bytes of a token at the end.
+/// Appends the bytes of a token.
 pub(super) fn push_token(bytes: &mut Vec<u8>, token: Token) -> Result<(), AllocError>
     ensures { OnOk result (bytes.new.items ≡ bytes.old.items ++ spell token) }
 {
@@ -187,8 +186,8 @@ pub(super) fn push_token(bytes: &mut Vec<u8>, token: Token) -> Result<(), AllocE
     }
 }
 
-/// The canonical spelling of a text, whose room is asked for once. Runs that stay as they are, are
-/// copied whole.
+/// The canonical spelling of a text. Reserves capacity once. Runs that do not change are copied
+/// whole.
 pub fn canonical_bytes(alloc: Global, case: Case, text: &[u8]) -> Result<Vec<u8>, AllocError>
     ensures { IfOk result (λ v. v.items ≡ spec.canonical_in case text.now) }
 {

@@ -8,7 +8,7 @@ use super::bits::{lowest, without_lowest, without_triples};
 use super::scan::{Is, IsHex, Outside, marks_of_run, marks_of_short};
 use super::token::is_escape;
 
-/// Which bytes stand for themselves in a part. Escapes may stand in each.
+/// Which bytes stand for themselves in a component. Escapes are allowed in each.
 #[derive(Clone, Copy, Debug, PartialEq, Eq)]
 pub enum Class {
     /// A registered name or a user name: unreserved bytes and sub-delimiters.
@@ -93,10 +93,10 @@ impl Class {
     }
 }
 
-/// The byte of the leftmost fault: the first one at which no token of the class begins.
+/// The byte of the leftmost fault: the first byte at which no token of the class begins.
 ///
-/// It is `%` where an escape is broken. One walk over the text, sixteen bytes at a time, and no
-/// memory.
+/// It is `%` if an escape is broken. Walks the text once, sixteen bytes at a time, and does not
+/// allocate.
 #[inline]
 pub fn fault_of(class: Class, text: &[u8]) -> Option<u8>
     ensures { result ≡ fault class text.now }
@@ -109,7 +109,7 @@ pub fn fault_of(class: Class, text: &[u8]) -> Option<u8>
     }
 }
 
-/// Where that byte stands, or the length.
+/// The place of that byte, or the length.
 #[inline]
 pub(super) fn fault_place(class: Class, text: &[u8]) -> usize
     ensures { IsFaultPlace class text.now result }
@@ -123,8 +123,8 @@ pub(super) fn fault_place(class: Class, text: &[u8]) -> usize
     }
 }
 
-/// The same for a short text, byte by byte. An escape's digits stand for themselves in each class,
-/// so no byte has to be passed over.
+/// The same for a short text, byte by byte. An escape's digits are in each class, so no byte has to
+/// be skipped.
 #[inline(always)]
 fn fault_by_one(class: Class, text: &[u8]) -> usize
     ensures { IsFaultPlace class text.now result }
@@ -157,7 +157,7 @@ fn fault_of_short(class: Class, text: &[u8]) -> usize
     fault_at_marks(class, text, 0, text.len(), left).unwrap_or(text.len())
 }
 
-/// The same for sixteen bytes or more. The last run begins where the one before it ends or earlier.
+/// The same for sixteen bytes or more. The last run may overlap the one before it.
 #[inline(never)]
 fn fault_by_runs(class: Class, text: &[u8]) -> usize
     requires { 16 ≤ length text.now }
@@ -174,7 +174,7 @@ fn fault_by_runs(class: Class, text: &[u8]) -> usize
     fault_in(class, text, len - 16, at).unwrap_or(len)
 }
 
-/// Of the sixteen bytes from `at` on, the place of the leftmost fault among those from `from` on.
+/// The place of the leftmost fault among the sixteen bytes from `at` on, from `from` on.
 #[inline(always)]
 fn fault_in(class: Class, text: &[u8], at: usize, from: usize) -> Option<usize>
     requires least { at ≤ from }
@@ -192,7 +192,7 @@ fn fault_in(class: Class, text: &[u8], at: usize, from: usize) -> Option<usize>
     fault_at_marks(class, text, from, at + 16 - from, left)
 }
 
-/// The place of the leftmost fault among so many bytes, of which those with no mark are fine.
+/// The place of the leftmost fault among the next bytes, of which those without a mark are fine.
 #[inline(always)]
 fn fault_at_marks(class: Class, text: &[u8], from: usize, len: usize, marks: u64) -> Option<usize>
     requires short { len ≤ 16 }

@@ -1,4 +1,4 @@
-//! The bytes that a text stands for, and bytes written as a text: RFC 3986, section 2.
+//! The bytes that a text stands for, and texts that stand for bytes: RFC 3986, section 2.
 ghost use Rattle.std.specs.Prelude.{◌≡◌, ◌++◌, ◌<◌, IfOk, OnOk, true};
 ghost use Rattle.uriparse_text.specs.Alike.{upper_digit_of};
 ghost use Rattle.uriparse_text.specs.Coding.{are_bytes, decoded, encoded, token_for, value_of};
@@ -23,7 +23,7 @@ impl Token {
         }
     }
 
-    /// The token that a byte is written as: itself where the class has it, else an escape.
+    /// The token that stands for a byte: the byte itself if the class has it, else an escape.
     #[inline]
     fn writing(class: Class, b: u8) -> Token
         ensures { result ≡ token_for class b }
@@ -36,7 +36,7 @@ impl Token {
     }
 }
 
-/// The bytes that the text's tokens stand for, whose room is asked for once. One walk.
+/// The bytes that the text's tokens stand for. Walks the text once and reserves capacity once.
 pub fn decoded_bytes(alloc: Global, text: &[u8]) -> Result<Vec<u8>, AllocError>
     ensures { IfOk result (λ v. v.items ≡ decoded text.now) }
 {
@@ -49,8 +49,8 @@ pub fn decoded_bytes(alloc: Global, text: &[u8]) -> Result<Vec<u8>, AllocError>
     Ok(bytes)
 }
 
-/// The text that bytes are written as, whose room is asked for once: three bytes for each, as an
-/// escape has. One walk.
+/// The text that stands for the bytes. Walks them once and reserves capacity once: three bytes for
+/// each, as an escape needs.
 pub(super) fn encoded_bytes(
     alloc: Global,
     class: Class,

@@ -1,5 +1,5 @@
-//! Copies of parts that may be absent: those that borrow, those that own their texts, and canonical
-//! ones, which are made before any of them is put in place.
+//! Copies of components that may be absent: borrowed ones, owned ones, and canonical ones, all of
+//! which are made before any is put in place.
 ghost use Rattle.std.specs.Prelude.{◌≡◌, IfOk, IsOk, bytes_eq};
 ghost use Rattle.std.specs.Option.{option_eq, option_copied, option_map, option_or};
 ghost use Rattle.uriparse_text.specs.Canonical.{canonical_in};
@@ -7,7 +7,7 @@ ghost use Rattle.uriparse_text.specs.Canonical.{canonical_in};
 use super::text::{Kind, Text, normalized_text};
 use std::alloc::{AllocError, Global};
 
-/// The same text, if there is one, which borrows this one. Takes no memory.
+/// The same text, if present, borrowed from this one. Does not allocate.
 pub fn borrowed_text<'r, K: Kind>(text: Option<&'r Text<'_, K>>) -> Option<Text<'r, K>>
     ensures { result ≡ option_copied text.entry }
 {
@@ -17,8 +17,8 @@ pub fn borrowed_text<'r, K: Kind>(text: Option<&'r Text<'_, K>>) -> Option<Text<
     }
 }
 
-/// The same text, if there is one, which owns its bytes. Borrowed bytes are copied, which wants
-/// memory; where there is none, the text is gone.
+/// The same text, if present, owned. Borrowed bytes are copied, which allocates; if memory runs
+/// out, the text is dropped.
 pub fn owned_text<K: Kind>(
     alloc: Global,
     text: Option<Text<'_, K>>,
@@ -31,8 +31,8 @@ pub fn owned_text<K: Kind>(
     }
 }
 
-/// A copy in canonical spelling of a part that is there and isn't canonical, or none. Wants memory
-/// for such a part alone.
+/// A canonical copy of a component that is present and isn't canonical, else none. Allocates only
+/// for such a component.
 pub fn canonical_copy<K: Kind>(
     alloc: Global,
     part: &Option<Text<'_, K>>,
@@ -51,7 +51,7 @@ pub fn canonical_copy<K: Kind>(
     }
 }
 
-/// Puts a copy in the part's place, if there is one. Takes no memory.
+/// Puts a copy, if there is one, in the component's place. Does not allocate.
 pub fn put_copy<'t, K: Kind>(part: &mut Option<Text<'t, K>>, copy: Option<Text<'t, K>>)
     ensures { part.new ≡ option_or copy.entry part.old }
 {
@@ -60,7 +60,7 @@ pub fn put_copy<'t, K: Kind>(part: &mut Option<Text<'t, K>>, copy: Option<Text<'
     }
 }
 
-/// Whether a part is its own canonical spelling, if it is there. Takes no memory.
+/// Whether a component is absent or canonical. Does not allocate.
 pub fn is_canonical_part<K: Kind>(part: &Option<Text<'_, K>>) -> bool
     ensures { result ≡ option_eq bytes_eq (option_map (canonical_in K.case) part.now) part.now }
 {

@@ -1,4 +1,4 @@
-//! Cuts of a text at marks.
+//! Cuts of a text at delimiters.
 ghost use Rattle.std.specs.Prelude.{◌≡◌, ◌==◌, position};
 ghost use Rattle.std.specs.Option.{option_copied};
 ghost use Rattle.uriparse_text.specs.Cuts.{up_to, from_first, part};
@@ -13,7 +13,7 @@ fn place(text: &[u8], mark: u8) -> Option<usize>
     (found < text.len()).then_some(found)
 }
 
-/// The text up to the first such mark, and the rest, which begins with it.
+/// The text before the first such delimiter, and the rest, which begins with it.
 #[inline]
 pub fn split_at_mark(text: &[u8], mark: u8) -> (&[u8], &[u8])
     ensures front { result.0.now ≡ up_to (λ b. b == mark) text.now }
@@ -23,7 +23,7 @@ pub fn split_at_mark(text: &[u8], mark: u8) -> (&[u8], &[u8])
     text.split_at(place)
 }
 
-/// What stands behind the mark that a rest begins with, if there is one.
+/// What follows the delimiter that a rest begins with, if it does.
 #[inline]
 pub fn without_mark(rest: &[u8]) -> Option<&[u8]>
     ensures { option_copied result ≡ part rest.now }

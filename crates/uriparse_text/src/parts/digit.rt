@@ -4,7 +4,7 @@ ghost use Rattle.std.specs.Char.{digit_value};
 ghost use Rattle.uriparse_text.specs.Alike.{upper_digit_of};
 ghost use Rattle.uriparse_text.specs.Bytes.{is_hex};
 
-/// The number that a hexadecimal digit of either case stands for.
+/// The value of a hexadecimal digit of either case.
 #[inline(always)]
 pub(super) fn hex_value(digit: u8) -> u8
     requires { is_hex digit ≡ true }
@@ -14,7 +14,7 @@ pub(super) fn hex_value(digit: u8) -> u8
     digit % 16 + 9 * (digit / 64)
 }
 
-/// The upper-case hexadecimal digit of a number.
+/// The upper-case hexadecimal digit of a value.
 #[inline(always)]
 pub(super) fn upper_digit(n: u8) -> u8
     requires { n < 16 }

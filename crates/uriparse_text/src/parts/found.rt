@@ -1,5 +1,5 @@
-//! What a reader found in a text, before a part is made of it: words that nothing has to be dropped
-//! of, so that a reader may still refuse what stands behind.
+//! What a reader found in a text, before a component is built of it: plain words that need no drop,
+//! so that a reader may still reject what follows.
 ghost use Rattle.std.specs.Prelude.{◌≡◌, MatchResult, None, Ok, Err, Some};
 ghost use Rattle.std.specs.Option.{option_copied};
 ghost use Rattle.uriparse_text.specs.Cuts.{after, before};
@@ -11,12 +11,11 @@ use super::settled::{check_bytes, fault_behind, settled_len};
 use super::text::{Kind, Text, kept_text};
 use std::marker::{Model, PhantomData};
 
-/// The bytes of a text of this kind, which are known to be in its class, or none where there is no
-/// such text. It is seen as these bytes.
+/// The bytes of an optional text of this kind, known to be in its class. Seen as these bytes.
 #[derive(Drop)]
 pub struct Found<'t, K: Kind> {
-    // 0 where there is no text, and 2 where it is canonical: a word, since a narrow tag would be
-    // moved with its padding.
+    // 0 if there is no text, and 2 if it is canonical: a word, since a narrow tag would be moved
+    // with its padding.
     present: usize,
     bytes: &'t [u8],
     kind: PhantomData<K>,
@@ -34,7 +33,7 @@ impl<'t, K: Kind> Model for Found<'t, K> {
     ghost invariant = { λ f. IsKept K.class K.case (f.present == 2) f.bytes.now };
 }
 
-/// The bytes are a text, and it is canonical where that is said.
+/// A text with these bytes, canonical if so marked.
 #[inline(always)]
 fn found_text<K: Kind>(bytes: &[u8], canonical: bool) -> Found<'_, K>
     requires { IsKept K.class K.case canonical bytes.now }
@@ -60,7 +59,7 @@ pub fn no_text<K: Kind>() -> Found<'static, K>
 }
 
 impl<'t, K: Kind> Found<'t, K> {
-    /// The text, if there is one, which borrows the bytes. Takes no memory.
+    /// The text, if there is one, borrowed from the bytes. Does not allocate.
     #[inline(always)]
     pub fn to_text(&self) -> Option<Text<'t, K>>
         ensures { result ≡ self.now }
@@ -73,9 +72,9 @@ impl<'t, K: Kind> Found<'t, K> {
     }
 }
 
-/// Finds a text of this kind, if there is one. Takes no memory.
+/// Finds a text of this kind, if there is one. Does not allocate.
 ///
-/// The leftmost fault is refused, as the kind's error names it.
+/// Rejects the leftmost fault with the kind's error.
 #[inline]
 pub fn find_text_if<'t, K: Kind>(text: Option<&'t [u8]>) -> Result<Found<'t, K>, K::Error>
     ensures { result ≡ if_present (reading_in K.class K.error_of) (option_copied text.entry) }
@@ -89,11 +88,11 @@ pub fn find_text_if<'t, K: Kind>(text: Option<&'t [u8]>) -> Result<Found<'t, K>,
     }
 }
 
-/// Finds the text of this kind that stands before the first such mark, and answers what stands
-/// behind the mark too, if there is one. The mark stands in no text of the kind. The bytes are
-/// walked once, up to the mark or the leftmost fault before it. Takes no memory.
+/// Finds the text of this kind that ends at the first such delimiter, and returns what follows the
+/// delimiter, if it is present. No text of the kind contains the delimiter. Walks the bytes once,
+/// up to the delimiter or the leftmost fault before it. Does not allocate.
 ///
-/// That fault is refused, as the kind's error names it; one behind the mark isn't looked for.
+/// Rejects that fault with the kind's error; what follows the delimiter is not examined.
 #[inline]
 pub fn find_text_before<'t, K: Kind>(
     bytes: &'t [u8],

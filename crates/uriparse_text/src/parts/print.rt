@@ -1,4 +1,4 @@
-//! Printing a value that is short, whatever options the formatter has.
+//! Printing a short value, whatever options the formatter has.
 ghost use Rattle.std.specs.Prelude.{IsTrue, ◌↔◌};
 ghost use Rattle.std.specs.Fmt.{DisplaysOnOk, DisplaysStyledOnOk, formatter_spec};
 ghost use Rattle.std.specs.Fmt.Cut.{EndsInDots};
@@ -6,10 +6,10 @@ ghost use Rattle.std.specs.Fmt.Cut.{EndsInDots};
 use std::fmt;
 use std::fmt::InlineText;
 
-/// The room for a short text: more than the 39 bytes that an address has at most.
+/// Capacity for a short text: more than the 39 bytes that an address has at most.
 const ROOM: usize = 48;
 
-/// Whether a text ends in the dots that a cut one ends in.
+/// Whether a text ends in the dots that a truncated one ends in.
 fn ends_in_dots(text: &str) -> bool
     ensures { EndsInDots 48 text.now → IsTrue result }
 {
@@ -17,7 +17,7 @@ fn ends_in_dots(text: &str) -> bool
 }
 
 /// Writes what `{}` writes of a value that has at most 48 bytes and doesn't end in dots, such as an
-/// address or a port. No option of the formatter changes it. Takes no memory.
+/// address or a port. The formatter's options have no effect. Does not allocate.
 pub fn write_short<W: fmt::Write, D: fmt::Display + Drop>(
     value: D,
     f: &mut fmt::Formatter<W>,

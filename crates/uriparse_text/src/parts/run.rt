@@ -1,4 +1,4 @@
-//! Runs of bytes that stay as they are in a canonical spelling, found by sixteen bytes.
+//! Runs of bytes that do not change in a canonical spelling, found sixteen bytes at a time.
 ghost use Rattle.std.specs.Prelude.{◌≡◌, ◌≤◌, ◌++◌, length, map};
 ghost use Rattle.std.specs.List.{position_or_len};
 ghost use Rattle.uriparse_text.specs.Canonical as spec;
@@ -11,7 +11,7 @@ use std::simd::prelude::*;
 #[derive(Clone, Copy, Debug)]
 pub(super) struct MayChange(pub(super) Case);
 
-// The kinds of bytes, a bit each, by the low half and the high half of a byte: 1 `%`, 2 and 4
+// The kinds of bytes, one bit each, by the low half and the high half of a byte: 1 `%`, 2 and 4
 // upper-case letters.
 const CHANGE_LOW: [u8; 16] = [4, 6, 6, 6, 6, 7, 6, 6, 6, 6, 6, 2, 2, 2, 2, 2];
 
@@ -37,13 +37,13 @@ impl ByteTest for MayChange {
     }
 }
 
-/// The longest run in front whose bytes stay as they are in the canonical spelling, and the rest.
+/// The longest prefix whose bytes do not change in the canonical spelling, and the rest.
 #[inline(always)]
 pub(super) fn split_run(case: Case, text: &[u8]) -> (&[u8], &[u8])
     ensures whole { text.now ≡ result.0.now ++ result.1.now }
     ensures spelled { spec.canonical_in case text.now ≡ result.0.now ++ spec.canonical_in case result.1.now }
 {
-    // Where escapes follow one another there is nothing to search for.
+    // If escapes follow one another there is nothing to search for.
     if text.first() == Some(&b'%') {
         return (b"", text);
     }

@@ -18,7 +18,7 @@ pub trait ByteTest {
     fn has(&self, b: u8) -> bool
         ensures { result ≡ passes self.now b };
 
-    /// Bit k is set where lane k passes.
+    /// Bit k is set if lane k passes.
     fn marks(&self, lanes: u8x16) -> u64
         ensures { result ≡ mask_l (map (passes self.now) lanes) };
 }
@@ -73,7 +73,7 @@ impl ByteTest for IsAny {
 #[derive(Clone, Copy, Debug)]
 pub struct Outside(pub Class);
 
-// Eight kinds of bytes, a bit each. A byte is of a kind where both tables have its bit: LOW at the
+// Eight kinds of bytes, one bit each. A byte is of a kind if both tables have its bit: LOW at the
 // byte's low half, HIGH at its high half.
 //
 //   1  `A` to `O`, `a` to `o`
@@ -170,7 +170,7 @@ pub fn marks_of_short<T: ByteTest>(test: &T, text: &[u8]) -> u64
     joined_ends(test.marks(ends(text)), text.len())
 }
 
-/// Of the sixteen bytes from `at` on, the marks of those from `from` on.
+/// The marks of the sixteen bytes from `at` on, without those before `from`.
 #[inline(always)]
 pub fn marks_of_run<T: ByteTest>(test: &T, text: &[u8], at: usize, from: usize) -> u64
     requires least { at ≤ from }
@@ -211,7 +211,7 @@ fn first_of_short<T: ByteTest>(test: &T, text: &[u8]) -> usize
     lowest(marks)
 }
 
-/// The same for sixteen bytes or more. The last run begins where the one before it ends or earlier.
+/// The same for sixteen bytes or more. The last run may overlap the one before it.
 #[inline(always)]
 fn first_by_runs<T: ByteTest>(test: &T, text: &[u8]) -> usize
     requires { 16 ≤ length text.now }
@@ -229,7 +229,7 @@ fn first_by_runs<T: ByteTest>(test: &T, text: &[u8]) -> usize
     len - 16 + first_in(test, text, len - 16)
 }
 
-/// The marks of the next sixteen bytes, or of those that are left, and how many those bytes are.
+/// The marks of the next sixteen bytes, or of the remaining ones, and how many bytes those are.
 #[inline(always)]
 pub fn next_marks<T: ByteTest>(test: &T, text: &[u8], at: usize) -> (u64, usize)
     requires { at ≤ length text.now }
@@ -350,7 +350,7 @@ pub(super) fn first_by_one<T: ByteTest>(test: &T, text: &[u8]) -> usize
     at
 }
 
-/// How many of these sixteen bytes come before the first that passes.
+/// How many of these sixteen bytes precede the first that passes.
 #[inline(always)]
 fn first_in<T: ByteTest>(test: &T, text: &[u8], at: usize) -> usize
     requires { at + 16 ≤ length text.now }

@@ -1,5 +1,5 @@
-//! Runs of bytes that are of a class and stay as they are in a canonical spelling. Most texts are
-//! one such run, so their reading tells that they are canonical, too.
+//! Runs of bytes that are of a class and do not change in a canonical spelling. Most texts are one
+//! such run, so reading them also finds that they are canonical.
 ghost use Rattle.std.specs.Prelude.{◌≡◌, ◌≤◌, ◌++◌, MatchResult, None, Some, not, length, map, true};
 ghost use Rattle.std.specs.List.{position_or_len};
 ghost use Rattle.uriparse_text.specs.Faults.{fault, AllFine, IsFaultPlace};
@@ -33,7 +33,7 @@ impl ByteTest for Unsettled {
     }
 }
 
-/// How many bytes in front are of the class and stay as they are.
+/// How many leading bytes are of the class and do not change.
 #[inline]
 pub(super) fn settled_len(class: Class, case: Case, text: &[u8]) -> usize
     ensures place { result ≡ position_or_len (λ b. not (spec.is_settled class case b)) text.now }
@@ -46,7 +46,7 @@ pub(super) fn settled_len(class: Class, case: Case, text: &[u8]) -> usize
     }
 }
 
-/// The same by sixteen bytes at a time.
+/// The same, sixteen bytes at a time.
 #[inline(never)]
 fn settled_by_lanes(class: Class, case: Case, text: &[u8]) -> usize
     ensures { result ≡ position_or_len (λ b. not (spec.is_settled class case b)) text.now }
@@ -54,7 +54,7 @@ fn settled_by_lanes(class: Class, case: Case, text: &[u8]) -> usize
     first(&Unsettled(class, case), text)
 }
 
-/// The bytes in front that are of the class and stay as they are, and what follows them.
+/// The leading bytes that are of the class and do not change, and what follows them.
 #[inline]
 pub fn split_settled(class: Class, case: Case, bytes: &[u8]) -> (&[u8], &[u8])
     ensures whole { result.0.now ++ result.1.now ≡ bytes.now }
@@ -63,7 +63,7 @@ pub fn split_settled(class: Class, case: Case, bytes: &[u8]) -> (&[u8], &[u8])
     bytes.split_at(settled_len(class, case, bytes))
 }
 
-/// Where the leftmost fault stands, or the length, if the first `len` bytes are settled.
+/// The place of the leftmost fault, or the length, if the first `len` bytes are settled.
 #[inline(always)]
 pub(super) fn fault_behind(class: Class, case: Case, text: &[u8], len: usize) -> usize
     requires place { len ≡ position_or_len (λ b. not (spec.is_settled class case b)) text.now }
@@ -80,7 +80,7 @@ pub(super) fn fault_behind(class: Class, case: Case, text: &[u8], len: usize) ->
 }
 
 /// The same if an escape or a letter of the other case follows the first `len` bytes, which are
-/// fine. It is a call of its own, since few texts need it.
+/// fine. A call of its own, since few texts need it.
 #[inline(never)]
 fn fault_after(class: Class, text: &[u8], len: usize) -> usize
     requires fine { AllFine class text.now 0 len }
@@ -90,8 +90,8 @@ fn fault_after(class: Class, text: &[u8], len: usize) -> usize
     len + fault_place(class, &text[len..])
 }
 
-/// Whether a text is known to be canonical, or the byte of its leftmost fault. Walks the text once,
-/// and doesn't allocate.
+/// Whether a text is known to be canonical, or the byte of its leftmost fault. Walks the text once
+/// and does not allocate.
 #[inline(always)]
 pub fn check_bytes(class: Class, case: Case, text: &[u8]) -> Result<bool, u8>
     ensures { MatchResult result (λ known. (fault class text.now ≡ None) × spec.IsKept class case known text.now) (λ byte. fault class text.now ≡ Some byte) }

@@ -4,12 +4,12 @@ ghost use Rattle.uriparse_text.specs.Spelling as spec;
 
 use std::alloc::{AllocError, Global};
 
-/// Text that is borrowed or owned, and known to be canonical or not. This takes no more room than
-/// text that doesn't keep the second.
+/// Text that is borrowed or owned, and known to be canonical or not. It is no larger than text that
+/// does not keep the latter.
 #[derive(Drop)]
 pub enum Spelling<'t> {
     /// Borrowed text, with 1 if it is known to be canonical. What reading finds is a word and not
-    /// the variant, so that the variant is known where a part is built and moved.
+    /// the variant, so that the variant is known where a component is built and moved.
     Borrowed(&'t str, usize),
     /// Owned text, whose spelling is unknown.
     Owned(String),
@@ -63,7 +63,7 @@ impl<'t> Spelling<'t> {
         }
     }
 
-    /// The same text, which is owned. Borrowed text is copied, which allocates.
+    /// The same text, owned. Borrowed text is copied, which allocates.
     pub(super) fn into_owned(self, alloc: Global) -> Result<Spelling<'static>, AllocError>
         ensures { IfOk result (λ s. (spec.spelled s ≡ spec.spelled self.entry) × (spec.is_known s ≡ spec.is_known self.entry)) }
     {
@@ -76,7 +76,7 @@ impl<'t> Spelling<'t> {
         }
     }
 
-    /// The same text, which is told to be canonical.
+    /// The same text, marked as canonical.
     pub(super) fn into_canonical(self) -> Spelling<'t>
         ensures text { spec.spelled result ≡ spec.spelled self.entry }
         ensures known { spec.is_known result ≡ true }

@@ -25,7 +25,7 @@ use std::marker::{Model, PhantomData};
 use std::{fmt, mem, str};
 
 /// A kind of text: its name, its class, what its canonical spelling does to letters, and its
-/// refusals.
+/// errors.
 pub trait Kind {
     type Error;
 
@@ -33,7 +33,7 @@ pub trait Kind {
 
     ghost case: { Case };
 
-    // The refusal of a text whose leftmost fault stands at this byte.
+    // The error of a text whose leftmost fault is at this byte.
     ghost error_of: { ℕ → Self.Error };
 
     /// What `Debug` calls a text of this kind.
@@ -57,13 +57,13 @@ fn text_in(class: Class, bytes: &[u8]) -> &str
     unsafe { str::from_utf8_unchecked(bytes) }
 }
 
-/// A text of one kind, whose tokens are all of the kind's class: what a query, a fragment, a user
-/// name, a password, a segment and a registered name are. RFC 3986, section 2.
+/// A text of one kind, whose tokens are all in the kind's class: a query, a fragment, a user name,
+/// a password, a segment or a registered name. RFC 3986, section 2.
 ///
-/// It borrows the bytes that it was read from, which can't end before it, or owns its text. It is
-/// seen as its bytes. Two texts of a kind are equal where their canonical spellings are, in which
-/// an escaped unreserved byte stands for itself and other escapes have upper-case digits (sections
-/// 6.2.2.1 and 6.2.2.2); equal texts feed a Hasher the same bytes.
+/// It borrows the bytes that it was read from, which cannot end before it, or owns its text.
+/// Contracts see it as its bytes. Two texts of a kind are equal if their canonical spellings are,
+/// in which an escaped unreserved byte stands for itself and other escapes have upper-case digits
+/// (sections 6.2.2.1 and 6.2.2.2); equal texts feed a hasher the same bytes.
 #[derive(Drop)]
 pub struct Text<'t, K: Kind> {
     text: Spelling<'t>,
@@ -81,8 +81,8 @@ impl<'t, K: Kind> Model for Text<'t, K> {
     ghost invariant = { λ t. IsKept K.class K.case (is_known t.text) (spelled t.text) };
 }
 
-/// The text of bytes that are in the kind's class, and canonical where that is said. It borrows
-/// them, and doesn't allocate.
+/// The text with these bytes, which are in the kind's class, and canonical if so marked. Borrows
+/// them and does not allocate.
 #[inline(always)]
 pub fn kept_text<K: Kind>(bytes: &[u8], canonical: bool) -> Text<'_, K>
     requires { IsKept K.class K.case canonical bytes.now }
@@ -94,7 +94,7 @@ pub fn kept_text<K: Kind>(bytes: &[u8], canonical: bool) -> Text<'_, K>
     }
 }
 
-/// The text of bytes that are known to be in the kind's class. It borrows them. Takes no memory.
+/// The text with these bytes, which are in the kind's class. Borrows them and does not allocate.
 pub fn checked_text<K: Kind>(bytes: &[u8]) -> Text<'_, K>
     requires { IsIn K.class bytes.now }
     ensures { result ≡ bytes.now }
@@ -102,7 +102,7 @@ pub fn checked_text<K: Kind>(bytes: &[u8]) -> Text<'_, K>
     kept_text(bytes, false)
 }
 
-/// A text that owns the canonical spelling of this one. Wants memory.
+/// The canonical spelling of this text, owned. Allocates.
 pub fn normalized_text<K: Kind>(
     alloc: Global,
     text: &Text<'_, K>,
@@ -117,10 +117,11 @@ pub fn normalized_text<K: Kind>(
 }
 
 impl<'t, K: Kind> Text<'t, K> {
-    /// Reads a text of this kind, which borrows the bytes. Takes no memory, and walks them once.
+    /// Reads a text of this kind, which borrows the bytes. Does not allocate, and walks the bytes
+    /// once.
     ///
-    /// The leftmost fault is refused, as the kind's error names it: a `%` without two hexadecimal
-    /// digits behind it, or a byte that the class hasn't.
+    /// Rejects the leftmost fault with the kind's error: a `%` that two hexadecimal digits don't
+    /// follow, or a byte that is not in the class.
     pub fn try_from_bytes(bytes: &'t [u8]) -> Result<Text<'t, K>, K::Error>
         ensures { result ≡ reading_in K.class K.error_of bytes.now }
     {
@@ -130,7 +131,7 @@ impl<'t, K: Kind> Text<'t, K> {
         }
     }
 
-    /// The same for a text.
+    /// The same for a `str`.
     pub fn try_from_str(text: &'t str) -> Result<Text<'t, K>, K::Error>
         ensures { result ≡ reading_in K.class K.error_of text.now }
     {
@@ -154,7 +155,7 @@ impl<'t, K: Kind> Text<'t, K> {
         self.as_str().as_bytes()
     }
 
-    /// The same text, which borrows this one.
+    /// The same text, borrowed from this one.
     pub fn as_borrowed(&self) -> Text<'_, K>
         ensures { result ≡ self.now }
     {
@@ -164,8 +165,8 @@ impl<'t, K: Kind> Text<'t, K> {
         }
     }
 
-    /// The same text, which owns its bytes. Borrowed bytes are copied, which wants memory; where
-    /// there is none, the text is gone.
+    /// The same text, owned. Borrowed bytes are copied, which allocates; if memory runs out, the
+    /// text is dropped.
     pub fn into_owned(self, alloc: Global) -> Result<Text<'static, K>, AllocError>
         ensures { IfOk result (λ t. t ≡ self.entry) }
     {
@@ -175,18 +176,18 @@ impl<'t, K: Kind> Text<'t, K> {
         })
     }
 
-    /// A copy of the text. Wants memory.
+    /// A copy of the text. Allocates.
     pub fn to_string(&self, alloc: Global) -> Result<String, AllocError>
         ensures { IfOk result (λ s. string_bytes s ≡ self.now) }
     {
         String::from_str(alloc, self.as_str())
     }
 
-    /// The bytes that the text stands for: of each escape the byte that its digits write, and each
-    /// other byte itself. Room for them is asked for once.
+    /// The bytes that the text stands for: the byte that its digits write for each escape, and each
+    /// other byte itself. Reserves capacity once.
     ///
-    /// Texts that are equal stand for the same bytes, where letters keep their case; so do texts
-    /// that aren't equal, as `%2F` and `/` in a query.
+    /// Equal texts stand for the same bytes, if letters keep their case; so do texts that aren't
+    /// equal, as `%2F` and `/` in a query.
     pub fn decode(&self, alloc: Global) -> Result<Vec<u8>, AllocError>
         ensures bytes { IfOk result (λ v. v.items ≡ decoded self.now) }
         ensures alike { (other : List ℕ) → IsIn K.class other → canonical_in Kept other ≡ canonical_in Kept self.now → decoded other ≡ decoded self.now }
@@ -194,11 +195,11 @@ impl<'t, K: Kind> Text<'t, K> {
         decoded_bytes(alloc, self.as_bytes())
     }
 
-    /// The text of this kind that stands for these bytes: a byte of the class is itself, another
-    /// one an escape with upper-case digits, as `/` in a segment. It is its own canonical spelling,
-    /// and [`decode`](Text::decode) gives the bytes again. Room for it is asked for once.
+    /// The text of this kind that stands for these bytes: a byte of the class is itself, any other
+    /// an escape with upper-case digits, as `/` in a segment. The result is canonical, and
+    /// [`decode`](Text::decode) returns the bytes again. Reserves capacity once.
     ///
-    /// The letters of the kind have to keep their case, so no registered name is written so.
+    /// The kind must keep the case of letters, so registered names are not encoded.
     pub fn encode(alloc: Global, bytes: &[u8]) -> Result<Text<'static, K>, AllocError>
         requires { K.case ≡ Kept }
         ensures text { IfOk result (λ t. t ≡ encoded K.class bytes.now) }
@@ -212,7 +213,7 @@ impl<'t, K: Kind> Text<'t, K> {
         })
     }
 
-    /// Whether the text is its own canonical spelling. Takes no memory.
+    /// Whether the text is its own canonical spelling. Does not allocate.
     #[inline]
     pub fn is_normalized(&self) -> bool
         ensures { IsTrue result ↔ (canonical_in K.case self.now ≡ self.now) }
@@ -220,7 +221,7 @@ impl<'t, K: Kind> Text<'t, K> {
         self.text.is_known() || is_canonical(K::case(), self.as_bytes())
     }
 
-    /// Keeps that the text is canonical.
+    /// Records that the text is canonical.
     fn set_canonical(&mut self)
         requires { canonical_in K.case self.old ≡ self.old }
         ensures { self.new ≡ self.old }
@@ -229,9 +230,8 @@ impl<'t, K: Kind> Text<'t, K> {
         self.text = text.into_canonical();
     }
 
-    /// Puts the canonical spelling in the text's place; it is its own canonical spelling. Memory is
-    /// wanted only where they differ, room for the text once; where there is none, the text is
-    /// kept.
+    /// Replaces the text by its canonical spelling. A second call changes nothing. Allocates only
+    /// if they differ, once; if memory runs out, the text is unchanged.
     pub fn normalize(&mut self, alloc: Global) -> Result<(), AllocError>
         ensures ok { OnOk result (self.new ≡ canonical_in K.case self.old) }
         ensures err { OnErr result (self.new ≡ self.old) }
@@ -246,14 +246,14 @@ impl<'t, K: Kind> Text<'t, K> {
     }
 
     /// Whether the bytes are tokens whose canonical spelling is this text's. Bytes with a broken
-    /// escape are equal to no text. Takes no memory.
+    /// escape equal no text. Does not allocate.
     pub fn eq_bytes(&self, bytes: &[u8]) -> bool
         ensures { IsTrue result ↔ SpellsAlike K.case bytes.now self.now }
     {
         same_spelling(K::case(), bytes, self.as_bytes())
     }
 
-    /// The same for a text.
+    /// The same for a `str`.
     pub fn eq_str(&self, text: &str) -> bool
         ensures { IsTrue result ↔ SpellsAlike K.case text.now self.now }
     {
@@ -294,7 +294,7 @@ impl<'t, K: Kind> Hash for Text<'t, K> {
 impl<'t, K: Kind> fmt::Display for Text<'t, K> {
     ghost output = { λ t. Some t };
 
-    // No option of the formatter changes it.
+    // The formatter's options have no effect.
     ghost styled_output = { λ t _. Some t };
 
     fn fmt<W: fmt::Write>(&self, f: &mut fmt::Formatter<W>) -> fmt::Result {
@@ -308,7 +308,7 @@ impl<'t, K: Kind> fmt::Debug for Text<'t, K> {
     }
 }
 
-/// How many bytes a text has, or none where there is no text.
+/// The number of bytes of a text, or 0 if there is none.
 pub fn len_of<K: Kind>(text: &Option<Text<'_, K>>) -> usize
     ensures { result ≡ length (unwrap_or text.now []) }
 {

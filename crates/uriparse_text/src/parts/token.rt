@@ -23,7 +23,7 @@ pub fn is_escape(b: u8, after: &[u8]) -> bool
     }
 }
 
-/// The first token and what follows it. A `%` without two digits behind it is a byte by itself.
+/// The first token and what follows it. A `%` that two digits don't follow is a byte by itself.
 #[inline]
 pub fn split_token(text: &[u8]) -> Option<(Token, &[u8])>
     ensures cut { MatchOption result (text.now ≡ []) (λ x. spec.tokens text.now ≡ x.0 ∷ spec.tokens x.1.now) }

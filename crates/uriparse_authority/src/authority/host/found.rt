@@ -1,4 +1,4 @@
-//! A host that a reader found: words that nothing has to be dropped of.
+//! A host that a reader found: plain words that need no drop.
 ghost use Rattle.std.specs.Prelude.{◌≡◌};
 ghost use Rattle.uriparse_authority.specs.declared.authority.host.Host.TheVariants as hosts;
 ghost use Rattle.uriparse_text.specs.declared.parts.class.Class.TheVariants as class;
@@ -12,14 +12,14 @@ use super::Host;
 use std::marker::Model;
 use uriparse_text::address::{Ipv4Addr, Ipv6Addr};
 
-/// The bytes of a name or of an address of a later version, or an IPv4 or IPv6 address. It is seen
-/// as the host that it is.
+/// The bytes of a name or of an address of a later version, or an IPv4 or IPv6 address. Seen as the
+/// host that it is.
 #[derive(Drop)]
 pub(in crate::authority) struct FoundHost<'h> {
     // 0 a name, 4, 6 and 7 an address: a word, since a narrow tag would be moved with its padding.
     kind: usize,
     text: &'h [u8],
-    // 1 where the name is canonical.
+    // 1 if the name is canonical.
     canonical: usize,
     ipv6: Ipv6Addr,
     ipv4: Ipv4Addr,
@@ -40,7 +40,7 @@ impl<'h> Model for FoundHost<'h> {
     ghost invariant = { λ f. Valid (found_host f.kind f.text.now f.ipv4 f.ipv6) × ((f.canonical == 1) ≡ true → canonical_in case.Lowered f.text.now ≡ f.text.now) };
 }
 
-/// The bytes are a name, and it is canonical where that is said.
+/// A name with these bytes, canonical if so marked.
 #[inline(always)]
 pub(in crate::authority) fn found_name(bytes: &[u8], canonical: bool) -> FoundHost<'_>
     requires { IsKept class.Name case.Lowered canonical bytes.now }
@@ -55,7 +55,7 @@ pub(in crate::authority) fn found_name(bytes: &[u8], canonical: bool) -> FoundHo
     }
 }
 
-/// There is an IPv4 address.
+/// An IPv4 address.
 #[inline(always)]
 pub(in crate::authority) fn found_ipv4(address: Ipv4Addr) -> FoundHost<'static>
     ensures { result ≡ hosts.IPv4Address address }
@@ -70,7 +70,7 @@ pub(in crate::authority) fn found_ipv4(address: Ipv4Addr) -> FoundHost<'static>
     }
 }
 
-/// There is an IPv6 address.
+/// An IPv6 address.
 pub(super) fn found_ipv6(address: Ipv6Addr) -> FoundHost<'static>
     ensures { result ≡ hosts.IPv6Address address }
 {
@@ -84,7 +84,7 @@ pub(super) fn found_ipv6(address: Ipv6Addr) -> FoundHost<'static>
     }
 }
 
-/// The bytes are an address of a later version.
+/// An address of a later version with these bytes.
 pub(super) fn found_future(bytes: &[u8]) -> FoundHost<'_>
     requires { IsFuture bytes.now }
     ensures { result ≡ hosts.IPvFuture bytes.now }
@@ -99,7 +99,7 @@ pub(super) fn found_future(bytes: &[u8]) -> FoundHost<'_>
 }
 
 impl<'h> FoundHost<'h> {
-    /// The host, whose text borrows the bytes. Takes no memory.
+    /// The host, whose text borrows the bytes. Does not allocate.
     #[inline(always)]
     pub(in crate::authority) fn to_host(&self) -> Host<'h>
         ensures { result ≡ self.now }
@@ -111,7 +111,7 @@ impl<'h> FoundHost<'h> {
         }
     }
 
-    /// The same, out of the way of a name, which most hosts are.
+    /// The same, in a call of its own: most hosts are names.
     #[inline(never)]
     fn to_any_host(&self) -> Host<'h>
         ensures { result ≡ self.now }

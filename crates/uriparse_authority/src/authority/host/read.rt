@@ -12,7 +12,7 @@ use super::found::{FoundHost, found_future, found_ipv4, found_ipv6, found_name};
 use uriparse_text::address::{Ipv4Addr, Ipv6Addr};
 use uriparse_text::parts::{Case, Class, check_bytes};
 
-/// The text before a last closing bracket, where the text ends with one.
+/// The text before a closing bracket at its end, if there is one.
 fn before_closing(bytes: &[u8]) -> Option<&[u8]>
     ensures { option_copied result ≡ host.closed bytes.now }
 {
@@ -20,7 +20,7 @@ fn before_closing(bytes: &[u8]) -> Option<&[u8]>
     if *last == b']' { Some(inner) } else { None }
 }
 
-/// What stands in brackets, where the text begins and ends with them.
+/// The text between brackets, if the text begins and ends with them.
 fn in_brackets(bytes: &[u8]) -> Option<&[u8]>
     ensures { option_copied result ≡ host.in_brackets bytes.now }
 {
@@ -78,7 +78,7 @@ fn read_name(bytes: &[u8]) -> Result<FoundHost<'_>, HostError>
     }
 }
 
-/// Finds a host, whose text borrows the bytes. Takes no memory.
+/// Finds a host, whose text borrows the bytes. Does not allocate.
 pub(in crate::authority) fn find_host(bytes: &[u8]) -> Result<FoundHost<'_>, HostError>
     ensures { result ≡ host.reading bytes.now }
 {

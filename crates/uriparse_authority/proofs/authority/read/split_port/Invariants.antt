@@ -3,7 +3,7 @@ use Rattle.uriparse_text.specs.Cuts.{none_pass}
 use Rattle.uriparse_authority.specs.Authority.{ends_host}
 use Rattle.uriparse_authority.proofs.authority.read.split_port.Given as goal
 
--- what stands behind the front has neither a colon nor a bracket
+-- what follows the front has neither a colon nor a bracket
 pub record IsBehind (text front : List ℕ) : Type 0 where
   pub behind : List ℕ
   pub whole : text ≡ front ++ behind
