@@ -1,4 +1,4 @@
-//! The program `uri`: reads texts as URIs or their parts, and prints what they hold.
+//! The program `uri`: reads texts as URIs or their components, and prints what they hold.
 #![tactic(auto)]
 
 use std::process::ExitCode;

@@ -40,7 +40,7 @@ uri --lines get PART, uri --lines equal
 uri --version         the version
 ";
 
-// (the words with bars between them, the status, what is printed, what is said of a failure)
+// (the words separated by bars, the status, the output, the message on standard error)
 static ROWS: [(&str, u8, &str, &str); 101] = [
     ("help", 0, HELP, ""),
     ("--help", 0, HELP, ""),
@@ -126,7 +126,7 @@ static ROWS: [(&str, u8, &str, &str); 101] = [
         "/x\n",
         "",
     ),
-    // A word behind the name of a part is its value, whatever it is.
+    // A word after a component's name is its value, whatever it is.
     ("edit|x|query|drop-query", 0, "x?drop-query\n", ""),
     ("edit|x|query|", 0, "x?\n", ""),
     (
@@ -164,7 +164,7 @@ static ROWS: [(&str, u8, &str, &str); 101] = [
         "",
         "invalid query percent encoding\n",
     ),
-    // The words are looked at before the text is read.
+    // The words are checked before the text is read.
     ("edit|a b|query", 2, "", USAGE),
     ("edit|s:a|query", 2, "", USAGE),
     ("edit|s:a|drop-path", 2, "", USAGE),
@@ -211,13 +211,13 @@ static ROWS: [(&str, u8, &str, &str); 101] = [
     ("get|origin|s://h:/a", 0, "s://h\n", ""),
     ("get|origin|//h/a", 3, "", ""),
     ("get|origin|mailto:a@b", 3, "", ""),
-    // What is absent isn't what is empty.
+    // Absent is not the same as empty.
     ("get|query|a?", 0, "\n", ""),
     ("get|path|", 0, "\n", ""),
     ("get|query|a", 3, "", ""),
     ("get|port|//h", 3, "", ""),
     ("get|host|a%", 1, "", "invalid path percent encoding\n"),
-    // The part's name is looked at before the text is read.
+    // The component's name is checked before the text is read.
     ("get|hosts|a%", 2, "", USAGE),
     ("get|host", 2, "", USAGE),
     ("get|host|a|b", 2, "", USAGE),
@@ -241,7 +241,7 @@ static ROWS: [(&str, u8, &str, &str); 101] = [
     ("parse|--quiet", 0, "--quiet\npath=--quiet\n", ""),
 ];
 
-/// The status that these words end with on this input, what is printed, and what is said of a failure.
+/// The status, the output and the error message of these words with this input.
 fn ended(alloc: Global, words: &[&str], input: &[u8]) -> (u8, Vec<u8>, Vec<u8>) {
     let (mut out, mut err) = (Vec::new(alloc), Vec::new(alloc));
     let mut input = input;
@@ -249,8 +249,7 @@ fn ended(alloc: Global, words: &[&str], input: &[u8]) -> (u8, Vec<u8>, Vec<u8>) 
     (status, out, err)
 }
 
-/// Whether these words end with this status without input, this is printed, and this is said of a
-/// failure.
+/// Whether these words, without input, end with this status, output and error message.
 fn ends(alloc: Global, words: &[&str], status: u8, printed: &str, said: &str) -> bool {
     let (mut out, mut err) = (Vec::new(alloc), Vec::new(alloc));
     let ends_with = run(alloc, words, &mut out, &mut err);
@@ -281,7 +280,7 @@ fn an_argument_that_is_no_text_is_refused(rt: HostRuntime) -> Result<(), Fail> {
     Ok(())
 }
 
-/// A writer that fails once its room is full.
+/// A writer that fails once it is full.
 #[derive(Drop)]
 struct Full {
     room: usize,

@@ -7,8 +7,8 @@ use std::io;
 use std::io::Write;
 use uriparse::{Fragment, Password, Query, Segment, Username};
 
-/// Prints the bytes that the text of a query stands for, as they are, and a newline. The text of each
-/// other component that `encode` makes is that of a query too.
+/// Prints the bytes that the text of a query stands for, unchanged, and a newline. Each component
+/// that `encode` makes can be decoded so, since its text is that of a query too.
 pub fn decode<O: Write>(alloc: Global, text: &[u8], out: &mut O) -> Result<(), Failure> {
     let query = Query::try_from_bytes(text)?;
     let bytes = query.decode(alloc)?;

@@ -1,4 +1,4 @@
-//! `uri edit TEXT EDIT..`: a reference with parts set or taken away.
+//! `uri edit TEXT EDIT..`: a reference with components set or removed.
 
 use crate::failure::Failure;
 use crate::print::print_line;
@@ -6,7 +6,7 @@ use std::alloc::Global;
 use std::io::Write;
 use uriparse::{Authority, Edit, Fragment, Path, Query, Scheme, URIReference, URIReferenceError};
 
-/// An edit as its words tell it. Its value isn't read yet.
+/// An edit, as its words say it. Its value isn't read yet.
 #[derive(Clone, Copy)]
 enum Change<'w> {
     Scheme(&'w str),
@@ -21,7 +21,7 @@ enum Change<'w> {
     Normalize,
 }
 
-/// The first edit of these words, and how many of them tell it.
+/// The first edit of these words, and how many words it takes.
 fn first_change<'w>(words: &[&'w str]) -> Result<(Change<'w>, usize), Failure> {
     match words {
         ["scheme", value, ..] => Ok((Change::Scheme(value), 2)),
@@ -38,7 +38,7 @@ fn first_change<'w>(words: &[&'w str]) -> Result<(Change<'w>, usize), Failure> {
     }
 }
 
-/// The edits that the words tell, from the left.
+/// The edits that the words say, from the left.
 fn changes<'w>(alloc: Global, words: &[&'w str]) -> Result<Vec<Change<'w>>, Failure> {
     let mut changes = Vec::with_capacity(alloc, words.len())?;
     let mut next = 0usize;
@@ -91,7 +91,7 @@ fn make_changes<'w>(
     }
 }
 
-/// Prints the reference with all edits made. The words are looked at first, then the text is read,
+/// Prints the reference with all edits made. The words are checked first, then the text is read,
 /// then the values.
 pub fn edit<O: Write>(
     alloc: Global,

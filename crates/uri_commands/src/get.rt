@@ -1,4 +1,4 @@
-//! `uri get PART TEXT`: one part of a reference, alone.
+//! `uri get PART TEXT`: one component of a reference, alone.
 
 use crate::failure::Failure;
 use crate::print::print_line;
@@ -8,7 +8,7 @@ use std::io;
 use std::io::Write;
 use uriparse::URIReference;
 
-/// A part of a reference that can be printed alone.
+/// A component of a reference that can be printed alone.
 #[derive(Clone, Copy)]
 pub enum Part {
     Scheme,
@@ -23,7 +23,7 @@ pub enum Part {
     Origin,
 }
 
-/// The part of this name.
+/// The component of this name.
 pub fn read_part(name: &str) -> Result<Part, Failure> {
     match name {
         "scheme" => Ok(Part::Scheme),
@@ -40,14 +40,14 @@ pub fn read_part(name: &str) -> Result<Part, Failure> {
     }
 }
 
-/// Prints the part of this name, or fails with `Failure::Absent` if the reference has no such part.
-/// The name is read before the text.
+/// Prints the component of this name, or fails with `Failure::Absent` if the reference has none.
+/// The name is checked before the text is read.
 pub fn get<O: Write>(alloc: Global, name: &str, text: &[u8], out: &mut O) -> Result<(), Failure> {
     let part = read_part(name)?;
     get_part(alloc, part, text, out)
 }
 
-/// Reads the text, and prints the part, or fails with `Failure::Absent`.
+/// Reads the text, and prints the component, or fails with `Failure::Absent`.
 pub fn get_part<O: Write>(
     alloc: Global,
     part: Part,
@@ -62,7 +62,7 @@ pub fn get_part<O: Write>(
     }
 }
 
-/// Prints the part, and returns whether there is one.
+/// Prints the component, and returns whether it is present.
 fn print_part_of<O: Write>(
     reference: &URIReference<'_>,
     part: Part,

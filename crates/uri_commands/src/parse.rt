@@ -1,4 +1,4 @@
-//! `uri parse TEXT`: the parts of a reference.
+//! `uri parse TEXT`: the components of a reference.
 
 use crate::failure::Failure;
 use crate::print::{print_line, print_part};
@@ -7,13 +7,13 @@ use std::io;
 use std::io::Write;
 use uriparse::{Authority, Host, URIReference};
 
-/// Prints the reference, its path, and its other parts where it has them, a line each.
+/// Prints the reference, its path, and its other components if present, a line each.
 pub fn parse<O: Write>(alloc: Global, text: &str, out: &mut O) -> Result<(), Failure> {
     let reference = URIReference::try_from_str(alloc, text)?;
     print_reference(&reference, out).map_err(Failure::Io)
 }
 
-/// Prints the reference and its parts.
+/// Prints the reference and its components.
 fn print_reference<O: Write>(reference: &URIReference<'_>, out: &mut O) -> io::Result<()> {
     print_line(reference, out)?;
     print_part("scheme", reference.scheme(), out)?;
@@ -25,7 +25,7 @@ fn print_reference<O: Write>(reference: &URIReference<'_>, out: &mut O) -> io::R
     print_part("fragment", reference.fragment(), out)
 }
 
-/// Prints the host, and the authority's other parts where it has them, a line each.
+/// Prints the host, and the authority's other components if present, a line each.
 fn print_authority<O: Write>(authority: &Authority<'_>, out: &mut O) -> io::Result<()> {
     print_part("username", authority.username(), out)?;
     print_part("password", authority.password(), out)?;
@@ -34,7 +34,7 @@ fn print_authority<O: Write>(authority: &Authority<'_>, out: &mut O) -> io::Resu
     print_part("port", authority.port().as_ref(), out)
 }
 
-/// What a line calls a host of this kind.
+/// The name of a line for a host of this kind.
 fn host_name(host: &Host<'_>) -> &'static str {
     match host {
         Host::IPv4Address(_) => "host.ipv4",

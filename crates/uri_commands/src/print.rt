@@ -1,4 +1,4 @@
-//! What commands print: values and parts of texts, each on a line of its own.
+//! What commands print: values and components of texts, each on a line of its own.
 
 use std::fmt::Display;
 use std::io;
@@ -9,7 +9,7 @@ pub fn print_line<T: Display, O: Write>(value: &T, out: &mut O) -> io::Result<()
     writeln!(out, "{value}")
 }
 
-/// Prints the part behind its name, if there is one.
+/// Prints the component after its name, if it is present.
 pub fn print_part<T: Display, O: Write>(
     name: &str,
     part: Option<&T>,

@@ -1,4 +1,4 @@
-//! `uri tail TEXT`: the parts of a reference behind its authority.
+//! `uri tail TEXT`: the components of a reference after its authority.
 
 use crate::failure::Failure;
 use crate::print::{print_line, print_part};
@@ -10,7 +10,7 @@ use uriparse::{Fragment, Path, Query, URIReferenceError};
 /// A path, a query and a fragment.
 type Tail<'t> = (Path<'t>, Option<Query<'t>>, Option<Fragment<'t>>);
 
-/// The text before the first such mark, and what stands behind it if there is one.
+/// The text before the first such delimiter, and what follows it, if it is present.
 fn cut(text: &str, mark: char) -> (&str, Option<&str>) {
     match text.split_once(mark) {
         Some((before, behind)) => (before, Some(behind)),
@@ -18,7 +18,7 @@ fn cut(text: &str, mark: char) -> (&str, Option<&str>) {
     }
 }
 
-/// Reads the parts, from the left.
+/// Reads the components, from the left.
 fn read_tail(alloc: Global, text: &str) -> Result<Tail<'_>, URIReferenceError> {
     let (before, fragment) = cut(text, '#');
     let (path, query) = cut(before, '?');
@@ -28,13 +28,13 @@ fn read_tail(alloc: Global, text: &str) -> Result<Tail<'_>, URIReferenceError> {
     Ok((path, query, fragment))
 }
 
-/// Prints the text, its path, and its query and its fragment where it has them, a line each.
+/// Prints the text, its path, and its query and its fragment if present, a line each.
 pub fn tail<O: Write>(alloc: Global, text: &str, out: &mut O) -> Result<(), Failure> {
     let tail = read_tail(alloc, text)?;
     print_tail(text, &tail, out).map_err(Failure::Io)
 }
 
-/// Prints the text and its parts.
+/// Prints the text and its components.
 fn print_tail<O: Write>(text: &str, tail: &Tail<'_>, out: &mut O) -> io::Result<()> {
     let (path, query, fragment) = tail;
     print_line(&text, out)?;

@@ -1,5 +1,5 @@
-//! Laws of the definitions that contracts cite. Each function has nothing to do: its contract is
-//! the law.
+//! Laws of the definitions that contracts cite. Each function does nothing: its contract is the
+//! law.
 ghost use Rattle.std.specs.Prelude.{◌≡◌, ℕ, bytes_eq, true};
 ghost use Rattle.uriparse_reference.specs.Key.{key};
 ghost use Rattle.uriparse_reference.specs.Reference.{Parts};
@@ -8,8 +8,8 @@ ghost use Rattle.uriparse.specs.declared.uri.error.URIError.{URIError};
 ghost use Rattle.uriparse_c.specs.Code as spec;
 ghost use Rattle.uriparse_c.specs.Hash.{hash_of};
 
-/// Codes and errors match one to one: errors with one code are one error, also where it is the
-/// base's. No error has the code of success, or of a buffer that is too small.
+/// Codes and errors match one to one: errors with one code are one error, also for a base's. No
+/// error has the code of success, or of a buffer that is too small.
 pub fn one_code()
     ensures one { (e f : URIReferenceError) → spec.code_of e ≡ spec.code_of f → e ≡ f }
     ensures one_uri { (e f : URIError) → spec.uri_code e ≡ spec.uri_code f → e ≡ f }

@@ -1,7 +1,7 @@
 //! Five small users of URIs: a link rewriter, a redirect checker, a schema store, an identifier
 //! registry and a check of a proxy's target.
 //!
-//! Each stands on `uriparse` alone, and its contract says in its user's words what it does. They
+//! Each depends on `uriparse` alone, and its contract says in its user's words what it does. They
 //! serve as examples: copy what fits.
 #![tactic(auto)]
 

@@ -6,12 +6,12 @@ ghost use Rattle.uses.specs.Links.{AreTargets, Gains, IsRefusal, IsRefused, Mean
 use std::alloc::{AllocError, Global};
 use uriparse::{PathError, URI, URIError, URIReference};
 
-/// Where each link of a page leads to, in order: its target behind the page's base, RFC 3986,
-/// section 5.2.2. The targets borrow the texts of the base and the links.
+/// Where each link of a page leads, in order: its target against the page's base, RFC 3986, section
+/// 5.2.2. The targets borrow the texts of the base and the links.
 ///
-/// The first link that has no target is refused by its index, since its path and the base's have
-/// too many segments together. Each target wants memory; where there is none, the link that wanted
-/// it is refused.
+/// Fails with the index of the first link that has no target, since its path and the base's
+/// together have too many segments. Each target allocates its path; if memory runs out, the error
+/// is that of the link in hand.
 ///
 /// ```
 /// let base = URI::try_from_str(alloc, "http://a/b/c")?;
@@ -39,7 +39,7 @@ pub fn rewrite<'l>(
     Ok(targets)
 }
 
-/// Puts the link's target behind the others.
+/// Appends the link's target to the others.
 fn rewrite_one<'l>(
     alloc: Global,
     base: &'l URI<'_>,
@@ -58,7 +58,7 @@ fn rewrite_one<'l>(
     }
 }
 
-/// Puts the target behind the others.
+/// Appends the target to the others.
 fn put_last<'l>(targets: &mut Vec<URI<'l>>, target: URI<'l>) -> Result<(), PathError>
     ensures { MatchResult result (λ _. targets.new.items ≡ targets.old.items ++ target.entry ∷ []) (λ e. e ≡ OutOfMemory) }
 {

@@ -1,4 +1,4 @@
-//! The target of a proxy: a URI of the web with a host.
+//! The target of a request to a proxy: a web URI with a host.
 //!
 //! ```
 //! let target = proxy_target(alloc, "HTTP://example.com/a?b")?;
@@ -19,10 +19,10 @@ use std::alloc::Global;
 use thiserror::Error;
 use uriparse::{Host, Scheme, URI, URIError};
 
-/// Why a text is no target of a proxy.
+/// Why a text is not a proxy's target.
 #[derive(Debug, Drop, Error)]
 pub enum ProxyError {
-    /// The text is no URI, or there is no memory to read it.
+    /// The text is not a URI, or memory ran out while reading it.
     #[error("{0}")]
     Text(URIError),
     #[error("the target has a fragment")]
@@ -36,13 +36,13 @@ pub enum ProxyError {
 /// Reads the target of a request to a proxy: a URI whose scheme is `http` or `https`, with a host
 /// that isn't empty, and without a fragment. RFC 9112, section 3.2.2.
 pub fn proxy_target(alloc: Global, text: &str) -> Result<URI<'_>, ProxyError>
-    // What is answered is what the text spells, and a target.
+    // What is returned is what the text spells, and a target.
     ensures accepted { IfOk result (λ u. Spells text.now u × IsProxyTarget u) }
 
     // A text that spells a target is accepted, unless memory runs out.
     ensures only { (u : Parts) → Spells text.now u → IsProxyTarget u → IsUnless (errors.Text (uris.Path OutOfMemory)) result (Ok u) }
 
-    // Each refusal is for its own reason.
+    // Each error has its own reason.
     ensures refused { IfErr result (λ e. Refuses text.now e) }
 {
     match URI::try_from_str(alloc, text) {
@@ -61,7 +61,7 @@ fn accept(uri: URI<'_>) -> Result<URI<'_>, ProxyError>
     }
 }
 
-/// Why the URI is no target, if it is none.
+/// Why the URI is not a target, if it is not one.
 fn refusal(uri: &URI<'_>) -> Option<ProxyError>
     ensures { MatchOption result (IsProxyTarget uri.now) (λ e. IsReason uri.now e) }
 {

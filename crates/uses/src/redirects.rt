@@ -1,4 +1,4 @@
-//! A redirect checker: whether an answer's `Location` stays at an allowed authority.
+//! A redirect checker: whether a response's `Location` stays at an allowed authority.
 ghost use Rattle.std.specs.Prelude.{◌≡◌, ◌↔◌, IsTrue, IfOk, MatchResult, Err, Some};
 ghost use Rattle.uriparse.specs.Reference.{Parts};
 ghost use Rattle.uriparse.specs.Target.{target};
@@ -13,23 +13,24 @@ use uriparse::{Authority, URI, URIError, URIReference, URIReferenceError};
 /// Why a redirect isn't followed.
 #[derive(Debug, Drop, Error)]
 pub enum RedirectError {
-    /// The `Location` is no reference.
+    /// The `Location` is not a reference.
     #[error("location: {0}")]
     Location(URIReferenceError),
-    /// The `Location` has no target behind the request's URI.
+    /// The `Location` has no target against the request's URI.
     #[error("target: {0}")]
     Target(URIError),
-    /// The target has no authority, or another than the allowed one.
+    /// The target has no authority, or one that differs from the allowed one.
     #[error("the target is elsewhere")]
     Elsewhere,
-    /// There is no memory for the target's own texts.
+    /// Memory ran out for the target's own texts.
     #[error("out of memory")]
     Memory,
 }
 
 /// The URI that a redirect leads to: the `Location`, which may be relative, is resolved against the
-/// URI of the request, RFC 9110, section 10.2.2. It is followed only where the target's authority
-/// equals the allowed one, so `EXAMPLE.com` for `example.com`; another port or user is elsewhere.
+/// URI of the request, RFC 9110, section 10.2.2. It is followed only if the target's authority
+/// equals the allowed one, so `EXAMPLE.com` is allowed for `example.com`; another port or user is
+/// elsewhere.
 ///
 /// ```
 /// let request = URI::try_from_str(alloc, "http://example.com/a")?;
@@ -45,13 +46,13 @@ pub fn follow(
     location: &str,
     allowed: &Authority<'_>,
 ) -> Result<URI<'static>, RedirectError>
-    // What is answered is where the redirect goes, and is allowed.
+    // What is returned is where the redirect goes, and is allowed.
     ensures followed { IfOk result (λ t. GoesTo request.now location.now t × IsAt allowed.now t) }
 
     // What is allowed is followed, unless memory runs out.
     ensures only { (t : Parts) → GoesTo request.now location.now t → IsAt allowed.now t → spec.IsUnlessWant result t }
 
-    // What is refused as elsewhere goes to another authority, or to none.
+    // What is rejected as elsewhere goes to another authority, or to none.
     ensures elsewhere { result ≡ Err Elsewhere → (t : Parts) × GoesTo request.now location.now t × (IsAt allowed.now t → ⊥) }
 {
     match URIReference::try_from_str(alloc, location) {
@@ -90,7 +91,7 @@ fn own_if_at(
     }
 }
 
-/// The target with texts of its own.
+/// The target, with texts of its own.
 fn own(alloc: Global, target: URI<'_>) -> Result<URI<'static>, RedirectError>
     ensures { MatchResult result (λ t. t ≡ target.entry) (λ e. e ≡ Memory) }
 {

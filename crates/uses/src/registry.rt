@@ -55,7 +55,7 @@ impl<'r> Model for Registry<'r> {
 impl<'r> Registry<'r> {
     ghost use Rattle.uses.specs.Registry.{AreDistinct};
 
-    /// An empty registry. Takes no memory.
+    /// An empty registry. Does not allocate.
     pub fn new(alloc: Global) -> Registry<'r>
         ensures { result ≡ [] }
     {
@@ -64,7 +64,7 @@ impl<'r> Registry<'r> {
         }
     }
 
-    /// What is registered. Takes no memory.
+    /// What is registered. Does not allocate.
     pub fn identifiers(&self) -> &[URI<'r>]
         ensures value { result.now ≡ self.now }
         ensures distinct { AreDistinct self.now }
@@ -72,18 +72,18 @@ impl<'r> Registry<'r> {
         &self.identifiers
     }
 
-    /// Whether an equal identifier is registered. Takes no memory.
+    /// Whether an equal identifier is registered. Does not allocate.
     pub fn contains(&self, identifier: &URI<'_>) -> bool
         ensures { result ≡ is_among self.now identifier.now }
     {
         self.identifiers.iter().any(|known| known == identifier)
     }
 
-    /// Registers the identifier behind the others.
+    /// Registers the identifier after the others.
     ///
-    /// If an equal one is registered, it is [`Taken`](RegistryError::Taken), whatever memory there
-    /// is; if there is no memory, [`Memory`](RegistryError::Memory). The registry is unchanged
-    /// then, and the identifier is gone.
+    /// Fails with [`Taken`](RegistryError::Taken) if an equal one is registered, whatever memory
+    /// there is, or with [`Memory`](RegistryError::Memory) if memory runs out. After an error the
+    /// registry is unchanged, and the identifier is dropped.
     pub fn insert(&mut self, identifier: URI<'r>) -> Result<(), RegistryError>
         ensures added { OnOk result (self.new ≡ self.old ++ identifier.entry ∷ []) }
         ensures unchanged { OnErr result (self.new ≡ self.old) }

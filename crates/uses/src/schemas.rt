@@ -5,10 +5,11 @@ ghost use Rattle.uriparse.specs.Uri.{base};
 use uriparse::URI;
 
 /// The index of the first schema that is known by this URI without its fragment, which names a
-/// place in the schema: `#/definitions/a` and the like. A URI that is spelled in another way, as
-/// with `%7E` for `~` or in capital letters where case doesn't count, is found too.
+/// place in the schema: `#/definitions/a` and the like. A URI that differs only by
+/// percent-encoding, as `%7E` for `~`, or by the case of letters where case doesn't count, is found
+/// too.
 ///
-/// The schemas are told by their URIs, which have no fragments. Takes no memory.
+/// The schemas are identified by their URIs, which have no fragments. Does not allocate.
 ///
 /// ```
 /// let mut schemas = Vec::new(alloc);

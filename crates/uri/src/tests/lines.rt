@@ -67,7 +67,7 @@ fn lines_go_on_where_rejections_can_t_be_written(rt: HostRuntime) -> Result<(), 
     Ok(())
 }
 
-/// A reader that gives two bytes a time, and fails once they are all read.
+/// A reader that returns two bytes at a time, and fails once they are all read.
 #[derive(Drop)]
 struct Failing<'b> {
     rest: &'b [u8],
@@ -83,8 +83,8 @@ impl<'b> Read for Failing<'b> {
     }
 }
 
-/// Whether these words end with 1 where the input fails after two lines and a half, this is printed
-/// before, and the failure is told.
+/// Whether these words end with 1 if the input fails after two and a half lines, with this output
+/// before, and the failure is reported.
 fn ends_where_input_fails(alloc: Global, words: &[&str], printed: &str) -> bool {
     let (mut out, mut err) = (Vec::new(alloc), Vec::new(alloc));
     let mut input = Failing {

@@ -4,7 +4,7 @@ use super::{USAGE, ended};
 use std::alloc::Global;
 use std::test::Fail;
 
-// (the words with bars between them, the input, what is printed, what is said of failures, the status)
+// (the words separated by bars, the input, the output, the messages on standard error, the status)
 static ROWS: [(&str, &str, &str, &str, u8); 87] = [
     // A JSON object has the text as it is given, and each component as it is printed.
     (
@@ -278,7 +278,7 @@ static ROWS: [(&str, &str, &str, &str, u8); 87] = [
     ("help|--version", "", "", USAGE, 2),
 ];
 
-/// Whether these words end as the row tells.
+/// Whether these words end as the row says.
 fn ends(alloc: Global, row: &(&str, &str, &str, &str, u8), words: &[&str]) -> bool {
     let (_, input, printed, said, status) = row;
     let (ends_with, out, err) = ended(alloc, words, input.as_bytes());

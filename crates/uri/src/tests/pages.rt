@@ -23,7 +23,7 @@ static NAMES: [&str; 14] = [
     "--lines",
 ];
 
-/// Whether the text tells of statuses, has an example, and fits 80 columns.
+/// Whether the page explains its statuses, has an example, and fits 80 columns.
 fn is_page(text: &str) -> bool {
     text.contains("\nExit status: 0 on success")
         && text.contains("\nExample:\n    ")
