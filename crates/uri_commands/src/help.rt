@@ -36,8 +36,8 @@ uri --version         the version
 
 /// The version of the library and the program, and the kit that its proofs were made with.
 const VERSION: &str = "\
-uri 0.1.0
-rattle-kit-13f logic dac8208d650f15bf
+uri 0.2.0
+rattle-kit-13b logic dac8208d650f15bf
 ";
 
 /// Prints the version.
