@@ -22,7 +22,7 @@
 #include <stddef.h>
 #include <stdint.h>
 
-#define URIPARSE_VERSION "0.1.0"
+#define URIPARSE_VERSION "0.2.0"
 
 #ifdef __cplusplus
 extern "C" {
