@@ -1,4 +1,4 @@
--- References that are the same have targets and normal forms that are.
+-- Equal references have equal targets and normal forms.
 use Rattle.std.proofs.Common.{◌≡◌, ℕ, ◌≤◌, Bool, true, false, ◌&&◌, cond, List, [], ◌∷◌, ◌++◌, length, map, Option, Some, None, refl, sym, ap, ◌∙◌, subst}
 use Rattle.std.specs.Prelude.{is_some, is_none, nat_le}
 use Rattle.std.specs.Option.{option_map, option_or}
@@ -34,7 +34,7 @@ use Rattle.uriparse_reference.proofs.MergedLemmas.{merged_spelled, IsBehind, fit
 use Rattle.uriparse_reference.proofs.TargetLemmas.{behind, fits_rooted, fits_undotted, dots_removed-text}
 use Rattle.uriparse_reference.proofs.TargetLemmas.{dots_removed-merged, chosen, le_from}
 
--- ---- part by part
+-- ---- component by component
 
 pub record Alike (p q : Parts) : Type 0 where
   pub schemes : option_map scheme.canonical_text p.scheme ≡ option_map scheme.canonical_text q.scheme
@@ -74,7 +74,7 @@ same_some f g x y e = sym (some_map f x) ∙ ap is_some e ∙ some_map g y
 same_none : {A B C : Type 0} (f : A → C) (g : B → C) (x : Option A) (y : Option B) → option_map f x ≡ option_map g y → is_none x ≡ is_none y
 same_none f g x y e = sym (none_map f x) ∙ ap is_none e ∙ none_map g y
 
--- ---- the "." in front
+-- ---- the leading "."
 
 pub shielded_some : (a b : Option AuthorityParts) (q : PathParts) → is_some a ≡ is_some b → shielded a q ≡ shielded b q
 shielded_some None None q h = refl
@@ -98,7 +98,7 @@ shielded-canonical None q is h = by_test (has_two_slashes (text q))
     by_test true = ap (λ u. record { absolute = q.absolute; segments = u ∷ map canonical q.segments }) canonical-dot
     by_test false = refl
 
--- ---- what the target is made of
+-- ---- the components of the target
 
 made_same : (s r : Option Scheme) (a b : Option AuthorityParts) (p q : PathParts) (x y f g : Option (List ℕ))
     → option_map scheme.canonical_text s ≡ option_map scheme.canonical_text r
@@ -161,7 +161,7 @@ empty-canonical (b ∷ t) = by_text (canonical (b ∷ t)) refl
     by_text [] e = let no : b ∷ t ≡ [] = canonical-empty (b ∷ t) e in absurd (cc)
     by_text (c ∷ u) e = refl
 
--- ---- equal in, equal out
+-- ---- equal arguments, equal targets
 
 pub same_targets : (b c r q : Parts) → Valid b → Valid c → Valid r → Valid q → Same b c → Same r q → AreSame (target b r) (target c q)
 same_targets b c r q vb vc vr vq sb sr =

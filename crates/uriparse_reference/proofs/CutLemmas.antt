@@ -1,4 +1,4 @@
--- How the text of a reference is cut, and that a text which is joined from pieces is cut into them.
+-- Cutting the text of a reference, and that a text joined from components is cut into them again.
 use Rattle.std.proofs.Common.{subst}
 use Rattle.std.proofs.Common.{◌≡◌, ℕ, Bool, true, false, cond, List, [], ◌∷◌, ◌++◌, drop, length, take, Option, Some, None, Ok, refl, sym, ap, ◌∙◌}
 use Rattle.std.proofs.Common.{append-nil, append_assoc, ◌&&◌, ◌||◌, inl, inr, arith}
@@ -70,7 +70,7 @@ no_scheme t (inr e) = by_after (after colon t)
     by_after None = refl
     by_after (Some r) = at_scheme (scheme.is_scheme (before colon t)) refl
 
--- a first segment without a colon, and what follows it, begin with no scheme
+-- a text that begins with a first segment without a colon has no scheme
 pub segment_no_scheme : (h : List ℕ) (q f : Option (List ℕ)) → is_noscheme h ≡ true → NoScheme (h ++ tail q f)
 segment_no_scheme [] (Some q) f k = inr refl
 segment_no_scheme [] None (Some f) k = inr refl
@@ -89,7 +89,7 @@ segment_no_scheme (b ∷ h) q f k = at_slash (is_slash b) refl (segment_no_schem
             inr (rw e (elim (scheme.is_scheme_byte b) as (λ v. (v && list_all scheme.is_scheme_byte (before colon (h ++ tail q f))) ≡ false)
             [ true ↦ r | false ↦ refl ]))
 
--- ---- what no refusal says of a path
+-- ---- a path that is not rejected
 
 pub no_slashes : (v : Bool) (h : List ℕ) → path_refusal v false h ≡ None → has_two_slashes h ≡ false
 no_slashes v h = by_slashes (has_two_slashes h)
@@ -195,7 +195,7 @@ tail_of h q f i k =
       ap (after number_sign) w ∙ after_of number_sign (h ++ behind question_mark q) f refl l,
     )
 
--- The path lacks both bytes, as what stands before the first of each does.
+-- The path has neither byte, as the text before the first of them.
 pub path_cut : (u : List ℕ) → up_to ends_path u ≡ before question_mark (before number_sign u)
 path_cut [] = refl
 path_cut (b ∷ u) = at_byte (b == question_mark) refl (b == number_sign) refl (path_cut u)
@@ -207,7 +207,7 @@ path_cut (b ∷ u) = at_byte (b == question_mark) refl (b == number_sign) refl (
     at_byte false e true f h = refl
     at_byte false e false f h = rw e (ap (λ l. b ∷ l) h)
 
--- ---- a text that is joined from such pieces is cut into them
+-- ---- a text that is joined from such components is cut into them
 
 pub record ArePieces (s a : Option (List ℕ)) (h : List ℕ) (q : Option (List ℕ)) : Type 0 where
   pub is_scheme : IfSome s (λ t. scheme.is_scheme t ≡ true)

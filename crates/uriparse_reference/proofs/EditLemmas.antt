@@ -1,4 +1,4 @@
--- What an edit makes is valid.
+-- The result of an edit is valid.
 use Rattle.std.proofs.Common.{◌≡◌, ℕ, ◌+◌, suc, arith, Bool, true, false, cond, List, [], ◌∷◌, length, Option, Some, None, refl, sym, ap, ◌∙◌, subst, ◌||◌, inl}
 use Rattle.std.specs.Prelude.{IfSome, is_some, Result, Ok, Err, MatchResult}
 use Rattle.uriparse_text.specs.Readings.{unless_fault, Settles}
@@ -19,7 +19,7 @@ use Rattle.uriparse_reference.specs.declared.uri_reference.edit.Edit.TheVariants
 use Rattle.uriparse_reference.specs.Edits.{placed, refusal, of_parts, edited, IsRefused, Run, ends, stops, goes}
 use Rattle.uriparse_reference.proofs.ValidLemmas.{HasPlace, placed_text, same_path}
 
--- a placed path obeys the rules of a valid reference's path
+-- a path as a reference holds it obeys the rules of a valid reference's path
 pub has_place : (v w : Bool) (h : PathParts) → IsListed h.segments → path_refusal v w (path.text h) ≡ None → HasPlace v w (placed w h)
 has_place v true h i k = record { is_path = i; absolute = λ _. refl; plain = refl; fit = refl }
 has_place v false h i k = placed_text v false (path.text h) (subst (λ q. IsListed q.segments) (sym (spelled-text h i)) (listed-respelled h i)) k
@@ -28,7 +28,7 @@ pub if_there : {A : Type 0} {Q : Type 0} (a : Option A) → (is_some a ≡ true 
 if_there None h = tt
 if_there (Some a) h = h refl
 
--- parts that aren't refused make a valid reference
+-- components that are not rejected build a valid reference
 pub valid_parts : (p : Parts) → IfSome p.scheme scheme.Valid → IfSome p.authority authority.Valid → IsListed p.path.segments → IfSome p.query IsQuery
     → IfSome p.fragment IsFragment → refusal p ≡ None → Valid (record p { path = placed (is_some p.authority) p.path })
 valid_parts p s a i q f k =
@@ -44,7 +44,7 @@ valid_parts p s a i q f k =
       is_fragment = f;
     }
 
--- a path that may stand anywhere may stand behind a scheme
+-- a path that may be in any reference may follow a scheme
 pub with_scheme : (v w : Bool) (h : List ℕ) → path_refusal v w h ≡ None → path_refusal true w h ≡ None
 with_scheme v true h k = refl
 with_scheme v false h k = by_slashes (has_two_slashes h) k
@@ -120,12 +120,12 @@ valid_fragment p f v i = record {
   is_fragment = i;
 }
 
--- ---- edits are replaced parts
+-- ---- an edit replaces a component
 
 abbrev pub build : Option Scheme → Option AuthorityParts → PathParts → Option (List ℕ) → Option (List ℕ) → Parts
 build scheme authority path query fragment = record { scheme = scheme; authority = authority; path = path; query = query; fragment = fragment }
 
--- a valid reference's path is in its place
+-- a valid reference holds its path as it is
 pub placed_same : (p : Parts) → Valid p → placed (is_some p.authority) p.path ≡ p.path
 placed_same p v = by_authority p.authority v.absolute
   where
@@ -139,14 +139,14 @@ placed_same p v = by_authority p.authority v.absolute
 pub accepts : (p q r : Parts) (o : Option URIReferenceError) → o ≡ None → q ≡ r → unless_fault o q ≡ Ok r
 accepts p q r o e f = ap (λ x. unless_fault x q) e ∙ ap Ok f
 
--- a valid reference's own parts make it
+-- the components of a valid reference build it
 pub own_parts : (p : Parts) → Valid p → of_parts p ≡ Ok p
 own_parts p v = accepts p (record p { path = placed (is_some p.authority) p.path }) p (refusal p) v.fit
     (ap (λ h. build p.scheme p.authority h p.query p.fragment) (placed_same p v))
 
--- ---- by what the tests of a path answered
+-- ---- by the results of the tests of a path
 
--- a test that finds no refusal is right
+-- a test that rejects nothing is right
 pub no_refusal : (v w b d : Bool) (t : List ℕ) (o : Option URIReferenceError) → b ≡ v → d ≡ w → o ≡ path_refusal b d t → o ≡ None → path_refusal v w t ≡ None
 no_refusal v w b d t o e f g h = ap (λ u. path_refusal u w t) (sym e) ∙ ap (λ u. path_refusal b u t) (sym f) ∙ (sym g ∙ h)
 
@@ -195,7 +195,7 @@ valid_none p (Some a) h k v = cc
 
 -- ---- an edit of a list
 
--- parts that are put together again make what the parts they come from make
+-- components that are taken apart and put together again build what they built
 pub remade : (p q : Parts) → p.scheme ≡ q.scheme → p.authority ≡ q.authority → p.path ≡ q.path → p.query ≡ q.query → p.fragment ≡ q.fragment
     → of_parts p ≡ of_parts q
 remade p q s a h k f =
@@ -203,7 +203,7 @@ remade p q s a h k f =
     ∙ ap (λ x. of_parts (build q.scheme q.authority x p.query p.fragment)) h ∙ ap (λ x. of_parts (build q.scheme q.authority q.path x p.fragment)) k
     ∙ ap (λ x. of_parts (build q.scheme q.authority q.path q.query x)) f
 
--- what its setter promises is what a list of edits wants
+-- the contract of a setter is the rule of the edit
 pub settled : (old new : Parts) (d e : Edit) (r : Result (Unit {0}) URIReferenceError) → d ≡ e → Settles old new r (edited old e)
     → MatchResult r (λ _. edited old d ≡ Ok new) (λ x. IsRefused old d x × (new ≡ old))
 settled old new d e (Ok u) same h = ap (edited old) same ∙ h
@@ -211,7 +211,7 @@ settled old new d e (Err x) same h = (inl (ap (edited old) same ∙ h.0), h.1)
 
 -- ---- lists of edits
 
--- A run over the edits that are left, from where i edits have led, is the end of a run over all of them.
+-- A run over the edits that are left, after i edits, is the end of a run over all of them.
 abbrev pub Continues : Parts → List Edit → Parts → ℕ → List Edit → Type 0
 Continues p all q i rest = (n : ℕ) (r : Parts) (o : Option URIReferenceError) → Run q rest n r o → Run p all (i + n) r o
 

@@ -1,4 +1,4 @@
--- What a hasher is fed for a reference, part by part, and by its key alone.
+-- What a hasher is fed for a reference, component by component, and by its key alone.
 use Rattle.std.proofs.Common.{◌≡◌, ℕ, List, ◌∷◌, ◌++◌, fold, Option, Some, None, refl, sym, ap, ◌∙◌}
 use Rattle.std.specs.Prelude.{IfSome}
 use Rattle.std.specs.Option.{option_map}
@@ -24,7 +24,7 @@ fed_authority : (a : Option AuthorityParts)
 fed_authority None = refl
 fed_authority (Some a) = refl
 
--- the key of an authority tells what is fed for it
+-- the key of an authority determines what is fed for it
 fed_held : (a : Option AuthorityParts) → IfSome a authority.Valid → option (λ b. authority.fed_key (authority.key b)) a ≡ option authority.fed a
 fed_held None v = refl
 fed_held (Some a) v = ap (λ w. option (λ (n : ℕ). w) (Some 0)) (authorities.fed_parts a v)
@@ -38,7 +38,7 @@ fed_cut code t s a h q f cut =
     ∙ ap (λ x. fed_pieces code s a h x (fragment_text t)) cut.query
     ∙ ap (λ x. fed_pieces code s a h q x) cut.fragment
 
--- the key alone tells it
+-- the key alone determines it
 pub fed_parts : (p : Parts) → Valid p → fed_key (key p) ≡ fed p
 fed_parts p v =
     fed_cut (kind_code (kind p)) (canonical_text p) (option_map scheme.canonical_text p.scheme) (option_map authority.canonical_text p.authority)
@@ -63,7 +63,7 @@ fed_in_turn write s a b c d e =
     ∙ fold-append write (fold write (fold write s a) b) c (d ++ e)
     ∙ fold-append write (fold write (fold write (fold write s a) b) c) d e)
 
--- the parts are fed one after another
+-- the components are fed one after another
 pub fed_by_turns : {S : Type 0} (write : S → List ℕ → S) (s₀ s₁ s₂ s₃ s₄ s₅ : S) (p : Parts) → Valid p
     → s₁ ≡ fold write s₀ (option (λ s. fed_text (scheme.canonical_text s)) p.scheme)
     → s₂ ≡ fold write s₁ (option (λ a. authority.fed_key (authority.key a)) p.authority)

@@ -1,4 +1,4 @@
--- How long the text of a reference is at most.
+-- An upper bound for the length of a reference's text.
 use Rattle.std.proofs.Common.{ℕ, ◌+◌, ◌≤◌, List, [], ◌∷◌, length, Option, Some, None, arith}
 use Rattle.std.proofs.lemmas.List.{length-append}
 use Rattle.std.specs.Prelude.{◌++◌, unwrap_or}

@@ -87,7 +87,7 @@ merged_text p q is js h = by_list p.segments is ∙ refl
         (lacks_slash cut.last (last_segment cut.front cut.last (sym (ap (list_all is_segment) cut.whole) ∙ is.each))) js.some)
         ∙ ap (λ u. root p.absolute ++ join_with_byte slash (u ++ q.segments)) (sym (ap all_but_last cut.whole ∙ all_but_last_push cut.front cut.last))
 
--- what the pieces of segments that are joined are, where their text begins with no hidden slash; there may be too many of them
+-- the pieces of joined segments, if their text hides no leading slash; there may be too many of them
 pub pieces_text : (p : PathParts) → 0 < length p.segments → list_all is_segment p.segments ≡ true → (p.absolute ≡ false → hides_root p.segments ≡ false)
     → spelled (text p) ≡ p
 pieces_text p some each f = by_shape p.absolute p.segments some each f

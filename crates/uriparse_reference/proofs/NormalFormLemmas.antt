@@ -1,4 +1,4 @@
--- The normal form of a reference is valid, no longer than it, and its own normal form.
+-- The normal form of a reference is valid, no longer than the reference, and its own normal form.
 use Rattle.std.proofs.Common.{◌≡◌, ℕ, ◌≤◌, Bool, true, false, ◌&&◌, ◌||◌, List, length, Option, Some, None, refl, sym, ap, ◌∙◌}
 use Rattle.std.proofs.Common.{subst}
 use Rattle.std.specs.Prelude.{is_some, is_none}
@@ -54,7 +54,7 @@ normal_no_longer p v = length_shielded p.authority p.path (is_none p.scheme) (fi
 pub normal_kind : (p : Parts) → kind (normal p) ≡ kind p
 normal_kind p = authority-kind p.authority
 
--- ---- the "." in front doesn't count
+-- ---- the leading "." does not count
 
 pub and_false : (r : Bool) → (r && false) ≡ false
 and_false true = refl
@@ -77,7 +77,7 @@ pnormal_dotted q r is more h =
     ∙ ap canonical_path (dot_undotted q.absolute q.segments is.some)
     ∙ sym (pnormal_is q r is (absolute_formed q h) (absolute_stays q r h))
 
--- for an absolute path it doesn't matter whether a scheme is there
+-- for an absolute path a scheme makes no difference
 pub pnormal_either : (q : PathParts) (r s : Bool) → IsListed q.segments → q.absolute ≡ true → pnormal q r ≡ pnormal q s
 pnormal_either q r s is h = pnormal_is q r is (absolute_formed q h) (absolute_stays q r h)
     ∙ sym (pnormal_is q s is (absolute_formed q h) (absolute_stays q s h))

@@ -1,4 +1,4 @@
--- Which references are their own normal forms, and what normalising puts in place.
+-- References in normal form, and what normalizing puts in place.
 use Rattle.std.proofs.Common.{◌≡◌, ◌↔◌, ℕ, ◌<◌, Bool, true, false, not, ◌&&◌, ◌||◌, cond, List, [], ◌∷◌, length, Option, Some, None, refl, sym, ap, ◌∙◌}
 use Rattle.std.proofs.Common.{subst, arith}
 use Rattle.std.specs.Prelude.{IfSome, is_some, is_none, bytes_eq}
@@ -31,7 +31,7 @@ use Rattle.uriparse_reference.proofs.PlaceLemmas.{Fits, make, two_slashes, fits_
 use Rattle.uriparse_reference.proofs.PlaceLemmas.{shielded_fits, pnormal_formed, fits_normal}
 use Rattle.uriparse_reference.proofs.NormalFormLemmas.{fits_normal_path, normal_valid, or_false, pnormal_dotted, pnormal_either}
 
--- ---- which references are left as they are
+-- ---- references that are unchanged
 
 pub same_path : (p q : PathParts) → IsListed p.segments → respelled p ≡ p → IsListed q.segments → respelled q ≡ q → text p ≡ text q → p ≡ q
 same_path p q is h js k e = sym h ∙ sym (spelled-text p is) ∙ ap spelled e ∙ spelled-text q js ∙ k
@@ -161,7 +161,7 @@ kept_whole p v h =
 
 -- ---- what is put in place
 
--- the path's normal form is told by what stands before it
+-- the path's normal form depends on the scheme and the authority only by their presence
 pub placed_normal : (s : Option Scheme) (a : Option AuthorityParts) (p : PathParts) (v w : Bool) → is_some s ≡ not v → is_some a ≡ not w
     → cond w (shield (pnormal p v)) (pnormal p v) ≡ shielded a (pnormal p (is_none s))
 placed_normal s a p v w e f = ap (λ u. cond w (shield (pnormal p u)) (pnormal p u)) (sym (none_is s v e))
@@ -190,7 +190,7 @@ made_is p s a h q f es ea eh eq ef =
     build : Option Scheme → Option AuthorityParts → PathParts → Option (List ℕ) → Option (List ℕ) → Parts
     build scheme authority path query fragment = record { scheme = scheme; authority = authority; path = path; query = query; fragment = fragment }
 
--- ---- valid references that print alike
+-- ---- valid references with the same printed text
 
 one_authority : (a b : Option AuthorityParts) → IfSome a authority.Valid → IfSome b authority.Valid
     → option_map authority.print a ≡ option_map authority.print b → option_map authority.kind a ≡ option_map authority.kind b → a ≡ b

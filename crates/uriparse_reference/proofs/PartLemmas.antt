@@ -72,7 +72,7 @@ pub authority_twice : (a : Option AuthorityParts) → IfSome a authority.Valid
 authority_twice None v = refl
 authority_twice (Some a) v = ap Some (authorities.canonical_twice a v)
 
--- ---- parts that are kept
+-- ---- components that are kept
 
 pub scheme_kept : (s : Option Scheme) → option_map scheme.text (option_map canonical_scheme s) ≡ option_map scheme.text s → option_map canonical_scheme s ≡ s
 scheme_kept None e = refl

@@ -1,4 +1,4 @@
--- What the pieces lack that a text is cut into.
+-- The bytes that the components of a text do not have.
 use Rattle.std.proofs.Common.{◌≡◌, ℕ, Bool, true, false, cond, List, drop, Option, Some, None, refl, ap, ◌∙◌}
 use Rattle.std.specs.Prelude.{IfSome}
 use Rattle.uriparse_text.specs.Bytes.{colon, question_mark, number_sign}
@@ -10,7 +10,7 @@ use Rattle.uriparse_scheme.specs.Scheme as scheme
 use Rattle.uriparse_reference.specs.Cuts.{if_scheme, scheme_text, after_scheme, authority_text, after_authority, path_text, query_text}
 use Rattle.uriparse_reference.proofs.CutLemmas.{path_cut}
 
--- ---- what the pieces lack
+-- ---- bytes that a component does not have
 
 pub scheme_is : (t : List ℕ) → IfSome (scheme_text t) (λ s. scheme.is_scheme s ≡ true)
 scheme_is t = by_front (front colon t)

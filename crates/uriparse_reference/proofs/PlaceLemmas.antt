@@ -1,4 +1,4 @@
--- Which paths may stand where, by their segments.
+-- Which paths may follow a scheme or none and an authority or none, by their segments.
 use Rattle.std.proofs.Common.{◌≡◌, ℕ, ◌<◌, ◌≤◌, Bool, true, false, ◌&&◌, ◌||◌, not, cond, List, [], ◌∷◌, ◌++◌, suc, length, drop, flat_map, Option, Some, None}
 use Rattle.std.proofs.Common.{refl, sym, ap, ◌∙◌, subst, arith, append-nil}
 use Rattle.std.specs.Prelude.{IfSome, is_some}
@@ -30,7 +30,7 @@ use Rattle.uriparse_reference.proofs.ValidLemmas.{HasPlace}
 use Rattle.uriparse_reference.proofs.CutLemmas.{no_slashes, no_colon}
 use Rattle.uriparse_reference.proofs.EditLemmas.{if_there}
 
--- The path may stand behind an authority, or where there is none.
+-- The path may follow an authority, or may be without one.
 pub record Fits (v : Bool) (p : PathParts) : Type 0 where
   pub listed : IsListed p.segments
   pub formed : respelled p ≡ p
@@ -40,7 +40,7 @@ pub record Fits (v : Bool) (p : PathParts) : Type 0 where
 abbrev pub make : Bool → List (List ℕ) → PathParts
 make a l = record { absolute = a; segments = l }
 
--- a relative path that its text spells doesn't begin with an empty segment and more
+-- a relative path that its text spells does not begin with an empty segment and another
 pub formed_shown : (p : PathParts) → respelled p ≡ p → p.absolute ≡ false → hides_root p.segments ≡ false
 formed_shown p h k = by_hides (hides_root p.segments) refl
   where
@@ -131,7 +131,7 @@ colon_of p v h k e = by_flag p.path.absolute p.path.segments e v.is_path (ap (λ
     by_flag true l e is f = absurd (false≢true (sym e))
     by_flag false l e is f = not-true (is_first has_colon l) (sym (noscheme-text l is) ∙ no_colon (text (make false l)) f)
 
--- ---- a path in its place makes valid parts
+-- ---- a path that obeys the rules makes valid components
 
 pub placed : (v w : Bool) (p : PathParts) → Fits w p → (v ≡ false → w ≡ false → p.absolute ≡ false → is_first has_colon p.segments ≡ false) → HasPlace v w p
 placed v w p is c = record { is_path = is.listed; absolute = is.rooted; plain = formed_plain p is.formed; fit = by_authority w is c }
@@ -173,7 +173,7 @@ valid_made s a p q f vs va is vq vf = record {
   is_fragment = vf;
 }
 
--- ---- the "." in front
+-- ---- the leading "."
 
 pub shielded_cases : (q : PathParts) (P : PathParts → Type 0) → (has_two_slashes (text q) ≡ true → P (dotted q)) → (has_two_slashes (text q) ≡ false → P q)
     → P (shielded None q)
@@ -214,19 +214,19 @@ pub undotted_shielded : (a : Option AuthorityParts) (q : PathParts) → 0 < leng
 undotted_shielded (Some a) q h = refl
 undotted_shielded None q h = shielded_cases q (λ p. undotted p ≡ undotted q) (λ e. dot_undotted q.absolute q.segments h) (λ e. refl)
 
--- a path that may stand alone needs none
+-- a path that may be without an authority needs none
 pub shielded_fits : (a : Option AuthorityParts) (q : PathParts) → Fits (is_some a) q → shielded a q ≡ q
 shielded_fits (Some a) q is = refl
 shielded_fits None q is =
     shielded_cases q (λ p. p ≡ q) (λ e. absurd (false≢true (sym (is.shown refl)
     ∙ (and_parts q.absolute (hides_root q.segments) (sym (two_slashes q is.listed is.formed) ∙ e)).1))) (λ e. refl)
 
--- ---- the normal form of a path in its place
+-- ---- the normal form of a path that obeys the rules
 
 pub pnormal_formed : (p : PathParts) (r : Bool) → IsListed p.segments → respelled p ≡ p → respelled (pnormal p r) ≡ pnormal p r
 pnormal_formed p r is h = sym (spelled-text (pnormal p r) (listed_pnormal p r is)) ∙ pnormal_spelled p r is (spelled-text p is ∙ h)
 
--- where it comes to begin with an empty segment and more, it has become shorter
+-- if it comes to begin with an empty segment and another, it has become shorter
 pub pnormal_room : (p : PathParts) (r : Bool) → Fits false p → hides_root (pnormal p r).segments ≡ true
     → suc (length (pnormal p r).segments) ≤ length p.segments
 pnormal_room p r is h = by_case (stays_relative p r) refl

@@ -1,4 +1,4 @@
--- What the printed text of a reference tells.
+-- References with the same printed text.
 use Rattle.std.proofs.Common.{◌≡◌, ◌⊎◌, ℕ, List, Option, Some, None, refl, sym, ap, ◌∙◌, inl, inr}
 use Rattle.std.specs.Prelude.{IfSome}
 use Rattle.std.specs.Option.{option_map, IsSomeAnd}
@@ -33,7 +33,7 @@ plain_back p v plain = back p v (by_authority p.authority v.is_authority plain)
     by_authority None i hides = tt
     by_authority (Some a) i hides = host_back a.host i.is_host hides
 
--- ---- what prints alike
+-- ---- the same printed text
 
 abbrev Apart : Option AuthorityParts → Option AuthorityParts → Type 0
 Apart a b = IsSomeAnd (option_map (λ (x : AuthorityParts). x.host) a)
@@ -53,7 +53,7 @@ authorities_apart (Some a) (Some b) v w e =
     by_case (inl same) = inl (ap (λ x. Some (authority.kind x)) same)
     by_case (inr apart) = inr apart
 
--- references that print alike are one, or one of them holds as a name what the other holds as an IPv4 address
+-- references with the same printed text are equal, or one has as a name what the other has as an IPv4 address
 pub printed_apart : (p q : Parts) → Valid p → Valid q → print p ≡ print q → (p ≡ q) ⊎ OneHidesAddress p q
 printed_apart p q v w e =
     by_case (authorities_apart p.authority q.authority v.is_authority w.is_authority (sym (print_cut p v).authority ∙ ap authority_text e

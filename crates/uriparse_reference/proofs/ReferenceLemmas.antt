@@ -35,7 +35,7 @@ use Rattle.uriparse_reference.specs.Reading.{path_reading, tail_reading, reading
 use Rattle.uriparse_reference.proofs.TailLemmas.{Tail}
 use Rattle.uriparse_reference.proofs.CutLemmas.{tail, ArePieces, cut_again, path_cut}
 
--- ---- what is spelled so is read so
+-- ---- what is spelled is read
 
 pub schemes_are : (o : Option (List ℕ)) (s : Option Scheme) → IfPresent scheme.Spells o s
     → (IfSome o (λ t. scheme.is_scheme t ≡ true)) × (option_map scheme.named o ≡ s)
@@ -59,7 +59,7 @@ spelled_pieces t p s = record {
   is_query = s.is_query;
 }
 
--- what reading a cut text's path gives, by what the pieces are
+-- reading the path of a cut text
 path_reading_is : (t : List ℕ) (s a : Option (List ℕ)) (h : List ℕ) → scheme_text t ≡ s → authority_text t ≡ a → path_text t ≡ h
     → path_reading (is_some (scheme_text t)) (is_some (authority_text t)) (path_text t) ≡ path_reading (is_some s) (is_some a) h
 path_reading_is t s a h e f g =
@@ -138,7 +138,7 @@ schemes_spell t = by_front (front colon t)
     by_front None = tt
     by_front (Some s) = by_test s (scheme.is_scheme s) refl
 
--- behind an authority that is cut off stands nothing or a slash, once query and fragment are cut off too
+-- once query and fragment are cut off, nothing or a slash follows the authority
 pub abempty_cut : (u : List ℕ) → is_abempty (up_to ends_path (from_first ends_authority u)) ≡ true
 abempty_cut u = ap is_abempty (path_cut (from_first ends_authority u)) ∙ by_rest (from_first ends_authority u) refl
   where
@@ -165,7 +165,7 @@ pub accepted : {A : Type 0} (o : Option URIReferenceError) (y x : A) → unless_
 accepted None y x h = (refl, cc)
 accepted (Some e) y x h = cc
 
--- a path that was read is one, and may stand where it does
+-- a path that was read is a path, and may follow the scheme and the authority
 placed_path : (v w : Bool) (h : List ℕ) (p : PathParts) → path_reading v w h ≡ Ok p → IsPath h × (path_refusal v w h ≡ None) × (p ≡ path_of w h)
 placed_path v w h p k =
     let x = bind_ok (of_piece errors.Path (path_faults.reading h)) _ p k in
@@ -222,7 +222,7 @@ pub authority_back : (a : Option AuthorityParts) → IfSome a authority.Valid �
 authority_back None h k = tt
 authority_back (Some a) h k = authorities.back a h k
 
--- ---- what the readers of the pieces make
+-- ---- the results of the readers of the components
 
 pub scheme_present : (t : List ℕ) → is_some (option_map scheme.named (scheme_text t)) ≡ is_some (scheme_text t)
 scheme_present t = by_option (scheme_text t)
@@ -234,7 +234,7 @@ scheme_present t = by_option (scheme_text t)
 abbrev pub with_tail : Option Scheme → Option AuthorityParts → Tail → Parts
 with_tail s a x = record { scheme = s; authority = a; path = x.0; query = x.1; fragment = x.2 }
 
--- the authority of a text was read, and then the pieces of its tail: so its reader answers
+-- what a reader returns that reads the authority and then the components that follow it
 module _ (t : List ℕ) (s : Option Scheme) (o : Option (List ℕ)) (h : List ℕ) (q f : Option (List ℕ)) (a : Option AuthorityParts)
     (scheme_is : s ≡ option_map scheme.named (scheme_text t)) (authority_is : o ≡ authority_text t) (path_is : h ≡ path_text t)
     (query_is : q ≡ query_text t) (fragment_is : f ≡ fragment_text t)
@@ -270,7 +270,7 @@ module _ (t : List ℕ) (s : Option Scheme) (o : Option (List ℕ)) (h : List �
       ap (λ b. tail_reading b (is_some o) h q f) (ap is_some scheme_is ∙ scheme_present t ∙ sym e) ∙ ap (λ b. tail_reading v b h q f) (sym k) in
       by_tail ∙ ap (λ r. r >>= λ x. Ok (with_tail s a x)) (along ∙ made)
 
--- an authority was read where the text has one
+-- an authority was read if and only if the text has one
 pub read_present : (o : Option (List ℕ)) (a : Option AuthorityParts) → of_piece errors.Authority (if_present authority.reading o) ≡ Ok a
     → is_some a ≡ is_some o
 read_present None None h = refl
@@ -282,7 +282,7 @@ read_present (Some t) a h = by_reading (authority.reading t) a h
     by_reading (Ok p) None k = cc
     by_reading (Err e) a k = cc
 
--- whether an authority stands before a path is told by the authority that was read
+-- whether a path follows an authority, by the authority that was read
 pub in_place : (s : Option Scheme) (a : Option AuthorityParts) (w : Bool) → w ≡ is_some a → (h : List ℕ) (q f : Option (List ℕ))
     → with_tail s a (path_of w h, q, f) ≡ record { scheme = s; authority = a; path = path_of (is_some a) h; query = q; fragment = f }
 in_place s a w e h q f = ap (λ w. with_tail s a (path_of w h, q, f)) e
@@ -291,7 +291,7 @@ pub read_whole : (t : List ℕ) (p : Parts) → IsAnswer t (Ok p) → reading t 
 read_whole t p (inl h) = sym h
 read_whole t p (inr h) = let no = h.1 in absurd (cc)
 
--- ---- what a reader's answer tells in the grammar's words
+-- ---- a reader's result in terms of the grammar
 
 fault_first : (t : List ℕ) (e : URIReferenceError) → fault t ≡ Some e → reading t ≡ Err e
 fault_first t e h = by_reading (reading t) h

@@ -65,7 +65,7 @@ network_target b t s h true e =
     ∙ sym (whole_target b t h)
 network_target b t s h false e = refl
 
--- an absolute path that may stand without authority does
+-- an absolute path that may be without an authority
 alone : (b t : Parts) → Valid t → t.authority ≡ None → t.path.absolute ≡ true → inner b.path t.path ≡ None → ⊥
 alone b t v a h e =
     let fits : Fits false t.path = subst (λ o. Fits (is_some o) t.path) a (fits_of t v) in
@@ -104,7 +104,7 @@ network_leads b t v s h n = by_authority (is_some t.authority) refl
           (λ k. let a = none_is t.authority e in absurd (alone b t v a k.1 (n (k.0 ∙ sym a)).0)) w) (inl refl),
     )
 
--- ---- in the same place
+-- ---- the same path
 
 pub place_target : (b t : Parts) (q : Option (List ℕ)) → Valid b → Valid t → is_some t.scheme ≡ true → b.scheme ≡ t.scheme → b.authority ≡ t.authority → b.path ≡ t.path
     → has_dot_segment t.path.segments ≡ false → option_or q b.query ≡ t.query
@@ -119,7 +119,7 @@ place_target b t q vb v h s a p d e =
     ∙ ap (λ x. Some (target_of t.scheme t.authority (dots_removed (text t.path)) x t.fragment)) e
     ∙ sym (whole_target b t h)
 
--- what is left of the query gives it again
+-- what is left of the query yields the query again
 query_again : (b t : Parts) (q : Option (List ℕ)) → IsInPlace b t → IsQueryLeft b t q → option_or q b.query ≡ t.query
 query_again b t q place left = ⊎_elim (λ k. ap (λ x. option_or x b.query) k.1 ∙ k.0)
     (λ k. ap (λ x. option_or x b.query) k.1 ∙ ⊎_elim (λ i. there t.query i) (λ none. ap (option_or t.query) none ∙ none_behind t.query) place.query) left
@@ -158,9 +158,9 @@ place_valid t p q f e vq vf =
     (valid_made None None no_path q f tt tt
     (placed false false no_path (record { listed = listed_empty; formed = refl; rooted = λ k. absurd (false≢true k); shown = λ _. refl }) (λ _ _ _. refl)) vq vf)
 
--- ---- behind a path
+-- ---- after a path
 
--- the path stands where there is neither scheme nor authority, and leads there
+-- the path may be without a scheme and an authority, and leads to the target
 record IsInner (b t p : PathParts) : Type 0 where
   shown : hides_root p.segments ≡ false
   no_colon : p.absolute ≡ false → is_first has_colon p.segments ≡ false
@@ -247,7 +247,7 @@ leading_target b t p vb v listed h s a e =
     rooted_relative : (p : PathParts) → IsListed p.segments → p.absolute ≡ false → hides_root p.segments ≡ false → is_rooted (text p) ≡ false
     rooted_relative p listed e f = ap (λ w. is_rooted (text (make w p.segments))) e ∙ (rooted-text (make false p.segments) listed ∙ f)
 
--- an absolute one that stands alone stands for itself
+-- an absolute path that needs no authority is its own target
 absolute_target : (b t : Parts) → is_some t.scheme ≡ true → b.scheme ≡ t.scheme → b.authority ≡ t.authority → t.path.absolute ≡ true
     → target b (behind_path t t.path) ≡ target b t
 absolute_target b t h s a r =
@@ -272,7 +272,7 @@ inner_leads b t p vb v listed h s a n e = (
   },
 )
 
--- ---- answers
+-- ---- results
 
 pub ok_more : {A E : Type 0} (P Q : A → Type 0) (x : Result A E) → ((a : A) → P a → Q a) → IfOk x P → IfOk x Q
 ok_more P Q (Ok a) f h = f a h
@@ -282,7 +282,7 @@ pub left_query : (b t : Parts) (q : Option (List ℕ)) → Valid t → IsQueryLe
 left_query b t q v left =
     ⊎_elim (λ k. subst (λ o. IfSome o IsQuery) (sym k.1) tt) (λ k. subst (λ o. IfSome o IsQuery) (sym k.1) v.is_query) left
 
--- what has no dot segments is its own target
+-- a path without dot segments is its own target
 pub back_again : (b t : Parts) → Valid t → is_some t.scheme ≡ true → has_dot_segment t.path.segments ≡ false → target b t ≡ Some t
 back_again b t v h d =
     let fits = fits_of t v in

@@ -1,4 +1,4 @@
--- The target's parts, case by case, and the answer that they make.
+-- The target's components, case by case, and the result that they make.
 use Rattle.std.proofs.Common.{◌≡◌, ℕ, ◌≤◌, Bool, true, false, ◌||◌, not, cond, List, [], ◌∷◌, length, Option, Some, None, Result, Ok, Err, IfErr, inl}
 use Rattle.std.proofs.Common.{inr, refl, sym, ap, ◌∙◌, subst, ⊎_elim, arith, ◌<◌}
 use Rattle.std.specs.Prelude.{IfSome, MatchOption, MatchResult, is_some, nat_le}
@@ -81,7 +81,7 @@ without_dots-text v q is = by_dots (has_dot_segment q.segments) refl
     by_dots true e = refl
     by_dots false e = sym (dots_removed-text q is.listed ∙ undotted_kept q e ∙ is.formed)
 
--- behind an authority it is kept as it is
+-- after an authority it is unchanged
 in_place : (a : Option AuthorityParts) (w : Bool) (q m : PathParts) → w ≡ is_some a → q ≡ m → cond w q (shield q) ≡ shielded a m
 in_place (Some a) w q m e f = ap (λ v. cond v q (shield q)) e ∙ f
 in_place None w q m e f = ap (λ v. cond v q (shield q)) e ∙ ap shield f
@@ -90,7 +90,7 @@ pub flipped : (w : Bool) (q : PathParts) → cond (not w) (shield q) q ≡ cond 
 flipped true q = refl
 flipped false q = refl
 
--- ---- what is answered for the target's path
+-- ---- the result for the target's path
 
 abbrev IsPathOf : Option Parts → Result PathParts PathError → Type 0
 IsPathOf o result = MatchOption o (result ≡ Err ExceededMaximumLength) (λ t. IsUnless OutOfMemory result (Ok t.path))
@@ -100,7 +100,7 @@ answered : (result : Result PathParts PathError) (made path : PathParts) → Mat
 answered (Ok p) made path is e = inl (ap Ok (is ∙ e))
 answered (Err x) made path is e = inr (ap Err is)
 
--- the path of a reference that has neither scheme nor authority
+-- the path of a reference without a scheme and an authority
 alone : (r : Parts) → Valid r → has_front r ≡ false → Fits false r.path
 alone r v h = subst (λ w. Fits w r.path) (or_parts (is_some r.scheme) (is_some r.authority) h).1 (fits_of r v)
 
@@ -193,7 +193,7 @@ module _ (b r : Parts) (p q : PathParts) (base : p ≡ b.path) (own : q ≡ r.pa
         by_room false k = absurd
             (let bad : Ok path ≡ Err ExceededMaximumLength = sym was ∙ subst (λ m. IfErr m (λ e. given ≡ Err e)) (merging_is false k) fault in cc)
 
--- ---- the answer
+-- ---- the result
 
 abbrev authority_of : Parts → Parts → Option AuthorityParts
 authority_of b r = cond (has_front r) r.authority b.authority
@@ -250,7 +250,7 @@ parts_are b r = by_front (has_front r) refl (is_empty (text r.path)) refl (is_ro
 abbrev make_of : Option Scheme → Option AuthorityParts → PathParts → Option (List ℕ) → Option (List ℕ) → Parts
 make_of s a p q f = record { scheme = s; authority = a; path = p; query = q; fragment = f }
 
--- the answer to this target
+-- the result for this target
 abbrev Answers : Option Parts → Result Parts URIReferenceError → Type 0
 Answers o result =
     MatchOption o (result ≡ Err (errors.Path ExceededMaximumLength)) (λ t. IsUnless (errors.Path OutOfMemory) result (Ok t))

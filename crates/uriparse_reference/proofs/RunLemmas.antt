@@ -1,4 +1,4 @@
--- What an edit makes of a valid reference; and that a list of edits has one outcome.
+-- The result of an edit of a valid reference; a list of edits has one outcome.
 use Rattle.std.proofs.Common.{◌≡◌, ◌⊎◌, inl, inr, ℕ, suc, true, false, List, [], ◌∷◌, Option, Some, None, refl, sym, ap, ◌∙◌}
 use Rattle.std.specs.Prelude.{Result, Ok, Err, is_some}
 use Rattle.uriparse_text.specs.Readings.{unless_fault}
@@ -13,7 +13,7 @@ use Rattle.uriparse_reference.proofs.ValidLemmas.{same_path}
 use Rattle.uriparse_reference.proofs.EditLemmas.{build, placed_same, accepts, own_parts, with_scheme}
 use Rattle.uriparse_reference.proofs.NormalFormLemmas.{normal_valid}
 
--- an edit makes of a valid reference what its parts make, with one of them replaced
+-- an edit of a valid reference builds what its components build with one of them replaced
 pub edited_parts : (p : Parts) (e : Edit) → Valid p → edited p e ≡ of_parts (replaced p e)
 edited_parts p (edits.Scheme (Some s)) v =
     sym (accepts p (build (Some s) p.authority (placed (is_some p.authority) p.path) p.query p.fragment) (build (Some s) p.authority p.path p.query p.fragment)
@@ -53,7 +53,7 @@ abbrev outcome : Parts → List Edit → Outcome
 outcome p [] = record { count = 0; parts = p; refusal = None }
 outcome p (e ∷ es) = next (edited p e) p (λ q. outcome q es)
 
--- it is want of memory, or the outcome by the rules
+-- memory ran out, or it is the outcome by the rules
 has_outcome : (p : Parts) (es : List Edit) (n : ℕ) (q : Parts) (o : Option URIReferenceError) → Run p es n q o
     → IsWant o ⊎ (outcome p es ≡ record { count = n; parts = q; refusal = o })
 has_outcome _ _ _ _ _ (ends p) = inr refl

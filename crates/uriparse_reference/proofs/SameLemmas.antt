@@ -1,4 +1,4 @@
--- Which references are the same, by their pieces.
+-- Which references are the same, by their components.
 use Rattle.std.proofs.Common.{◌≡◌, ◌↔◌, ℕ, Bool, true, false, ◌&&◌, ◌||◌, List, [], ◌∷◌, ◌++◌, map, Option, Some, None, refl, sym, ap, ◌∙◌, subst, arith}
 use Rattle.std.specs.Prelude.{not, ◌==◌, IfSome, IsTrue, bytes_eq, cond, is_some}
 use Rattle.std.specs.Option.{option_map}
@@ -40,7 +40,7 @@ use Rattle.uriparse_reference.specs.Key.{kind_code, key, each_alike}
 use Rattle.uriparse_reference.proofs.CutLemmas.{IsCutInto, cut_again}
 use Rattle.uriparse_reference.proofs.ValidLemmas.{valid_placed, mapped, present}
 
--- ---- a path's canonical spelling stands where the path may stand
+-- ---- a path's canonical spelling obeys the rules that the path obeys
 
 plain_ends : (b : ℕ) → is_unreserved b ≡ true → (is_slash b ≡ false) × ((b == colon) ≡ false)
 unfolding is_unreserved
@@ -49,7 +49,7 @@ plain_ends b h = (grind (arith, nat_tests), grind (arith, nat_tests))
 digit_ends : (b : ℕ) → is_hex b ≡ true → (is_slash b ≡ false) × ((b == colon) ≡ false)
 digit_ends b h = (grind (arith, nat_tests), grind (arith, nat_tests))
 
--- an escape has neither a colon nor a slash, as it stands and in its canonical form
+-- a percent-encoded octet has neither a colon nor a slash, as it is and in canonical form
 past_escape : (high low : ℕ) (rest : List ℕ) → is_hex high ≡ true → is_hex low ≡ true → is_noscheme (spell (Escape high low) ++ rest) ≡ is_noscheme rest
 past_escape high low rest h l =
     let x = digit_ends high h in
@@ -106,7 +106,7 @@ refusal-canonical : (v w : Bool) (h : List ℕ) → path_refusal v w (canonical 
 refusal-canonical v true h = refl
 refusal-canonical v false h = rw (has_two_slashes-canonical h, noscheme-canonical h) refl
 
--- ---- the printed and the canonical text are cut into the parts' own texts
+-- ---- the printed and the canonical text are cut into the texts of the components
 
 scheme_is : (s : Option Scheme) → IfSome s scheme.Valid → IfSome (option_map scheme.text s) (λ t. scheme.is_scheme t ≡ true)
 scheme_is None v = tt
@@ -152,7 +152,7 @@ canonical_cut p v = cut_again (canonical_text p) (option_map scheme.canonical_te
       is_query = query_canonical p.query v.is_query;
     }) refl
 
--- ---- references that print alike
+-- ---- references with the same printed text
 
 pub same_scheme : (s r : Option Scheme) → IfSome s scheme.Valid → IfSome r scheme.Valid → option_map scheme.text s ≡ option_map scheme.text r → s ≡ r
 same_scheme None None v w e = refl
@@ -193,7 +193,7 @@ alike p q v w e k =
       kinds = k;
     }
 
--- ---- one key, and the test of the parts one by one
+-- ---- the key, and the test of the components one by one
 
 some_code : (k : host.Kind) → 0 ≡ host.kind_code k → ⊥
 some_code host.V4 e = cc

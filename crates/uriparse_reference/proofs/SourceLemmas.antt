@@ -1,4 +1,4 @@
--- Where the fault of a text comes from, and what it never is.
+-- The source of a text's fault, and faults that no text has.
 use Rattle.std.proofs.Common.{◌≡◌, ℕ, Bool, true, false, cond, List, [], ◌∷◌, drop, Option, Some, None, Ok, Err, inl, inr, refl, sym, ap, ◌∙◌}
 use Rattle.std.specs.Prelude.{◌⊎◌, ◌||◌, ◌&&◌, Result, is_some}
 use Rattle.std.proofs.lemmas.Bool.{false≢true}
@@ -26,7 +26,7 @@ use Rattle.uriparse_reference.specs.Reference.{is_noscheme, path_of, path_refusa
 use Rattle.uriparse_reference.specs.Cuts.{after_scheme, authority_text, fragment_text, path_text, query_text, scheme_text}
 use Rattle.uriparse_reference.specs.Reading.{fault, path_reading, reading}
 
--- the fault of a text is that of one of its pieces, or that its path may not stand there
+-- the fault of a text is that of one of its components, or that its path may not follow the scheme and the authority
 pub data Source (t : List ℕ) (e : URIReferenceError) : Type 0 where
   of_authority : (x : AuthorityError) → errors.Authority x ≡ e → Source t e
   of_path : (x : PathError) → paths.fault (path_text t) ≡ Some x → errors.Path x ≡ e → Source t e
@@ -38,7 +38,7 @@ piece_told : {A E : Type 0} (told : E → URIReferenceError) (r : Result A E) (e
 piece_told told (Ok a) e h = absurd (cc)
 piece_told told (Err x) e h = (x, cc)
 
--- the fault of four results one after another is that of one of them
+-- the fault of four results in sequence is that of one of them
 by_results : {A B C D E : Type 0} (a : Result A URIReferenceError) (b : Result B URIReferenceError) (c : Result C URIReferenceError)
     (d : Result D URIReferenceError) (make : A → B → C → D → E) (e : URIReferenceError)
     → fault_in (a >>= λ x. b >>= λ y. c >>= λ z. d >>= λ w. Ok (make x y z w)) ≡ Some e
@@ -87,7 +87,7 @@ source t e h =
     told (inr (inr (inl k))) = let x = piece_told errors.Query _ e k in of_query x.0 x.1
     told (inr (inr (inr k))) = let x = piece_told errors.Fragment _ e k in of_fragment x.0 x.1
 
--- why a path may not stand where it does
+-- why a path may not follow the scheme and the authority
 place_told : (v w : Bool) (h : List ℕ) (e : URIReferenceError) → path_refusal v w h ≡ Some e
     → (errors.SchemelessPathStartsWithColonSegment ≡ e)
     ⊎ ((w ≡ false) × (has_two_slashes h ≡ true) × (errors.AbsolutePathStartsWithTwoSlashes ≡ e))
@@ -107,7 +107,7 @@ place_told v false h e k = by_slashes (has_two_slashes h) refl k
     by_slashes true f i = inr (refl, f, cc)
     by_slashes false f i = by_colon (v || is_noscheme h) i
 
--- two slashes at the front of a text are there before a byte that ends it too
+-- two leading slashes of a text precede a byte that ends it
 two_slashes_front : (p : ℕ → Bool) (u : List ℕ) → has_two_slashes (up_to p u) ≡ true → has_two_slashes u ≡ true
 two_slashes_front p [] h = h
 two_slashes_front p (b ∷ []) h = elim (p b) as (λ v. has_two_slashes (cond v [] (b ∷ [])) ≡ true → has_two_slashes (b ∷ []) ≡ true) [ true ↦ λ i. absurd (cc) | false ↦ λ i. i ] h
@@ -129,7 +129,7 @@ two_slashes_front p (b ∷ c ∷ u) h = by_first (p b) h
     by_first true i = absurd (cc)
     by_first false i = by_second (p c) i
 
--- without an authority a text has no path that begins with two slashes
+-- a text without an authority has no path that begins with two slashes
 no_slashes : (t : List ℕ) → is_some (authority_text t) ≡ false → has_two_slashes (path_text t) ≡ true → ⊥
 no_slashes t none two = by_slashes (has_two_slashes (after_scheme t)) refl none two
   where
@@ -154,7 +154,7 @@ never_slashes t h = by_source (source t errors.AbsolutePathStartsWithTwoSlashes 
     by_source (of_query x k) = cc
     by_source (of_fragment x k) = cc
 
--- a fault that is no piece's and doesn't tell of a place
+-- a fault that is neither a component's nor the path's rule
 abbrev IsElsewhere : URIReferenceError → Type 0
 IsElsewhere e = (errors.SchemelessPathStartsWithColonSegment ≡ e → ⊥) × (errors.AbsolutePathStartsWithTwoSlashes ≡ e → ⊥)
 

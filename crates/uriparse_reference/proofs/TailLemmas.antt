@@ -1,4 +1,4 @@
--- What reading gives of the text behind an authority, piece by piece.
+-- Reading the text after an authority, component by component.
 use Rattle.std.proofs.Common.{◌≡◌, ℕ, Bool, List, Option, Some, None, Ok, Err, refl, sym, ap, ◌∙◌}
 use Rattle.std.specs.Prelude.{Result}
 use Rattle.uriparse_text.specs.Bytes.{number_sign}
@@ -72,7 +72,7 @@ module _ (v w : Bool) where
             → text_tail v w u ≡ Ok (with_path (path_of w h) x)
         accepted_tail x is = read_is (Ok x) is
 
--- where a path may stand, and where it may not
+-- a path that is accepted, and one that is rejected
 pub is_placed : (o : Option URIReferenceError) → ◌≡◌ {A = Result (Unit {0}) URIReferenceError} (Ok tt) (unless_fault o tt) → o ≡ None
 is_placed None h = refl
 is_placed (Some e) h = cc

@@ -66,7 +66,7 @@ chosen v w x y b r =
 pub target_chosen : (b r : Parts) → target b r ≡ chosen (is_some r.scheme) (is_some r.authority) (is_empty (text r.path)) (is_rooted (text r.path)) b r
 target_chosen b r = refl
 
--- the path of a reference that has neither scheme nor authority, and begins with a slash, may stand behind the base's authority
+-- a path that begins with a slash, of a reference without a scheme and an authority, may follow the base's authority
 pub fits_rooted : (v : Bool) (q : PathParts) → Fits false q → is_rooted (text q) ≡ true → Fits v q
 fits_rooted v q is h = record {
   listed = is.listed;
@@ -146,14 +146,14 @@ target_valid b r v w h = by_tests (is_some r.scheme) refl (is_some r.authority) 
         (fits_rooted (is_some b.authority) r.path (subst (λ u. Fits u r.path) i own) k) w.is_query w.is_fragment
     by_tests false e false i false j false k = by_room (nat_le (length (pieces (merge b r))) max_segments) refl i k
 
--- a reference with a scheme stands for itself
+-- the target of a reference with a scheme does not depend on the base
 pub target_alone : (b c r : Parts) → is_some r.scheme ≡ true → target b r ≡ target c r
 target_alone b c r h = by_scheme b ∙ sym (by_scheme c)
   where
     by_scheme : (b : Parts) → target b r ≡ Some (target_of r.scheme r.authority (dots_removed (text r.path)) r.query r.fragment)
     by_scheme b = ap (λ v. chosen v (is_some r.authority) (is_empty (text r.path)) (is_rooted (text r.path)) b r) h
 
--- there is none exactly where too many segments are merged
+-- there is none if and only if too many segments are merged
 gt_from : (m n : ℕ) → nat_le m n ≡ false → n < m
 gt_from m n h = grind (arith, nat_tests)
 
@@ -201,7 +201,7 @@ target_none b r = (
         ∙ ap (λ v. cond v (Some (target_of b.scheme b.authority (dots_removed (merge b r)) r.query r.fragment)) None)
         (to_gt (length (pieces (merge b r))) max_segments long)
 
--- ---- what the through_last_slash of a text is
+-- ---- through_last_slash
 
 pub directory_last : (t s : List ℕ) → LacksSlash s → through_last_slash (t ++ slash ∷ s) ≡ t ++ slash ∷ []
 directory_last t s h = directory_behind t s ∙ ap (λ u. t ++ slash ∷ u) (directory_none s h)

@@ -33,7 +33,7 @@ use Rattle.uriparse_reference.proofs.NormalFormLemmas.{pnormal_shielded, shielde
 use Rattle.uriparse_reference.proofs.NormalLemmas.{same_path}
 use Rattle.uriparse_reference.proofs.TargetLemmas.{fits_undotted}
 
--- the normal form of a path that isn't normalised as a relative one
+-- the normal form of a path that is not normalized as a relative one
 abbrev pub settled : PathParts → PathParts
 settled p = canonical_path (undotted p)
 
@@ -92,7 +92,7 @@ same_made s a t u m n x f h vs va vx vf i j is js e =
     ∙ ap (λ y. build (option_map canonical_scheme s) (option_map canonical_authority a) (shielded a (settled m)) (option_map canonical x) y)
     (text_twice Query f vf))
 
--- ---- a path that was normalised before
+-- ---- a path that is normalized already
 
 pub settled_normal : (a : Option AuthorityParts) (p : PathParts) (r : Bool) → Fits (is_some a) p → stays_relative p r ≡ false
     → settled (shielded a (pnormal p r)) ≡ settled p

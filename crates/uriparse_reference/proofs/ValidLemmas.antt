@@ -1,4 +1,4 @@
--- What is spelled is valid, and what a valid reference prints spells it.
+-- What a text spells is valid, and the printed text of a valid reference spells it.
 use Rattle.std.proofs.Common.{◌≡◌, ℕ, Bool, true, false, cond, List, drop, Option, Some, None, refl, sym, ap, ◌∙◌, subst, ◌&&◌}
 use Rattle.std.specs.Prelude.{not, IfSome, is_some}
 use Rattle.std.specs.Option.{option_map}
@@ -16,7 +16,7 @@ use Rattle.uriparse_scheme.proofs.SchemeLemmas as schemes
 use Rattle.uriparse_reference.specs.Reference.{Parts, is_abempty, path_refusal, path_of, Spells, Valid, ReadsBack, Same, print}
 use Rattle.uriparse_reference.proofs.ReferenceLemmas.{scheme_back, authority_back}
 
--- ---- what a valid reference's path is, told by its text
+-- ---- a valid reference's path, by its text
 
 pub same_path : (h : PathParts) → IsListed h.segments → path.has_hidden_root h ≡ false → path.spelled (path.text h) ≡ h
 same_path h is plain = spelled-text h is ∙ ap (λ v. cond {A = PathParts} v (record { absolute = true; segments = drop 1 h.segments }) h) plain
@@ -104,7 +104,7 @@ authority_valid None (Some s) h = absurd h
 authority_valid (Some t) None h = absurd h
 authority_valid (Some t) (Some a) h = (authorities.valid t a h, refl)
 
--- the rules of a valid reference's path, which asks only whether an authority is there
+-- the rules of a valid reference's path, which depend only on the presence of an authority
 pub record HasPlace (v w : Bool) (h : PathParts) : Type 0 where
   pub is_path : IsListed h.segments
   pub absolute : w ≡ true → h.absolute ≡ true

@@ -1,4 +1,4 @@
--- What a builder of references holds, what its calls make of that, and what it builds.
+-- A builder of references: its components, its calls, and what it builds.
 use Rattle.std.specs.Prelude.{ℕ, Bool, List, Option, Some, None, Result, Ok, Err, bytes_eq}
 use Rattle.std.specs.Option.{option_eq}
 use Rattle.std.specs.Ordering.{eq_of_both, on}
@@ -16,7 +16,7 @@ use Rattle.uriparse_reference.specs.declared.uri_reference.error.URIReferenceErr
 use Rattle.uriparse_reference.specs.Reference.{Parts}
 use Rattle.uriparse_reference.specs.Edits.{of_parts}
 
--- the parts that were given so far
+-- the components that were given so far
 pub record Held : Type 0 where
   pub scheme : Option Scheme
   pub authority : Option authority.AuthorityParts
@@ -24,15 +24,15 @@ pub record Held : Type 0 where
   pub query : Option (List ℕ)
   pub fragment : Option (List ℕ)
 
--- no part
+-- no component
 abbrev pub nothing : Held
 nothing = record { scheme = None; authority = None; path = None; query = None; fragment = None }
 
--- all parts of a reference
+-- all components of a reference
 abbrev pub held : Parts → Held
 held p = record { scheme = p.scheme; authority = p.authority; path = Some p.path; query = p.query; fragment = p.fragment }
 
--- each part is held by both and equal, or by neither
+-- Each component is present in both and equal, or absent in both.
 abbrev pub alike : Held → Held → Bool
 alike =
     eq_of_both (on (λ (h : Held). h.scheme) (option_eq (on scheme.canonical_text bytes_eq)))
@@ -41,7 +41,7 @@ alike =
     (eq_of_both (on (λ (h : Held). h.query) (option_eq (on canonical bytes_eq)))
     (on (λ (h : Held). h.fragment) (option_eq (on canonical bytes_eq))))))
 
--- The same parts with the one that a text spells, or with none where no text is given, or else why the text spells none.
+-- The components with one replaced by what a text spells, or by none without a text; or the fault of the text.
 abbrev pub scheme_read : Held → Option (List ℕ) → Result Held URIReferenceError
 scheme_read h t = of_piece errors.Scheme (if_present scheme.reading t) >>= λ s. Ok (record h { scheme = s })
 
@@ -57,7 +57,7 @@ query_read h t = of_piece errors.Query (if_present query.reading t) >>= λ q. Ok
 abbrev pub fragment_read : Held → Option (List ℕ) → Result Held URIReferenceError
 fragment_read h t = of_piece errors.Fragment (if_present fragment.reading t) >>= λ f. Ok (record h { fragment = f })
 
--- the reference of these parts with this path, or why there is none; first of all a path is needed
+-- the reference of these components with this path, or why there is none; a path is required first
 abbrev pub built_with : Held → Option PathParts → Result Parts URIReferenceError
 built_with h None = Err errors.MissingPath
 built_with h (Some p) = of_parts (record { scheme = h.scheme; authority = h.authority; path = p; query = h.query; fragment = h.fragment })

@@ -1,4 +1,4 @@
--- How the text of a reference is cut into its pieces: RFC 3986, sections 3 and 4.1.
+-- How the text of a reference is cut into its components: RFC 3986, sections 3 and 4.1.
 use Rattle.std.specs.Prelude.{ℕ, Bool, ◌==◌, ◌||◌, if◌then◌else◌, List, [], ◌∷◌, Option, Some, None, drop}
 use Rattle.uriparse_text.specs.Bytes.{colon, question_mark, number_sign}
 use Rattle.uriparse_text.specs.Cuts.{front, rest, before, after, up_to, from_first}
@@ -28,14 +28,14 @@ unless_scheme (Some s) t u = u
 abbrev pub after_scheme : List ℕ → List ℕ
 after_scheme t = unless_scheme (scheme_text t) t (rest colon t)
 
--- Behind two slashes the authority runs to the first "/", "?", "#" or the end.
+-- After two slashes, the authority runs to the first "/", "?", "#" or the end.
 abbrev pub cut_authority : List ℕ → Option (List ℕ)
 cut_authority u = if has_two_slashes u then Some (up_to ends_authority (drop 2 u)) else None
 
 abbrev pub authority_text : List ℕ → Option (List ℕ)
 authority_text t = cut_authority (after_scheme t)
 
--- what follows that authority, or all where there is none
+-- what follows that authority, or the whole text without one
 abbrev pub without_authority : List ℕ → List ℕ
 without_authority u = if has_two_slashes u then from_first ends_authority (drop 2 u) else u
 
@@ -46,7 +46,7 @@ after_authority t = without_authority (after_scheme t)
 abbrev pub path_text : List ℕ → List ℕ
 path_text t = up_to ends_path (after_authority t)
 
--- The fragment is behind the first "#", the query behind the first "?" before that.
+-- The fragment follows the first "#", and the query follows the first "?" before that.
 abbrev pub query_text : List ℕ → Option (List ℕ)
 query_text t = after question_mark (before number_sign (after_authority t))
 
@@ -60,7 +60,7 @@ abbrev pub if_some : List ℕ → Option (List ℕ)
 if_some [] = None
 if_some (b ∷ t) = Some (b ∷ t)
 
--- the query and the fragment of what stands behind a path
+-- the query and the fragment of what follows a path
 abbrev pub tail_query : List ℕ → Option (List ℕ)
 tail_query [] = None
 tail_query (b ∷ r) = if b == question_mark then Some (before number_sign r) else None

@@ -1,4 +1,4 @@
--- What parts make a reference, what an edit makes of one, and what a list of edits does.
+-- Building a reference from its components, editing one, and lists of edits.
 use Rattle.std.specs.Prelude.{◌≡◌, ◌⊎◌, ℕ, suc, Bool, true, false, List, [], ◌∷◌, Option, Some, None, Result, Ok, Err, is_some}
 use Rattle.uriparse_text.specs.Readings.{unless_fault}
 use Rattle.uriparse_path.specs.Path as path
@@ -10,20 +10,20 @@ use Rattle.uriparse_reference.specs.declared.uri_reference.error.URIReferenceErr
 use Rattle.uriparse_reference.specs.Reference.{Parts, path_refusal, print}
 use Rattle.uriparse_reference.specs.Normal.{canonical_texts, normal}
 
--- the path as a reference holds it: behind an authority it is made absolute, else it is the one that its text spells
+-- the path as a reference holds it: made absolute with an authority, else the one that its text spells
 abbrev pub placed : Bool → path.PathParts → path.PathParts
 placed true h = path.made_absolute h
 placed false h = path.spelled (path.text h)
 
--- why these parts make no reference
+-- why these components do not build a reference
 abbrev pub refusal : Parts → Option URIReferenceError
 refusal p = path_refusal (is_some p.scheme) (is_some p.authority) (path.text p.path)
 
--- the reference that these parts make, or why they make none
+-- the reference that these components build, or why they build none
 abbrev pub of_parts : Parts → Result Parts URIReferenceError
 of_parts p = unless_fault (refusal p) (record p { path = placed (is_some p.authority) p.path })
 
--- what an edit makes of a reference, or why it is refused
+-- the reference after an edit, or the error of the edit
 abbrev pub edited : Parts → Edit → Result Parts URIReferenceError
 edited p (edits.Scheme (Some s)) = Ok (record p { scheme = Some s })
 edited p (edits.Scheme None) =
@@ -36,7 +36,7 @@ edited p (edits.Query q) = Ok (record p { query = q })
 edited p (edits.Fragment f) = Ok (record p { fragment = f })
 edited p edits.Normalize = Ok (normal p)
 
--- the parts with one of them replaced, which may make no reference; or their normal form
+-- the components with one of them replaced, which may not build a reference; or their normal form
 abbrev pub replaced : Parts → Edit → Parts
 replaced p (edits.Scheme scheme) = record p { scheme = scheme }
 replaced p (edits.Authority authority) = record p { authority = authority }
@@ -45,24 +45,24 @@ replaced p (edits.Query query) = record p { query = query }
 replaced p (edits.Fragment fragment) = record p { fragment = fragment }
 replaced p edits.Normalize = normal p
 
--- The edit asks for the normal form of a reference that doesn't print as that form, and one of whose texts isn't canonical; and this tells that
--- there was no memory.
+-- The edit normalizes a reference that does not print as its normal form and has a text that is not canonical, and the error is that memory
+-- ran out.
 pub record WantsMemory (p : Parts) (e : Edit) (x : URIReferenceError) : Type 0 where
   pub normalises : e ≡ edits.Normalize
   pub differs : print (normal p) ≡ print p → ⊥
   pub spelled : canonical_texts p ≡ p → ⊥
   pub error : x ≡ errors.Path OutOfMemory
 
--- the edit is refused with this, by its rule or for want of memory
+-- The edit fails with this error, by its rule or because memory ran out.
 abbrev pub IsRefused : Parts → Edit → URIReferenceError → Type 0
 IsRefused p e x = (edited p e ≡ Err x) ⊎ WantsMemory p e x
 
--- the refusal is want of memory
+-- The error is that memory ran out.
 abbrev pub IsWant : Option URIReferenceError → Type 0
 IsWant o = o ≡ Some (errors.Path OutOfMemory)
 
--- From these parts the first n edits of the list are accepted, one after another, and make the parts q; these edits are all there are, or the
--- next one is refused.
+-- From these components the first n edits of the list are accepted, one after another, and yield the components q. They are all the edits, or
+-- the next one fails.
 pub data Run : Parts → List Edit → ℕ → Parts → Option URIReferenceError → Type 0 where
   ends : (p : Parts) → Run p [] 0 p None
   stops : (p : Parts) (e : Edit) (es : List Edit) (x : URIReferenceError) → IsRefused p e x → Run p (e ∷ es) 0 p (Some x)

@@ -1,4 +1,4 @@
--- Worked examples: texts, and the texts of their normal forms and targets.
+-- Examples: texts, and the texts of their normal forms and targets.
 use Rattle.std.specs.Prelude.{ℕ, Bool, List, [], ◌∷◌, Option, Some, None, Result, Ok, Err, bytes_eq, codes}
 use Rattle.std.specs.Option.{option_map, option_and_then, option_eq}
 use Rattle.std.specs.List.{list_all}
@@ -8,7 +8,7 @@ use Rattle.uriparse_reference.specs.Key.{key}
 use Rattle.uriparse_reference.specs.Normal.{normal, is_normal}
 use Rattle.uriparse_reference.specs.Target.{target}
 
--- ---- what a text becomes
+-- ---- results for a text
 
 abbrev pub if_ok : {A E : Type 0} → Result A E → Option A
 if_ok (Ok x) = Some x
@@ -21,7 +21,7 @@ read t = if_ok (reading t)
 abbrev pub on_both : {A : Type 0} → (Parts → Parts → Option A) → List ℕ → List ℕ → Option A
 on_both f t u = option_and_then (λ p. option_and_then (λ q. f p q) (read u)) (read t)
 
--- its normal form, in the text that is printed of it
+-- the printed text of its normal form
 abbrev pub normalised : List ℕ → Option (List ℕ)
 normalised t = option_map (λ p. print (normal p)) (read t)
 
@@ -33,7 +33,7 @@ is_normalised t = option_map is_normal (read t)
 abbrev pub are_equal : List ℕ → List ℕ → Option Bool
 are_equal t u = on_both (λ p q. Some (bytes_eq (key p) (key q))) t u
 
--- the target of the reference behind the base
+-- the target of the reference against the base
 abbrev pub resolved : List ℕ → List ℕ → Option (List ℕ)
 resolved base reference = on_both (λ b r. option_map print (target b r)) base reference
 
@@ -46,7 +46,7 @@ abbrev pub normalised_first : List ℕ → List ℕ → Option (List ℕ)
 normalised_first base reference =
     on_both (λ b r. option_map (λ t. print (normal t)) (target (normal b) (normal r))) base reference
 
--- ---- rows of a text and its answer
+-- ---- rows of a text and its result
 
 pub record Row : Type 0 where
   pub text : List ℕ
@@ -55,7 +55,7 @@ pub record Row : Type 0 where
 abbrev pub row : List ℕ → List ℕ → Row
 row text answer = record { text = text; answer = answer }
 
--- each text has its answer
+-- Each text has its result.
 abbrev pub hold : (List ℕ → Option (List ℕ)) → List Row → Bool
 hold answer rows = list_all (λ r. option_eq bytes_eq (answer r.text) (Some r.answer)) rows
 
@@ -63,7 +63,7 @@ hold answer rows = list_all (λ r. option_eq bytes_eq (answer r.text) (Some r.an
 abbrev pub rfc_base : List ℕ
 rfc_base = codes "http://a/b/c/d;p?q"
 
--- Section 5.4.1. An empty path behind an authority is printed as "/".
+-- Section 5.4.1. An empty path after an authority is printed as "/".
 abbrev pub normal_rows : List Row
 normal_rows =
     row (codes "g:h") (codes "g:h")
@@ -129,7 +129,7 @@ normal_form_rows =
     ∷ row (codes "//h/a/..//b") (codes "//h//b")
     ∷ []
 
--- paths alone, and their normal forms, in which "./" keeps a colon or an empty segment from the front
+-- paths alone, and their normal forms, which get a leading "./" before a first segment that has a colon or is empty
 abbrev pub relative_form_rows : List Row
 relative_form_rows =
     row (codes "this/is/a/t%65st/path/%ff") (codes "this/is/a/test/path/%FF")

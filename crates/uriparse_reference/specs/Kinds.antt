@@ -1,15 +1,15 @@
--- Which kinds of references there are: RFC 3986, sections 4.1 to 4.3.
+-- The kinds of references: RFC 3986, sections 4.1 to 4.3.
 use Rattle.std.specs.Prelude.{Bool, not, ◌&&◌, is_some, is_none}
 use Rattle.uriparse_reference.specs.Reference.{Parts}
 
--- a reference is a URI, or else a relative reference
+-- A reference is a URI or a relative reference.
 abbrev pub is_uri : Parts → Bool
 is_uri p = is_some p.scheme
 
 abbrev pub is_relative_reference : Parts → Bool
 is_relative_reference p = is_none p.scheme
 
--- a relative reference begins with two slashes and an authority, or with an absolute path, or with a relative one
+-- A relative reference begins with two slashes and an authority, with an absolute path, or with a relative path.
 abbrev pub is_network_path_reference : Parts → Bool
 is_network_path_reference p = is_relative_reference p && is_some p.authority
 

@@ -12,12 +12,12 @@ use Rattle.uriparse_scheme.specs.Scheme as scheme
 use Rattle.uriparse_scheme.specs.Normal.{canonical_scheme}
 use Rattle.uriparse_reference.specs.Reference.{Parts, scheme_part, authority_part}
 
--- The path, to stand behind this authority. Where there is none, and the text would begin with two slashes, a "." stands in front.
+-- The path after this authority or none. Without an authority, a path that would start with "//" gets a leading "/.".
 abbrev pub shielded : Option authority.AuthorityParts → PathParts → PathParts
 shielded (Some a) p = p
 shielded None p = shield p
 
--- The normal form: each text in canonical spelling, and the normal form of the path, as of a reference without a scheme exactly where there is none.
+-- The normal form: each text in canonical spelling, and the normal form of the path, that of a schemeless reference's path without a scheme.
 abbrev pub normal : Parts → Parts
 normal p = record {
   scheme = option_map canonical_scheme p.scheme;
@@ -27,7 +27,7 @@ normal p = record {
   fragment = option_map canonical p.fragment;
 }
 
--- the same reference, each text in canonical spelling, with its path's dot segments
+-- the same reference with each text in canonical spelling; dot segments are kept
 abbrev pub canonical_texts : Parts → Parts
 canonical_texts p = record {
   scheme = option_map canonical_scheme p.scheme;
@@ -37,13 +37,13 @@ canonical_texts p = record {
   fragment = option_map canonical p.fragment;
 }
 
--- ---- which references are left as they are
+-- ---- references that are unchanged
 
--- the path is its own normal form where it stands
+-- the path is in its normal form, for this scheme and authority
 abbrev pub is_normal_path : Option authority.AuthorityParts → PathParts → Bool → Bool
 is_normal_path a p as_reference = path.is_normal_in (is_none a) p as_reference
 
--- each part has the text of its normal form
+-- Each component has the text of its normal form.
 abbrev pub is_normal : Parts → Bool
 is_normal p =
     option_eq bytes_eq (option_map scheme.canonical_text p.scheme) (scheme_part p)
@@ -52,9 +52,9 @@ is_normal p =
     && (option_eq bytes_eq (option_map canonical p.query) p.query
     && option_eq bytes_eq (option_map canonical p.fragment) p.fragment)))
 
--- ---- copies that are made before one is put in place: words of the clauses of private functions alone
+-- ---- copies that are made before any is put in place: words of the clauses of private functions alone
 
--- the copies are those of the authority, where there is one
+-- The copies are those of the authority, if it is present.
 abbrev pub AreCopiesIf : Option CanonicalCopies → Option authority.AuthorityParts → Type 0
 AreCopiesIf None None = Unit {0}
 AreCopiesIf None (Some a) = ⊥

@@ -1,4 +1,4 @@
--- What reading a text as a reference gives: its parts, or the fault of the first piece that has one.
+-- Reading a text as a reference: its components, or the first fault.
 use Rattle.std.specs.Prelude.{◌≡◌, ◌⊎◌, ℕ, Bool, List, Option, None, Result, Ok, Err, is_some}
 use Rattle.std.specs.Option.{option_map}
 use Rattle.uriparse_text.specs.Readings.{◌>>=◌, of_piece, if_present, fault_in, unless_fault}
@@ -17,13 +17,13 @@ use Rattle.uriparse_reference.specs.declared.uri_reference.error.URIReferenceErr
 use Rattle.uriparse_reference.specs.Reference.{Parts, path_of, path_refusal}
 use Rattle.uriparse_reference.specs.Cuts.{scheme_text, authority_text, path_text, query_text, fragment_text}
 
--- The path that a text stands for, with a scheme or not and an authority or not; or its fault, or else why it may not stand there.
+-- The path that a text stands for, with or without a scheme and an authority; or its fault, or else why it may not follow them.
 abbrev pub path_reading : Bool → Bool → List ℕ → Result PathParts URIReferenceError
 path_reading has_scheme has_authority h = do
   _ ← of_piece errors.Path (path.reading h)
   unless_fault (path_refusal has_scheme has_authority h) (path_of has_authority h)
 
--- the parts of a text, or the fault of the first piece that has one
+-- the components of a text, or the first fault
 unfoldable pub reading : List ℕ → Result Parts URIReferenceError
 reading t = do
   authority ← of_piece errors.Authority (if_present authority.reading (authority_text t))
@@ -38,21 +38,21 @@ fault t = fault_in (reading t)
 
 -- ---- words of the clauses of private functions alone: no public clause needs them
 
--- It is the right answer; or, where that is no fault, want of memory.
+-- The result is right; or, if the right one is no fault, memory ran out.
 abbrev pub IsUnlessMemory : {A : Type 0} → Result A URIReferenceError → Result A URIReferenceError → Type 0
 IsUnlessMemory answer right = (answer ≡ right) ⊎ ((fault_in right ≡ None) × (answer ≡ Err (errors.Path OutOfMemory)))
 
 abbrev pub IsAnswer : List ℕ → Result Parts URIReferenceError → Type 0
 IsAnswer t answer = IsUnlessMemory answer (reading t)
 
--- what reading gives of a query and a fragment
+-- reading a query and a fragment
 abbrev pub behind_reading : Option (List ℕ) → Option (List ℕ) → Result (Option (List ℕ) × Option (List ℕ)) URIReferenceError
 behind_reading q f = do
   query ← of_piece errors.Query (if_present query.reading q)
   fragment ← of_piece errors.Fragment (if_present fragment.reading f)
   Ok (query, fragment)
 
--- what reading gives of the pieces behind the authority, where there is a scheme or not and an authority or not
+-- reading the components that follow the authority, with or without a scheme and an authority
 abbrev pub tail_reading : Bool → Bool → List ℕ → Option (List ℕ) → Option (List ℕ)
     → Result (PathParts × Option (List ℕ) × Option (List ℕ)) URIReferenceError
 tail_reading has_scheme has_authority h q f = do
@@ -61,12 +61,12 @@ tail_reading has_scheme has_authority h q f = do
   fragment ← of_piece errors.Fragment (if_present fragment.reading f)
   Ok (path, query, fragment)
 
--- the same of the text that they stand in
+-- the same for the text of these components
 abbrev pub text_tail : Bool → Bool → List ℕ → Result (PathParts × Option (List ℕ) × Option (List ℕ)) URIReferenceError
 text_tail has_scheme has_authority u =
     tail_reading has_scheme has_authority (up_to ends_path u) (after question_mark (before number_sign u)) (after number_sign u)
 
--- the parts of a text that were found in it
+-- the components that were found in a text
 abbrev pub parts_of : List ℕ → Option authority.AuthorityParts → List ℕ → Option (List ℕ) → Option (List ℕ) → Parts
 parts_of t a h q f =
     record { scheme = option_map scheme.named (scheme_text t); authority = a; path = path_of (is_some a) h; query = q; fragment = f }

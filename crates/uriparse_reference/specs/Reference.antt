@@ -1,4 +1,4 @@
--- A reference, the texts that spell it, and its text: RFC 3986, sections 3, 3.3, 4.1, 4.2 and 5.3.
+-- A reference, the texts that spell it, and its printed text: RFC 3986, sections 3, 3.3, 4.1, 4.2 and 5.3.
 use Rattle.std.specs.Prelude.{◌≡◌, ℕ, Bool, true, false, ◌||◌, if◌then◌else◌, List, [], ◌∷◌, ◌++◌, Option, Some, None, IfSome, is_some}
 use Rattle.std.specs.Option.{option_map, option_and_then, IsSomeAnd}
 use Rattle.uriparse_text.specs.Bytes.{slash, colon, question_mark, number_sign}
@@ -17,7 +17,7 @@ use Rattle.uriparse_scheme.specs.Scheme as scheme
 use Rattle.uriparse_reference.specs.declared.uri_reference.error.URIReferenceError.{URIReferenceError}
 use Rattle.uriparse_reference.specs.declared.uri_reference.error.URIReferenceError.TheVariants as errors
 
--- the five parts, without where they lie in memory
+-- the five components of a reference, as values
 pub record Parts : Type 0 where
   pub scheme : Option Scheme
   pub authority : Option authority.AuthorityParts
@@ -25,7 +25,7 @@ pub record Parts : Type 0 where
   pub query : Option (List ℕ)
   pub fragment : Option (List ℕ)
 
--- the parts of the authority, where there is one
+-- the components of the authority, if it is present
 abbrev pub username_of : Parts → Option (List ℕ)
 username_of p = option_and_then (λ (a : authority.AuthorityParts). a.username) p.authority
 
@@ -53,12 +53,12 @@ abbrev pub is_abempty : List ℕ → Bool
 is_abempty [] = true
 is_abempty (b ∷ t) = path.is_slash b
 
--- path-noscheme, or path-absolute: no colon stands in the first segment. Nothing stands before a slash that begins the text.
+-- path-noscheme, or path-absolute: the first segment has no colon. Before a leading slash there is no byte.
 abbrev pub is_noscheme : List ℕ → Bool
 is_noscheme h = lacks colon (up_to path.is_slash h)
 
--- Why a path with this text may not stand in a reference that has a scheme or not, and an authority or not: without an authority it begins
--- with two slashes, or without a scheme too it is no path-noscheme. Behind an authority each path can be made path-abempty, by a slash in front.
+-- Why a path with this text may not be in a reference with or without a scheme and an authority: without an authority it begins with two
+-- slashes, or without a scheme too it is not a path-noscheme. After an authority a leading slash makes any path a path-abempty.
 abbrev pub path_refusal : Bool → Bool → List ℕ → Option URIReferenceError
 path_refusal has_scheme true path = None
 path_refusal has_scheme false path =
@@ -66,12 +66,12 @@ path_refusal has_scheme false path =
     else if has_scheme || is_noscheme path then None
     else Some errors.SchemelessPathStartsWithColonSegment
 
--- the path that its text stands for: behind an authority it is absolute
+-- the path that its text stands for: with an authority it is absolute
 abbrev pub path_of : Bool → List ℕ → path.PathParts
 path_of true h = path.made_absolute (path.spelled h)
 path_of false h = path.spelled h
 
--- The text is made of these pieces, and each stands for its part.
+-- The text consists of these component texts, and each spells its component.
 pub record Spells (t : List ℕ) (p : Parts) : Type 0 where
   pub scheme_text : Option (List ℕ)
   pub authority_text : Option (List ℕ)
@@ -86,14 +86,14 @@ pub record Spells (t : List ℕ) (p : Parts) : Type 0 where
   pub is_fragment : IfSome p.fragment IsFragment
   pub path : p.path ≡ path_of (is_some authority_text) path_text
 
--- the texts of the scheme and the authority that a reference has
+-- the texts of the scheme and the authority of a reference
 abbrev pub scheme_part : Parts → Option (List ℕ)
 scheme_part p = option_map scheme.text p.scheme
 
 abbrev pub authority_part : Parts → Option (List ℕ)
 authority_part p = option_map authority.print p.authority
 
--- Each part is of its class. Behind an authority the path is absolute; it hides no slash, and may stand where it does.
+-- Each component is valid. With an authority the path is absolute. The path hides no slash, and may follow this scheme and authority.
 pub record Valid (p : Parts) : Type 0 where
   pub is_scheme : IfSome p.scheme scheme.Valid
   pub is_authority : IfSome p.authority authority.Valid
@@ -104,15 +104,15 @@ pub record Valid (p : Parts) : Type 0 where
   pub is_query : IfSome p.query IsQuery
   pub is_fragment : IfSome p.fragment IsFragment
 
--- the printed text of its authority, if it has one, stands for it
+-- The printed text of its authority, if present, reads back.
 abbrev pub ReadsBack : Parts → Type 0
 ReadsBack p = IfSome p.authority authority.ReadsBack
 
--- its host is a name whose text spells an IPv4 address
+-- Its host is a name whose text spells an IPv4 address.
 abbrev pub HidesAddress : Parts → Type 0
 HidesAddress p = IsSomeAnd (host_of p) host.IsHiddenAddress
 
--- both have hosts, and one of these holds as a name what the other holds as an IPv4 address
+-- Both have hosts, and one has as a name what the other has as an IPv4 address.
 abbrev pub OneHidesAddress : Parts → Parts → Type 0
 OneHidesAddress p q = IsSomeAnd (host_of p) (λ g. IsSomeAnd (host_of q) (λ h. host.OneHidesAddress g h))
 
@@ -120,7 +120,7 @@ OneHidesAddress p q = IsSomeAnd (host_of p) (λ g. IsSomeAnd (host_of q) (λ h. 
 abbrev pub print : Parts → List ℕ
 print p = joined (scheme_part p) (authority_part p) (path.text p.path) p.query p.fragment
 
--- its text with each part in canonical spelling
+-- the text with each component in canonical spelling
 abbrev pub canonical_text : Parts → List ℕ
 canonical_text p =
     joined (option_map scheme.canonical_text p.scheme) (option_map authority.canonical_text p.authority) (canonical (path.text p.path))
@@ -130,7 +130,7 @@ canonical_text p =
 abbrev pub kind : Parts → Option host.Kind
 kind p = option_map authority.kind p.authority
 
--- one canonical text, and no host or hosts of one kind
+-- the same canonical text, and no host or hosts of one kind
 pub record Same (p q : Parts) : Type 0 where
   pub spelling : canonical_text p ≡ canonical_text q
   pub kinds : kind p ≡ kind q

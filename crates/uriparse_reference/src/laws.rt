@@ -1,5 +1,4 @@
-//! Laws of the definitions that contracts cite. Each function has nothing to do: its contract is
-//! the law.
+//! Laws about the definitions in `specs/`. The functions have no body: the contract is the law.
 ghost use Rattle.std.specs.Prelude.{◌≡◌, ◌↔◌, ◌⊎◌, ◌<◌, ◌≤◌, ◌∷◌, ◌++◌, ℕ, List, [], Option, None, Some, Ok, IfSome, is_some, length, true, false, codes};
 ghost use Rattle.uriparse_text.specs.Bytes.{slash, question_mark, number_sign};
 ghost use Rattle.uriparse_text.specs.Cuts.{lacks, none_pass};
@@ -23,8 +22,8 @@ ghost use Rattle.uriparse_reference.specs.Reading.{reading, fault};
 ghost use Rattle.uriparse_reference.specs.Normal.{normal, is_normal};
 ghost use Rattle.uriparse_reference.specs.Target.{through_last_slash, merge, target, is_merged, MergesAlike, AreSame};
 
-/// A text spells at most one reference; reading gives it exactly where there is one, and else a
-/// fault. What is spelled is valid.
+/// A text spells at most one reference. Reading returns that reference if there is one, and a fault
+/// otherwise. What a text spells is valid.
 pub fn one_reading()
     ensures one { (t : List ℕ) (p q : Parts) → Spells t p → Spells t q → p ≡ q }
     ensures reads { (t : List ℕ) (p : Parts) → (reading t ≡ Ok p) ↔ Spells t p }
@@ -32,9 +31,9 @@ pub fn one_reading()
     ensures valid { (t : List ℕ) (p : Parts) → Spells t p → Valid p }
 {}
 
-/// No text's fault is that of a scheme, or a missing path, or a path of two slashes: what begins
-/// with no scheme belongs to the path, each text has a path, and two slashes begin an authority. Nor
-/// is it want of memory.
+/// The fault of a text never concerns the scheme, a missing path or a path with two leading
+/// slashes: a text without a scheme begins with its authority or path, each text has a path, and
+/// two slashes begin an authority. It is never `OutOfMemory` either.
 pub fn faults_of_reading()
     ensures slashes { (t : List ℕ) → fault t ≡ Some errors.AbsolutePathStartsWithTwoSlashes → ⊥ }
     ensures missing { (t : List ℕ) → fault t ≡ Some errors.MissingPath → ⊥ }
@@ -42,9 +41,9 @@ pub fn faults_of_reading()
     ensures memory { (t : List ℕ) → fault t ≡ Some (errors.Path OutOfMemory) → ⊥ }
 {}
 
-/// Every text is its pieces put together: before a `:` a scheme, if it is one; behind two slashes
-/// an authority that lacks the bytes that end it; a path that lacks `?` and `#`; a query that lacks
-/// `#`; a fragment.
+/// Every text is the concatenation of its components: a scheme before a `:`, if it is one; after
+/// two slashes an authority without the bytes that end one; a path without `?` and `#`; a query
+/// without `#`; a fragment.
 pub fn one_cut()
     ensures whole { (t : List ℕ) → t ≡ joined (scheme_text t) (authority_text t) (path_text t) (query_text t) (fragment_text t) }
     ensures scheme { (t : List ℕ) → IfSome (scheme_text t) (λ s. is_scheme s ≡ true) }
@@ -53,9 +52,9 @@ pub fn one_cut()
     ensures query { (t : List ℕ) → IfSome (query_text t) (λ q. lacks number_sign q ≡ true) }
 {}
 
-/// What a text spells reads back: its own printed text spells it. So does that of each valid
+/// What a text spells reads back: its own printed text spells it. The same holds for each valid
 /// reference, unless its host is a name whose text spells an IPv4 address. Two valid references
-/// that print alike are one, unless one of them holds as a name what the other holds as an IPv4
+/// with the same printed text are equal, unless one has as a name what the other has as an IPv4
 /// address.
 pub fn reading_back()
     ensures spelled { (t : List ℕ) (p : Parts) → Spells t p → ReadsBack p }
@@ -64,17 +63,17 @@ pub fn reading_back()
     ensures one { (p q : Parts) → Valid p → Valid q → print p ≡ print q → (p ≡ q) ⊎ OneHidesAddress p q }
 {}
 
-/// Two references have one key exactly where they are the same: where their canonical texts agree,
-/// and they have no host or hosts of one kind. What a Hasher is fed for a valid one, part by part,
-/// is told by the key alone.
+/// Two references have the same key if and only if they are the same: their canonical texts agree,
+/// and they have no host or hosts of one kind. For a valid reference the key alone determines what
+/// a `Hasher` is fed, component by component.
 pub fn one_key()
     ensures same { (p q : Parts) → (key p ≡ key q) ↔ Same p q }
     ensures fed { (p : Parts) → Valid p → fed_key (key p) ≡ fed p }
 {}
 
-/// The normal form of a valid reference is valid, its own normal form, and has a host of the same
-/// kind and no more segments. A reference prints as its normal form exactly where it is normal, and
-/// then it is that form.
+/// The normal form of a valid reference is valid and its own normal form. It has a host of the same
+/// kind and no more segments. A reference prints as its normal form if and only if it is normal,
+/// and then it is equal to that form.
 pub fn one_normal_form()
     ensures valid { (p : Parts) → Valid p → Valid (normal p) }
     ensures twice { (p : Parts) → Valid p → normal (normal p) ≡ normal p }
@@ -84,10 +83,10 @@ pub fn one_normal_form()
     ensures kept { (p : Parts) → Valid p → is_normal p ≡ true → normal p ≡ p }
 {}
 
-/// The target of a valid reference behind a valid base, which has a scheme, is valid. That of a
-/// reference with a scheme is the same behind any base. There is none exactly where paths are
-/// merged and have too many segments then. What is merged of the base's path ends with its last
-/// slash.
+/// The target of a valid reference against a valid base with a scheme is valid. The target of a
+/// reference with a scheme does not depend on the base. There is no target if and only if paths are
+/// merged and the result has too many segments. The part of the base's path that is merged ends
+/// with its last slash.
 pub fn one_target()
     ensures valid { (b r : Parts) → Valid b → Valid r → is_some b.scheme ≡ true → IfSome (target b r) Valid }
     ensures alone { (b c r : Parts) → is_some r.scheme ≡ true → target b r ≡ target c r }
@@ -96,72 +95,71 @@ pub fn one_target()
     ensures no_slash { (s : List ℕ) → LacksSlash s → through_last_slash s ≡ [] }
 {}
 
-/// Where paths are merged, section 5.2.3's text is that of the base's segments but for the last one
-/// and then the reference's, and spells these.
+/// If paths are merged, the text of section 5.2.3 is that of the base's segments except the last
+/// one, followed by the reference's segments, and spells these.
 pub fn one_merge()
     ensures text { (b r : Parts) → Valid b → Valid r → is_merged r ≡ true → merge b r ≡ text (merged b.path r.path) }
     ensures path { (b r : Parts) → Valid b → Valid r → is_merged r ≡ true → spelled (merge b r) ≡ merged b.path r.path }
     ensures row { through_last_slash (codes "/b/c//d;p") ++ codes "../g" ≡ text (merged (spelled (codes "/b/c//d;p")) (spelled (codes "../g"))) }
 {}
 
-/// References that are the same have the same target behind bases that are, or both have none, and
-/// their normal forms print alike, with hosts of one kind: they have one normal form.
+/// Equal references have equal targets against equal bases, or both have none. Their normal forms
+/// have the same printed text and hosts of one kind: they have one normal form.
 pub fn equal_in_equal_out()
     ensures targets { (b c r q : Parts) → Valid b → Valid c → Valid r → Valid q → Same b c → Same r q → AreSame (target b r) (target c q) }
     ensures normal { (p q : Parts) → Valid p → Valid q → Same p q → (print (normal p) ≡ print (normal q)) × (kind (normal p) ≡ kind (normal q)) }
     ensures one { (p q : Parts) → Valid p → Valid q → Same p q → normal p ≡ normal q }
 {}
 
-/// Normalising commutes with resolving. Where a reference has a target behind a base, so has its
-/// normal form behind that of the base, and these targets have one normal form; where paths are
-/// merged, only if the base's path begins with a slash and doesn't end in a double dot segment, and
-/// the reference's normal form has a path that isn't empty.
+/// Normalizing commutes with resolving. If a reference has a target against a base, its normal form
+/// has one against the base's normal form, and the two targets have the same normal form. If paths
+/// are merged, this holds only if the base's path begins with a slash and does not end in a double
+/// dot segment, and the path of the reference's normal form is not empty.
 pub fn normalising_commutes()
     ensures { (b r t : Parts) → Valid b → Valid r → is_some b.scheme ≡ true → (is_merged r ≡ true → MergesAlike b r) → target b r ≡ Some t → (u : Parts) × (target (normal b) (normal r) ≡ Some u) × (normal t ≡ normal u) }
 {}
 
-/// The parts of a valid reference make it. An edit makes of it what its parts make with one of them
-/// replaced, or is refused as they are.
+/// The components of a valid reference build that reference. An edit returns what the components
+/// build with one of them replaced, or the same error.
 pub fn one_edit()
     ensures own { (p : Parts) → Valid p → of_parts p ≡ Ok p }
     ensures replaced { (p : Parts) (e : Edit) → Valid p → edited p e ≡ of_parts (replaced p e) }
 {}
 
-/// The parts of a valid reference, held by a builder, build it again.
+/// A builder with the components of a valid reference builds that reference.
 pub fn one_build()
     ensures { (p : Parts) → Valid p → built (held p) ≡ Ok p }
 {}
 
-/// A list of edits has one outcome: how many are accepted, the parts that they make, and the
-/// refusal of the next one, if there is one; save that a normal form may have wanted memory.
+/// A list of edits has one outcome: the number of accepted edits, the resulting components, and the
+/// error of the next edit, if any; except that normalizing may run out of memory.
 pub fn one_run()
     ensures { (p q r : Parts) (es : List Edit) (n m : ℕ) (o u : Option URIReferenceError) → Run p es n q o → Run p es m r u → IsWant o ⊎ (IsWant u ⊎ ((n ≡ m) × (q ≡ r) × (o ≡ u))) }
 {}
 
-/// Worked examples of targets: those of sections 5.4.1 and 5.4.2, and others.
+/// Examples of targets: those of sections 5.4.1 and 5.4.2, and others.
 pub fn target_examples()
     ensures normal { hold (resolved rfc_base) normal_rows ≡ true }
     ensures abnormal { hold (resolved rfc_base) abnormal_rows ≡ true }
-    // No empty segment goes with the merge, and a path that would begin with two slashes is kept
-    // from it.
+    // Merging keeps empty segments, and a path that would start with `//` gets a leading `/.`.
     ensures empty_segment { resolved (codes "http://a//x") (codes "g") ≡ Some (codes "http://a//g") }
     ensures two_slashes { resolved (codes "s:/a/b") (codes "..//c") ≡ Some (codes "s:/.//c") }
-    // The base's own path is kept as it is, and its fragment goes.
+    // The base's path is kept unchanged, and its fragment is dropped.
     ensures kept_dots { resolved (codes "http://a/b/../c") (codes "") ≡ Some (codes "http://a/b/../c") }
     ensures no_fragment { resolved (codes "http://a/b#z") (codes "") ≡ Some (codes "http://a/b") }
     ensures empty_path { resolved (codes "http://h") (codes "?y") ≡ Some (codes "http://h/?y") }
-    // Escaped dots are dots, and nothing else is normalised.
+    // Percent-encoded dots are dots, and nothing else is normalized.
     ensures escaped_dots { resolved (codes "http://a/b/c") (codes "%2E%2e/g") ≡ Some (codes "http://a/g") }
     ensures not_normalised { resolved (codes "http://a/") (codes "%7e") ≡ Some (codes "http://a/%7e") }
-    // A base's path without a slash gives nothing to the merge.
+    // A base's path without a slash contributes nothing to the merge.
     ensures no_slash { resolved (codes "s:a") (codes "..") ≡ Some (codes "s:") }
     ensures colon { resolved (codes "s:a") (codes "./c:d") ≡ Some (codes "s:c:d") }
     ensures relative_base { resolved (codes "s:a/b") (codes "c") ≡ Some (codes "s:a/c") }
     ensures above_relative_base { resolved (codes "s:a/b") (codes "..") ≡ Some (codes "s:/") }
 {}
 
-/// Worked examples of normal forms and of equality. Dot segments count for equality, and a name
-/// isn't the address that it spells once it is normalised.
+/// Examples of normal forms and of equality. Dot segments count for equality. A name does not equal
+/// the address that its normal form spells.
 pub fn normal_examples()
     ensures forms { hold normalised normal_form_rows ≡ true }
     ensures relative_forms { hold normalised relative_form_rows ≡ true }
@@ -176,9 +174,9 @@ pub fn normal_examples()
     ensures unequal_slash { are_equal (codes "/a") (codes "a") ≡ Some false }
 {}
 
-/// Worked examples of the law of commutation, and of its three premises, none of which can be
-/// dropped: a base's path that doesn't begin with a slash, one that ends in a double dot segment,
-/// and a reference's path whose normal form is empty.
+/// Examples of the law of commutation, and counterexamples without one of its three premises: a
+/// base's path that does not begin with a slash, one that ends in a double dot segment, and a
+/// reference's path whose normal form is empty.
 pub fn commutation_examples()
     ensures target { resolved_first (codes "http://a/b/./c") (codes "../%7e/./g") ≡ Some (codes "http://a/~/g") }
     ensures target_again { normalised_first (codes "http://a/b/./c") (codes "../%7e/./g") ≡ Some (codes "http://a/~/g") }

@@ -1,4 +1,4 @@
-//! What the crate above builds on. Users have no need of it.
+//! What the crate above builds on. Not for users.
 
 pub use crate::uri_reference::read::{FoundTail, Pieces, find_pieces};
 pub use crate::uri_reference::relate::relativize;

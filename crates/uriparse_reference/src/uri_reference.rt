@@ -42,13 +42,13 @@ pub use error::URIReferenceError;
 use print::{len_of_scheme, most_of_authority, write_authority, write_behind, write_scheme};
 use read::find_pieces;
 
-/// A URI reference, seen as its five parts: a URI or a relative reference. RFC 3986, section 4.1.
+/// A URI reference by its five components: a URI or a relative reference. RFC 3986, section 4.1.
 ///
-/// Its parts borrow the text that it was read from, or own their texts: reading takes memory for the
-/// list of the path's segments alone, a copy that owns its texts and a normal form for texts too.
-/// Each value is valid, and what it prints reads back as an equal value, but where its host is a
-/// name that spells an IPv4 address, as none is that was read. Two references are equal where their
-/// hosts, if they have any, are of one kind and the canonical spellings of their texts agree. Dot
+/// The components borrow the text that was read, or own their texts. Reading allocates only for the
+/// list of the path's segments; a copy that owns its texts and a normal form allocate for texts
+/// too. Each value is valid, and its printed text reads back as an equal value, unless its host is
+/// a name that spells an IPv4 address, which no host that was read is. Two references are equal if
+/// the canonical spellings of their texts agree and their hosts, if any, are of one kind. Dot
 /// segments count.
 ///
 /// ```
@@ -80,36 +80,36 @@ impl<'r> URIReference<'r> {
     ghost use Rattle.uriparse_reference.specs.Reference.{Parts, Spells, Valid};
     ghost use Rattle.uriparse_reference.specs.declared.uri_reference.error.URIReferenceError.{URIReferenceError};
 
-    /// Reads a reference, whose parts borrow the bytes: RFC 3986, section 4.1. Only the list of
-    /// segments wants memory.
+    /// Reads a reference, which borrows the bytes: RFC 3986, section 4.1. Allocates only for the
+    /// list of segments.
     ///
-    /// The first part that has a fault is answered, in the order authority, path, colon rule,
-    /// query, fragment. By the colon rule (section 4.2) no colon stands before the path's first
-    /// slash where there is neither scheme nor authority: else
-    /// [`SchemelessPathStartsWithColonSegment`](URIReferenceError::SchemelessPathStartsWithColonSegment)
-    /// is answered. Each other fault stands in the variant of its part. Where there is none, and no
-    /// memory for the list, [`Path`](URIReferenceError::Path) with
-    /// [`OutOfMemory`](uriparse_path::path::PathError::OutOfMemory) is answered.
+    /// Returns the first fault, in the order authority, path, colon rule, query, fragment. By the
+    /// colon rule (section 4.2), without a scheme and an authority no colon precedes the path's
+    /// first slash; else the error is
+    /// [`SchemelessPathStartsWithColonSegment`](URIReferenceError::SchemelessPathStartsWithColonSegment).
+    /// Each other fault is in the variant of its component. If there is no fault but memory runs
+    /// out, the error is [`Path`](URIReferenceError::Path) with
+    /// [`OutOfMemory`](uriparse_path::path::PathError::OutOfMemory).
     pub fn try_from_bytes(
         alloc: Global,
         bytes: &'r [u8],
     ) -> Result<URIReference<'r>, URIReferenceError>
-        // What is read is what the grammar spells.
+        // What is read is spelled by the text.
         ensures found { IfOk result (λ r. Spells bytes.now r) }
 
-        // What the grammar spells is read, unless memory runs out.
+        // What the text spells is read, unless memory runs out.
         ensures only { (p : Parts) → Spells bytes.now p → IsUnless (errors.Path OutOfMemory) result (Ok p) }
 
-        // A refusal is the text's fault, or want of memory.
+        // An error is the text's fault, or memory ran out.
         ensures fault { IfErr result (λ e. (fault bytes.now ≡ Some e) ⊎ (e ≡ errors.Path OutOfMemory)) }
 
-        // A fault is answered whatever memory there is.
+        // A fault is returned even if memory has run out.
         ensures always { (e : URIReferenceError) → fault bytes.now ≡ Some e → result ≡ Err e }
     {
         Self::read(alloc, bytes)
     }
 
-    /// The same for a text.
+    /// Like [`try_from_bytes`](URIReference::try_from_bytes), for a `str`.
     pub fn try_from_str(alloc: Global, text: &'r str) -> Result<URIReference<'r>, URIReferenceError>
         ensures found { IfOk result (λ r. Spells text.now r) }
         ensures only { (p : Parts) → Spells text.now p → IsUnless (errors.Path OutOfMemory) result (Ok p) }
@@ -119,9 +119,8 @@ impl<'r> URIReference<'r> {
         Self::read(alloc, text.as_bytes())
     }
 
-    /// Checks whether a text is a reference, as [`try_from_bytes`](URIReference::try_from_bytes)
-    /// reads it: nothing is answered where it is one, else the text's fault. Takes no memory, and so
-    /// never answers want of it.
+    /// Checks that a text is a reference, as [`try_from_bytes`](URIReference::try_from_bytes) reads
+    /// it, and returns its fault if it is not. Does not allocate, so it never runs out of memory.
     pub fn check(bytes: &[u8]) -> Result<(), URIReferenceError>
         ensures { result ≡ unless_fault (fault bytes.now) tt }
     {
@@ -228,8 +227,8 @@ impl<'r> URIReference<'r> {
         self.fragment.as_ref()
     }
 
-    /// How many bytes the reference's text has at most: those of its parts, a `:`, two slashes, a
-    /// `?` and a `#`; or the most that a number holds.
+    /// An upper bound for the number of bytes of the reference's text: those of its components, a
+    /// `:`, two slashes, a `?` and a `#`; or `usize::MAX`.
     fn most_bytes(&self) -> usize
         ensures { length (print self.now) ≤ result ⊎ result ≡ usize.MAX }
     {
@@ -241,7 +240,7 @@ impl<'r> URIReference<'r> {
             .saturating_add(most_path_bytes(&self.path))
     }
 
-    /// A copy of the reference's text, which wants memory.
+    /// Writes the reference's text into a new `String`. Allocates.
     pub fn to_string(&self, alloc: Global) -> Result<String, AllocError>
         ensures { IfOk result (λ s. string_bytes s ≡ print self.now) }
     {
@@ -250,7 +249,7 @@ impl<'r> URIReference<'r> {
         Ok(text)
     }
 
-    /// Whether scheme, fragment and query are each spelled like the other's.
+    /// Whether the schemes, fragments and queries are equal, each in canonical spelling.
     fn has_ends_alike(&self, other: &URIReference<'r>) -> bool
         ensures valid { Valid self.now × Valid other.now }
         ensures test { result ≡ ends_alike self.now other.now }
@@ -258,14 +257,14 @@ impl<'r> URIReference<'r> {
         self.scheme == other.scheme && self.fragment == other.fragment && self.query == other.query
     }
 
-    /// Whether authority and path are each spelled like the other's.
+    /// Whether the authorities and paths are equal, each in canonical spelling.
     fn has_middle_alike(&self, other: &URIReference<'r>) -> bool
         ensures { result ≡ middle_alike self.now other.now }
     {
         self.authority == other.authority && self.path == other.path
     }
 
-    /// Whether each part is spelled like the other's. The shortest ones are compared first.
+    /// Whether the components are equal, each in canonical spelling. Compares the shortest first.
     fn is_each_alike(&self, other: &URIReference<'r>) -> bool
         ensures test { result ≡ each_alike self.now other.now }
         ensures valid { Valid self.now × Valid other.now }
@@ -308,7 +307,7 @@ impl<'r> Hash for URIReference<'r> {
 impl<'r> fmt::Display for URIReference<'r> {
     ghost output = { λ r. Some (print r) };
 
-    // No option of the formatter changes it.
+    // The formatter's options do not change the output.
     ghost styled_output = { λ r _. Some (print r) };
 
     fn fmt<W: fmt::Write>(&self, f: &mut fmt::Formatter<W>) -> fmt::Result {

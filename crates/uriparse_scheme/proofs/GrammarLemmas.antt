@@ -1,4 +1,4 @@
--- What a text that is a scheme is known to be.
+-- Properties of a text that is a scheme.
 use Rattle.std.proofs.Common.{◌≡◌, ◌↔◌, ℕ, ◌<◌, Bool, true, not, List, [], ◌∷◌, IsUtf8, refl, ap, ◌∙◌, arith}
 use Rattle.std.specs.Prelude.{◌==◌, IsTrue, bytes_eq}
 use Rattle.std.specs.Char.{is_ascii_alphabetic, to_ascii_lowercase}
@@ -25,7 +25,7 @@ byte_not_percent b h = grind (arith, nat_tests)
 letter_is_byte : (b : ℕ) → is_ascii_alphabetic b ≡ true → is_scheme_byte b ≡ true
 letter_is_byte b h = grind (arith, nat_tests)
 
--- each byte of a scheme has a place in one
+-- each byte of a scheme is a scheme byte
 pub scheme_bytes : (t : List ℕ) → is_scheme t ≡ true → list_all is_scheme_byte t ≡ true
 scheme_bytes [] h = refl
 scheme_bytes (b ∷ t) h =
@@ -41,7 +41,7 @@ ascii (b ∷ t) h =
 pub IsUtf8-scheme : (t : List ℕ) → is_scheme t ≡ true → IsUtf8 t
 IsUtf8-scheme t h = IsUtf8-from_ascii t (ascii t (scheme_bytes t h))
 
--- a scheme has no escapes
+-- a scheme has no percent-encoded octets
 pub scheme_lacks : (t : List ℕ) → is_scheme t ≡ true → lacks percent t ≡ true
 scheme_lacks t h = weaker is_scheme_byte (λ b. not (b == percent)) byte_not_percent t (scheme_bytes t h)
 
@@ -52,7 +52,7 @@ well_formed-scheme t h = well_formed-plain t (scheme_lacks t h)
 pub canonical_low_of_scheme : (t : List ℕ) → is_scheme t ≡ true → canonical_lowered t ≡ str_to_ascii_lowercase t
 canonical_low_of_scheme t h = canonical_lowered-plain t (scheme_lacks t h)
 
--- ---- in lower case it is a scheme
+-- ---- a scheme in lower case is a scheme
 
 letter-lowered : (b : ℕ) → is_ascii_alphabetic b ≡ true → is_ascii_alphabetic (to_ascii_lowercase b) ≡ true
 letter-lowered b h = grind (arith, nat_tests)

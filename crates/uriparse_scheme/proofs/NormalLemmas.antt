@@ -17,7 +17,7 @@ pub text-canonical : (s : Scheme) → text (canonical_scheme s) ≡ canonical_te
 text-canonical (Registered s) = sym (canonical_name s)
 text-canonical (Unregistered t) = refl
 
--- in lower case an unregistered scheme is one
+-- an unregistered scheme in lower case is one
 pub unregistered-canonical_lowered : (t : List ℕ) → IsUnregistered t → IsUnregistered (canonical_lowered t)
 unregistered-canonical_lowered t v =
     let is : is_scheme (canonical_lowered t) ≡ true = is_scheme-canonical_lowered t v.scheme in
@@ -38,7 +38,7 @@ pub canonical_twice : (s : Scheme) → Valid s → canonical_scheme (canonical_s
 canonical_twice (Registered s) v = refl
 canonical_twice (Unregistered t) v = ap Unregistered (canonical_in-canonical_in Lowered t (well_formed-scheme t v.scheme))
 
--- a scheme with the text of its normal form is that form
+-- a scheme with the text of its normal form is in normal form
 pub canonical_kept : (s : Scheme) → text (canonical_scheme s) ≡ text s → canonical_scheme s ≡ s
 canonical_kept (Registered s) e = refl
 canonical_kept (Unregistered t) e = ap Unregistered e

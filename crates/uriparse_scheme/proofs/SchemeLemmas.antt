@@ -1,4 +1,4 @@
--- Reading a scheme, and why a text is none.
+-- Reading a scheme, and why a text is not one.
 use Rattle.std.proofs.Common.{
   ◌≡◌,
   ◌↔◌,
@@ -52,7 +52,7 @@ no_faults true true = (λ _. refl, λ _. refl)
 no_faults true false = (λ h. cc, λ h. cc)
 no_faults false w = (λ h. cc, λ h. cc)
 
--- a text has no fault exactly where it is a scheme
+-- a text has no fault if and only if it is a scheme
 pub no_fault : (t : List ℕ) → (fault t ≡ None) ↔ (is_scheme t ≡ true)
 unfolding fault
 no_fault [] = (λ h. cc, λ h. cc)
@@ -101,7 +101,7 @@ reads t s = (
 
 -- ---- unregistered schemes
 
--- no fault, and no name of the table
+-- no fault, and no name in the table
 pub unregistered_from : (t : List ℕ) → fault t ≡ None → registered_named (str_to_ascii_lowercase t) ≡ None → IsUnregistered t
 unregistered_from t none lacks = record { scheme = (no_fault t).0 none; nameless = lacks }
 
@@ -154,7 +154,7 @@ begins (b ∷ rest) h = record { first = b; rest = rest; whole = refl; here = fi
 pub fault_first : (t : List ℕ) → (fault t ≡ Some StartsWithNonAlphabetic) ↔ BeginsWithNoLetter t
 fault_first t = (begins t, λ r. ap fault r.whole ∙ no_letter r.first r.rest r.here)
 
--- where not each byte has a place in a scheme, one has none
+-- if not all bytes are scheme bytes, there is one that is not
 record StraysIn (t : List ℕ) : Type 0 where
   before : List ℕ
   stray : ℕ

@@ -1,4 +1,4 @@
--- That the names of the table rise, and what a binary search over such a list finds.
+-- The names in the table are sorted, and what a binary search over such a list finds.
 use Rattle.std.proofs.Common.{
   ◌≡◌,
   ℕ,
@@ -62,7 +62,7 @@ less Less h = refl
 less Equal h = cc
 less Greater h = cc
 
--- what is below the first name is below each
+-- a text below the first name is below each
 below : (x y : List ℕ) (ys : List (List ℕ)) → slice_cmp nat_cmp x y ≡ Less → rises (y ∷ ys) ≡ true →
     AllByRecursion (λ z. slice_cmp nat_cmp x z ≡ Less) (y ∷ ys)
 unfolding rises
@@ -122,7 +122,7 @@ index_le Less = omega arith
 index_le Equal = omega arith
 index_le Greater = omega arith
 
--- a smaller name has no greater answer
+-- a smaller name compares no greater with a text
 rank_le : (x y t : List ℕ) → order x y ≡ Less → ordering_index (order x t) ≤ ordering_index (order y t)
 rank_le x y t lt = by (order y t) refl
   where

@@ -1,4 +1,4 @@
--- What holds of each registered scheme, from what the table computes to.
+-- Properties of each registered scheme, by computing the table.
 use Rattle.std.proofs.Common.{◌≡◌, ◌↔◌, ℕ, ◌<◌, Bool, true, false, cond, List, [], ◌∷◌, length, get_or, Some, refl, sym, ap, ◌∙◌, subst, arith, ⊎_elim}
 use Rattle.std.specs.Prelude.{bytes_eq}
 use Rattle.std.specs.List.{find, slice_get, position_or_len}
@@ -22,7 +22,7 @@ use Rattle.uriparse_scheme.specs.Grammar.{is_scheme}
 use Rattle.uriparse_scheme.proofs.GrammarLemmas.{canonical_low_of_scheme}
 use Rattle.uriparse_scheme.proofs.SortedLemmas.{names_sorted, sorted_at}
 
--- ---- each row, one by one: the first clause splits the rest into a case a row
+-- ---- row by row: the first clause splits the rest into one case for each row
 
 -- the name names the scheme
 pub named_itself : (s : RegisteredScheme) → registered_named (name_of s) ≡ Some s
@@ -49,7 +49,7 @@ canonical_name s = canonical_low_of_scheme (name_of s) (name_is_scheme s) ∙ lo
 pub named-name : (s : RegisteredScheme) → registered_named (str_to_ascii_lowercase (name_of s)) ≡ Some s
 named-name s = ap registered_named (lowered-name s) ∙ named_itself s
 
--- one name, one scheme
+-- schemes with the same name are equal
 pub same_name : (a b : RegisteredScheme) → name_of a ≡ name_of b → a ≡ b
 same_name a b e =
     let both : Some a ≡ Some b = sym (named_itself a) ∙ ap registered_named e ∙ named_itself b in cc
@@ -67,7 +67,7 @@ passes p (y ∷ ys) x at = by (p y) refl at (passes p ys x)
     by true e h later = let same : y ≡ x = cc in ap p (sym same) ∙ e
     by false e h later = later h
 
--- a text names the registered scheme whose name it is in lower case
+-- a text names the registered scheme whose name is the text in lower case
 pub named_iff : (t : List ℕ) (s : RegisteredScheme) → (registered_named (str_to_ascii_lowercase t) ≡ Some s) ↔ (str_to_ascii_lowercase t ≡ name_of s)
 named_iff t s = (
   λ h. sym ((bytes_eq-Decides _ _).0 (passes (λ r. bytes_eq (name_of r) (str_to_ascii_lowercase t)) variants s h)),
@@ -76,7 +76,7 @@ named_iff t s = (
 
 -- ---- the table as a whole
 
--- each registered scheme stands in the table
+-- each registered scheme is in the table
 pub listed : (s : RegisteredScheme) → (k : ℕ) × (slice_get variants k ≡ Some s)
 listed s =
     let test = λ (r : RegisteredScheme). bytes_eq (name_of r) (name_of s) in
@@ -94,7 +94,7 @@ not_before j k s at_j at_k lt =
     let tied = tied_itself nat_list_cmp_total (name_of s) in
     cc
 
--- it stands there once
+-- it is there once
 pub listed_once : (j k : ℕ) (s : RegisteredScheme) → slice_get variants j ≡ Some s → slice_get variants k ≡ Some s → j ≡ k
 listed_once j k s at_j at_k =
     ⊎_elim (λ lt. absurd (not_before j k s at_j at_k lt))

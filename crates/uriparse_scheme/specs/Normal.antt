@@ -3,7 +3,7 @@ use Rattle.uriparse_text.specs.Canonical.{canonical_lowered}
 use Rattle.uriparse_scheme.specs.declared.scheme.Scheme.{Scheme}
 use Rattle.uriparse_scheme.specs.declared.scheme.Scheme.TheVariants.{Registered, Unregistered}
 
--- the same scheme in canonical spelling, which a registered one has already
+-- the same scheme in canonical spelling; a registered scheme has it already
 abbrev pub canonical_scheme : Scheme → Scheme
 canonical_scheme (Registered s) = Registered s
 canonical_scheme (Unregistered spelling) = Unregistered (canonical_lowered spelling)

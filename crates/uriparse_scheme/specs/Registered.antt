@@ -1,4 +1,4 @@
--- What the table says of a registered scheme of RFC 3986, section 3.1.
+-- The name and the status of a registered scheme: RFC 3986, section 3.1.
 use Rattle.std.specs.Prelude.{ℕ, List, map, Option, bytes_eq}
 use Rattle.std.specs.List.{find}
 use Rattle.uriparse_scheme.specs.declared.scheme.registered.RegisteredScheme.{RegisteredScheme}
@@ -13,7 +13,7 @@ name_of s = (row_of s).name
 abbrev pub status_of : RegisteredScheme → SchemeStatus
 status_of s = (row_of s).status
 
--- the names, in their order
+-- the names, in the table's order
 abbrev pub names : List (List ℕ)
 names = map name_of variants
 

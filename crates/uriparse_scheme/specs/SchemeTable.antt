@@ -1,4 +1,4 @@
--- The registered schemes of RFC 3986, section 3.1: the name and the status of each, and their order.
+-- The table of registered schemes: RFC 3986, section 3.1.
 use Rattle.std.specs.Prelude.{ℕ, List, [], ◌∷◌, codes}
 use Rattle.uriparse_scheme.specs.declared.scheme.registered.RegisteredScheme.{RegisteredScheme}
 use Rattle.uriparse_scheme.specs.declared.scheme.registered.RegisteredScheme.TheVariants as scheme

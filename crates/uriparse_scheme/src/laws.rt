@@ -1,5 +1,4 @@
-//! Laws of the definitions that contracts cite. Each function has nothing to do: its contract is
-//! the law.
+//! Laws about the definitions in `specs/`. The functions have no body: the contract is the law.
 ghost use Rattle.std.specs.Prelude.{◌≡◌, ◌↔◌, ℕ, List, [], map, Some, None, Ok, Err, true, codes, slice_get};
 ghost use Rattle.std.specs.Cmp.Lexicographic.{slice_cmp};
 ghost use Rattle.std.specs.Ordering.{nat_cmp};
@@ -22,8 +21,8 @@ ghost use Rattle.uriparse_scheme.specs.Scheme.{BeginsWithNoLetter, HasStrayByte,
 ghost use Rattle.uriparse_scheme.specs.Unregistered as unregistered;
 ghost use Rattle.uriparse_scheme.specs.Normal.{canonical_scheme};
 
-/// Reading gives exactly what a text spells, which is one scheme at most and a valid one. The text
-/// of a valid scheme spells it.
+/// Reading returns the scheme that a text spells. A text spells at most one scheme, and that one is
+/// valid. The text of a valid scheme spells the scheme.
 pub fn one_reading()
     ensures reads { (t : List ℕ) (s : Scheme) → (reading t ≡ Ok s) ↔ Spells t s }
     ensures one { (t : List ℕ) (r s : Scheme) → Spells t r → Spells t s → r ≡ s }
@@ -31,8 +30,8 @@ pub fn one_reading()
     ensures back { (s : Scheme) → Valid s → Spells (text s) s }
 {}
 
-/// A text is a scheme, or it is empty, or its first byte is no letter, or that is one and a later
-/// byte has no place in a scheme: its fault says which.
+/// A text is a scheme, or it is empty, or its first byte is not a letter, or a later byte may not
+/// appear in a scheme. The fault says which.
 pub fn one_fault()
     ensures none { (t : List ℕ) → (fault t ≡ None) ↔ (is_scheme t ≡ true) }
     ensures empty { (t : List ℕ) → (fault t ≡ Some Empty) ↔ (t ≡ []) }
@@ -40,21 +39,21 @@ pub fn one_fault()
     ensures later { (t : List ℕ) → (fault t ≡ Some InvalidCharacter) ↔ HasStrayByte t }
 {}
 
-/// An unregistered scheme is read from the schemes that in no case are names of the table.
+/// An unregistered scheme is read from a scheme whose text, in any case, is no name in the table.
 pub fn one_unregistered_reading()
     ensures { (t : List ℕ) → (unregistered.reading t ≡ Ok t) ↔ IsUnregistered t }
 {}
 
-/// A scheme is a concatenation of tokens, and its canonical spelling is its text in lower case,
-/// which is that of the value that the text spells.
+/// A scheme is a concatenation of tokens. Its canonical spelling is its text in lower case, and is
+/// that of the scheme that the text spells.
 pub fn canonical_is_lower_case()
     ensures formed { (t : List ℕ) → is_scheme t ≡ true → is_well_formed t ≡ true }
     ensures lowered { (t : List ℕ) → is_scheme t ≡ true → canonical_lowered t ≡ str_to_ascii_lowercase t }
     ensures spelled { (t : List ℕ) (s : Scheme) → Spells t s → canonical_text s ≡ canonical_lowered t }
 {}
 
-/// The names of the table rise, so no two rows have one name, and are schemes in lower case. Each
-/// registered scheme stands in it, once, and its name, in any case, names it and no other.
+/// The names in the table are sorted, distinct, and schemes in lower case. Each registered scheme
+/// is in the table once, and its name, in any case, names that scheme alone.
 pub fn table_is_one_to_one()
     ensures sorted { IsStrictlySortedBy (slice_cmp nat_cmp) names }
     ensures lowered { map str_to_ascii_lowercase names ≡ names }
@@ -65,8 +64,8 @@ pub fn table_is_one_to_one()
     ensures named { (t : List ℕ) (s : RegisteredScheme) → (registered_named (str_to_ascii_lowercase t) ≡ Some s) ↔ (str_to_ascii_lowercase t ≡ name_of s) }
 {}
 
-/// The normal form of a valid scheme is valid and its own normal form, and has the canonical text.
-/// A scheme with the text of its normal form is that form.
+/// The normal form of a valid scheme is valid, is its own normal form and has the canonical text. A
+/// scheme with the text of its normal form is in normal form.
 pub fn one_normal_form()
     ensures valid { (s : Scheme) → Valid s → Valid (canonical_scheme s) }
     ensures twice { (s : Scheme) → Valid s → canonical_scheme (canonical_scheme s) ≡ canonical_scheme s }
@@ -74,7 +73,7 @@ pub fn one_normal_form()
     ensures kept { (s : Scheme) → text (canonical_scheme s) ≡ text s → canonical_scheme s ≡ s }
 {}
 
-/// Texts, and what they are read as, print and become.
+/// Examples of reading, printing and normalizing.
 pub fn examples()
     ensures any_case { reading (codes "hTTp") ≡ Ok (Registered HTTP) }
     ensures acat { reading (codes "acat") ≡ Ok (Registered ACCT) }

@@ -1,4 +1,4 @@
-//! What the crates above build on. Users have no need of it.
+//! What the crates above build on. Not for users.
 ghost use Rattle.std.specs.Prelude.{◌≡◌, IfOk, IsOk, true};
 ghost use Rattle.std.specs.Option.{option_map, option_or};
 ghost use Rattle.uriparse_scheme.specs.Normal.{canonical_scheme};
@@ -8,8 +8,8 @@ use crate::scheme::Scheme;
 pub use crate::scheme::read::is_scheme;
 use std::alloc::{AllocError, Global};
 
-/// A copy in canonical spelling of a scheme that is there and isn't canonical, or none. Wants
-/// memory for such a scheme alone.
+/// A copy of the scheme in canonical spelling, if it is present and not canonical. Allocates only
+/// then.
 pub fn canonical_copy(
     alloc: Global,
     scheme: &Option<Scheme<'_>>,
@@ -28,7 +28,7 @@ pub fn canonical_copy(
     }
 }
 
-/// Puts a scheme's copy in its place, if there is one. Takes no memory.
+/// Replaces the scheme by its copy, if there is one. Does not allocate.
 pub fn put_copy<'s>(scheme: &mut Option<Scheme<'s>>, copy: Option<Scheme<'s>>)
     ensures { scheme.new ≡ option_or copy.entry scheme.old }
 {
@@ -37,8 +37,8 @@ pub fn put_copy<'s>(scheme: &mut Option<Scheme<'s>>, copy: Option<Scheme<'s>>)
     }
 }
 
-/// The scheme of bytes that are known to be one, which it borrows where it isn't registered. Takes
-/// no memory.
+/// The scheme that these bytes spell. The caller knows that they are one. An unregistered scheme
+/// borrows them. Does not allocate.
 pub fn scheme_of(bytes: &[u8]) -> Scheme<'_>
     requires { spec.is_scheme bytes.now ≡ true }
     ensures { result ≡ spec.named bytes.now }

@@ -36,12 +36,11 @@ pub use unregistered::UnregisteredScheme;
 
 /// The scheme of a URI or reference, without its `:`: RFC 3986, section 3.1.
 ///
-/// Its text is a letter, and then letters, digits, `+`, `-` and `.`. A registered scheme is read in
-/// any case, takes no memory, and prints in lower case; each has a constant. Another keeps its
-/// spelling, which it borrows from the text that it was read from, or owns. Its readers take no
-/// memory; [`SchemeError`] says what they refuse. Two schemes are equal
-/// where their texts differ at most in the case of letters, and equal ones feed a hasher the same
-/// bytes: section 6.2.2.1.
+/// Its text is a letter, followed by letters, digits, `+`, `-` and `.`. A registered scheme is read
+/// in any case, needs no memory and prints in lower case; each has a constant. Any other scheme
+/// keeps its spelling, and borrows it from the text that was read, or owns it. Reading does not
+/// allocate; [`SchemeError`] lists what it rejects. Two schemes are equal if their texts differ
+/// only in the case of letters, and equal schemes have equal hashes: section 6.2.2.1.
 ///
 /// ```
 /// let scheme = Scheme::try_from_str("HTTP")?;
@@ -51,18 +50,18 @@ pub use unregistered::UnregisteredScheme;
 /// ```
 #[derive(Drop)]
 pub enum Scheme<'s> {
-    /// One that the table of registered schemes has.
+    /// A scheme in the table of registered schemes.
     Registered(RegisteredScheme),
-    /// One that it doesn't have, by its text.
+    /// Any other scheme, by its text.
     Unregistered(UnregisteredScheme<'s>),
 }
 
 impl<'s> Scheme<'s> {
-    /// Reads a scheme: RFC 3986, section 3.1. Where it isn't registered it borrows the bytes. Takes
-    /// no memory.
+    /// Reads a scheme: RFC 3986, section 3.1. An unregistered scheme borrows the bytes. Does not
+    /// allocate.
     ///
-    /// What is empty, what begins with no letter, and what has a byte without a place in a scheme,
-    /// such as a `:`, is refused with the [`SchemeError`] of the leftmost fault.
+    /// Rejects an empty text, a text that does not begin with a letter, and a text with a byte that
+    /// no scheme has, such as a `:`. Returns the [`SchemeError`] of the leftmost fault.
     pub fn try_from_bytes(bytes: &'s [u8]) -> Result<Scheme<'s>, SchemeError>
         ensures { result ≡ spec.reading bytes.now }
     {
@@ -75,7 +74,7 @@ impl<'s> Scheme<'s> {
         }
     }
 
-    /// The scheme of bytes that are known to be one.
+    /// The scheme that these bytes spell. The caller knows that they are one.
     pub(crate) fn of_checked(bytes: &'s [u8]) -> Scheme<'s>
         requires { spec.is_scheme bytes.now ≡ true }
         ensures { result ≡ spec.named bytes.now }
@@ -86,14 +85,14 @@ impl<'s> Scheme<'s> {
         }
     }
 
-    /// The same from a text.
+    /// Like `try_from_bytes`, for a `str`.
     pub fn try_from_str(text: &'s str) -> Result<Scheme<'s>, SchemeError>
         ensures { result ≡ spec.reading text.now }
     {
         Scheme::try_from_bytes(text.as_bytes())
     }
 
-    /// What this library's table says of the scheme. Takes no memory.
+    /// The status of the scheme in this library's table. Does not allocate.
     pub fn status(&self) -> SchemeStatus
         ensures { result ≡ spec.status self.now }
     {
@@ -103,7 +102,7 @@ impl<'s> Scheme<'s> {
         }
     }
 
-    /// The text, in lower case where the scheme is registered. Takes no memory.
+    /// The text, in lower case if the scheme is registered. Does not allocate.
     pub fn as_str(&self) -> &str
         ensures value { result.now ≡ spec.text self.now }
         ensures valid { spec.Valid self.now }
@@ -115,7 +114,7 @@ impl<'s> Scheme<'s> {
         }
     }
 
-    /// The text as bytes. Takes no memory.
+    /// The text as bytes. Does not allocate.
     pub fn as_bytes(&self) -> &[u8]
         ensures value { result.now ≡ spec.text self.now }
         ensures valid { spec.Valid self.now }
@@ -124,7 +123,7 @@ impl<'s> Scheme<'s> {
         self.as_str().as_bytes()
     }
 
-    /// The same scheme, which borrows this one's text. Takes no memory.
+    /// The same scheme, borrowing this one's text. Does not allocate.
     pub fn as_borrowed(&self) -> Scheme<'_>
         ensures { result ≡ self.now }
     {
@@ -134,8 +133,8 @@ impl<'s> Scheme<'s> {
         }
     }
 
-    /// The same scheme, which owns its text. Borrowed text is copied, which wants memory; where
-    /// there is none, the scheme is gone.
+    /// The same scheme, owning its text. Copies borrowed text, which allocates; if memory runs out,
+    /// the scheme is lost.
     pub fn into_owned(self, alloc: Global) -> Result<Scheme<'static>, AllocError>
         ensures { IfOk result (λ s. s ≡ self.entry) }
     {
@@ -145,15 +144,15 @@ impl<'s> Scheme<'s> {
         }
     }
 
-    /// A copy of the text. Wants memory.
+    /// Copies the text into a new `String`. Allocates.
     pub fn to_string(&self, alloc: Global) -> Result<String, AllocError>
         ensures { IfOk result (λ s. string_bytes s ≡ spec.text self.now) }
     {
         String::from_str(alloc, self.as_str())
     }
 
-    /// Whether the text is its canonical spelling, which is the text in lower case: RFC 3986,
-    /// section 6.2.2.1. A registered scheme's always is. Takes no memory.
+    /// Whether the text is in its canonical spelling, lower case: RFC 3986, section 6.2.2.1. A
+    /// registered scheme always is. Does not allocate.
     pub fn is_normalized(&self) -> bool
         ensures { IsTrue result ↔ (spec.canonical_text self.now ≡ spec.text self.now) }
     {
@@ -163,8 +162,8 @@ impl<'s> Scheme<'s> {
         }
     }
 
-    /// Puts the text in lower case: RFC 3986, section 6.2.2.1. Wants memory only where that changes
-    /// it, which it never does to a registered scheme; where there is none, the scheme is
+    /// Converts the text to lower case: RFC 3986, section 6.2.2.1. Allocates only if that changes
+    /// the text, which it never does for a registered scheme. If memory runs out, the scheme is
     /// unchanged. A second call changes nothing.
     pub fn normalize(&mut self, alloc: Global) -> Result<(), AllocError>
         ensures ok { OnOk result (self.new ≡ canonical_scheme self.old) }
@@ -177,15 +176,15 @@ impl<'s> Scheme<'s> {
         }
     }
 
-    /// Whether the bytes are this scheme in any case. Escapes are not read: a scheme has none.
-    /// Takes no memory.
+    /// Whether the bytes are this scheme in any case. Percent-encoded octets are not decoded: a
+    /// scheme has none. Does not allocate.
     pub fn eq_bytes(&self, bytes: &[u8]) -> bool
         ensures { IsTrue result ↔ (str_to_ascii_lowercase bytes.now ≡ str_to_ascii_lowercase (spec.text self.now)) }
     {
         bytes.eq_ignore_ascii_case(self.as_bytes())
     }
 
-    /// The same for a text.
+    /// Like `eq_bytes`, for a `str`.
     pub fn eq_str(&self, text: &str) -> bool
         ensures { IsTrue result ↔ (str_to_ascii_lowercase text.now ≡ str_to_ascii_lowercase (spec.text self.now)) }
     {
@@ -223,7 +222,7 @@ impl<'s> Hash for Scheme<'s> {
 impl<'s> fmt::Display for Scheme<'s> {
     ghost output = { λ s. Some (spec.text s) };
 
-    // No option of the formatter changes it.
+    // The formatter's options do not change the output.
     ghost styled_output = { λ s _. Some (spec.text s) };
 
     fn fmt<W: fmt::Write>(&self, f: &mut fmt::Formatter<W>) -> fmt::Result {

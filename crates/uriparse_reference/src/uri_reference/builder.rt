@@ -20,11 +20,10 @@ use uriparse_text::fragment::{Fragment, FragmentKind};
 use uriparse_text::parts::find_text_if;
 use uriparse_text::query::{Query, QueryKind};
 
-/// The parts of a reference that were given so far. Only the path has to be given before it is
-/// built.
+/// Builds a reference component by component. Only the path is required.
 ///
-/// Each call sets one part and leaves the others. Two builders are equal where both have the same
-/// parts, and these are equal.
+/// Each call sets one component and leaves the others. Two builders are equal if they have the same
+/// components, and these are equal.
 ///
 /// ```
 /// let mut builder = URIReference::builder();
@@ -59,7 +58,7 @@ fn read_scheme_if(text: Option<&[u8]>) -> Result<Option<Scheme<'_>>, URIReferenc
     }
 }
 
-/// Reads the authority by itself, if there is one.
+/// Reads the authority, if there is one.
 fn read_whole_authority_if(text: Option<&[u8]>) -> Result<Option<Authority<'_>>, URIReferenceError>
     ensures { result ≡ of_piece errors.Authority (if_present authorities.whole_reading (option_copied text.entry)) }
 {
@@ -73,7 +72,7 @@ impl<'b> URIReferenceBuilder<'b> {
     ghost use Rattle.uriparse_text.specs.Readings.{Settles, SettlesUnless};
     ghost use Rattle.uriparse_reference.specs.Builder.{authority_read, built, fragment_read, nothing, path_read, query_read, scheme_read};
 
-    /// A builder with no part. Takes no memory.
+    /// A builder without any component. Does not allocate.
     pub fn new() -> URIReferenceBuilder<'b>
         ensures { result ≡ nothing }
     {
@@ -86,42 +85,42 @@ impl<'b> URIReferenceBuilder<'b> {
         }
     }
 
-    /// Sets the scheme, or takes it away. Takes no memory.
+    /// Sets or removes the scheme. Does not allocate.
     pub fn scheme(&mut self, scheme: Option<Scheme<'b>>)
         ensures { self.new ≡ record self.old { scheme = scheme.entry } }
     {
         self.scheme = scheme;
     }
 
-    /// Sets the authority, or takes it away. Takes no memory.
+    /// Sets or removes the authority. Does not allocate.
     pub fn authority(&mut self, authority: Option<Authority<'b>>)
         ensures { self.new ≡ record self.old { authority = authority.entry } }
     {
         self.authority = authority;
     }
 
-    /// Sets the path. Takes no memory.
+    /// Sets the path. Does not allocate.
     pub fn path(&mut self, path: Path<'b>)
         ensures { self.new ≡ record self.old { path = Some path.entry } }
     {
         let _old = mem::replace(&mut self.path, Some(path));
     }
 
-    /// Sets the query, or takes it away. Takes no memory.
+    /// Sets or removes the query. Does not allocate.
     pub fn query(&mut self, query: Option<Query<'b>>)
         ensures { self.new ≡ record self.old { query = query.entry } }
     {
         self.query = query;
     }
 
-    /// Sets the fragment, or takes it away. Takes no memory.
+    /// Sets or removes the fragment. Does not allocate.
     pub fn fragment(&mut self, fragment: Option<Fragment<'b>>)
         ensures { self.new ≡ record self.old { fragment = fragment.entry } }
     {
         self.fragment = fragment;
     }
 
-    /// The builder with this scheme, or with none. Takes no memory.
+    /// The builder with this scheme, or without one. Does not allocate.
     pub fn with_scheme(self, scheme: Option<Scheme<'b>>) -> URIReferenceBuilder<'b>
         ensures { result ≡ record self.entry { scheme = scheme.entry } }
     {
@@ -130,7 +129,7 @@ impl<'b> URIReferenceBuilder<'b> {
         builder
     }
 
-    /// The builder with this authority, or with none. Takes no memory.
+    /// The builder with this authority, or without one. Does not allocate.
     pub fn with_authority(self, authority: Option<Authority<'b>>) -> URIReferenceBuilder<'b>
         ensures { result ≡ record self.entry { authority = authority.entry } }
     {
@@ -139,7 +138,7 @@ impl<'b> URIReferenceBuilder<'b> {
         builder
     }
 
-    /// The builder with this path. Takes no memory.
+    /// The builder with this path. Does not allocate.
     pub fn with_path(self, path: Path<'b>) -> URIReferenceBuilder<'b>
         ensures { result ≡ record self.entry { path = Some path.entry } }
     {
@@ -148,7 +147,7 @@ impl<'b> URIReferenceBuilder<'b> {
         builder
     }
 
-    /// The builder with this query, or with none. Takes no memory.
+    /// The builder with this query, or without one. Does not allocate.
     pub fn with_query(self, query: Option<Query<'b>>) -> URIReferenceBuilder<'b>
         ensures { result ≡ record self.entry { query = query.entry } }
     {
@@ -157,7 +156,7 @@ impl<'b> URIReferenceBuilder<'b> {
         builder
     }
 
-    /// The builder with this fragment, or with none. Takes no memory.
+    /// The builder with this fragment, or without one. Does not allocate.
     pub fn with_fragment(self, fragment: Option<Fragment<'b>>) -> URIReferenceBuilder<'b>
         ensures { result ≡ record self.entry { fragment = fragment.entry } }
     {
@@ -166,8 +165,8 @@ impl<'b> URIReferenceBuilder<'b> {
         builder
     }
 
-    /// Reads the scheme and sets it, or takes it away. A text that is no scheme is refused as
-    /// [`Scheme`](URIReferenceError::Scheme), and the builder is unchanged. Takes no memory.
+    /// Reads and sets the scheme, or removes it. Rejects a text that is not a scheme with
+    /// [`Scheme`](URIReferenceError::Scheme), and leaves the builder unchanged. Does not allocate.
     pub fn try_scheme(&mut self, scheme: Option<&'b [u8]>) -> Result<(), URIReferenceError>
         ensures { Settles self.old self.new result (scheme_read self.old (option_copied scheme.entry)) }
     {
@@ -176,8 +175,9 @@ impl<'b> URIReferenceBuilder<'b> {
         Ok(())
     }
 
-    /// Reads the authority and sets it, or takes it away. A text that is no authority is refused as
-    /// [`Authority`](URIReferenceError::Authority), and the builder is unchanged. Takes no memory.
+    /// Reads and sets the authority, or removes it. Rejects a text that is not an authority with
+    /// [`Authority`](URIReferenceError::Authority), and leaves the builder unchanged. Does not
+    /// allocate.
     pub fn try_authority(&mut self, authority: Option<&'b [u8]>) -> Result<(), URIReferenceError>
         ensures { Settles self.old self.new result (authority_read self.old (option_copied authority.entry)) }
     {
@@ -186,9 +186,9 @@ impl<'b> URIReferenceBuilder<'b> {
         Ok(())
     }
 
-    /// Reads the path and sets it. A text that is no path is refused as
-    /// [`Path`](URIReferenceError::Path), whatever memory there is; the list of segments wants
-    /// memory. After a refusal the builder is unchanged.
+    /// Reads and sets the path. Rejects a text that is not a path with
+    /// [`Path`](URIReferenceError::Path), even if memory has run out; only the list of segments
+    /// allocates. After an error the builder is unchanged.
     pub fn try_path(&mut self, alloc: Global, path: &'b [u8]) -> Result<(), URIReferenceError>
         ensures settles { SettlesUnless (errors.Path OutOfMemory) self.old self.new result (path_read self.old path.now) }
         ensures always { IsErr (paths.reading path.now) → Settles self.old self.new result (path_read self.old path.now) }
@@ -198,8 +198,8 @@ impl<'b> URIReferenceBuilder<'b> {
         Ok(())
     }
 
-    /// Reads the query and sets it, or takes it away. A text that is no query is refused as
-    /// [`Query`](URIReferenceError::Query), and the builder is unchanged. Takes no memory.
+    /// Reads and sets the query, or removes it. Rejects a text that is not a query with
+    /// [`Query`](URIReferenceError::Query), and leaves the builder unchanged. Does not allocate.
     pub fn try_query(&mut self, query: Option<&'b [u8]>) -> Result<(), URIReferenceError>
         ensures { Settles self.old self.new result (query_read self.old (option_copied query.entry)) }
     {
@@ -208,8 +208,9 @@ impl<'b> URIReferenceBuilder<'b> {
         Ok(())
     }
 
-    /// Reads the fragment and sets it, or takes it away. A text that is no fragment is refused as
-    /// [`Fragment`](URIReferenceError::Fragment), and the builder is unchanged. Takes no memory.
+    /// Reads and sets the fragment, or removes it. Rejects a text that is not a fragment with
+    /// [`Fragment`](URIReferenceError::Fragment), and leaves the builder unchanged. Does not
+    /// allocate.
     pub fn try_fragment(&mut self, fragment: Option<&'b [u8]>) -> Result<(), URIReferenceError>
         ensures { Settles self.old self.new result (fragment_read self.old (option_copied fragment.entry)) }
     {
@@ -218,11 +219,10 @@ impl<'b> URIReferenceBuilder<'b> {
         Ok(())
     }
 
-    /// The reference of the parts. Takes no memory.
+    /// Builds the reference. Does not allocate.
     ///
-    /// Refused are, in this order, a builder without a path as
-    /// [`MissingPath`](URIReferenceError::MissingPath), and what
-    /// [`from_parts`](URIReference::from_parts) refuses. A refusal consumes the builder.
+    /// Rejects a builder without a path with [`MissingPath`](URIReferenceError::MissingPath), and
+    /// then what [`from_parts`](URIReference::from_parts) rejects. An error consumes the builder.
     pub fn build(self) -> Result<URIReference<'b>, URIReferenceError>
         ensures { result ≡ built self.entry }
     {
@@ -279,14 +279,15 @@ impl<'r> URIReference<'r> {
     ghost use Rattle.uriparse_reference.specs.Builder.{held, nothing};
     ghost use Rattle.uriparse_reference.specs.Reference.{Valid};
 
-    /// A builder with no part. Takes no memory.
+    /// A builder without any component. Does not allocate.
     pub fn builder() -> URIReferenceBuilder<'r>
         ensures { result ≡ nothing }
     {
         URIReferenceBuilder::new()
     }
 
-    /// A builder with this reference's parts, which builds it again. Takes no memory.
+    /// A builder with this reference's components, which builds the same reference. Does not
+    /// allocate.
     pub fn into_builder(self) -> URIReferenceBuilder<'r>
         ensures parts { result ≡ held self.entry }
         ensures valid { Valid self.entry }

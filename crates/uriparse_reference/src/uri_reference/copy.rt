@@ -1,4 +1,4 @@
-//! Copies of a reference, whose lists of segments want memory.
+//! Copies of a reference. The list of segments allocates.
 ghost use Rattle.std.specs.Prelude.{◌≡◌, IfOk, option_copied};
 
 use super::URIReference;
@@ -10,7 +10,7 @@ use uriparse_text::fragment::Fragment;
 use uriparse_text::parts::{borrowed_text, owned_text};
 use uriparse_text::query::Query;
 
-/// The same scheme, if there is one, which borrows this one's text.
+/// The same scheme, if present, borrowing this one's text.
 pub(super) fn borrowed_scheme<'r>(scheme: Option<&'r Scheme<'_>>) -> Option<Scheme<'r>>
     ensures { result ≡ option_copied scheme.entry }
 {
@@ -20,7 +20,7 @@ pub(super) fn borrowed_scheme<'r>(scheme: Option<&'r Scheme<'_>>) -> Option<Sche
     }
 }
 
-/// The same authority, if there is one, which borrows this one's texts.
+/// The same authority, if present, borrowing this one's texts.
 pub(super) fn borrowed_authority<'r>(authority: Option<&'r Authority<'_>>) -> Option<Authority<'r>>
     ensures { result ≡ option_copied authority.entry }
 {
@@ -30,7 +30,7 @@ pub(super) fn borrowed_authority<'r>(authority: Option<&'r Authority<'_>>) -> Op
     }
 }
 
-/// The same scheme, if there is one, which owns its text.
+/// The same scheme, if present, owning its text.
 fn owned_scheme(
     alloc: Global,
     scheme: Option<Scheme<'_>>,
@@ -43,7 +43,7 @@ fn owned_scheme(
     }
 }
 
-/// The same authority, if there is one, which owns its texts.
+/// The same authority, if present, owning its texts.
 fn owned_authority(
     alloc: Global,
     authority: Option<Authority<'_>>,
@@ -56,7 +56,7 @@ fn owned_authority(
     }
 }
 
-/// The same scheme and authority, which own their texts.
+/// The same scheme and authority, owning their texts.
 fn owned_front(
     alloc: Global,
     scheme: Option<Scheme<'_>>,
@@ -68,7 +68,7 @@ fn owned_front(
     Ok((scheme, owned_authority(alloc, authority)?))
 }
 
-/// The same path, query and fragment, which own their texts.
+/// The same path, query and fragment, owning their texts.
 fn owned_tail(
     alloc: Global,
     path: Path<'_>,
@@ -90,8 +90,8 @@ fn owned_tail(
 }
 
 impl<'r> URIReference<'r> {
-    /// The same reference, whose parts borrow the texts of this one's. Memory is wanted once, for
-    /// the list of segments.
+    /// The same reference, borrowing the texts of this one. Allocates once, for the list of
+    /// segments.
     pub fn to_borrowed(&self, alloc: Global) -> Result<URIReference<'_>, AllocError>
         ensures { IfOk result (λ r. r ≡ self.now) }
     {
@@ -105,8 +105,8 @@ impl<'r> URIReference<'r> {
         })
     }
 
-    /// The same reference, whose parts own their texts. Memory is wanted for the list of segments
-    /// and for each borrowed text; where there is none, the reference is gone.
+    /// The same reference, owning its texts. Allocates for the list of segments and each borrowed
+    /// text. If memory runs out, the reference is lost.
     pub fn into_owned(self, alloc: Global) -> Result<URIReference<'static>, AllocError>
         ensures { IfOk result (λ r. r ≡ self.entry) }
     {

@@ -1,4 +1,4 @@
-//! Building a reference from parts, and changing one: RFC 3986, section 4.1.
+//! Building a reference from its components, and changing one: RFC 3986, section 4.1.
 ghost use Rattle.std.specs.Prelude.{◌≡◌, IfSome, Ok, Some, None, is_some, length, MatchResult};
 ghost use Rattle.uriparse_path.specs.Path.{IsListed, text};
 ghost use Rattle.uriparse_scheme.specs.Scheme as schemes;
@@ -16,8 +16,8 @@ use uriparse_scheme::scheme::Scheme;
 use uriparse_text::fragment::Fragment;
 use uriparse_text::query::Query;
 
-/// One change of a reference, as [`apply_all`](URIReference::apply_all) makes it: what the setter
-/// of that name does, or [`normalize`](URIReference::normalize).
+/// One change of a reference, for [`apply_all`](URIReference::apply_all): what the setter of that
+/// name does, or [`normalize`](URIReference::normalize).
 ///
 /// ```
 /// let mut reference = URIReference::try_from_str(alloc, "http://h/%7Ea#f")?;
@@ -29,21 +29,21 @@ use uriparse_text::query::Query;
 /// ```
 #[derive(Drop)]
 pub enum Edit<'e> {
-    /// Sets the scheme, or takes it away.
+    /// Sets or removes the scheme.
     Scheme(Option<Scheme<'e>>),
-    /// Sets the authority, or takes it away.
+    /// Sets or removes the authority.
     Authority(Option<Authority<'e>>),
     /// Sets the path.
     Path(Path<'e>),
-    /// Sets the query, or takes it away.
+    /// Sets or removes the query.
     Query(Option<Query<'e>>),
-    /// Sets the fragment, or takes it away.
+    /// Sets or removes the fragment.
     Fragment(Option<Fragment<'e>>),
-    /// Brings the reference into its normal form.
+    /// Normalizes the reference.
     Normalize,
 }
 
-/// Whether there is a scheme, which is a valid one.
+/// Whether there is a scheme. A scheme that is there is valid.
 fn has_scheme(scheme: &Option<Scheme<'_>>) -> bool
     ensures test { result ≡ is_some scheme.now }
     ensures valid { IfSome scheme.now schemes.Valid }
@@ -57,7 +57,7 @@ fn has_scheme(scheme: &Option<Scheme<'_>>) -> bool
     }
 }
 
-/// Why a path may not stand with a scheme or without one, and behind an authority or not.
+/// Why a path may not follow a scheme or none, and an authority or none.
 fn place_refusal(
     has_scheme: bool,
     has_authority: bool,
@@ -79,7 +79,7 @@ fn place_refusal(
     Some(URIReferenceError::SchemelessPathStartsWithColonSegment)
 }
 
-/// The path as a reference holds it, behind an authority or not.
+/// The path as a reference holds it, with or without an authority.
 fn place(has_authority: bool, path: Path<'_>) -> Path<'_>
     ensures { result ≡ placed has_authority path.entry }
 {
@@ -98,12 +98,13 @@ impl<'r> URIReference<'r> {
     ghost use Rattle.uriparse_reference.specs.Normal.{normal};
     ghost use Rattle.uriparse_reference.specs.declared.uri_reference.edit.Edit.TheVariants as edits;
 
-    /// The reference of these parts: RFC 3986, sections 3.3 and 4.2. Behind an authority the path is
-    /// made absolute, else it is the one that its text spells. Takes no memory.
+    /// Builds a reference from its components: RFC 3986, sections 3.3 and 4.2. With an authority
+    /// the path is made absolute, else it is the one that its text spells. Does not allocate.
     ///
-    /// Refused are, in this order, a path without authority whose text begins with two slashes as
-    /// [`AbsolutePathStartsWithTwoSlashes`](URIReferenceError::AbsolutePathStartsWithTwoSlashes),
-    /// and one without scheme and authority whose text has a colon before any slash as
+    /// Without an authority, rejects a path whose text starts with `//` with
+    /// [`AbsolutePathStartsWithTwoSlashes`](URIReferenceError::AbsolutePathStartsWithTwoSlashes).
+    /// Without a scheme and an authority, then rejects a path whose text has a colon before any
+    /// slash with
     /// [`SchemelessPathStartsWithColonSegment`](URIReferenceError::SchemelessPathStartsWithColonSegment).
     pub fn from_parts(
         scheme: Option<Scheme<'r>>,
@@ -154,9 +155,9 @@ impl<'r> URIReference<'r> {
         )
     }
 
-    /// Sets the scheme. Without one, a path without authority whose text has a colon before any
-    /// slash is refused as [`from_parts`](URIReference::from_parts) refuses it, and the reference is
-    /// unchanged. Takes no memory.
+    /// Sets or removes the scheme. Without a scheme and an authority, rejects a path whose text has
+    /// a colon before any slash, as [`from_parts`](URIReference::from_parts) does, and leaves the
+    /// reference unchanged. Does not allocate.
     pub fn set_scheme(&mut self, scheme: Option<Scheme<'r>>) -> Result<(), URIReferenceError>
         ensures { Settles self.old self.new result (edited self.old (edits.Scheme scheme.entry)) }
     {
@@ -169,7 +170,7 @@ impl<'r> URIReference<'r> {
         }
     }
 
-    /// Sets an authority, behind which the path is made absolute.
+    /// Sets the authority, and makes the path absolute.
     fn put_authority(&mut self, authority: Authority<'r>)
         ensures { edited self.old (edits.Authority (Some authority.entry)) ≡ Ok self.new }
     {
@@ -177,7 +178,7 @@ impl<'r> URIReference<'r> {
         let _old = self.authority.replace(authority);
     }
 
-    /// Takes the authority away, unless the path's text begins with two slashes.
+    /// Removes the authority, unless the path's text starts with `//`.
     fn remove_authority(&mut self) -> Result<(), URIReferenceError>
         ensures { Settles self.old self.new result (edited self.old (edits.Authority None)) }
     {
@@ -190,8 +191,9 @@ impl<'r> URIReference<'r> {
         }
     }
 
-    /// Sets the authority, behind which the path is made absolute. Without one, a path whose text
-    /// begins with two slashes is refused, and the reference is unchanged. Takes no memory.
+    /// Sets the authority and makes the path absolute, or removes the authority. Without one,
+    /// rejects what [`from_parts`](URIReference::from_parts) does, and leaves the reference
+    /// unchanged. Does not allocate.
     pub fn set_authority(
         &mut self,
         authority: Option<Authority<'r>>,
@@ -207,9 +209,9 @@ impl<'r> URIReference<'r> {
         }
     }
 
-    /// Sets the path: behind an authority made absolute, else the one that its text spells. What
-    /// [`from_parts`](URIReference::from_parts) refuses is refused, and the reference is unchanged.
-    /// Takes no memory.
+    /// Sets the path: made absolute with an authority, else the one that its text spells. Rejects
+    /// what [`from_parts`](URIReference::from_parts) does, and leaves the reference unchanged. Does
+    /// not allocate.
     pub fn set_path(&mut self, path: Path<'r>) -> Result<(), URIReferenceError>
         ensures { Settles self.old self.new result (edited self.old (edits.Path path.entry)) }
     {
@@ -223,7 +225,7 @@ impl<'r> URIReference<'r> {
         }
     }
 
-    /// Sets the query. It is never refused. Takes no memory.
+    /// Sets or removes the query. Never fails. Does not allocate.
     pub fn set_query(&mut self, query: Option<Query<'r>>) -> Result<(), URIReferenceError>
         ensures { Settles self.old self.new result (edited self.old (edits.Query query.entry)) }
     {
@@ -231,7 +233,7 @@ impl<'r> URIReference<'r> {
         Ok(())
     }
 
-    /// Sets the fragment. It is never refused. Takes no memory.
+    /// Sets or removes the fragment. Never fails. Does not allocate.
     pub fn set_fragment(&mut self, fragment: Option<Fragment<'r>>) -> Result<(), URIReferenceError>
         ensures { Settles self.old self.new result (edited self.old (edits.Fragment fragment.entry)) }
     {
@@ -239,7 +241,7 @@ impl<'r> URIReference<'r> {
         Ok(())
     }
 
-    /// Brings the reference into its normal form, as one edit of a list.
+    /// Normalizes the reference, as one edit of a list.
     fn apply_normal(&mut self, alloc: Global) -> Result<(), URIReferenceError>
         ensures { MatchResult result (λ _. self.new ≡ normal self.old) (λ x. WantsMemory self.old edits.Normalize x × (self.new ≡ self.old)) }
     {
@@ -249,7 +251,7 @@ impl<'r> URIReference<'r> {
         }
     }
 
-    /// Makes one edit, which is refused as its setter refuses, or for want of memory.
+    /// Makes one edit. Fails as its setter does, or if memory runs out.
     fn apply(&mut self, alloc: Global, edit: Edit<'r>) -> Result<(), URIReferenceError>
         ensures { MatchResult result (λ _. edited self.old edit.entry ≡ Ok self.new) (λ x. IsRefused self.old edit.entry x × (self.new ≡ self.old)) }
     {
@@ -263,11 +265,11 @@ impl<'r> URIReference<'r> {
         }
     }
 
-    /// Makes the edits in order, up to the first refused one, whose index, from 0, and refusal are
-    /// answered. The reference is then as the edits before that one made it.
+    /// Makes the edits in order, up to the first that fails. Returns the index of that one, from 0,
+    /// and its error. The edits before it remain in effect.
     ///
-    /// Only [`Normalize`](Edit::Normalize) wants memory, and only where it changes the printed text
-    /// and some part's text isn't canonical. Where there is none, it is refused with
+    /// Only [`Normalize`](Edit::Normalize) allocates, and only if it changes the printed text and
+    /// the text of some component is not canonical. If memory runs out, it fails with
     /// [`Path`](URIReferenceError::Path) of [`OutOfMemory`](PathError::OutOfMemory).
     pub fn apply_all(
         &mut self,
@@ -286,8 +288,8 @@ impl<'r> URIReference<'r> {
         Ok(())
     }
 
-    /// Sets what the closure makes of the scheme, as [`set_scheme`](URIReference::set_scheme) does,
-    /// but that a refusal consumes the reference. Takes no memory of its own.
+    /// Sets the scheme that the closure returns, as [`set_scheme`](URIReference::set_scheme) does.
+    /// An error consumes the reference. Only the closure may allocate.
     pub fn map_scheme<F>(self, make: F) -> Result<URIReference<'r>, URIReferenceError>
     where
         F: FnOnce(Option<Scheme<'r>>) -> Option<Scheme<'r>>,
@@ -298,9 +300,9 @@ impl<'r> URIReference<'r> {
         URIReference::from_parts(make(scheme), authority, path, query, fragment)
     }
 
-    /// Sets what the closure makes of the authority, as
-    /// [`set_authority`](URIReference::set_authority) does, but that a refusal consumes the
-    /// reference. Takes no memory of its own.
+    /// Sets the authority that the closure returns, as
+    /// [`set_authority`](URIReference::set_authority) does. An error consumes the reference. Only
+    /// the closure may allocate.
     pub fn map_authority<F>(self, make: F) -> Result<URIReference<'r>, URIReferenceError>
     where
         F: FnOnce(Option<Authority<'r>>) -> Option<Authority<'r>>,
@@ -311,8 +313,8 @@ impl<'r> URIReference<'r> {
         URIReference::from_parts(scheme, make(authority), path, query, fragment)
     }
 
-    /// Sets what the closure makes of the path, as [`set_path`](URIReference::set_path) does, but
-    /// that a refusal consumes the reference. Takes no memory of its own.
+    /// Sets the path that the closure returns, as [`set_path`](URIReference::set_path) does. An
+    /// error consumes the reference. Only the closure may allocate.
     pub fn map_path<F>(self, make: F) -> Result<URIReference<'r>, URIReferenceError>
     where
         F: FnOnce(Path<'r>) -> Path<'r>,
@@ -323,8 +325,7 @@ impl<'r> URIReference<'r> {
         URIReference::from_parts(scheme, authority, make(path), query, fragment)
     }
 
-    /// Sets what the closure makes of the query. It is never refused, and takes no memory of its
-    /// own.
+    /// Sets the query that the closure returns. Never fails. Only the closure may allocate.
     pub fn map_query<F>(self, make: F) -> Result<URIReference<'r>, URIReferenceError>
     where
         F: FnOnce(Option<Query<'r>>) -> Option<Query<'r>>,
@@ -337,8 +338,7 @@ impl<'r> URIReference<'r> {
         answer.and(Ok(reference))
     }
 
-    /// Sets what the closure makes of the fragment. It is never refused, and takes no memory of its
-    /// own.
+    /// Sets the fragment that the closure returns. Never fails. Only the closure may allocate.
     pub fn map_fragment<F>(self, make: F) -> Result<URIReference<'r>, URIReferenceError>
     where
         F: FnOnce(Option<Fragment<'r>>) -> Option<Fragment<'r>>,

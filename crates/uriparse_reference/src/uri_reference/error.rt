@@ -1,4 +1,4 @@
-//! Why a reference is refused.
+//! Why a text is not a reference.
 ghost use Rattle.std.specs.Prelude.{◌≡◌};
 ghost use Rattle.uriparse_reference.specs.declared.uri_reference.error.URIReferenceError.TheVariants as errors;
 
@@ -9,31 +9,31 @@ use uriparse_scheme::scheme::SchemeError;
 use uriparse_text::fragment::FragmentError;
 use uriparse_text::query::QueryError;
 
-/// Why a text or a set of parts is no reference. The first of the parts that has a fault answers.
+/// Why a text or a set of components is not a reference: the fault of the first component with one.
 #[derive(Clone, Debug, Drop, PartialEq, Eq, Hash, Error)]
 pub enum URIReferenceError {
-    /// Without an authority the path would begin with two slashes. Reading never answers it.
+    /// Without an authority the path would start with `//`. Reading never returns this.
     #[error("absolute path URI reference starts with two slashes")]
     AbsolutePathStartsWithTwoSlashes,
-    /// Without scheme and authority a colon stands in the first segment of a relative path.
+    /// Without a scheme and an authority, the first segment of a relative path has a colon.
     #[error("schemeless path URI reference starts with colon segment")]
     SchemelessPathStartsWithColonSegment,
-    /// A builder was given no path. Reading never answers it.
+    /// A builder has no path. Reading never returns this.
     #[error("URI reference missing path")]
     MissingPath,
-    /// The authority's fault.
+    /// The authority is not valid.
     #[error(transparent)]
     Authority(AuthorityError),
-    /// The path's fault, or want of memory.
+    /// The path is not valid, or memory ran out.
     #[error(transparent)]
     Path(PathError),
-    /// The query's fault.
+    /// The query is not valid.
     #[error(transparent)]
     Query(QueryError),
-    /// The fragment's fault.
+    /// The fragment is not valid.
     #[error(transparent)]
     Fragment(FragmentError),
-    /// Reading never answers it: a text that begins with no scheme has none.
+    /// The scheme is not valid. Reading never returns this: a text without a valid scheme has none.
     #[error(transparent)]
     Scheme(SchemeError),
 }

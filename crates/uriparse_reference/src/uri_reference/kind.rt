@@ -1,4 +1,5 @@
-//! Which parts a reference has, and of which kind that makes it: RFC 3986, sections 4.1 to 4.3.
+//! Which components a reference has, and which kind of reference it is: RFC 3986, sections 4.1 to
+//! 4.3.
 ghost use Rattle.std.specs.Prelude.{◌≡◌, is_some};
 ghost use Rattle.uriparse_reference.specs.Kinds as kinds;
 
@@ -47,14 +48,14 @@ impl<'r> URIReference<'r> {
         self.scheme.is_none()
     }
 
-    /// Whether it is a relative reference that has an authority. RFC 3986, section 4.2.
+    /// Whether it is a relative reference with an authority. RFC 3986, section 4.2.
     pub fn is_network_path_reference(&self) -> bool
         ensures { result ≡ kinds.is_network_path_reference self.now }
     {
         self.scheme.is_none() && self.authority.is_some()
     }
 
-    /// Whether it is a relative reference that has no authority and an absolute path. RFC 3986,
+    /// Whether it is a relative reference without an authority and with an absolute path. RFC 3986,
     /// section 4.2.
     pub fn is_absolute_path_reference(&self) -> bool
         ensures { result ≡ kinds.is_absolute_path_reference self.now }
@@ -62,16 +63,16 @@ impl<'r> URIReference<'r> {
         self.scheme.is_none() && self.authority.is_none() && self.path.is_absolute()
     }
 
-    /// Whether it is a relative reference that has no authority and a relative path, as the empty
-    /// one is. RFC 3986, section 4.2.
+    /// Whether it is a relative reference without an authority and with a relative path, such as
+    /// the empty one. RFC 3986, section 4.2.
     pub fn is_relative_path_reference(&self) -> bool
         ensures { result ≡ kinds.is_relative_path_reference self.now }
     {
         self.scheme.is_none() && self.authority.is_none() && self.path.is_relative()
     }
 
-    /// Whether it is an absolute URI, as a base shall be: it has a scheme and no fragment. RFC 3986,
-    /// sections 4.3 and 5.1.
+    /// Whether it is an absolute URI, which a base should be: it has a scheme and no fragment. RFC
+    /// 3986, sections 4.3 and 5.1.
     pub fn can_be_a_base(&self) -> bool
         ensures { result ≡ kinds.can_be_a_base self.now }
     {

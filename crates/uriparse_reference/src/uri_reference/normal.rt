@@ -24,7 +24,7 @@ use uriparse_text::fragment::Fragment;
 use uriparse_text::parts::{canonical_copy, is_canonical_part, put_copy};
 use uriparse_text::query::Query;
 
-/// Whether the scheme has its canonical spelling, if there is one.
+/// Whether the scheme, if present, is in canonical spelling.
 fn is_canonical_scheme(scheme: &Option<Scheme<'_>>) -> bool
     ensures { result ≡ option_eq bytes_eq (option_map schemes.canonical_text scheme.now) (option_map schemes.text scheme.now) }
 {
@@ -34,7 +34,7 @@ fn is_canonical_scheme(scheme: &Option<Scheme<'_>>) -> bool
     }
 }
 
-/// Whether the authority has its canonical spelling, if there is one.
+/// Whether the authority, if present, is in canonical spelling.
 fn is_canonical_authority(authority: &Option<Authority<'_>>) -> bool
     ensures { result ≡ option_eq bytes_eq (option_map authorities.canonical_text authority.now) (option_map authorities.print authority.now) }
 {
@@ -44,8 +44,8 @@ fn is_canonical_authority(authority: &Option<Authority<'_>>) -> bool
     }
 }
 
-/// Copies of the parts of the authority that aren't canonical, if there is one. Wants memory for
-/// those alone.
+/// Copies of the components of the authority that are not canonical, if it is present. Allocates
+/// for those alone.
 fn authority_copies(
     alloc: Global,
     authority: &Option<Authority<'_>>,
@@ -59,8 +59,8 @@ fn authority_copies(
     }
 }
 
-/// Brings a path, a query and a fragment into their normal forms, to stand behind this scheme and
-/// this authority. Wants memory as they do; where there is none, all three are kept.
+/// Normalizes a path, a query and a fragment that follow this scheme and this authority. Allocates
+/// as they do. If memory runs out, all three are unchanged.
 fn normalize_tail(
     alloc: Global,
     scheme: &Option<Scheme<'_>>,
@@ -84,7 +84,7 @@ fn normalize_tail(
     Ok(())
 }
 
-/// Puts the copies in the places of the authority's parts, if there is one.
+/// Replaces the components of the authority, if it is present, by the copies.
 fn put_authority_copies(authority: &mut Option<Authority<'_>>, copies: Option<CanonicalCopies>)
     requires { AreCopiesIf copies authority.old }
     ensures { authority.new ≡ option_map canonical_authority authority.old }
@@ -97,7 +97,7 @@ fn put_authority_copies(authority: &mut Option<Authority<'_>>, copies: Option<Ca
 }
 
 impl<'r> URIReference<'r> {
-    /// Whether each part has the text of its normal form.
+    /// Whether each component has the text of its normal form.
     fn is_normal(&self) -> bool
         ensures test { result ≡ is_normal self.now }
         ensures valid { Valid self.now }
@@ -109,8 +109,8 @@ impl<'r> URIReference<'r> {
             && is_canonical_part(&self.fragment)
     }
 
-    /// Whether the reference's text is that of its normal form. Then it is that form, part for
-    /// part. Takes no memory.
+    /// Whether the reference's text is that of its normal form. Then it equals that form, component
+    /// by component. Does not allocate.
     pub fn is_normalized(&self) -> bool
         ensures text { IsTrue result ↔ (print (normal self.now) ≡ print self.now) }
         ensures form { IsTrue result → normal self.now ≡ self.now }
@@ -118,17 +118,15 @@ impl<'r> URIReference<'r> {
         self.is_normal()
     }
 
-    /// Brings the reference into its normal form: RFC 3986, section 6.2.2. Each text gets its
-    /// canonical spelling; a name stays a name, also where it spells an IPv4 address then. The path
-    /// gets its normal form, as the path of a reference without a scheme exactly where there is none
-    /// (see [`Path::normalize`]). Where there is no authority and the path's text would begin with
-    /// two slashes then, a `.` stands in front, so that it begins with `/.//`. A second call changes
-    /// nothing.
+    /// Normalizes the reference: RFC 3986, section 6.2.2. Each text gets its canonical spelling; a
+    /// name stays a name, even if it then spells an IPv4 address. The path gets its normal form,
+    /// that of a path without a scheme if the reference has none (see [`Path::normalize`]). Without
+    /// an authority, a path that would then start with `//` gets a leading `/.`. A second call
+    /// changes nothing.
     ///
-    /// A reference whose text is normal is kept as it is. No memory is wanted where each text is
-    /// canonical, whatever dot segments the path has. Else the texts that aren't canonical are
-    /// copied, all of them before one is put in place, so where there is no memory, the reference is
-    /// unchanged.
+    /// A reference whose text is normal is unchanged. Does not allocate if each text is canonical,
+    /// whatever dot segments the path has. Otherwise copies the texts that are not canonical, all
+    /// of them before any is replaced: if memory runs out, the reference is unchanged.
     ///
     /// ```
     /// let mut reference = URIReference::try_from_str(alloc, "HTTP://H/a/../%7eb")?;
@@ -141,7 +139,7 @@ impl<'r> URIReference<'r> {
         ensures takes_no_memory { print (normal self.old) ≡ print self.old → IsOk result }
         ensures canonical_takes_no_memory { canonical_texts self.old ≡ self.old → IsOk result }
 
-        // References that are the same get one normal form.
+        // Equal references have one normal form.
         ensures equal { OnOk result ((q : Parts) → Valid q → Same self.old q → self.new ≡ normal q) }
     {
         if self.is_normal() {
@@ -150,8 +148,7 @@ impl<'r> URIReference<'r> {
         self.put_normal(alloc)
     }
 
-    /// Puts the normal form in the reference's place. Wants memory for the texts that aren't
-    /// canonical.
+    /// Replaces the reference by its normal form. Allocates for the texts that are not canonical.
     fn put_normal(&mut self, alloc: Global) -> Result<(), AllocError>
         ensures ok { OnOk result (self.new ≡ normal self.old) }
         ensures err { OnErr result (self.new ≡ self.old) }

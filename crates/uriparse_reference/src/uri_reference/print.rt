@@ -13,7 +13,7 @@ use uriparse_authority::authority::Authority;
 use uriparse_authority::parts::most_authority_bytes;
 use uriparse_scheme::scheme::Scheme;
 
-/// How many bytes the scheme has, or none where there is no scheme.
+/// The number of bytes of the scheme, 0 without one.
 pub(super) fn len_of_scheme(scheme: &Option<Scheme<'_>>) -> usize
     ensures { result ≡ length (unwrap_or (option_map schemes.text scheme.now) []) }
 {
@@ -23,8 +23,7 @@ pub(super) fn len_of_scheme(scheme: &Option<Scheme<'_>>) -> usize
     }
 }
 
-/// How many bytes the authority's text has at most, none where there is no authority, or the most
-/// that a number holds.
+/// An upper bound for the number of bytes of the authority's text, 0 without one, or `usize::MAX`.
 pub(super) fn most_of_authority(authority: &Option<Authority<'_>>) -> usize
     ensures { length (unwrap_or (option_map authorities.print authority.now) []) ≤ result ⊎ result ≡ usize.MAX }
 {
@@ -64,7 +63,7 @@ pub(super) fn write_authority<W: fmt::Write>(
     Ok(())
 }
 
-/// Writes a mark and the part behind it, if there is one.
+/// Writes a delimiter and the component that follows it, if there is one.
 pub(super) fn write_behind<W: fmt::Write>(
     mark: &str,
     part: Option<&str>,

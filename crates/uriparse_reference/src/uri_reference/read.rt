@@ -1,4 +1,5 @@
-//! How the text of a reference is cut and its pieces are read: RFC 3986, sections 3 and 4.
+//! Cutting the text of a reference into its components, and reading these: RFC 3986, sections 3 and
+//! 4.
 ghost use Rattle.std.specs.Prelude.{◌≡◌, position, ◌||◌, not, Option, drop, IfSome, is_some, true, false, Ok, Err, MatchOption, MatchResult};
 ghost use Rattle.std.specs.Option.{option_copied, option_map};
 ghost use Rattle.uriparse_text.specs.Readings.{if_present, of_piece, unless_fault};
@@ -103,7 +104,7 @@ fn scheme_if(text: &[u8]) -> Option<Scheme<'_>>
     }
 }
 
-/// Whether the text of a scheme is there.
+/// Whether there is a scheme: its text is not empty.
 fn is_there(scheme: &[u8]) -> bool
     ensures { result ≡ is_some (if_some scheme.now) }
 {
@@ -113,7 +114,7 @@ fn is_there(scheme: &[u8]) -> bool
     }
 }
 
-/// What stands behind the two slashes that a text begins with, if it does.
+/// What follows two leading slashes.
 fn behind_two_slashes(text: &[u8]) -> Option<&[u8]>
     ensures { MatchOption result (has_two_slashes text.now ≡ false) (λ r. (has_two_slashes text.now ≡ true) × (r.now ≡ drop 2 text.now)) }
 {
@@ -123,8 +124,7 @@ fn behind_two_slashes(text: &[u8]) -> Option<&[u8]>
     }
 }
 
-/// Finds the authority that the text begins with after two slashes, and what follows it; or none,
-/// and the text.
+/// Finds the authority after two leading slashes, and what follows it; or none, and the whole text.
 #[inline(always)]
 fn find_front(text: &[u8]) -> Result<(Option<FoundAuthority<'_>>, &[u8]), URIReferenceError>
     ensures { MatchResult result (λ r. (of_piece errors.Authority (if_present authority.reading (cut_authority text.now)) ≡ Ok r.0) × (r.1.now ≡ without_authority text.now)) (λ e. of_piece errors.Authority (if_present authority.reading (cut_authority text.now)) ≡ Err e) }
@@ -158,7 +158,7 @@ fn check_path(has_scheme: bool, has_authority: bool, path: &[u8]) -> Result<(), 
     }
 }
 
-/// The query that stands behind a path, if there is one, and the text of the fragment behind it.
+/// The query that follows a path, if present, and the text of the fragment that follows it.
 fn find_query(text: &[u8]) -> Result<(Found<'_, QueryKind>, Option<&[u8]>), QueryError>
     ensures { MatchResult result (λ r. (if_present query.reading (tail_query text.now) ≡ Ok r.0) × (option_copied r.1 ≡ tail_fragment text.now)) (λ e. if_present query.reading (tail_query text.now) ≡ Err e) }
 {
@@ -169,7 +169,7 @@ fn find_query(text: &[u8]) -> Result<(Found<'_, QueryKind>, Option<&[u8]>), Quer
     }
 }
 
-/// Finds the query and the fragment that stand behind a path.
+/// Finds the query and the fragment that follow a path.
 fn find_behind(
     text: &[u8],
 ) -> Result<(Found<'_, QueryKind>, Found<'_, FragmentKind>), URIReferenceError>
@@ -181,20 +181,20 @@ fn find_behind(
     }
 }
 
-/// A path, a query and a fragment that were found.
+/// A path, a query and a fragment, as they were found in a text.
 #[derive(Drop)]
 pub struct FoundTail<'t> {
     pub path: &'t [u8],
-    /// How many segments the path has.
+    /// The number of the path's segments.
     pub count: usize,
-    /// 0 only where no escape stands in the path.
+    /// 0 only if the path has no percent-encoded octet.
     pub escaped: usize,
     pub query: Found<'t, QueryKind>,
     pub fragment: Found<'t, FragmentKind>,
 }
 
-/// Finds the path, the query and the fragment of what follows a scheme, or none, and an authority,
-/// or none. Takes no memory.
+/// Finds the path, the query and the fragment in what follows the scheme and the authority, if
+/// present. Does not allocate.
 fn find_tail(
     has_scheme: bool,
     has_authority: bool,
@@ -214,8 +214,7 @@ fn find_tail(
     })
 }
 
-/// The pieces of a reference, which borrow the text that they stand in: words that nothing has to be
-/// dropped of. The scheme is its text, which is empty where there is none.
+/// The components of a reference, as slices of its text: plain words, which need no drop.
 #[derive(Drop)]
 pub struct Pieces<'t> {
     pub scheme: &'t [u8],
@@ -232,7 +231,7 @@ impl<'t> Pieces<'t> {
     }
 }
 
-/// Finds the pieces of a reference, or its fault. Takes no memory.
+/// Finds the components of a reference, or its fault. Does not allocate.
 #[inline(always)]
 #[tactic(auto, unfolding(crate::specs::Reading::reading))]
 pub fn find_pieces(text: &[u8]) -> Result<Pieces<'_>, URIReferenceError>
@@ -248,8 +247,8 @@ pub fn find_pieces(text: &[u8]) -> Result<Pieces<'_>, URIReferenceError>
     })
 }
 
-/// The path that the text of a path stands for, absolute behind an authority. Room for so many
-/// segments is asked for. `escaped` is 0 only where no escape stands in the text.
+/// The path that a text stands for, absolute with an authority. Reserves capacity for `count`
+/// segments. `escaped` is 0 only if the text has no percent-encoded octet.
 fn make_path(
     alloc: Global,
     has_authority: bool,
@@ -272,8 +271,8 @@ fn make_path(
 }
 
 impl<'r> URIReference<'r> {
-    /// The reference of pieces that were found in the text. Memory is wanted for the segments of its
-    /// path, and asked for first.
+    /// The reference of the components that were found in the text. Allocates for the list of
+    /// segments, before anything else.
     #[inline(always)]
     fn of_pieces(
         alloc: Global,
@@ -307,8 +306,8 @@ impl<'r> URIReference<'r> {
         })
     }
 
-    /// Finds the pieces of the text, and makes the reference of them: a fault is answered whatever
-    /// memory there is.
+    /// Finds the components of the text, and then builds the reference: a fault is returned even if
+    /// memory has run out.
     pub(super) fn read(
         alloc: Global,
         bytes: &'r [u8],

@@ -1,5 +1,4 @@
-//! The reference that leads from a base to a target: what RFC 3986, section 5.2, makes the target of
-//! again.
+//! The reference that leads from a base to a target: the reverse of RFC 3986, section 5.2.
 ghost use Rattle.std.specs.Prelude.{◌≡◌, ◌↔◌, ◌⊎◌, IfOk, IsSome, IsTrue, None, Some, option_copied};
 ghost use Rattle.uriparse_path.specs.Dots.{has_dot_segment};
 ghost use Rattle.uriparse_path.specs.Path.{IsListed};
@@ -16,16 +15,16 @@ use uriparse_scheme::scheme::Scheme;
 use uriparse_text::parts::{Kind, Text, borrowed_text};
 use uriparse_text::query::Query;
 
-// ---- what is one, part for part and in one spelling
+// ---- equality of components, in the same spelling
 
-/// Whether the schemes are one, in one spelling.
+/// Whether the schemes are equal, in the same spelling.
 fn is_same_scheme(left: &Scheme<'_>, right: &Scheme<'_>) -> bool
     ensures { IsTrue result ↔ (left.now ≡ right.now) }
 {
     left.as_bytes() == right.as_bytes()
 }
 
-/// Whether there is one scheme, or none.
+/// Whether both are absent, or present and equal in the same spelling.
 fn has_same_scheme(left: Option<&Scheme<'_>>, right: Option<&Scheme<'_>>) -> bool
     ensures { IsTrue result ↔ (option_copied left.entry ≡ option_copied right.entry) }
 {
@@ -36,7 +35,7 @@ fn has_same_scheme(left: Option<&Scheme<'_>>, right: Option<&Scheme<'_>>) -> boo
     }
 }
 
-/// Whether there is one text, or none.
+/// Whether both are absent, or present and equal in the same spelling.
 fn has_same_text<K: Kind>(left: Option<&Text<'_, K>>, right: Option<&Text<'_, K>>) -> bool
     ensures { IsTrue result ↔ (option_copied left.entry ≡ option_copied right.entry) }
 {
@@ -47,7 +46,7 @@ fn has_same_text<K: Kind>(left: Option<&Text<'_, K>>, right: Option<&Text<'_, K>
     }
 }
 
-/// Whether the hosts are one, in one spelling.
+/// Whether the hosts are equal, in the same spelling.
 fn is_same_host(left: &Host<'_>, right: &Host<'_>) -> bool
     ensures { IsTrue result ↔ (left.now ≡ right.now) }
 {
@@ -62,7 +61,7 @@ fn is_same_host(left: &Host<'_>, right: &Host<'_>) -> bool
     }
 }
 
-/// Whether the authorities are one, part for part and in one spelling.
+/// Whether the authorities are equal, component by component and in the same spelling.
 fn is_same_authority(left: &Authority<'_>, right: &Authority<'_>) -> bool
     ensures { IsTrue result ↔ (left.now ≡ right.now) }
 {
@@ -72,7 +71,7 @@ fn is_same_authority(left: &Authority<'_>, right: &Authority<'_>) -> bool
         && has_same_text(left.password(), right.password())
 }
 
-/// Whether there is one authority, or none.
+/// Whether both are absent, or present and equal in the same spelling.
 fn has_same_authority(left: Option<&Authority<'_>>, right: Option<&Authority<'_>>) -> bool
     ensures { IsTrue result ↔ (option_copied left.entry ≡ option_copied right.entry) }
 {
@@ -83,9 +82,9 @@ fn has_same_authority(left: Option<&Authority<'_>>, right: Option<&Authority<'_>
     }
 }
 
-// ---- what leads from a base to a target
+// ---- from a base to a target
 
-/// The target, without its scheme where it has an authority. It borrows the target's texts.
+/// The target, without its scheme if it has an authority. It borrows the target's texts.
 fn network<'r>(alloc: Global, target: &'r URIReference<'_>) -> Result<URIReference<'r>, AllocError>
     ensures { IfOk result (λ r. r ≡ spec.network target.now) }
 {
@@ -97,7 +96,8 @@ fn network<'r>(alloc: Global, target: &'r URIReference<'_>) -> Result<URIReferen
     Ok(copy)
 }
 
-/// Whether the paths are one without dot segments, and the target has a query or the base has none.
+/// Whether the paths are equal and have no dot segments, and the target has a query or the base has
+/// none.
 fn is_in_place(base: &URIReference<'_>, target: &URIReference<'_>) -> bool
     ensures { IsTrue result ↔ spec.IsInPlace base.now target.now }
 {
@@ -106,7 +106,7 @@ fn is_in_place(base: &URIReference<'_>, target: &URIReference<'_>) -> bool
         && (target.query().is_some() || base.query().is_none())
 }
 
-/// The target's query, or none where the base has the same.
+/// The target's query, or none if the base has the same.
 fn query_left<'r>(base: &URIReference<'_>, target: &'r URIReference<'_>) -> Option<Query<'r>>
     ensures { spec.IsQueryLeft base.now target.now result }
 {
@@ -116,8 +116,8 @@ fn query_left<'r>(base: &URIReference<'_>, target: &'r URIReference<'_>) -> Opti
     borrowed_text(target.query())
 }
 
-/// What leads from a base to a target in the same place: a query, if it isn't the same, and a
-/// fragment. It borrows their texts.
+/// The reference that leads from a base to a target with the same path: a query, if it differs, and
+/// a fragment. It borrows their texts.
 fn in_place<'r>(
     alloc: Global,
     base: &URIReference<'_>,
@@ -135,14 +135,14 @@ fn in_place<'r>(
     })
 }
 
-/// Whether the path is absolute, and its text begins with one slash alone.
+/// Whether the path is absolute, and its text does not start with `//`.
 fn stands_alone(path: &Path<'_>) -> bool
     ensures { result ≡ spec.stands_alone path.now }
 {
     path.is_absolute() && !has_two_slashes(path)
 }
 
-/// The path that leads from the base's path to the target's, where schemes and authorities are one.
+/// The path that leads from the base's path to the target's, if schemes and authorities are equal.
 /// It borrows the texts of the target's path.
 fn inner_path<'r>(
     alloc: Global,
@@ -160,7 +160,7 @@ fn inner_path<'r>(
     Ok(None)
 }
 
-/// The target's query and fragment behind a path that leads to the target's path.
+/// The reference of a path that leads to the target's path, with the target's query and fragment.
 fn behind_path<'r>(
     base: &URIReference<'_>,
     target: &'r URIReference<'_>,
@@ -180,9 +180,9 @@ fn behind_path<'r>(
     }
 }
 
-/// The reference that leads from a base to a target that has a scheme: behind the base it has the
-/// target that the target itself has. It borrows the target's texts; room for the list of segments
-/// is asked for once.
+/// The reference that leads from a base to a target with a scheme: resolved against the base, it
+/// yields what the target itself yields. It borrows the target's texts. Allocates once, for the
+/// list of segments.
 pub fn relativize<'r>(
     alloc: Global,
     base: &URIReference<'_>,

@@ -1,4 +1,4 @@
-//! The target of a reference behind a base: RFC 3986, section 5.2.
+//! Resolving a reference against a base: RFC 3986, section 5.2.
 ghost use Rattle.std.specs.Prelude.{◌≡◌, ◌||◌, Err, IfOk, IsSome, MatchOption, MatchResult, Ok, false, if◌then◌else◌, is_some, not, option_copied};
 ghost use Rattle.std.specs.Option.{option_or};
 ghost use Rattle.uriparse_text.specs.Readings.{IsUnless};
@@ -116,14 +116,14 @@ fn target_path<'r>(
     Ok(merged)
 }
 
-/// The target of a reference behind a base that has a scheme, which borrows the texts of both.
-/// Nothing is normalised but that dot segments are removed where section 5.2.2 says so; where no
-/// authority stands before a path that would begin with two slashes, a `.` stands in front of it.
+/// Resolves a reference against a base with a scheme. The target borrows the texts of both. Nothing
+/// is normalized, but dot segments are removed as section 5.2.2 says. Without an authority, a path
+/// that would start with `//` gets a leading `/.`.
 ///
-/// [`Path`](URIReferenceError::Path) with
-/// [`ExceededMaximumLength`](PathError::ExceededMaximumLength) is answered where paths are merged
-/// and have more segments together than a path may have, whatever memory there is. Else room for
-/// the list of segments is asked for once; where there is none, it is
+/// Returns [`Path`](URIReferenceError::Path) with
+/// [`ExceededMaximumLength`](PathError::ExceededMaximumLength) if merged paths have more segments
+/// than a path may have, even if memory has run out. Allocates once, for the list of segments; if
+/// memory runs out, returns [`Path`](URIReferenceError::Path) with
 /// [`OutOfMemory`](PathError::OutOfMemory).
 pub fn resolve<'r>(
     alloc: Global,

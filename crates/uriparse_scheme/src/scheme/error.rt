@@ -1,22 +1,23 @@
-//! Why a scheme is refused.
+//! Why a text is not a scheme.
 
 use thiserror::Error;
 
-/// Why a text is no scheme: RFC 3986, section 3.1. The leftmost fault answers.
+/// Why a text is not a scheme: RFC 3986, section 3.1. The leftmost fault is returned.
 #[derive(Clone, Debug, Drop, PartialEq, Eq, Hash, Error)]
 pub enum SchemeError {
-    /// There is nothing to read.
+    /// The text is empty.
     #[error("scheme is empty")]
     Empty,
-    /// The first byte is no letter.
+    /// The first byte is not a letter.
     #[error("scheme starts with non-alphabetic character")]
     StartsWithNonAlphabetic,
-    /// A later byte is no letter, no digit, and none of `+`, `-` and `.`; a `:` too.
+    /// A later byte, such as a `:`, is not a letter, a digit, `+`, `-` or `.`.
     #[error("invalid scheme character")]
     InvalidCharacter,
 }
 
-/// Why a text is no unregistered scheme: it is no scheme, or the name of a registered one.
+/// Why a text is not an unregistered scheme: it is not a scheme, or it is the name of a registered
+/// one.
 #[derive(Clone, Debug, Drop, PartialEq, Eq, Hash, Error)]
 #[error("invalid unregistered scheme")]
 pub struct UnregisteredSchemeError;

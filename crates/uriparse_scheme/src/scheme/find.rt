@@ -1,4 +1,4 @@
-//! Looking a name up in the table, with no memory.
+//! Looking up a name in the table. Nothing here allocates.
 ghost use Rattle.std.specs.Prelude.{◌≡◌, slice_get};
 ghost use Rattle.std.specs.Option.{option_and_then};
 ghost use Rattle.std.specs.Cmp.Lexicographic.{slice_cmp};
@@ -11,14 +11,14 @@ use super::registered::RegisteredScheme;
 use super::table::SCHEMES;
 use std::cmp::Ordering;
 
-/// The registered schemes, in the order of their names.
+/// The registered schemes, sorted by name.
 fn all_schemes() -> &'static [RegisteredScheme]
     ensures { result.now ≡ variants }
 {
     &SCHEMES
 }
 
-/// How the name compares with the text in lower case.
+/// Compares the name with the text in lower case.
 fn compare_lowered(name: &[u8], text: &[u8]) -> Ordering
     ensures { result ≡ slice_cmp nat_cmp name.now (str_to_ascii_lowercase text.now) }
 {
@@ -42,7 +42,7 @@ fn compare_lowered(name: &[u8], text: &[u8]) -> Ordering
     }
 }
 
-/// Where the registered scheme with this name stands, in any case.
+/// The index in the table of the registered scheme with this name, in any case.
 fn row_named(text: &[u8]) -> Option<usize>
     ensures { option_and_then (slice_get variants) result ≡ spec.registered_named (str_to_ascii_lowercase text.now) }
 {
@@ -55,14 +55,14 @@ fn row_named(text: &[u8]) -> Option<usize>
         .ok()
 }
 
-/// The registered scheme with this name, in any case, by a search of the table.
+/// Searches the table for the registered scheme with this name, in any case.
 fn searched_scheme(text: &[u8]) -> Option<RegisteredScheme>
     ensures { result ≡ spec.registered_named (str_to_ascii_lowercase text.now) }
 {
     all_schemes().get(row_named(text)?).copied()
 }
 
-/// The one scheme of those that most texts have whose name has this length and this first letter.
+/// The only frequent scheme whose name has the length and the first letter of the text.
 fn frequent(text: &[u8]) -> Option<RegisteredScheme> {
     let first = text.first()?.to_ascii_lowercase();
     match (text.len(), first) {

@@ -1,4 +1,4 @@
-//! What the table says of a registered scheme.
+//! The name and the status of a registered scheme.
 ghost use Rattle.std.specs.Prelude.{◌≡◌, true, bytes_eq};
 ghost use Rattle.std.proofs.Common.{rules};
 ghost use Rattle.std.specs.Ordering.{on};
@@ -17,7 +17,7 @@ use std::fmt;
 use std::hash::{Hash, Hasher};
 
 impl RegisteredScheme {
-    /// The name, in lower case. Takes no memory.
+    /// The name, in lower case. Does not allocate.
     pub fn name(self) -> &'static str
         ensures value { result.now ≡ spec.name_of self }
         ensures grammar { is_scheme (spec.name_of self) ≡ true }
@@ -25,7 +25,7 @@ impl RegisteredScheme {
         row_of(self).0
     }
 
-    /// What this library's table says of the scheme. Takes no memory.
+    /// The status in this library's table. Does not allocate.
     pub fn status(self) -> SchemeStatus
         ensures { result ≡ spec.status_of self }
     {

@@ -2,8 +2,8 @@
 
 /// A registered scheme whose name begins with `ms-`.
 ///
-/// It stands in [`RegisteredScheme`](super::RegisteredScheme), since one enum has room for 256
-/// variants only. It is copied freely and takes no memory.
+/// It is a separate enum within [`RegisteredScheme`](super::RegisteredScheme) because an enum has
+/// at most 256 variants. It is `Copy` and needs no memory.
 #[derive(Clone, Copy)]
 pub enum MicrosoftScheme {
     /// `ms-access`

@@ -28,7 +28,7 @@ pub fn is_scheme(bytes: &[u8]) -> bool
     }
 }
 
-/// Why the bytes are no scheme, if they are none.
+/// Why the bytes are not a scheme, if they are not.
 #[tactic(auto, unfolding(crate::specs::Scheme::fault))]
 pub(super) fn fault_of(bytes: &[u8]) -> Option<SchemeError>
     ensures { result ≡ fault bytes.now }

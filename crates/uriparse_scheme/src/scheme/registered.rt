@@ -2,10 +2,10 @@
 
 use super::microsoft::MicrosoftScheme;
 
-/// A scheme of this library's table: RFC 3986, section 3.1, which speaks of a registry.
+/// A scheme in this library's table. RFC 3986, section 3.1, refers to a registry of schemes.
 ///
-/// It is copied freely and takes no memory. [`Scheme`](super::Scheme) has a constant for each of
-/// them. Two are equal where they have one name.
+/// It is `Copy` and needs no memory. [`Scheme`](super::Scheme) has a constant for each of them. Two
+/// are equal if they have the same name.
 #[derive(Clone, Copy)]
 pub enum RegisteredScheme {
     /// `aaa`
@@ -272,7 +272,7 @@ pub enum RegisteredScheme {
     MongoDB,
     /// `moz`
     Moz,
-    /// One whose name begins with `ms-`
+    /// A scheme whose name begins with `ms-`
     Microsoft(MicrosoftScheme),
     /// `msnim`
     MSNIM,

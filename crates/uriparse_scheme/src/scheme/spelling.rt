@@ -1,5 +1,5 @@
-//! Comparing and hashing schemes by their canonical spelling, with no memory: RFC 3986, section
-//! 6.2.2.1.
+//! Comparing and hashing schemes by their canonical spelling: RFC 3986, section 6.2.2.1. Nothing
+//! here allocates.
 ghost use Rattle.std.specs.Prelude.{◌≡◌, true, fold, bytes_eq};
 ghost use Rattle.uriparse_text.specs.Canonical.{canonical_lowered, fed_text};
 ghost use Rattle.uriparse_scheme.specs.Grammar.{is_scheme};
@@ -7,7 +7,7 @@ ghost use Rattle.uriparse_scheme.specs.Grammar.{is_scheme};
 use std::hash::Hasher;
 use uriparse_text::parts::{Case, feed_text};
 
-/// Whether two schemes differ at most in the case of letters.
+/// Whether two schemes differ only in the case of letters.
 pub(super) fn same_lowered(left: &[u8], right: &[u8]) -> bool
     requires left { is_scheme left.now ≡ true }
     requires right { is_scheme right.now ≡ true }
@@ -16,7 +16,7 @@ pub(super) fn same_lowered(left: &[u8], right: &[u8]) -> bool
     left.eq_ignore_ascii_case(right)
 }
 
-/// Feeds a scheme in lower case to the hasher, and then 0xFF.
+/// Feeds the scheme in lower case, followed by 0xFF, to the hasher.
 pub(super) fn feed_lowered<H: Hasher>(bytes: &[u8], state: &mut H)
     ensures { state.new ≡ fold H.write state.old (fed_text (canonical_lowered bytes.now)) }
 {

@@ -2,16 +2,16 @@
 ghost use Rattle.std.specs.Prelude.{◌≡◌, ◌↔◌, IsTrue};
 ghost use Rattle.uriparse_scheme.specs.declared.scheme.status.SchemeStatus.TheVariants as status;
 
-/// What this library's table of registered schemes says of a scheme.
+/// The status of a scheme in this library's table.
 #[derive(Clone, Copy, Debug, PartialEq, Eq, Hash)]
 pub enum SchemeStatus {
-    /// It was used once.
+    /// Registered, but no longer in use.
     Historical,
-    /// It is registered for good.
+    /// Registered permanently.
     Permanent,
-    /// It is registered for the time being.
+    /// Registered provisionally.
     Provisional,
-    /// It isn't registered.
+    /// Not registered.
     Unregistered,
 }
 

@@ -3,7 +3,7 @@
 use super::microsoft::MicrosoftScheme;
 use super::registered::RegisteredScheme;
 
-/// One row for each of them. They rise by name, so a name is found by halves.
+/// The registered schemes, sorted by name for a binary search.
 pub(super) static SCHEMES: [RegisteredScheme; 304] = [
     RegisteredScheme::AAA,
     RegisteredScheme::AAAS,

@@ -1,4 +1,4 @@
-//! A scheme that the table doesn't have: RFC 3986, section 3.1.
+//! A scheme that is not in the table: RFC 3986, section 3.1.
 ghost use Rattle.std.specs.Prelude.{◌≡◌, ◌↔◌, IsTrue, IfOk, OnOk, OnErr, IsOk, Some, true, bytes_eq, string_bytes};
 ghost use Rattle.std.proofs.Common.{rules};
 ghost use Rattle.std.specs.Ordering.{on};
@@ -19,13 +19,13 @@ use std::marker::Model;
 use std::{fmt, str};
 use uriparse_text::parts::{Case, canonical_bytes, is_canonical};
 
-/// A scheme that isn't registered: a letter, and then letters, digits, `+`, `-` and `.`, which in
-/// no case is the name of a registered scheme. RFC 3986, section 3.1.
+/// A scheme that is not registered: a letter, followed by letters, digits, `+`, `-` and `.`, which
+/// in no case is the name of a registered scheme. RFC 3986, section 3.1.
 ///
-/// It borrows the text that it was read from, or owns its text, and keeps its spelling until it is
-/// normalized. Its readers take no memory and refuse any other text by the one
-/// [`UnregisteredSchemeError`]. Two of them are equal where they differ at most in the case of
-/// letters, and equal ones feed a hasher the same bytes: section 6.2.2.1.
+/// It borrows the text that was read, or owns its text, and keeps its spelling until it is
+/// normalized. Reading does not allocate, and rejects any other text with
+/// [`UnregisteredSchemeError`]. Two are equal if they differ only in the case of letters, and equal
+/// ones have equal hashes: section 6.2.2.1.
 ///
 /// ```
 /// let scheme = UnregisteredScheme::try_from_str("X-Files")?;
@@ -50,9 +50,9 @@ impl<'s> Model for UnregisteredScheme<'s> {
 }
 
 impl<'s> UnregisteredScheme<'s> {
-    /// Reads an unregistered scheme, which borrows the bytes. Takes no memory.
+    /// Reads an unregistered scheme, which borrows the bytes. Does not allocate.
     ///
-    /// All that is no scheme is refused, and the name of each registered scheme in any case.
+    /// Rejects a text that is no scheme, and the name of a registered scheme in any case.
     pub fn try_from_bytes(
         bytes: &'s [u8],
     ) -> Result<UnregisteredScheme<'s>, UnregisteredSchemeError>
@@ -64,14 +64,14 @@ impl<'s> UnregisteredScheme<'s> {
         Ok(UnregisteredScheme::of_checked(bytes))
     }
 
-    /// The same from a text.
+    /// Like `try_from_bytes`, for a `str`.
     pub fn try_from_str(text: &'s str) -> Result<UnregisteredScheme<'s>, UnregisteredSchemeError>
         ensures { result ≡ reading text.now }
     {
         UnregisteredScheme::try_from_bytes(text.as_bytes())
     }
 
-    /// The scheme of bytes that are known to be one. It borrows them.
+    /// The scheme that these bytes spell, borrowing them. The caller knows that they are one.
     pub(super) fn of_checked(bytes: &'s [u8]) -> UnregisteredScheme<'s>
         requires { grammar.IsUnregistered bytes.now }
         ensures { result ≡ bytes.now }
@@ -81,7 +81,7 @@ impl<'s> UnregisteredScheme<'s> {
         }
     }
 
-    /// The text, as it was spelled. Takes no memory.
+    /// The text, as it was spelled. Does not allocate.
     pub fn as_str(&self) -> &str
         ensures value { result.now ≡ self.now }
         ensures valid { grammar.IsUnregistered self.now }
@@ -90,7 +90,7 @@ impl<'s> UnregisteredScheme<'s> {
         self.text.as_str()
     }
 
-    /// The text as bytes. Takes no memory.
+    /// The text as bytes. Does not allocate.
     pub fn as_bytes(&self) -> &[u8]
         ensures value { result.now ≡ self.now }
         ensures valid { grammar.IsUnregistered self.now }
@@ -99,7 +99,7 @@ impl<'s> UnregisteredScheme<'s> {
         self.as_str().as_bytes()
     }
 
-    /// The same scheme, which borrows this one's text. Takes no memory.
+    /// The same scheme, borrowing this one's text. Does not allocate.
     pub fn as_borrowed(&self) -> UnregisteredScheme<'_>
         ensures { result ≡ self.now }
     {
@@ -108,8 +108,8 @@ impl<'s> UnregisteredScheme<'s> {
         }
     }
 
-    /// The same scheme, which owns its text. Borrowed text is copied, which wants memory; where
-    /// there is none, the scheme is gone.
+    /// The same scheme, owning its text. Copies borrowed text, which allocates; if memory runs out,
+    /// the scheme is lost.
     pub fn into_owned(self, alloc: Global) -> Result<UnregisteredScheme<'static>, AllocError>
         ensures { IfOk result (λ s. s ≡ self.entry) }
     {
@@ -118,23 +118,23 @@ impl<'s> UnregisteredScheme<'s> {
         })
     }
 
-    /// A copy of the text. Wants memory.
+    /// Copies the text into a new `String`. Allocates.
     pub fn to_string(&self, alloc: Global) -> Result<String, AllocError>
         ensures { IfOk result (λ s. string_bytes s ≡ self.now) }
     {
         String::from_str(alloc, self.as_str())
     }
 
-    /// Whether the text is its canonical spelling, which is the text in lower case: RFC 3986,
-    /// section 6.2.2.1. Takes no memory.
+    /// Whether the text is in its canonical spelling, lower case: RFC 3986, section 6.2.2.1. Does
+    /// not allocate.
     pub fn is_normalized(&self) -> bool
         ensures { IsTrue result ↔ (canonical_lowered self.now ≡ self.now) }
     {
         is_canonical(Case::Lowered, self.as_bytes())
     }
 
-    /// Puts the text in lower case: RFC 3986, section 6.2.2.1. Wants memory only where that changes
-    /// it; where there is none, the scheme is unchanged. A second call changes nothing.
+    /// Converts the text to lower case: RFC 3986, section 6.2.2.1. Allocates only if that changes
+    /// the text. If memory runs out, the scheme is unchanged. A second call changes nothing.
     pub fn normalize(&mut self, alloc: Global) -> Result<(), AllocError>
         ensures ok { OnOk result (self.new ≡ canonical_lowered self.old) }
         ensures err { OnErr result (self.new ≡ self.old) }
@@ -147,7 +147,7 @@ impl<'s> UnregisteredScheme<'s> {
         Ok(())
     }
 
-    /// A scheme that owns the canonical spelling of this one.
+    /// The same scheme in canonical spelling, owning its text. Allocates.
     pub(crate) fn to_normalized(
         &self,
         alloc: Global,
@@ -160,15 +160,15 @@ impl<'s> UnregisteredScheme<'s> {
         })
     }
 
-    /// Whether the bytes are this scheme in any case. Escapes are not read: a scheme has none.
-    /// Takes no memory.
+    /// Whether the bytes are this scheme in any case. Percent-encoded octets are not decoded: a
+    /// scheme has none. Does not allocate.
     pub fn eq_bytes(&self, bytes: &[u8]) -> bool
         ensures { IsTrue result ↔ (str_to_ascii_lowercase bytes.now ≡ str_to_ascii_lowercase self.now) }
     {
         bytes.eq_ignore_ascii_case(self.as_bytes())
     }
 
-    /// The same for a text.
+    /// Like `eq_bytes`, for a `str`.
     pub fn eq_str(&self, text: &str) -> bool
         ensures { IsTrue result ↔ (str_to_ascii_lowercase text.now ≡ str_to_ascii_lowercase self.now) }
     {
@@ -203,7 +203,7 @@ impl<'s> Hash for UnregisteredScheme<'s> {
 impl<'s> fmt::Display for UnregisteredScheme<'s> {
     ghost output = { λ s. Some s };
 
-    // No option of the formatter changes it.
+    // The formatter's options do not change the output.
     ghost styled_output = { λ s _. Some s };
 
     fn fmt<W: fmt::Write>(&self, f: &mut fmt::Formatter<W>) -> fmt::Result {

@@ -8,7 +8,7 @@ use Rattle.uriparse_reference.proofs.EditLemmas.{edited_none, no_refusal, valid_
 use Rattle.uriparse_reference.proofs.uri_reference.URIReference.remove_authority.Goals.{In-None}
 use Rattle.uriparse_reference.proofs.uri_reference.URIReference.remove_authority.Goals as goal
 
--- the path may stand where there is no authority
+-- the path may be without an authority
 fits : (c : In-None) → path_refusal (is_some c.self.inside.scheme) false (text c.self.inside.path) ≡ None
 fits c =
     no_refusal (is_some c.self.inside.scheme) false c.is_some.result false (text c.self.inside.path) c.place_refusal.result c.is_some.ensures refl

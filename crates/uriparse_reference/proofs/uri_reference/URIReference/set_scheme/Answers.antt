@@ -8,7 +8,7 @@ use Rattle.uriparse_reference.proofs.EditLemmas.{edited_scheme, no_refusal, vali
 use Rattle.uriparse_reference.proofs.uri_reference.URIReference.set_scheme.Goals.{In-None}
 use Rattle.uriparse_reference.proofs.uri_reference.URIReference.set_scheme.Goals as goal
 
--- the path may stand with the new scheme
+-- the path may follow the new scheme
 fits : (c : In-None) → path_refusal (is_some c.args.scheme) (is_some c.self.inside.authority) (text c.self.inside.path) ≡ None
 fits c =
     no_refusal (is_some c.args.scheme) (is_some c.self.inside.authority) c.has_scheme.result c.is_some.result (text c.self.inside.path)

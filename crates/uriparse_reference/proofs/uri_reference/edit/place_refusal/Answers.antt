@@ -4,7 +4,7 @@ use Rattle.uriparse_reference.specs.Reference.{path_refusal, is_noscheme}
 use Rattle.uriparse_reference.specs.declared.uri_reference.error.URIReferenceError.TheVariants as errors
 use Rattle.uriparse_reference.proofs.uri_reference.edit.place_refusal.Goals as goal
 
--- two slashes are refused where there is no authority
+-- two leading slashes are rejected without an authority
 twice : (v w : Bool) (t : List ℕ) → w ≡ false → has_two_slashes t ≡ true → Some errors.AbsolutePathStartsWithTwoSlashes ≡ path_refusal v w t
 twice v w t e f =
     sym (ap (λ u. path_refusal v u t) e
