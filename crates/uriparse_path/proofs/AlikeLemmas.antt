@@ -1,4 +1,4 @@
--- Texts are spelled alike where they are piece by piece: what stands before a slash, and what stands behind it.
+-- Texts are spelled alike if they are so piece by piece, before a slash and after it.
 use Rattle.std.proofs.Common.{◌≡◌, ◌↔◌, ℕ, ◌+◌, ◌<◌, ◌≤◌, Bool, true, false, cond, List, [], ◌∷◌, ◌++◌, length, map, flat_map, take, drop, get_or, refl, sym, ap, subst, ◌∙◌}
 use Rattle.std.proofs.Common.{append-nil}
 use Rattle.std.specs.Prelude.{bytes_eq, ◌&&◌, ◌==◌}
@@ -36,7 +36,7 @@ use Rattle.uriparse_path.proofs.RelativeLemmas.{empty_segment}
 abbrev behind : List (List ℕ) → List ℕ
 behind ss = flat_map (λ s. slash ∷ s) ss
 
--- ---- a text and the rest behind it, which is empty or begins with a slash
+-- ---- a text and the rest after it, which is empty or begins with a slash
 
 tokens-rest : (t r : List ℕ) → IsRest r → tokens (t ++ r) ≡ tokens t ++ tokens r
 tokens-rest t [] is = ap tokens (append-nil t) ∙ sym (ap (λ ts. tokens t ++ ts) tokens-nil ∙ append-nil (tokens t))
@@ -97,7 +97,7 @@ pub is_rest-slash : (r : List ℕ) → get_or r 0 0 ≡ slash → IsRest r
 is_rest-slash [] h = tt
 is_rest-slash (b ∷ u) h = h
 
--- a segment's own bytes at the front, with such a rest behind them
+-- a segment's own bytes at the front, with such a rest after them
 pub own_piece : (t s rest : List ℕ) → bytes_eq (take (length s) t) s ≡ true → rest ≡ drop (length s) t → is_segment s ≡ true → IsRest rest
     → SpellsAlike Kept (up_to is_slash t) s × (rest ≡ from_first is_slash t)
 own_piece t s rest same behind h is =
@@ -110,7 +110,7 @@ own_piece t s rest same behind h is =
 
 -- ---- a text that is compared with a path's
 
--- its piece before the first slash with the front, and its rest with what stands behind that
+-- its piece before the first slash with the front, and its rest with what follows that
 pub alike_front : (t shown front : List ℕ) (ss : List (List ℕ)) → shown ≡ front ++ behind ss → is_segment front ≡ true
     → (SpellsAlike Kept (up_to is_slash t) front × SpellsAlike Kept (from_first is_slash t) (behind ss)) ↔ SpellsAlike Kept t shown
 alike_front t shown front ss whole h =
@@ -159,12 +159,12 @@ alike_end t = (
   λ s. canonical-empty t (s.same ∙ canonical-nil),
 )
 
--- of these segments those from a place on are left, and what is left of the text is spelled as they are where the whole is
+-- the segments from a place on are left, and the rest of the text spells them if the whole text spells all
 pub record IsAlikeFrom (t : List ℕ) (ss : List (List ℕ)) (i : ℕ) (rest : List ℕ) : Type 0 where
   pub each : list_all is_segment (drop i ss) ≡ true
   pub alike : SpellsAlike Kept rest (behind (drop i ss)) ↔ SpellsAlike Kept t (behind ss)
 
--- the next segment is that of the text's next piece, if a slash stands before that and the two are alike
+-- the next segment is that of the text's next piece, if a slash precedes it and the two are alike
 module _ (t : List ℕ) (ss : List (List ℕ)) (i : ℕ) (rest s : List ℕ) (is : IsAlikeFrom t ss i rest) (within : i < length ss) (item : s ≡ get_or ss i s)
     (rooted : Bool) (inner : List ℕ) (root : rooted ≡ is_rooted rest) (inside : inner ≡ unrooted rest) where
   abbrev others : List (List ℕ)
@@ -206,7 +206,7 @@ alike_ends t rest ss i is past =
     let empty = alike_end rest in
     (λ e. here.0 (empty.0 e), λ a. empty.1 (here.1 a))
 
--- ---- two paths, by what stands before their first slashes and the segments behind them
+-- ---- two paths, by what precedes their first slashes and the segments after them
 
 one_list : (ss rs : List (List ℕ)) → list_all is_segment ss ≡ true → list_all is_segment rs ≡ true → behind ss ≡ behind rs → ss ≡ rs
 one_list ss rs h k e =
@@ -229,7 +229,7 @@ same_canonical x y ss rs h k each also = (
       ),
 )
 
--- the fronts are alike and so are the segments behind
+-- the fronts are alike, and so are the segments after them
 pub same_paths : (t u x y : List ℕ) (ss rs : List (List ℕ)) (r : Bool) → t ≡ x ++ behind ss → u ≡ y ++ behind rs → is_segment x ≡ true →
     is_segment y ≡ true → list_all is_segment ss ≡ true → list_all is_segment rs ≡ true → SpellsAlike Kept x y →
     r ≡ pointwise (on canonical bytes_eq) ss rs → r ≡ bytes_eq (canonical t) (canonical u)

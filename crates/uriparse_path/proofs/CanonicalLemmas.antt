@@ -19,7 +19,7 @@ use Rattle.uriparse_path.specs.Path.{PathParts, IsListed, IsPath, root, text, is
 use Rattle.uriparse_path.specs.Normal.{canonical_path, is_canonical}
 use Rattle.uriparse_path.proofs.TextLemmas.{spelled-text, listed-respelled, text-spelled, text-cons}
 
--- segments that their canonical spelling leaves as they are
+-- segments in canonical spelling
 pub each_is_canonical : (ss : List (List ℕ)) → map canonical ss ≡ ss → list_all is_canonical ss ≡ true
 each_is_canonical [] e = refl
 each_is_canonical (s ∷ ss) e =

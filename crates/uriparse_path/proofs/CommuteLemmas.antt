@@ -95,7 +95,7 @@ replayed-canonical p h =
     ap (λ v. record { absolute = v; segments = replay [] (map canonical p.segments) }) (rooted-canonical p.absolute [] p.segments h)
     ∙ ap (λ l. record { absolute = rooted_after p.absolute [] p.segments; segments = l }) (replay-canonical [] p.segments h)
 
--- a path that isn't normalised as a relative one: first each segment, then the dots
+-- a path that does not stay relative: first each segment, then the dots
 pub pnormal_without_dots : (p : PathParts) (r : Bool) → IsListed p.segments → stays_relative p r ≡ false → without_dots (canonical_path p) ≡ pnormal p r
 pnormal_without_dots p r is e = by_dots (has_dot_segment p.segments) refl
   where
@@ -182,7 +182,7 @@ shaped-canonical l h k =
     ∙ filled-canonical (guarded l (closed (is_last is_dot_segment l) (reduced l)))
     ∙ sym (relative_is l)
 
--- ---- a canonical spelling has the same outcome
+-- ---- canonical spelling does not change the result
 
 pub canonical_twice : (l : List (List ℕ)) → list_all is_segment l ≡ true → map canonical (map canonical l) ≡ map canonical l
 canonical_twice l h = all_canonical_same (map canonical l) (all_canonical-canonical l h)

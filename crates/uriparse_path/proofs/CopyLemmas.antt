@@ -1,4 +1,4 @@
--- Segments that are put into canonical spelling from the last to the first.
+-- Segments are brought into canonical spelling from the last to the first.
 use Rattle.std.proofs.Common.{◌≡◌, ℕ, ◌+◌, ◌<◌, Bool, true, false, not, cond, List, [], ◌∷◌, ◌++◌, length, map, filter, take, drop, get_or, set, refl, sym, ap}
 use Rattle.std.proofs.Common.{◌∙◌, arith, append_assoc, append-nil}
 use Rattle.std.specs.Prelude.{reverse}
@@ -11,7 +11,7 @@ use Rattle.std.proofs.lemmas.Slice.Eq.{bytes_eq-Decides}
 use Rattle.uriparse_text.specs.Canonical.{canonical}
 use Rattle.uriparse_path.specs.Normal.{is_canonical}
 
--- a segment that is to be copied
+-- a segment that has to be copied
 abbrev pub strays : List ℕ → Bool
 strays s = not (is_canonical s)
 
@@ -31,13 +31,13 @@ copies_kept s l e = ap (λ v. map canonical (cond v (s ∷ filter strays l) (fil
 copies_more : (s : List ℕ) (l : List (List ℕ)) → strays s ≡ true → map canonical (filter strays (s ∷ l)) ≡ canonical s ∷ map canonical (filter strays l)
 copies_more s l e = ap (λ v. map canonical (cond v (s ∷ filter strays l) (filter strays l))) e
 
--- no segment is to be copied of those that are canonical
+-- no canonical segment has to be copied
 pub no_strays : (xs : List (List ℕ)) (at : ℕ) (s : List ℕ) → at < length xs → s ≡ get_or xs at s → (canonical s ≡ s → ⊥) → list_all is_canonical xs ≡ true → ⊥
 no_strays xs at s h read n e =
     let own : is_canonical (get_or xs at s) ≡ false = ap is_canonical (sym read) ∙ not-true (is_canonical s) (strays_so s n) in
     false≢true (sym (list_all_at is_canonical xs at s h own) ∙ e)
 
--- where none is to be copied, each is canonical
+-- if none has to be copied, each is canonical
 none_strays : (l : List (List ℕ)) → map canonical (filter strays l) ≡ [] → map canonical l ≡ l
 none_strays [] e = refl
 none_strays (s ∷ l) e = by_test (is_canonical s) refl (none_strays l)
@@ -134,7 +134,7 @@ module _ (xs ys : List (List ℕ)) (n at : ℕ) (s : List ℕ) (place : n ≡ at
   copies_less copies f e =
       f ∙ copies_split ∙ ap (λ l. map canonical (filter strays (take at ys)) ++ l) (copies_more s [] (strays_so s e))
 
--- where no copy is left, all before its place is canonical
+-- if no copy is left, all segments before its place are canonical
 pub all_put : (xs ys : List (List ℕ)) (at : ℕ) → take at xs ≡ take at ys → drop at xs ≡ map canonical (drop at ys) → map canonical (filter strays (take at ys)) ≡ []
     → xs ≡ map canonical ys
 all_put xs ys at front back none =

@@ -30,11 +30,11 @@ use Rattle.uriparse_path.specs.Faults.{fault_within, ends_path, path_front}
 use Rattle.uriparse_path.proofs.SplitLemmas.{pieces-slash}
 use Rattle.uriparse_path.proofs.FaultLemmas.{SameFrom, behind_plain, behind_sign, behind_slash, at_limit, faulty_byte, no_more}
 
--- what the walk answers for a whole text
+-- what the walk returns for a whole text
 abbrev pub answer : ℕ → List ℕ → Result (ℕ × ℕ) PathError
 answer limit t = unless_fault (fault_within limit (slice_split is_slash t)) (length (slice_split is_slash t), length t)
 
--- so many segments have begun, and the rest of the text decides the rest
+-- this many segments have begun, and the rest of the text decides the rest
 pub record IsCounted (limit : ℕ) (t : List ℕ) (count : ℕ) (rest : List ℕ) : Type 0 where
   pub some : 0 < count
   pub short : count ≤ limit
@@ -97,7 +97,7 @@ pub counted_sign : (limit : ℕ) (t : List ℕ) (count b : ℕ) (after : List �
 counted_sign limit t count b after is escape =
     counted_along limit t count (b ∷ after) after is (behind_sign (limit - count) b after escape)
 
--- ---- a byte that the path goes on with
+-- ---- a byte with which the path goes on
 
 abbrev stops : Bool → ℕ → Bool
 stops ends b = ends && ends_path b
@@ -138,7 +138,7 @@ front_escape ends b after = escape-up_to (stops ends) (no_digit_stops ends) b af
 -- ---- as far as a place of the text
 
 module _ (limit : ℕ) (ends : Bool) (t : List ℕ) where
-  -- so many segments of the path that the text begins with have begun before this place
+  -- this many segments of the path that the text begins with have begun before this place
   pub record IsReached (count i : ℕ) : Type 0 where
     pub counted : IsCounted limit (path_front ends t) count (path_front ends (drop i t))
     pub long : length (path_front ends t) ≡ i + length (path_front ends (drop i t))
@@ -195,7 +195,7 @@ module _ (limit : ℕ) (ends : Bool) (t : List ℕ) where
       let place : i + (to - i) ≡ to = omega arith in
       subst (IsReached count) place (reached_plains count i (to - i) is (omega arith) (λ j low high. plain j low (omega arith)))
 
-  -- of so many bytes those before some place are counted, and of the others those whose bit is unset are plain
+  -- of these bytes those before some place are counted, and the others are plain if their bit is unset
   pub record IsRun (at n count left : ℕ) : Type 0 where
     pub here : ℕ
     pub room : at + n ≤ length t
@@ -258,9 +258,9 @@ module _ (limit : ℕ) (ends : Bool) (t : List ℕ) where
       reached_up_to count is.here (at + n) is.reached is.high is.room
       (run_plain at n count left n is (omega arith) (λ k _. ap (λ m. bit_at m k) none ∙ bit_at-zero k))
 
-  -- ---- the slashes of so many bytes counted at once
+  -- ---- the slashes of several bytes counted at once
 
-  -- of so many bytes the slashes have their bit set, and all are within the limit
+  -- of these bytes the slashes have their bit set, and all are within the limit
   pub record AreSlashes (at n slashes count : ℕ) : Type 0 where
     pub room : at + n ≤ length t
     pub marks : AreMarks is_slash t at n slashes
@@ -330,7 +330,7 @@ module _ (limit : ℕ) (ends : Bool) (t : List ℕ) where
       subst (IsSwept at slashes count) place
       (swept_more at n slashes count from (to - from) are (omega arith) (λ j low high. plain j low (omega arith)) is)
 
-  -- those before some place are swept, and of the others those without a bit in either mask are plain
+  -- those before some place are swept, and the others are plain if neither mask has their bit
   pub record IsSweep (at n slashes count left : ℕ) : Type 0 where
     pub are : AreSlashes at n slashes count
     pub here : ℕ

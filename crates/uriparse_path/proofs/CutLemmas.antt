@@ -19,14 +19,14 @@ use Rattle.uriparse_text.proofs.MarkLemmas.{above_lowest, marked, unmarked}
 use Rattle.uriparse_path.specs.Segment.{is_segment}
 use Rattle.uriparse_path.specs.Path.{is_slash}
 
--- these segments are cut off, the next begins at the start, and no slash stands between that and the place that is reached
+-- these segments are cut off, the next one begins at the start, and no slash is between that and the current place
 pub record IsCutTo (t : List ℕ) (items : List (List ℕ)) (start reached : ℕ) : Type 0 where
   pub within : reached ≤ length t
   pub low : start ≤ reached
   pub whole : items ++ slice_split is_slash (drop start t) ≡ slice_split is_slash t
   pub none : (j : ℕ) → start ≤ j → j < reached → is_slash (get_or t j 0) ≡ false
 
--- of so many bytes those behind the start whose bit is unset are no slashes, and the others are
+-- of these bytes those after the start are slashes exactly if their bit is set
 pub record IsCutRun (t : List ℕ) (items : List (List ℕ)) (start at n left : ℕ) : Type 0 where
   pub room : at + n ≤ length t
   pub high : start ≤ at + n
@@ -56,7 +56,7 @@ one_of items s ss h =
 fewer : (items : List (List ℕ)) (s : List ℕ) (ss all : List (List ℕ)) → items ++ s ∷ ss ≡ all → length items < length all
 fewer items s ss all e = let whole = ap length e in let parts = length-append items (s ∷ ss) in omega arith
 
--- ---- a text in which no escape is found
+-- ---- a text without percent-encoded octets
 
 all_pass : (p : ℕ → Bool) (t : List ℕ) → prefix_len p t ≡ length t → list_all p t ≡ true
 all_pass p [] h = refl
@@ -77,7 +77,7 @@ lacks_piece t start len h =
     lacks-left percent (take len (drop start t)) (drop len (drop start t)) (ap (lacks percent) (take-append-drop len (drop start t)) ∙ lacks_rest t start h)
 
 module _ (t : List ℕ) (items : List (List ℕ)) (start at n left : ℕ) (is : IsCutRun t items start at n left) where
-  -- no slash stands before a place below which no bit is set
+  -- no slash precedes a place below which no bit is set
   no_slash : (to : ℕ) → to ≤ n → ((k : ℕ) → k < to → bit_at left k ≡ 0) → (j : ℕ) → start ≤ j → j < at + to → is_slash (get_or t j 0) ≡ false
   no_slash to short unset j from before = elim (cases_lt j at) [
     | inl below ↦ is.none j from below

@@ -1,4 +1,4 @@
--- Dot segments, plain and escaped, and what their canonical spelling tells of a segment.
+-- Dot segments, plain and percent-encoded, and what the canonical spelling says about a segment.
 use Rattle.std.proofs.Common.{◌≡◌, ℕ, ◌<◌, Bool, true, false, not, ◌&&◌, ◌||◌, List, [], ◌∷◌, ◌++◌, length, map, flat_map, refl, sym, ap, ◌∙◌, arith, Some}
 use Rattle.std.proofs.Common.{None, slice_get, ◌⊎◌, inl, inr, ⊎_elim, ◌≤◌, ◌*◌, cond, subst, length-append}
 use Rattle.std.specs.Char.{to_ascii_uppercase}
@@ -92,7 +92,7 @@ empty_double = ap (λ u. bytes_eq u (dot ∷ dot ∷ [])) canonical-nil
 pub empty_no_dot : is_dot_segment [] ≡ false
 empty_no_dot = rw (empty_single, empty_double) refl
 
--- ---- what a segment of dots begins with
+-- ---- how a dot segment begins
 
 single_or_double : (s : List ℕ) → is_dot_segment s ≡ true → (canonical s ≡ dot ∷ []) ⊎ (canonical s ≡ dot ∷ dot ∷ [])
 single_or_double s h = by_single (is_single_dot s) refl h
@@ -187,7 +187,7 @@ empty_tokens (Escape high low ∷ ts) h =
 pub canonical-empty : (s : List ℕ) → canonical s ≡ [] → s ≡ []
 canonical-empty s h = sym (spell-tokens s) ∙ empty_tokens (tokens s) (spell-canonical_token Kept s ∙ h)
 
--- ---- a byte that neither stands in an escape nor for one stays where it is
+-- ---- a byte that is no part of a percent-encoded octet stays where it is
 
 module _ (c : ℕ) (plain : is_unreserved c ≡ false) (digit : is_hex c ≡ false) (sign : (percent == c) ≡ false) where
   lacks_token : (t : Token) → has_digits t ≡ true → lacks c (spell (canonical_token Kept t)) ≡ lacks c (spell t)
@@ -251,7 +251,7 @@ dot_lacks_slash s h = by_single (is_single_dot s) refl
     by_single true e = single_lacks_slash s e
     by_single false e = double_lacks_slash s (second (is_single_dot s) (is_double_dot s) h e)
 
--- ---- how long a segment of dots is
+-- ---- the length of a dot segment
 
 -- a token has three bytes at most, and at least one in canonical form
 at_most : (ts : List Token) → length (flat_map spell ts) ≤ 3 * length (flat_map spell (map (canonical_token Kept) ts))

@@ -1,4 +1,4 @@
--- What the edits of a path make of it.
+-- Paths after edits.
 use Rattle.std.proofs.Common.{◌≡◌, ℕ, zero, suc, ◌+◌, ◌<◌, ◌≤◌, Bool, cond, List, [], ◌∷◌, ◌++◌, length, take, Result, Ok, Err, IfErr, MatchResult, inl, inr}
 use Rattle.std.proofs.Common.{refl, sym, ap, subst, ◌∙◌, arith}
 use Rattle.std.proofs.lemmas.Bool.{lt-ltb, le-ltb}
@@ -19,7 +19,7 @@ pushing_full p read h = ap (λ v. cond v (read >>= (λ s. Ok (pushed p s))) (Err
 pub pushing_room : (p : PathParts) (read : Result (List ℕ) PathError) → length p.segments < max_segments → pushing p read ≡ (read >>= (λ s. Ok (pushed p s)))
 pushing_room p read h = ap (λ v. cond v (read >>= (λ s. Ok (pushed p s))) (Err ExceededMaximumLength)) (lt-ltb (length p.segments) max_segments h)
 
--- ---- how many segments there are then
+-- ---- the number of segments after an edit
 
 length-push : (ss : List (List ℕ)) (s : List ℕ) → length (ss ++ s ∷ []) ≡ length ss + 1
 length-push [] s = refl
@@ -35,7 +35,7 @@ counted-with_last ([] ∷ []) (b ∷ s) k h = record { some = omega arith; short
 counted-with_last ([] ∷ t ∷ ss) s k h = one_more ([] ∷ t ∷ ss) s h
 counted-with_last ((c ∷ t) ∷ ss) s k h = one_more ((c ∷ t) ∷ ss) s h
 
--- ---- the last segment taken away
+-- ---- the last segment removed
 
 pub all_but_last-take : (ss : List (List ℕ)) (n : ℕ) → n + 1 ≡ length ss → take n ss ≡ all_but_last ss
 all_but_last-take [] zero h = refl
@@ -60,7 +60,7 @@ counted_popped [] is = absurd (omega (arith, is.some))
 counted_popped (s ∷ []) is = record { some = omega arith; short = let short = is.short in omega arith }
 counted_popped (s ∷ r ∷ ss) is = record { some = omega arith; short = let cut = length_cut (s ∷ r ∷ ss) in let short = is.short in omega arith }
 
--- ---- what a push answers
+-- ---- what a push returns
 
 abbrev make : Bool → List (List ℕ) → PathParts
 make a ss = record { absolute = a; segments = ss }
@@ -73,7 +73,7 @@ pub full_fault : (p : PathParts) (read : Result (List ℕ) PathError) → max_se
     → IfErr (pushing p read) (λ e. ◌≡◌ {A = Result (Unit {0}) PathError} (Err ExceededMaximumLength) (Err e))
 full_fault p read h = subst (λ r. IfErr r (λ e. ◌≡◌ {A = Result (Unit {0}) PathError} (Err ExceededMaximumLength) (Err e))) (sym (pushing_full p read h)) refl
 
--- the list behind the flag was changed, or there was no memory for it
+-- the list after the flag was changed, or memory ran out
 pub pushed_answer : (p : PathParts) (a : Bool) (ss new : List (List ℕ)) (s : List ℕ) (result : Result (Unit {0}) PathError) → make a ss ≡ p
     → length ss < max_segments
     → MatchResult result (λ _. new ≡ with_last ss s) (λ e. (e ≡ OutOfMemory) × (new ≡ ss))
@@ -92,7 +92,7 @@ pub counted_pushed : (ss new : List (List ℕ)) (s : List ℕ) (result : Result 
 counted_pushed ss new s (Ok x) is h k = subst IsCounted (sym k) (counted-with_last ss s is.some h)
 counted_pushed ss new s (Err x) is h k = subst IsCounted (sym k.1) is
 
--- ---- what a push of bytes answers
+-- ---- what a push of bytes returns
 
 pub refused_answer : (p : PathParts) (e : PathError) (result : Result (Unit {0}) PathError) → length p.segments < max_segments → result ≡ Err e
     → SettlesUnless OutOfMemory p p result (pushing p (Err e))

@@ -45,7 +45,7 @@ within-nil n = rw (take-nil n) (ap (λ v. cond v (Some ExceededMaximumLength) No
     never : (n : ℕ) → nat_lt n 0 ≡ false
     never n = grind (arith, nat_tests)
 
--- no piece may begin any more
+-- no further piece may begin
 pub within-zero : (q : List ℕ) (qs : List (List ℕ)) → fault_within 0 (q ∷ qs) ≡ Some ExceededMaximumLength
 within-zero q qs = ap (λ v. cond v (Some ExceededMaximumLength) None) (above (length (q ∷ qs)) (omega arith))
   where
@@ -57,12 +57,12 @@ empty_segment = ap (option_map segment.error_of) (fault-nil Segment)
 
 -- ---- token by token
 
--- one text is split into as many pieces as the other, with the same fault where n more pieces may begin
+-- both texts are split into as many pieces, with the same fault if n more pieces may begin
 pub record SameFrom (n : ℕ) (t u : List ℕ) : Type 0 where
   pub pieces : length (slice_split is_slash t) ≡ length (slice_split is_slash u)
   pub fault : fault_within (n + 1) (slice_split is_slash t) ≡ fault_within (n + 1) (slice_split is_slash u)
 
--- where the first pieces have one fault, and the others are the same
+-- if the first pieces have the same fault, and the others are the same
 same_first : (n : ℕ) (t u q r : List ℕ) (qs : List (List ℕ)) → slice_split is_slash t ≡ q ∷ qs → slice_split is_slash u ≡ r ∷ qs
     → segment.fault q ≡ segment.fault r → SameFrom n t u
 same_first n t u q r qs e f same = record {
@@ -121,7 +121,7 @@ behind_sign n b (high ∷ low ∷ rest) h =
     let second = behind_plain n low rest (hex_plain Segment low both.1) in
     record { pieces = whole.pieces ∙ sym second.pieces ∙ sym first.pieces; fault = whole.fault ∙ sym second.fault ∙ sym first.fault }
 
--- a slash begins a segment more,
+-- a slash starts one segment more,
 pub behind_slash : (n b : ℕ) (after : List ℕ) → is_slash b ≡ true
     → fault_within (n + 1 + 1) (slice_split is_slash (b ∷ after)) ≡ fault_within (n + 1) (slice_split is_slash after)
 behind_slash n b after e =
@@ -143,7 +143,7 @@ first-cons c t is = at_byte (is_slash c) refl
     at_byte true e = inl (let f = pieces-slash c t e in let g = is.pieces in cc)
     at_byte false e = inr (let f = pieces-byte c t e (cut t) in let g = is.pieces in cc)
 
--- an escape within the first piece is one of the text
+-- a percent-encoded octet within the first piece is one of the text
 escape_in_piece : (b : ℕ) (t : List ℕ) (is : IsCut t) → is_escape b is.first ≡ true → is_escape b t ≡ true
 escape_in_piece b [] is h = absurd (false≢true (sym (ap (is_escape b) (first-nil is)) ∙ h))
 escape_in_piece b (c ∷ []) is h = ⊎_elim
@@ -207,7 +207,7 @@ short_enough n m h = by_test (nat_lt n m) refl h
     by_test true e k = cc
     by_test false e k = ltb-false n m e
 
--- pieces have no fault exactly where they are segments, and no more than there may be
+-- pieces have no fault exactly if they are segments, at most as many as allowed
 pub within_none : (n : ℕ) (ps : List (List ℕ)) → (fault_within n ps ≡ None) ↔ ((length ps ≤ n) × (list_all segment.is_segment ps ≡ true))
 within_none n ps = (
   λ h. let both = or_none (first_fault (take n ps)) (length_fault n (length ps)) h in

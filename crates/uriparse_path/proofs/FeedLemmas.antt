@@ -1,4 +1,4 @@
--- What a path feeds a hasher: its first piece, and then the segments behind it.
+-- What a path feeds a hasher: its first piece, then the segments after it.
 use Rattle.std.proofs.Common.{◌≡◌, ℕ, true, List, [], ◌∷◌, ◌++◌, map, fold, flat_map, refl, sym, ap, ◌∙◌}
 use Rattle.std.specs.List.{list_all, slice_split}
 use Rattle.std.proofs.lemmas.Bool.{and_from}
@@ -15,7 +15,7 @@ use Rattle.uriparse_path.proofs.CanonicalLemmas.{canonical-behind, each-canonica
 use Rattle.uriparse_path.proofs.SplitLemmas.{joined-behind}
 use Rattle.uriparse_path.proofs.TextLemmas.{pieces-segments}
 
--- the pieces of a path's text in canonical spelling, by what stands before its first slash and the segments behind
+-- the pieces of a path's text in canonical spelling, by what precedes its first slash and the segments after it
 canonical-pieces : (t front : List ℕ) (ss : List (List ℕ)) → t ≡ front ++ flat_map (λ s. slash ∷ s) ss → is_segment front ≡ true → list_all is_segment ss ≡ true
     → slice_split is_slash (canonical t) ≡ canonical front ∷ map canonical ss
 canonical-pieces t front ss e h k =
@@ -29,7 +29,7 @@ each_fed : (ss : List (List ℕ)) → flat_map fed_piece (map canonical ss) ≡ 
 each_fed [] = refl
 each_fed (s ∷ ss) = ap (λ u. fed_piece (canonical s) ++ u) (each_fed ss)
 
--- the first piece is fed, then the segments behind it, and then the end
+-- the first piece is fed, then the segments after it, then the end
 pub feeds_path : {S : Type 0} (write : S → List ℕ → S) (s : S) (t front : List ℕ) (behind : List (List ℕ)) → t ≡ front ++ flat_map (λ s. slash ∷ s) behind
     → is_segment front ≡ true → list_all is_segment behind ≡ true
     → fold write s (fed (canonical t))

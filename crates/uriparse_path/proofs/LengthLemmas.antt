@@ -63,7 +63,7 @@ none_gone l some h e =
 leads_reduced : (l : List (List ℕ)) → (length (reduced l) < length l) ⊎ (reduced l ≡ l)
 leads_reduced l = leads_shorter ((leads_iff l (reduced l)).1 refl).0
 
--- where the end stays as it is
+-- if the end stays as it is
 open_end : (l : List (List ℕ)) → 0 < length l → hides_root l ≡ false → closed (is_last is_dot_segment l) (reduced l) ≡ reduced l → length (shaped l) ≤ length l
 open_end l some h e = ⊎_elim (λ g. one_gone l g e) (λ g. none_gone l some h g) (leads_reduced l)
 
@@ -145,7 +145,7 @@ single_last front y h d = ⊎_elim (λ g. two_gone (front ++ y ∷ []) (omega (a
         ((b ∷ s) ∷ (f ++ y ∷ []))) (sym e)
         (ends b s f (is_last is_dot_segment ((b ∷ s) ∷ (f ++ y ∷ [])) && not (is_last is_double_dot ((b ∷ s) ∷ f))))
 
--- a list that isn't empty has a last segment
+-- a list that is not empty has a last segment
 pub record Pushed (l : List (List ℕ)) : Type 0 where
   pub front : List (List ℕ)
   pub last : List ℕ

@@ -1,4 +1,4 @@
--- A path's length fault, told by the text: where the slash stands that would begin one segment too many.
+-- The fault of a path's length in its text: at the slash that would start one segment too many.
 use Rattle.std.proofs.Common.{◌≡◌, ◌↔◌, ℕ, ◌<◌, Bool, true, false, cond, nat_lt, List, [], ◌∷◌, ◌++◌, length, take, drop, Option, Some, None, refl}
 use Rattle.std.proofs.Common.{sym, ap, subst, ◌∙◌, append_assoc, arith, length-append, length-drop, inl, inr}
 use Rattle.std.specs.Prelude.{◌==◌, ◌⊎◌}
@@ -21,7 +21,7 @@ use Rattle.uriparse_path.proofs.SplitLemmas.{cut, pieces-byte, pieces-slash, som
 use Rattle.uriparse_path.proofs.FaultLemmas.{all_segments, no_segment_fault, within_none}
 use Rattle.uriparse_path.proofs.TextLemmas.{pieces-segments, spelled-relative, text-spelled}
 
--- ---- a slash parts the pieces before it from those behind it
+-- ---- a slash separates the pieces before it from those after it
 
 split-append : (s t : List ℕ) → slice_split is_slash (s ++ slash ∷ t) ≡ slice_split is_slash s ++ slice_split is_slash t
 split-append [] t = refl
@@ -63,7 +63,7 @@ at_slash front behind none full =
     ap (fault_within max_segments) (pieces-behind front behind (omega (arith, full)))
     ∙ beyond max_segments (pieces front) (slice_split is_slash behind) full ((within_none max_segments (pieces front)).0 none).1 (some_pieces behind)
 
--- ---- where it stands
+-- ---- where it is
 
 -- what a segment's fault is
 abbrev IsOfSegment : PathError → Type 0
@@ -97,7 +97,7 @@ no_want : IsOfSegment OutOfMemory → ⊥
 no_want (inl h) = cc
 no_want (inr h) = cc
 
--- want of memory is no text's fault
+-- running out of memory is no fault of a text
 pub never_memory : (t : List ℕ) → fault t ≡ Some OutOfMemory → ⊥
 unfolding fault
 never_memory t h = by_fault (first_fault (take max_segments (pieces t))) refl h
@@ -111,7 +111,7 @@ never_memory t h = by_fault (first_fault (take max_segments (pieces t))) refl h
     by_fault None e k = by_test (nat_lt max_segments (length (pieces t))) k
     by_fault (Some x) e k = no_want (first_told (take max_segments (pieces t)) OutOfMemory (e ∙ k))
 
--- the segments as far as the limit goes are without fault, and there is one more
+-- the segments within the limit have no fault, and there is one more
 long_behind : (n : ℕ) (ps : List (List ℕ)) → fault_within n ps ≡ Some ExceededMaximumLength
     → (list_all segment.is_segment (take n ps) ≡ true) × (n < length ps)
 long_behind n ps h = by_fault (first_fault (take n ps)) refl h
@@ -132,7 +132,7 @@ joined-append s (q ∷ ss) r rs =
     ap (λ t. s ++ slash ∷ t) (joined-append q ss r rs)
     ∙ sym (append_assoc s (slash ∷ join_with_byte slash (q ∷ ss)) (slash ∷ join_with_byte slash (r ∷ rs)))
 
--- the text of some segments, where more text behind them has the same flag
+-- the text of some segments, if more text after them has the same flag
 pieces-front : (a : Bool) (s : List ℕ) (ss : List (List ℕ)) (behind : List ℕ) → list_all segment.is_segment (s ∷ ss) ≡ true
     → is_rooted (path.text (record { absolute = a; segments = s ∷ ss }) ++ behind) ≡ a
     → pieces (path.text (record { absolute = a; segments = s ∷ ss })) ≡ s ∷ ss

@@ -19,7 +19,7 @@ use Rattle.uriparse_path.proofs.NormalLemmas.{rooted_kept}
 use Rattle.uriparse_path.proofs.NormalLemmas.{has_dot-respelled, none_plain, plain_replayed, length_replay, length_cut}
 use Rattle.uriparse_path.proofs.CommuteLemmas.{replayed-canonical, canonical_twice}
 
--- ---- the directory behind which the segments come out, the last one's empty segment left out
+-- ---- the directory after which the segments come out, without the last one's empty segment
 
 abbrev pub step : List (List ℕ) → List ℕ → List (List ℕ)
 step out s = cond (is_single_dot s) out (cond (is_double_dot s) (all_but_last out) (out ++ s ∷ []))
@@ -49,7 +49,7 @@ all_but_last_push (y ∷ z ∷ xs) x = ap (λ u. y ∷ u) (all_but_last_push (z 
 pub some_behind : (a b : List (List ℕ)) → 0 < length b → 0 < length (a ++ b)
 some_behind a b h = omega (arith, length-append a b)
 
--- a segment that isn't the last one makes a step
+-- a segment that is not the last one makes a step
 pub replay_more : (out : List (List ℕ)) (s : List ℕ) (ss : List (List ℕ)) → 0 < length ss → replay out (s ∷ ss) ≡ replay (step out s) ss
 replay_more out s [] h = absurd (omega arith)
 replay_more out s (r ∷ ss) h = by_kind (is_single_dot s) (is_double_dot s)
@@ -65,7 +65,7 @@ pub replay-append : (out a b : List (List ℕ)) → 0 < length b → replay out 
 replay-append out [] b h = refl
 replay-append out (s ∷ a) b h = replay_more out s (a ++ b) (some_behind a b h) ∙ replay-append (step out s) a b h
 
--- ---- a deletion doesn't change the directory
+-- ---- a deletion does not change the directory
 
 reverse_push : (s : List ℕ) (stack : List (List ℕ)) → reverse (s ∷ stack) ≡ reverse stack ++ s ∷ []
 reverse_push s stack = reverse-append (s ∷ []) stack
@@ -110,9 +110,9 @@ replay_dot out s h = by_kind (is_single_dot s) (is_double_dot s) h
 replay_empty : (out : List (List ℕ)) → replay out ([] ∷ []) ≡ out ++ [] ∷ []
 replay_empty out = rw (empty_single, empty_double) refl
 
--- ---- the guard vanishes
+-- ---- the leading "." vanishes
 
--- "." in front of more is skipped
+-- a "." with more after it is skipped
 pub dot_gone : (out l : List (List ℕ)) → 0 < length l → replay out ((dot ∷ []) ∷ l) ≡ replay out l
 dot_gone out [] h = absurd (omega arith)
 dot_gone out (s ∷ l) h = rw dot_single refl
@@ -282,7 +282,7 @@ undotted-canonical p is = ap respelled (replayed-canonical p is.each) ∙ respel
 pub canonical_path_twice : (p : PathParts) → IsListed p.segments → canonical_path (canonical_path p) ≡ canonical_path p
 canonical_path_twice p is = ap (λ l. record { absolute = p.absolute; segments = l }) (canonical_twice p.segments is.each)
 
--- a normal form that isn't a relative one
+-- a normal form that is not a relative one
 pub pnormal_is : (p : PathParts) (r : Bool) → IsListed p.segments → respelled p ≡ p → stays_relative p r ≡ false → pnormal p r ≡ canonical_path (undotted p)
 pnormal_is p r is h e = by_dots (has_dot_segment p.segments) refl
   where
@@ -296,7 +296,7 @@ dot_undotted a l h =
     ap (λ v. respelled (record { absolute = v; segments = replay [] ((dot ∷ []) ∷ l) })) (dot_gone_rooted a l)
     ∙ ap (λ m. respelled (record { absolute = rooted_after a [] l; segments = m })) (dot_gone [] l h)
 
--- ---- a path that comes to begin with an empty segment, and goes on, has become shorter
+-- ---- a path that comes to begin with an empty segment, and has more, has become shorter
 
 hidden_popped : (s : List ℕ) (out l : List (List ℕ)) → hides_root (s ∷ out) ≡ false → 0 < length s → hides_root (replay (s ∷ out) l) ≡ true
     → length (replay (s ∷ out) l) ≤ length out + length l
@@ -347,7 +347,7 @@ shorter ((b ∷ s) ∷ r ∷ l) h k =
     by_kind false true x z e = omega (arith, x)
     by_kind false false x z e = let g = z e in omega (arith, g)
 
--- so there is room for a "." in front of it
+-- so there is room for a leading "."
 pub room : (p : PathParts) → hides_root p.segments ≡ false → hides_root (undotted p).segments ≡ true → suc (length (undotted p).segments) ≤ length p.segments
 room p h k = by_shape (rooted_after p.absolute [] p.segments) (replay [] p.segments) (shorter p.segments h) (length_replay [] p.segments) k
   where

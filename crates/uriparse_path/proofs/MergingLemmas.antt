@@ -1,4 +1,4 @@
--- A base's path and a reference's, merged.
+-- A base's path merged with a reference's.
 use Rattle.std.proofs.Common.{◌≡◌, ℕ, ◌+◌, ◌<◌, ◌≤◌, Bool, true, false, cond, List, [], ◌∷◌, ◌++◌, length, nat_le, Result, Ok, Err, refl, sym, ap}
 use Rattle.std.proofs.Common.{◌∙◌, subst, arith, length-append}
 use Rattle.std.specs.List.{list_all}
@@ -35,7 +35,7 @@ merged_hides (s ∷ []) m h k = k
 merged_hides ([] ∷ r ∷ l) m h k = absurd (false≢true (sym h))
 merged_hides ((b ∷ s) ∷ r ∷ l) m h k = refl
 
--- ---- what merging answers, by the code's two lists
+-- ---- what merging returns, by the code's two lists
 
 merging_if : (p q : PathParts) (v : Bool) → nat_le (length (merged p q).segments) max_segments ≡ v
     → merging p q ≡ cond v (Ok (merged p q)) (Err ExceededMaximumLength)

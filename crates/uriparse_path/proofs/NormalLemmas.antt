@@ -135,7 +135,7 @@ listed_replayed p is = record {
 pub undot_path : (p : PathParts) → IsListed p.segments → undot (text p) ≡ text (replayed p)
 undot_path p is = undot-text p is.some (clean_segments p.segments is.each)
 
--- the path is that of the replayed segments, absolute where its text begins with a slash
+-- the path is that of the replayed segments, absolute if its text begins with a slash
 pub spelled_undot : (p : PathParts) → IsListed p.segments → spelled (undot (text p)) ≡ respelled (replayed p)
 spelled_undot p is = ap spelled (undot_path p is) ∙ spelled-text (replayed p) (listed_replayed p is)
 
@@ -284,7 +284,7 @@ length_pnormal p r is = by_case p r (λ q. length q.segments ≤ length p.segmen
     omega (arith, ap (λ q. length q.segments) (spelled_canonical_undot p is), length-canonical (respelled (replayed p)).segments, a, b))
     (λ e k. let a = length-canonical p.segments in omega (arith, a))
 
--- ---- which paths are left as they are
+-- ---- which paths are in normal form
 
 joined_same : (x y : List (List ℕ)) → 0 < length x → 0 < length y → list_all is_segment x ≡ true → list_all is_segment y ≡ true
     → join_with_byte slash x ≡ join_with_byte slash y → x ≡ y
@@ -382,7 +382,7 @@ pnormal_twice p r is = by_case p r (λ q. pnormal q r ≡ q)
     (has_dot-canonical p.segments is.each ∙ k)
     (all_canonical-canonical p.segments is.each))
 
--- ---- what the path of a text, and an absolute path, keeps of that
+-- ---- what the normal form keeps of the path of a text and of an absolute path
 
 pub pnormal_spelled : (p : PathParts) (r : Bool) → IsListed p.segments → spelled (text p) ≡ p → spelled (text (pnormal p r)) ≡ pnormal p r
 pnormal_spelled p r is h = by_case p r (λ q. spelled (text q) ≡ q)
@@ -401,7 +401,7 @@ pnormal_absolute p r is h = by_case p r (λ q. q.absolute ≡ true)
     (λ e k. is_rooted-canonical (undot (text p)) ∙ rooted_undot (text p) (rooted-text p is ∙ ap (λ v. v || hides_root p.segments) h))
     (λ e k. h)
 
--- a path that is left as it is keeps its parts
+-- a path that is unchanged keeps its parts
 pub normal_kept : (p : PathParts) (r : Bool) → IsListed p.segments → is_normal p r ≡ true → pnormal p r ≡ p
 normal_kept p r is n = by_case p r (λ q. text q ≡ text p → q ≡ p)
     (λ e g. by_flag p.absolute p.segments is (relative p r is e).flag (relative p r is e).shown g)

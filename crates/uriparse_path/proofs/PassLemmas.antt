@@ -1,4 +1,4 @@
--- One pass over a list that replays its segments in place: what came out so far is its front, what is left its end.
+-- One pass over a list replays its segments in place: the output so far is its front, what is left its end.
 use Rattle.std.proofs.Common.{◌≡◌, ◌≢◌, ◌↔◌, ◌&&◌, not, subst, ℕ, zero, suc, ◌+◌, ◌-◌, ◌<◌, ◌≤◌, Bool, true, false, cond, List, [], ◌∷◌, ◌++◌, length, take}
 use Rattle.std.proofs.Common.{drop, get_or, set, length-set, ⊎_elim, refl, sym, ap, ◌∙◌, arith, ◌||◌, add-one, length-drop}
 use Rattle.std.specs.Prelude.{◌==◌}

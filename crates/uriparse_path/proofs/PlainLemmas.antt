@@ -1,4 +1,4 @@
--- Texts in which no escape stands, and the counts of segments that need none.
+-- Texts without percent-encoded octets, and the counts of their segments.
 use Rattle.std.proofs.Common.{◌≡◌, ℕ, zero, suc, ◌+◌, ◌-◌, ◌<◌, ◌≤◌, Bool, true, false, not, ◌&&◌, ◌||◌, cond, List, [], ◌∷◌, ◌++◌, length, take, get_or, refl, sym, ap, subst, ◌∙◌, arith, inl, inr}
 use Rattle.std.specs.Prelude.{◌==◌}
 use Rattle.std.specs.List.{list_all, list_any, slice_split}
@@ -29,11 +29,11 @@ use Rattle.uriparse_path.proofs.TallyLemmas.{unescaped_stays, canonical_dots, co
 
 -- ---- as far as a walk has come
 
--- no percent sign stands before this place
+-- no percent sign precedes this place
 abbrev pub IsFree : List ℕ → ℕ → Type 0
 IsFree t i = (j : ℕ) → j < i → (get_or t j 0 == percent) ≡ false
 
--- of so many bytes those whose bit is unset are no percent signs, and none stands before them
+-- of these bytes those whose bit is unset are no percent signs, and none precedes them
 pub record IsFreeRun (t : List ℕ) (at n left : ℕ) : Type 0 where
   pub before : IsFree t at
   pub passed : (k : ℕ) → k < n → bit_at left k ≡ 0 → (get_or t (at + k) 0 == percent) ≡ false
@@ -71,7 +71,7 @@ free_lacks [] (suc n) f = refl
 free_lacks (b ∷ t) (suc n) f =
     ap (λ v. not v && lacks percent (take n t)) (f 0 (omega arith)) ∙ free_lacks t n (λ j h. f (suc j) (omega arith))
 
--- ---- with the slash that it begins with, and without it
+-- ---- with a leading slash and without it
 
 pub unrooted_lacks : (t : List ℕ) → lacks percent t ≡ true → lacks percent (unrooted t) ≡ true
 unrooted_lacks [] h = refl
@@ -137,7 +137,7 @@ no_dots (s ∷ ss) h k =
       ap (λ v. v && list_all is_canonical ss) ((bytes_eq-Decides (canonical s) s).1 stays) ∙ rest.1,
     )
 
--- a text without escapes none of whose segments begins with a dot
+-- a text without percent-encoded octets none of whose segments begins with a dot
 pub plain_counts : (t : List ℕ) → lacks percent t ≡ true → list_any begins_with_dot (slice_split is_slash t) ≡ false
     → counts [] ≡ counts (slice_split is_slash t)
 plain_counts t h k =

@@ -1,4 +1,4 @@
--- One pass over a list that deletes in place: what is left so far is its front.
+-- One pass over a list deletes in place: what is left so far is its front.
 use Rattle.std.proofs.Common.{◌≡◌, ℕ, zero, suc, ◌+◌, ◌-◌, ◌<◌, ◌≤◌, Bool, true, false, not, List, [], ◌∷◌, ◌++◌, length, take, drop, get_or, refl, sym, ap}
 use Rattle.std.proofs.Common.{subst, ◌∙◌, arith, ◌&&◌}
 use Rattle.std.specs.Prelude.{reverse}
@@ -60,7 +60,7 @@ module _ (xs : List (List ℕ)) (kept at : ℕ) (s : List ℕ) (order : kept ≤
       ∙ ap (λ u. put_all (reverse (take kept xs ++ s ∷ [])) u) (end_swapped xs kept at s order within read)
       ∙ sym (here ∙ ap (λ u. put_all u (drop (at + 1) xs)) (put_other (take kept xs) s h k))
 
--- a name stands last only where something does
+-- a name is last only if something is
 pub name_some : (xs : List (List ℕ)) (kept : ℕ) → is_last is_name (take kept xs) ≡ true → 0 < kept
 name_some [] zero h = absurd (false≢true h)
 name_some (x ∷ xs) zero h = absurd (false≢true h)

@@ -1,4 +1,4 @@
--- From the walk over a text to what reading it answers.
+-- From the walk over a text to what reading it returns.
 use Rattle.std.proofs.Common.{◌≡◌, ◌↔◌, ℕ, ◌+◌, ◌-◌, Bool, true, false, cond, List, [], ◌∷◌, length, take, drop, Option, Some, None, Ok, Err, refl, sym, ap}
 use Rattle.std.proofs.Common.{subst, ◌∙◌, arith, length-append}
 use Rattle.std.specs.List.{slice_split}
@@ -22,7 +22,7 @@ pub limit_is : MAX_SEGMENTS ≡ max_segments
 unfolding max_segments
 limit_is = refl
 
--- the slash that it begins with is no end of a path
+-- a leading slash does not end a path
 not_end : (b : ℕ) → is_slash b ≡ true → ends_path b ≡ false
 not_end b e = ap ends_path (eqb-true b slash e)
 
@@ -55,7 +55,7 @@ front_all : (t : List ℕ) → path_front false t ≡ t
 front_all [] = refl
 front_all (b ∷ t) = ap (λ u. b ∷ u) (front_all t)
 
--- what the walk answered, told of the text that it was given
+-- what the walk returned, for the text that it was given
 pub counted_all : (t rest : List ℕ) (r answered : Result (ℕ × ℕ) PathError) → rest ≡ unrooted t → r ≡ answer MAX_SEGMENTS (path_front false rest)
     → r ≡ answered → answer MAX_SEGMENTS (unrooted t) ≡ answered
 counted_all t rest r answered is told was =
@@ -83,7 +83,7 @@ listed t n h =
     let clean = (within_none MAX_SEGMENTS (pieces t)).0 (no_fault t n h) in
     record { some = some_pieces (unrooted t); short = rw (sym limit_is) clean.0; each = clean.1 }
 
--- a text has no fault exactly where its pieces are the segments of a path
+-- a text has no fault exactly if its pieces are the segments of a path
 pub no_fault_iff : (t : List ℕ) → (fault t ≡ None) ↔ IsListed (pieces t)
 no_fault_iff t =
     let clean = within_none MAX_SEGMENTS (pieces t) in (
@@ -124,7 +124,7 @@ refused_front t e h = by_fault (fault (up_to ends_path t)) (refused (up_to ends_
 ok_is : {A : Type 0} (x y : A) → ◌≡◌ {A = Result A PathError} (Ok x) (Ok y) → x ≡ y
 ok_is x y h = cc
 
--- how many segments it has, and how long it is
+-- its number of segments and its length
 pub front_counts : (t : List ℕ) (n : ℕ × ℕ) → answer MAX_SEGMENTS (up_to ends_path (unrooted t)) ≡ Ok n
     → (n.0 ≡ length (pieces (up_to ends_path t))) × (n.1 ≡ length (up_to ends_path (unrooted t)))
 front_counts t n h = by_fault (fault_within MAX_SEGMENTS (slice_split is_slash front)) h
@@ -139,7 +139,7 @@ front_counts t n h = by_fault (fault_within MAX_SEGMENTS (slice_split is_slash f
         (ap (λ m. m.0) same ∙ ap (λ u. length (slice_split is_slash u)) (sym (front_unrooted t)), ap (λ m. m.1) same)
     by_fault (Some x) k = cc
 
--- how long a text without fault is
+-- the length of a text without fault
 pub counted_len : (t : List ℕ) (n : ℕ × ℕ) → answer MAX_SEGMENTS t ≡ Ok n → n.1 ≡ length t
 counted_len t n h = by_fault (fault_within MAX_SEGMENTS (slice_split is_slash t)) h
   where
@@ -147,7 +147,7 @@ counted_len t n h = by_fault (fault_within MAX_SEGMENTS (slice_split is_slash t)
     by_fault None k = ap (λ m. m.1) (sym (ok_is {A = ℕ × ℕ} (length (slice_split is_slash t), length t) n k))
     by_fault (Some x) k = cc
 
--- what stands behind it, and it
+-- what follows it, and the path itself
 pub behind_front : (t rest : List ℕ) (n : ℕ) → rest ≡ unrooted t → n ≡ length (up_to ends_path (unrooted t)) → drop n rest ≡ from_first ends_path t
 behind_front t rest n is long =
     ap (drop n) is ∙ ap (λ m. drop m (unrooted t)) long

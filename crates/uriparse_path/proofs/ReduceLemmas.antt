@@ -22,7 +22,7 @@ put_plain (t ∷ stack) s h = let n = neither s h in rw (n.0, n.1) refl
 put_pair : (stack : List (List ℕ)) (s d : List ℕ) → is_dot_segment s ≡ false → is_double_dot d ≡ true → put (put stack s) d ≡ stack
 put_pair stack s d h k = ap (λ u. put u d) (put_plain stack s h) ∙ rw (not_both d k, k, h) refl
 
--- a deletion doesn't change what is left
+-- a deletion does not change what is left
 deletes_same : (l m : List (List ℕ)) → Deletes l m → put_all [] l ≡ put_all [] m
 deletes_same l m (single a b d h e f) =
     ap (put_all []) e ∙ put_all-append [] a (d ∷ b) ∙ ap (λ u. put_all u b) (put_single (put_all [] a) d h) ∙ sym (put_all-append [] a b)
@@ -40,14 +40,14 @@ leads_same (more {l = l} {k = k} s r) = deletes_same l k s ∙ leads_same r
 reverse_on : (stack ss : List (List ℕ)) (s : List ℕ) → reverse (s ∷ stack) ++ ss ≡ reverse stack ++ s ∷ ss
 reverse_on stack ss s = ap (λ u. u ++ ss) (reverse-append (s ∷ []) stack) ∙ append_assoc (reverse stack) (s ∷ []) ss
 
--- a list with a deletion isn't irreducible
+-- a list with a deletion is not irreducible
 no_single : (stack ss : List (List ℕ)) (s : List ℕ) → IsIrreducible (reverse stack ++ s ∷ ss) → is_single_dot s ≡ true → ⊥
 no_single stack ss s h e = h (reverse stack ++ ss) (single (reverse stack) ss s e refl refl)
 
 no_pair : (stack ss : List (List ℕ)) (t s : List ℕ) → IsIrreducible (reverse (t ∷ stack) ++ s ∷ ss) → is_double_dot s ≡ true → is_dot_segment t ≡ false → ⊥
 no_pair stack ss t s h e f = h (reverse stack ++ ss) (pair (reverse stack) ss t s f e (reverse_on stack (s ∷ ss) t) refl)
 
--- where nothing can be deleted, the segment is put on the stack
+-- if nothing can be deleted, the segment is put on the stack
 put_kept : (stack ss : List (List ℕ)) (s : List ℕ) → IsIrreducible (reverse stack ++ s ∷ ss) → put stack s ≡ s ∷ stack
 put_kept [] ss s h = by_single (is_single_dot s) refl
   where

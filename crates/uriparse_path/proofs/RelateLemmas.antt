@@ -47,7 +47,7 @@ apart_last : (ds : List (List ℕ)) (s : List ℕ) → apart ds (s ∷ []) ≡ c
 apart_last [] s = refl
 apart_last (d ∷ ds) s = refl
 
--- the last segment is none of a directory
+-- the last segment is not a directory
 pub shared_last : (ds ss : List (List ℕ)) (n : ℕ) → n + 1 ≡ length ss → apart (drop n ds) (drop n ss) ≡ climbs (drop n ds) ++ drop n ss
 shared_last ds ss n h =
     let ends : drop (suc n) ss ≡ [] = drop_all (suc n) ss (omega arith) in
@@ -74,7 +74,7 @@ climbs_more ds n h =
     next : (n : ℕ) → n + 1 ≡ suc n
     next n = omega arith
 
--- ---- what is answered, by the code's lists
+-- ---- what is returned, by the code's lists
 
 module _ (b t : PathParts) (whole front own : List (List ℕ)) (n : ℕ) (base : whole ≡ b.segments) (cut : front ≡ all_but_last whole)
     (behind : own ≡ t.segments) (is : apart front own ≡ climbs (drop n front) ++ drop n own) where
@@ -115,7 +115,7 @@ module _ (b t : PathParts) (whole front own : List (List ℕ)) (n : ℕ) (base :
       ∙ sym (ap (λ v. cond {A = Option PathParts} v (Some (record { absolute = false; segments = fronted (apart_of b t) })) None)
       (and_from _ _ h (led_room k)))
 
--- the first segment is taken for no slash, for no empty path and for no scheme
+-- the first segment is not read as a slash, as an empty path or as a scheme
 pub record IsFirstPlain (ss : List (List ℕ)) : Type 0 where
   pub shown : hides_root ss ≡ false
   pub no_colon : is_first has_colon ss ≡ false
@@ -130,7 +130,7 @@ first_plain ((b ∷ s) ∷ ss) = by_test (has_colon (b ∷ s)) refl
     by_test true e = record { shown = refl; no_colon = refl; not_empty = refl }
     by_test false e = record { shown = refl; no_colon = e; not_empty = e }
 
--- how long it is
+-- its length
 length-fronted : (ss : List (List ℕ)) → length (fronted ss) ≤ length ss + 1
 length-fronted ss = by_test (is_first is_taken ss)
   where
@@ -220,7 +220,7 @@ replay_fronted out ds new h = by_test (is_first is_taken new)
         ∙ sym (replay-append out ds new h)
     by_test false = refl
 
--- ---- whether a slash stands in front then
+-- ---- whether a slash comes first then
 
 rooted_step : (a : Bool) (out : List (List ℕ)) (s : List ℕ) (l : List (List ℕ)) → is_dot_segment s ≡ false
     → rooted_after a out (s ∷ l) ≡ rooted_after a (out ++ s ∷ []) l
@@ -313,7 +313,7 @@ one_root b t e h k = by_flag b.absolute e
         ∙ rooted_below (all_but_last b.segments) t.segments both.1 h k
         ∙ sym (not-true t.absolute both.0)
 
--- what is told of the relative path: it is one that merges, and merged it leads to the path
+-- what holds of the relative path: it can be merged, and merged it leads to the path
 pub record Leads (b t p : PathParts) : Type 0 where
   pub flag : rooted_after b.absolute [] (all_but_last b.segments ++ p.segments) ≡ t.absolute
   pub plain : has_dot_segment t.segments ≡ false
@@ -355,7 +355,7 @@ leads b t p n h = by_test (may_lead b t) refl (has_room b t) refl h
 
 -- ---- no other relative path leads there with fewer ".."
 
--- how long a list is without its last one
+-- the length of a list without its last element
 length_cut_is : (out : List (List ℕ)) → 0 < length out → length (all_but_last out) + 1 ≡ length out
 length_cut_is [] h = absurd (omega arith)
 length_cut_is (s ∷ []) h = refl
@@ -368,7 +368,7 @@ take_cut (s ∷ []) (suc j) h = absurd (omega (arith, h))
 take_cut (s ∷ r ∷ out) zero h = refl
 take_cut (s ∷ r ∷ out) (suc j) h = ap (λ u. s ∷ u) (take_cut (r ∷ out) j (omega (arith, h)))
 
--- so many of the stack's first segments are left, and another one behind them
+-- this many of the stack's first segments are left, and another one follows them
 record IsKept (j : ℕ) (out left : List (List ℕ)) : Type 0 where
   same : take j left ≡ take j out
   more : j < length left
@@ -424,7 +424,7 @@ each_climbs (d ∷ ds) ss =
     let e = each_climbs ds ss in
     ap (λ w. cond w (climbs_in (climbs ds ++ ss) + 1) (climbs_in (climbs ds ++ ss))) double ∙ omega (arith, e)
 
--- directories that both have in front need no ".."
+-- directories that both start with need no ".."
 few_climbs : (ds ss : List (List ℕ)) (j : ℕ) → has_dot_segment ss ≡ false → take j ds ≡ take j ss → j ≤ length ds → j < length ss → climbs_in (apart ds ss) + j ≤ length ds
 few_climbs ds [] j h e l m = absurd (omega (arith, m))
 few_climbs [] (s ∷ ss) j h e l m = let n = none_climb (s ∷ ss) h in omega (arith, n, l)

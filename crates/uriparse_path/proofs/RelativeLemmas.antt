@@ -1,4 +1,4 @@
--- The normal form of a relative path's segments: which lists are their own, and how long it is.
+-- The normal form of a relative path's segments: which lists are their own normal form, and its length.
 use Rattle.std.proofs.Common.{◌≡◌, ◌↔◌, ℕ, ◌<◌, Bool, true, false, not, cond, List, [], ◌∷◌, ◌++◌, length, map, refl, sym, ap, ◌∙◌, arith}
 use Rattle.std.proofs.Common.{◌&&◌, ◌||◌}
 use Rattle.std.specs.Prelude.{reverse}
@@ -96,7 +96,7 @@ climbs_of (s ∷ ss) h = by_kind (is_single_dot s) refl (is_double_dot s) refl (
     by_kind false e true f k = climbs-double s ss f ∙ k
     by_kind false e false f k = climbs-other s ss f ∙ behind ss h (no_dot s e f) k
 
--- nothing can be deleted exactly from ".." segments and then no dot segments
+-- nothing can be deleted exactly if ".." segments come first and no dot segment follows
 pub irreducible_iff : (l : List (List ℕ)) → IsIrreducible l ↔ (climbs_first l ≡ true)
 irreducible_iff l = (climbs_of l, irreducible_of l)
 
@@ -177,7 +177,7 @@ climbs_closed ended (s ∷ l) h = by_test (ended && not (is_last is_double_dot (
     by_test true = climbs_push (s ∷ l) h
     by_test false = h
 
--- the test of lists that are their own normal form, but for their spelling
+-- the test of lists that are their own normal form, except for their spelling
 abbrev pub is_settled : List (List ℕ) → Bool
 is_settled l = climbs_first l || is_guarded l
 
@@ -205,7 +205,7 @@ settled_guarded old new h = by_guard (needs_guard old new) refl
         (and_from _ _ (and_from _ _ dot_single h) (guard_again old new e))
     by_guard false e = or_left (climbs_first (filled new)) (is_guarded (filled new)) (climbs_filled new h)
 
--- what stands there before it is spelled
+-- what is there before its spelling is normalized
 abbrev pub shaped : List (List ℕ) → List (List ℕ)
 shaped l = filled (guarded l (closed (is_last is_dot_segment l) (reduced l)))
 
@@ -410,12 +410,12 @@ relative_iff l some h each = (
 pub relative_twice : (l : List (List ℕ)) → list_all is_segment l ≡ true → relative_normal (relative_normal l) ≡ relative_normal l
 relative_twice l h = settled_kept (relative_normal l) (some_relative l) (hides_relative l) (canonical_relative l h) (settled_relative l h)
 
--- ---- each of the segments that are left is one; no colon comes in front
+-- ---- each segment that is left is one; no colon comes first
 
 pub each_reduced : (l : List (List ℕ)) → list_all is_segment l ≡ true → list_all is_segment (reduced l) ≡ true
 each_reduced l h = all-reverse is_segment empty_segment dot_segment (put_all [] l) (all_put_all is_segment empty_segment dot_segment [] l refl h)
 
--- no normal form begins with a colon where its source didn't
+-- no normal form begins with a colon if its source did not
 colon_shaped : (l : List (List ℕ)) → is_first has_colon l ≡ false → is_first has_colon (shaped l) ≡ false
 colon_shaped l h = by_guard (needs_guard l (closed (is_last is_dot_segment l) (reduced l))) (closed (is_last is_dot_segment l) (reduced l)) refl
   where

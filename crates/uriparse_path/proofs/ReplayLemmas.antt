@@ -40,7 +40,7 @@ clean_pieces (b ∷ t) = at_byte (is_slash b) refl (clean_pieces t)
 
 -- ---- texts of segments
 
--- each segment behind a slash
+-- each segment after a slash
 abbrev slashes : List (List ℕ) → List ℕ
 slashes ss = flat_map (λ s. slash ∷ s) ss
 
@@ -85,9 +85,9 @@ cut_joined : (x : List ℕ) (out : List (List ℕ)) → LacksSlash x → AreClea
 cut_joined x [] h k = ap without_last (append-nil x) ∙ no_cut x h
 cut_joined x (s ∷ out) h k = cut_behind x (s ++ slashes out) ∙ ap (λ u. x ++ u) (cut_slashes (s ∷ out) k)
 
--- ---- behind a slash
+-- ---- after a slash
 
--- what is behind a dot segment at the end is one slash, which moves to the output
+-- a dot segment at the end leaves one slash, which moves to the output
 last_slash : (o : List ℕ) → Reaches (o ++ slash ∷ []) (slash ∷ []) o
 last_slash o = more {j = []} {p = o ++ slash ∷ []} (moves [] refl empty_no_dot tt refl refl) done
 
@@ -139,9 +139,9 @@ once_rooted out (s ∷ l) = by_kind (is_single_dot s) (is_double_dot s) (once_ro
     by_kind false true x y z = y
     by_kind false false x y z = z
 
--- ---- behind no slash
+-- ---- without a slash before it
 
--- the text of the replayed segments, by whether the first one was taken away
+-- the text of the replayed segments, by whether the first one was removed
 abbrev Left : List (List ℕ) → List (List ℕ) → List ℕ
 Left out l = render (rooted_after false out l) (replay out l)
 

@@ -1,4 +1,4 @@
--- Paths without their dot segments or in normal form, with a "." in front where they would begin with two slashes.
+-- Paths without their dot segments or in normal form, with a leading "." if they would begin with two slashes.
 use Rattle.std.proofs.Common.{◌≡◌, ℕ, ◌+◌, ◌<◌, ◌≤◌, Bool, true, false, ◌&&◌, ◌||◌, cond, List, [], ◌∷◌, length, take, drop, refl, sym, ap, ◌∙◌, subst}
 use Rattle.std.proofs.Common.{arith}
 use Rattle.std.specs.List.{list_all}
@@ -30,7 +30,7 @@ twice q = hides_root q.segments && (q.absolute || hides_root (drop 1 q.segments)
 abbrev pub shielded : Bool → PathParts → PathParts
 shielded v q = cond v (shield q) q
 
--- the list with a "." in front or not
+-- the list with a leading "." or not
 abbrev pub behind : Bool → List (List ℕ) → List (List ℕ)
 behind n l = filled (cond n ((dot ∷ []) ∷ l) l)
 
@@ -49,7 +49,7 @@ pub shown_stays : (v : Bool) (q : PathParts) → IsListed q.segments → (v ≡ 
 shown_stays false q is h = refl
 shown_stays true q is h = shield_is q is ∙ ap (λ w. cond w (dotted q) q) (not_twice q (h refl))
 
--- a normal path is left as it is
+-- a normal path is unchanged
 pub normal_shielded : (v : Bool) (p : PathParts) (r : Bool) → IsListed p.segments → is_normal p r ≡ true → (v ≡ true → hides_root p.segments ≡ false)
     → p ≡ shielded v (pnormal p r)
 normal_shielded v p r listed h shown = sym (ap (shielded v) (normal_kept p r listed h) ∙ shown_stays v p listed shown)
@@ -82,7 +82,7 @@ canonical_left p is all =
     ap (λ q. list_all is_canonical q.segments) same ∙ (and_parts (list_all is_canonical (pnormal p false).segments) _ normal).0
 
 -- The pass over the path p left the first `kept` of the list `first`, and of these, as their text spells them, the
--- first `left` of the list `rest`; n tells whether a "." comes in front of them.
+-- first `left` of the list `rest`; n says whether a leading "." precedes them.
 pub record Pass (v : Bool) (p : PathParts) (rooted : Bool) (kept : ℕ) (first : List (List ℕ)) (absolute : Bool) (left : ℕ) (rest : List (List ℕ))
     (n : Bool) : Type 0 where
   pub listed : IsListed p.segments
@@ -153,7 +153,7 @@ module _ {v : Bool} {p : PathParts} {rooted : Bool} {kept : ℕ} {first : List (
           by_test true = refl
           by_test false = ap (make absolute) (filled_some out.segments listed_out.some)
 
-  -- what is left of canonical segments is canonical, and has no dot segment but the "."
+  -- what is left of canonical segments is canonical, and has no dot segment except the leading "."
   pub counts_left : (c : Counts) → list_all is_canonical p.segments ≡ true
       → ((ss : List (List ℕ)) → has_dot_segment ss ≡ false → list_all is_canonical ss ≡ true → n ≡ false → c ≡ counts ss)
       → ((ss : List (List ℕ)) → has_dot_segment ss ≡ false → list_all is_canonical ss ≡ true → n ≡ true → c ≡ counts ((dot ∷ []) ∷ ss))

@@ -60,7 +60,7 @@ pieces-joined s (r ∷ ss) h k =
 pub joined-pieces : (t : List ℕ) → join_with_byte slash (slice_split is_slash t) ≡ t
 joined-pieces t = join_with_byte-slice_split slash t
 
--- all segments behind slashes
+-- all segments after slashes
 pub joined-behind : (s : List ℕ) (ss : List (List ℕ)) → join_with_byte slash (s ∷ ss) ≡ s ++ flat_map (λ r. slash ∷ r) ss
 joined-behind s [] = sym (append-nil s)
 joined-behind s (r ∷ ss) = ap (λ x. s ++ slash ∷ x) (joined-behind r ss)

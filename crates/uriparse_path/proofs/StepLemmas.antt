@@ -10,7 +10,7 @@ use Rattle.uriparse_path.proofs.DotLemmas.{not_both, neither, single_dot, double
 
 -- ---- the first segment of a text
 
--- the segment that begins the text, and what stands behind it
+-- the segment that begins the text, and what follows it
 abbrev seg : List ℕ → List ℕ
 seg t = up_to is_slash t
 
@@ -61,7 +61,7 @@ rooted_output : (s rest o : List ℕ) → LacksSlash s → IsRest rest
     → next_output (slash ∷ (s ++ rest)) o ≡ cond (is_single_dot s) o (cond (is_double_dot s) (without_last o) (o ++ slash ∷ s))
 rooted_output s rest o h k = let is = split s rest h k in rw is.segment refl
 
--- each step is the one that the first segment tells
+-- each step is the one that the first segment determines
 step_is : (i o j p : List ℕ) → Step i o j p → (j ≡ next_input i) × (p ≡ next_output i o)
 step_is i o j p (drops d h e f) =
     let lacks = dot_lacks_slash d h in

@@ -1,4 +1,4 @@
--- What the counts of a list's segments tell of it, and how they change with it.
+-- What the counts of a list's segments say about it, and how they change with it.
 use Rattle.std.proofs.Common.{◌≡◌, ℕ, ◌+◌, ◌<◌, ◌≤◌, Bool, true, false, not, ◌&&◌, ◌||◌, cond, List, [], ◌∷◌, ◌++◌, length, map, get_or, Some, None, slice_get, Result, Ok, Err, MatchResult, is_ok, refl, sym, ap, subst, ◌∙◌, arith}
 use Rattle.std.specs.Prelude.{◌==◌, ◌↔◌, IsTrue, bytes_eq}
 use Rattle.std.specs.Bool.{one_answer}
@@ -160,7 +160,7 @@ counts_plain ss s h k =
     more n m true e f = absurd (false≢true (sym f))
     more n m false e f = omega arith
 
--- ---- what they tell
+-- ---- what they say
 
 cons_count : (p : List ℕ → Bool) (s : List ℕ) (ss : List (List ℕ)) → count_by p (s ∷ ss) ≡ cond (p s) 1 0 + count_by p ss
 cons_count p s ss = sum_by-cons (λ x. cond (p x) 1 0) s ss
@@ -222,7 +222,7 @@ canonical_told c ss e = ap (λ x. x.strays == 0) (e ∙ counts_are ss) ∙ canon
 pub stray_is : (s : List ℕ) (r : Bool) → (IsTrue r ↔ (canonical s ≡ s)) → not r ≡ is_stray s
 stray_is s r h = ap not (one_answer r (is_canonical s) h (bytes_eq-Decides (canonical s) s))
 
--- ---- the invariant, where a change has been made
+-- ---- the invariant after a change
 
 pub counted_kept : (ss : List (List ℕ)) (v : Bool) (c : Counts) → IsKept counts ss v c → IsCounted ss
 counted_kept ss v c is = record { some = is.some; short = is.short }
@@ -255,7 +255,7 @@ pushed_kept old new s (Err x) v c d e is h k f g =
     let right = is.right in
     record { some = counted.some; short = counted.short; right = λ t. g ∙ right t ∙ ap counts (sym k.1) }
 
--- ---- a segment without escapes
+-- ---- a segment without percent-encoded octets
 
 pub unescaped_stays : (s : List ℕ) → lacks percent s ≡ true → canonical s ≡ s
 unescaped_stays [] h = canonical-nil
@@ -286,7 +286,7 @@ pub empty_dots : (s : List ℕ) → None ≡ slice_get s 0 → is_dot_segment s 
 empty_dots [] e = empty_no_dot
 empty_dots (c ∷ t) e = cc
 
--- ---- lists without dots, in canonical spelling, and one behind the other
+-- ---- lists without dots, in canonical spelling, and one after the other
 
 none_of : (p : List ℕ → Bool) (ss : List (List ℕ)) → list_any p ss ≡ false → count_by p ss ≡ 0
 none_of p [] h = refl
@@ -395,7 +395,7 @@ canonical_at ss i s h e k = (bytes_eq-Decides (canonical s) s).0 (by_test (is_ca
     by_test true f = refl
     by_test false f = absurd (false≢true (sym (list_all_at is_canonical ss i s h (ap is_canonical (sym e) ∙ f)) ∙ k))
 
--- ---- the invariant, where the counts are known
+-- ---- the invariant, if the counts are known
 
 pub kept_by : (ss : List (List ℕ)) (v : Bool) (d : Counts) → IsCounted ss → (v ≡ true → d ≡ counts ss) → IsKept counts ss v d
 kept_by ss v d is right = record { some = is.some; short = is.short; right = right }
@@ -408,7 +408,7 @@ pub canonical_shaped : (l : List (List ℕ)) → list_all is_canonical l ≡ tru
 canonical_shaped l h =
     all_shaped is_canonical ((bytes_eq-Decides (canonical []) []).1 canonical-nil) ((bytes_eq-Decides (canonical (dot ∷ [])) (dot ∷ [])).1 canonical-dot) l h
 
--- ---- a canonical segment of dots is one itself
+-- ---- a canonical dot segment is "." or ".." itself
 
 pub single_by_bytes : (s : List ℕ) → canonical s ≡ s → bytes_eq s (dot ∷ []) ≡ is_single_dot s
 unfolding is_single_dot

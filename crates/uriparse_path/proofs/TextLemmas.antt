@@ -15,7 +15,7 @@ use Rattle.uriparse_path.specs.Dots.{LacksSlash}
 use Rattle.uriparse_path.proofs.SplitLemmas.{pieces-joined, joined-pieces, joined-behind}
 use Rattle.uriparse_path.proofs.FaultLemmas.{plain_not_slash, hex_not_slash}
 
--- so many segments
+-- the number of segments
 pub counted : (ss : List (List ℕ)) → IsListed ss → IsCounted ss
 counted ss is = record { some = is.some; short = is.short }
 
@@ -33,7 +33,7 @@ root-unrooted (b ∷ t) = at_first (is_slash b) refl
 pub text-spelled : (t : List ℕ) → text (spelled t) ≡ t
 text-spelled t = ap (λ u. root (is_rooted t) ++ u) (joined-pieces (unrooted t)) ∙ root-unrooted t
 
--- the text of an absolute path is all its segments behind slashes
+-- the text of an absolute path is all its segments, each after a slash
 pub text-absolute : (ss : List (List ℕ)) → 0 < length ss → text (record { absolute = true; segments = ss }) ≡ flat_map (λ s. slash ∷ s) ss
 text-absolute [] h = absurd (omega arith)
 text-absolute (s ∷ ss) h = ap (λ x. slash ∷ x) (joined-behind s ss)
@@ -131,7 +131,7 @@ lacks-path b plain sign digit other t is = ap (lacks b) (sym (text-spelled t)) �
         ∙ lacks-append b s (flat_map (λ s. slash ∷ s) ss) (lacks-in_class Segment b plain sign digit s both.0)
         (lacks-behind_slashes b plain sign digit other ss both.1)
 
--- a text is no longer than its segments, each behind a slash
+-- a text is no longer than its segments, each after a slash
 pub length-text : (p : PathParts) → 0 < length p.segments → length (text p) ≤ length (flat_map (λ s. slash ∷ s) p.segments)
 length-text p some = by_shape p.absolute p.segments some
   where

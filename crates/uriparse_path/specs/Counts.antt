@@ -1,4 +1,4 @@
--- How many segments of a list are of each kind that dot removal and normal forms ask for. A path keeps these numbers.
+-- Counts of segments, for dot removal and normal forms. A path keeps these numbers.
 use Rattle.std.specs.Prelude.{◌≡◌, ℕ, ◌<◌, ◌≤◌, Bool, true, false, not, ◌==◌, List, [], ◌∷◌, length}
 use Rattle.std.specs.List.{count_by, prefix_len}
 use Rattle.uriparse_text.specs.Bytes.{dot}
@@ -14,7 +14,7 @@ begins_with_dot (b ∷ s) = b == dot
 abbrev pub is_stray : List ℕ → Bool
 is_stray s = not (is_canonical s)
 
--- the single dot segments, the double dot segments, those of these that stand first, and the segments that aren't canonical
+-- the "." segments, the ".." segments, the ".." segments before any other, and the segments that are not canonical
 unfoldable pub counts : List (List ℕ) → Counts
 counts ss = record {
   single = count_by is_single_dot ss;
@@ -23,7 +23,7 @@ counts ss = record {
   strays = count_by is_stray ss;
 }
 
--- one segment at least and so many at most; the counts that are kept are those of the list, where they are known
+-- from one segment to the maximum; the counts that are kept are those of the list, if they are known
 pub record IsKept {X : Type 0} (counts : List X → Counts) (segments : List X) (known : Bool) (kept : Counts) : Type 0 where
   pub some : 0 < length segments
   pub short : length segments ≤ max_segments

@@ -1,11 +1,11 @@
--- Dot segments, and a text without them: RFC 3986, sections 3.3 and 5.2.4.
+-- Dot segments and their removal from a text: RFC 3986, sections 3.3 and 5.2.4.
 use Rattle.std.specs.Prelude.{◌≡◌, ℕ, ◌<◌, Bool, true, false, ◌||◌, not, if◌then◌else◌, List, [], ◌∷◌, ◌++◌, length, bytes_eq}
 use Rattle.std.specs.List.{list_all, list_any}
 use Rattle.uriparse_text.specs.Bytes.{dot, slash}
 use Rattle.uriparse_text.specs.Canonical.{canonical}
 use Rattle.uriparse_path.specs.Path.{PathParts, text, is_slash, spelled}
 
--- ---- dot segments, whose dots may be escaped
+-- ---- dot segments, whose dots may be percent-encoded
 
 -- "."
 unfoldable pub is_single_dot : List ℕ → Bool
@@ -18,47 +18,47 @@ is_double_dot s = bytes_eq (canonical s) (dot ∷ dot ∷ [])
 abbrev pub is_dot_segment : List ℕ → Bool
 is_dot_segment s = is_single_dot s || is_double_dot s
 
--- a dot segment is among these
+-- one of these is a dot segment
 abbrev pub has_dot_segment : List (List ℕ) → Bool
 has_dot_segment ss = list_any is_dot_segment ss
 
 -- ---- the rewriting of section 5.2.4, as a relation
 
--- a text in which no slash stands
+-- a text without slashes
 abbrev pub LacksSlash : List ℕ → Type 0
 LacksSlash s = list_all (λ b. not (is_slash b)) s ≡ true
 
--- what may stand behind a whole segment: nothing, or a slash and more
+-- what may follow a whole segment: nothing, or a slash and more
 abbrev pub IsRest : List ℕ → Type 0
 IsRest [] = Unit {0}
 IsRest (b ∷ t) = b ≡ slash
 
--- the same rest, with one slash where it is nothing
+-- the same rest, or a slash if it is empty
 abbrev pub slashed : List ℕ → List ℕ
 slashed [] = slash ∷ []
 slashed (b ∷ t) = b ∷ t
 
--- the text without its last segment and the slash before that, if any
+-- the text without its last segment and the slash that precedes it, if any
 abbrev pub without_last : List ℕ → List ℕ
 without_last [] = []
 without_last (b ∷ t) = if list_any is_slash t then b ∷ without_last t else []
 
--- From the input i and the output o one step leads to the input j and the output p. The letters are those of the standard's list.
+-- One step leads from the input i and the output o to the input j and the output p. The letters are those of the RFC's list.
 pub data Step (i o j p : List ℕ) : Type 0 where
-  -- A: "../" or "./" begins the input, and goes
+  -- A: "../" or "./" begins the input, and is removed
   drops : (d : List ℕ) → is_dot_segment d ≡ true → i ≡ d ++ slash ∷ j → p ≡ o → Step i o j p
   -- B: "/./" begins the input, or "/." is all of it: this becomes "/"
   stays : (d rest : List ℕ) → is_single_dot d ≡ true → IsRest rest → i ≡ slash ∷ (d ++ rest) → j ≡ slashed rest → p ≡ o → Step i o j p
   -- C: "/../" begins the input, or "/.." is all of it: this becomes "/", and the output loses its last segment
   climbs : (d rest : List ℕ) → is_double_dot d ≡ true → IsRest rest → i ≡ slash ∷ (d ++ rest) → j ≡ slashed rest → p ≡ without_last o → Step i o j p
-  -- D: "." or ".." is all of the input, and goes
+  -- D: "." or ".." is all of the input, and is removed
   ends : is_dot_segment i ≡ true → j ≡ [] → p ≡ o → Step i o j p
-  -- E: else the first segment moves to the output; here one that no slash stands before,
+  -- E: otherwise the first segment moves to the output; here one that no slash precedes,
   begins : (s : List ℕ) → LacksSlash s → 0 < length s → is_dot_segment s ≡ false → IsRest j → i ≡ s ++ j → p ≡ o ++ s → Step i o j p
-  -- and here one with the slash before it
+  -- and here one with the slash that precedes it
   moves : (s : List ℕ) → LacksSlash s → is_dot_segment s ≡ false → IsRest j → i ≡ slash ∷ (s ++ j) → p ≡ o ++ slash ∷ s → Step i o j p
 
--- Steps lead from this input and this output to the output u, where nothing is left of the input.
+-- Steps lead from this input and this output to the output u, when the input is used up.
 pub data Reaches (u : List ℕ) : List ℕ → List ℕ → Type 0 where
   done : Reaches u [] u
   more : {i o j p : List ℕ} → Step i o j p → Reaches u j p → Reaches u i o
@@ -74,8 +74,8 @@ all_but_last [] = []
 all_but_last (s ∷ []) = []
 all_but_last (s ∷ r ∷ ss) = s ∷ all_but_last (r ∷ ss)
 
--- The segments, replayed on a stack, whose last one is its top: "." is skipped, ".." takes the top away, any other is
--- put there; a dot segment at the end leaves an empty one.
+-- The segments, replayed on a stack whose top is its last one: "." is skipped, ".." removes the top, any other is
+-- pushed; a dot segment at the end leaves an empty one.
 abbrev pub replay : List (List ℕ) → List (List ℕ) → List (List ℕ)
 replay out [] = out
 replay out (s ∷ []) =
@@ -93,8 +93,8 @@ is_one [] = false
 is_one (s ∷ []) = true
 is_one (s ∷ r ∷ ss) = false
 
--- Whether a slash stands before the replayed segments: one did before, or the first segment, before which none stood,
--- is taken away again, so that the slash behind it is left.
+-- Whether a slash precedes the replayed segments: one did before, or the first segment, which none preceded,
+-- is removed again, so that the slash after it is left.
 abbrev pub rooted_after : Bool → List (List ℕ) → List (List ℕ) → Bool
 rooted_after rooted out [] = rooted
 rooted_after rooted out (s ∷ ss) =
@@ -109,6 +109,6 @@ replayed p = record { absolute = rooted_after p.absolute [] p.segments; segments
 unfoldable pub undot : List ℕ → List ℕ
 undot t = text (replayed (spelled t))
 
--- the path without its dot segments: one that has none is kept as it is
+-- the path without its dot segments; one that has none is unchanged
 abbrev pub without_dots : PathParts → PathParts
 without_dots p = if has_dot_segment p.segments then spelled (undot (text p)) else p

@@ -1,4 +1,4 @@
--- What the edits of a path make of it.
+-- Paths after edits.
 use Rattle.std.specs.Prelude.{ℕ, nat_lt, if◌then◌else◌, List, [], ◌∷◌, ◌++◌, length, Result, Ok, Err}
 use Rattle.uriparse_text.specs.Readings.{◌>>=◌}
 use Rattle.uriparse_text.specs.Bytes.{dot}
@@ -8,7 +8,7 @@ use Rattle.uriparse_path.specs.Path.{PathParts, has_two_slashes, max_segments, t
 use Rattle.uriparse_path.specs.Dots.{all_but_last}
 use Rattle.uriparse_path.specs.Relative.{filled}
 
--- the segment put at the end; one that isn't empty takes the place of the only segment, where that is empty
+-- the segment pushed; one that is not empty replaces the only segment if that is empty
 abbrev pub with_last : List (List ℕ) → List ℕ → List (List ℕ)
 with_last ([] ∷ []) (b ∷ s) = (b ∷ s) ∷ []
 with_last ss s = ss ++ s ∷ []
@@ -16,22 +16,22 @@ with_last ss s = ss ++ s ∷ []
 abbrev pub pushed : PathParts → List ℕ → PathParts
 pushed p s = record p { segments = with_last p.segments s }
 
--- the path with what was read put at its end, or why it isn't: it has as many segments as it may have, or what was to be read is no segment
+-- the path with the segment that was read pushed, or the error: the path is full, or the text is no segment
 abbrev pub pushing : PathParts → Result (List ℕ) PathError → Result PathParts PathError
 pushing p read = if nat_lt (length p.segments) max_segments then read >>= (λ s. Ok (pushed p s)) else Err ExceededMaximumLength
 
--- the last segment taken away; the only one leaves an empty one
+-- without the last segment; the only one is replaced by an empty one
 abbrev pub popped : PathParts → PathParts
 popped p = record p { segments = filled (all_but_last p.segments) }
 
--- one empty segment in the place of all
+-- one empty segment in place of all
 abbrev pub cleared : PathParts → PathParts
 cleared p = record p { segments = [] ∷ [] }
 
--- a "." in front of the segments
+-- a leading "."
 abbrev pub dotted : PathParts → PathParts
 dotted p = record p { segments = (dot ∷ []) ∷ p.segments }
 
--- The path where no authority stands before it: a "." in front keeps its text from beginning with two slashes.
+-- the path without an authority before it: a leading "." keeps its text from beginning with two slashes
 abbrev pub shield : PathParts → PathParts
 shield p = if has_two_slashes (text p) then dotted p else p

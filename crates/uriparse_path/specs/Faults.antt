@@ -1,4 +1,4 @@
--- What is wrong with a text that is no path: RFC 3986, section 3.3, and the limit of segments.
+-- Faults of a text that is no path: RFC 3986, section 3.3, and the limit of segments.
 use Rattle.std.specs.Prelude.{◌≡◌, ℕ, Bool, nat_lt, ◌==◌, ◌&&◌, ◌||◌, List, [], ◌∷◌, ◌++◌, length, take, Option, Some, None, Result, if◌then◌else◌}
 use Rattle.std.specs.Option.{option_or}
 use Rattle.std.specs.Result.{result_map_both}
@@ -10,36 +10,36 @@ use Rattle.uriparse_path.specs.declared.path.error.PathError.TheVariants.{Exceed
 use Rattle.uriparse_path.specs.Segment as segment
 use Rattle.uriparse_path.specs.Path.{PathParts, max_segments, pieces, spelled}
 
--- Behind a path comes a `?` or a `#`, or nothing.
+-- A path ends before a `?` or a `#`.
 abbrev pub ends_path : ℕ → Bool
 ends_path b = b == question_mark || b == number_sign
 
--- the path that a text begins with, or, where it may not end before the text does, all of it: a word of a private function's clause alone
+-- the path that a text begins with, or all of the text if it may not end before; for the clause of a private function
 abbrev pub path_front : Bool → List ℕ → List ℕ
 path_front ends t = up_to (λ b. ends && ends_path b) t
 
--- how many segments, and how long: a word of private functions' clauses alone
+-- the number of segments, and the length; for clauses of private functions
 abbrev pub measured : Result (ℕ × ℕ × ℕ) PathError → Result (ℕ × ℕ) PathError
 measured r = result_map_both (λ m. (m.0, m.1)) (λ e. e) r
 
--- the fault of the first of these pieces that has one
+-- the fault of the first piece that has one
 abbrev pub first_fault : List (List ℕ) → Option PathError
 first_fault [] = None
 first_fault (s ∷ ss) = option_or (segment.fault s) (first_fault ss)
 
--- the fault of more pieces than there may be
+-- the fault of too many pieces
 abbrev pub length_fault : ℕ → ℕ → Option PathError
 length_fault limit count = if nat_lt limit count then Some ExceededMaximumLength else None
 
--- The leftmost fault of pieces of which so many may be: that of the first with one, as far as the limit goes. Behind these
--- stands the length's, at the slash that would begin one segment more.
+-- The leftmost fault of pieces under a limit of their number: that of the first faulty one within the limit. After these
+-- comes the fault of the length, at the slash that would start one segment more.
 abbrev pub fault_within : ℕ → List (List ℕ) → Option PathError
 fault_within limit ps = option_or (first_fault (take limit ps)) (length_fault limit (length ps))
 
 unfoldable pub fault : List ℕ → Option PathError
 fault t = fault_within max_segments (pieces t)
 
--- A front without fault has as many segments as a path may have, and then comes a slash, which would begin one more.
+-- A prefix without fault has as many segments as a path may have, and a slash follows it, which would start one more.
 pub record PassesLimit (t : List ℕ) : Type 0 where
   pub front : List ℕ
   pub behind : List ℕ

@@ -1,14 +1,14 @@
--- A base's path and a reference's, merged: RFC 3986, section 5.2.3.
+-- A base's path merged with a reference's: RFC 3986, section 5.2.3.
 use Rattle.std.specs.Prelude.{nat_le, if◌then◌else◌, ◌++◌, length, Result, Ok, Err}
 use Rattle.uriparse_path.specs.declared.path.error.PathError.{PathError}
 use Rattle.uriparse_path.specs.declared.path.error.PathError.TheVariants.{ExceededMaximumLength}
 use Rattle.uriparse_path.specs.Path.{PathParts, max_segments}
 use Rattle.uriparse_path.specs.Dots.{all_but_last}
 
--- the segments of the base but for the last one, and then those of the reference
+-- the segments of the base without the last one, then those of the reference
 abbrev pub merged : PathParts → PathParts → PathParts
 merged p q = record { absolute = p.absolute; segments = all_but_last p.segments ++ q.segments }
 
--- the same, or its refusal where there are more segments than a path may have
+-- the same, or the error if there are more segments than a path may have
 abbrev pub merging : PathParts → PathParts → Result PathParts PathError
 merging p q = if nat_le (length (merged p q).segments) max_segments then Ok (merged p q) else Err ExceededMaximumLength

@@ -11,28 +11,28 @@ use Rattle.uriparse_path.specs.Relative.{needs_guard, relative_normal}
 abbrev pub canonical_path : PathParts → PathParts
 canonical_path p = record { absolute = p.absolute; segments = map canonical p.segments }
 
--- the path is normalised as one that a base comes before
+-- the path stays relative to a base when it is normalized
 abbrev pub stays_relative : PathParts → Bool → Bool
 stays_relative p as_reference = as_reference && not (is_rooted (text p))
 
--- The normal form of a path, which may be that of a reference without a scheme. From any other path the dot segments are removed; one that has none keeps its list.
+-- The normal form of a path. One that may be that of a reference without a scheme can stay relative. From any other path the dot segments are removed; one that has none keeps its list.
 abbrev pub pnormal : PathParts → Bool → PathParts
 pnormal p as_reference =
     if stays_relative p as_reference then record { absolute = false; segments = relative_normal p.segments }
     else if has_dot_segment p.segments then spelled (canonical (undot (text p)))
     else canonical_path p
 
--- ---- which paths are left as they are
+-- ---- which paths are in normal form
 
 abbrev pub is_canonical : List ℕ → Bool
 is_canonical s = bytes_eq (canonical s) s
 
--- ".." first, as often as it may be, and then no dot segment
+-- any number of ".." first, then no dot segment
 abbrev pub climbs_first : List (List ℕ) → Bool
 climbs_first [] = true
 climbs_first (s ∷ ss) = if is_double_dot s then climbs_first ss else not (has_dot_segment (s ∷ ss))
 
--- a "." stands in front, and is needed there
+-- a "." comes first and is needed there
 abbrev pub is_guarded : List (List ℕ) → Bool
 is_guarded [] = false
 is_guarded (s ∷ ss) = is_single_dot s && climbs_first ss && needs_guard (s ∷ ss) ss
@@ -43,7 +43,7 @@ is_normal p as_reference =
     list_all is_canonical p.segments
     && (if stays_relative p as_reference then climbs_first p.segments || is_guarded p.segments else not (has_dot_segment p.segments))
 
--- the absolute path has a "." in front, which is needed where there is no authority, and behind it a normal path
+-- the path is absolute and normal except for a leading ".", which is needed without an authority
 abbrev pub is_shielded : Bool → List (List ℕ) → Bool
 is_shielded absolute [] = false
 is_shielded absolute (s ∷ ss) =

@@ -6,7 +6,7 @@ use Rattle.uriparse_text.specs.Bytes.{slash}
 use Rattle.uriparse_text.specs.Canonical.{fed_bytes}
 use Rattle.uriparse_path.specs.Segment.{is_segment}
 
--- whether a slash stands before the segments, and these, of any kind
+-- whether a slash precedes the segments, and the segments, of any kind
 pub record PartsOf (X : Type 0) : Type 0 where
   pub absolute : Bool
   pub segments : List X
@@ -14,21 +14,21 @@ pub record PartsOf (X : Type 0) : Type 0 where
 abbrev pub PathParts : Type 0
 PathParts = PartsOf (List ℕ)
 
--- the flag that a word stands for
+-- the flag of a word
 abbrev pub flag : ℕ → Bool
 flag n = not (n == 0)
 
--- the most segments that a path may have
+-- the maximum number of segments of a path
 unfoldable pub max_segments : ℕ
 max_segments = 1000000
 
--- one segment at least and so many at most, each of a segment's tokens
+-- from one segment to the maximum, each of a segment's tokens
 pub record IsListed (segments : List (List ℕ)) : Type 0 where
   pub some : 0 < length segments
   pub short : length segments ≤ max_segments
   pub each : list_all is_segment segments ≡ true
 
--- one segment at least and so many at most
+-- from one segment to the maximum
 pub record IsCounted {X : Type 0} (segments : List X) : Type 0 where
   pub some : 0 < length segments
   pub short : length segments ≤ max_segments
@@ -36,7 +36,7 @@ pub record IsCounted {X : Type 0} (segments : List X) : Type 0 where
 abbrev pub root : Bool → List ℕ
 root absolute = if absolute then slash ∷ [] else []
 
--- a slash where the path is absolute, and then the segments joined by slashes
+-- a slash if the path is absolute, then the segments joined by slashes
 abbrev pub text : PathParts → List ℕ
 text p = root p.absolute ++ join_with_byte slash p.segments
 
@@ -48,12 +48,12 @@ abbrev pub is_rooted : List ℕ → Bool
 is_rooted [] = false
 is_rooted (b ∷ t) = is_slash b
 
--- the text without the slash that it begins with
+-- the text without a leading slash
 abbrev pub unrooted : List ℕ → List ℕ
 unrooted [] = []
 unrooted (b ∷ t) = if is_slash b then t else b ∷ t
 
--- the text split at each slash, but for one that it begins with
+-- the text split at each slash except a leading one
 abbrev pub pieces : List ℕ → List (List ℕ)
 pieces t = slice_split is_slash (unrooted t)
 
@@ -61,20 +61,20 @@ pieces t = slice_split is_slash (unrooted t)
 abbrev pub spelled : List ℕ → PathParts
 spelled t = record { absolute = is_rooted t; segments = pieces t }
 
--- the list begins with an empty segment and goes on, so that its text begins with a slash
+-- the first segment is empty and others follow, so that their text begins with a slash
 abbrev pub hides_root : List (List ℕ) → Bool
 hides_root ([] ∷ _ ∷ _) = true
 hides_root _ = false
 
--- a relative path that begins with an empty segment and goes on: its text begins with a slash all the same
+-- a relative path whose first segment is empty and has others after it: its text still begins with a slash
 abbrev pub has_hidden_root : PathParts → Bool
 has_hidden_root p = not p.absolute && hides_root p.segments
 
--- the path that the text of a path spells: the same one, but for a relative one whose text begins with a slash
+-- the path that the text of a path spells: the same one, except for a relative one whose text begins with a slash
 abbrev pub respelled : PathParts → PathParts
 respelled p = if has_hidden_root p then record { absolute = true; segments = drop 1 p.segments } else p
 
--- the text is that of a path: it is split into one segment at least and so many at most
+-- the text is that of a path: it is split into at least one segment and at most the maximum
 abbrev pub IsPath : List ℕ → Type 0
 IsPath t = IsListed (pieces t)
 
@@ -82,7 +82,7 @@ IsPath t = IsListed (pieces t)
 abbrev pub made_absolute : PathParts → PathParts
 made_absolute p = record p { absolute = true }
 
--- the same path with these segments, of which there are as many as before
+-- the same path with these segments, as many as before
 abbrev pub with_segments : {X : Type 0} → PartsOf X → List X → PartsOf X
 with_segments p ss = record p { segments = refill (length p.segments) p.segments ss }
 
@@ -94,6 +94,6 @@ has_two_slashes t = is_rooted t && is_rooted (unrooted t)
 abbrev pub fed_piece : List ℕ → HashWrites
 fed_piece s = u8 slash ++ fed_bytes s
 
--- what a hasher is fed for the canonical spelling of a path's text: each piece, and then 0xFF, which no spelling has
+-- what a hasher is fed for the canonical spelling of a path's text: each piece, then 0xFF, which no spelling has
 unfoldable pub fed : List ℕ → HashWrites
 fed t = flat_map fed_piece (slice_split is_slash t) ++ u8 255

@@ -9,43 +9,43 @@ use Rattle.uriparse_path.specs.Relative.{is_first, has_colon}
 abbrev pub climbs : List (List ℕ) → List (List ℕ)
 climbs ds = map (λ d. dot ∷ dot ∷ []) ds
 
--- What leads from these directories to these segments: without those that both have in front, in one spelling, "..", for each directory that is
--- left, and the segments that are left. The last segment is none of a directory.
+-- What leads from these directories to these segments: without those that both start with, in the same spelling, ".." for each directory that is
+-- left, then the segments that are left. The last segment is not a directory.
 abbrev pub apart : List (List ℕ) → List (List ℕ) → List (List ℕ)
 apart [] ss = ss
 apart (d ∷ ds) [] = climbs (d ∷ ds)
 apart (d ∷ ds) (s ∷ []) = climbs (d ∷ ds) ++ s ∷ []
 apart (d ∷ ds) (s ∷ r ∷ ss) = if bytes_eq d s then apart ds (r ∷ ss) else climbs (d ∷ ds) ++ s ∷ r ∷ ss
 
--- a first segment that would be taken for a slash, for no path or for a scheme: an empty one, or one with a colon
+-- a first segment that would be read as a slash, as no path or as a scheme: an empty one, or one with a colon
 abbrev pub is_taken : List ℕ → Bool
 is_taken [] = true
 is_taken (b ∷ s) = has_colon (b ∷ s)
 
--- the segments, with a "." in front of such a one
+-- the segments, with a leading "." before such a one
 abbrev pub fronted : List (List ℕ) → List (List ℕ)
 fronted ss = if is_first is_taken ss then (dot ∷ []) ∷ ss else ss
 
--- what leads from the directory of one path to another path, but for that "."
+-- what leads from the directory of one path to another path, without that "."
 abbrev pub apart_of : PathParts → PathParts → List (List ℕ)
 apart_of b t = apart (all_but_last b.segments) t.segments
 
--- there are no directories, or the first one is the first of the others too
+-- there are no directories, or the first one is also the first of the others
 abbrev pub stays_below : List (List ℕ) → List (List ℕ) → Bool
 stays_below [] ss = true
 stays_below (d ∷ ds) [] = false
 stays_below (d ∷ ds) (s ∷ []) = false
 stays_below (d ∷ ds) (s ∷ r ∷ ss) = bytes_eq d s
 
--- Both are absolute, or neither is, and one needn't climb out of the base's first directory. Out of that a ".." would lead to a slash.
+-- Both are absolute, or neither is and no ".." leaves the base's first directory. A ".." out of that would lead to a slash.
 abbrev pub have_one_root : PathParts → PathParts → Bool
 have_one_root b t = if b.absolute then t.absolute else not t.absolute && stays_below (all_but_last b.segments) t.segments
 
--- so it is, and they have no dot segment; it may stand last in the base
+-- that holds, and they have no dot segment, except as the base's last one
 abbrev pub may_lead : PathParts → PathParts → Bool
 may_lead b t = have_one_root b t && (not (has_dot_segment (all_but_last b.segments)) && not (has_dot_segment t.segments))
 
--- merged with the base's directory there are not too many segments, and room for that "."
+-- merged with the base's directory there are not too many segments, and there is room for that "."
 abbrev pub has_room : PathParts → PathParts → Bool
 has_room b t = nat_lt (length (all_but_last b.segments) + length (apart_of b t)) max_segments
 
@@ -57,7 +57,7 @@ leading b t = if may_lead b t && has_room b t then Some (record { absolute = fal
 abbrev pub no_path : PathParts
 no_path = record { absolute = false; segments = [] ∷ [] }
 
--- how many double dot segments there are
+-- the number of ".." segments
 abbrev pub climbs_in : List (List ℕ) → ℕ
 climbs_in [] = 0
 climbs_in (s ∷ ss) = if is_double_dot s then climbs_in ss + 1 else climbs_in ss

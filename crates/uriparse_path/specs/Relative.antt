@@ -1,4 +1,4 @@
--- The normal form of a relative path's segments. Dots may be escaped.
+-- The normal form of a relative path's segments. Dots may be percent-encoded.
 use Rattle.std.specs.Prelude.{◌≡◌, ℕ, Bool, true, false, ◌==◌, ◌&&◌, ◌||◌, not, if◌then◌else◌, List, [], ◌∷◌, ◌++◌, map, reverse}
 use Rattle.std.specs.List.{list_any}
 use Rattle.uriparse_text.specs.Bytes.{dot, colon}
@@ -10,9 +10,9 @@ use Rattle.uriparse_path.specs.Dots.{is_single_dot, is_double_dot, is_dot_segmen
 
 -- One deletion leads from a list to a list.
 pub data Deletes (l m : List (List ℕ)) : Type 0 where
-  -- a "." goes
+  -- a "." is deleted
   single : (before after : List (List ℕ)) (d : List ℕ) → is_single_dot d ≡ true → l ≡ before ++ d ∷ after → m ≡ before ++ after → Deletes l m
-  -- a segment that is no dot segment goes with the ".." directly behind it
+  -- a segment that is no dot segment is deleted with the ".." right after it
   pair : (before after : List (List ℕ)) (s d : List ℕ) → is_dot_segment s ≡ false → is_double_dot d ≡ true → l ≡ before ++ s ∷ d ∷ after → m ≡ before ++ after
       → Deletes l m
 
@@ -24,7 +24,7 @@ pub data Leads (m : List (List ℕ)) : List (List ℕ) → Type 0 where
 abbrev pub IsIrreducible : List (List ℕ) → Type 0
 IsIrreducible l = (m : List (List ℕ)) → Deletes l m → ⊥
 
--- ---- what stands at the end and in front
+-- ---- the end and the front
 
 -- the last segment passes
 abbrev pub is_last : (List ℕ → Bool) → List (List ℕ) → Bool
@@ -37,7 +37,7 @@ abbrev pub is_first : (List ℕ → Bool) → List (List ℕ) → Bool
 is_first p [] = false
 is_first p (s ∷ ss) = p s
 
--- an empty segment behind the segments that are left, where a dot segment stood at the end; none where nothing is left, or ".." stands there still
+-- an empty segment after those that are left, if a dot segment was last; none if nothing is left or a ".." is still last
 abbrev pub closed : Bool → List (List ℕ) → List (List ℕ)
 closed ended_in_dots [] = []
 closed ended_in_dots (s ∷ ss) =
@@ -46,11 +46,11 @@ closed ended_in_dots (s ∷ ss) =
 abbrev pub has_colon : List ℕ → Bool
 has_colon s = list_any (λ b. b == colon) s
 
--- a "." is needed in front: an empty segment with others behind it comes first, or one with a colon where the old first one had none
+-- a leading "." is needed: an empty segment with others after it comes first, or one with a colon if the old first one had none
 abbrev pub needs_guard : List (List ℕ) → List (List ℕ) → Bool
 needs_guard old new = hides_root new || (is_first has_colon new && not (is_first has_colon old))
 
--- a "." in front, where one is needed
+-- a leading ".", if one is needed
 abbrev pub guarded : List (List ℕ) → List (List ℕ) → List (List ℕ)
 guarded old new = if needs_guard old new then (dot ∷ []) ∷ new else new
 
@@ -59,7 +59,7 @@ abbrev pub filled : List (List ℕ) → List (List ℕ)
 filled [] = [] ∷ []
 filled (s ∷ ss) = s ∷ ss
 
--- the segments that are left of the old ones, with that end and that front
+-- what is left of the old segments, with that end and that front
 abbrev pub ended : List (List ℕ) → List (List ℕ) → List (List ℕ)
 ended old new = filled (guarded old (closed (is_last is_dot_segment old) new))
 
@@ -76,7 +76,7 @@ pub record IsRelNormal (l n : List (List ℕ)) : Type 0 where
 
 -- ---- the same as functions
 
--- the segment put on a stack, whose first one is its top, with the deletion that it brings
+-- the segment put on a stack whose top is its first one, with the deletion that it brings
 abbrev pub put : List (List ℕ) → List ℕ → List (List ℕ)
 put [] s = if is_single_dot s then [] else s ∷ []
 put (t ∷ stack) s =

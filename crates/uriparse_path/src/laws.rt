@@ -1,5 +1,5 @@
-//! Laws of the definitions that contracts cite. Each function has nothing to do: its contract is
-//! the law.
+//! Laws of the definitions that contracts cite. Each function does nothing: its contract is the
+//! law.
 ghost use Rattle.std.specs.Prelude.{◌≡◌, ◌<◌, ◌≤◌, ◌↔◌, ◌∷◌, [], ℕ, List, Bool, None, Some, Ok, Err, codes, length, map, true, false};
 ghost use Rattle.std.specs.List.{list_all, slice_split, join_with_byte};
 ghost use Rattle.uriparse_text.specs.Bytes.{slash};
@@ -18,43 +18,43 @@ ghost use Rattle.uriparse_path.specs.Normal.{canonical_path, pnormal, climbs_fir
 
 use crate::path::MAX_SEGMENTS;
 
-/// The limit of the definitions is the constant.
+/// The definitions and the code have the same limit.
 pub fn one_limit() -> usize
     ensures { result ≡ max_segments }
 {
     MAX_SEGMENTS
 }
 
-/// A text has no fault exactly where its pieces are the segments of a path. Want of memory is no
-/// text's fault.
+/// A text has no fault exactly if its pieces are the segments of a path. Running out of memory is
+/// not a fault of a text.
 pub fn no_fault()
     ensures none { (t : List ℕ) → (fault t ≡ None) ↔ IsListed (pieces t) }
     ensures memory { (t : List ℕ) → fault t ≡ Some errors.OutOfMemory → ⊥ }
 {}
 
-/// The fault of a text is that of its length exactly where a front without fault has as many
-/// segments as a path may have, and a slash comes behind that.
+/// A text is rejected for its length exactly if a prefix without fault has as many segments as a
+/// path may have and a slash follows it.
 pub fn length_fault()
     ensures { (t : List ℕ) → (fault t ≡ Some errors.ExceededMaximumLength) ↔ PassesLimit t }
 {}
 
-/// Splitting at slashes and joining by slashes undo one another.
+/// Splitting at slashes and joining with slashes undo each other.
 pub fn splitting_and_joining()
     ensures joined { (t : List ℕ) → join_with_byte slash (slice_split is_slash t) ≡ t }
     ensures split { (s : List ℕ) (ss : List (List ℕ)) → list_all is_segment (s ∷ ss) ≡ true → slice_split is_slash (join_with_byte slash (s ∷ ss)) ≡ s ∷ ss }
 {}
 
 /// The path that a text spells has that text. The path that a path's text spells is that path, or
-/// the absolute one where a relative path's text begins with a slash.
+/// an absolute one if the text of a relative path begins with a slash.
 pub fn reading_back()
     ensures text { (t : List ℕ) → text (spelled t) ≡ t }
     ensures path { (p : PathParts) → IsListed p.segments → spelled (text p) ≡ respelled p }
     ensures listed { (p : PathParts) → IsListed p.segments → IsListed (respelled p).segments }
 {}
 
-/// The steps that remove dot segments leave no choice, and lead from each text to one text. From
-/// the text of a path they lead to that of its replayed segments; a text without dot segments
-/// stays.
+/// The steps that remove dot segments leave no choice, and lead from each text to exactly one text.
+/// From a path's text they lead to the text of its replayed segments. A text without dot segments
+/// is unchanged.
 pub fn one_text_without_dots()
     ensures step { (i o j p k q : List ℕ) → Step i o j p → Step i o k q → (j ≡ k) × (p ≡ q) }
     ensures text { (t u : List ℕ) → Undots t u ↔ (u ≡ undot t) }
@@ -63,30 +63,31 @@ pub fn one_text_without_dots()
     ensures root { (out ss : List (List ℕ)) → rooted_after true out ss ≡ true }
 {}
 
-/// Canonical spelling may come before or after: it changes neither which text is left without dot
-/// segments, but for its spelling, nor a normal form.
+/// Canonical spelling may come before or after the removal of dot segments, with the same result.
+/// Nor does it change a normal form.
 pub fn spelling_before_or_after()
     ensures dots { (t : List ℕ) → IsPath t → undot (canonical t) ≡ canonical (undot t) }
     ensures normal { (p : PathParts) (r : Bool) → IsListed p.segments → pnormal (canonical_path p) r ≡ pnormal p r }
 {}
 
-/// A path without its dot segments is one, has none, and is no longer.
+/// A path without its dot segments is a path, has no dot segment, and is no longer than before.
 pub fn without_dot_segments()
     ensures listed { (p : PathParts) → IsListed p.segments → IsListed (without_dots p).segments }
     ensures none { (p : PathParts) → IsListed p.segments → has_dot_segment (without_dots p).segments ≡ false }
     ensures no_longer { (p : PathParts) → IsListed p.segments → length (without_dots p).segments ≤ length p.segments }
 {}
 
-/// Deletions lead from each list of segments to one irreducible list, which begins with double dot
-/// segments and has no other dot segment. So each list has one relative normal form.
+/// Deletions lead from each list of segments to exactly one irreducible list, in which `..`
+/// segments come first and no other dot segment is left. So each list has exactly one relative
+/// normal form.
 pub fn one_relative_normal_form()
     ensures list { (l m : List (List ℕ)) → (Leads m l × IsIrreducible m) ↔ (m ≡ reduced l) }
     ensures irreducible { (l : List (List ℕ)) → IsIrreducible l ↔ (climbs_first l ≡ true) }
     ensures normal { (l n : List (List ℕ)) → IsRelNormal l n ↔ (n ≡ relative_normal l) }
 {}
 
-/// The normal form of a path is one, no longer, and its own normal form. A path has the text of its
-/// normal form exactly where it is normal, and then it is that form.
+/// The normal form of a path is a path, no longer than the path, and its own normal form. A path
+/// has the text of its normal form exactly if it is normal, and then it is that form.
 pub fn one_normal_form()
     ensures listed { (p : PathParts) (r : Bool) → IsListed p.segments → IsListed (pnormal p r).segments }
     ensures no_longer { (p : PathParts) (r : Bool) → IsListed p.segments → length (pnormal p r).segments ≤ length p.segments }
@@ -95,9 +96,9 @@ pub fn one_normal_form()
     ensures kept { (p : PathParts) (r : Bool) → IsListed p.segments → is_normal p r ≡ true → pnormal p r ≡ p }
 {}
 
-/// The normal form of the path that a text spells is one that its own text spells, and that of an
-/// absolute path is absolute. In a reference without a scheme it begins with a slash exactly where
-/// the path does, and its first segment has no colon where that of the path has none.
+/// If a path is the one that its text spells, so is its normal form. The normal form of an absolute
+/// path is absolute. In a reference without a scheme it begins with a slash exactly if the path
+/// does, and its first segment has no colon if the path's first one has none.
 pub fn normal_form_in_place()
     ensures spelled { (p : PathParts) (r : Bool) → IsListed p.segments → spelled (text p) ≡ p → spelled (text (pnormal p r)) ≡ pnormal p r }
     ensures absolute { (p : PathParts) (r : Bool) → IsListed p.segments → p.absolute ≡ true → (pnormal p r).absolute ≡ true }
@@ -106,7 +107,7 @@ pub fn normal_form_in_place()
     ensures colon { (p : PathParts) → is_rooted (text p) ≡ false → is_first has_colon p.segments ≡ false → is_first has_colon (pnormal p true).segments ≡ false }
 {}
 
-/// Texts, and what is left of them without dot segments. Dots may be escaped.
+/// Texts before and after the removal of dot segments. Dots may be percent-encoded.
 #[tactic(auto, unfolding(crate::specs::Dots::undot, crate::specs::Dots::is_single_dot, crate::specs::Dots::is_double_dot, crate::specs::Relative::relative_normal, uriparse_text::specs::Canonical::canonical_in, uriparse_text::specs::Tokens::tokens, uriparse_text::specs::Bytes::is_unreserved))]
 pub fn examples_without_dot_segments()
     ensures two_levels { undot (codes "/a/b/c/./../../g") ≡ codes "/a/g" }
@@ -120,7 +121,7 @@ pub fn examples_without_dot_segments()
     ensures first_of_two { undot (codes "a/../b") ≡ codes "/b" }
 {}
 
-/// Texts of paths, and those of their normal forms in a reference without a scheme.
+/// Texts of paths and of their normal forms in a reference without a scheme.
 #[tactic(auto, unfolding(crate::specs::Dots::undot, crate::specs::Dots::is_single_dot, crate::specs::Dots::is_double_dot, crate::specs::Relative::relative_normal, uriparse_text::specs::Canonical::canonical_in, uriparse_text::specs::Tokens::tokens, uriparse_text::specs::Bytes::is_unreserved))]
 pub fn examples_of_relative_normal_forms()
     ensures single { text (pnormal (spelled (codes ".")) true) ≡ codes "" }
@@ -150,7 +151,7 @@ pub fn examples_of_relative_normal_forms()
     ensures plain_kept { text (pnormal (spelled (codes "../.")) true) ≡ codes ".." }
 {}
 
-/// Texts of paths, and those of their normal forms elsewhere.
+/// Texts of paths and of their normal forms elsewhere.
 #[tactic(auto, unfolding(crate::specs::Dots::undot, crate::specs::Dots::is_single_dot, crate::specs::Dots::is_double_dot, crate::specs::Relative::relative_normal, uriparse_text::specs::Canonical::canonical_in, uriparse_text::specs::Tokens::tokens, uriparse_text::specs::Bytes::is_unreserved))]
 pub fn examples_of_other_normal_forms()
     ensures single { text (pnormal (spelled (codes ".")) false) ≡ codes "" }
@@ -169,15 +170,15 @@ pub fn examples_of_other_normal_forms()
     ensures colon_popped { text (pnormal (spelled (codes "a:b/../c")) false) ≡ codes "/c" }
 {}
 
-/// The relative path that leads from a base's path to another one, merged with the base's, comes to
-/// the other one once its dot segments are removed. No other relative path comes there with fewer
-/// `..`.
+/// Merging the relative path that leads from a base's path to another one with the base's path, and
+/// removing the dot segments, yields the other path's segments. No relative path leads there with
+/// fewer `..`.
 pub fn fewest_climbs()
     ensures leads { (b t p : PathParts) → 0 < length t.segments → leading b t ≡ Some p → replay [] (merged b p).segments ≡ t.segments }
     ensures fewest { (b t p q : PathParts) → leading b t ≡ Some p → 0 < length t.segments → 0 < length q.segments → replay [] (merged b q).segments ≡ t.segments → climbs_in p.segments ≤ climbs_in q.segments }
 {}
 
-/// Relative paths that lead from a base's path to another one, where there is one.
+/// Relative paths that lead from a base's path to another one, if there is one.
 #[tactic(auto, unfolding(crate::specs::Dots::is_single_dot, crate::specs::Dots::is_double_dot, uriparse_text::specs::Canonical::canonical_in, uriparse_text::specs::Tokens::tokens, uriparse_text::specs::Bytes::is_unreserved, crate::specs::Path::max_segments))]
 pub fn examples_of_leading()
     ensures one_up { leading (spelled (codes "/b/c/d;p")) (spelled (codes "/b/g")) ≡ Some (spelled (codes "../g")) }
@@ -201,7 +202,7 @@ pub fn examples_of_leading()
     ensures one_root { leading (spelled (codes "/b")) (spelled (codes "c")) ≡ None }
 {}
 
-/// What edits make of paths.
+/// Paths before and after edits.
 #[tactic(auto, unfolding(crate::specs::Dots::undot, crate::specs::Dots::is_single_dot, crate::specs::Dots::is_double_dot, crate::specs::Relative::relative_normal, uriparse_text::specs::Canonical::canonical_in, uriparse_text::specs::Tokens::tokens, uriparse_text::specs::Bytes::is_unreserved, crate::specs::Path::max_segments, uriparse_text::specs::Faults::fault, uriparse_text::specs::Classes::is_plain, uriparse_text::specs::Bytes::is_sub_delim))]
 pub fn examples_of_edits()
     ensures last_of_two { text (popped (spelled (codes "a/b"))) ≡ codes "a" }

@@ -1,4 +1,4 @@
-//! What the crates above build on. Users have no need of it.
+//! What the crates above build on. Users do not need it.
 ghost use Rattle.std.specs.Prelude.{◌≡◌, ◌↔◌, ◌≤◌, ◌⊎◌, Err, IfErr, IfOk, IsOk, IsTrue, OnOk, OnErr, if◌then◌else◌, length, true, false};
 ghost use Rattle.std.specs.List.{list_all};
 ghost use Rattle.uriparse_text.specs.Bytes.{colon};
@@ -58,13 +58,15 @@ pub fn into_absolute(path: Path<'_>) -> Path<'_>
     path.into_absolute()
 }
 
-/// The relative path that leads from the base's path to the target's, if there is one: `..` for each
-/// of the base's directories that the target isn't in, and the target's segments behind those that
-/// it is in, with a `.` in front where the first would be taken for a slash, for no path or for a
-/// scheme. There is one where both are absolute, or neither is and the target is in the base's first
-/// directory or the base in none; where none of them has dot segments but for the base's last, and
-/// they aren't too long. It borrows the texts of the target's segments; room for the list is asked
-/// for once.
+/// Returns the relative path that leads from the base's path to the target's, if there is one: a
+/// `..` for each directory of the base that the target is not in, then the target's segments after
+/// the shared directories. It starts with `.` if its first segment would otherwise be read as a
+/// slash, as no path or as a scheme.
+///
+/// There is one if both paths are absolute, or if neither is and the target is in the base's first
+/// directory or the base is in none. Neither may have a dot segment, except as the base's last one,
+/// and they must not be too long. The result borrows the texts of the target's segments. Allocates
+/// the list once.
 pub fn leading_path<'p>(
     alloc: Global,
     base: &Path<'_>,
@@ -75,36 +77,36 @@ pub fn leading_path<'p>(
     Path::leading(alloc, base, target)
 }
 
-/// The empty path, whose list of one segment wants memory.
+/// The empty path. Allocates its list of one segment.
 pub fn empty_path(alloc: Global) -> Result<Path<'static>, AllocError>
     ensures { IfOk result (λ p. p ≡ no_path) }
 {
     Path::empty(alloc)
 }
 
-/// Whether a dot segment is among the path's segments.
+/// Whether the path has a dot segment.
 pub fn has_dots(path: &Path<'_>) -> bool
     ensures { result ≡ has_dot_segment path.now.segments }
 {
     path.has_dots()
 }
 
-/// Whether the paths are one, segment for segment, in one spelling.
+/// Whether the paths are the same, segment for segment, with the same spelling.
 pub fn is_same_path(left: &Path<'_>, right: &Path<'_>) -> bool
     ensures { IsTrue result ↔ (left.now ≡ right.now) }
 {
     left.is_same(right)
 }
 
-/// How many bytes the path's text has at most, or the most that a number holds.
+/// An upper bound of the length of the path's text in bytes, or `usize::MAX`.
 pub fn most_path_bytes(path: &Path<'_>) -> usize
     ensures { length (text path.now) ≤ result ⊎ result ≡ usize.MAX }
 {
     path.most_bytes()
 }
 
-/// Makes it the path that its text spells: the same one, but for a relative path that begins with
-/// an empty segment and goes on. Takes no memory.
+/// Makes it the path that its text spells. Changes only a relative path whose first segment is
+/// empty and has others after it. Does not allocate.
 pub fn respell(path: &mut Path<'_>)
     ensures { path.new ≡ spelled (text path.old) }
 {
@@ -119,20 +121,19 @@ pub fn has_two_slashes(path: &Path<'_>) -> bool
     path.has_two_slashes()
 }
 
-/// Whether no colon stands before the first slash of the path's text.
+/// Whether no colon precedes the first slash of the path's text.
 pub fn lacks_colon_segment(path: &Path<'_>) -> bool
     ensures { result ≡ lacks colon (up_to is_slash (text path.now)) }
 {
     path.lacks_colon_segment()
 }
 
-/// The path of a reference behind that of a base: the base's segments but for the last one, then
-/// the reference's, which all borrow their texts. The base's flag is kept.
+/// Merges a reference's path with a base's: the base's segments without the last one, then the
+/// reference's. All borrow their texts. The result is absolute if the base's path is.
 ///
-/// [`ExceededMaximumLength`](PathError::ExceededMaximumLength) is answered where there would be
-/// more segments than [`MAX_SEGMENTS`](crate::path::MAX_SEGMENTS), whatever memory there is. Else
-/// room for the list is asked for once; where there is none,
-/// [`OutOfMemory`](PathError::OutOfMemory) is answered.
+/// Returns [`ExceededMaximumLength`](PathError::ExceededMaximumLength) if there would be more than
+/// [`MAX_SEGMENTS`](crate::path::MAX_SEGMENTS) segments, whatever memory there is. Otherwise
+/// allocates the list once, and returns [`OutOfMemory`](PathError::OutOfMemory) if that fails.
 pub fn merged_path<'p>(
     alloc: Global,
     base: &'p Path<'_>,

@@ -49,28 +49,27 @@ use read::{count_segments, counted_path, split_root};
 pub use segment::Segment;
 use segment::each_is_segment;
 
-/// The most segments that a path may have.
+/// The maximum number of segments of a path.
 pub const MAX_SEGMENTS: usize = 1_000_000;
 
-/// What a [`Path`] is made of, for segments of any type that can be counted. Users name it by [`Path`]
-/// alone.
+/// A path over segments of any type that can be counted. Users name it [`Path`].
 #[derive(Drop)]
 pub struct PathOf<S: Dotted> {
     segments: Vec<S>,
     // 0 or 1 each: words, since a `bool` would be moved with its padding.
     absolute: u32,
     known: u32,
-    // Those of the segments, where they are known.
+    // The counts of the segments, if they are known.
     counts: Counts,
 }
 
-/// A path: whether a slash stands before its segments, and these, of which there are at least one
-/// and at most [`MAX_SEGMENTS`]. RFC 3986, section 3.3.
+/// A path: its segments, at least one and at most [`MAX_SEGMENTS`], and whether a slash precedes
+/// them. RFC 3986, section 3.3.
 ///
 /// Its text is `/` if it is absolute, then the segments joined by `/`. So the empty path has one
-/// empty segment. The segments borrow the text that was read, or own their texts; their list takes
-/// memory, and no call without `alloc` does. An edit that is refused leaves the path as it was. Two
-/// paths are equal where the canonical spellings of their texts are.
+/// empty segment. The segments borrow the text that was read, or own their texts. Their list is
+/// allocated; calls without `alloc` do not allocate. On an error an edit leaves the path unchanged.
+/// Two paths are equal if the canonical spellings of their texts are.
 ///
 /// ```
 /// let path = Path::try_from_str(alloc, "/a/%7Eb")?;
@@ -78,7 +77,7 @@ pub struct PathOf<S: Dotted> {
 /// ```
 pub type Path<'p> = PathOf<Segment<'p>>;
 
-/// The word that stands for the flag.
+/// The flag as a word.
 #[inline(always)]
 fn word_of(is_set: bool) -> u32
     ensures { flag result ≡ is_set }
@@ -98,8 +97,8 @@ impl<S: Dotted> Model for PathOf<S> {
 }
 
 impl<'p> Path<'p> {
-    /// The path of this flag and these segments, and how many of them are of each kind, where that
-    /// is known.
+    /// The path with this flag and these segments. `counts` are those of the segments if `known` is
+    /// set.
     #[inline(always)]
     pub(crate) fn of(
         absolute: bool,
@@ -119,7 +118,7 @@ impl<'p> Path<'p> {
         }
     }
 
-    /// How many segments of each kind there are, where that is known.
+    /// The counts of the segments, if they are known.
     fn known_counts(&self) -> Option<Counts>
         ensures { IfSome result (λ c. c ≡ spec.counts self.now.segments) }
     {
@@ -155,15 +154,15 @@ impl<'p> Path<'p> {
         }
     }
 
-    /// Reads a path, whose segments borrow the bytes.
+    /// Reads a path. Its segments borrow the bytes.
     ///
-    /// The leftmost fault is answered:
+    /// The error is that of the leftmost fault:
     /// [`InvalidPercentEncoding`](PathError::InvalidPercentEncoding) at a `%` without two
-    /// hexadecimal digits behind it, [`ExceededMaximumLength`](PathError::ExceededMaximumLength) at
-    /// the slash that would begin one segment more than [`MAX_SEGMENTS`], else
-    /// [`InvalidCharacter`](PathError::InvalidCharacter). For a text without fault, room for the
-    /// list of segments is asked for once; where there is none,
-    /// [`OutOfMemory`](PathError::OutOfMemory) is answered.
+    /// hexadecimal digits after it, [`ExceededMaximumLength`](PathError::ExceededMaximumLength) at
+    /// the slash that would start one segment more than [`MAX_SEGMENTS`], else
+    /// [`InvalidCharacter`](PathError::InvalidCharacter). For a text without fault the list of
+    /// segments is allocated once; if that fails, the error is
+    /// [`OutOfMemory`](PathError::OutOfMemory).
     pub fn try_from_bytes(alloc: Global, bytes: &'p [u8]) -> Result<Path<'p>, PathError>
         ensures answer { IsUnless PathError.OutOfMemory result (reading bytes.now) }
         ensures always { IsErr (reading bytes.now) → result ≡ reading bytes.now }
@@ -190,15 +189,15 @@ impl<'p> Path<'p> {
         self.segments.as_slice()
     }
 
-    /// Whether the path is absolute: a slash stands before its first segment. The text of a relative
-    /// path whose first segment is empty, with others behind it, begins with a slash too.
+    /// Whether the path is absolute: a slash precedes its first segment. The text of a relative
+    /// path also begins with a slash if its first segment is empty and others follow it.
     pub fn is_absolute(&self) -> bool
         ensures { result ≡ self.now.absolute }
     {
         self.absolute != 0
     }
 
-    /// Whether the path is relative: no slash stands before its first segment.
+    /// Whether the path is relative: no slash precedes its first segment.
     pub fn is_relative(&self) -> bool
         ensures { result ≡ not self.now.absolute }
     {
@@ -225,7 +224,7 @@ impl<'p> Path<'p> {
         }
     }
 
-    /// Whether it is known that each segment is canonical.
+    /// Whether each segment is known to be canonical.
     fn is_known_canonical(&self) -> bool
         ensures { result ≡ true → list_all is_canonical self.now.segments ≡ true }
     {
@@ -413,7 +412,7 @@ impl<'p> Path<'p> {
         self.is_normal(relative) || (shields && self.is_shielded())
     }
 
-    /// How many bytes the path's text has at most, or the most that a number holds.
+    /// An upper bound of the length of the path's text in bytes, or `usize::MAX`.
     pub(crate) fn most_bytes(&self) -> usize
         ensures { length (text self.now) ≤ result ⊎ result ≡ usize.MAX }
     {
@@ -424,7 +423,7 @@ impl<'p> Path<'p> {
         len
     }
 
-    /// A copy of the path's text, whose room is asked for once.
+    /// A copy of the path's text. Allocates once.
     pub fn to_string(&self, alloc: Global) -> Result<String, AllocError>
         ensures { IfOk result (λ s. string_bytes s ≡ text self.now) }
     {
@@ -441,14 +440,14 @@ impl<'p> Path<'p> {
         begins_twice(self.is_absolute(), self.segments())
     }
 
-    /// Whether no colon stands before the first slash of the path's text.
+    /// Whether no colon precedes the first slash of the path's text.
     pub(crate) fn lacks_colon_segment(&self) -> bool
         ensures { result ≡ lacks colon (up_to is_slash (text self.now)) }
     {
         self.is_rooted() || !has_first_colon(self.segments())
     }
 
-    /// Makes it the path that its text spells. Takes no memory.
+    /// Makes it the path that its text spells. Does not allocate.
     pub(crate) fn respell(&mut self)
         ensures { self.new ≡ spelled (text self.old) }
     {
@@ -475,8 +474,7 @@ impl<'p> Path<'p> {
         }
     }
 
-    /// What stands before the first slash of the path's text, and the segments that stand behind
-    /// one each.
+    /// What precedes the first slash of the path's text, and the segments that follow a slash each.
     #[inline]
     fn split_front(&self) -> (&str, &[Segment<'p>])
         ensures text { text self.now ≡ result.0.now ++ flat_map (λ s. slash ∷ s) result.1.now }
@@ -493,7 +491,8 @@ impl<'p> Path<'p> {
         }
     }
 
-    /// Whether the bytes are tokens whose canonical spelling is that of the path's text.
+    /// Whether the bytes have the same canonical spelling as the path's text. Bytes with a broken
+    /// percent-encoding equal no path.
     pub fn eq_bytes(&self, bytes: &[u8]) -> bool
         ensures { IsTrue result ↔ SpellsAlike case.Kept bytes.now (text self.now) }
     {
@@ -542,8 +541,8 @@ impl<'p> Hash for Path<'p> {
     }
 }
 
-/// What follows the piece before the text's first slash, if that piece is spelled as the segment.
-/// Where the segment's own bytes stand there, no slash is searched for.
+/// What follows the piece before the text's first slash, if that piece spells the segment. If the
+/// text begins with the segment's own bytes, no slash is searched for.
 #[inline(always)]
 fn strip_piece<'t>(text: &'t [u8], segment: &[u8]) -> Option<&'t [u8]>
     requires { is_segment segment.now ≡ true }
@@ -563,8 +562,7 @@ fn strip_piece<'t>(text: &'t [u8], segment: &[u8]) -> Option<&'t [u8]>
     }
 }
 
-/// Whether the text is spelled as these segments are, each behind a slash. It is cut at its
-/// slashes.
+/// Whether the text spells these segments, each after a slash. Cuts the text at its slashes.
 fn spells_behind_slashes(text: &[u8], segments: &[Segment<'_>]) -> bool
     requires { list_all is_segment segments.now ≡ true }
     ensures { IsTrue result ↔ SpellsAlike case.Kept text.now (flat_map (λ s. slash ∷ s) segments.now) }
@@ -592,7 +590,7 @@ fn feed_piece<H: Hasher>(piece: &[u8], state: &mut H)
     feed_spelling(Case::Kept, piece, state);
 }
 
-/// The same for each segment.
+/// Feeds each segment to the hasher in the same way.
 #[inline]
 fn feed_pieces<H: Hasher>(segments: &[Segment<'_>], state: &mut H)
     ensures { state.new ≡ fold H.write state.old (flat_map (λ s. fed_piece (canonical s)) segments.now) }
@@ -602,7 +600,7 @@ fn feed_pieces<H: Hasher>(segments: &[Segment<'_>], state: &mut H)
     }
 }
 
-/// Writes each segment behind a slash.
+/// Writes each segment after a slash.
 fn write_behind_slashes<W: fmt::Write>(
     segments: &[Segment<'_>],
     f: &mut fmt::Formatter<W>,
@@ -620,7 +618,7 @@ fn write_behind_slashes<W: fmt::Write>(
 impl<'p> fmt::Display for Path<'p> {
     ghost output = { λ p. Some (text p) };
 
-    // No option of the formatter changes it.
+    // The formatter's options do not change it.
     ghost styled_output = { λ p _. Some (text p) };
 
     fn fmt<W: fmt::Write>(&self, f: &mut fmt::Formatter<W>) -> fmt::Result {

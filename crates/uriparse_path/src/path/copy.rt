@@ -1,11 +1,11 @@
-//! Copies of a path, whose lists want memory.
+//! Copies of a path. They allocate the list of segments.
 ghost use Rattle.std.specs.Prelude.{◌≡◌, IfOk};
 
 use super::merge::push_borrowed;
 use super::{Path, Segment};
 use std::alloc::{AllocError, Global};
 
-/// The same segments, which borrow the texts of these.
+/// The same segments, borrowing the texts of these.
 fn borrowed_segments<'s>(
     alloc: Global,
     segments: &'s [Segment<'_>],
@@ -17,7 +17,7 @@ fn borrowed_segments<'s>(
     Ok(borrowed)
 }
 
-/// The same segments, which own their texts.
+/// The same segments, owning their texts.
 fn owned_segments(
     alloc: Global,
     segments: Vec<Segment<'_>>,
@@ -32,8 +32,7 @@ fn owned_segments(
 }
 
 impl<'p> Path<'p> {
-    /// The same path, whose segments borrow the texts of this one's. Memory is wanted once, for the
-    /// list.
+    /// The same path, with segments that borrow the texts of this one's. Allocates the list once.
     pub fn to_borrowed(&self, alloc: Global) -> Result<Path<'_>, AllocError>
         ensures { IfOk result (λ p. p ≡ self.now) }
     {
@@ -45,8 +44,8 @@ impl<'p> Path<'p> {
         })
     }
 
-    /// The same path, whose segments own their texts. Memory is wanted for the list and for each
-    /// borrowed text; where there is none, the path is gone.
+    /// The same path, with segments that own their texts. Allocates the list and a copy of each
+    /// borrowed text. On an error the path is lost.
     pub fn into_owned(self, alloc: Global) -> Result<Path<'static>, AllocError>
         ensures { IfOk result (λ p. p ≡ self.entry) }
     {

@@ -1,4 +1,4 @@
-//! Counts of the segments of a path, as the path is read and changed.
+//! How the counts of a path's segments change as the path is read and edited.
 ghost use Rattle.std.specs.Prelude.{◌≡◌, ◌+◌, ◌<◌, ◌≤◌, ◌∷◌, ◌++◌, [], ℕ, List, true, false, not, if◌then◌else◌, length, map};
 ghost use Rattle.std.specs.List.{list_all};
 ghost use Rattle.uriparse_text.specs.Bytes.{dot};
@@ -13,7 +13,7 @@ use super::counts::Counts;
 use super::edit::takes_the_place;
 use super::segment::Segment;
 
-/// The number, and one more where there is one more.
+/// The number, plus one if `is_more`.
 #[inline(always)]
 fn one_more(n: u32, is_more: bool) -> u32
     requires { n < u32.MAX }
@@ -22,7 +22,7 @@ fn one_more(n: u32, is_more: bool) -> u32
     if is_more { n + 1 } else { n }
 }
 
-/// The number, and one less where there is one less.
+/// The number, minus one if `is_less`.
 #[inline(always)]
 fn one_less(n: u32, is_less: bool) -> u32
     requires { is_less ≡ true → 0 < n }
@@ -32,7 +32,7 @@ fn one_less(n: u32, is_less: bool) -> u32
 }
 
 impl Counts {
-    /// Those of no segments.
+    /// The counts of no segments.
     #[inline(always)]
     pub(super) fn none() -> Counts
         ensures { result ≡ spec.counts [] }
@@ -45,7 +45,7 @@ impl Counts {
         }
     }
 
-    /// Those of canonical segments among which no dot segment stands, or only one `.` in front.
+    /// The counts of canonical segments without dot segments, except for a leading `.` if `dotted`.
     #[inline(always)]
     pub(super) fn without_dots(dotted: bool) -> Counts
         ensures plain { (ss : List (List ℕ)) → has_dot_segment ss ≡ false → list_all is_canonical ss ≡ true → dotted ≡ false → result ≡ spec.counts ss }
@@ -59,8 +59,8 @@ impl Counts {
         }
     }
 
-    /// Counts one canonical segment more behind these segments. One that doesn't begin with a dot
-    /// changes nothing.
+    /// Adds a canonical segment after these segments. One that does not begin with a dot changes
+    /// nothing.
     #[inline(always)]
     fn add(&mut self, segments: &[Segment<'_>], last: &Segment<'_>)
         requires counted { self.old ≡ spec.counts segments.now }
@@ -73,7 +73,8 @@ impl Counts {
         }
     }
 
-    /// Those with one canonical segment more behind these segments: one of dots is `.` or `..` itself.
+    /// The counts with a canonical segment after these segments. A canonical dot segment is `.` or
+    /// `..` itself.
     #[inline(never)]
     fn with_canonical(self, segments: &[Segment<'_>], last: &Segment<'_>) -> Counts
         requires counted { self ≡ spec.counts segments.now }
@@ -92,7 +93,7 @@ impl Counts {
         }
     }
 
-    /// Those with one segment more behind these segments.
+    /// The counts with one more segment after these segments.
     fn with(self, segments: &[Segment<'_>], last: &Segment<'_>) -> Counts
         requires counted { self ≡ spec.counts segments.now }
         requires room { length segments.now < u32.MAX }
@@ -110,7 +111,7 @@ impl Counts {
         }
     }
 
-    /// Those of the segments, each of which is canonical.
+    /// The counts of canonical segments.
     pub(super) fn of(segments: &[Segment<'_>]) -> Counts
         requires short { length segments.now ≤ u32.MAX }
         requires canonical { list_all is_canonical segments.now ≡ true }
@@ -123,7 +124,7 @@ impl Counts {
         counts
     }
 
-    /// Those of the same segments in canonical spelling.
+    /// The counts of the same segments in canonical spelling.
     #[inline(always)]
     pub(super) fn of_canonical(self) -> Counts
         ensures { (ss : List (List ℕ)) → self ≡ spec.counts ss → list_all is_segment ss ≡ true → result ≡ spec.counts (map canonical ss) }
@@ -131,7 +132,7 @@ impl Counts {
         Counts { strays: 0, ..self }
     }
 
-    /// Those of segments and others behind them, by those of the latter.
+    /// The counts of one list followed by another, from the counts of both.
     pub(super) fn joined(self, front: &[Segment<'_>], more: Counts, back: &[Segment<'_>]) -> Counts
         requires front { self ≡ spec.counts front.now }
         requires back { more ≡ spec.counts back.now }
@@ -147,7 +148,7 @@ impl Counts {
         }
     }
 
-    /// Those of the segments without the last one.
+    /// The counts of the segments without the last one.
     pub(super) fn without_last(self, segments: &[Segment<'_>]) -> Counts
         requires { self ≡ spec.counts segments.now }
         ensures { result ≡ spec.counts (all_but_last segments.now) }
@@ -169,7 +170,8 @@ impl Counts {
         }
     }
 
-    /// Those with one segment more behind these segments, or in the place of the only, empty one.
+    /// The counts after a push: the segment follows these segments, or replaces the only, empty
+    /// one.
     pub(super) fn pushed(self, segments: &[Segment<'_>], segment: &Segment<'_>) -> Counts
         requires counted { self ≡ spec.counts segments.now }
         requires room { length segments.now < u32.MAX }
@@ -181,7 +183,7 @@ impl Counts {
         self.with(segments, segment)
     }
 
-    /// Whether a dot segment is among the segments.
+    /// Whether there is a dot segment.
     #[inline]
     pub(super) fn has_dots(self) -> bool
         ensures { (ss : List (List ℕ)) → self ≡ spec.counts ss → result ≡ has_dot_segment ss }
@@ -189,7 +191,7 @@ impl Counts {
         self.single != 0 || self.double != 0
     }
 
-    /// Whether double dot segments stand first, and then no dot segment.
+    /// Whether `..` segments come first and no dot segment follows them.
     #[inline]
     pub(super) fn climbs_first(self) -> bool
         ensures { (ss : List (List ℕ)) → self ≡ spec.counts ss → result ≡ climbs_first ss }

@@ -1,9 +1,8 @@
-//! How many segments of a path are of each kind that dot removal and normal forms ask for.
+//! Counts of segments, for dot removal and normal forms.
 ghost use Rattle.std.specs.Prelude.{ℕ, List};
 ghost use Rattle.uriparse_path.specs.declared.path.counts.Counts.{Counts};
 
-/// How many segments of a list are single dot segments, double dot segments, such of these as stand
-/// first, and segments that aren't canonical.
+/// How many segments of a list are `.`, are `..`, are `..` before any other, and are not canonical.
 #[derive(Clone, Copy)]
 pub struct Counts {
     pub(super) single: u32,
@@ -12,7 +11,7 @@ pub struct Counts {
     pub(super) strays: u32,
 }
 
-/// What a list is made of whose segments are counted.
+/// An element of a list whose segments can be counted.
 pub trait Dotted {
     ghost counts: { List Self → Counts };
 }

@@ -13,8 +13,8 @@ pub(super) fn has_dot_segment(segments: &[Segment<'_>]) -> bool
     segments.iter().any(|segment| segment.is_dot_segment())
 }
 
-/// Replays the segment at a place behind those that came out so far, which are the first `kept` of
-/// the list. Answers whether a slash stands before them then, and how many have come out.
+/// Replays the segment at `at` on the output so far, which is the first `kept` of the list. Returns
+/// whether a slash precedes the output then, and how long it is.
 fn replay_segment(
     segments: &mut Vec<Segment<'_>>,
     rooted: bool,
@@ -49,8 +49,8 @@ fn replay_segment(
     (rooted, kept + 1)
 }
 
-/// Takes the dot segments out of the list in one pass. Answers whether a slash stands before the
-/// segments that are left, and how many are: the first ones of the list.
+/// Removes the dot segments in one pass; what is left is at the start of the list. Returns whether
+/// a slash precedes it, and how many segments are left.
 pub(super) fn replay(absolute: bool, segments: &mut Vec<Segment<'_>>) -> (bool, usize)
     ensures segments { take result.1 segments.new.items ≡ spec.replay [] segments.old.items }
     ensures root { result.0 ≡ spec.rooted_after absolute [] segments.old.items }
@@ -65,9 +65,9 @@ pub(super) fn replay(absolute: bool, segments: &mut Vec<Segment<'_>>) -> (bool, 
     (rooted, kept)
 }
 
-/// Makes the first `kept` segments of the list those of the path that their text spells: an empty
-/// one goes from the front of others where no slash stands before it. Answers whether a slash
-/// stands before the segments then, and how many are left.
+/// Makes the first `kept` of the list the segments of the path that their text spells: without a
+/// slash before it, an empty first segment that others follow is removed. Returns whether a slash
+/// precedes the segments then, and how many are left.
 pub(super) fn root_first(
     rooted: bool,
     segments: &mut Vec<Segment<'_>>,

@@ -1,4 +1,4 @@
-//! What changes a path, segment by segment: RFC 3986, section 3.3.
+//! Edits of a path by segments: RFC 3986, section 3.3.
 ghost use Rattle.std.specs.Prelude.{◌≡◌, ◌<◌, ◌∷◌, ◌++◌, [], IfErr, OnOk, OnErr, MatchResult, if◌then◌else◌, length, vec_len, true};
 ghost use Rattle.std.specs.Borrow.{sem};
 ghost use Rattle.uriparse_text.specs.Readings.{SettlesUnless};
@@ -25,7 +25,7 @@ pub(super) fn takes_the_place(segments: &[Segment<'_>], segment: &Segment<'_>) -
     }
 }
 
-/// Puts the segment at the end of the list, or in the place of the only, empty one.
+/// Appends the segment, or replaces the only, empty one by it.
 fn put_last<'p>(segments: &mut Vec<Segment<'p>>, segment: Segment<'p>) -> Result<(), PathError>
     requires { 0 < vec_len segments.old }
     ensures { MatchResult result (λ _. segments.new.items ≡ spec.with_last segments.old.items segment.entry) (λ e. (e ≡ errors.OutOfMemory) × (segments.new.items ≡ segments.old.items)) }
@@ -38,7 +38,7 @@ fn put_last<'p>(segments: &mut Vec<Segment<'p>>, segment: Segment<'p>) -> Result
     Ok(())
 }
 
-/// Takes the last segment away; the only one leaves an empty one.
+/// Removes the last segment. The only one is replaced by an empty one.
 fn take_last(segments: &mut Vec<Segment<'_>>)
     requires { 0 < vec_len segments.old }
     ensures { segments.new.items ≡ filled (all_but_last segments.old.items) }
@@ -50,7 +50,7 @@ fn take_last(segments: &mut Vec<Segment<'_>>)
     let _ = segments.pop();
 }
 
-/// The counts with the segment put at the end, where they were known.
+/// The counts after a push, if they were known.
 fn pushed_counts(
     known: bool,
     counts: Counts,
@@ -68,7 +68,7 @@ fn pushed_counts(
     }
 }
 
-/// The counts with the last segment taken away, where they were known.
+/// The counts without the last segment, if they were known.
 fn popped_counts(known: bool, counts: Counts, segments: &[Segment<'_>]) -> Counts
     requires { known ≡ true → counts ≡ counting.counts segments.now }
     ensures { known ≡ true → result ≡ counting.counts (filled (all_but_last segments.now)) }
@@ -88,12 +88,12 @@ fn new_or_old(is_new: bool, new: Counts, old: Counts) -> Counts
 }
 
 impl<'p> Path<'p> {
-    /// Puts the segment at the end. One that isn't empty takes the place of the only segment, where
-    /// that is empty: so `a` pushed on the empty path makes `a`, and not `/a`.
+    /// Appends the segment. One that is not empty replaces the only segment if that is empty: so
+    /// pushing `a` on the empty path makes `a`, not `/a`.
     ///
-    /// [`ExceededMaximumLength`](PathError::ExceededMaximumLength) is answered where the path has
-    /// [`MAX_SEGMENTS`] already, and else [`OutOfMemory`](PathError::OutOfMemory) where the list
-    /// can't grow; it grows by doubling. After a refusal the path is as it was.
+    /// Returns [`ExceededMaximumLength`](PathError::ExceededMaximumLength) if the path has
+    /// [`MAX_SEGMENTS`] already, else [`OutOfMemory`](PathError::OutOfMemory) if the list cannot
+    /// grow. The list grows by doubling. On an error the path is unchanged.
     pub fn push(&mut self, _alloc: Global, segment: Segment<'p>) -> Result<(), PathError>
         ensures answer { SettlesUnless errors.OutOfMemory self.old self.new result (spec.pushing self.old (Ok segment.entry)) }
         ensures always { IfErr (spec.pushing self.old (Ok segment.entry)) (λ e. result ≡ Err e) }
@@ -107,13 +107,12 @@ impl<'p> Path<'p> {
         result
     }
 
-    /// Reads a segment, which borrows the bytes, and puts it at the end as [`push`](Path::push)
-    /// does.
+    /// Reads a segment, which borrows the bytes, and appends it as [`push`](Path::push) does.
     ///
-    /// [`ExceededMaximumLength`](PathError::ExceededMaximumLength) is answered where the path has
-    /// [`MAX_SEGMENTS`] already; else the leftmost fault of the bytes, as by
-    /// [`Segment::try_from_bytes`], to which a slash is one; else
-    /// [`OutOfMemory`](PathError::OutOfMemory). After a refusal the path is as it was.
+    /// Returns [`ExceededMaximumLength`](PathError::ExceededMaximumLength) if the path has
+    /// [`MAX_SEGMENTS`] already, else the error of [`Segment::try_from_bytes`], which rejects a
+    /// slash too, else [`OutOfMemory`](PathError::OutOfMemory) if the list cannot grow. On an error
+    /// the path is unchanged.
     pub fn push_bytes(&mut self, alloc: Global, bytes: &'p [u8]) -> Result<(), PathError>
         ensures answer { SettlesUnless errors.OutOfMemory self.old self.new result (spec.pushing self.old (segment.reading bytes.now)) }
         ensures always { IfErr (spec.pushing self.old (segment.reading bytes.now)) (λ e. result ≡ Err e) }
@@ -124,8 +123,8 @@ impl<'p> Path<'p> {
         self.push(alloc, Segment::try_from_bytes(bytes)?)
     }
 
-    /// Takes the last segment away; the only one leaves an empty one. The path stays absolute or
-    /// relative. Takes no memory.
+    /// Removes the last segment. The only one is replaced by an empty one. The path stays absolute
+    /// or relative. Does not allocate.
     pub fn pop(&mut self)
         ensures { self.new ≡ spec.popped self.old }
     {
@@ -134,8 +133,8 @@ impl<'p> Path<'p> {
         self.counts = counts;
     }
 
-    /// Takes all segments away and leaves an empty one. The path stays absolute or relative. Takes
-    /// no memory.
+    /// Replaces all segments by one empty segment. The path stays absolute or relative. Does not
+    /// allocate.
     pub fn clear(&mut self)
         ensures { self.new ≡ spec.cleared self.old }
     {
@@ -145,7 +144,7 @@ impl<'p> Path<'p> {
         self.known = 1;
     }
 
-    /// Makes the path absolute or relative, with the segments as they are. Takes no memory.
+    /// Makes the path absolute or relative, and keeps the segments. Does not allocate.
     pub fn set_absolute(&mut self, absolute: bool)
         ensures { self.new ≡ record self.old { absolute = absolute } }
     {
@@ -156,8 +155,8 @@ impl<'p> Path<'p> {
 impl<S: Dotted> PathOf<S> {
     ghost use Rattle.uriparse_path.specs.Lends.{lends_segments};
 
-    /// The segments in order, for writing: what is written are the new segments, and nothing else
-    /// changes. Their number stays. Takes no memory.
+    /// The segments in order, for writing. Nothing else changes, and their number stays the same.
+    /// Does not allocate.
     pub fn segments_mut(&mut self) -> &mut [S]
         ensures* lends { sem 𝓛 (lends_segments S.row S.Dotted self.entry result) }
         ensures value { result.now ≡ self.old.segments }

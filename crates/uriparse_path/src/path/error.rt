@@ -1,24 +1,24 @@
-//! Why a path or a segment is refused.
+//! Errors of paths and segments.
 ghost use Rattle.std.specs.Prelude.{◌≡◌};
 ghost use Rattle.uriparse_path.specs.declared.path.error.PathError.TheVariants.{OutOfMemory};
 
 use std::alloc::{AllocError, AllocFailed};
 use thiserror::Error;
 
-/// Why a text is no path or no segment. The leftmost fault answers.
+/// Why a text is rejected as a path or a segment. The error is that of the leftmost fault.
 #[derive(Clone, Debug, Drop, PartialEq, Eq, Hash, Error)]
 pub enum PathError {
-    /// More segments than [`MAX_SEGMENTS`](super::MAX_SEGMENTS). The fault stands at the slash
-    /// that would begin the first of them too many.
+    /// More than [`MAX_SEGMENTS`](super::MAX_SEGMENTS) segments. The fault is at the slash that
+    /// would start the first one too many.
     #[error("exceeded maximum path length")]
     ExceededMaximumLength,
-    /// A byte that no segment has, in a segment a slash too.
+    /// A byte that a path cannot have. In a segment, a slash too.
     #[error("invalid path character")]
     InvalidCharacter,
-    /// A `%` without two hexadecimal digits behind it.
+    /// A `%` without two hexadecimal digits after it.
     #[error("invalid path percent encoding")]
     InvalidPercentEncoding,
-    /// No memory was found: for the list of segments or, in a list of edits, for a normal form.
+    /// Out of memory: for the list of segments or, in a list of edits, for a normal form.
     #[error("out of memory")]
     OutOfMemory,
 }

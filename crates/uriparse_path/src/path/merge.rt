@@ -1,4 +1,4 @@
-//! The path of a reference behind that of a base: RFC 3986, section 5.2.3.
+//! A reference's path merged with a base's: RFC 3986, section 5.2.3.
 ghost use Rattle.std.specs.Prelude.{◌≡◌, ◌+◌, ◌<◌, ◌≤◌, ◌++◌, Err, IfErr, IfOk, OnOk, length, true};
 ghost use Rattle.uriparse_text.specs.Readings.{IsUnless};
 ghost use Rattle.uriparse_path.specs.declared.path.error.PathError.TheVariants as errors;
@@ -32,7 +32,7 @@ pub(super) fn push_borrowed<'p>(
     Ok(())
 }
 
-/// The one list behind the other, for which room is asked for once.
+/// Both lists, one after the other. Allocates once.
 fn joined<'p>(
     alloc: Global,
     front: &'p [Segment<'_>],
@@ -47,7 +47,7 @@ fn joined<'p>(
     Ok(segments)
 }
 
-/// The counts of the base's segments but for the last one, and the reference's, where they are known.
+/// The counts of the merged segments, and whether they are known.
 fn merged_counts(base: &Path<'_>, reference: &Path<'_>) -> (Counts, bool)
     requires { length (all_but_last base.now.segments) + length reference.now.segments ≤ u32.MAX }
     ensures { result.1 ≡ true → result.0 ≡ tally.counts (all_but_last base.now.segments ++ reference.now.segments) }
@@ -65,7 +65,7 @@ fn merged_counts(base: &Path<'_>, reference: &Path<'_>) -> (Counts, bool)
 }
 
 impl<'p> Path<'p> {
-    /// The base's path up to and with its last slash, and then the reference's.
+    /// The base's path up to its last slash, then the reference's.
     pub(crate) fn merged(
         alloc: Global,
         base: &'p Path<'_>,

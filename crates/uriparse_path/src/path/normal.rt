@@ -60,7 +60,7 @@ fn needs_guard(had_colon: bool, segments: &[Segment<'_>]) -> bool
     hides_root(segments) || (has_first_colon(segments) && !had_colon)
 }
 
-/// Whether double dot segments stand first, and then no dot segment.
+/// Whether `..` segments come first and no dot segment follows them.
 fn climbs_first(segments: &[Segment<'_>]) -> bool
     ensures { result ≡ spec.climbs_first segments.now }
 {
@@ -74,7 +74,7 @@ fn climbs_first(segments: &[Segment<'_>]) -> bool
     true
 }
 
-/// Whether a `.` stands in front, and is needed there.
+/// Whether a `.` comes first and is needed there.
 fn is_guarded(segments: &[Segment<'_>]) -> bool
     ensures { result ≡ spec.is_guarded segments.now }
 {
@@ -95,7 +95,7 @@ fn all_canonical(segments: &[Segment<'_>]) -> bool
     segments.iter().all(|segment| segment.is_normalized())
 }
 
-/// Whether the segments are those of a normal form, of a path that stays relative or of another.
+/// Whether the segments are in normal form, for a path that stays relative or for another.
 pub(super) fn is_normal(stays_relative: bool, segments: &[Segment<'_>]) -> bool
     ensures { result ≡ (list_all spec.is_canonical segments.now && (if stays_relative then spec.climbs_first segments.now || spec.is_guarded segments.now else not (dots.has_dot_segment segments.now))) }
 {
@@ -109,7 +109,7 @@ pub(super) fn is_normal(stays_relative: bool, segments: &[Segment<'_>]) -> bool
     }
 }
 
-/// The same, by the counts of the segments.
+/// The same, from the counts of the segments.
 pub(super) fn is_counted_normal(
     stays_relative: bool,
     counts: Counts,
@@ -249,7 +249,7 @@ pub(super) fn make_relative(segments: &mut Vec<Segment<'_>>)
     guard(segments, guarded, kept);
 }
 
-/// Copies of the segments that aren't canonical, in canonical spelling and in their order.
+/// Copies of the segments that are not canonical, in canonical spelling and in order.
 pub(super) fn canonical_copies(
     alloc: Global,
     segments: &[Segment<'_>],
@@ -266,7 +266,7 @@ pub(super) fn canonical_copies(
     Ok(copies)
 }
 
-/// Puts a segment in the place of another.
+/// Replaces the segment at `at`.
 fn put<'s>(segments: &mut Vec<Segment<'s>>, at: usize, segment: Segment<'s>)
     requires { at < vec_len segments.old }
     ensures items { segments.new.items ≡ slice_set segments.old.items at segment.entry }
@@ -275,7 +275,7 @@ fn put<'s>(segments: &mut Vec<Segment<'s>>, at: usize, segment: Segment<'s>)
     segments[at] = segment;
 }
 
-/// Puts these copies in the place of the segments that aren't canonical, from the last one on.
+/// Replaces the segments that are not canonical by these copies, from the last one to the first.
 pub(super) fn put_copies<'s>(segments: &mut Vec<Segment<'s>>, copies: Vec<Segment<'s>>)
     requires { copies.items ≡ map canonical (filter (λ s. not (spec.is_canonical s)) segments.old.items) }
     ensures { segments.new.items ≡ map canonical segments.old.items }

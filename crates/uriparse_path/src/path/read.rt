@@ -1,5 +1,5 @@
-//! How a text is cut into segments: one walk that finds the leftmost fault and counts, and one
-//! that cuts.
+//! Reading of paths: one pass finds the leftmost fault and counts the segments, another one cuts
+//! the text.
 ghost use Rattle.std.specs.Prelude.{◌≡◌, ◌<◌, ◌≤◌, ◌&&◌, IfOk, MatchResult, None, Some, true, false, length, take, ◌||◌};
 ghost use Rattle.std.specs.List.{list_all, list_any, slice_split};
 ghost use Rattle.uriparse_text.specs.Readings.{unless_fault};
@@ -32,7 +32,7 @@ pub(super) fn split_root(text: &[u8]) -> (bool, &[u8])
     }
 }
 
-/// Whether the path ends before this byte, where it may end before the text does.
+/// Whether the path ends before this byte, if it may end before the text does.
 #[inline(always)]
 fn is_end(ends: bool, b: u8) -> bool
     ensures { result ≡ (ends && ends_path b) }
@@ -40,11 +40,11 @@ fn is_end(ends: bool, b: u8) -> bool
     ends && matches!(b, b'?' | b'#')
 }
 
-/// Counts the segments and the bytes of the path that a text begins with, which may have `limit`
-/// segments, or tells its leftmost fault. Where `ends` is set the path runs to the first `?` or `#`,
-/// else it is the whole text. Each byte outside the class of a segment is a slash, ends the path,
-/// begins an escape or is the fault. The slashes of a block are counted at once. The last number is 0
-/// only where no escape is met.
+/// Counts the segments and the bytes of the path that a text begins with, or returns its leftmost
+/// fault. The path may have `limit` segments. If `ends` is set it runs to the first `?` or `#`,
+/// otherwise it is the whole text. Each byte outside the class of a segment is a slash, ends the
+/// path, starts a percent-encoded octet or is the fault. The slashes of a block are counted at
+/// once. The last number is 0 only if the path has no percent-encoded octet.
 #[inline(always)]
 pub(super) fn count_segments(
     limit: usize,
@@ -89,8 +89,7 @@ pub(super) fn count_segments(
     Ok((count, at, escaped))
 }
 
-/// The same by one slash after the other, for a text in which the limit is near. Whether an escape
-/// is met is left open.
+/// The same, one slash after the other, for a text near the limit. The last number is always 1.
 #[inline(never)]
 fn count_by_one(limit: usize, ends: bool, text: &[u8]) -> Result<(usize, usize, usize), PathError>
     requires { 0 < limit }
@@ -123,7 +122,7 @@ fn count_by_one(limit: usize, ends: bool, text: &[u8]) -> Result<(usize, usize, 
     Ok((count, at, 1))
 }
 
-/// Whether one of the pieces so far begins with a dot, by whether one before this piece does.
+/// Whether this piece or one before it begins with a dot.
 #[inline(always)]
 fn is_dotted(dotted: bool, piece: &[u8]) -> bool
     ensures { result ≡ (dotted || tally.begins_with_dot piece.now) }
@@ -131,8 +130,9 @@ fn is_dotted(dotted: bool, piece: &[u8]) -> bool
     dotted || matches!(piece, [b'.', ..])
 }
 
-/// The `count` segments that the text is cut into, and whether one of them begins with a dot. Each
-/// slash ends one. `escaped` is 0 only if no escape stands in the text: then each is canonical.
+/// The segments of the text, which is cut at its slashes, and whether one of them begins with a
+/// dot. Reserves capacity for `count` segments. `escaped` is 0 only if the text has no
+/// percent-encoded octet: then each segment is canonical.
 #[inline(always)]
 fn split_segments<'p>(
     alloc: Global,
@@ -167,23 +167,22 @@ fn split_segments<'p>(
     Ok((segments, dotted))
 }
 
-/// The path that a text begins with, which has no fault, how many segments it has, whether an escape
-/// stands in it, and what stands behind it.
+/// The path that a text begins with, which has no fault, and what follows it.
 #[derive(Clone, Copy)]
 pub struct PathFront<'t> {
     /// The text of the path.
     pub text: &'t [u8],
-    /// How many segments the path has.
+    /// The number of segments of the path.
     pub count: usize,
-    /// 0 only where no escape stands in the path: a word, since a `bool` would be moved with its
-    /// padding.
+    /// 0 only if the path has no percent-encoded octet. A word, since a `bool` would be moved with
+    /// its padding.
     pub escaped: usize,
-    /// What stands behind the path: nothing, or a `?` or `#` and more.
+    /// What follows the path: nothing, or a `?` or `#` and more.
     pub behind: &'t [u8],
 }
 
-/// The path that a text begins with, which runs to the first `?` or `#`, or its leftmost fault. It
-/// is walked once. Takes no memory.
+/// The path that a text begins with, up to the first `?` or `#`, or its leftmost fault. Reads it
+/// once. Does not allocate.
 pub fn split_path(text: &[u8]) -> Result<PathFront<'_>, PathError>
     ensures { MatchResult result (λ r. (fault (up_to ends_path text.now) ≡ None) × (r.text.now ≡ up_to ends_path text.now) × (r.behind.now ≡ from_first ends_path text.now) × (r.count ≡ length (pieces (up_to ends_path text.now))) × (r.escaped ≡ 0 → lacks percent r.text.now ≡ true)) (λ e. fault (up_to ends_path text.now) ≡ Some e) }
 {
@@ -199,8 +198,8 @@ pub fn split_path(text: &[u8]) -> Result<PathFront<'_>, PathError>
     })
 }
 
-/// Whether it is told that no segment begins with a dot and that none has an escape. Then none is a
-/// dot segment, and each is canonical.
+/// Whether no segment begins with a dot and none has a percent-encoded octet. Then none is a dot
+/// segment, and each is canonical.
 #[inline(always)]
 fn is_plain(escaped: usize, dotted: bool) -> bool
     ensures { result ≡ true → (escaped ≡ 0) × (dotted ≡ false) }
@@ -208,9 +207,9 @@ fn is_plain(escaped: usize, dotted: bool) -> bool
     escaped == 0 && !dotted
 }
 
-/// The path that a text spells, which is known to be a path's. Room for so many segments is asked
-/// for at once, and for more where there are more; want of memory is answered where there is none.
-/// `escaped` is 0 only where no escape stands in the text.
+/// The path that a checked text spells. Reserves capacity for `count` segments and grows if that is
+/// too few. Returns `AllocError` if memory runs out. `escaped` is 0 only if the text has no
+/// percent-encoded octet.
 #[inline(always)]
 pub fn counted_path(
     alloc: Global,

@@ -13,14 +13,14 @@ use super::segment::each_is_segment;
 use super::{MAX_SEGMENTS, Path, Segment};
 use std::alloc::{AllocError, Global};
 
-/// Whether the segments have one text.
+/// Whether the segments have the same text.
 fn is_same(left: &Segment<'_>, right: &Segment<'_>) -> bool
     ensures { result ≡ bytes_eq left.now right.now }
 {
     left.as_bytes() == right.as_bytes()
 }
 
-/// How many directories both lists have in front. The last segment is none.
+/// How many leading directories both lists share. The last segment is not a directory.
 fn shared_len(directories: &[Segment<'_>], segments: &[Segment<'_>]) -> usize
     requires { 0 < length segments.now }
     ensures apart { spec.apart directories.now segments.now ≡ spec.climbs (drop result directories.now) ++ drop result segments.now }
@@ -40,7 +40,7 @@ fn shared_len(directories: &[Segment<'_>], segments: &[Segment<'_>]) -> usize
     shared
 }
 
-/// Puts `..` at the end of the list, once for each of the directories.
+/// Appends a `..` to the list for each directory.
 fn push_climbs(list: &mut Vec<Segment<'_>>, directories: &[Segment<'_>]) -> Result<(), AllocError>
     ensures { OnOk result (list.new.items ≡ list.old.items ++ spec.climbs directories.now) }
 {
@@ -51,7 +51,7 @@ fn push_climbs(list: &mut Vec<Segment<'_>>, directories: &[Segment<'_>]) -> Resu
     Ok(())
 }
 
-/// Whether the first segment would be taken for a slash, for no path or for a scheme.
+/// Whether the first segment would be read as a slash, as no path or as a scheme.
 fn begins_taken(segments: &[Segment<'_>]) -> bool
     ensures { result ≡ is_first spec.is_taken segments.now }
 {
@@ -61,14 +61,14 @@ fn begins_taken(segments: &[Segment<'_>]) -> bool
     }
 }
 
-/// Whether a `.` is needed in front of `..` for each of the directories and then the segments.
+/// Whether a `..` for each directory, and then the segments, need a leading `.`.
 fn needs_dot(directories: &[Segment<'_>], segments: &[Segment<'_>]) -> bool
     ensures { result ≡ is_first spec.is_taken (spec.climbs directories.now ++ segments.now) }
 {
     directories.is_empty() && begins_taken(segments)
 }
 
-/// Puts a `.` at the end of the list where it is needed.
+/// Appends a `.` to the list if it is needed.
 fn push_dot(list: &mut Vec<Segment<'_>>, needed: bool) -> Result<(), AllocError>
     ensures { OnOk result (list.new.items ≡ list.old.items ++ (if needed then (dot ∷ []) ∷ [] else [])) }
 {
@@ -78,8 +78,8 @@ fn push_dot(list: &mut Vec<Segment<'_>>, needed: bool) -> Result<(), AllocError>
     Ok(())
 }
 
-/// `..` for each of the directories, and then the segments, with a `.` in front where it is needed.
-/// They borrow the texts of the segments. Room for the list is asked for once.
+/// A `..` for each directory, then the segments, with a leading `.` if it is needed. Borrows the
+/// texts of the segments. Allocates the list once.
 fn led<'p>(
     alloc: Global,
     directories: &[Segment<'_>],
@@ -95,7 +95,7 @@ fn led<'p>(
     Ok(list)
 }
 
-/// Whether there are no directories, or the first one is the first of the others too.
+/// Whether there are no directories, or the first one is also the first of the others.
 fn stays_below(directories: &[Segment<'_>], segments: &[Segment<'_>]) -> bool
     ensures { result ≡ spec.stays_below directories.now segments.now }
 {
@@ -108,7 +108,7 @@ fn stays_below(directories: &[Segment<'_>], segments: &[Segment<'_>]) -> bool
     }
 }
 
-/// Whether both lists have the same segments, in one spelling.
+/// Whether both lists have the same segments, with the same spelling.
 fn are_same(left: &[Segment<'_>], right: &[Segment<'_>]) -> bool
     ensures { IsTrue result ↔ (left.now ≡ right.now) }
 {
@@ -126,14 +126,14 @@ fn are_same(left: &[Segment<'_>], right: &[Segment<'_>]) -> bool
 }
 
 impl<'p> Path<'p> {
-    /// Whether the paths are one, segment for segment, in one spelling.
+    /// Whether the paths are the same, segment for segment, with the same spelling.
     pub(crate) fn is_same(&self, other: &Path<'_>) -> bool
         ensures { IsTrue result ↔ (self.now ≡ other.now) }
     {
         self.is_absolute() == other.is_absolute() && are_same(self.segments(), other.segments())
     }
 
-    /// The empty path, whose list wants memory.
+    /// The empty path. Allocates its list.
     pub(crate) fn empty(alloc: Global) -> Result<Path<'static>, AllocError>
         ensures { IfOk result (λ p. p ≡ spec.no_path) }
     {
@@ -142,7 +142,7 @@ impl<'p> Path<'p> {
         Ok(Path::of(false, list, Counts::none(), false))
     }
 
-    /// Whether both are absolute, or neither is, and one needn't climb out of the base's first
+    /// Whether both are absolute, or neither is and no `..` has to leave the base's first
     /// directory.
     fn have_one_root(base: &Path<'_>, target: &Path<'_>) -> bool
         ensures { result ≡ spec.have_one_root base.now target.now }
@@ -153,7 +153,7 @@ impl<'p> Path<'p> {
         target.is_relative() && stays_below(directory(base.segments()), target.segments())
     }
 
-    /// Whether it is so, and no dot segment stands in either, but for the base's last one.
+    /// Whether that holds and neither has a dot segment, except as the base's last one.
     fn may_lead(base: &Path<'_>, target: &Path<'_>) -> bool
         ensures { result ≡ spec.may_lead base.now target.now }
     {
@@ -162,8 +162,8 @@ impl<'p> Path<'p> {
             && !has_dot_segment(target.segments())
     }
 
-    /// The relative path that leads from the base's path to the target's, if there is one. It
-    /// borrows the texts of the target's segments. Room for the list is asked for once.
+    /// The relative path that leads from the base's path to the target's, if there is one. Borrows
+    /// the texts of the target's segments. Allocates the list once.
     pub(crate) fn leading(
         alloc: Global,
         base: &Path<'_>,

@@ -23,7 +23,7 @@ use std::hash::{Hash, Hasher};
 use std::marker::Model;
 use uriparse_text::parts::{Case, Class, Kind, Text, kept_text, normalized_text};
 
-/// The refusal of a segment whose leftmost fault stands at this byte.
+/// The error of a segment whose leftmost fault is at this byte.
 pub(super) fn fault_at(byte: u8) -> PathError
     ensures { result ≡ spec.error_of byte }
 {
@@ -33,7 +33,7 @@ pub(super) fn fault_at(byte: u8) -> PathError
     }
 }
 
-/// Each of the segments is one, by its own invariant. Does nothing.
+/// Each of the segments has the text of one, by its invariant. Does nothing.
 #[inline]
 pub(super) fn each_is_segment(segments: &[Segment<'_>])
     ensures { list_all spec.is_segment segments.now ≡ true }
@@ -68,14 +68,14 @@ impl Kind for SegmentKind {
     }
 }
 
-/// A segment of a path, without slashes: a text of `pchar`, which may be empty. RFC 3986, section
+/// A segment of a path: a text of `pchar`, which has no slash and may be empty. RFC 3986, section
 /// 3.3.
 ///
-/// It borrows the text that it was read from, or owns its text. Its readers take no memory and
-/// refuse the leftmost fault: [`InvalidPercentEncoding`](PathError::InvalidPercentEncoding) at a
-/// `%` without two hexadecimal digits behind it, else
-/// [`InvalidCharacter`](PathError::InvalidCharacter), as at a slash. Two segments are equal where
-/// their canonical spellings are.
+/// It borrows the text that it was read from, or owns its text. Reading does not allocate. The
+/// error is that of the leftmost fault:
+/// [`InvalidPercentEncoding`](PathError::InvalidPercentEncoding) at a `%` without two hexadecimal
+/// digits after it, else [`InvalidCharacter`](PathError::InvalidCharacter), also at a slash. Two
+/// segments are equal if their canonical spellings are.
 ///
 /// ```
 /// let segment = Segment::try_from_str("%4a")?;
@@ -101,11 +101,11 @@ impl<'s> Dotted for Segment<'s> {
 }
 
 impl<'s> Segment<'s> {
-    /// Reads a segment, which borrows the bytes. Takes no memory.
+    /// Reads a segment, which borrows the bytes. Does not allocate.
     ///
-    /// The leftmost fault is answered:
+    /// The error is that of the leftmost fault:
     /// [`InvalidPercentEncoding`](PathError::InvalidPercentEncoding) at a `%` without two
-    /// hexadecimal digits behind it, else [`InvalidCharacter`](PathError::InvalidCharacter).
+    /// hexadecimal digits after it, else [`InvalidCharacter`](PathError::InvalidCharacter).
     pub fn try_from_bytes(bytes: &'s [u8]) -> Result<Segment<'s>, PathError>
         ensures { result ≡ spec.reading bytes.now }
     {
@@ -114,14 +114,14 @@ impl<'s> Segment<'s> {
         })
     }
 
-    /// The same for a text.
+    /// The same for a `str`.
     pub fn try_from_str(text: &'s str) -> Result<Segment<'s>, PathError>
         ensures { result ≡ spec.reading text.now }
     {
         Segment::try_from_bytes(text.as_bytes())
     }
 
-    /// The segment of bytes that are one, and canonical where that is said.
+    /// The segment of checked bytes, which are in canonical spelling if `canonical` is set.
     #[inline(always)]
     pub(super) fn of_kept(bytes: &'s [u8], canonical: bool) -> Segment<'s>
         requires { IsKept class.Segment case.Kept canonical bytes.now }
@@ -132,7 +132,7 @@ impl<'s> Segment<'s> {
         }
     }
 
-    /// The segment of bytes that are known to be one.
+    /// The segment of checked bytes.
     pub(super) fn of_checked(bytes: &'s [u8]) -> Segment<'s>
         requires { spec.IsSegment bytes.now }
         ensures { result ≡ bytes.now }
@@ -178,7 +178,7 @@ impl<'s> Segment<'s> {
         self.text.as_bytes()
     }
 
-    /// The same segment, which borrows this one's text.
+    /// The same segment, borrowing this one's text.
     pub fn as_borrowed(&self) -> Segment<'_>
         ensures { result ≡ self.now }
     {
@@ -187,8 +187,8 @@ impl<'s> Segment<'s> {
         }
     }
 
-    /// The same segment, which owns its text. Borrowed text is copied, which wants memory; where
-    /// there is none, the segment is gone.
+    /// The same segment, owning its text. Allocates a copy of a borrowed text. On an error the
+    /// segment is lost.
     pub fn into_owned(self, alloc: Global) -> Result<Segment<'static>, AllocError>
         ensures { IfOk result (λ s. s ≡ self.entry) }
     {
@@ -197,16 +197,15 @@ impl<'s> Segment<'s> {
         })
     }
 
-    /// A copy of the text. Wants memory.
+    /// A copy of the text. Allocates.
     pub fn to_string(&self, alloc: Global) -> Result<String, AllocError>
         ensures { IfOk result (λ s. string_bytes s ≡ self.now) }
     {
         self.text.to_string(alloc)
     }
 
-    /// The bytes that the segment stands for: of each escape the byte that its digits write, and each
-    /// other byte itself. Room for them is asked for once. Segments that are equal stand for the
-    /// same bytes.
+    /// Decodes the segment: each percent-encoded octet becomes its byte, and each other byte stays.
+    /// Allocates once. Equal segments decode to the same bytes.
     pub fn decode(&self, alloc: Global) -> Result<Vec<u8>, AllocError>
         ensures bytes { IfOk result (λ v. v.items ≡ decoded self.now) }
         ensures alike { (other : List ℕ) → spec.IsSegment other → canonical other ≡ canonical self.now → decoded other ≡ decoded self.now }
@@ -214,10 +213,10 @@ impl<'s> Segment<'s> {
         self.text.decode(alloc)
     }
 
-    /// The segment that stands for these bytes: a byte of a segment is itself, another one an escape
-    /// with upper-case digits, so that `/` is `%2F`. It is its own canonical spelling, and
-    /// [`decode`](Segment::decode) gives the bytes again. Room for it is asked for once. Dots are
-    /// kept: the bytes `..` make a dot segment.
+    /// Encodes the bytes as a segment: a byte that a segment may have stays, and another one is
+    /// percent-encoded with upper-case digits, so `/` becomes `%2F`. The result is in canonical
+    /// spelling, and [`decode`](Segment::decode) yields the bytes again. Allocates once. Dots stay:
+    /// the bytes `..` make a dot segment.
     pub fn encode(alloc: Global, bytes: &[u8]) -> Result<Segment<'static>, AllocError>
         ensures text { IfOk result (λ s. s ≡ encoded class.Segment bytes.now) }
         ensures back { IfOk result (λ s. decoded s ≡ bytes.now) }
@@ -228,8 +227,8 @@ impl<'s> Segment<'s> {
         })
     }
 
-    /// Whether the segment may be one of dots: it begins with a dot or an escape, and isn't longer
-    /// than two escapes.
+    /// Whether the segment may be a dot segment: it begins with a dot or a percent sign and is no
+    /// longer than two percent-encoded octets.
     fn may_be_dots(&self) -> bool
         ensures { dots.is_dot_segment self.now ≡ true → IsTrue result }
     {
@@ -242,7 +241,7 @@ impl<'s> Segment<'s> {
         }
     }
 
-    /// Whether the segment begins with a dot. Else it is none of dots, if it is canonical.
+    /// Whether the segment begins with a dot. A canonical one that does not is no dot segment.
     #[inline(always)]
     pub(super) fn begins_with_dot(&self) -> bool
         ensures { result ≡ false → canonical self.now ≡ self.now → dots.is_dot_segment self.now ≡ false }
@@ -253,7 +252,7 @@ impl<'s> Segment<'s> {
         }
     }
 
-    /// Whether the segment is `.`, where the dot may be escaped. Takes no memory.
+    /// Whether the segment is `.`. The dot may be percent-encoded. Does not allocate.
     pub fn is_single_dot_segment(&self) -> bool
         ensures { result ≡ dots.is_single_dot self.now }
     {
@@ -263,7 +262,7 @@ impl<'s> Segment<'s> {
         self.eq_bytes(b".")
     }
 
-    /// Whether the segment is `..`, where each dot may be escaped. Takes no memory.
+    /// Whether the segment is `..`. Each dot may be percent-encoded. Does not allocate.
     pub fn is_double_dot_segment(&self) -> bool
         ensures { result ≡ dots.is_double_dot self.now }
     {
@@ -273,28 +272,28 @@ impl<'s> Segment<'s> {
         self.eq_bytes(b"..")
     }
 
-    /// Whether the segment is `.` or `..`, where each dot may be escaped.
+    /// Whether the segment is `.` or `..`. Each dot may be percent-encoded.
     pub fn is_dot_segment(&self) -> bool
         ensures { result ≡ dots.is_dot_segment self.now }
     {
         self.is_single_dot_segment() || self.is_double_dot_segment()
     }
 
-    /// Whether a colon stands in the segment.
+    /// Whether the segment has a colon.
     pub(super) fn has_colon(&self) -> bool
         ensures { result ≡ relative.has_colon self.now }
     {
         self.as_bytes().contains(&b':')
     }
 
-    /// Whether the segment is its own canonical spelling: RFC 3986, sections 6.2.2.1 and 6.2.2.2.
+    /// Whether the segment is in canonical spelling: RFC 3986, sections 6.2.2.1 and 6.2.2.2.
     pub fn is_normalized(&self) -> bool
         ensures { IsTrue result ↔ (canonical self.now ≡ self.now) }
     {
         self.text.is_normalized()
     }
 
-    /// A segment that owns the canonical spelling of this one.
+    /// A copy of the segment in canonical spelling.
     pub(super) fn to_normalized(&self, alloc: Global) -> Result<Segment<'static>, AllocError>
         ensures { IfOk result (λ s. s ≡ canonical self.now) }
     {
@@ -303,8 +302,8 @@ impl<'s> Segment<'s> {
         })
     }
 
-    /// Puts the canonical spelling in the segment's place; it is its own canonical spelling. Takes
-    /// memory only where they differ; where there is none, the segment is kept.
+    /// Brings the segment into canonical spelling. Allocates only if that changes it. On an error
+    /// the segment is unchanged.
     pub fn normalize(&mut self, alloc: Global) -> Result<(), AllocError>
         ensures ok { OnOk result (self.new ≡ canonical self.old) }
         ensures err { OnErr result (self.new ≡ self.old) }
@@ -313,15 +312,15 @@ impl<'s> Segment<'s> {
         self.text.normalize(alloc)
     }
 
-    /// Whether the bytes are tokens whose canonical spelling is this segment's. Bytes with a broken
-    /// escape are equal to no segment.
+    /// Whether the bytes have the same canonical spelling as this segment. Bytes with a broken
+    /// percent-encoding equal no segment.
     pub fn eq_bytes(&self, bytes: &[u8]) -> bool
         ensures { IsTrue result ↔ SpellsAlike case.Kept bytes.now self.now }
     {
         self.text.eq_bytes(bytes)
     }
 
-    /// The same for a text.
+    /// The same for a `str`.
     pub fn eq_str(&self, text: &str) -> bool
         ensures { IsTrue result ↔ SpellsAlike case.Kept text.now self.now }
     {
@@ -356,7 +355,7 @@ impl<'s> Hash for Segment<'s> {
 impl<'s> fmt::Display for Segment<'s> {
     ghost output = { λ s. Some s };
 
-    // No option of the formatter changes it.
+    // The formatter's options do not change it.
     ghost styled_output = { λ s _. Some s };
 
     fn fmt<W: fmt::Write>(&self, f: &mut fmt::Formatter<W>) -> fmt::Result {

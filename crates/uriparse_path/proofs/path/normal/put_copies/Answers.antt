@@ -55,7 +55,7 @@ loop-at-preserved c =
           c.loop-at.invariant.copies same;
     }
 
--- what stands in front of the copies that are put is canonical
+-- what precedes the copies that are put in place is canonical
 pub returns-then-is_empty : goal.returns-then-is_empty
 returns-then-is_empty c =
     let len : vec_len c.loop-at.copies ≡ 0 = (Decides-eqb (vec_len c.loop-at.copies) 0).0 (sym c.is_empty.ensures ∙ c.if-is_empty.true) in
