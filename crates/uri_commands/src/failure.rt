@@ -1,5 +1,7 @@
 //! How a command fails.
 
+ghost use Rattle.std.specs.Prelude.{◌≤◌};
+
 use std::alloc::{AllocError, AllocFailed};
 use std::io;
 use thiserror::Error;
@@ -50,7 +52,10 @@ impl<T: Drop> From<AllocFailed<T>> for Failure {
 
 impl Failure {
     /// The exit status of the program.
-    pub fn status(&self) -> u8 {
+    pub fn status(&self) -> u8
+        ensures fails { 1 ≤ result }
+        ensures bound { result ≤ 3 }
+    {
         match self {
             Failure::Usage => 2,
             Failure::Absent | Failure::Different => 3,

@@ -1,15 +1,13 @@
 //! `uri --json parse TEXT`: a reference as a JSON object, on a line of its own.
 //!
-//! The object is written by hand. Its members always stand in the same order, without spaces:
-//!
-//! ```text
-//! object   = {"text":string,"scheme":value,"username":value,"password":value,"host":value,
-//!             "host_kind":kind,"port":port,"path":string,"query":value,"fragment":value,
-//!             "segments":[string,..]}
-//! value    = string or null
-//! kind     = "ipv4" or "ipv6" or "ipvfuture" or "name" or null
-//! port     = a number from 0 to 65535, or null
-//! ```
+//! The object is written by hand. Its members are, always in this order, `text`, `scheme`, `username`,
+//! `password`, `host`, `host_kind`, `port`, `path`, `query`, `fragment` and `segments`. The port is a
+//! number and the segments are a list; all else is a string, or `null` if it is absent.
+
+ghost use Rattle.std.specs.Prelude.{◌≡◌, OnOk};
+ghost use Rattle.std.specs.Io.KnownBytes.{Appends};
+ghost use Rattle.std.specs.List.{list_all};
+ghost use Rattle.uri_commands.specs.Json.{escaped, escaped_byte, is_plain, is_special};
 
 use crate::failure::Failure;
 use std::alloc::Global;
@@ -37,28 +35,43 @@ impl<'o, O: Write> Write for Escaping<'o, O> {
 }
 
 /// Whether a JSON string has this byte only behind a `\`.
-fn is_special(b: u8) -> bool {
+fn is_special(b: u8) -> bool
+    ensures { result ≡ is_special b }
+{
     matches!(b, b'"' | b'\\')
+}
+
+/// Whether the text stands in a JSON string as it is.
+fn is_plain(text: &[u8]) -> bool
+    ensures { result ≡ list_all is_plain text.now }
+{
+    text.iter().all(|b| !is_special(*b))
+}
+
+/// Writes the byte, behind a `\` if it is special.
+fn write_byte<O: Write>(b: u8, out: &mut O) -> io::Result<()>
+    ensures { OnOk result (Appends (O.contents out.old) (O.contents out.new) (escaped_byte b)) }
+{
+    if is_special(b) {
+        out.write_all(&[b'\\', b])
+    } else {
+        out.write_all(&[b])
+    }
 }
 
 /// Writes a `\` before each special byte. A text without one, as each text of a reference is, is
 /// written in one piece.
-fn write_escaped<O: Write>(text: &[u8], out: &mut O) -> io::Result<()> {
-    if !text.iter().any(|b| is_special(*b)) {
+#[tactic(auto, using(crate::proofs::JsonLemmas::escaped_plain))]
+fn write_escaped<O: Write>(text: &[u8], out: &mut O) -> io::Result<()>
+    ensures { OnOk result (Appends (O.contents out.old) (O.contents out.new) (escaped text.now)) }
+{
+    if is_plain(text) {
         return out.write_all(text);
     }
     for b in text {
         write_byte(*b, out)?;
     }
     Ok(())
-}
-
-/// Writes the byte, behind a `\` if it is special.
-fn write_byte<O: Write>(b: u8, out: &mut O) -> io::Result<()> {
-    if is_special(b) {
-        out.write_all(b"\\")?;
-    }
-    out.write_all(&[b])
 }
 
 /// Writes the value's text as a JSON string.
@@ -68,6 +81,13 @@ fn write_string<T: Display, O: Write>(value: &T, out: &mut O) -> io::Result<()> 
     out.write_all(b"\"")
 }
 
+/// Writes the name of a member that isn't the first.
+fn write_name<O: Write>(name: &str, out: &mut O) -> io::Result<()> {
+    out.write_all(b",\"")?;
+    out.write_all(name.as_bytes())?;
+    out.write_all(b"\":")
+}
+
 /// Writes the member of this name, which isn't the first, as a string, or as `null` if the value is
 /// absent.
 fn write_member<T: Display, O: Write>(
@@ -75,7 +95,7 @@ fn write_member<T: Display, O: Write>(
     value: Option<&T>,
     out: &mut O,
 ) -> io::Result<()> {
-    write!(out, ",\"{name}\":")?;
+    write_name(name, out)?;
     match value {
         Some(value) => write_string(value, out),
         None => out.write_all(b"null"),
@@ -107,15 +127,17 @@ fn write_host<O: Write>(host: Option<&Host<'_>>, out: &mut O) -> io::Result<()> 
 
 /// Writes the member `port`, a number.
 fn write_port<O: Write>(port: Option<u16>, out: &mut O) -> io::Result<()> {
+    write_name("port", out)?;
     match port {
-        Some(port) => write!(out, ",\"port\":{port}"),
-        None => out.write_all(b",\"port\":null"),
+        Some(port) => write!(out, "{port}"),
+        None => out.write_all(b"null"),
     }
 }
 
 /// Writes the member `segments`, a list.
 fn write_segments<O: Write>(segments: &[Segment<'_>], out: &mut O) -> io::Result<()> {
-    out.write_all(b",\"segments\":[")?;
+    write_name("segments", out)?;
+    out.write_all(b"[")?;
     for (at, segment) in segments.iter().enumerate() {
         if at > 0 {
             out.write_all(b",")?;

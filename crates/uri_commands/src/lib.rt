@@ -4,7 +4,7 @@
 //! They are a library, so that the tests of the program need no second proof of them.
 #![tactic(auto)]
 
-ghost use Rattle.std.specs.Prelude.{◌≡◌};
+ghost use Rattle.std.specs.Prelude.{◌≡◌, ◌≤◌, IfOk};
 
 mod coding;
 mod edit;
@@ -45,7 +45,9 @@ use tail::tail;
 
 /// Runs the command of these words, which follow the program's name, with an empty input, as
 /// [`run_with_input`] does.
-pub fn run<O: Write, E: Write>(alloc: Global, words: &[&str], out: &mut O, err: &mut E) -> u8 {
+pub fn run<O: Write, E: Write>(alloc: Global, words: &[&str], out: &mut O, err: &mut E) -> u8
+    ensures { result ≤ 3 }
+{
     run_with_input(alloc, words, &mut io::empty(), out, err)
 }
 
@@ -65,7 +67,9 @@ pub fn run_with_input<I: Read, O: Write, E: Write>(
     input: &mut I,
     out: &mut O,
     err: &mut E,
-) -> u8 {
+) -> u8
+    ensures { result ≤ 3 }
+{
     let (options, words) = split_options(words);
     if options.reads_lines {
         let result = lines(alloc, options, words, input, out, err);
@@ -75,9 +79,12 @@ pub fn run_with_input<I: Read, O: Write, E: Write>(
     status_of(options.is_quiet, result.map(|()| 0), err)
 }
 
-/// The status of a command's result. A failure is reported in a line of `err`, but not if its status is 3, and
-/// if its status is 1 not with `--quiet`.
-fn status_of<E: Write>(is_quiet: bool, answer: Result<u8, Failure>, err: &mut E) -> u8 {
+/// The status of a command's result. A failure is reported in a line of `err`, except one of status 3,
+/// and with `--quiet` one of status 1.
+fn status_of<E: Write>(is_quiet: bool, answer: Result<u8, Failure>, err: &mut E) -> u8
+    requires { IfOk answer (λ status. status ≤ 3) }
+    ensures { result ≤ 3 }
+{
     match answer {
         Ok(status) => status,
         Err(failure) => {

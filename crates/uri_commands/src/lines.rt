@@ -1,5 +1,10 @@
 //! `uri --lines COMMAND`: a command for each line of the standard input.
 
+ghost use Rattle.std.specs.Prelude.{◌≡◌, ◌≤◌, false, IfOk, IfSome, OnOk};
+ghost use Rattle.std.specs.Io.BufRead.{DropsThrough, first_piece, strip_last};
+ghost use Rattle.std.specs.Io.KnownBytes.{IsAtEnd};
+ghost use Rattle.uri_commands.specs.Lines.{newline};
+
 use crate::equal::equal;
 use crate::failure::Failure;
 use crate::get::{Part, get_part, read_part};
@@ -118,7 +123,9 @@ enum Outcome {
 
 impl Outcome {
     /// The status of work whose worst outcome this is.
-    fn status(self) -> u8 {
+    fn status(self) -> u8
+        ensures { result ≤ 3 }
+    {
         match self {
             Outcome::Done => 0,
             Outcome::Different => 3,
@@ -127,17 +134,27 @@ impl Outcome {
     }
 }
 
+/// Removes the newline that the line ends with, if it does.
+fn drop_newline(line: &mut Vec<u8>)
+    ensures { line.new.items ≡ strip_last newline line.old.items }
+{
+    let count = line.len();
+    if count > 0 && line[count - 1] == b'\n' {
+        line.truncate(count - 1);
+    }
+}
+
 /// Reads the next line into the buffer, without its newline, and returns whether there was one. The
 /// last line may have no newline.
-fn read_line<I: BufRead>(input: &mut I, line: &mut Vec<u8>) -> io::Result<bool> {
+fn read_line<I: BufRead>(input: &mut I, line: &mut Vec<u8>) -> io::Result<bool>
+    ensures line { OnOk result (IfSome (I.remaining input.old) (λ bytes. line.new.items ≡ first_piece newline bytes)) }
+    ensures rest { OnOk result (DropsThrough (I.remaining input.old) (I.remaining input.new) newline) }
+    ensures end { IfOk result (λ is_line. is_line ≡ false → IsAtEnd (I.remaining input.old)) }
+{
     line.clear();
-    if input.read_until(b'\n', line)? == 0 {
-        return Ok(false);
-    }
-    if line.last() == Some(&b'\n') {
-        line.pop();
-    }
-    Ok(true)
+    let count = input.read_until(b'\n', line)?;
+    drop_newline(line);
+    Ok(count > 0)
 }
 
 /// Reports a rejected line.
@@ -223,7 +240,9 @@ pub fn lines<I: Read, O: Write, E: Write>(
     input: &mut I,
     out: &mut O,
     err: &mut E,
-) -> Result<u8, Failure> {
+) -> Result<u8, Failure>
+    ensures { IfOk result (λ status. status ≤ 3) }
+{
     let task = read_task(alloc, options, words)?;
     let mut input = BufReader::with_capacity(alloc, CAPACITY, input)?;
     let worst = do_buffered(alloc, &task, &mut input, out, err)?;

@@ -1,0 +1,6 @@
+-- Lines of an input.
+use Rattle.std.specs.Prelude.{ℕ}
+
+-- the byte that ends a line
+abbrev pub newline : ℕ
+newline = 10
