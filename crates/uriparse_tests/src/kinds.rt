@@ -33,6 +33,9 @@ copied HTTP://u:p@h:8/a/%7e?q#f -> http://u:p@h:8/a/%7e?q#f
 copied ../a -> ../a
 rebuilt http://u:p@h:8/a/%7e?q#f -> http://u:p@h:8/a/%7e?q#f
 rebuilt './/x?' -> .//x?
+map-scheme s:a:b -> s:a:b
+map-scheme HTTP://h/a#f -> http://h/a#f
+map-scheme a -> a
 map-authority s://h/a k:8 -> s://k:8/a
 map-authority s://h//a ' ' -> absolute path URI reference starts with two slashes
 map-path s:/a?b -> s:/a?b

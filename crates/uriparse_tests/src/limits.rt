@@ -31,6 +31,10 @@ reference //h: 100000 0 80 -> //h:80/
 reference //h: 100000 9 '' -> port overflow
 reference ' ' 1000001 / '' -> invalid path character
 reference //h 1000001 / '' -> exceeded maximum path length
+check //h 1000001 / '' -> exceeded maximum path length
+check //h 1000000 / '' -> accepted
+check //h 1000000 / ?% -> invalid query percent encoding
+check ' ' 1000001 / '' -> invalid path character
 reference //h 1000001 / ' ' -> exceeded maximum path length
 reference //h 1000001 / ?% -> exceeded maximum path length
 scheme-length '' 1000000 a : -> 1000000

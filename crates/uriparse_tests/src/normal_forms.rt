@@ -1,8 +1,9 @@
 //! Normal forms of references.
 
 use crate::reference::{Reference, told};
-use rows::answer::{Answer, said, shows};
-use std::alloc::{AllocError, Global};
+use rows::answer::{Answer, after_refusal, complaint_of_change, said, shows};
+use rows::written::writes;
+use std::alloc::Global;
 
 /// Whether the value is in normal form, and can be brought into it.
 fn is_settled<'t, T: Reference<'t>>(alloc: Global, value: &mut T) -> bool {
@@ -19,21 +20,19 @@ fn settled<'t, T: Reference<'t>>(alloc: Global, value: &mut T) -> Answer {
     }
 }
 
-/// The text of the value's normal form. After a refusal the value is to print as before.
-fn normal_form<'t, T: Reference<'t>>(alloc: Global, value: &mut T, printed: &str) -> Answer {
-    if value.make_normal(alloc).is_ok() {
-        return settled(alloc, value);
-    }
-    if shows(alloc, value, printed)? {
-        return Err(AllocError);
-    }
-    said(alloc, "refused and changed")
+/// Whether a value is not in normal form and prints this text, as it must after out of memory.
+fn is_left<'t, T: Reference<'t>>(value: &T, printed: &str) -> bool {
+    !value.is_normal() && writes(value, printed)
 }
 
-/// The same, of a value that prints what it prints now.
+/// The text of the value's normal form. If memory runs out, the value must be unchanged.
 pub fn normalized<'t, T: Reference<'t>>(alloc: Global, value: &mut T) -> Answer {
     let printed = told(alloc, value)?;
-    normal_form(alloc, value, printed.as_str())
+    let complaint = complaint_of_change(alloc)?;
+    match value.make_normal(alloc) {
+        Ok(()) => settled(alloc, value),
+        Err(_) => after_refusal(is_left(value, printed.as_str()), complaint),
+    }
 }
 
 pub const ROWS: &str = "\
@@ -56,6 +55,7 @@ normalize s:.//x -> s:/x
 normalize s:.///x -> s:/.//x
 normalize ../. -> ..
 normalize SCHEME: -> scheme:
+normalize SCHEME://%7e:%7e@H%7e/a/../%7e?%7e#%7e -> scheme://~:~@h~/~?~#~
 normalize a//.. -> a/
 normalize x/..//y -> .//y
 normalize a/../../b -> ../b
@@ -79,4 +79,5 @@ is-normal //[v1.x] -> true
 is-normal ?%7e -> false
 is-normal #%c3 -> false
 edits s:a/./%7e -> s:a/~?q~#f%7e
+listed-edits s:a/./%7e -> s:a/~?q#f
 edits s:/.//a?b -> s:/.//a?q~#f%7e";

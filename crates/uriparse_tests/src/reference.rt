@@ -38,6 +38,9 @@ pub trait Reads<'t>: Shown<'t> + Sized {
 
     /// `try_from_bytes`.
     fn of_bytes(alloc: Global, text: &'t [u8]) -> Result<Self, Self::Error>;
+
+    /// `check`.
+    fn check_bytes(text: &[u8]) -> Result<(), Self::Error>;
 }
 
 /// The other calls that references of each type have.
@@ -77,6 +80,9 @@ pub trait Reference<'t>: Reads<'t> + Eq + Hash {
 
     /// `set_fragment`.
     fn put_fragment(&mut self, new: Option<Fragment<'t>>) -> Result<(), Self::Error>;
+
+    /// `map_scheme`, to the scheme that it has, if the type has that call.
+    fn keep_scheme(self) -> Result<Self, Self::Error>;
 
     /// `map_authority`, to this authority where there is one.
     fn swap_authority(self, new: Option<Authority<'t>>) -> Result<Self, Self::Error>;
@@ -316,10 +322,29 @@ fn of_value<'t, T: Asked<'t>>(
         "put-together" => made(alloc, value.put_together()),
         "as-reference" => as_reference(alloc, value),
         "map-path" => made(alloc, value.keep_path()),
+        "map-scheme" => made(alloc, value.keep_scheme()),
         "map-authority" | "map-query" | "map-fragment" => {
             made(alloc, swapped(value, command, new))
         }
         _ => edited(alloc, command, &mut value, text, new),
+    }
+}
+
+/// Whether a text is accepted, or the error.
+fn outcome<V: Drop, E: Display + Drop>(alloc: Global, answer: Result<V, E>) -> Answer {
+    match answer {
+        Ok(_) => said(alloc, "accepted"),
+        Err(why) => refused(alloc, why),
+    }
+}
+
+/// What `check` returns for a text, if reading it returns the same.
+fn checked<'t, T: Reads<'t>>(alloc: Global, text: &'t str) -> Answer {
+    let by_check = outcome(alloc, T::check_bytes(text.as_bytes()))?;
+    let by_reading = outcome(alloc, T::of_bytes(alloc, text.as_bytes()))?;
+    match by_check.as_str() == by_reading.as_str() {
+        true => Ok(by_check),
+        false => format!(in alloc; "{by_check} or {by_reading}"),
     }
 }
 
@@ -341,6 +366,7 @@ pub fn answer_of<'t, T: Asked<'t>>(
     match command {
         "read" => made(alloc, T::of_str(alloc, text)),
         "as-uri" | "as-relative" => converted::<T>(alloc, text),
+        "check" => checked::<T>(alloc, text),
         _ => match T::of_bytes(alloc, text.as_bytes()) {
             Ok(value) => of_value(alloc, command, value, text, new),
             Err(why) => refused(alloc, why),

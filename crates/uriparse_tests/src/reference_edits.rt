@@ -1,9 +1,10 @@
 //! Edits of references, one by one and in lists.
 
 use crate::reference::{made, settled, told};
-use rows::answer::{Answer, printed, said};
+use rows::answer::{Answer, after_refusal, complaint_of_change, printed, said};
+use rows::written::writes;
 use std::alloc::{AllocError, Global};
-use uriparse::{Edit, Fragment, Query, Scheme, URIReference, URIReferenceError};
+use uriparse::{Edit, Fragment, PathError, Query, Scheme, URIReference, URIReferenceError};
 
 /// The reference with its path alone.
 fn path_alone(alloc: Global, reference: &URIReference<'_>) -> Answer {
@@ -38,17 +39,8 @@ fn edits<'t>(
     Ok(vec![in alloc; query, other, fragment]?)
 }
 
-/// How far a list of edits went, and what is left. Where the normal form, which is the second one,
-/// wants memory and there is none, the reference is to have the query alone.
-fn stopped(alloc: Global, index: usize, why: &str, left: &str) -> Answer {
-    if why == "out of memory" && index == 1 && left.ends_with("?q%7e") {
-        return Err(AllocError);
-    }
-    format!(in alloc; "{index}: {why}; {left}")
-}
-
-/// The same of the refusal itself.
-fn refused_edit(
+/// The index of the rejected edit, the error, and the text of the reference.
+fn stopped(
     alloc: Global,
     index: usize,
     why: URIReferenceError,
@@ -56,10 +48,10 @@ fn refused_edit(
 ) -> Answer {
     let why = printed(alloc, why)?;
     let left = told(alloc, reference)?;
-    stopped(alloc, index, why.as_str(), left.as_str())
+    format!(in alloc; "{index}: {why}; {left}")
 }
 
-/// What a list of edits makes of a reference, or how far it went.
+/// The text of a reference after a list of edits, or where it stopped.
 fn applied<'t>(
     alloc: Global,
     reference: &mut URIReference<'t>,
@@ -67,8 +59,45 @@ fn applied<'t>(
 ) -> Answer {
     match reference.apply_all(alloc, edits?) {
         Ok(()) => told(alloc, reference),
-        Err((index, why)) => refused_edit(alloc, index, why, reference),
+        Err((index, why)) => stopped(alloc, index, why, reference),
     }
+}
+
+/// Whether a list of edits stopped at its second one, `normalize`, because memory ran out.
+fn is_out_of_memory(index: usize, why: URIReferenceError) -> bool {
+    index == 1 && matches!(why, URIReferenceError::Path(PathError::OutOfMemory))
+}
+
+/// The text of a reference after a query, `normalize` and a fragment. If memory runs out, it must
+/// have the query alone, and print `with_query`.
+fn normalized_between<'t>(
+    alloc: Global,
+    reference: &mut URIReference<'t>,
+    edits: Result<Vec<Edit<'t>>, AllocError>,
+    with_query: &str,
+) -> Answer {
+    let complaint = complaint_of_change(alloc)?;
+    match reference.apply_all(alloc, edits?) {
+        Ok(()) => told(alloc, reference),
+        Err((index, why)) => after_refusal(
+            is_out_of_memory(index, why) && writes(reference, with_query),
+            complaint,
+        ),
+    }
+}
+
+/// The text of the reference of `text` after this query, `normalize` and this fragment.
+fn edited_between<'t>(
+    alloc: Global,
+    reference: &mut URIReference<'t>,
+    text: &str,
+    query: &'t str,
+    fragment: &'t str,
+) -> Answer {
+    let front = text.split_once('?').unwrap_or((text, "")).0;
+    let with_query = format!(in alloc; "{front}?{query}")?;
+    let edits = edits(alloc, query, Edit::Normalize, fragment);
+    normalized_between(alloc, reference, edits, with_query.as_str())
 }
 
 /// What is answered after an edit in place that only a reference has.
@@ -81,11 +110,8 @@ pub fn edited<'t>(
 ) -> Answer {
     match command {
         "apply-all" => applied(alloc, reference, edits(alloc, new, Edit::Scheme(None), new)),
-        "edits" => applied(
-            alloc,
-            reference,
-            edits(alloc, "q%7e", Edit::Normalize, "f%7e"),
-        ),
+        "edits" => edited_between(alloc, reference, text, "q%7e", "f%7e"),
+        "listed-edits" => edited_between(alloc, reference, text, "q", "f"),
         "path-alone" => path_alone(alloc, reference),
         "set-scheme" | "drop-authority" => {
             let answer = set(command, reference, new);

@@ -30,6 +30,10 @@ impl<'t> Reads<'t> for URIReference<'t> {
     fn of_bytes(alloc: Global, text: &'t [u8]) -> Result<Self, Self::Error> {
         URIReference::try_from_bytes(alloc, text)
     }
+
+    fn check_bytes(text: &[u8]) -> Result<(), Self::Error> {
+        URIReference::check(text)
+    }
 }
 
 impl<'t> Reference<'t> for URIReference<'t> {
@@ -94,6 +98,10 @@ impl<'t> Reference<'t> for URIReference<'t> {
         self.set_fragment(new)
     }
 
+    fn keep_scheme(self) -> Result<Self, Self::Error> {
+        self.map_scheme(identity)
+    }
+
     fn swap_authority(self, new: Option<Authority<'t>>) -> Result<Self, Self::Error> {
         self.map_authority(|old| old.and(new))
     }
@@ -150,6 +158,20 @@ pub fn answer(alloc: Global, asked: &str) -> Answer {
 }
 
 pub const ROWS: &str = "\
+check '' -> accepted
+check s://u:p@h:1/a/%7e?q#f -> accepted
+check //[::1]:8/x# -> accepted
+check //1.2.3.4?/? -> accepted
+check ://www.example.com/ -> schemeless path URI reference starts with colon segment
+check 1:a?% -> schemeless path URI reference starts with colon segment
+check //h:65536/% -> port overflow
+check //u:%zz@h -> invalid password percent encoding
+check //[v1] -> invalid host IPvFuture format
+check //[] -> invalid host IPv6 format
+check a%?x -> invalid path percent encoding
+check a?b#d#e -> invalid fragment character
+check ?%#% -> invalid query percent encoding
+check 'a b' -> invalid path character
 reference '' -> ''
 parts '' -> path=
 reference // -> ///
@@ -169,6 +191,7 @@ parts ./a:b?# -> path=./a:b query= fragment=
 reference //1.2.3.4?/? -> //1.2.3.4/?/?
 parts //1.2.3.4?/? -> ipv4=1.2.3.4 path=/ query=/?
 reference s://h/a?q#f -> s://h/a?q#f
+reference s://u:p@h/a/b/%7e?q#f -> s://u:p@h/a/b/%7e?q#f
 parts s://h/a?q#f -> scheme=s name=h path=/a query=q fragment=f
 reference a%2F/%7e#?/ -> a%2F/%7e#?/
 parts a%2F/%7e#?/ -> path=a%2F/%7e fragment=?/

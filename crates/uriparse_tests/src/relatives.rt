@@ -29,6 +29,10 @@ impl<'t> Reads<'t> for RelativeReference<'t> {
     fn of_bytes(alloc: Global, text: &'t [u8]) -> Result<Self, Self::Error> {
         RelativeReference::try_from_bytes(alloc, text)
     }
+
+    fn check_bytes(text: &[u8]) -> Result<(), Self::Error> {
+        RelativeReference::check(text)
+    }
 }
 
 impl<'t> Reference<'t> for RelativeReference<'t> {
@@ -93,6 +97,11 @@ impl<'t> Reference<'t> for RelativeReference<'t> {
         self.set_fragment(new)
     }
 
+    /// A relative reference has no such call.
+    fn keep_scheme(self) -> Result<Self, Self::Error> {
+        Ok(self)
+    }
+
     fn swap_authority(self, new: Option<Authority<'t>>) -> Result<Self, Self::Error> {
         self.map_authority(|old| old.and(new))
     }
@@ -153,6 +162,12 @@ pub fn answer(alloc: Global, asked: &str) -> Answer {
 }
 
 pub const ROWS: &str = "\
+check //h/a?q#f -> accepted
+check '' -> accepted
+check s:x -> not relative reference
+check s:x#% -> invalid fragment percent encoding
+check 1:x -> relative reference schemeless path starts with colon segment
+check //h:65536 -> port overflow
 read //h/a?q#f -> //h/a?q#f
 read '' -> ''
 read s:x -> not relative reference

@@ -104,6 +104,7 @@ rfc g#s/./x -> http://a/b/c/g#s/./x
 rfc g#s/../x -> http://a/b/c/g#s/../x
 rfc http:g -> http:g
 resolve http://a//x g -> http://a//g
+resolve http://h/a/b ../x -> http://h/x
 resolve s:/a/b ..//c -> s:/.//c
 resolve http://a/b/../c '' -> http://a/b/../c
 resolve http://a/b/c . -> http://a/b/

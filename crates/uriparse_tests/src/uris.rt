@@ -28,6 +28,10 @@ impl<'t> Reads<'t> for URI<'t> {
     fn of_bytes(alloc: Global, text: &'t [u8]) -> Result<Self, Self::Error> {
         URI::try_from_bytes(alloc, text)
     }
+
+    fn check_bytes(text: &[u8]) -> Result<(), Self::Error> {
+        URI::check(text)
+    }
 }
 
 impl<'t> Reference<'t> for URI<'t> {
@@ -90,6 +94,10 @@ impl<'t> Reference<'t> for URI<'t> {
 
     fn put_fragment(&mut self, new: Option<Fragment<'t>>) -> Result<(), Self::Error> {
         self.set_fragment(new)
+    }
+
+    fn keep_scheme(self) -> Result<Self, Self::Error> {
+        self.map_scheme(identity)
     }
 
     fn swap_authority(self, new: Option<Authority<'t>>) -> Result<Self, Self::Error> {
@@ -157,6 +165,15 @@ pub fn answer(alloc: Global, asked: &str) -> Answer {
 }
 
 pub const ROWS: &str = "\
+check HTTP://H/%7e?q#f -> accepted
+check s: -> accepted
+check 1:x -> not URI
+check 1:x#% -> not URI
+check x#% -> invalid fragment percent encoding
+check 'a b' -> invalid path character
+check //h -> not URI
+check s://h:65536 -> port overflow
+check '' -> not URI
 read HTTP://H/%7e?q#f -> http://H/%7e?q#f
 read 1:x -> not URI
 read ://www.example.com/ -> not URI
@@ -193,6 +210,8 @@ set-path s:a x:y -> s:x:y
 set-path s:a //x -> absolute path URI starts with two slashes
 set-query s:a?b#c q -> s:a?q#c
 set-fragment s:a?b f -> s:a?b#f
+map-scheme s:a:b -> s:a:b
+map-scheme HTTP://h/a#f -> http://h/a#f
 map-authority s://h/a k:8 -> s://k:8/a
 map-authority s:a k -> s:a
 map-authority s://h//a ' ' -> absolute path URI starts with two slashes
