@@ -2,18 +2,18 @@
 
 use crate::long::told;
 use crate::texts::Test;
-use rows::answer::{Answer, repeated};
-use rows::{Layer, wrong_row_of_all};
 use std::alloc::Global;
 use std::test::Fail;
+use test_rows::answer::{Answer, repeated};
+use test_rows::{Layer, wrong_row_of_all};
 use uriparse::{
     Authority, Fragment, Host, IPvFuture, Password, Query, RegisteredName, Scheme, Segment,
     UnregisteredScheme, Username,
 };
-use uriparse_text::parts::{Kind, Text};
+use uriparse_text::internal::{Text, TextKind};
 
 /// Whether the normal form of a text of this kind, what it prints and a copy are this text.
-fn text_becomes<K: Kind>(alloc: Global, value: &mut Text<'_, K>, normal: &str) -> Test {
+fn text_becomes<K: TextKind>(alloc: Global, value: &mut Text<'_, K>, normal: &str) -> Test {
     value.normalize(alloc)?;
     let printed = value.to_string(alloc)?;
     let copy = value.as_borrowed().into_owned(alloc)?;

@@ -2,10 +2,10 @@
 //! answer is exact, and given: a call that reports want of memory for long texts alone fails.
 
 use crate::texts::{Sizes, Test, longer_text, path_text, reference_text, sizes_of, target_text};
-use rows::answer::{Answer, said};
-use rows::{Layer, wrong_row_of_all};
 use std::alloc::{AllocError, Global};
 use std::test::Fail;
+use test_rows::answer::{Answer, said};
+use test_rows::{Layer, wrong_row_of_all};
 use uriparse::{Edit, Path, Segment, URI, URIReference};
 
 /// Whether a reference prints this text.

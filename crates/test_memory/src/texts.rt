@@ -1,8 +1,8 @@
 //! References with many tokens: `s://h`, a number of times `/` and a token, `?`, and a number of
 //! times the token. Each text is put together here and not printed by the library.
 
-use rows::answer::{Answer, repeated, word};
 use std::alloc::{AllocError, Global};
+use test_rows::answer::{Answer, repeated, word};
 
 /// Whether a test holds, or want of memory.
 pub type Test = Result<bool, AllocError>;

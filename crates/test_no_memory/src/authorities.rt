@@ -1,9 +1,9 @@
 //! Addresses, names, hosts, ports and authorities.
 
 use crate::component::{is_read, is_read_as_text, is_same};
-use rows::written::writes;
 use std::alloc::Global;
 use std::convert::identity;
+use test_rows::written::writes;
 use uriparse::authority::parse_port;
 use uriparse::{
     Authority, AuthorityError, Host, HostError, IPvFuture, IpAddr, Ipv4Addr, Ipv6Addr, Password,

@@ -1,7 +1,7 @@
 //! Builders, whose paths are read while memory is ample.
 
-use rows::written::writes;
 use std::fmt::Display;
+use test_rows::written::writes;
 use uriparse::{
     Path, RelativeReference, RelativeReferenceBuilder, RelativeReferenceError, Scheme, URI,
     URIBuilder, URIError, URIReference, URIReferenceBuilder, URIReferenceError,

@@ -2,9 +2,9 @@
 //! that nothing returns memory to the heap in between.
 
 use crate::{authorities, builders, components, paths, references, schemes, wholes};
-use scarce::holds_without_memory;
 use std::alloc::{AllocError, Global};
 use std::test::Fail;
+use test_scarce::holds_without_memory;
 use uriparse::{Edit, Path, Query, RelativeReference, URI, URIReference};
 
 /// Whether a test holds, or out of memory.

@@ -1,10 +1,10 @@
 //! What the components have in common, by the names of their calls in [`Component`] and [`Spelled`].
 
-use rows::same::hash_of;
-use rows::written::writes;
 use std::alloc::{AllocError, Global};
 use std::fmt::Display;
 use std::hash::Hash;
+use test_rows::same::hash_of;
+use test_rows::written::writes;
 
 /// A component, or a part of one.
 pub trait Component: Display + Eq + Hash + Drop {

@@ -3,9 +3,9 @@
 use crate::component::{Component, Spelled, is_same};
 use std::alloc::{AllocError, Global};
 use uriparse::{Authority, Host, IPvFuture, RegisteredName, Scheme, Segment, UnregisteredScheme};
-use uriparse_text::parts::{Kind, Text};
+use uriparse_text::internal::{Text, TextKind};
 
-impl<K: Kind> Component for Text<'_, K> {
+impl<K: TextKind> Component for Text<'_, K> {
     fn is_normal(&self) -> bool {
         self.is_normalized()
     }
@@ -19,7 +19,7 @@ impl<K: Kind> Component for Text<'_, K> {
     }
 }
 
-impl<K: Kind> Spelled for Text<'_, K> {
+impl<K: TextKind> Spelled for Text<'_, K> {
     fn text(&self) -> &str {
         self.as_str()
     }

@@ -1,8 +1,8 @@
 //! Paths, which are read while memory is ample.
 
 use crate::component::is_same;
-use rows::written::writes;
 use std::alloc::Global;
+use test_rows::written::writes;
 use uriparse::{Path, Segment};
 
 /// Whether the calls that read the path `/a/./%7e/b` hold.

@@ -1,9 +1,9 @@
 //! References, which are read while memory is ample.
 
 use crate::component::is_same;
-use rows::written::writes;
 use std::alloc::Global;
 use std::convert::identity;
+use test_rows::written::writes;
 use uriparse::{Authority, Edit, Fragment, Path, Query, Scheme, URIReference, URIReferenceError};
 
 /// Whether a reference has the components of `s://u:p@h:8/a?q#f`.

@@ -1,9 +1,9 @@
 //! URIs and relative references, which are read while memory is ample.
 
 use crate::component::is_same;
-use rows::written::writes;
 use std::alloc::Global;
 use std::convert::identity;
+use test_rows::written::writes;
 use uriparse::{RelativeReference, RelativeReferenceError, Scheme, URI, URIError, URIReference};
 
 /// Whether a URI has the components of `s://u:p@h:8/a?q#f` up to its path.

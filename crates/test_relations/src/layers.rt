@@ -1,10 +1,10 @@
 //! The rows, with ample memory and with refused memory.
 
 use crate::{made, relations};
-use rows::answer::Answer;
-use rows::{Layer, wrong_row_of_all, wrong_starved_row_of_all};
 use std::alloc::Global;
 use std::test::Fail;
+use test_rows::answer::Answer;
+use test_rows::{Layer, wrong_row_of_all, wrong_starved_row_of_all};
 
 #[derive(Clone, Copy)]
 enum Part {

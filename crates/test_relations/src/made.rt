@@ -1,9 +1,9 @@
 //! References whose paths are built by hand, URIs as keys of a map, and values that must agree.
 
-use rows::answer::{Answer, refused, said, word, words};
-use rows::same::same_as;
 use std::alloc::{AllocError, Global};
 use std::collections::HashMap;
+use test_rows::answer::{Answer, refused, said, word, words};
+use test_rows::same::same_as;
 use uriparse::{Path, PathError, Segment, URI, URIReference, URIReferenceError};
 
 /// The text of the reference that was made, or the error.

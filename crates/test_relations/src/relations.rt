@@ -1,7 +1,7 @@
 //! `relativize`: references that resolve to a URI against a base.
 
-use rows::answer::{Answer, refused, said, words};
 use std::alloc::Global;
+use test_rows::answer::{Answer, refused, said, words};
 use uriparse::{URI, URIReference};
 
 /// The text of the target of a reference against a base.

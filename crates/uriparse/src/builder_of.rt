@@ -7,7 +7,7 @@ ghost use Rattle.uriparse_path.specs.declared.path.error.PathError.TheVariants.{
 ghost use Rattle.uriparse_reference.specs.declared.uri_reference.error.URIReferenceError.TheVariants as errors;
 ghost use Rattle.uriparse.specs.Kinds.{HoldsKind, told_of};
 
-use crate::kind::{Kind, told};
+use crate::kind::{ReferenceKind, told};
 use std::alloc::Global;
 use std::fmt;
 use std::marker::{Model, PhantomData};
@@ -24,12 +24,12 @@ use uriparse_text::query::Query;
 /// Each call sets one component and leaves the others. Two builders are equal if they have the same
 /// components, and these are equal.
 #[derive(Drop)]
-pub struct BuilderOf<'b, K: Kind> {
+pub struct BuilderOf<'b, K: ReferenceKind> {
     pub(crate) builder: URIReferenceBuilder<'b>,
     kind: PhantomData<K>,
 }
 
-impl<'b, K: Kind> Model for BuilderOf<'b, K> {
+impl<'b, K: ReferenceKind> Model for BuilderOf<'b, K> {
     ghost use Rattle.uriparse_reference.specs.Builder.{Held};
     ghost use Rattle.uriparse.specs.Kinds.{HoldsKind};
 
@@ -40,7 +40,7 @@ impl<'b, K: Kind> Model for BuilderOf<'b, K> {
     ghost invariant = { λ b. HoldsKind K.has_scheme b.builder };
 }
 
-impl<'b, K: Kind> BuilderOf<'b, K> {
+impl<'b, K: ReferenceKind> BuilderOf<'b, K> {
     ghost use Rattle.uriparse_reference.specs.Builder.{authority_read, fragment_read, nothing, path_read, query_read};
 
     /// The builder of this kind around one that is known to fit.
@@ -151,7 +151,7 @@ impl<'b, K: Kind> BuilderOf<'b, K> {
     }
 }
 
-impl<'b, K: Kind> Default for BuilderOf<'b, K> {
+impl<'b, K: ReferenceKind> Default for BuilderOf<'b, K> {
     ghost use Rattle.uriparse_reference.specs.Builder.{nothing};
 
     ghost is_default = { λ b. b ≡ nothing };
@@ -161,7 +161,7 @@ impl<'b, K: Kind> Default for BuilderOf<'b, K> {
     }
 }
 
-impl<'b, K: Kind> PartialEq for BuilderOf<'b, K> {
+impl<'b, K: ReferenceKind> PartialEq for BuilderOf<'b, K> {
     ghost use Rattle.std.proofs.Common.{rules};
     ghost use Rattle.std.specs.Cmp.Rules.{comparing};
     ghost use Rattle.uriparse_reference.specs.Builder.{alike};
@@ -175,14 +175,14 @@ impl<'b, K: Kind> PartialEq for BuilderOf<'b, K> {
     }
 }
 
-impl<'b, K: Kind> Eq for BuilderOf<'b, K> {
+impl<'b, K: ReferenceKind> Eq for BuilderOf<'b, K> {
     ghost use Rattle.std.proofs.Common.{rules};
     ghost use Rattle.std.specs.Cmp.Rules.{comparing};
 
     ghost laws = { Prim.search (comparing, rules) depth 10 };
 }
 
-impl<'b, K: Kind> fmt::Debug for BuilderOf<'b, K> {
+impl<'b, K: ReferenceKind> fmt::Debug for BuilderOf<'b, K> {
     fn fmt<W: fmt::Write>(&self, f: &mut fmt::Formatter<W>) -> fmt::Result {
         f.debug_tuple(K::name()).field(&self.builder).finish()
     }

@@ -6,7 +6,7 @@ ghost use Rattle.uriparse.specs.Kinds.{told_of};
 use uriparse_reference::uri_reference::URIReferenceError;
 
 /// A kind of reference: whether its references have a scheme, and how errors are mapped to its own.
-pub trait Kind {
+pub trait ReferenceKind {
     type Error;
 
     ghost has_scheme: { Bool };
@@ -31,7 +31,7 @@ pub trait Kind {
 }
 
 /// The same result, its error mapped to the kind's.
-pub(crate) fn told<K: Kind, T>(answer: Result<T, URIReferenceError>) -> Result<T, K::Error>
+pub(crate) fn told<K: ReferenceKind, T>(answer: Result<T, URIReferenceError>) -> Result<T, K::Error>
     ensures { result ≡ told_of K.told answer }
 {
     match answer {

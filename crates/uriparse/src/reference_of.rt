@@ -13,12 +13,12 @@ ghost use Rattle.uriparse_reference.specs.Reference.{print};
 ghost use Rattle.uriparse.specs.Kinds.{IsOfKind, fault_of, of_kind, reading_of, told_of};
 
 use crate::builder_of::BuilderOf;
-use crate::kind::Kind;
+use crate::kind::ReferenceKind;
 use std::alloc::{AllocError, Global};
 use std::fmt;
 use std::hash::{Hash, Hasher};
 use std::marker::{Model, PhantomData};
-use uriparse_reference::parts::find_pieces;
+use uriparse_reference::internal::find_pieces;
 use uriparse_reference::uri_reference::{URIReference, URIReferenceError};
 
 mod access;
@@ -32,12 +32,12 @@ mod normal;
 /// Each of its calls does what the call of the same name does for the [`URIReference`] that it
 /// holds, with errors mapped to the kind's. Two of them are equal if their references are.
 #[derive(Drop)]
-pub struct ReferenceOf<'r, K: Kind> {
+pub struct ReferenceOf<'r, K: ReferenceKind> {
     pub(crate) reference: URIReference<'r>,
     kind: PhantomData<K>,
 }
 
-impl<'r, K: Kind> Model for ReferenceOf<'r, K> {
+impl<'r, K: ReferenceKind> Model for ReferenceOf<'r, K> {
     ghost use Rattle.uriparse_reference.specs.Reference.{Parts};
     ghost use Rattle.uriparse.specs.Kinds.{IsOfKind};
 
@@ -48,7 +48,7 @@ impl<'r, K: Kind> Model for ReferenceOf<'r, K> {
     ghost invariant = { λ u. IsOfKind K.has_scheme u.reference };
 }
 
-impl<'r, K: Kind> ReferenceOf<'r, K> {
+impl<'r, K: ReferenceKind> ReferenceOf<'r, K> {
     ghost use Rattle.uriparse_reference.specs.Builder.{held, nothing};
     ghost use Rattle.uriparse_reference.specs.Reference.{Parts, Spells, Valid};
     ghost use Rattle.uriparse_reference.specs.declared.uri_reference.error.URIReferenceError.{URIReferenceError};
@@ -222,7 +222,7 @@ impl<'r, K: Kind> ReferenceOf<'r, K> {
     }
 }
 
-impl<'r, K: Kind> From<ReferenceOf<'r, K>> for URIReference<'r> {
+impl<'r, K: ReferenceKind> From<ReferenceOf<'r, K>> for URIReference<'r> {
     ghost from_gives = { λ u r. r ≡ u };
 
     fn from(value: ReferenceOf<'r, K>) -> URIReference<'r> {
@@ -231,7 +231,7 @@ impl<'r, K: Kind> From<ReferenceOf<'r, K>> for URIReference<'r> {
 }
 
 /// A reference of the other kind is rejected, and dropped.
-impl<'r, K: Kind> TryFrom<URIReference<'r>> for ReferenceOf<'r, K> {
+impl<'r, K: ReferenceKind> TryFrom<URIReference<'r>> for ReferenceOf<'r, K> {
     type Error = K::Error;
 
     ghost try_from_gives = { λ r answer. answer ≡ of_kind K.has_scheme K.other r };
@@ -241,7 +241,7 @@ impl<'r, K: Kind> TryFrom<URIReference<'r>> for ReferenceOf<'r, K> {
     }
 }
 
-impl<'r, K: Kind> PartialEq for ReferenceOf<'r, K> {
+impl<'r, K: ReferenceKind> PartialEq for ReferenceOf<'r, K> {
     ghost eq = { on key bytes_eq };
 
     ghost laws = { Prim.search (comparing, rules) };
@@ -251,11 +251,11 @@ impl<'r, K: Kind> PartialEq for ReferenceOf<'r, K> {
     }
 }
 
-impl<'r, K: Kind> Eq for ReferenceOf<'r, K> {
+impl<'r, K: ReferenceKind> Eq for ReferenceOf<'r, K> {
     ghost laws = { Prim.search (comparing, rules) };
 }
 
-impl<'r, K: Kind> Hash for ReferenceOf<'r, K> {
+impl<'r, K: ReferenceKind> Hash for ReferenceOf<'r, K> {
     ghost hash_input = { λ u. fed_key (key u) };
 
     ghost respects_eq = { Prim.search (hashing, rules) };
@@ -268,7 +268,7 @@ impl<'r, K: Kind> Hash for ReferenceOf<'r, K> {
     }
 }
 
-impl<'r, K: Kind> fmt::Display for ReferenceOf<'r, K> {
+impl<'r, K: ReferenceKind> fmt::Display for ReferenceOf<'r, K> {
     ghost output = { λ u. Some (print u) };
 
     // The formatter's options have no effect.
@@ -279,7 +279,7 @@ impl<'r, K: Kind> fmt::Display for ReferenceOf<'r, K> {
     }
 }
 
-impl<'r, K: Kind> fmt::Debug for ReferenceOf<'r, K> {
+impl<'r, K: ReferenceKind> fmt::Debug for ReferenceOf<'r, K> {
     fn fmt<W: fmt::Write>(&self, f: &mut fmt::Formatter<W>) -> fmt::Result {
         f.debug_tuple(K::name()).field(&self.reference).finish()
     }

@@ -6,7 +6,7 @@ ghost use Rattle.uriparse.specs.Kinds.{told_of};
 ghost use Rattle.uriparse.specs.RelativeReference as spec;
 
 use crate::builder_of::BuilderOf;
-use crate::kind::Kind;
+use crate::kind::ReferenceKind;
 use crate::reference_of::ReferenceOf;
 use uriparse_authority::authority::Authority;
 use uriparse_path::path::Path;
@@ -21,7 +21,7 @@ pub use error::RelativeReferenceError;
 /// The kind of reference that a relative reference is.
 pub struct WithoutScheme;
 
-impl Kind for WithoutScheme {
+impl ReferenceKind for WithoutScheme {
     type Error = RelativeReferenceError;
 
     ghost use Rattle.std.specs.Prelude.{false};

@@ -7,7 +7,7 @@ ghost use Rattle.uriparse.specs.Kinds.{told_of};
 ghost use Rattle.uriparse.specs.Uri as spec;
 
 use crate::builder_of::BuilderOf;
-use crate::kind::{Kind, told};
+use crate::kind::{ReferenceKind, told};
 use crate::reference_of::ReferenceOf;
 use uriparse_authority::authority::Authority;
 use uriparse_path::path::Path;
@@ -25,7 +25,7 @@ pub use error::URIError;
 /// The kind of reference that a URI is.
 pub struct WithScheme;
 
-impl Kind for WithScheme {
+impl ReferenceKind for WithScheme {
     type Error = URIError;
 
     ghost use Rattle.std.specs.Prelude.{true};

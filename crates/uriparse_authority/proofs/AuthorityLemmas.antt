@@ -11,7 +11,7 @@ use Rattle.std.proofs.lemmas.Slice.Eq.{bytes_eq-Decides}
 use Rattle.std.proofs.lemmas.Grind.{fold-append}
 use Rattle.uriparse_text.specs.Bytes.{slash, colon, question_mark, number_sign, at_sign, right_bracket}
 use Rattle.uriparse_text.specs.Canonical.{canonical, fed_text}
-use Rattle.uriparse_text.specs.declared.parts.class.Class.TheVariants as class
+use Rattle.uriparse_text.specs.declared.internal.class.Class.TheVariants as class
 use Rattle.uriparse_text.specs.Cuts.{lacks, none_pass, behind, ahead, before, after, front, rest, up_to, from_first, from_last, up_to_last}
 use Rattle.uriparse_text.specs.Readings.{◌>>=◌, of_piece, some_of, if_present, fault_in}
 use Rattle.uriparse_text.proofs.CutLemmas.{lacks-append, lacks-behind, before_after, front_rest, before_of, after_of, front_of, up_to-append, from_first-append}

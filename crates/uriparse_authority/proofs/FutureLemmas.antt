@@ -8,8 +8,8 @@ use Rattle.std.proofs.lemmas.Bool.{false≢true, and_parts, and_from}
 use Rattle.std.proofs.lemmas.Bool.Decides.{nat_tests}
 use Rattle.std.proofs.lemmas.List.{map-append}
 use Rattle.std.proofs.lemmas.List.Folds.{list_all-append}
-use Rattle.uriparse_text.specs.declared.parts.class.Class.TheVariants as class
-use Rattle.uriparse_text.specs.declared.parts.canonical.Case.TheVariants.{Lowered}
+use Rattle.uriparse_text.specs.declared.internal.class.Class.TheVariants as class
+use Rattle.uriparse_text.specs.declared.internal.canonical.Case.TheVariants.{Lowered}
 use Rattle.uriparse_text.specs.Bytes.{dot, percent, is_hex, is_unreserved, is_sub_delim}
 use Rattle.uriparse_text.specs.Classes.{is_plain}
 use Rattle.uriparse_text.specs.Faults.{IsIn}

@@ -3,9 +3,9 @@ use Rattle.std.proofs.Common.{◌≡◌, ◌↔◌, ℕ, Bool, List, Option, Som
 use Rattle.std.specs.Prelude.{IfSome, IsTrue, bytes_eq}
 use Rattle.std.specs.Option.{option_eq, option_map}
 use Rattle.std.proofs.lemmas.Slice.Eq.{bytes_eq-Decides}
-use Rattle.uriparse_text.specs.declared.parts.class.Class.{Class}
-use Rattle.uriparse_text.specs.declared.parts.class.Class.TheVariants.{Name, UserInfo}
-use Rattle.uriparse_text.specs.declared.parts.canonical.Case.TheVariants.{Kept, Lowered}
+use Rattle.uriparse_text.specs.declared.internal.class.Class.{Class}
+use Rattle.uriparse_text.specs.declared.internal.class.Class.TheVariants.{Name, UserInfo}
+use Rattle.uriparse_text.specs.declared.internal.canonical.Case.TheVariants.{Kept, Lowered}
 use Rattle.uriparse_text.specs.Faults.{IsIn}
 use Rattle.uriparse_text.specs.Canonical.{canonical, canonical_lowered}
 use Rattle.uriparse_text.proofs.CanonicalLemmas.{canonical_in-canonical_in}

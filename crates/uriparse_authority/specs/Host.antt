@@ -3,7 +3,7 @@ use Rattle.std.specs.Prelude.{◌≡◌, ◌⊎◌, ℕ, ◌==◌, List, [], ◌
 use Rattle.std.specs.Option.{option_map, ok_or}
 use Rattle.std.specs.List.{list_all}
 use Rattle.std.specs.Hash.{HashWrites, slice, u8, u16}
-use Rattle.uriparse_text.specs.declared.parts.class.Class.TheVariants as class
+use Rattle.uriparse_text.specs.declared.internal.class.Class.TheVariants as class
 use Rattle.uriparse_text.specs.Bytes.{left_bracket, right_bracket}
 use Rattle.uriparse_text.specs.Faults.{fault}
 use Rattle.uriparse_text.specs.Canonical.{canonical_lowered, fed_text}

@@ -1,6 +1,6 @@
 -- Registered names: RFC 3986, section 3.2.2.
 use Rattle.std.specs.Prelude.{ℕ, List, Result, Err, is_none, if◌then◌else◌}
-use Rattle.uriparse_text.specs.declared.parts.class.Class.TheVariants as class
+use Rattle.uriparse_text.specs.declared.internal.class.Class.TheVariants as class
 use Rattle.uriparse_text.specs.Faults.{IsIn}
 use Rattle.uriparse_text.specs.Readings.{reading_in}
 use Rattle.uriparse_text.specs.Address.{ipv4_reading}

@@ -1,6 +1,6 @@
 -- Passwords: RFC 3986, section 3.2.1.
 use Rattle.std.specs.Prelude.{ℕ, ◌==◌, if◌then◌else◌, List, Result}
-use Rattle.uriparse_text.specs.declared.parts.class.Class.TheVariants as class
+use Rattle.uriparse_text.specs.declared.internal.class.Class.TheVariants as class
 use Rattle.uriparse_text.specs.Bytes.{percent}
 use Rattle.uriparse_text.specs.Faults.{IsIn}
 use Rattle.uriparse_text.specs.Readings.{reading_in}

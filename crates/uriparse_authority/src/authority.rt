@@ -36,7 +36,7 @@ pub use port::parse_port;
 use print::{write_port, write_user};
 use read::read_whole;
 pub use uriparse_text::address::{IpAddr, Ipv4Addr, Ipv6Addr};
-use uriparse_text::parts::{borrowed_text, len_of, owned_text};
+use uriparse_text::internal::{borrowed_text, len_of, owned_text};
 pub use username::Username;
 use username::empty_username;
 

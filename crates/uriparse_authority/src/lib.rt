@@ -2,5 +2,5 @@
 #![tactic(auto)]
 
 pub mod authority;
+pub mod internal;
 pub mod laws;
-pub mod parts;

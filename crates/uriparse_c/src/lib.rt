@@ -30,7 +30,7 @@ use places::{UriParts, places};
 use put::answer;
 use std::alloc::Global;
 use texts::{equal_texts, hashed, normalized, resolved};
-use uriparse_reference::parts::find_pieces;
+use uriparse_reference::internal::find_pieces;
 
 /// Reads a reference, and says where its components are. Does not allocate.
 #[unsafe(no_mangle)]

@@ -12,9 +12,9 @@ ghost use Rattle.uriparse_c.specs.Spans.{span};
 
 use crate::span::{UriSpan, authority_len, delimited_len, place, place_behind};
 use uriparse::{Authority, Fragment, Host, Query};
-use uriparse_authority::parts::{FoundAuthority, split_port, split_userinfo};
-use uriparse_reference::parts::Pieces;
-use uriparse_text::parts::{IsAny, first, split_at_mark, without_mark};
+use uriparse_authority::internal::{FoundAuthority, split_port, split_userinfo};
+use uriparse_reference::internal::Pieces;
+use uriparse_text::internal::{IsAny, first, split_at_mark, without_mark};
 
 /// Where the components of an authority begin and end.
 #[derive(Clone, Copy)]

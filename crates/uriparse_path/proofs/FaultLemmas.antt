@@ -7,7 +7,7 @@ use Rattle.std.proofs.Math.Seq.{take-nil}
 use Rattle.std.specs.List.{list_all, slice_split}
 use Rattle.std.proofs.lemmas.Bool.{false≢true, and_parts, and_from, eqb-true, ltb-false, le-ltb}
 use Rattle.std.proofs.lemmas.Bool.Decides.{nat_tests}
-use Rattle.uriparse_text.specs.declared.parts.class.Class.TheVariants.{Segment}
+use Rattle.uriparse_text.specs.declared.internal.class.Class.TheVariants.{Segment}
 use Rattle.uriparse_text.specs.Bytes.{percent, slash, is_unreserved, is_sub_delim, is_hex}
 use Rattle.uriparse_text.specs.Classes.{is_plain}
 use Rattle.uriparse_text.specs.Tokens.{is_escape}

@@ -3,8 +3,8 @@ use Rattle.std.proofs.Common.{◌≡◌, ℕ, true, List, [], ◌∷◌, ◌++�
 use Rattle.std.specs.List.{list_all, slice_split}
 use Rattle.std.proofs.lemmas.Bool.{and_from}
 use Rattle.std.proofs.lemmas.Grind.{fold-append}
-use Rattle.uriparse_text.specs.declared.parts.class.Class.TheVariants.{Segment}
-use Rattle.uriparse_text.specs.declared.parts.canonical.Case.TheVariants.{Kept}
+use Rattle.uriparse_text.specs.declared.internal.class.Class.TheVariants.{Segment}
+use Rattle.uriparse_text.specs.declared.internal.canonical.Case.TheVariants.{Kept}
 use Rattle.uriparse_text.specs.Bytes.{slash}
 use Rattle.uriparse_text.specs.Canonical.{canonical}
 use Rattle.uriparse_text.proofs.CanonicalLemmas.{canonical_in-append}

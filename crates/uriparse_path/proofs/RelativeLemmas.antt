@@ -14,8 +14,8 @@ use Rattle.uriparse_text.specs.Faults.{allows}
 use Rattle.uriparse_text.specs.Tokens.{tokens}
 use Rattle.uriparse_text.specs.Canonical.{canonical}
 use Rattle.uriparse_text.proofs.TokenLemmas.{tokens-nil}
-use Rattle.uriparse_text.specs.declared.parts.class.Class.TheVariants.{Segment}
-use Rattle.uriparse_text.specs.declared.parts.canonical.Case.TheVariants.{Kept}
+use Rattle.uriparse_text.specs.declared.internal.class.Class.TheVariants.{Segment}
+use Rattle.uriparse_text.specs.declared.internal.canonical.Case.TheVariants.{Kept}
 use Rattle.uriparse_text.proofs.CanonicalLemmas.{canonical_in-canonical_in}
 use Rattle.uriparse_text.proofs.ClassLemmas.{well_formed-in_class}
 use Rattle.uriparse_path.specs.Segment.{is_segment}

@@ -1,7 +1,7 @@
 -- A segment of a path: RFC 3986, section 3.3.
 use Rattle.std.specs.Prelude.{ℕ, Bool, ◌==◌, if◌then◌else◌, List, Option, Result}
 use Rattle.std.specs.Option.{option_map}
-use Rattle.uriparse_text.specs.declared.parts.class.Class.TheVariants.{Segment}
+use Rattle.uriparse_text.specs.declared.internal.class.Class.TheVariants.{Segment}
 use Rattle.uriparse_text.specs.Bytes.{percent}
 use Rattle.uriparse_text.specs.Faults as text
 use Rattle.uriparse_text.specs.Readings.{reading_in}

@@ -5,7 +5,7 @@ ghost use Rattle.std.specs.Ordering.{on};
 ghost use Rattle.std.specs.Cmp.Rules.{comparing, hashing};
 ghost use Rattle.std.specs.Fmt.{WritesOnOk, WritesStyledOnOk};
 ghost use Rattle.std.specs.List.{flat_map, list_all};
-ghost use Rattle.uriparse_text.specs.declared.parts.canonical.Case.TheVariants as case;
+ghost use Rattle.uriparse_text.specs.declared.internal.canonical.Case.TheVariants as case;
 ghost use Rattle.uriparse_text.specs.Bytes.{colon, slash};
 ghost use Rattle.uriparse_text.specs.Cuts.{from_first, lacks, up_to};
 ghost use Rattle.uriparse_text.specs.Canonical.{canonical, SpellsAlike};
@@ -24,7 +24,7 @@ use std::fmt;
 use std::fmt::Write;
 use std::hash::{Hash, Hasher};
 use std::marker::Model;
-use uriparse_text::parts::{Case, feed_spelling, same_spelling, split_at_mark};
+use uriparse_text::internal::{Case, feed_spelling, same_spelling, split_at_mark};
 
 mod copy;
 mod count;

@@ -4,7 +4,7 @@ use Rattle.std.proofs.Common.{subst}
 use Rattle.std.specs.Prelude.{is_some, is_none}
 use Rattle.std.specs.Option.{option_map}
 use Rattle.std.proofs.lemmas.Bool.{false≢true, and_parts}
-use Rattle.uriparse_text.specs.declared.parts.class.Class.TheVariants.{Query}
+use Rattle.uriparse_text.specs.declared.internal.class.Class.TheVariants.{Query}
 use Rattle.uriparse_path.specs.Path.{PathParts, IsListed, hides_root, respelled}
 use Rattle.uriparse_path.specs.Relative.{is_first, has_colon}
 use Rattle.uriparse_path.specs.Normal.{canonical_path, stays_relative, pnormal}

@@ -5,7 +5,7 @@ use Rattle.std.specs.Prelude.{◌⊎◌, ◌==◌, IfSome, IfOk, IfErr, Result, 
 use Rattle.std.specs.Option.{option_map}
 use Rattle.std.proofs.lemmas.Bool.{false≢true, eqb-true}
 use Rattle.std.proofs.lemmas.Bool.Decides.{nat_tests}
-use Rattle.uriparse_text.specs.declared.parts.class.Class.TheVariants.{Query}
+use Rattle.uriparse_text.specs.declared.internal.class.Class.TheVariants.{Query}
 use Rattle.uriparse_text.specs.Bytes.{slash, colon, question_mark, number_sign}
 use Rattle.uriparse_text.specs.Cuts.{behind, ahead, before, after, front, rest, up_to, from_first}
 use Rattle.uriparse_text.specs.Readings.{IsUnless, ◌>>=◌, of_piece, some_of, if_present, fault_in, unless_fault, IfPresent}

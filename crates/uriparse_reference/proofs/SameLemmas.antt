@@ -7,10 +7,10 @@ use Rattle.std.specs.Char.{to_ascii_uppercase}
 use Rattle.std.proofs.lemmas.Bool.{and_parts, and_from}
 use Rattle.std.proofs.lemmas.Bool.Decides.{nat_tests, same_from_decides}
 use Rattle.std.proofs.lemmas.Slice.Eq.{bytes_eq-Decides}
-use Rattle.uriparse_text.specs.declared.parts.token.Token.{Token}
-use Rattle.uriparse_text.specs.declared.parts.token.Token.TheVariants.{Byte, Escape}
-use Rattle.uriparse_text.specs.declared.parts.class.Class.TheVariants.{Query}
-use Rattle.uriparse_text.specs.declared.parts.canonical.Case.TheVariants.{Kept}
+use Rattle.uriparse_text.specs.declared.internal.token.Token.{Token}
+use Rattle.uriparse_text.specs.declared.internal.token.Token.TheVariants.{Byte, Escape}
+use Rattle.uriparse_text.specs.declared.internal.class.Class.TheVariants.{Query}
+use Rattle.uriparse_text.specs.declared.internal.canonical.Case.TheVariants.{Kept}
 use Rattle.uriparse_text.specs.Bytes.{colon, is_hex, is_unreserved}
 use Rattle.uriparse_text.specs.Cuts.{lacks, up_to}
 use Rattle.uriparse_text.specs.Tokens.{tokens, spell, has_digits}

@@ -4,7 +4,7 @@ use Rattle.std.proofs.Common.{subst, arith}
 use Rattle.std.specs.Prelude.{IfSome, is_some, is_none}
 use Rattle.std.specs.Option.{option_map}
 use Rattle.std.proofs.lemmas.Bool.{false≢true, and_from}
-use Rattle.uriparse_text.specs.declared.parts.class.Class.TheVariants.{Query}
+use Rattle.uriparse_text.specs.declared.internal.class.Class.TheVariants.{Query}
 use Rattle.uriparse_text.specs.Query.{IsQuery}
 use Rattle.uriparse_text.specs.Fragment.{IsFragment}
 use Rattle.uriparse_text.specs.Canonical.{canonical}

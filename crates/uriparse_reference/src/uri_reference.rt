@@ -18,11 +18,11 @@ use std::fmt::Write;
 use std::hash::{Hash, Hasher};
 use std::marker::Model;
 use uriparse_authority::authority::{Authority, Host, Password, Username};
-use uriparse_path::parts::most_path_bytes;
+use uriparse_path::internal::most_path_bytes;
 use uriparse_path::path::Path;
 use uriparse_scheme::scheme::Scheme;
 use uriparse_text::fragment::Fragment;
-use uriparse_text::parts::len_of;
+use uriparse_text::internal::len_of;
 use uriparse_text::query::Query;
 
 mod builder;

@@ -10,7 +10,7 @@ use Rattle.std.proofs.lemmas.List.Folds.{list_all-append}
 use Rattle.std.proofs.lemmas.List.Elements.{All-weaker}
 use Rattle.std.proofs.lemmas.List.Sums.{list_all-from_AllPass}
 use Rattle.std.proofs.NetLemmas.Alphabet.{IsDigitOrDot, All-ipv4_text}
-use Rattle.uriparse_text.specs.declared.parts.class.Class.TheVariants.{Name}
+use Rattle.uriparse_text.specs.declared.internal.class.Class.TheVariants.{Name}
 use Rattle.uriparse_text.specs.Bytes.{colon, dot, is_unreserved}
 use Rattle.uriparse_text.specs.Classes.{is_plain}
 use Rattle.uriparse_text.specs.Cuts.{lacks}

@@ -3,10 +3,10 @@ use Rattle.std.proofs.Common.{◌≡◌, ℕ, Bool, true, false, not, List, [], 
 use Rattle.std.specs.Option.{option_map}
 use Rattle.std.specs.List.{find, list_all}
 use Rattle.std.proofs.lemmas.Bool.{false≢true, and_parts}
-use Rattle.uriparse_text.specs.declared.parts.token.Token.{Token}
-use Rattle.uriparse_text.specs.declared.parts.token.Token.TheVariants.{Byte, Escape}
-use Rattle.uriparse_text.specs.declared.parts.class.Class.{Class}
-use Rattle.uriparse_text.specs.declared.parts.class.Class.TheVariants.{Name, UserInfo, Segment, Query}
+use Rattle.uriparse_text.specs.declared.internal.token.Token.{Token}
+use Rattle.uriparse_text.specs.declared.internal.token.Token.TheVariants.{Byte, Escape}
+use Rattle.uriparse_text.specs.declared.internal.class.Class.{Class}
+use Rattle.uriparse_text.specs.declared.internal.class.Class.TheVariants.{Name, UserInfo, Segment, Query}
 use Rattle.uriparse_text.specs.Bytes.{percent, is_unreserved, is_sub_delim}
 use Rattle.uriparse_text.specs.Classes.{is_plain}
 use Rattle.uriparse_text.specs.Tokens.{is_escape, tokens}

@@ -8,11 +8,11 @@ use Rattle.std.proofs.lemmas.List.{get_or-map, length-map, ext_get_or}
 use Rattle.std.proofs.lemmas.Nat.{and_le_r}
 use Rattle.std.proofs.lemmas.Simd.{Each1-all, Each1-weaker, Each1-zip2, Each2-splat, below_from_Fits, length-zip2, zip2_splat, zip2_of_maps, splat_is_map}
 use Rattle.std.proofs.lemmas.Simd.{tops_compared, map-map, bitmask_splat, swz_l, SwzOk, SwzOk-from_below, length-swz_l, get_or-swz_l_below}
-use Rattle.uriparse_text.specs.declared.parts.class.Class.{Class}
-use Rattle.uriparse_text.specs.declared.parts.class.Class.TheVariants.{Name, UserInfo, Segment, Query}
-use Rattle.uriparse_text.specs.declared.parts.canonical.Case.TheVariants.{Kept, Lowered}
-use Rattle.uriparse_text.specs.declared.parts.run.TheConstants.{CHANGE_LOW, CHANGE_HIGH}
-use Rattle.uriparse_text.specs.declared.parts.scan.TheConstants.{LOW, HIGH, HEX_LOW, HEX_HIGH}
+use Rattle.uriparse_text.specs.declared.internal.class.Class.{Class}
+use Rattle.uriparse_text.specs.declared.internal.class.Class.TheVariants.{Name, UserInfo, Segment, Query}
+use Rattle.uriparse_text.specs.declared.internal.canonical.Case.TheVariants.{Kept, Lowered}
+use Rattle.uriparse_text.specs.declared.internal.run.TheConstants.{CHANGE_LOW, CHANGE_HIGH}
+use Rattle.uriparse_text.specs.declared.internal.scan.TheConstants.{LOW, HIGH, HEX_LOW, HEX_HIGH}
 use Rattle.uriparse_text.specs.Bytes.{is_hex, is_unreserved, is_sub_delim}
 use Rattle.uriparse_text.specs.Classes.{is_plain}
 use Rattle.uriparse_text.specs.Canonical.{may_change}

@@ -2,7 +2,7 @@
 use Rattle.std.proofs.Common.{◌≡◌, ℕ, List, Option, Some, None, Ok, Err, refl, sym, ap, ◌∙◌}
 use Rattle.std.specs.Prelude.{Result, IfSome}
 use Rattle.std.specs.Option.{option_map}
-use Rattle.uriparse_text.specs.declared.parts.class.Class.{Class}
+use Rattle.uriparse_text.specs.declared.internal.class.Class.{Class}
 use Rattle.uriparse_text.specs.Faults.{fault, IsIn}
 use Rattle.uriparse_text.specs.Readings.{unless_fault, reading_in, ◌>>=◌, of_piece, fault_in, some_of, if_present, IfPresent}
 use Rattle.uriparse_text.proofs.FaultLemmas.{no_fault}

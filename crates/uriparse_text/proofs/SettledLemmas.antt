@@ -10,8 +10,8 @@ use Rattle.std.proofs.lemmas.Simd.{bit_mask_l}
 use Rattle.std.proofs.lemmas.Bool.{and_from, and_parts, eqb-true, false≢true}
 use Rattle.std.proofs.lemmas.List.{drop-drop, length-drop}
 use Rattle.std.proofs.lemmas.List.Sums.{fails_before_first}
-use Rattle.uriparse_text.specs.declared.parts.class.Class.{Class}
-use Rattle.uriparse_text.specs.declared.parts.canonical.Case.{Case}
+use Rattle.uriparse_text.specs.declared.internal.class.Class.{Class}
+use Rattle.uriparse_text.specs.declared.internal.canonical.Case.{Case}
 use Rattle.uriparse_text.specs.Bytes.{percent}
 use Rattle.uriparse_text.specs.Classes.{is_plain}
 use Rattle.uriparse_text.specs.Faults.{begins_fine, AllFine, IsIn, IsFaultPlace}
@@ -23,7 +23,7 @@ use Rattle.uriparse_text.proofs.CutLemmas.{weaker}
 use Rattle.uriparse_text.proofs.FaultLemmas.{IsIn-plain}
 use Rattle.uriparse_text.proofs.FineLemmas.{all_fine_then, is_fine_plain, not_fine_at}
 use Rattle.uriparse_text.proofs.RunLemmas.{canonical_in-stays, no_escape}
-use Rattle.uriparse_text.specs.declared.parts.token.Token.TheVariants.{Byte}
+use Rattle.uriparse_text.specs.declared.internal.token.Token.TheVariants.{Byte}
 
 not_true : (v : Bool) → not v ≡ true → v ≡ false
 not_true true h = sym h

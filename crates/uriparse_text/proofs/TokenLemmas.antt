@@ -7,8 +7,8 @@ use Rattle.std.proofs.Math.Bool.{and-false}
 use Rattle.std.proofs.lemmas.Bool.{cond-true, cond-false, and_parts, and_from}
 use Rattle.std.proofs.lemmas.Bool.Decides.{nat_tests}
 use Rattle.std.proofs.lemmas.List.Folds.{list_all-append}
-use Rattle.uriparse_text.specs.declared.parts.token.Token.{Token}
-use Rattle.uriparse_text.specs.declared.parts.token.Token.TheVariants.{Byte, Escape}
+use Rattle.uriparse_text.specs.declared.internal.token.Token.{Token}
+use Rattle.uriparse_text.specs.declared.internal.token.Token.TheVariants.{Byte, Escape}
 use Rattle.uriparse_text.specs.Bytes.{percent, is_hex}
 use Rattle.uriparse_text.specs.Tokens.{is_escape, tokens, spell, is_token, has_digits, is_well_formed, IsConcatenation}
 

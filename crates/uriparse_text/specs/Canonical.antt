@@ -4,10 +4,10 @@ use Rattle.std.specs.List.{flat_map}
 use Rattle.std.specs.Char.{digit_value, to_ascii_lowercase, to_ascii_uppercase}
 use Rattle.std.specs.Hash as fed
 use Rattle.std.specs.Simd.{first_chunks}
-use Rattle.uriparse_text.specs.declared.parts.token.Token.{Token}
-use Rattle.uriparse_text.specs.declared.parts.token.Token.TheVariants.{Byte, Escape}
-use Rattle.uriparse_text.specs.declared.parts.canonical.Case.{Case}
-use Rattle.uriparse_text.specs.declared.parts.canonical.Case.TheVariants.{Kept, Lowered}
+use Rattle.uriparse_text.specs.declared.internal.token.Token.{Token}
+use Rattle.uriparse_text.specs.declared.internal.token.Token.TheVariants.{Byte, Escape}
+use Rattle.uriparse_text.specs.declared.internal.canonical.Case.{Case}
+use Rattle.uriparse_text.specs.declared.internal.canonical.Case.TheVariants.{Kept, Lowered}
 use Rattle.uriparse_text.specs.Bytes.{is_unreserved, percent}
 use Rattle.uriparse_text.specs.Tokens.{tokens, spell, is_well_formed}
 

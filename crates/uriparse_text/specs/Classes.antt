@@ -1,7 +1,7 @@
 -- Which bytes stand for themselves in each part, where escapes may stand too: RFC 3986, sections 3.2.1 to 3.5.
 use Rattle.std.specs.Prelude.{ℕ, Bool, ◌||◌, ◌==◌}
-use Rattle.uriparse_text.specs.declared.parts.class.Class.{Class}
-use Rattle.uriparse_text.specs.declared.parts.class.Class.TheVariants.{Name, UserInfo, Segment, Query}
+use Rattle.uriparse_text.specs.declared.internal.class.Class.{Class}
+use Rattle.uriparse_text.specs.declared.internal.class.Class.TheVariants.{Name, UserInfo, Segment, Query}
 use Rattle.uriparse_text.specs.Bytes.{is_unreserved, is_sub_delim, colon, at_sign, slash, question_mark}
 
 -- the class without its `pct-encoded`

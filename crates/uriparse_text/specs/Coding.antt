@@ -2,9 +2,9 @@
 use Rattle.std.specs.Prelude.{ℕ, Bool, ◌/◌, ◌%◌, List, map, if◌then◌else◌}
 use Rattle.std.specs.List.{flat_map, list_all}
 use Rattle.std.specs.Int.{is_in_range}
-use Rattle.uriparse_text.specs.declared.parts.token.Token.{Token}
-use Rattle.uriparse_text.specs.declared.parts.token.Token.TheVariants.{Byte, Escape}
-use Rattle.uriparse_text.specs.declared.parts.class.Class.{Class}
+use Rattle.uriparse_text.specs.declared.internal.token.Token.{Token}
+use Rattle.uriparse_text.specs.declared.internal.token.Token.TheVariants.{Byte, Escape}
+use Rattle.uriparse_text.specs.declared.internal.class.Class.{Class}
 use Rattle.uriparse_text.specs.Classes.{is_plain}
 use Rattle.uriparse_text.specs.Tokens.{tokens, spell}
 use Rattle.uriparse_text.specs.Canonical.{escaped_byte}

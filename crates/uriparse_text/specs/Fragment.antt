@@ -2,7 +2,7 @@
 use Rattle.std.specs.Prelude.{ℕ, ◌==◌, if◌then◌else◌, List, Result}
 use Rattle.uriparse_text.specs.declared.fragment.FragmentError.{FragmentError}
 use Rattle.uriparse_text.specs.declared.fragment.FragmentError.TheVariants.{InvalidCharacter, InvalidPercentEncoding}
-use Rattle.uriparse_text.specs.declared.parts.class.Class.TheVariants.{Query}
+use Rattle.uriparse_text.specs.declared.internal.class.Class.TheVariants.{Query}
 use Rattle.uriparse_text.specs.Bytes.{percent}
 use Rattle.uriparse_text.specs.Faults.{IsIn}
 use Rattle.uriparse_text.specs.Readings.{reading_in}

@@ -1,9 +1,9 @@
 -- What a text keeps beside its bytes.
 use Rattle.std.specs.Prelude.{◌≡◌, ℕ, Bool, true, false, ◌&&◌, ◌==◌, List, string_bytes}
-use Rattle.uriparse_text.specs.declared.parts.spelling.Spelling.{Spelling}
-use Rattle.uriparse_text.specs.declared.parts.spelling.Spelling.TheVariants.{Borrowed, Owned, OwnedCanonical}
-use Rattle.uriparse_text.specs.declared.parts.class.Class.{Class}
-use Rattle.uriparse_text.specs.declared.parts.canonical.Case.{Case}
+use Rattle.uriparse_text.specs.declared.internal.spelling.Spelling.{Spelling}
+use Rattle.uriparse_text.specs.declared.internal.spelling.Spelling.TheVariants.{Borrowed, Owned, OwnedCanonical}
+use Rattle.uriparse_text.specs.declared.internal.class.Class.{Class}
+use Rattle.uriparse_text.specs.declared.internal.canonical.Case.{Case}
 use Rattle.uriparse_text.specs.Faults.{IsIn}
 use Rattle.uriparse_text.specs.Classes.{is_plain}
 use Rattle.uriparse_text.specs.Canonical.{canonical_in, in_case}

@@ -1,8 +1,8 @@
 -- Tokens of a text: RFC 3986, section 2.1.
 use Rattle.std.specs.Prelude.{◌≡◌, ℕ, Bool, true, false, not, ◌&&◌, ◌==◌, List, [], ◌∷◌, if◌then◌else◌}
 use Rattle.std.specs.List.{flat_map, list_all}
-use Rattle.uriparse_text.specs.declared.parts.token.Token.{Token}
-use Rattle.uriparse_text.specs.declared.parts.token.Token.TheVariants.{Byte, Escape}
+use Rattle.uriparse_text.specs.declared.internal.token.Token.{Token}
+use Rattle.uriparse_text.specs.declared.internal.token.Token.TheVariants.{Byte, Escape}
 use Rattle.uriparse_text.specs.Bytes.{percent, is_hex}
 
 -- the bytes of a token

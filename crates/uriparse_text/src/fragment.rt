@@ -1,9 +1,9 @@
 //! The fragment of a URI or reference: RFC 3986, section 3.5.
-ghost use Rattle.uriparse_text.specs.declared.parts.class.Class.TheVariants as class;
-ghost use Rattle.uriparse_text.specs.declared.parts.canonical.Case.TheVariants as case;
+ghost use Rattle.uriparse_text.specs.declared.internal.class.Class.TheVariants as class;
+ghost use Rattle.uriparse_text.specs.declared.internal.canonical.Case.TheVariants as case;
 ghost use Rattle.uriparse_text.specs.Fragment as spec;
 
-use crate::parts::{Case, Class, Kind, Text};
+use crate::internal::{Case, Class, Text, TextKind};
 use thiserror::Error;
 
 /// Why a text is not a fragment: its leftmost fault.
@@ -20,7 +20,7 @@ pub enum FragmentError {
 /// The kind of text that a fragment is.
 pub struct FragmentKind;
 
-impl Kind for FragmentKind {
+impl TextKind for FragmentKind {
     type Error = FragmentError;
 
     ghost class = { class.Query };

@@ -5,6 +5,6 @@
 
 pub mod address;
 pub mod fragment;
+pub mod internal;
 pub mod laws;
-pub mod parts;
 pub mod query;

@@ -1,9 +1,9 @@
 //! The query of a URI or reference: RFC 3986, section 3.4.
-ghost use Rattle.uriparse_text.specs.declared.parts.class.Class.TheVariants as class;
-ghost use Rattle.uriparse_text.specs.declared.parts.canonical.Case.TheVariants as case;
+ghost use Rattle.uriparse_text.specs.declared.internal.class.Class.TheVariants as class;
+ghost use Rattle.uriparse_text.specs.declared.internal.canonical.Case.TheVariants as case;
 ghost use Rattle.uriparse_text.specs.Query as spec;
 
-use crate::parts::{Case, Class, Kind, Text};
+use crate::internal::{Case, Class, Text, TextKind};
 use thiserror::Error;
 
 /// Why a text is not a query: its leftmost fault.
@@ -20,7 +20,7 @@ pub enum QueryError {
 /// The kind of text that a query is.
 pub struct QueryKind;
 
-impl Kind for QueryKind {
+impl TextKind for QueryKind {
     type Error = QueryError;
 
     ghost class = { class.Query };

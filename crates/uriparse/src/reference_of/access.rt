@@ -4,13 +4,13 @@ ghost use Rattle.std.specs.Option.{option_copied};
 ghost use Rattle.uriparse_reference.specs.Reference.{host_of, password_of, port_of, username_of};
 
 use super::ReferenceOf;
-use crate::kind::Kind;
+use crate::kind::ReferenceKind;
 use uriparse_authority::authority::{Authority, Host, Password, Username};
 use uriparse_path::path::Path;
 use uriparse_text::fragment::Fragment;
 use uriparse_text::query::Query;
 
-impl<'r, K: Kind> ReferenceOf<'r, K> {
+impl<'r, K: ReferenceKind> ReferenceOf<'r, K> {
     ghost use Rattle.uriparse_reference.specs.Reference.{Valid};
 
     /// The authority, if present.

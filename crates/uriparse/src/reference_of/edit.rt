@@ -6,13 +6,13 @@ ghost use Rattle.uriparse_reference.specs.Edits.{edited};
 ghost use Rattle.uriparse.specs.Kinds.{told_of};
 
 use super::ReferenceOf;
-use crate::kind::{Kind, told};
+use crate::kind::{ReferenceKind, told};
 use uriparse_authority::authority::Authority;
 use uriparse_path::path::Path;
 use uriparse_text::fragment::Fragment;
 use uriparse_text::query::Query;
 
-impl<'r, K: Kind> ReferenceOf<'r, K> {
+impl<'r, K: ReferenceKind> ReferenceOf<'r, K> {
     /// Sets or removes the authority. With one, the path is made absolute. Without one, a path
     /// whose text begins with two slashes is rejected, and the value is unchanged. Does not
     /// allocate.

@@ -4,10 +4,10 @@ ghost use Rattle.uriparse_reference.specs.Reference.{Parts, Same, Valid, print};
 ghost use Rattle.uriparse_reference.specs.Normal.{canonical_texts, normal};
 
 use super::ReferenceOf;
-use crate::kind::Kind;
+use crate::kind::ReferenceKind;
 use std::alloc::{AllocError, Global};
 
-impl<'r, K: Kind> ReferenceOf<'r, K> {
+impl<'r, K: ReferenceKind> ReferenceOf<'r, K> {
     /// Whether the text is that of the normal form. Then the value is that form, component for
     /// component. Does not allocate.
     pub fn is_normalized(&self) -> bool

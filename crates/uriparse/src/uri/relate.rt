@@ -6,7 +6,7 @@ ghost use Rattle.uriparse_reference.specs.Target.{target};
 
 use super::URI;
 use std::alloc::{AllocError, Global};
-use uriparse_reference::parts::relativize;
+use uriparse_reference::internal::relativize;
 use uriparse_reference::uri_reference::URIReference;
 
 impl<'u> URI<'u> {

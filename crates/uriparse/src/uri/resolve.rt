@@ -8,10 +8,10 @@ ghost use Rattle.uriparse_reference.specs.Target.{AreSame, MergesAlike, is_merge
 ghost use Rattle.uriparse.specs.declared.uri.error.URIError.TheVariants as errors;
 
 use super::{URI, URIError, WithScheme};
-use crate::kind::Kind;
+use crate::kind::ReferenceKind;
 use crate::reference_of::ReferenceOf;
 use std::alloc::Global;
-use uriparse_reference::parts::resolve;
+use uriparse_reference::internal::resolve;
 use uriparse_reference::uri_reference::URIReference;
 
 impl<'u> URI<'u> {

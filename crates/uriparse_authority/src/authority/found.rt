@@ -8,7 +8,7 @@ use super::host::found::FoundHost;
 use super::password::PasswordKind;
 use super::username::UsernameKind;
 use std::marker::Model;
-use uriparse_text::parts::Found;
+use uriparse_text::internal::Found;
 
 /// The components of an authority, borrowed from its bytes. Seen as the parts that they stand for.
 #[derive(Drop)]

@@ -8,8 +8,8 @@ ghost use Rattle.std.specs.Str.{str_to_ascii_lowercase};
 ghost use Rattle.std.specs.Cmp.Rules.{comparing, hashing};
 ghost use Rattle.uriparse_text.specs.Bytes.{dot, is_hex};
 ghost use Rattle.uriparse_text.specs.Cuts.{before, after};
-ghost use Rattle.uriparse_text.specs.declared.parts.class.Class.TheVariants as class;
-ghost use Rattle.uriparse_text.specs.declared.parts.canonical.Case.TheVariants as case;
+ghost use Rattle.uriparse_text.specs.declared.internal.class.Class.TheVariants as class;
+ghost use Rattle.uriparse_text.specs.declared.internal.canonical.Case.TheVariants as case;
 ghost use Rattle.uriparse_text.specs.Canonical.{canonical_lowered, fed_text};
 ghost use Rattle.uriparse_authority.specs.declared.authority.error.HostError.TheVariants as errors;
 ghost use Rattle.uriparse_authority.specs.Future as spec;
@@ -19,14 +19,14 @@ use std::alloc::{AllocError, Global};
 use std::fmt;
 use std::hash::{Hash, Hasher};
 use std::marker::Model;
-use uriparse_text::parts::{
-    Case, Class, Kind, Text, checked_text, normalized_text, split_at_mark, without_mark,
+use uriparse_text::internal::{
+    Case, Class, Text, TextKind, checked_text, normalized_text, split_at_mark, without_mark,
 };
 
 /// The kind of text that such an address is. It has no escapes.
 struct FutureKind;
 
-impl Kind for FutureKind {
+impl TextKind for FutureKind {
     type Error = HostError;
 
     ghost class = { class.UserInfo };

@@ -3,8 +3,8 @@ ghost use Rattle.std.specs.Prelude.{◌≡◌, ◌↔◌, IsTrue, IsOk, IfOk, On
 ghost use Rattle.std.proofs.Common.{rules};
 ghost use Rattle.std.specs.Ordering.{on};
 ghost use Rattle.std.specs.Cmp.Rules.{comparing, hashing};
-ghost use Rattle.uriparse_text.specs.declared.parts.class.Class.TheVariants as class;
-ghost use Rattle.uriparse_text.specs.declared.parts.canonical.Case.TheVariants as case;
+ghost use Rattle.uriparse_text.specs.declared.internal.class.Class.TheVariants as class;
+ghost use Rattle.uriparse_text.specs.declared.internal.canonical.Case.TheVariants as case;
 ghost use Rattle.uriparse_text.specs.Canonical.{canonical_lowered, fed_text, SpellsAlike};
 ghost use Rattle.uriparse_text.specs.Coding.{decoded};
 ghost use Rattle.uriparse_text.specs.Tokens.{is_well_formed};
@@ -18,12 +18,12 @@ use std::fmt;
 use std::hash::{Hash, Hasher};
 use std::marker::Model;
 use uriparse_text::address::Ipv4Addr;
-use uriparse_text::parts::{Case, Class, Kind, Text, kept_text, normalized_text};
+use uriparse_text::internal::{Case, Class, Text, TextKind, kept_text, normalized_text};
 
 /// The kind of text that a name is.
 struct NameKind;
 
-impl Kind for NameKind {
+impl TextKind for NameKind {
     type Error = RegisteredNameError;
 
     ghost class = { class.Name };

@@ -5,7 +5,7 @@ ghost use Rattle.uriparse_authority.specs.Normal.{AreCanonicalCopies, canonical_
 
 use super::{Authority, Host, Password, Username};
 use std::alloc::{AllocError, Global};
-use uriparse_text::parts::{canonical_copy, is_canonical_part, put_copy};
+use uriparse_text::internal::{canonical_copy, is_canonical_part, put_copy};
 
 /// Canonical copies of the components of an authority that are present and aren't canonical.
 #[derive(Drop)]

@@ -1,15 +1,15 @@
 //! The password of an authority: RFC 3986, section 3.2.1.
-ghost use Rattle.uriparse_text.specs.declared.parts.class.Class.TheVariants as class;
-ghost use Rattle.uriparse_text.specs.declared.parts.canonical.Case.TheVariants as case;
+ghost use Rattle.uriparse_text.specs.declared.internal.class.Class.TheVariants as class;
+ghost use Rattle.uriparse_text.specs.declared.internal.canonical.Case.TheVariants as case;
 ghost use Rattle.uriparse_authority.specs.Password as spec;
 
 use super::error::PasswordError;
-use uriparse_text::parts::{Case, Class, Kind, Text};
+use uriparse_text::internal::{Case, Class, Text, TextKind};
 
 /// The kind of text that a password is.
 pub struct PasswordKind;
 
-impl Kind for PasswordKind {
+impl TextKind for PasswordKind {
     type Error = PasswordError;
 
     ghost class = { class.UserInfo };

@@ -8,7 +8,7 @@ ghost use Rattle.uriparse_authority.specs.Port as ports;
 
 use super::{Password, Username};
 use std::fmt;
-use uriparse_text::parts::write_short;
+use uriparse_text::internal::write_short;
 
 /// Writes a colon and the password, if there is one.
 fn write_password<W: fmt::Write>(

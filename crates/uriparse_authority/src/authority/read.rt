@@ -1,8 +1,8 @@
 //! How an authority is cut and its components are read: RFC 3986, sections 3.2 to 3.2.3.
 ghost use Rattle.std.specs.Prelude.{◌≡◌, MatchResult, Err, Ok, IsTrue, [], position, true};
 ghost use Rattle.std.specs.Option.{option_copied};
-ghost use Rattle.uriparse_text.specs.declared.parts.class.Class.TheVariants as class;
-ghost use Rattle.uriparse_text.specs.declared.parts.canonical.Case.TheVariants as case;
+ghost use Rattle.uriparse_text.specs.declared.internal.class.Class.TheVariants as class;
+ghost use Rattle.uriparse_text.specs.declared.internal.canonical.Case.TheVariants as case;
 ghost use Rattle.uriparse_text.specs.Cuts.{up_to, from_first};
 ghost use Rattle.uriparse_text.specs.Spelling.{IsKept};
 ghost use Rattle.uriparse_authority.specs.Authority as authority;
@@ -15,7 +15,7 @@ use super::password::PasswordKind;
 use super::username::UsernameKind;
 use super::{Authority, AuthorityError, Host, HostError, PortError, parse_port};
 use uriparse_text::address::Ipv4Addr;
-use uriparse_text::parts::{
+use uriparse_text::internal::{
     Case, Class, Found, IsAny, find_text_before, find_text_if, first, no_text, split_at_mark,
     split_settled, without_mark,
 };

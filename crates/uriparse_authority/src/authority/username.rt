@@ -1,16 +1,16 @@
 //! The user name of an authority: RFC 3986, section 3.2.1.
 ghost use Rattle.std.specs.Prelude.{[], ◌≡◌};
-ghost use Rattle.uriparse_text.specs.declared.parts.class.Class.TheVariants as class;
-ghost use Rattle.uriparse_text.specs.declared.parts.canonical.Case.TheVariants as case;
+ghost use Rattle.uriparse_text.specs.declared.internal.class.Class.TheVariants as class;
+ghost use Rattle.uriparse_text.specs.declared.internal.canonical.Case.TheVariants as case;
 ghost use Rattle.uriparse_authority.specs.Username as spec;
 
 use super::error::UsernameError;
-use uriparse_text::parts::{Case, Class, Kind, Text, checked_text};
+use uriparse_text::internal::{Case, Class, Text, TextKind, checked_text};
 
 /// The kind of text that a user name is.
 pub struct UsernameKind;
 
-impl Kind for UsernameKind {
+impl TextKind for UsernameKind {
     type Error = UsernameError;
 
     ghost class = { class.Name };

@@ -15,7 +15,7 @@ use super::error::PathError;
 use super::segment::{Segment, fault_at};
 use super::{MAX_SEGMENTS, Path};
 use std::alloc::{AllocError, Global};
-use uriparse_text::parts::{
+use uriparse_text::internal::{
     Class, Is, Outside, count_below, is_escape, lowest, next_marks, next_marks_by_two, without,
     without_lowest,
 };

@@ -4,8 +4,8 @@ ghost use Rattle.std.proofs.Common.{rules};
 ghost use Rattle.std.specs.List.{list_all};
 ghost use Rattle.std.specs.Ordering.{on};
 ghost use Rattle.std.specs.Cmp.Rules.{comparing, hashing};
-ghost use Rattle.uriparse_text.specs.declared.parts.class.Class.TheVariants as class;
-ghost use Rattle.uriparse_text.specs.declared.parts.canonical.Case.TheVariants as case;
+ghost use Rattle.uriparse_text.specs.declared.internal.class.Class.TheVariants as class;
+ghost use Rattle.uriparse_text.specs.declared.internal.canonical.Case.TheVariants as case;
 ghost use Rattle.uriparse_text.specs.Bytes.{dot};
 ghost use Rattle.uriparse_text.specs.Canonical.{canonical, fed_text, SpellsAlike};
 ghost use Rattle.uriparse_text.specs.Spelling.{IsKept};
@@ -21,7 +21,7 @@ use std::alloc::{AllocError, Global};
 use std::fmt;
 use std::hash::{Hash, Hasher};
 use std::marker::Model;
-use uriparse_text::parts::{Case, Class, Kind, Text, kept_text, normalized_text};
+use uriparse_text::internal::{Case, Class, Text, TextKind, kept_text, normalized_text};
 
 /// The error of a segment whose leftmost fault is at this byte.
 pub(super) fn fault_at(byte: u8) -> PathError
@@ -42,7 +42,7 @@ pub(super) fn each_is_segment(segments: &[Segment<'_>])
 /// The kind of text that a segment is.
 struct SegmentKind;
 
-impl Kind for SegmentKind {
+impl TextKind for SegmentKind {
     type Error = PathError;
 
     ghost class = { class.Segment };

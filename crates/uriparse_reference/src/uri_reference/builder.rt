@@ -17,7 +17,7 @@ use uriparse_authority::authority::Authority;
 use uriparse_path::path::Path;
 use uriparse_scheme::scheme::Scheme;
 use uriparse_text::fragment::{Fragment, FragmentKind};
-use uriparse_text::parts::find_text_if;
+use uriparse_text::internal::find_text_if;
 use uriparse_text::query::{Query, QueryKind};
 
 /// Builds a reference component by component. Only the path is required.

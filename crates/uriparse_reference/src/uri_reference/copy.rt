@@ -7,7 +7,7 @@ use uriparse_authority::authority::Authority;
 use uriparse_path::path::Path;
 use uriparse_scheme::scheme::Scheme;
 use uriparse_text::fragment::Fragment;
-use uriparse_text::parts::{borrowed_text, owned_text};
+use uriparse_text::internal::{borrowed_text, owned_text};
 use uriparse_text::query::Query;
 
 /// The same scheme, if present, borrowing this one's text.

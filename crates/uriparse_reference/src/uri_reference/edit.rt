@@ -10,7 +10,7 @@ use super::error::URIReferenceError;
 use std::alloc::Global;
 use std::mem;
 use uriparse_authority::authority::Authority;
-use uriparse_path::parts::{has_two_slashes, into_absolute, lacks_colon_segment, respell};
+use uriparse_path::internal::{has_two_slashes, into_absolute, lacks_colon_segment, respell};
 use uriparse_path::path::{Path, PathError};
 use uriparse_scheme::scheme::Scheme;
 use uriparse_text::fragment::Fragment;

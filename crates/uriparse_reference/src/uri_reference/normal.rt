@@ -14,14 +14,14 @@ ghost use Rattle.uriparse_reference.specs.Normal.{AreCopiesIf, canonical_texts, 
 use super::URIReference;
 use std::alloc::{AllocError, Global};
 use uriparse_authority::authority::Authority;
-use uriparse_authority::parts as authority;
-use uriparse_authority::parts::CanonicalCopies;
-use uriparse_path::parts::{is_normal_path, normalize_path};
+use uriparse_authority::internal as authority;
+use uriparse_authority::internal::CanonicalCopies;
+use uriparse_path::internal::{is_normal_path, normalize_path};
 use uriparse_path::path::Path;
-use uriparse_scheme::parts as scheme;
+use uriparse_scheme::internal as scheme;
 use uriparse_scheme::scheme::Scheme;
 use uriparse_text::fragment::Fragment;
-use uriparse_text::parts::{canonical_copy, is_canonical_part, put_copy};
+use uriparse_text::internal::{canonical_copy, is_canonical_part, put_copy};
 use uriparse_text::query::Query;
 
 /// Whether the scheme, if present, is in canonical spelling.

@@ -10,7 +10,7 @@ ghost use Rattle.uriparse_reference.specs.Reference.{behind_slashes};
 
 use std::fmt;
 use uriparse_authority::authority::Authority;
-use uriparse_authority::parts::most_authority_bytes;
+use uriparse_authority::internal::most_authority_bytes;
 use uriparse_scheme::scheme::Scheme;
 
 /// The number of bytes of the scheme, 0 without one.

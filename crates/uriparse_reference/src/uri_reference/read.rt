@@ -20,13 +20,13 @@ ghost use Rattle.uriparse_reference.specs.Reference.{is_noscheme, path_of, path_
 use super::URIReference;
 use super::error::URIReferenceError;
 use std::alloc::Global;
-use uriparse_authority::parts::{FoundAuthority, find_authority};
-use uriparse_path::parts::{counted_path, into_absolute, split_path};
+use uriparse_authority::internal::{FoundAuthority, find_authority};
+use uriparse_path::internal::{counted_path, into_absolute, split_path};
 use uriparse_path::path::{Path, PathError};
-use uriparse_scheme::parts::{is_scheme, scheme_of};
+use uriparse_scheme::internal::{is_scheme, scheme_of};
 use uriparse_scheme::scheme::Scheme;
 use uriparse_text::fragment::FragmentKind;
-use uriparse_text::parts::{Found, find_text_before, find_text_if, no_text, split_at_mark};
+use uriparse_text::internal::{Found, find_text_before, find_text_if, no_text, split_at_mark};
 use uriparse_text::query::{QueryError, QueryKind};
 
 /// A `:` ends a scheme, and behind a `/`, `?` or `#` none ends.

@@ -9,10 +9,10 @@ ghost use Rattle.uriparse_reference.specs.Relate as spec;
 use super::URIReference;
 use std::alloc::{AllocError, Global};
 use uriparse_authority::authority::{Authority, Host};
-use uriparse_path::parts::{empty_path, has_dots, has_two_slashes, is_same_path, leading_path};
+use uriparse_path::internal::{empty_path, has_dots, has_two_slashes, is_same_path, leading_path};
 use uriparse_path::path::Path;
 use uriparse_scheme::scheme::Scheme;
-use uriparse_text::parts::{Kind, Text, borrowed_text};
+use uriparse_text::internal::{Text, TextKind, borrowed_text};
 use uriparse_text::query::Query;
 
 // ---- equality of components, in the same spelling
@@ -36,7 +36,7 @@ fn has_same_scheme(left: Option<&Scheme<'_>>, right: Option<&Scheme<'_>>) -> boo
 }
 
 /// Whether both are absent, or present and equal in the same spelling.
-fn has_same_text<K: Kind>(left: Option<&Text<'_, K>>, right: Option<&Text<'_, K>>) -> bool
+fn has_same_text<K: TextKind>(left: Option<&Text<'_, K>>, right: Option<&Text<'_, K>>) -> bool
     ensures { IsTrue result ↔ (option_copied left.entry ≡ option_copied right.entry) }
 {
     match (left, right) {

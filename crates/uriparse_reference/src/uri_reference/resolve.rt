@@ -15,10 +15,10 @@ use super::copy::{borrowed_authority, borrowed_scheme};
 use super::error::URIReferenceError;
 use std::alloc::Global;
 use uriparse_authority::authority::Authority;
-use uriparse_path::parts::{merged_path, remove_dots};
+use uriparse_path::internal::{merged_path, remove_dots};
 use uriparse_path::path::{Path, PathError};
 use uriparse_scheme::scheme::Scheme;
-use uriparse_text::parts::borrowed_text;
+use uriparse_text::internal::borrowed_text;
 use uriparse_text::query::Query;
 
 /// Whether the path's text is empty.

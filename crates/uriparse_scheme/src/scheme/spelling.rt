@@ -5,7 +5,7 @@ ghost use Rattle.uriparse_text.specs.Canonical.{canonical_lowered, fed_text};
 ghost use Rattle.uriparse_scheme.specs.Grammar.{is_scheme};
 
 use std::hash::Hasher;
-use uriparse_text::parts::{Case, feed_text};
+use uriparse_text::internal::{Case, feed_text};
 
 /// Whether two schemes differ only in the case of letters.
 pub(super) fn same_lowered(left: &[u8], right: &[u8]) -> bool

@@ -17,7 +17,7 @@ use std::borrow::CowStr;
 use std::hash::{Hash, Hasher};
 use std::marker::Model;
 use std::{fmt, str};
-use uriparse_text::parts::{Case, canonical_bytes, is_canonical};
+use uriparse_text::internal::{Case, canonical_bytes, is_canonical};
 
 /// A scheme that is not registered: a letter, followed by letters, digits, `+`, `-` and `.`, which
 /// in no case is the name of a registered scheme. RFC 3986, section 3.1.

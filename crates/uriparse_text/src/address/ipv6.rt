@@ -2,7 +2,7 @@
 ghost use Rattle.std.specs.Prelude.{◌≡◌, ℕ, List, [], ◌∷◌, Some, IfSome};
 ghost use Rattle.uriparse_text.specs.Address.{IsSegments, SpellsIpv6, ipv6_text, ipv6_reading};
 
-use crate::parts::write_short;
+use crate::internal::write_short;
 use std::marker::Model;
 use std::{fmt, net};
 

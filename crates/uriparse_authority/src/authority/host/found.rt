@@ -1,8 +1,8 @@
 //! A host that a reader found: plain words that need no drop.
 ghost use Rattle.std.specs.Prelude.{◌≡◌};
 ghost use Rattle.uriparse_authority.specs.declared.authority.host.Host.TheVariants as hosts;
-ghost use Rattle.uriparse_text.specs.declared.parts.class.Class.TheVariants as class;
-ghost use Rattle.uriparse_text.specs.declared.parts.canonical.Case.TheVariants as case;
+ghost use Rattle.uriparse_text.specs.declared.internal.class.Class.TheVariants as class;
+ghost use Rattle.uriparse_text.specs.declared.internal.canonical.Case.TheVariants as case;
 ghost use Rattle.uriparse_text.specs.Spelling.{IsKept};
 ghost use Rattle.uriparse_authority.specs.Future.{IsFuture};
 
@@ -27,7 +27,7 @@ pub(in crate::authority) struct FoundHost<'h> {
 
 impl<'h> Model for FoundHost<'h> {
     ghost use Rattle.std.specs.Prelude.{◌≡◌, ◌==◌, true};
-    ghost use Rattle.uriparse_text.specs.declared.parts.canonical.Case.TheVariants as case;
+    ghost use Rattle.uriparse_text.specs.declared.internal.canonical.Case.TheVariants as case;
     ghost use Rattle.uriparse_text.specs.Canonical.{canonical_in};
     ghost use Rattle.uriparse_authority.specs.declared.authority.host.Host.{Host};
     ghost use Rattle.uriparse_authority.specs.Found.{found_host};

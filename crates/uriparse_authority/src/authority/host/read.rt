@@ -10,7 +10,7 @@ use super::super::future::{begins_future, future_fault};
 use super::HostError;
 use super::found::{FoundHost, found_future, found_ipv4, found_ipv6, found_name};
 use uriparse_text::address::{Ipv4Addr, Ipv6Addr};
-use uriparse_text::parts::{Case, Class, check_bytes};
+use uriparse_text::internal::{Case, Class, check_bytes};
 
 /// The text before a closing bracket at its end, if there is one.
 fn before_closing(bytes: &[u8]) -> Option<&[u8]>

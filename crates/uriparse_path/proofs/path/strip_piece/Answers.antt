@@ -1,5 +1,5 @@
 use Rattle.std.proofs.Common.{sym, refl, ◌∙◌}
-use Rattle.uriparse_text.specs.declared.parts.class.Class.TheVariants.{Segment}
+use Rattle.uriparse_text.specs.declared.internal.class.Class.TheVariants.{Segment}
 use Rattle.uriparse_text.proofs.ClassLemmas.{well_formed-in_class}
 use Rattle.uriparse_path.specs.Dots.{IsRest}
 use Rattle.uriparse_path.proofs.AlikeLemmas.{is_rest-empty, is_rest-slash, own_piece}

@@ -4,4 +4,4 @@ use Rattle.uriparse.proofs.reference_of.ReferenceOf.read.Goals as goal
 
 pub returns-in-Ok-clause-answer : goal.returns-in-Ok-clause-answer
 returns-in-Ok-clause-answer g c =
-    inl (c.of.ensures ∙ sym (read_of g.K.Kind.has_scheme g.K.Kind.told g.K.Kind.other c.args.bytes.now c.in-Ok.reference c.in-Ok.ensures.found))
+    inl (c.of.ensures ∙ sym (read_of g.K.ReferenceKind.has_scheme g.K.ReferenceKind.told g.K.ReferenceKind.other c.args.bytes.now c.in-Ok.reference c.in-Ok.ensures.found))

@@ -1,6 +1,6 @@
 use Rattle.std.proofs.Common.{sym, ◌∙◌}
 use Rattle.std.proofs.lemmas.Bool.{false≢true}
-use Rattle.uriparse_text.specs.declared.parts.class.Class.TheVariants.{Segment}
+use Rattle.uriparse_text.specs.declared.internal.class.Class.TheVariants.{Segment}
 use Rattle.uriparse_text.proofs.ClassLemmas.{well_formed-in_class}
 use Rattle.uriparse_path.specs.Path.{text}
 use Rattle.uriparse_path.proofs.AlikeLemmas.{same_paths, other_fronts}

@@ -1,0 +1,173 @@
+//! Bytes written as components, and the bytes that components stand for.
+
+use std::alloc::Global;
+use std::fmt::Display;
+use std::str;
+use test_rows::answer::{Answer, printed, said, words};
+use uriparse_authority::authority::{Password, RegisteredName, Username};
+use uriparse_path::path::Segment;
+use uriparse_text::fragment::Fragment;
+use uriparse_text::internal::{Text, TextKind};
+use uriparse_text::query::Query;
+
+/// The bytes as a text, or where they are none as numbers.
+fn shown(alloc: Global, bytes: &[u8]) -> Answer {
+    match str::from_utf8(bytes) {
+        Ok(text) => said(alloc, text),
+        Err(_) => format!(in alloc; "{bytes:?}"),
+    }
+}
+
+/// The text, if it stands for these bytes again and is its own canonical spelling.
+fn checked(alloc: Global, text: &str, bytes: &[u8], given: &[u8], is_normal: bool) -> Answer {
+    if bytes == given && is_normal {
+        return said(alloc, text);
+    }
+    said(alloc, "other bytes")
+}
+
+fn segment(alloc: Global, given: &str) -> Answer {
+    let segment = Segment::encode(alloc, given.as_bytes())?;
+    let bytes = segment.decode(alloc)?;
+    checked(
+        alloc,
+        segment.as_str(),
+        &bytes,
+        given.as_bytes(),
+        segment.is_normalized(),
+    )
+}
+
+fn written<K: TextKind>(alloc: Global, text: &Text<'_, K>, given: &str) -> Answer {
+    let bytes = text.decode(alloc)?;
+    checked(
+        alloc,
+        text.as_str(),
+        &bytes,
+        given.as_bytes(),
+        text.is_normalized(),
+    )
+}
+
+fn segment_bytes(alloc: Global, text: &str) -> Answer {
+    match Segment::try_from_str(text) {
+        Ok(segment) => {
+            let bytes = segment.decode(alloc)?;
+            shown(alloc, &bytes)
+        }
+        Err(why) => printed(alloc, why),
+    }
+}
+
+fn name_bytes(alloc: Global, text: &str) -> Answer {
+    match RegisteredName::try_from_str(text) {
+        Ok(name) => {
+            let bytes = name.decode(alloc)?;
+            shown(alloc, &bytes)
+        }
+        Err(why) => printed(alloc, why),
+    }
+}
+
+/// The bytes of what was read, or the refusal.
+fn text_bytes<K: TextKind, E: Display + Drop>(
+    alloc: Global,
+    read: Result<Text<'_, K>, E>,
+) -> Answer {
+    match read {
+        Ok(text) => {
+            let bytes = text.decode(alloc)?;
+            shown(alloc, &bytes)
+        }
+        Err(why) => printed(alloc, why),
+    }
+}
+
+/// The answer to a question about these bytes or this text.
+pub fn answer(alloc: Global, asked: &str) -> Answer {
+    let (command, text, _) = words(asked);
+    match command {
+        "encode-segment" => segment(alloc, text),
+        "encode-query" => written(alloc, &Query::encode(alloc, text.as_bytes())?, text),
+        "encode-fragment" => written(alloc, &Fragment::encode(alloc, text.as_bytes())?, text),
+        "encode-username" => written(alloc, &Username::encode(alloc, text.as_bytes())?, text),
+        "encode-password" => written(alloc, &Password::encode(alloc, text.as_bytes())?, text),
+        "decode-segment" => segment_bytes(alloc, text),
+        "decode-name" => name_bytes(alloc, text),
+        "decode-query" => text_bytes(alloc, Query::try_from_str(text)),
+        "decode-fragment" => text_bytes(alloc, Fragment::try_from_str(text)),
+        "decode-username" => text_bytes(alloc, Username::try_from_str(text)),
+        "decode-password" => text_bytes(alloc, Password::try_from_str(text)),
+        _ => said(alloc, "no such command"),
+    }
+}
+
+pub const ROWS: &str = "\
+encode-segment '' -> ''
+encode-query '' -> ''
+encode-segment a/b -> a%2Fb
+encode-query a/b -> a/b
+encode-segment 'a b?#[]' -> a%20b%3F%23%5B%5D
+encode-query 'a b?#[]' -> a%20b?%23%5B%5D
+encode-segment .. -> ..
+encode-query .. -> ..
+encode-segment %41 -> %2541
+encode-query %41 -> %2541
+encode-segment é -> %C3%A9
+encode-query é -> %C3%A9
+encode-segment a:b@c -> a:b@c
+encode-query a:b@c -> a:b@c
+encode-segment k=v&w -> k=v&w
+encode-query k=v&w -> k=v&w
+encode-segment ~-._ -> ~-._
+encode-query ~-._ -> ~-._
+encode-segment 100% -> 100%25
+encode-query 100% -> 100%25
+encode-segment \"<>\\^`{|} -> %22%3C%3E%5C%5E%60%7B%7C%7D
+encode-query \"<>\\^`{|} -> %22%3C%3E%5C%5E%60%7B%7C%7D
+encode-fragment a/b?c -> a/b?c
+encode-fragment a:b@c -> a:b@c
+encode-fragment é% -> %C3%A9%25
+encode-username a/b?c -> a%2Fb%3Fc
+encode-username a:b@c -> a%3Ab%40c
+encode-username é% -> %C3%A9%25
+encode-password a/b?c -> a%2Fb%3Fc
+encode-password a:b@c -> a:b%40c
+encode-password é% -> %C3%A9%25
+decode-name '' -> ''
+decode-name H%C3%A9.Example -> Hé.Example
+decode-name %31.2.3.4 -> 1.2.3.4
+decode-name %ff%00 -> [255, 0]
+decode-name 1.2.3.4 -> invalid registered name
+decode-fragment '' -> ''
+decode-fragment %23/?%7e -> #/?~
+decode-fragment %ff%00 -> [255, 0]
+decode-fragment %4 -> invalid fragment percent encoding
+decode-username '' -> ''
+decode-username u%3Av%40 -> u:v@
+decode-username %ff%00 -> [255, 0]
+decode-username a:b -> username contains a colon character
+decode-password '' -> ''
+decode-password p:%40%2f -> p:@/
+decode-password %ff%00 -> [255, 0]
+decode-password a@ -> invalid password character
+decode-segment '' -> ''
+decode-query '' -> ''
+decode-segment a%2Fb -> a/b
+decode-query a%2Fb -> a/b
+decode-segment %7e%7E~ -> ~~~
+decode-query %7e%7E~ -> ~~~
+decode-segment %c3%a9 -> é
+decode-query %c3%a9 -> é
+decode-segment %C3%A9%2f -> é/
+decode-query %C3%A9%2f -> é/
+decode-segment %25%34%31 -> %41
+decode-query %25%34%31 -> %41
+decode-segment %41%4a -> AJ
+decode-query %41%4a -> AJ
+decode-segment a+b -> a+b
+decode-query a+b -> a+b
+decode-segment %ff%00 -> [255, 0]
+decode-query %ff%00 -> [255, 0]
+decode-segment %80a -> [128, 97]
+decode-query %80a -> [128, 97]";

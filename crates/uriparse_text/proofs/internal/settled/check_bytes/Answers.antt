@@ -1,0 +1,19 @@
+use Rattle.std.proofs.Common.{sym, true, arith}
+use Rattle.std.proofs.lemmas.Bool.{false≢true}
+use Rattle.uriparse_text.proofs.FaultLemmas.{no_fault}
+use Rattle.uriparse_text.proofs.FineLemmas.{fault_found, fault_absent}
+use Rattle.uriparse_text.proofs.SettledLemmas.{all_settled}
+use Rattle.uriparse_text.proofs.internal.settled.check_bytes.Goals as goal
+
+pub returns-then-len-text : goal.returns-then-len-text
+returns-then-len-text c =
+    let kept = all_settled c.args.class c.args.case c.args.text.now c.settled_len-len.result c.settled_len-len.ensures.place c.if-len-text.true in
+    ((no_fault c.args.class c.args.text.now).1 (kept true).inside, kept true)
+
+pub returns-then-place-text : goal.returns-then-place-text
+returns-then-place-text c = sym (fault_found c.args.class c.args.text.now c.fault_behind-place.result c.fault_behind-place.ensures c.if-place-text.true)
+
+pub returns : goal.returns
+returns c =
+    let none = sym (fault_absent c.args.class c.args.text.now c.fault_behind-place.result c.fault_behind-place.ensures (omega arith)) in
+    (none, record { inside = (no_fault c.args.class c.args.text.now).0 none; canonical = λ h. absurd (false≢true h) })

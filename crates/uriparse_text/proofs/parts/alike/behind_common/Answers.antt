@@ -1,9 +1,0 @@
-use Rattle.std.proofs.lemmas.List.{take_rest}
-use Rattle.uriparse_text.proofs.AlikeLemmas.{behind_common}
-use Rattle.uriparse_text.proofs.parts.alike.behind_common.Goals as goal
-
-pub returns-clause-same : goal.returns-clause-same
-returns-clause-same c case =
-    rw (take_rest c.args.left.now c.common_run-common.result, take_rest c.args.right.now c.common_run-common.result)
-    (behind_common case c.common_run-common.result c.args.left.now c.args.right.now c.common_run-common.ensures.common c.common_run-common.ensures.within.0
-    c.common_run-common.ensures.within.1)

@@ -1,5 +1,0 @@
-use Rattle.uriparse_text.proofs.BitLemmas.{bit_at_shr}
-use Rattle.uriparse_text.proofs.parts.bits.shifted_down.Goals as goal
-
-pub returns : goal.returns
-returns c k = bit_at_shr c.args.m c.args.by k

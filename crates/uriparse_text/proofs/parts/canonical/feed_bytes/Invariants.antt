@@ -1,5 +1,0 @@
-use Rattle.std.proofs.Common.{◌≡◌, fold, take}
-use Rattle.uriparse_text.proofs.parts.canonical.feed_bytes.Given as goal
-
-abbrev pub invariant-loop-block : goal.invariant-loop-block
-invariant-loop-block g l = l.state ≡ fold g.H.Hasher.write l.initial.state (take l.block-index l.blocks)

@@ -1,5 +1,0 @@
-use Rattle.uriparse_text.proofs.CodingLemmas.{decoded_alike}
-use Rattle.uriparse_text.proofs.parts.text.Text.decode.Goals as goal
-
-pub returns-clause-alike : goal.returns-clause-alike
-returns-clause-alike g c = λ other is same. decoded_alike g.K.Kind.class other c.args.self.now is c.as_bytes.ensures.class same

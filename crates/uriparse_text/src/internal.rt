@@ -1,0 +1,32 @@
+//! What the crates above build on. Users do not need it.
+
+mod alike;
+mod bits;
+mod canonical;
+mod class;
+mod coding;
+mod copy;
+mod cut;
+mod digit;
+mod found;
+mod print;
+mod run;
+mod scan;
+mod settled;
+mod spelling;
+mod text;
+mod token;
+
+pub use alike::same_spelling;
+pub use bits::{count_below, lowest, without, without_lowest};
+pub use canonical::{Case, canonical_bytes, feed_spelling, feed_text, is_canonical};
+pub use class::{Class, fault_of, is_unreserved};
+pub use coding::decoded_bytes;
+pub use copy::{borrowed_text, canonical_copy, is_canonical_part, owned_text, put_copy};
+pub use cut::{split_at_mark, without_mark};
+pub use found::{Found, find_text_before, find_text_if, no_text};
+pub use print::write_short;
+pub use scan::{ByteTest, Is, IsAny, Outside, first, next_marks, next_marks_by_two};
+pub use settled::{check_bytes, split_settled};
+pub use text::{Text, TextKind, checked_text, kept_text, len_of, normalized_text};
+pub use token::{Token, is_escape, split_token};

@@ -1,0 +1,117 @@
+//! What a reader found in a text, before a component is built of it: plain words that need no drop,
+//! so that a reader may still reject what follows.
+ghost use Rattle.std.specs.Prelude.{◌≡◌, MatchResult, None, Ok, Err, Some};
+ghost use Rattle.std.specs.Option.{option_copied};
+ghost use Rattle.uriparse_text.specs.Cuts.{after, before};
+ghost use Rattle.uriparse_text.specs.Faults.{EndsClass};
+ghost use Rattle.uriparse_text.specs.Readings.{if_present, reading_in};
+ghost use Rattle.uriparse_text.specs.Spelling.{IsKept};
+
+use super::settled::{check_bytes, fault_behind, settled_len};
+use super::text::{Text, TextKind, kept_text};
+use std::marker::{Model, PhantomData};
+
+/// The bytes of an optional text of this kind, known to be in its class. Seen as these bytes.
+#[derive(Drop)]
+pub struct Found<'t, K: TextKind> {
+    // 0 if there is no text, and 2 if it is canonical: a word, since a narrow tag would be moved
+    // with its padding.
+    present: usize,
+    bytes: &'t [u8],
+    kind: PhantomData<K>,
+}
+
+impl<'t, K: TextKind> Model for Found<'t, K> {
+    ghost use Rattle.std.specs.Prelude.{ℕ, ◌==◌, List, Option};
+    ghost use Rattle.uriparse_text.specs.Found.{if_there};
+    ghost use Rattle.uriparse_text.specs.Spelling.{IsKept};
+
+    ghost Value = { Option (List ℕ) };
+
+    ghost view = { λ f. if_there f.present f.bytes.now };
+
+    ghost invariant = { λ f. IsKept K.class K.case (f.present == 2) f.bytes.now };
+}
+
+/// A text with these bytes, canonical if so marked.
+#[inline(always)]
+fn found_text<K: TextKind>(bytes: &[u8], canonical: bool) -> Found<'_, K>
+    requires { IsKept K.class K.case canonical bytes.now }
+    ensures { result ≡ Some bytes.now }
+{
+    Found {
+        present: if canonical { 2 } else { 1 },
+        bytes,
+        kind: PhantomData,
+    }
+}
+
+/// There is no text.
+#[inline(always)]
+pub fn no_text<K: TextKind>() -> Found<'static, K>
+    ensures { result ≡ None }
+{
+    Found {
+        present: 0,
+        bytes: b"",
+        kind: PhantomData,
+    }
+}
+
+impl<'t, K: TextKind> Found<'t, K> {
+    /// The text, if there is one, borrowed from the bytes. Does not allocate.
+    #[inline(always)]
+    pub fn to_text(&self) -> Option<Text<'t, K>>
+        ensures { result ≡ self.now }
+    {
+        if self.present == 0 {
+            None
+        } else {
+            Some(kept_text(self.bytes, self.present == 2))
+        }
+    }
+}
+
+/// Finds a text of this kind, if there is one. Does not allocate.
+///
+/// Rejects the leftmost fault with the kind's error.
+#[inline]
+pub fn find_text_if<'t, K: TextKind>(text: Option<&'t [u8]>) -> Result<Found<'t, K>, K::Error>
+    ensures { result ≡ if_present (reading_in K.class K.error_of) (option_copied text.entry) }
+{
+    match text {
+        Some(bytes) => match check_bytes(K::class(), K::case(), bytes) {
+            Ok(canonical) => Ok(found_text(bytes, canonical)),
+            Err(byte) => Err(K::error_of(byte)),
+        },
+        None => Ok(no_text()),
+    }
+}
+
+/// Finds the text of this kind that ends at the first such delimiter, and returns what follows the
+/// delimiter, if it is present. No text of the kind contains the delimiter. Walks the bytes once,
+/// up to the delimiter or the leftmost fault before it. Does not allocate.
+///
+/// Rejects that fault with the kind's error; what follows the delimiter is not examined.
+#[inline]
+pub fn find_text_before<'t, K: TextKind>(
+    bytes: &'t [u8],
+    mark: u8,
+) -> Result<(Found<'t, K>, Option<&'t [u8]>), K::Error>
+    requires { EndsClass K.class mark }
+    ensures { MatchResult result (λ r. (if_present (reading_in K.class K.error_of) (Some (before mark bytes.now)) ≡ Ok r.0) × (option_copied r.1 ≡ after mark bytes.now)) (λ e. if_present (reading_in K.class K.error_of) (Some (before mark bytes.now)) ≡ Err e) }
+{
+    let class = K::class();
+    let case = K::case();
+    let settled = settled_len(class, case, bytes);
+    let place = fault_behind(class, case, bytes, settled);
+    if place == bytes.len() {
+        return Ok((found_text(bytes, place == settled), None));
+    }
+    let (front, rest) = bytes.split_at(place);
+    if bytes[place] == mark {
+        Ok((found_text(front, place == settled), Some(&rest[1..])))
+    } else {
+        Err(K::error_of(bytes[place]))
+    }
+}

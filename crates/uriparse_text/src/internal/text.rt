@@ -1,0 +1,319 @@
+//! A text whose tokens are in one class: what user names, segments, queries and the like share.
+ghost use Rattle.std.specs.Prelude.{◌≡◌, ◌↔◌, ℕ, List, [], IsTrue, IfOk, OnOk, OnErr, IsOk, Some, true, bytes_eq, length, string_bytes, unwrap_or};
+ghost use Rattle.std.proofs.Common.{rules};
+ghost use Rattle.std.specs.Ordering.{on};
+ghost use Rattle.std.specs.Cmp.Rules.{comparing, hashing};
+ghost use Rattle.uriparse_text.specs.declared.internal.class.Class.{Class};
+ghost use Rattle.uriparse_text.specs.declared.internal.canonical.Case.{Case};
+ghost use Rattle.uriparse_text.specs.Tokens.{is_well_formed};
+ghost use Rattle.uriparse_text.specs.Faults.{IsIn};
+ghost use Rattle.uriparse_text.specs.Canonical.{canonical_in, fed_text, SpellsAlike};
+ghost use Rattle.uriparse_text.specs.Spelling.{IsKept};
+ghost use Rattle.uriparse_text.specs.Readings.{reading_in};
+ghost use Rattle.uriparse_text.specs.Coding.{decoded, encoded};
+ghost use Rattle.uriparse_text.specs.declared.internal.canonical.Case.TheVariants.{Kept};
+
+use super::alike::same_spelling;
+use super::canonical::{Case, canonical_bytes, feed_known, feed_text, is_canonical};
+use super::class::Class;
+use super::coding::{decoded_bytes, encoded_bytes};
+use super::settled::check_bytes;
+use super::spelling::Spelling;
+use std::alloc::{AllocError, Global};
+use std::hash::{Hash, Hasher};
+use std::marker::{Model, PhantomData};
+use std::{fmt, mem, str};
+
+/// A kind of text: its name, its class, what its canonical spelling does to letters, and its
+/// errors.
+pub trait TextKind {
+    type Error;
+
+    ghost class: { Class };
+
+    ghost case: { Case };
+
+    // The error of a text whose leftmost fault is at this byte.
+    ghost error_of: { ℕ → Self.Error };
+
+    /// What `Debug` calls a text of this kind.
+    fn name() -> &'static str;
+
+    fn class() -> Class
+        ensures { result ≡ class };
+
+    fn case() -> Case
+        ensures { result ≡ case };
+
+    fn error_of(byte: u8) -> Self::Error
+        ensures { result ≡ error_of byte };
+}
+
+/// The text of bytes that are in a class.
+fn text_in(class: Class, bytes: &[u8]) -> &str
+    requires { IsIn class bytes.now }
+    ensures { result.now ≡ bytes.now }
+{
+    unsafe { str::from_utf8_unchecked(bytes) }
+}
+
+/// A text of one kind, whose tokens are all in the kind's class: a query, a fragment, a user name,
+/// a password, a segment or a registered name. RFC 3986, section 2.
+///
+/// It borrows the bytes that it was read from, which cannot end before it, or owns its text.
+/// Contracts see it as its bytes. Two texts of a kind are equal if their canonical spellings are,
+/// in which an escaped unreserved byte stands for itself and other escapes have upper-case digits
+/// (sections 6.2.2.1 and 6.2.2.2); equal texts feed a hasher the same bytes.
+#[derive(Drop)]
+pub struct Text<'t, K: TextKind> {
+    text: Spelling<'t>,
+    kind: PhantomData<K>,
+}
+
+impl<'t, K: TextKind> Model for Text<'t, K> {
+    ghost use Rattle.std.specs.Prelude.{ℕ, List};
+    ghost use Rattle.uriparse_text.specs.Spelling.{spelled, is_known, IsKept};
+
+    ghost Value = { List ℕ };
+
+    ghost view = { λ t. spelled t.text };
+
+    ghost invariant = { λ t. IsKept K.class K.case (is_known t.text) (spelled t.text) };
+}
+
+/// The text with these bytes, which are in the kind's class, and canonical if so marked. Borrows
+/// them and does not allocate.
+#[inline(always)]
+pub fn kept_text<K: TextKind>(bytes: &[u8], canonical: bool) -> Text<'_, K>
+    requires { IsKept K.class K.case canonical bytes.now }
+    ensures { result ≡ bytes.now }
+{
+    Text {
+        text: Spelling::borrowed(text_in(K::class(), bytes), canonical),
+        kind: PhantomData,
+    }
+}
+
+/// The text with these bytes, which are in the kind's class. Borrows them and does not allocate.
+pub fn checked_text<K: TextKind>(bytes: &[u8]) -> Text<'_, K>
+    requires { IsIn K.class bytes.now }
+    ensures { result ≡ bytes.now }
+{
+    kept_text(bytes, false)
+}
+
+/// The canonical spelling of this text, owned. Allocates.
+pub fn normalized_text<K: TextKind>(
+    alloc: Global,
+    text: &Text<'_, K>,
+) -> Result<Text<'static, K>, AllocError>
+    ensures { IfOk result (λ t. t ≡ canonical_in K.case text.now) }
+{
+    let bytes = canonical_bytes(alloc, K::case(), text.as_bytes())?;
+    Ok(Text {
+        text: Spelling::owned(unsafe { String::from_utf8_unchecked(bytes) }, true),
+        kind: PhantomData,
+    })
+}
+
+impl<'t, K: TextKind> Text<'t, K> {
+    /// Reads a text of this kind, which borrows the bytes. Does not allocate, and walks the bytes
+    /// once.
+    ///
+    /// Rejects the leftmost fault with the kind's error: a `%` that two hexadecimal digits don't
+    /// follow, or a byte that is not in the class.
+    pub fn try_from_bytes(bytes: &'t [u8]) -> Result<Text<'t, K>, K::Error>
+        ensures { result ≡ reading_in K.class K.error_of bytes.now }
+    {
+        match check_bytes(K::class(), K::case(), bytes) {
+            Ok(canonical) => Ok(kept_text(bytes, canonical)),
+            Err(byte) => Err(K::error_of(byte)),
+        }
+    }
+
+    /// The same for a `str`.
+    pub fn try_from_str(text: &'t str) -> Result<Text<'t, K>, K::Error>
+        ensures { result ≡ reading_in K.class K.error_of text.now }
+    {
+        Text::try_from_bytes(text.as_bytes())
+    }
+
+    /// The text.
+    pub fn as_str(&self) -> &str
+        ensures value { result.now ≡ self.now }
+        ensures class { IsIn K.class self.now }
+    {
+        self.text.as_str()
+    }
+
+    /// The text as bytes.
+    pub fn as_bytes(&self) -> &[u8]
+        ensures value { result.now ≡ self.now }
+        ensures class { IsIn K.class self.now }
+        ensures formed { is_well_formed self.now ≡ true }
+    {
+        self.as_str().as_bytes()
+    }
+
+    /// The same text, borrowed from this one.
+    pub fn as_borrowed(&self) -> Text<'_, K>
+        ensures { result ≡ self.now }
+    {
+        Text {
+            text: Spelling::borrowed(self.text.as_str(), self.text.is_known()),
+            kind: PhantomData,
+        }
+    }
+
+    /// The same text, owned. Borrowed bytes are copied, which allocates; if memory runs out, the
+    /// text is dropped.
+    pub fn into_owned(self, alloc: Global) -> Result<Text<'static, K>, AllocError>
+        ensures { IfOk result (λ t. t ≡ self.entry) }
+    {
+        Ok(Text {
+            text: self.text.into_owned(alloc)?,
+            kind: PhantomData,
+        })
+    }
+
+    /// A copy of the text. Allocates.
+    pub fn to_string(&self, alloc: Global) -> Result<String, AllocError>
+        ensures { IfOk result (λ s. string_bytes s ≡ self.now) }
+    {
+        String::from_str(alloc, self.as_str())
+    }
+
+    /// The bytes that the text stands for: the byte that its digits write for each escape, and each
+    /// other byte itself. Reserves capacity once.
+    ///
+    /// Equal texts stand for the same bytes, if letters keep their case; so do texts that aren't
+    /// equal, as `%2F` and `/` in a query.
+    pub fn decode(&self, alloc: Global) -> Result<Vec<u8>, AllocError>
+        ensures bytes { IfOk result (λ v. v.items ≡ decoded self.now) }
+        ensures alike { (other : List ℕ) → IsIn K.class other → canonical_in Kept other ≡ canonical_in Kept self.now → decoded other ≡ decoded self.now }
+    {
+        decoded_bytes(alloc, self.as_bytes())
+    }
+
+    /// The text of this kind that stands for these bytes: a byte of the class is itself, any other
+    /// an escape with upper-case digits, as `/` in a segment. The result is canonical, and
+    /// [`decode`](Text::decode) returns the bytes again. Reserves capacity once.
+    ///
+    /// The kind must keep the case of letters, so registered names are not encoded.
+    pub fn encode(alloc: Global, bytes: &[u8]) -> Result<Text<'static, K>, AllocError>
+        requires { K.case ≡ Kept }
+        ensures text { IfOk result (λ t. t ≡ encoded K.class bytes.now) }
+        ensures back { IfOk result (λ t. decoded t ≡ bytes.now) }
+        ensures canonical { IfOk result (λ t. canonical_in K.case t ≡ t) }
+    {
+        let text = encoded_bytes(alloc, K::class(), bytes)?;
+        Ok(Text {
+            text: Spelling::owned(unsafe { String::from_utf8_unchecked(text) }, true),
+            kind: PhantomData,
+        })
+    }
+
+    /// Whether the text is its own canonical spelling. Does not allocate.
+    #[inline]
+    pub fn is_normalized(&self) -> bool
+        ensures { IsTrue result ↔ (canonical_in K.case self.now ≡ self.now) }
+    {
+        self.text.is_known() || is_canonical(K::case(), self.as_bytes())
+    }
+
+    /// Records that the text is canonical.
+    fn set_canonical(&mut self)
+        requires { canonical_in K.case self.old ≡ self.old }
+        ensures { self.new ≡ self.old }
+    {
+        let text = mem::replace(&mut self.text, Spelling::Borrowed("", 0));
+        self.text = text.into_canonical();
+    }
+
+    /// Replaces the text by its canonical spelling. A second call changes nothing. Allocates only
+    /// if they differ, once; if memory runs out, the text is unchanged.
+    pub fn normalize(&mut self, alloc: Global) -> Result<(), AllocError>
+        ensures ok { OnOk result (self.new ≡ canonical_in K.case self.old) }
+        ensures err { OnErr result (self.new ≡ self.old) }
+        ensures takes_no_memory { canonical_in K.case self.old ≡ self.old → IsOk result }
+    {
+        if self.is_normalized() {
+            self.set_canonical();
+            return Ok(());
+        }
+        *self = normalized_text(alloc, self)?;
+        Ok(())
+    }
+
+    /// Whether the bytes are tokens whose canonical spelling is this text's. Bytes with a broken
+    /// escape equal no text. Does not allocate.
+    pub fn eq_bytes(&self, bytes: &[u8]) -> bool
+        ensures { IsTrue result ↔ SpellsAlike K.case bytes.now self.now }
+    {
+        same_spelling(K::case(), bytes, self.as_bytes())
+    }
+
+    /// The same for a `str`.
+    pub fn eq_str(&self, text: &str) -> bool
+        ensures { IsTrue result ↔ SpellsAlike K.case text.now self.now }
+    {
+        self.eq_bytes(text.as_bytes())
+    }
+}
+
+impl<'t, K: TextKind> PartialEq for Text<'t, K> {
+    ghost eq = { on (canonical_in K.case) bytes_eq };
+
+    ghost laws = { Prim.search (comparing, rules) };
+
+    fn eq(&self, other: &Text<'t, K>) -> bool {
+        if self.text.is_known() && other.text.is_known() {
+            return self.as_bytes() == other.as_bytes();
+        }
+        same_spelling(K::case(), self.as_bytes(), other.as_bytes())
+    }
+}
+
+impl<'t, K: TextKind> Eq for Text<'t, K> {
+    ghost laws = { Prim.search (comparing, rules) };
+}
+
+impl<'t, K: TextKind> Hash for Text<'t, K> {
+    ghost hash_input = { λ t. fed_text (canonical_in K.case t) };
+
+    ghost respects_eq = { Prim.search (hashing, rules) };
+
+    fn hash<H: Hasher>(&self, state: &mut H) {
+        if self.text.is_known() {
+            return feed_known(self.as_bytes(), state);
+        }
+        feed_text(K::case(), self.as_bytes(), state);
+    }
+}
+
+impl<'t, K: TextKind> fmt::Display for Text<'t, K> {
+    ghost output = { λ t. Some t };
+
+    // The formatter's options have no effect.
+    ghost styled_output = { λ t _. Some t };
+
+    fn fmt<W: fmt::Write>(&self, f: &mut fmt::Formatter<W>) -> fmt::Result {
+        f.write_str(self.as_str())
+    }
+}
+
+impl<'t, K: TextKind> fmt::Debug for Text<'t, K> {
+    fn fmt<W: fmt::Write>(&self, f: &mut fmt::Formatter<W>) -> fmt::Result {
+        f.debug_tuple(K::name()).field(&self.as_str()).finish()
+    }
+}
+
+/// The number of bytes of a text, or 0 if there is none.
+pub fn len_of<K: TextKind>(text: &Option<Text<'_, K>>) -> usize
+    ensures { result ≡ length (unwrap_or text.now []) }
+{
+    match text {
+        Some(text) => text.as_str().len(),
+        None => 0,
+    }
+}
