@@ -7,7 +7,7 @@ use Rattle.uriparse_text.specs.Readings.{◌>>=◌, IsUnless, fault_in, unless_f
 use Rattle.uriparse_reference.specs.declared.uri_reference.error.URIReferenceError.{URIReferenceError}
 use Rattle.uriparse_reference.specs.Reference.{Parts, Spells}
 use Rattle.uriparse_reference.specs.Reading.{reading}
-use Rattle.uriparse_reference.proofs.ReferenceLemmas.{again, found}
+use Rattle.uriparse_reference.proofs.lemmas.reading.ReadingLemmas.{again, found}
 use Rattle.uriparse.specs.Kinds.{IsOfKind, fault_of, of_kind, reading_of, told_of}
 
 -- a reference of the kind is taken

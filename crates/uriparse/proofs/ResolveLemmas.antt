@@ -8,7 +8,7 @@ use Rattle.uriparse_reference.specs.declared.uri_reference.error.URIReferenceErr
 use Rattle.uriparse_reference.specs.Reference.{Parts, Valid}
 use Rattle.uriparse_reference.specs.Normal.{normal}
 use Rattle.uriparse_reference.specs.Target.{MergesAlike, is_merged, target}
-use Rattle.uriparse_reference.proofs.CommutationLemmas.{commutes}
+use Rattle.uriparse_reference.proofs.lemmas.resolving.CommutationLemmas.{commutes}
 use Rattle.uriparse.specs.declared.uri.error.URIError.{URIError}
 use Rattle.uriparse.specs.declared.uri.error.URIError.TheVariants as errors
 use Rattle.uriparse.specs.Uri.{told}

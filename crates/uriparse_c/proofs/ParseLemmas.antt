@@ -7,8 +7,8 @@ use Rattle.uriparse_reference.specs.declared.uri_reference.error.URIReferenceErr
 use Rattle.uriparse_reference.specs.Reference.{Parts, Spells}
 use Rattle.uriparse_reference.specs.Reading.{reading, fault}
 use Rattle.uriparse_reference.specs.Cuts.{scheme_text, authority_text, path_text, query_text, fragment_text}
-use Rattle.uriparse_reference.proofs.CutLemmas.{IsCutInto, cut_again}
-use Rattle.uriparse_reference.proofs.ReferenceLemmas.{again, found, spelled_pieces}
+use Rattle.uriparse_reference.proofs.lemmas.reading.CutLemmas.{IsCutInto, cut_again}
+use Rattle.uriparse_reference.proofs.lemmas.reading.ReadingLemmas.{again, found, spelled_pieces}
 use Rattle.uriparse_c.specs.Places.{ArePlaces}
 use Rattle.uriparse_c.specs.declared.places.UriParts.{UriParts}
 

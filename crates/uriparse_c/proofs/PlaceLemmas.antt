@@ -4,12 +4,12 @@ use Rattle.std.specs.Prelude.{unwrap_or}
 use Rattle.std.proofs.lemmas.List.{length-append}
 use Rattle.uriparse_text.specs.Bytes.{colon, at_sign, question_mark, number_sign}
 use Rattle.uriparse_text.specs.Cuts.{ahead, behind, before, after}
-use Rattle.uriparse_text.proofs.CutLemmas.{before_after, front_rest}
+use Rattle.uriparse_text.proofs.lemmas.readings.CutLemmas.{before_after, front_rest}
 use Rattle.uriparse_authority.specs.Authority.{cut_host, cut_port, userinfo_text, host_and_port_text}
-use Rattle.uriparse_authority.proofs.AuthorityLemmas.{right_is}
+use Rattle.uriparse_authority.proofs.lemmas.authorities.AuthorityLemmas.{right_is}
 use Rattle.uriparse_reference.specs.Reference.{behind_slashes}
 use Rattle.uriparse_reference.specs.Cuts.{scheme_text, authority_text, path_text, query_text, fragment_text, after_scheme}
-use Rattle.uriparse_reference.proofs.ReferenceLemmas.{scheme_whole, whole_is}
+use Rattle.uriparse_reference.proofs.lemmas.reading.ReadingLemmas.{scheme_whole, whole_is}
 use Rattle.uriparse_c.specs.Spans.{span}
 use Rattle.uriparse_c.specs.declared.span.UriSpan.{UriSpan}
 

@@ -6,7 +6,7 @@ use Rattle.uriparse_text.specs.Readings.{IsUnless}
 use Rattle.uriparse_path.specs.declared.path.error.PathError.TheVariants as paths
 use Rattle.uriparse_reference.specs.Reference.{Parts, Spells, print}
 use Rattle.uriparse_reference.specs.Target.{target}
-use Rattle.uriparse_reference.proofs.ReferenceLemmas.{again, one_reading}
+use Rattle.uriparse_reference.proofs.lemmas.reading.ReadingLemmas.{again, one_reading}
 use Rattle.uriparse.specs.declared.uri.error.URIError.{URIError}
 use Rattle.uriparse.specs.declared.uri.error.URIError.TheVariants as uris
 use Rattle.uriparse.specs.Kinds.{fault_of}

@@ -12,8 +12,8 @@ use Rattle.uriparse_text.specs.Bytes.{percent}
 use Rattle.uriparse_text.specs.Tokens.{is_well_formed}
 use Rattle.uriparse_text.specs.Canonical.{canonical_lowered}
 use Rattle.uriparse_text.specs.Cuts.{lacks}
-use Rattle.uriparse_text.proofs.CutLemmas.{weaker}
-use Rattle.uriparse_text.proofs.PlainLemmas.{well_formed-plain, canonical_lowered-plain, same_plain}
+use Rattle.uriparse_text.proofs.lemmas.readings.CutLemmas.{weaker}
+use Rattle.uriparse_text.proofs.lemmas.tokens.UnescapedLemmas.{well_formed-plain, canonical_lowered-plain, same_plain}
 use Rattle.uriparse_scheme.specs.Grammar.{is_scheme_byte, is_scheme}
 
 byte_is_ascii : (b : ℕ) → is_scheme_byte b ≡ true → b < 128

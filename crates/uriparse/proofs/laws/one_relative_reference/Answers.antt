@@ -1,5 +1,5 @@
 use Rattle.std.proofs.Common.{ap}
-use Rattle.uriparse_reference.proofs.EditLemmas.{own_parts}
+use Rattle.uriparse_reference.proofs.lemmas.edits.EditLemmas.{own_parts}
 use Rattle.uriparse.specs.Kinds.{told_of}
 use Rattle.uriparse.specs.RelativeReference.{told}
 use Rattle.uriparse.proofs.laws.one_relative_reference.Goals as goal

@@ -1,6 +1,6 @@
 use Rattle.std.proofs.Common.{true, ap, ◌∙◌}
 use Rattle.uriparse_text.specs.Readings.{◌>>=◌}
-use Rattle.uriparse_reference.proofs.EditLemmas.{own_parts}
+use Rattle.uriparse_reference.proofs.lemmas.edits.EditLemmas.{own_parts}
 use Rattle.uriparse.specs.declared.uri.error.URIError.TheVariants as errors
 use Rattle.uriparse.specs.Kinds.{told_of, of_kind}
 use Rattle.uriparse.specs.Uri.{told, told_built}

@@ -1,7 +1,7 @@
-use Rattle.uriparse_authority.proofs.HostLemmas.{brackets_exactly}
-use Rattle.uriparse_authority.proofs.PortLemmas.{other_exactly, passes_exactly}
-use Rattle.uriparse_authority.proofs.AuthorityLemmas.{rest_answers}
-use Rattle.uriparse_authority.proofs.PieceLemmas.{front_answers}
+use Rattle.uriparse_authority.proofs.lemmas.hosts.HostLemmas.{brackets_exactly}
+use Rattle.uriparse_authority.proofs.lemmas.authorities.PortLemmas.{other_exactly, passes_exactly}
+use Rattle.uriparse_authority.proofs.lemmas.authorities.AuthorityLemmas.{rest_answers}
+use Rattle.uriparse_authority.proofs.lemmas.authorities.PieceLemmas.{front_answers}
 use Rattle.uriparse_authority.proofs.laws.first_fault.Goals as goal
 
 pub returns : goal.returns

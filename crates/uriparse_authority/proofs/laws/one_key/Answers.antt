@@ -1,5 +1,5 @@
-use Rattle.uriparse_authority.proofs.HostLemmas.{same_host, fed_host}
-use Rattle.uriparse_authority.proofs.AuthorityLemmas.{same_key, fed_parts}
+use Rattle.uriparse_authority.proofs.lemmas.hosts.HostLemmas.{same_host, fed_host}
+use Rattle.uriparse_authority.proofs.lemmas.authorities.AuthorityLemmas.{same_key, fed_parts}
 use Rattle.uriparse_authority.proofs.laws.one_key.Goals as goal
 
 pub returns : goal.returns

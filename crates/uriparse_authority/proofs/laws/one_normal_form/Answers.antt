@@ -1,5 +1,5 @@
-use Rattle.uriparse_authority.proofs.NormalLemmas.{host_text-canonical, host_kind-canonical, host_valid_canonical, host_twice, print-canonical, kind-canonical}
-use Rattle.uriparse_authority.proofs.NormalLemmas.{valid_canonical, canonical_twice, canonical_kept}
+use Rattle.uriparse_authority.proofs.lemmas.authorities.NormalLemmas.{host_text-canonical, host_kind-canonical, host_valid_canonical, host_twice, print-canonical, kind-canonical}
+use Rattle.uriparse_authority.proofs.lemmas.authorities.NormalLemmas.{valid_canonical, canonical_twice, canonical_kept}
 use Rattle.uriparse_authority.proofs.laws.one_normal_form.Goals as goal
 
 pub returns : goal.returns

@@ -1,8 +1,8 @@
 use Rattle.std.proofs.Common.{Ok, sym, ap, ◌∙◌}
-use Rattle.uriparse_authority.proofs.FutureLemmas.{future_again, future_found}
-use Rattle.uriparse_authority.proofs.HostLemmas.{host_exact, names_exactly}
-use Rattle.uriparse_authority.proofs.PortLemmas.{port_exact}
-use Rattle.uriparse_authority.proofs.AuthorityLemmas.{exact, whole_exact, one_reading, none_exactly, valid}
+use Rattle.uriparse_authority.proofs.lemmas.hosts.FutureLemmas.{future_again, future_found}
+use Rattle.uriparse_authority.proofs.lemmas.hosts.HostLemmas.{host_exact, names_exactly}
+use Rattle.uriparse_authority.proofs.lemmas.authorities.PortLemmas.{port_exact}
+use Rattle.uriparse_authority.proofs.lemmas.authorities.AuthorityLemmas.{exact, whole_exact, one_reading, none_exactly, valid}
 use Rattle.uriparse_authority.proofs.laws.one_reading.Goals as goal
 
 pub returns : goal.returns

@@ -1,7 +1,7 @@
-use Rattle.uriparse_authority.proofs.HostLemmas.{host_back, spelled_back}
-use Rattle.uriparse_authority.proofs.PortLemmas.{port_printed}
-use Rattle.uriparse_authority.proofs.AuthorityLemmas.{back}
-use Rattle.uriparse_authority.proofs.PrintedLemmas.{spelled_reads_back, plain_back, hosts_apart, printed_apart}
+use Rattle.uriparse_authority.proofs.lemmas.hosts.HostLemmas.{host_back, spelled_back}
+use Rattle.uriparse_authority.proofs.lemmas.authorities.PortLemmas.{port_printed}
+use Rattle.uriparse_authority.proofs.lemmas.authorities.AuthorityLemmas.{back}
+use Rattle.uriparse_authority.proofs.lemmas.authorities.PrintedLemmas.{spelled_reads_back, plain_back, hosts_apart, printed_apart}
 use Rattle.uriparse_authority.proofs.laws.reading_back.Goals as goal
 
 pub returns : goal.returns

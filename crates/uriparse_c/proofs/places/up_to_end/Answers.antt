@@ -1,4 +1,4 @@
-use Rattle.uriparse_text.proofs.CutLemmas.{take_place}
+use Rattle.uriparse_text.proofs.lemmas.readings.CutLemmas.{take_place}
 use Rattle.uriparse_authority.specs.Authority.{ends_authority}
 use Rattle.uriparse_c.proofs.places.up_to_end.Goals as goal
 

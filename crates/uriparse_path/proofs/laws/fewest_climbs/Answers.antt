@@ -1,4 +1,4 @@
-use Rattle.uriparse_path.proofs.RelateLemmas.{leads_there, fewest}
+use Rattle.uriparse_path.proofs.lemmas.merge.LeadingPathLemmas.{leads_there, fewest}
 use Rattle.uriparse_path.proofs.laws.fewest_climbs.Goals as goal
 
 pub returns-clause-leads : goal.returns-clause-leads

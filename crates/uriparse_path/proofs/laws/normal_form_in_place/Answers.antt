@@ -1,4 +1,4 @@
-use Rattle.uriparse_path.proofs.NormalLemmas.{pnormal_spelled, pnormal_absolute, pnormal_rooted, pnormal_rootless, pnormal_colon}
+use Rattle.uriparse_path.proofs.lemmas.normal.NormalFormLemmas.{pnormal_spelled, pnormal_absolute, pnormal_rooted, pnormal_rootless, pnormal_colon}
 use Rattle.uriparse_path.proofs.laws.normal_form_in_place.Goals as goal
 
 pub returns : goal.returns

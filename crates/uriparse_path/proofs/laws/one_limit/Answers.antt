@@ -1,4 +1,4 @@
-use Rattle.uriparse_path.proofs.ReadLemmas.{limit_is}
+use Rattle.uriparse_path.proofs.lemmas.reading.ReadingLemmas.{limit_is}
 use Rattle.uriparse_path.proofs.laws.one_limit.Goals as goal
 
 pub returns : goal.returns

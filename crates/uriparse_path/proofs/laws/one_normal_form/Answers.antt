@@ -1,4 +1,4 @@
-use Rattle.uriparse_path.proofs.NormalLemmas.{listed_pnormal, length_pnormal, pnormal_twice, normal_iff, normal_kept}
+use Rattle.uriparse_path.proofs.lemmas.normal.NormalFormLemmas.{listed_pnormal, length_pnormal, pnormal_twice, normal_iff, normal_kept}
 use Rattle.uriparse_path.proofs.laws.one_normal_form.Goals as goal
 
 pub returns : goal.returns

@@ -1,5 +1,5 @@
-use Rattle.uriparse_path.proofs.ReduceLemmas.{leads_iff, relnormal_iff}
-use Rattle.uriparse_path.proofs.RelativeLemmas.{irreducible_iff}
+use Rattle.uriparse_path.proofs.lemmas.normal.DeletionLemmas.{leads_iff, relnormal_iff}
+use Rattle.uriparse_path.proofs.lemmas.normal.RelativeFormLemmas.{irreducible_iff}
 use Rattle.uriparse_path.proofs.laws.one_relative_normal_form.Goals as goal
 
 pub returns : goal.returns

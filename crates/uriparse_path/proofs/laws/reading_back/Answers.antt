@@ -1,4 +1,4 @@
-use Rattle.uriparse_path.proofs.TextLemmas.{text-spelled, spelled-text, listed-respelled}
+use Rattle.uriparse_path.proofs.lemmas.text.PathTextLemmas.{text-spelled, spelled-text, listed-respelled}
 use Rattle.uriparse_path.proofs.laws.reading_back.Goals as goal
 
 pub returns : goal.returns

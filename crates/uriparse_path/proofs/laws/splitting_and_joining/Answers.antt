@@ -1,5 +1,5 @@
-use Rattle.uriparse_path.proofs.SplitLemmas.{joined-pieces}
-use Rattle.uriparse_path.proofs.TextLemmas.{pieces-segments}
+use Rattle.uriparse_path.proofs.lemmas.text.SplitLemmas.{joined-pieces}
+use Rattle.uriparse_path.proofs.lemmas.text.PathTextLemmas.{pieces-segments}
 use Rattle.uriparse_path.proofs.laws.splitting_and_joining.Goals as goal
 
 pub returns : goal.returns

@@ -1,4 +1,4 @@
-use Rattle.uriparse_path.proofs.NormalLemmas.{listed_without_dots, no_dots_left, length_without_dots}
+use Rattle.uriparse_path.proofs.lemmas.normal.NormalFormLemmas.{listed_without_dots, no_dots_left, length_without_dots}
 use Rattle.uriparse_path.proofs.laws.without_dot_segments.Goals as goal
 
 pub returns : goal.returns

@@ -2,7 +2,7 @@ use Rattle.std.proofs.Common.{sym, ap, subst, ◌∙◌, ◌+◌, length, refl}
 use Rattle.std.specs.Prelude.{◌==◌}
 use Rattle.std.proofs.lemmas.Bool.{false≢true, eqb-true}
 use Rattle.std.proofs.lemmas.List.{nil_from_length}
-use Rattle.uriparse_path.proofs.AlikeLemmas.{IsAlikeFrom, alike_more, other_piece, no_root, alike_ends}
+use Rattle.uriparse_path.proofs.lemmas.text.SpelledAlikeLemmas.{IsAlikeFrom, alike_more, other_piece, no_root, alike_ends}
 use Rattle.uriparse_path.proofs.path.spells_behind_slashes.Goals as goal
 
 pub returns-then-not-rooted : goal.returns-then-not-rooted

@@ -1,4 +1,4 @@
-use Rattle.uriparse_path.proofs.AlikeLemmas.{IsAlikeFrom}
+use Rattle.uriparse_path.proofs.lemmas.text.SpelledAlikeLemmas.{IsAlikeFrom}
 use Rattle.uriparse_path.proofs.path.spells_behind_slashes.Given as goal
 
 abbrev pub invariant-loop-segment : goal.invariant-loop-segment

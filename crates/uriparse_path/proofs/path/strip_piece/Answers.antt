@@ -1,8 +1,8 @@
 use Rattle.std.proofs.Common.{sym, refl, ◌∙◌}
 use Rattle.uriparse_text.specs.declared.internal.class.Class.TheVariants.{Segment}
-use Rattle.uriparse_text.proofs.ClassLemmas.{well_formed-in_class}
+use Rattle.uriparse_text.proofs.lemmas.classes.ClassLemmas.{well_formed-in_class}
 use Rattle.uriparse_path.specs.Dots.{IsRest}
-use Rattle.uriparse_path.proofs.AlikeLemmas.{is_rest-empty, is_rest-slash, own_piece}
+use Rattle.uriparse_path.proofs.lemmas.text.SpelledAlikeLemmas.{is_rest-empty, is_rest-slash, own_piece}
 use Rattle.uriparse_path.proofs.path.strip_piece.Goals as goal
 use Rattle.uriparse_path.proofs.path.strip_piece.Goals.{then-is_empty-via-then-is_empty, then-is_empty-via-else-is_empty+then-rest-eq47}
 

@@ -1,4 +1,4 @@
-use Rattle.uriparse_reference.proofs.AlikeLemmas.{same_targets, same_normal, one_normal}
+use Rattle.uriparse_reference.proofs.lemmas.resolving.EqualTargetLemmas.{same_targets, same_normal, one_normal}
 use Rattle.uriparse_reference.proofs.laws.equal_in_equal_out.Goals as goal
 
 pub returns : goal.returns

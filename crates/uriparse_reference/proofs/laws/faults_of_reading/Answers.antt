@@ -1,4 +1,4 @@
-use Rattle.uriparse_reference.proofs.SourceLemmas.{never_missing, never_scheme, never_slashes, never_want}
+use Rattle.uriparse_reference.proofs.lemmas.reading.FaultSourceLemmas.{never_missing, never_scheme, never_slashes, never_want}
 use Rattle.uriparse_reference.proofs.laws.faults_of_reading.Goals as goal
 
 pub returns : goal.returns

@@ -1,4 +1,4 @@
-use Rattle.uriparse_reference.proofs.EditLemmas.{own_parts}
+use Rattle.uriparse_reference.proofs.lemmas.edits.EditLemmas.{own_parts}
 use Rattle.uriparse_reference.proofs.laws.one_build.Goals as goal
 
 pub returns : goal.returns

@@ -1,5 +1,5 @@
-use Rattle.uriparse_reference.proofs.ReferenceLemmas.{whole_is}
-use Rattle.uriparse_reference.proofs.PieceLemmas.{scheme_is, authority_lacks, path_lacks_question_mark, path_lacks_number_sign, query_lacks_number_sign}
+use Rattle.uriparse_reference.proofs.lemmas.reading.ReadingLemmas.{whole_is}
+use Rattle.uriparse_reference.proofs.lemmas.reading.ComponentByteLemmas.{scheme_is, authority_lacks, path_lacks_question_mark, path_lacks_number_sign, query_lacks_number_sign}
 use Rattle.uriparse_reference.proofs.laws.one_cut.Goals as goal
 
 pub returns : goal.returns

@@ -1,5 +1,5 @@
-use Rattle.uriparse_reference.proofs.EditLemmas.{own_parts}
-use Rattle.uriparse_reference.proofs.RunLemmas.{edited_parts}
+use Rattle.uriparse_reference.proofs.lemmas.edits.EditLemmas.{own_parts}
+use Rattle.uriparse_reference.proofs.lemmas.edits.EditListLemmas.{edited_parts}
 use Rattle.uriparse_reference.proofs.laws.one_edit.Goals as goal
 
 pub returns : goal.returns

@@ -1,5 +1,5 @@
-use Rattle.uriparse_reference.proofs.SameLemmas.{same_key}
-use Rattle.uriparse_reference.proofs.FedLemmas.{fed_parts}
+use Rattle.uriparse_reference.proofs.lemmas.equality.EqualityLemmas.{same_key}
+use Rattle.uriparse_reference.proofs.lemmas.equality.HashLemmas.{fed_parts}
 use Rattle.uriparse_reference.proofs.laws.one_key.Goals as goal
 
 pub returns : goal.returns

@@ -1,5 +1,5 @@
 use Rattle.std.proofs.Common.{refl}
-use Rattle.uriparse_reference.proofs.TargetLemmas.{merge_text, merge_path}
+use Rattle.uriparse_reference.proofs.lemmas.resolving.ValidTargetLemmas.{merge_text, merge_path}
 use Rattle.uriparse_reference.proofs.laws.one_merge.Goals as goal
 
 pub returns : goal.returns

@@ -1,5 +1,5 @@
-use Rattle.uriparse_reference.proofs.NormalFormLemmas.{normal_valid, normal_twice, normal_no_longer, normal_kind}
-use Rattle.uriparse_reference.proofs.NormalLemmas.{normal_exactly, kept_whole}
+use Rattle.uriparse_reference.proofs.lemmas.normalizing.NormalFormLemmas.{normal_valid, normal_twice, normal_no_longer, normal_kind}
+use Rattle.uriparse_reference.proofs.lemmas.normalizing.NormalizingLemmas.{normal_exactly, kept_whole}
 use Rattle.uriparse_reference.proofs.laws.one_normal_form.Goals as goal
 
 pub returns : goal.returns

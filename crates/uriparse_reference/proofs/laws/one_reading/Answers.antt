@@ -1,5 +1,5 @@
-use Rattle.uriparse_reference.proofs.ReferenceLemmas.{one_reading, again, found, none_exactly}
-use Rattle.uriparse_reference.proofs.ValidLemmas.{valid}
+use Rattle.uriparse_reference.proofs.lemmas.reading.ReadingLemmas.{one_reading, again, found, none_exactly}
+use Rattle.uriparse_reference.proofs.lemmas.reading.SpellingLemmas.{valid}
 use Rattle.uriparse_reference.proofs.laws.one_reading.Goals as goal
 
 pub returns : goal.returns

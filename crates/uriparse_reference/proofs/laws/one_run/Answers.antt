@@ -1,4 +1,4 @@
-use Rattle.uriparse_reference.proofs.RunLemmas.{one_run}
+use Rattle.uriparse_reference.proofs.lemmas.edits.EditListLemmas.{one_run}
 use Rattle.uriparse_reference.proofs.laws.one_run.Goals as goal
 
 pub returns : goal.returns

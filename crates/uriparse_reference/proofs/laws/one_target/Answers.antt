@@ -1,5 +1,5 @@
-use Rattle.uriparse_reference.proofs.MergedLemmas.{directory_none}
-use Rattle.uriparse_reference.proofs.TargetLemmas.{target_valid, target_alone, target_none, directory_last}
+use Rattle.uriparse_reference.proofs.lemmas.resolving.MergedPathLemmas.{directory_none}
+use Rattle.uriparse_reference.proofs.lemmas.resolving.ValidTargetLemmas.{target_valid, target_alone, target_none, directory_last}
 use Rattle.uriparse_reference.proofs.laws.one_target.Goals as goal
 
 pub returns : goal.returns

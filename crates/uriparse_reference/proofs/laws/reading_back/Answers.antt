@@ -1,5 +1,5 @@
-use Rattle.uriparse_reference.proofs.ValidLemmas.{back}
-use Rattle.uriparse_reference.proofs.PrintedLemmas.{spelled_reads_back, plain_back, printed_apart}
+use Rattle.uriparse_reference.proofs.lemmas.reading.SpellingLemmas.{back}
+use Rattle.uriparse_reference.proofs.lemmas.reading.PrintedLemmas.{spelled_reads_back, plain_back, printed_apart}
 use Rattle.uriparse_reference.proofs.laws.reading_back.Goals as goal
 
 pub returns : goal.returns

@@ -1,4 +1,4 @@
-use Rattle.uriparse_text.proofs.AddressLemmas.{ipv4_reading-exact, ipv6_reading-exact}
+use Rattle.uriparse_text.proofs.lemmas.addresses.ReadingLemmas.{ipv4_reading-exact, ipv6_reading-exact}
 use Rattle.uriparse_text.proofs.laws.exact_address_readings.Goals as goal
 
 pub returns : goal.returns

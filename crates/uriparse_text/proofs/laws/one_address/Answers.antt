@@ -1,4 +1,4 @@
-use Rattle.uriparse_text.proofs.AddressLemmas.{SpellsIpv4-unique, SpellsIpv6-unique, SpellsIpv4-not_ipv6}
+use Rattle.uriparse_text.proofs.lemmas.addresses.ReadingLemmas.{SpellsIpv4-unique, SpellsIpv6-unique, SpellsIpv4-not_ipv6}
 use Rattle.uriparse_text.proofs.laws.one_address.Goals as goal
 
 pub returns : goal.returns

@@ -1,4 +1,4 @@
-use Rattle.uriparse_text.proofs.MeaningLemmas.{in_class, none_iff, leftmost}
+use Rattle.uriparse_text.proofs.lemmas.classes.GrammarLemmas.{in_class, none_iff, leftmost}
 use Rattle.uriparse_text.proofs.laws.one_leftmost_fault.Goals as goal
 
 pub returns : goal.returns

@@ -1,4 +1,4 @@
-use Rattle.uriparse_text.proofs.TokenLemmas.{well_formed_iff, one_concatenation}
+use Rattle.uriparse_text.proofs.lemmas.tokens.TokenLemmas.{well_formed_iff, one_concatenation}
 use Rattle.uriparse_text.proofs.laws.one_list_of_tokens.Goals as goal
 
 pub returns : goal.returns

@@ -1,4 +1,4 @@
-use Rattle.uriparse_text.proofs.FeedLemmas.{fed_blocks}
+use Rattle.uriparse_text.proofs.lemmas.canonical.HashLemmas.{fed_blocks}
 use Rattle.uriparse_text.proofs.laws.one_list_of_writes.Goals as goal
 
 pub returns : goal.returns

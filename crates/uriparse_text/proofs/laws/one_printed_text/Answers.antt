@@ -1,4 +1,4 @@
-use Rattle.uriparse_text.proofs.AddressLemmas.{ipv4_text-injective, ipv6_text-injective, ipv4_text-not_ipv6_text}
+use Rattle.uriparse_text.proofs.lemmas.addresses.ReadingLemmas.{ipv4_text-injective, ipv6_text-injective, ipv4_text-not_ipv6_text}
 use Rattle.uriparse_text.proofs.laws.one_printed_text.Goals as goal
 
 pub returns : goal.returns

@@ -1,6 +1,6 @@
-use Rattle.uriparse_text.proofs.OctetLemmas.{IsOctets-SpellsIpv4, printed_alone}
-use Rattle.uriparse_text.proofs.AddressLemmas.{SpellsIpv4-ipv4_text, SpellsIpv6-ipv6_text}
-use Rattle.uriparse_text.proofs.AddressPrintedLemmas.{IsPrintedIpv6-ipv6_text}
+use Rattle.uriparse_text.proofs.lemmas.addresses.Ipv4Lemmas.{IsOctets-SpellsIpv4, printed_alone}
+use Rattle.uriparse_text.proofs.lemmas.addresses.ReadingLemmas.{SpellsIpv4-ipv4_text, SpellsIpv6-ipv6_text}
+use Rattle.uriparse_text.proofs.lemmas.addresses.PrintedLemmas.{IsPrintedIpv6-ipv6_text}
 use Rattle.uriparse_text.proofs.laws.printed_spells.Goals as goal
 
 pub returns : goal.returns

@@ -1,4 +1,4 @@
-use Rattle.uriparse_text.proofs.AddressByteLemmas.{SpellsIpv4-bytes, SpellsIpv6-bytes, lacks-SpellsIpv4, lacks-SpellsIpv6, IsIn-SpellsIpv4}
+use Rattle.uriparse_text.proofs.lemmas.addresses.ByteLemmas.{SpellsIpv4-bytes, SpellsIpv6-bytes, lacks-SpellsIpv4, lacks-SpellsIpv6, IsIn-SpellsIpv4}
 use Rattle.uriparse_text.proofs.laws.spelled_bytes.Goals as goal
 
 pub returns : goal.returns

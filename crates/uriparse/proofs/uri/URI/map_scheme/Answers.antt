@@ -1,8 +1,8 @@
 use Rattle.std.proofs.Common.{◌≡◌, Some, sym, ap, ◌∙◌}
 use Rattle.uriparse_reference.specs.declared.uri_reference.edit.Edit.TheVariants as edits
 use Rattle.uriparse_reference.specs.Edits.{of_parts}
-use Rattle.uriparse_reference.proofs.EditLemmas.{build}
-use Rattle.uriparse_reference.proofs.RunLemmas.{edited_parts}
+use Rattle.uriparse_reference.proofs.lemmas.edits.EditLemmas.{build}
+use Rattle.uriparse_reference.proofs.lemmas.edits.EditListLemmas.{edited_parts}
 use Rattle.uriparse.specs.Kinds.{told_of}
 use Rattle.uriparse.specs.Uri.{told}
 use Rattle.uriparse.proofs.uri.URI.map_scheme.Goals as goal

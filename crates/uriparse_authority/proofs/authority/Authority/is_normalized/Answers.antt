@@ -3,7 +3,7 @@ use Rattle.std.proofs.lemmas.Bool.{false≢true}
 use Rattle.uriparse_authority.specs.Host.{text}
 use Rattle.uriparse_authority.specs.Authority.{print}
 use Rattle.uriparse_authority.specs.Normal.{canonical_authority}
-use Rattle.uriparse_authority.proofs.NormalLemmas.{canonical_of_parts, canonical_part, kept_inside}
+use Rattle.uriparse_authority.proofs.lemmas.authorities.NormalLemmas.{canonical_of_parts, canonical_part, kept_inside}
 use Rattle.uriparse_authority.proofs.authority.Authority.is_normalized.Goals as goal
 use Rattle.uriparse_authority.proofs.authority.Authority.is_normalized.Goals.{then-is_canonical_part, else-is_canonical_part}
 

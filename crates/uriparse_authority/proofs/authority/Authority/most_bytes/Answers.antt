@@ -1,7 +1,7 @@
 use Rattle.std.proofs.Common.{ℕ, ◌+◌, ◌≤◌, length, inl, subst, arith}
-use Rattle.uriparse_text.proofs.SumLemmas.{most_more, most_of}
+use Rattle.uriparse_text.proofs.lemmas.readings.SaturatingLemmas.{most_more, most_of}
 use Rattle.uriparse_authority.specs.Authority.{print}
-use Rattle.uriparse_authority.proofs.LengthLemmas.{length-print}
+use Rattle.uriparse_authority.proofs.lemmas.authorities.LengthLemmas.{length-print}
 use Rattle.uriparse_authority.proofs.authority.Authority.most_bytes.Goals as goal
 
 pub returns : goal.returns

@@ -1,6 +1,6 @@
 use Rattle.std.proofs.Common.{◌≡◌, subst, fold}
 use Rattle.uriparse_authority.specs.Authority.{key, fed, fed_key}
-use Rattle.uriparse_authority.proofs.AuthorityLemmas.{fed_by_turns, feeds_key}
+use Rattle.uriparse_authority.proofs.lemmas.authorities.AuthorityLemmas.{fed_by_turns, feeds_key}
 use Rattle.uriparse_authority.proofs.authority.AuthorityHash.hash.Goals as goal
 
 pub returns-clause-fed : goal.returns-clause-fed

@@ -1,5 +1,5 @@
 use Rattle.std.proofs.Common.{◌∙◌}
-use Rattle.uriparse_authority.proofs.AuthorityLemmas.{tested}
+use Rattle.uriparse_authority.proofs.lemmas.authorities.AuthorityLemmas.{tested}
 use Rattle.uriparse_authority.proofs.authority.AuthorityPartialEq.eq.Goals as goal
 
 pub returns : goal.returns

@@ -1,6 +1,6 @@
 use Rattle.std.proofs.Common.{ap}
 use Rattle.uriparse_authority.specs.Host.{text}
-use Rattle.uriparse_authority.proofs.NormalLemmas.{kept_inside}
+use Rattle.uriparse_authority.proofs.lemmas.authorities.NormalLemmas.{kept_inside}
 use Rattle.uriparse_authority.proofs.authority.normal.canonical_copies.Goals as goal
 
 pub returns-in_err-canonical_copy-clause-takes_no_memory : goal.returns-in_err-canonical_copy-clause-takes_no_memory

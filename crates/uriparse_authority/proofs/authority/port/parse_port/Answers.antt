@@ -3,7 +3,7 @@ use Rattle.std.specs.Str.Parse.{digits_value_after}
 use Rattle.uriparse_text.specs.Readings.{unless_fault}
 use Rattle.uriparse_authority.specs.Port.{fault, value_of}
 use Rattle.uriparse_authority.specs.declared.authority.error.PortError.TheVariants.{InvalidCharacter, Overflow}
-use Rattle.uriparse_authority.proofs.PortLemmas.{reads_digit, meets_other, fault_after, fault_after-nil, fault_after-large, value_of-some}
+use Rattle.uriparse_authority.proofs.lemmas.authorities.PortLemmas.{reads_digit, meets_other, fault_after, fault_after-nil, fault_after-large, value_of-some}
 use Rattle.uriparse_authority.proofs.authority.port.parse_port.Goals as goal
 
 pub returns-then-not-is_ascii_digit : goal.returns-then-not-is_ascii_digit

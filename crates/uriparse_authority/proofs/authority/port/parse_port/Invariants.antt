@@ -1,7 +1,7 @@
 use Rattle.std.proofs.Common.{◌≡◌, ◌≤◌, drop}
 use Rattle.std.specs.Str.Parse.{digits_value, digits_value_after}
 use Rattle.uriparse_authority.specs.Port.{largest, fault}
-use Rattle.uriparse_authority.proofs.PortLemmas.{fault_after}
+use Rattle.uriparse_authority.proofs.lemmas.authorities.PortLemmas.{fault_after}
 use Rattle.uriparse_authority.proofs.authority.port.parse_port.Given as goal
 
 abbrev pub invariant-loop-b : goal.invariant-loop-b

@@ -1,7 +1,7 @@
 use Rattle.std.proofs.Common.{rules, ◌≡◌, Err, Ok, unwrap_or, [], sym, ap, ◌∙◌}
 use Rattle.uriparse_authority.specs.Authority.{cut_host, port_text, userinfo_text}
 use Rattle.uriparse_authority.specs.Port as port
-use Rattle.uriparse_authority.proofs.AuthorityLemmas.{accepted, both_read, paired, refused_host, refused_port, refused_userinfo}
+use Rattle.uriparse_authority.proofs.lemmas.authorities.AuthorityLemmas.{accepted, both_read, paired, refused_host, refused_port, refused_userinfo}
 use Rattle.uriparse_authority.proofs.authority.read.find_any_authority.Goals as goal
 
 pub returns-in_err-username : goal.returns-in_err-username

@@ -1,7 +1,7 @@
 use Rattle.std.proofs.Common.{sym, ap, ◌∙◌}
 use Rattle.uriparse_authority.specs.Authority.{ends_authority, reading}
 use Rattle.uriparse_text.specs.Cuts.{up_to, from_first}
-use Rattle.uriparse_authority.proofs.AuthorityLemmas.{cut_there, found}
+use Rattle.uriparse_authority.proofs.lemmas.authorities.AuthorityLemmas.{cut_there, found}
 use Rattle.uriparse_authority.proofs.authority.read.find_authority.Goals as goal
 
 pub returns-then-ends_before : goal.returns-then-ends_before

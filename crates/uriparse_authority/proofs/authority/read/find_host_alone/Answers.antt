@@ -1,4 +1,4 @@
-use Rattle.uriparse_authority.proofs.AuthorityLemmas.{host_alone}
+use Rattle.uriparse_authority.proofs.lemmas.authorities.AuthorityLemmas.{host_alone}
 use Rattle.uriparse_authority.proofs.authority.read.find_host_alone.Goals as goal
 
 pub returns : goal.returns

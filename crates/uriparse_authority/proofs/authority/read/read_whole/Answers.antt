@@ -1,7 +1,7 @@
 use Rattle.std.proofs.Common.{Ok, refl, sym, ap, ◌∙◌}
 use Rattle.uriparse_text.specs.Cuts.{up_to}
 use Rattle.uriparse_authority.specs.Authority.{ends_authority}
-use Rattle.uriparse_authority.proofs.AuthorityLemmas.{rest_told}
+use Rattle.uriparse_authority.proofs.lemmas.authorities.AuthorityLemmas.{rest_told}
 use Rattle.uriparse_authority.proofs.authority.read.read_whole.Goals as goal
 
 pub returns : goal.returns

@@ -1,6 +1,6 @@
 use Rattle.std.proofs.Common.{◌≡◌, None, length, sym, rules}
 use Rattle.uriparse_authority.specs.Authority.{cut_port}
-use Rattle.uriparse_authority.proofs.CutLemmas.{port_at_colon, host_at_colon, no_port_at_bracket, no_port_at_start, whole_host, behind_front}
+use Rattle.uriparse_authority.proofs.lemmas.authorities.CutLemmas.{port_at_colon, host_at_colon, no_port_at_bracket, no_port_at_start, whole_host, behind_front}
 use Rattle.uriparse_authority.proofs.authority.read.split_port.Goals as goal
 use Rattle.uriparse_authority.proofs.authority.read.split_port.Goals.{in-Some+else-last-eq58+then-last-eq93, in_default}
 

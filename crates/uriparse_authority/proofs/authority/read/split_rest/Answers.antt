@@ -1,4 +1,4 @@
-use Rattle.uriparse_text.proofs.CutLemmas.{place_or_length, take_place, drop_place}
+use Rattle.uriparse_text.proofs.lemmas.readings.CutLemmas.{place_or_length, take_place, drop_place}
 use Rattle.uriparse_authority.specs.Authority.{ends_authority}
 use Rattle.uriparse_authority.proofs.authority.read.split_rest.Goals as goal
 

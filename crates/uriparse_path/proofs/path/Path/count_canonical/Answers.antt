@@ -1,5 +1,5 @@
 use Rattle.std.proofs.Common.{◌≤◌, length, sym, subst}
-use Rattle.uriparse_path.proofs.TallyLemmas.{fits}
+use Rattle.uriparse_path.proofs.lemmas.list.SegmentCountLemmas.{fits}
 use Rattle.uriparse_path.proofs.path.Path.count_canonical.Goals as goal
 
 pub of-self-inside-requires-clause-short : goal.of-self-inside-requires-clause-short

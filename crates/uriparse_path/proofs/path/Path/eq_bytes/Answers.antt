@@ -1,7 +1,7 @@
 use Rattle.std.proofs.Common.{refl}
 use Rattle.std.proofs.lemmas.Bool.{false≢true}
 use Rattle.uriparse_path.specs.Path.{text}
-use Rattle.uriparse_path.proofs.AlikeLemmas.{alike_front}
+use Rattle.uriparse_path.proofs.lemmas.text.SpelledAlikeLemmas.{alike_front}
 use Rattle.uriparse_path.proofs.path.Path.eq_bytes.Goals as goal
 
 pub returns-in-Some : goal.returns-in-Some

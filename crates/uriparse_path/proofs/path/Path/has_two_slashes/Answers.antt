@@ -1,6 +1,6 @@
 use Rattle.std.proofs.Common.{◌&&◌, ◌||◌, drop, ap, ◌∙◌}
 use Rattle.uriparse_path.specs.Path.{hides_root}
-use Rattle.uriparse_path.proofs.PlaceLemmas.{two_slashes-text}
+use Rattle.uriparse_path.proofs.lemmas.text.BeginningLemmas.{two_slashes-text}
 use Rattle.uriparse_path.proofs.path.Path.has_two_slashes.Goals as goal
 
 pub returns-clause-answer : goal.returns-clause-answer

@@ -1,8 +1,8 @@
 use Rattle.std.proofs.Common.{◌≡◌, ◌↔◌, true}
 use Rattle.uriparse_path.specs.Path.{text}
 use Rattle.uriparse_path.specs.Normal.{pnormal}
-use Rattle.uriparse_path.proofs.NormalLemmas.{normal_iff, normal_kept}
-use Rattle.uriparse_path.proofs.PassLemmas.{tested}
+use Rattle.uriparse_path.proofs.lemmas.normal.NormalFormLemmas.{normal_iff, normal_kept}
+use Rattle.uriparse_path.proofs.lemmas.dots.ReplayInPlaceLemmas.{tested}
 use Rattle.uriparse_path.proofs.path.Path.is_normalized.Goals as goal
 
 pub returns-clause-text : goal.returns-clause-text

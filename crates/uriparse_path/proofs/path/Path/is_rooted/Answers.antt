@@ -1,6 +1,6 @@
 use Rattle.std.proofs.Common.{◌||◌, sym, ap, ◌∙◌}
 use Rattle.uriparse_path.specs.Path.{hides_root}
-use Rattle.uriparse_path.proofs.NormalLemmas.{rooted-text}
+use Rattle.uriparse_path.proofs.lemmas.normal.NormalFormLemmas.{rooted-text}
 use Rattle.uriparse_path.proofs.path.Path.is_rooted.Goals as goal
 
 pub returns-else-is_absolute : goal.returns-else-is_absolute

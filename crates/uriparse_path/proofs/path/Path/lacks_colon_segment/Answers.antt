@@ -1,6 +1,6 @@
 use Rattle.std.proofs.Common.{◌||◌, not, sym, ap, ◌∙◌}
 use Rattle.uriparse_path.specs.Relative.{is_first, has_colon}
-use Rattle.uriparse_path.proofs.PlaceLemmas.{colon-text}
+use Rattle.uriparse_path.proofs.lemmas.text.BeginningLemmas.{colon-text}
 use Rattle.uriparse_path.proofs.path.Path.lacks_colon_segment.Goals as goal
 
 pub returns-else-is_rooted : goal.returns-else-is_rooted

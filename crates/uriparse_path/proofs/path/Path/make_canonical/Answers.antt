@@ -1,7 +1,7 @@
 use Rattle.std.proofs.Common.{◌≡◌, true, sym, ap, ◌∙◌}
 use Rattle.std.specs.List.{list_all}
 use Rattle.uriparse_path.specs.Normal.{is_canonical}
-use Rattle.uriparse_path.proofs.RelativeLemmas.{all_canonical_same, all_canonical-canonical}
+use Rattle.uriparse_path.proofs.lemmas.normal.RelativeFormLemmas.{all_canonical_same, all_canonical-canonical}
 use Rattle.uriparse_path.proofs.path.Path.make_canonical.Goals as goal
 
 pub returns-then-is_known_canonical-clause-ok : goal.returns-then-is_known_canonical-clause-ok

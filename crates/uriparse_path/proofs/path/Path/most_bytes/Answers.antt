@@ -1,9 +1,9 @@
 use Rattle.std.proofs.Common.{◌≡◌, ◌⊎◌, ◌≤◌, ℕ, ◌∷◌, List, length, take_all, subst, sym}
 use Rattle.std.specs.List.{flat_map}
 use Rattle.uriparse_text.specs.Bytes.{slash}
-use Rattle.uriparse_text.proofs.SumLemmas.{most_of}
+use Rattle.uriparse_text.proofs.lemmas.readings.SaturatingLemmas.{most_of}
 use Rattle.uriparse_path.specs.Path.{PathParts, flag, text}
-use Rattle.uriparse_path.proofs.TextLemmas.{length-text}
+use Rattle.uriparse_path.proofs.lemmas.text.PathTextLemmas.{length-text}
 use Rattle.uriparse_path.proofs.path.Path.most_bytes.Goals as goal
 
 pub returns : goal.returns

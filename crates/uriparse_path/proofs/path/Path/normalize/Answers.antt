@@ -2,8 +2,8 @@ use Rattle.std.proofs.Common.{ap}
 use Rattle.std.specs.List.{list_all}
 use Rattle.std.proofs.lemmas.Bool.{and_parts}
 use Rattle.uriparse_path.specs.Normal.{is_canonical}
-use Rattle.uriparse_path.proofs.CanonicalLemmas.{each_is_canonical}
-use Rattle.uriparse_path.proofs.NormalLemmas.{normal_iff}
+use Rattle.uriparse_path.proofs.lemmas.text.CanonicalTextLemmas.{each_is_canonical}
+use Rattle.uriparse_path.proofs.lemmas.normal.NormalFormLemmas.{normal_iff}
 use Rattle.uriparse_path.proofs.path.Path.normalize.Goals as goal
 
 pub returns-clause-takes_no_memory : goal.returns-clause-takes_no_memory

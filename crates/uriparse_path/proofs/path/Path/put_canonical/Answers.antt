@@ -3,8 +3,8 @@ use Rattle.std.specs.List.{list_all}
 use Rattle.uriparse_path.specs.Path.{flag}
 use Rattle.uriparse_path.specs.Segment.{is_segment}
 use Rattle.uriparse_path.specs.Counts.{IsKept, counts}
-use Rattle.uriparse_path.proofs.CanonicalLemmas.{counted-canonical}
-use Rattle.uriparse_path.proofs.TallyLemmas.{kept_by, counted_kept}
+use Rattle.uriparse_path.proofs.lemmas.text.CanonicalTextLemmas.{counted-canonical}
+use Rattle.uriparse_path.proofs.lemmas.list.SegmentCountLemmas.{kept_by, counted_kept}
 use Rattle.uriparse_path.proofs.path.Path.put_canonical.Goals as goal
 
 pub invariant_of-self : goal.invariant_of-self

@@ -6,11 +6,11 @@ use Rattle.std.specs.List.{list_all}
 use Rattle.uriparse_path.specs.Dots.{without_dots, has_dot_segment}
 use Rattle.uriparse_path.specs.Relative.{ended, reduced}
 use Rattle.uriparse_path.specs.Normal.{canonical_path, stays_relative, is_canonical, climbs_first, is_guarded}
-use Rattle.uriparse_path.proofs.CanonicalLemmas.{canonical-text, is_rooted-canonical, listed-canonical}
-use Rattle.uriparse_path.proofs.RelativeLemmas.{all_canonical-canonical, each_reduced, hides-canonical}
-use Rattle.uriparse_path.proofs.NormalLemmas.{pnormal_relative, rooted-text}
-use Rattle.uriparse_path.proofs.CommuteLemmas.{shaped-canonical, pnormal_without_dots}
-use Rattle.uriparse_path.proofs.ShieldLemmas.{shielded, relative_stays, normal_shielded}
+use Rattle.uriparse_path.proofs.lemmas.text.CanonicalTextLemmas.{canonical-text, is_rooted-canonical, listed-canonical}
+use Rattle.uriparse_path.proofs.lemmas.normal.RelativeFormLemmas.{all_canonical-canonical, each_reduced, hides-canonical}
+use Rattle.uriparse_path.proofs.lemmas.normal.NormalFormLemmas.{pnormal_relative, rooted-text}
+use Rattle.uriparse_path.proofs.lemmas.normal.SpellingCommutesLemmas.{shaped-canonical, pnormal_without_dots}
+use Rattle.uriparse_path.proofs.lemmas.normal.ShieldLemmas.{shielded, relative_stays, normal_shielded}
 use Rattle.uriparse_path.proofs.path.Path.put_normal.Goals as goal
 
 -- a path that stays relative begins with no slash, nor does its canonical form

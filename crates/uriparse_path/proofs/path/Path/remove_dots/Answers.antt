@@ -1,5 +1,5 @@
 use Rattle.std.proofs.Common.{sym, ◌∙◌}
-use Rattle.uriparse_path.proofs.ShieldLemmas.{kept_shielded}
+use Rattle.uriparse_path.proofs.lemmas.normal.ShieldLemmas.{kept_shielded}
 use Rattle.uriparse_path.proofs.path.Path.remove_dots.Goals as goal
 
 pub returns-else-has_dots : goal.returns-else-has_dots

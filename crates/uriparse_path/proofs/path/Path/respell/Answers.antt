@@ -1,6 +1,6 @@
 use Rattle.std.proofs.Common.{◌≡◌, true, false, drop, sym, ap, ◌∙◌}
 use Rattle.uriparse_path.specs.Path.{hides_root}
-use Rattle.uriparse_path.proofs.TextLemmas.{spelled-text, respelled_shown, respelled_absolute, respelled_hidden}
+use Rattle.uriparse_path.proofs.lemmas.text.PathTextLemmas.{spelled-text, respelled_shown, respelled_absolute, respelled_hidden}
 use Rattle.uriparse_path.proofs.path.Path.respell.Goals as goal
 
 pub returns-then-not-hides_root : goal.returns-then-not-hides_root

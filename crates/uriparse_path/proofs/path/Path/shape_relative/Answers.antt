@@ -3,9 +3,9 @@ use Rattle.std.specs.List.{list_all}
 use Rattle.uriparse_path.specs.Path.{IsCounted, hides_root}
 use Rattle.uriparse_path.specs.Normal.{is_canonical}
 use Rattle.uriparse_path.specs.Counts.{counts}
-use Rattle.uriparse_path.proofs.RelativeLemmas.{shaped}
-use Rattle.uriparse_path.proofs.LengthLemmas.{counted_shaped}
-use Rattle.uriparse_path.proofs.TallyLemmas.{fits, kept_by, counted_kept, canonical_shaped}
+use Rattle.uriparse_path.proofs.lemmas.normal.RelativeFormLemmas.{shaped}
+use Rattle.uriparse_path.proofs.lemmas.normal.RelativeLengthLemmas.{counted_shaped}
+use Rattle.uriparse_path.proofs.lemmas.list.SegmentCountLemmas.{fits, kept_by, counted_kept, canonical_shaped}
 use Rattle.uriparse_path.proofs.path.Path.shape_relative.Goals as goal
 
 pub of-self-inside-requires-clause-short : goal.of-self-inside-requires-clause-short

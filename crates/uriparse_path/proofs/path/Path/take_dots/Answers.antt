@@ -4,8 +4,8 @@ use Rattle.std.specs.List.{list_all}
 use Rattle.uriparse_path.specs.Normal.{is_canonical}
 use Rattle.uriparse_path.specs.Counts.{IsKept, counts}
 use Rattle.uriparse_path.specs.Dots.{has_dot_segment, without_dots}
-use Rattle.uriparse_path.proofs.ShieldLemmas.{Pass, shielded, twice, room_left, counted_left, counts_left, passed}
-use Rattle.uriparse_path.proofs.TallyLemmas.{kept_by}
+use Rattle.uriparse_path.proofs.lemmas.normal.ShieldLemmas.{Pass, shielded, twice, room_left, counted_left, counts_left, passed}
+use Rattle.uriparse_path.proofs.lemmas.list.SegmentCountLemmas.{kept_by}
 use Rattle.uriparse_path.proofs.path.Path.take_dots.Goals.{After-needs_shield-shielded}
 use Rattle.uriparse_path.proofs.path.Path.take_dots.Goals as goal
 

@@ -5,8 +5,8 @@ use Rattle.uriparse_text.specs.Bytes.{percent}
 use Rattle.uriparse_text.specs.Cuts.{lacks}
 use Rattle.uriparse_path.specs.Path.{unrooted}
 use Rattle.uriparse_path.specs.Faults.{measured}
-use Rattle.uriparse_path.proofs.PlainLemmas.{rooted_lacks}
-use Rattle.uriparse_path.proofs.ReadLemmas.{counted_all, counted_len, refused, not_refused, accepted, listed}
+use Rattle.uriparse_path.proofs.lemmas.reading.NoEscapeLemmas.{rooted_lacks}
+use Rattle.uriparse_path.proofs.lemmas.reading.ReadingLemmas.{counted_all, counted_len, refused, not_refused, accepted, listed}
 use Rattle.uriparse_path.proofs.path.Path.try_from_bytes.Goals as goal
 
 pub returns-in_err-count-clause-answer : goal.returns-in_err-count-clause-answer

@@ -1,6 +1,6 @@
 use Rattle.std.proofs.Common.{sym}
 use Rattle.uriparse_path.specs.Path.{text}
-use Rattle.uriparse_path.proofs.FeedLemmas.{feeds_path}
+use Rattle.uriparse_path.proofs.lemmas.text.HashLemmas.{feeds_path}
 use Rattle.uriparse_path.proofs.path.PathHash.hash.Goals as goal
 
 pub returns : goal.returns

@@ -1,9 +1,9 @@
 use Rattle.std.proofs.Common.{sym, ◌∙◌}
 use Rattle.std.proofs.lemmas.Bool.{false≢true}
 use Rattle.uriparse_text.specs.declared.internal.class.Class.TheVariants.{Segment}
-use Rattle.uriparse_text.proofs.ClassLemmas.{well_formed-in_class}
+use Rattle.uriparse_text.proofs.lemmas.classes.ClassLemmas.{well_formed-in_class}
 use Rattle.uriparse_path.specs.Path.{text}
-use Rattle.uriparse_path.proofs.AlikeLemmas.{same_paths, other_fronts}
+use Rattle.uriparse_path.proofs.lemmas.text.SpelledAlikeLemmas.{same_paths, other_fronts}
 use Rattle.uriparse_path.proofs.path.PathPartialEq.eq.Goals as goal
 
 pub same_spelling-requires : goal.same_spelling-requires

@@ -1,6 +1,6 @@
 use Rattle.std.proofs.Common.{◌≡◌, arith, sym, ap, ◌∙◌, take, ◌||◌}
 use Rattle.uriparse_path.specs.Dots as spec
-use Rattle.uriparse_path.proofs.PassLemmas.{same_read, is_one-take, double_skipped, double_rooted, double_last, other_replayed, other_rooted}
+use Rattle.uriparse_path.proofs.lemmas.dots.ReplayInPlaceLemmas.{same_read, is_one-take, double_skipped, double_rooted, double_last, other_replayed, other_rooted}
 use Rattle.uriparse_path.proofs.path.dots.replay_segment.Goals.{then-rooted, else-rooted}
 use Rattle.uriparse_path.proofs.path.dots.replay_segment.Goals as goal
 

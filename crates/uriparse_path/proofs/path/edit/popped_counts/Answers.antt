@@ -1,6 +1,6 @@
 use Rattle.std.proofs.Common.{◌∙◌}
 use Rattle.uriparse_path.specs.Dots.{all_but_last}
-use Rattle.uriparse_path.proofs.TallyLemmas.{counts_filled}
+use Rattle.uriparse_path.proofs.lemmas.list.SegmentCountLemmas.{counts_filled}
 use Rattle.uriparse_path.proofs.path.edit.popped_counts.Goals as goal
 
 pub returns-then-known : goal.returns-then-known

@@ -1,5 +1,5 @@
 use Rattle.std.proofs.Common.{◌∙◌, arith}
-use Rattle.uriparse_path.proofs.EditLemmas.{popped_several}
+use Rattle.uriparse_path.proofs.lemmas.list.EditLemmas.{popped_several}
 use Rattle.uriparse_path.proofs.path.edit.take_last.Goals as goal
 
 pub returns : goal.returns

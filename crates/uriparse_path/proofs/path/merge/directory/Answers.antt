@@ -1,5 +1,5 @@
 use Rattle.std.proofs.Common.{◌-◌, length, arith}
-use Rattle.uriparse_path.proofs.EditLemmas.{all_but_last-take}
+use Rattle.uriparse_path.proofs.lemmas.list.EditLemmas.{all_but_last-take}
 use Rattle.uriparse_path.proofs.path.merge.directory.Goals as goal
 
 pub returns : goal.returns

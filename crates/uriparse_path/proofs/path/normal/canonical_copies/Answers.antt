@@ -1,7 +1,7 @@
 use Rattle.std.proofs.Common.{◌+◌, ◌++◌, ◌∷◌, [], sym, ap, ◌∙◌, map, filter, drop}
 use Rattle.std.proofs.lemmas.Bool.{false≢true}
 use Rattle.uriparse_text.specs.Canonical.{canonical}
-use Rattle.uriparse_path.proofs.CopyLemmas.{strays, copied_kept, copied_more, no_strays}
+use Rattle.uriparse_path.proofs.lemmas.normal.CanonicalCopyLemmas.{strays, copied_kept, copied_more, no_strays}
 use Rattle.uriparse_path.proofs.path.normal.canonical_copies.Goals.{then-not-is_normalized+in_ok-to_normalized+in_ok-push, else-not-is_normalized}
 use Rattle.uriparse_path.proofs.path.normal.canonical_copies.Goals as goal
 

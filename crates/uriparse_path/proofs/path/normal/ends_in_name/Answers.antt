@@ -1,7 +1,7 @@
 use Rattle.std.proofs.Common.{not, sym, ap, ◌∙◌}
 use Rattle.uriparse_path.specs.Dots.{is_dot_segment}
 use Rattle.uriparse_path.specs.Relative.{is_last}
-use Rattle.uriparse_path.proofs.LengthLemmas.{last_push}
+use Rattle.uriparse_path.proofs.lemmas.normal.RelativeLengthLemmas.{last_push}
 use Rattle.uriparse_path.proofs.path.normal.ends_in_name.Goals as goal
 
 pub returns-in-Some : goal.returns-in-Some

@@ -3,7 +3,7 @@ use Rattle.uriparse_text.specs.Bytes.{dot}
 use Rattle.uriparse_path.specs.Path.{hides_root}
 use Rattle.uriparse_path.specs.Dots.{is_dot_segment}
 use Rattle.uriparse_path.specs.Relative.{is_last, is_first, has_colon, closed, needs_guard, filled, ended, reduced}
-use Rattle.uriparse_path.proofs.LengthLemmas.{length_closed_end, length_shaped}
+use Rattle.uriparse_path.proofs.lemmas.normal.RelativeLengthLemmas.{length_closed_end, length_shaped}
 use Rattle.uriparse_path.proofs.path.normal.make_relative.Goals.{After-reduce-left, After-needs_guard-guarded}
 use Rattle.uriparse_path.proofs.path.normal.make_relative.Goals as goal
 

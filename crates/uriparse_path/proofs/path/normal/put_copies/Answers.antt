@@ -2,7 +2,7 @@ use Rattle.std.proofs.Common.{◌-◌, ◌∷◌, [], arith, sym, ap, ◌∙◌,
 use Rattle.std.proofs.lemmas.Bool.{false≢true}
 use Rattle.std.proofs.lemmas.Bool.Decides.{Decides-eqb}
 use Rattle.uriparse_text.specs.Canonical.{canonical}
-use Rattle.uriparse_path.proofs.CopyLemmas.{strays, pushed_same, front_less, front_more, back_kept, back_more, copies_same, copies_less, all_put, nothing}
+use Rattle.uriparse_path.proofs.lemmas.normal.CanonicalCopyLemmas.{strays, pushed_same, front_less, front_more, back_kept, back_more, copies_same, copies_less, all_put, nothing}
 use Rattle.uriparse_path.proofs.path.normal.put_copies.Goals as goal
 
 pub loop-at-preserved-in-Some : goal.loop-at-preserved-in-Some

@@ -1,8 +1,8 @@
 use Rattle.std.proofs.Common.{◌≡◌, arith, sym, ap, ◌∙◌, ◌&&◌, not, take, false}
 use Rattle.uriparse_path.specs.Dots.{is_single_dot, is_double_dot, is_dot_segment}
 use Rattle.uriparse_path.specs.Relative.{is_last}
-use Rattle.uriparse_path.proofs.PassLemmas.{same_read}
-use Rattle.uriparse_path.proofs.PutLemmas.{pair_put, other_put}
+use Rattle.uriparse_path.proofs.lemmas.dots.ReplayInPlaceLemmas.{same_read}
+use Rattle.uriparse_path.proofs.lemmas.normal.DeletionInPlaceLemmas.{pair_put, other_put}
 use Rattle.uriparse_path.proofs.path.normal.put_segment.Goals.{then-climbs+else-is_pair, else-climbs}
 use Rattle.uriparse_path.proofs.path.normal.put_segment.Goals as goal
 

@@ -5,8 +5,8 @@ use Rattle.std.proofs.lemmas.List.{take_rest}
 use Rattle.std.proofs.Math.ListN.{drop_of_length-le}
 use Rattle.uriparse_text.specs.Tokens.{is_escape}
 use Rattle.uriparse_path.specs.Faults.{ends_path, path_front}
-use Rattle.uriparse_path.proofs.CountLemmas.{counted_slash, counted_full, counted_fault, counted_sign, front_escape, slash_goes_on, sign_goes_on}
-use Rattle.uriparse_path.proofs.CountLemmas.{reached_start, reached_here, reached_on, reached_stop, reached_nothing, run_begins, run_within, run_to, run_on, run_ends}
+use Rattle.uriparse_path.proofs.lemmas.reading.CountingWalkLemmas.{counted_slash, counted_full, counted_fault, counted_sign, front_escape, slash_goes_on, sign_goes_on}
+use Rattle.uriparse_path.proofs.lemmas.reading.CountingWalkLemmas.{reached_start, reached_here, reached_on, reached_stop, reached_nothing, run_begins, run_within, run_to, run_on, run_ends}
 use Rattle.uriparse_path.proofs.path.read.count_by_one.Goals as goal
 use Rattle.uriparse_path.proofs.path.read.count_by_one.Goals.{then-b-eq47+else-count-limit, else-b-eq47+else-is_end+else-not-is_escape}
 

@@ -1,5 +1,5 @@
 use Rattle.std.proofs.Common.{◌≤◌, ◌-◌, length}
-use Rattle.uriparse_path.proofs.CountLemmas.{IsReached, IsRun}
+use Rattle.uriparse_path.proofs.lemmas.reading.CountingWalkLemmas.{IsReached, IsRun}
 use Rattle.uriparse_path.proofs.path.read.count_by_one.Given as goal
 
 abbrev pub invariant-runs : goal.invariant-runs

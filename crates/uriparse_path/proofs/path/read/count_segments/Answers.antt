@@ -3,14 +3,14 @@ use Rattle.std.specs.Prelude.{Err, ◌&&◌}
 use Rattle.std.proofs.lemmas.List.{take_rest}
 use Rattle.std.proofs.Math.ListN.{drop_of_length-le}
 use Rattle.uriparse_text.specs.Tokens.{is_escape}
-use Rattle.uriparse_text.proofs.BitLemmas.{ones_below}
+use Rattle.uriparse_text.proofs.lemmas.scans.BitLemmas.{ones_below}
 use Rattle.uriparse_path.specs.Faults.{ends_path, path_front}
-use Rattle.uriparse_path.proofs.CountLemmas.{IsReached, counted_fault, counted_sign, front_escape, sign_goes_on}
-use Rattle.uriparse_path.proofs.CountLemmas.{reached_start, reached_here, reached_on, reached_stop, reached_nothing}
-use Rattle.uriparse_path.proofs.CountLemmas.{sweep_begins, sweep_within, sweep_to, sweep_on, sweep_ends}
+use Rattle.uriparse_path.proofs.lemmas.reading.CountingWalkLemmas.{IsReached, counted_fault, counted_sign, front_escape, sign_goes_on}
+use Rattle.uriparse_path.proofs.lemmas.reading.CountingWalkLemmas.{reached_start, reached_here, reached_on, reached_stop, reached_nothing}
+use Rattle.uriparse_path.proofs.lemmas.reading.CountingWalkLemmas.{sweep_begins, sweep_within, sweep_to, sweep_on, sweep_ends}
 use Rattle.std.specs.Int.{bit_at}
 use Rattle.std.proofs.lemmas.Nat.Bits.{bit_at-zero}
-use Rattle.uriparse_path.proofs.PlainLemmas.{free_begins, free_to, free_lacks}
+use Rattle.uriparse_path.proofs.lemmas.reading.NoEscapeLemmas.{free_begins, free_to, free_lacks}
 use Rattle.uriparse_path.proofs.path.read.count_segments.Goals as goal
 
 pub runs-init : goal.runs-init

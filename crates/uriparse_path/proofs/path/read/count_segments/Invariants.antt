@@ -1,6 +1,6 @@
 use Rattle.std.proofs.Common.{◌≡◌, ◌≤◌, ◌-◌, length}
-use Rattle.uriparse_path.proofs.CountLemmas.{IsReached, IsSweep}
-use Rattle.uriparse_path.proofs.PlainLemmas.{IsFree, IsFreeRun}
+use Rattle.uriparse_path.proofs.lemmas.reading.CountingWalkLemmas.{IsReached, IsSweep}
+use Rattle.uriparse_path.proofs.lemmas.reading.NoEscapeLemmas.{IsFree, IsFreeRun}
 use Rattle.uriparse_path.proofs.path.read.count_segments.Given as goal
 
 abbrev pub invariant-runs : goal.invariant-runs

@@ -2,7 +2,7 @@ use Rattle.std.proofs.Common.{sym, ap, ◌∙◌}
 use Rattle.uriparse_text.specs.Bytes.{percent}
 use Rattle.uriparse_text.specs.Cuts.{lacks}
 use Rattle.uriparse_path.specs.Counts.{counts}
-use Rattle.uriparse_path.proofs.PlainLemmas.{unrooted_lacks, plain_counts}
+use Rattle.uriparse_path.proofs.lemmas.reading.NoEscapeLemmas.{unrooted_lacks, plain_counts}
 use Rattle.uriparse_path.proofs.path.read.counted_path.Goals as goal
 
 pub of-requires-clause-counted : goal.of-requires-clause-counted

@@ -5,9 +5,9 @@ use Rattle.uriparse_text.specs.Cuts.{lacks, up_to}
 use Rattle.uriparse_path.specs.declared.path.TheConstants.{MAX_SEGMENTS}
 use Rattle.uriparse_path.specs.Path.{unrooted}
 use Rattle.uriparse_path.specs.Faults.{ends_path, measured}
-use Rattle.uriparse_path.proofs.CountLemmas.{answer}
-use Rattle.uriparse_path.proofs.ReadLemmas.{counted_front, refused_front, front_counts, behind_front, front_before}
-use Rattle.uriparse_path.proofs.PlainLemmas.{front_lacks}
+use Rattle.uriparse_path.proofs.lemmas.reading.CountingWalkLemmas.{answer}
+use Rattle.uriparse_path.proofs.lemmas.reading.ReadingLemmas.{counted_front, refused_front, front_counts, behind_front, front_before}
+use Rattle.uriparse_path.proofs.lemmas.reading.NoEscapeLemmas.{front_lacks}
 use Rattle.uriparse_path.proofs.path.read.split_path.Goals as goal
 
 pub returns-in_err-count : goal.returns-in_err-count

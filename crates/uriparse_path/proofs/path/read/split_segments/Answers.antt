@@ -3,10 +3,10 @@ use Rattle.std.proofs.lemmas.List.{take_rest}
 use Rattle.std.specs.List.{list_any}
 use Rattle.uriparse_path.specs.Segment.{is_segment}
 use Rattle.uriparse_path.specs.Counts.{begins_with_dot}
-use Rattle.uriparse_path.proofs.CutLemmas.{piece_is_segment, lacks_piece, run_on, run_begins, run_ends, last_whole, last_is_segment}
+use Rattle.uriparse_path.proofs.lemmas.reading.CuttingWalkLemmas.{piece_is_segment, lacks_piece, run_on, run_begins, run_ends, last_whole, last_is_segment}
 use Rattle.std.proofs.lemmas.Bool.{eqb-true}
-use Rattle.uriparse_path.proofs.PlainLemmas.{any_push}
-use Rattle.uriparse_path.proofs.TallyLemmas.{unescaped_stays}
+use Rattle.uriparse_path.proofs.lemmas.reading.NoEscapeLemmas.{any_push}
+use Rattle.uriparse_path.proofs.lemmas.list.SegmentCountLemmas.{unescaped_stays}
 use Rattle.uriparse_path.proofs.path.read.split_segments.Goals as goal
 
 pub of_kept-requires : goal.of_kept-requires

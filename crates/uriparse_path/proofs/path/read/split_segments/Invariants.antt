@@ -1,7 +1,7 @@
 use Rattle.std.proofs.Common.{◌≡◌, length, ◌-◌}
 use Rattle.std.specs.List.{list_any}
 use Rattle.uriparse_path.specs.Counts.{begins_with_dot}
-use Rattle.uriparse_path.proofs.CutLemmas.{IsCutTo, IsCutRun}
+use Rattle.uriparse_path.proofs.lemmas.reading.CuttingWalkLemmas.{IsCutTo, IsCutRun}
 use Rattle.uriparse_path.proofs.path.read.split_segments.Given as goal
 
 abbrev pub invariant-runs : goal.invariant-runs

@@ -1,6 +1,6 @@
 use Rattle.std.proofs.Common.{◌≡◌, true, length, bytes_eq, get_or, [], ap, sym, ◌∙◌, arith, rules}
 use Rattle.std.proofs.lemmas.List.{get_or_read}
-use Rattle.uriparse_path.proofs.RelateLemmas.{same_more}
+use Rattle.uriparse_path.proofs.lemmas.merge.LeadingPathLemmas.{same_more}
 use Rattle.uriparse_path.proofs.path.relate.are_same.Goals as goal
 
 pub segments-preserved : goal.segments-preserved

@@ -1,5 +1,5 @@
 use Rattle.std.proofs.Common.{sym, ◌∙◌}
-use Rattle.uriparse_path.proofs.RelateLemmas.{climbs_untaken}
+use Rattle.uriparse_path.proofs.lemmas.merge.LeadingPathLemmas.{climbs_untaken}
 use Rattle.uriparse_path.proofs.path.relate.needs_dot.Goals as goal
 
 pub returns-else-is_empty : goal.returns-else-is_empty

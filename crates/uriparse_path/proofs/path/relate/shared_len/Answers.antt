@@ -1,5 +1,5 @@
 use Rattle.std.proofs.Common.{◌∙◌}
-use Rattle.uriparse_path.proofs.RelateLemmas.{shared_last}
+use Rattle.uriparse_path.proofs.lemmas.merge.LeadingPathLemmas.{shared_last}
 use Rattle.uriparse_path.proofs.path.relate.shared_len.Goals as goal
 
 pub returns-then-shared-segments-clause-apart : goal.returns-then-shared-segments-clause-apart

@@ -1,4 +1,4 @@
-use Rattle.uriparse_reference.proofs.EditLemmas.{settled}
+use Rattle.uriparse_reference.proofs.lemmas.edits.EditLemmas.{settled}
 use Rattle.uriparse_reference.proofs.uri_reference.URIReference.apply.Goals as goal
 
 pub returns-in-Scheme : goal.returns-in-Scheme

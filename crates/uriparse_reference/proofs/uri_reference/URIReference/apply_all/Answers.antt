@@ -1,6 +1,6 @@
 use Rattle.std.proofs.Common.{◌≡◌, ◌∷◌, [], length, arith, ap, ◌∙◌, subst}
 use Rattle.std.specs.Vec.Iter.{into_iter_items}
-use Rattle.uriparse_reference.proofs.EditLemmas.{Continues, empty, step, stop, finish}
+use Rattle.uriparse_reference.proofs.lemmas.edits.EditLemmas.{Continues, empty, step, stop, finish}
 use Rattle.uriparse_reference.proofs.uri_reference.URIReference.apply_all.Goals as goal
 
 pub returns-in-Err : goal.returns-in-Err

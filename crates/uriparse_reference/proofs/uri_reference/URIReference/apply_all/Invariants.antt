@@ -1,6 +1,6 @@
 use Rattle.std.proofs.Common.{◌≡◌, ◌+◌, length}
 use Rattle.std.specs.Vec.Iter.{into_iter_items, into_iter_len}
-use Rattle.uriparse_reference.proofs.EditLemmas.{Continues}
+use Rattle.uriparse_reference.proofs.lemmas.edits.EditLemmas.{Continues}
 use Rattle.uriparse_reference.proofs.uri_reference.URIReference.apply_all.Given as goal
 
 -- what the edits to come make of the value, all make of the first one

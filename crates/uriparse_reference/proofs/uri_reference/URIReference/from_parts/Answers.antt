@@ -4,7 +4,7 @@ use Rattle.uriparse_text.specs.Query.{IsQuery}
 use Rattle.uriparse_text.specs.Fragment.{IsFragment}
 use Rattle.uriparse_authority.specs.Authority as authority
 use Rattle.uriparse_reference.specs.Reference.{Parts}
-use Rattle.uriparse_reference.proofs.EditLemmas.{tested_parts}
+use Rattle.uriparse_reference.proofs.lemmas.edits.EditLemmas.{tested_parts}
 use Rattle.uriparse_reference.proofs.uri_reference.URIReference.from_parts.Goals as goal
 
 pub invariant_of-result : goal.invariant_of-result

@@ -1,7 +1,7 @@
 use Rattle.std.proofs.Common.{◌≡◌, ◌↔◌, true, sym, subst, ◌∙◌}
 use Rattle.uriparse_reference.specs.Reference.{print}
 use Rattle.uriparse_reference.specs.Normal.{normal}
-use Rattle.uriparse_reference.proofs.NormalLemmas.{normal_exactly, kept_whole}
+use Rattle.uriparse_reference.proofs.lemmas.normalizing.NormalizingLemmas.{normal_exactly, kept_whole}
 use Rattle.uriparse_reference.proofs.uri_reference.URIReference.is_normalized.Goals as goal
 
 pub returns-clause-text : goal.returns-clause-text

@@ -1,7 +1,7 @@
 use Rattle.std.proofs.Common.{refl, sym, ◌∙◌}
 use Rattle.uriparse_reference.specs.declared.uri_reference.edit.Edit.TheVariants as edits
-use Rattle.uriparse_reference.proofs.EditLemmas.{build, remade}
-use Rattle.uriparse_reference.proofs.RunLemmas.{edited_parts}
+use Rattle.uriparse_reference.proofs.lemmas.edits.EditLemmas.{build, remade}
+use Rattle.uriparse_reference.proofs.lemmas.edits.EditListLemmas.{edited_parts}
 use Rattle.uriparse_reference.proofs.uri_reference.URIReference.map_scheme.Goals as goal
 
 pub returns : goal.returns

@@ -1,9 +1,9 @@
 use Rattle.std.proofs.Common.{ℕ, ◌+◌, ◌≤◌, [], length, inl, subst, arith}
 use Rattle.std.specs.Prelude.{unwrap_or}
-use Rattle.uriparse_text.proofs.SumLemmas.{most_both, most_more, most_of}
+use Rattle.uriparse_text.proofs.lemmas.readings.SaturatingLemmas.{most_both, most_more, most_of}
 use Rattle.uriparse_path.specs.Path.{text}
 use Rattle.uriparse_reference.specs.Reference.{Parts, authority_part, print}
-use Rattle.uriparse_reference.proofs.LengthLemmas.{length-print}
+use Rattle.uriparse_reference.proofs.lemmas.reading.LengthLemmas.{length-print}
 use Rattle.uriparse_reference.proofs.uri_reference.URIReference.most_bytes.Goals as goal
 
 pub returns : goal.returns

@@ -1,8 +1,8 @@
 use Rattle.std.proofs.Common.{sym, ◌∙◌}
 use Rattle.std.proofs.lemmas.Bool.{false≢true}
 use Rattle.std.proofs.lemmas.Result.{on_ok_weaker}
-use Rattle.uriparse_reference.proofs.NormalLemmas.{kept_whole, normal_exactly}
-use Rattle.uriparse_reference.proofs.AlikeLemmas.{one_normal}
+use Rattle.uriparse_reference.proofs.lemmas.normalizing.NormalizingLemmas.{kept_whole, normal_exactly}
+use Rattle.uriparse_reference.proofs.lemmas.resolving.EqualTargetLemmas.{one_normal}
 use Rattle.uriparse_reference.proofs.uri_reference.URIReference.normalize.Goals as goal
 
 pub returns-then-is_normal-clause-ok : goal.returns-then-is_normal-clause-ok

@@ -4,7 +4,7 @@ use Rattle.uriparse_authority.specs.Authority as authority
 use Rattle.uriparse_reference.specs.declared.uri_reference.edit.Edit.TheVariants as edits
 use Rattle.uriparse_reference.specs.Reference.{Parts, Valid}
 use Rattle.uriparse_reference.specs.Edits.{edited}
-use Rattle.uriparse_reference.proofs.EditLemmas.{edited_some, valid_some}
+use Rattle.uriparse_reference.proofs.lemmas.edits.EditLemmas.{edited_some, valid_some}
 use Rattle.uriparse_reference.proofs.uri_reference.URIReference.put_authority.Goals as goal
 
 pub invariant_of-self : goal.invariant_of-self

@@ -1,10 +1,10 @@
 use Rattle.std.proofs.Common.{◌≡◌, ap, sym, subst, ◌∙◌}
 use Rattle.std.proofs.lemmas.Bool.{false≢true}
-use Rattle.uriparse_path.proofs.CanonicalLemmas.{each_is_canonical}
+use Rattle.uriparse_path.proofs.lemmas.text.CanonicalTextLemmas.{each_is_canonical}
 use Rattle.uriparse_reference.specs.Reference.{Valid}
 use Rattle.uriparse_reference.specs.Normal.{canonical_texts, normal}
-use Rattle.uriparse_reference.proofs.NormalFormLemmas.{normal_valid}
-use Rattle.uriparse_reference.proofs.NormalLemmas.{made_is}
+use Rattle.uriparse_reference.proofs.lemmas.normalizing.NormalFormLemmas.{normal_valid}
+use Rattle.uriparse_reference.proofs.lemmas.normalizing.NormalizingLemmas.{made_is}
 use Rattle.uriparse_reference.proofs.uri_reference.URIReference.put_normal.Goals.{After-put_authority_copies}
 use Rattle.uriparse_reference.proofs.uri_reference.URIReference.put_normal.Goals as goal
 

@@ -4,7 +4,7 @@ use Rattle.uriparse_path.specs.Path.{text}
 use Rattle.uriparse_reference.specs.declared.uri_reference.edit.Edit.TheVariants as edits
 use Rattle.uriparse_reference.specs.Reference.{Parts, path_refusal}
 use Rattle.uriparse_reference.specs.Edits.{edited}
-use Rattle.uriparse_reference.proofs.EditLemmas.{edited_none, no_refusal, valid_none}
+use Rattle.uriparse_reference.proofs.lemmas.edits.EditLemmas.{edited_none, no_refusal, valid_none}
 use Rattle.uriparse_reference.proofs.uri_reference.URIReference.remove_authority.Goals.{In-None}
 use Rattle.uriparse_reference.proofs.uri_reference.URIReference.remove_authority.Goals as goal
 

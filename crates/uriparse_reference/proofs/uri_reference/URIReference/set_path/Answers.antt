@@ -1,5 +1,5 @@
 use Rattle.std.proofs.Common.{◌∙◌}
-use Rattle.uriparse_reference.proofs.EditLemmas.{tested_path}
+use Rattle.uriparse_reference.proofs.lemmas.edits.EditLemmas.{tested_path}
 use Rattle.uriparse_reference.proofs.uri_reference.URIReference.set_path.Goals as goal
 
 pub invariant_of-self : goal.invariant_of-self

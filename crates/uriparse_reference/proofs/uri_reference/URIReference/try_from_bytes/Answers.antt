@@ -1,4 +1,4 @@
-use Rattle.uriparse_reference.proofs.ReferenceLemmas.{answered}
+use Rattle.uriparse_reference.proofs.lemmas.reading.ReadingLemmas.{answered}
 use Rattle.uriparse_reference.proofs.uri_reference.URIReference.try_from_bytes.Goals as goal
 
 pub returns : goal.returns

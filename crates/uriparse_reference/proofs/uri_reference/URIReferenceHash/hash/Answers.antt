@@ -1,6 +1,6 @@
 use Rattle.std.proofs.Common.{◌≡◌, subst, fold}
 use Rattle.uriparse_reference.specs.Key.{key, fed, fed_key}
-use Rattle.uriparse_reference.proofs.FedLemmas.{fed_by_turns, feeds_key}
+use Rattle.uriparse_reference.proofs.lemmas.equality.HashLemmas.{fed_by_turns, feeds_key}
 use Rattle.uriparse_reference.proofs.uri_reference.URIReferenceHash.hash.Goals as goal
 
 pub returns-clause-fed : goal.returns-clause-fed

@@ -1,5 +1,5 @@
 use Rattle.std.proofs.Common.{◌∙◌}
-use Rattle.uriparse_reference.proofs.SameLemmas.{tested}
+use Rattle.uriparse_reference.proofs.lemmas.equality.EqualityLemmas.{tested}
 use Rattle.uriparse_reference.proofs.uri_reference.URIReferencePartialEq.eq.Goals as goal
 
 pub returns : goal.returns

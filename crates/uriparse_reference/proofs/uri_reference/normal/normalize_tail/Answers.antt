@@ -1,5 +1,5 @@
 use Rattle.std.proofs.Common.{◌≡◌, subst}
-use Rattle.uriparse_reference.proofs.NormalLemmas.{placed_normal}
+use Rattle.uriparse_reference.proofs.lemmas.normalizing.NormalizingLemmas.{placed_normal}
 use Rattle.uriparse_reference.proofs.uri_reference.normal.normalize_tail.Goals as goal
 
 pub returns-clause-path : goal.returns-clause-path

@@ -11,8 +11,8 @@ use Rattle.uriparse_reference.specs.declared.uri_reference.error.URIReferenceErr
 use Rattle.uriparse_reference.specs.declared.uri_reference.error.URIReferenceError.TheVariants as errors
 use Rattle.uriparse_reference.specs.Cuts.{scheme_text, authority_text, cut_authority, without_authority, after_authority}
 use Rattle.uriparse_reference.specs.Reading.{reading, text_tail}
-use Rattle.uriparse_reference.proofs.ReferenceLemmas.{in_place, read_present, tail_answer, with_tail}
-use Rattle.uriparse_reference.proofs.TailLemmas.{Tail}
+use Rattle.uriparse_reference.proofs.lemmas.reading.ReadingLemmas.{in_place, read_present, tail_answer, with_tail}
+use Rattle.uriparse_reference.proofs.lemmas.reading.TailLemmas.{Tail}
 use Rattle.uriparse_reference.proofs.uri_reference.read.find_pieces.Goals.{After-find_tail}
 use Rattle.uriparse_reference.proofs.uri_reference.read.find_pieces.Goals as goal
 

@@ -2,11 +2,11 @@ use Rattle.std.proofs.Common.{◌≡◌, Some, Ok, Err, ap, ◌∙◌, rules}
 use Rattle.uriparse_text.specs.Cuts.{up_to}
 use Rattle.uriparse_path.specs.Faults as paths
 use Rattle.uriparse_path.specs.Faults.{ends_path}
-use Rattle.uriparse_path.proofs.ReadLemmas.{no_fault_iff}
+use Rattle.uriparse_path.proofs.lemmas.reading.ReadingLemmas.{no_fault_iff}
 use Rattle.uriparse_reference.specs.Cuts.{tail_query, tail_fragment}
 use Rattle.uriparse_reference.specs.Reading.{behind_reading}
 use Rattle.uriparse_reference.specs.Reference.{path_refusal}
-use Rattle.uriparse_reference.proofs.TailLemmas.{refused_path, refused_place, refused_behind, accepted_tail, is_refused, is_placed}
+use Rattle.uriparse_reference.proofs.lemmas.reading.TailLemmas.{refused_path, refused_place, refused_behind, accepted_tail, is_refused, is_placed}
 use Rattle.uriparse_reference.specs.declared.uri_reference.error.URIReferenceError.TheVariants as errors
 use Rattle.uriparse_reference.proofs.uri_reference.read.find_tail.Goals as goal
 

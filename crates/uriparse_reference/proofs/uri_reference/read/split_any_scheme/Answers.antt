@@ -3,7 +3,7 @@ use Rattle.uriparse_text.specs.Cuts.{from_first}
 use Rattle.uriparse_authority.specs.Authority.{colon_part}
 use Rattle.uriparse_scheme.specs.Scheme.{is_scheme}
 use Rattle.uriparse_reference.specs.Cuts.{ends_scheme}
-use Rattle.uriparse_reference.proofs.CutLemmas.{front_no_scheme, front_colon, no_text, no_text_there, text_there}
+use Rattle.uriparse_reference.proofs.lemmas.reading.CutLemmas.{front_no_scheme, front_colon, no_text, no_text_there, text_there}
 use Rattle.uriparse_reference.proofs.uri_reference.read.split_any_scheme.Goals as goal
 
 pub returns-in_default : goal.returns-in_default

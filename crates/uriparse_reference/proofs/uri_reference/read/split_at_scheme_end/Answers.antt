@@ -1,4 +1,4 @@
-use Rattle.uriparse_text.proofs.CutLemmas.{place_or_length, take_place, drop_place}
+use Rattle.uriparse_text.proofs.lemmas.readings.CutLemmas.{place_or_length, take_place, drop_place}
 use Rattle.uriparse_reference.specs.Cuts.{ends_scheme}
 use Rattle.uriparse_reference.proofs.uri_reference.read.split_at_scheme_end.Goals as goal
 

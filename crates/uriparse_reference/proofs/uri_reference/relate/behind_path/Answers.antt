@@ -2,7 +2,7 @@ use Rattle.std.proofs.Common.{sym, subst, ◌∙◌}
 use Rattle.std.specs.Prelude.{IfSome}
 use Rattle.uriparse_text.specs.Query.{IsQuery}
 use Rattle.uriparse_text.specs.Fragment.{IsFragment}
-use Rattle.uriparse_reference.proofs.RelateLemmas.{inner_valid}
+use Rattle.uriparse_reference.proofs.lemmas.resolving.RelativizeLemmas.{inner_valid}
 use Rattle.uriparse_reference.proofs.uri_reference.relate.behind_path.Goals as goal
 
 pub invariant_of-result : goal.invariant_of-result

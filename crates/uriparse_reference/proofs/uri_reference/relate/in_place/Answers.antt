@@ -1,7 +1,7 @@
 use Rattle.std.proofs.Common.{sym, subst, ◌∙◌}
 use Rattle.std.specs.Prelude.{IfSome}
 use Rattle.uriparse_text.specs.Fragment.{IsFragment}
-use Rattle.uriparse_reference.proofs.RelateLemmas.{place_valid, left_query}
+use Rattle.uriparse_reference.proofs.lemmas.resolving.RelativizeLemmas.{place_valid, left_query}
 use Rattle.uriparse_reference.proofs.uri_reference.relate.in_place.Goals as goal
 
 pub invariant_of-result : goal.invariant_of-result

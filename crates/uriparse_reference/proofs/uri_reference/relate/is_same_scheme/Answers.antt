@@ -1,7 +1,7 @@
 use Rattle.std.proofs.Common.{sym, ap, ◌∙◌}
 use Rattle.std.proofs.lemmas.Slice.Eq.{bytes_eq-Decides}
 use Rattle.uriparse_scheme.specs.Scheme.{text}
-use Rattle.uriparse_reference.proofs.RelateLemmas.{same_scheme}
+use Rattle.uriparse_reference.proofs.lemmas.resolving.RelativizeLemmas.{same_scheme}
 use Rattle.uriparse_reference.proofs.uri_reference.relate.is_same_scheme.Goals as goal
 
 pub returns : goal.returns

@@ -1,6 +1,6 @@
 use Rattle.std.proofs.Common.{◌≡◌, Some, None, sym, subst, rules}
 use Rattle.uriparse_reference.specs.Relate.{IsInPlace, IsQueryLeft, Relates, inner, network}
-use Rattle.uriparse_reference.proofs.RelateLemmas.{whole_leads, network_leads, place_leads, placed_there, inner_leads, ok_more}
+use Rattle.uriparse_reference.proofs.lemmas.resolving.RelativizeLemmas.{whole_leads, network_leads, place_leads, placed_there, inner_leads, ok_more}
 use Rattle.uriparse_reference.proofs.uri_reference.relate.relativize.Goals as goal
 
 pub returns-then-not-has_same_scheme-clause-relates : goal.returns-then-not-has_same_scheme-clause-relates

@@ -1,5 +1,5 @@
 use Rattle.std.proofs.Common.{sym, arith}
-use Rattle.uriparse_reference.proofs.ResolveLemmas.{several}
+use Rattle.uriparse_reference.proofs.lemmas.resolving.ResolveLemmas.{several}
 use Rattle.uriparse_reference.proofs.uri_reference.resolve.is_empty.Goals as goal
 
 pub returns-in_default-2 : goal.returns-in_default-2

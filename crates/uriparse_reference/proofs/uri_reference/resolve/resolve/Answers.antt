@@ -1,7 +1,7 @@
 use Rattle.std.proofs.Common.{◌≡◌, Ok, Err, ◌∙◌, rules}
 use Rattle.uriparse_reference.specs.Target.{target}
 use Rattle.uriparse_reference.specs.declared.uri_reference.error.URIReferenceError.TheVariants as errors
-use Rattle.uriparse_reference.proofs.ResolveLemmas.{refused, resolved_answer, resolved_valid}
+use Rattle.uriparse_reference.proofs.lemmas.resolving.ResolveLemmas.{refused, resolved_answer, resolved_valid}
 use Rattle.uriparse_reference.proofs.uri_reference.resolve.resolve.Goals as goal
 
 pub returns-in_err-path-clause-answer : goal.returns-in_err-path-clause-answer

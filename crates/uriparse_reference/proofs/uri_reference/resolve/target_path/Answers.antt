@@ -5,7 +5,7 @@ use Rattle.std.specs.Result.{IsErrAnd}
 use Rattle.uriparse_path.specs.Path.{PathParts, text}
 use Rattle.uriparse_path.specs.Dots.{without_dots}
 use Rattle.uriparse_reference.specs.Target.{is_empty}
-use Rattle.uriparse_reference.proofs.ResolveLemmas.{flipped, own_answer, kept_answer, rooted_answer, merged_refused, merged_made}
+use Rattle.uriparse_reference.proofs.lemmas.resolving.ResolveLemmas.{flipped, own_answer, kept_answer, rooted_answer, merged_refused, merged_made}
 use Rattle.uriparse_reference.proofs.uri_reference.resolve.target_path.Goals as goal
 
 -- a test of a part that is lent is one of the part

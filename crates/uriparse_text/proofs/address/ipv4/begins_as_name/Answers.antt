@@ -1,5 +1,5 @@
 use Rattle.std.proofs.Common.{get_or, sym, ◌∙◌}
-use Rattle.uriparse_text.proofs.AddressByteLemmas.{never_begins, no_ipv4_byte}
+use Rattle.uriparse_text.proofs.lemmas.addresses.ByteLemmas.{never_begins, no_ipv4_byte}
 use Rattle.uriparse_text.proofs.address.ipv4.begins_as_name.Goals as goal
 
 pub returns-then-not-is_ascii_digit : goal.returns-then-not-is_ascii_digit

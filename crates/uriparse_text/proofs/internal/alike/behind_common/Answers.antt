@@ -1,5 +1,5 @@
 use Rattle.std.proofs.lemmas.List.{take_rest}
-use Rattle.uriparse_text.proofs.AlikeLemmas.{behind_common}
+use Rattle.uriparse_text.proofs.lemmas.canonical.ComparisonLemmas.{behind_common}
 use Rattle.uriparse_text.proofs.internal.alike.behind_common.Goals as goal
 
 pub returns-clause-same : goal.returns-clause-same

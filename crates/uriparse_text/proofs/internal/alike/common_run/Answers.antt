@@ -2,7 +2,7 @@ use Rattle.std.proofs.Common.{sym, ap, subst, ◌∙◌, arith}
 use Rattle.std.specs.Int.{bit_at}
 use Rattle.std.proofs.lemmas.Nat.Bits.{bit_at-zero}
 use Rattle.uriparse_text.specs.Alike.{AreCommon}
-use Rattle.uriparse_text.proofs.AlikeLemmas.{common_more}
+use Rattle.uriparse_text.proofs.lemmas.canonical.ComparisonLemmas.{common_more}
 use Rattle.uriparse_text.proofs.internal.alike.common_run.Goals as goal
 use Rattle.uriparse_text.proofs.internal.alike.common_run.Goals.{then-len-at-ge8+else-marks-ne0-2, else-len-at-ge8}
 

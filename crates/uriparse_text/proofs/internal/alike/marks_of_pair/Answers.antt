@@ -1,6 +1,6 @@
 use Rattle.std.proofs.Common.{sym, ◌∙◌, bit_or}
 use Rattle.std.specs.Int.{bit_at}
-use Rattle.uriparse_text.proofs.AlikeLemmas.{pair_mask, sign_mask, mark_within, unmarked}
+use Rattle.uriparse_text.proofs.lemmas.canonical.ComparisonLemmas.{pair_mask, sign_mask, mark_within, unmarked}
 use Rattle.uriparse_text.proofs.internal.alike.marks_of_pair.Goals as goal
 
 pub returns-clause-within : goal.returns-clause-within

@@ -1,4 +1,4 @@
-use Rattle.uriparse_text.proofs.CanonicalLemmas.{same_tokens}
+use Rattle.uriparse_text.proofs.lemmas.canonical.CanonicalLemmas.{same_tokens}
 use Rattle.uriparse_text.proofs.internal.alike.same_spelling.Goals as goal
 
 pub returns-else-eq : goal.returns-else-eq

@@ -2,8 +2,8 @@ use Rattle.std.proofs.Common.{◌≡◌, ◌∷◌, [], sym, ◌∙◌}
 use Rattle.std.proofs.lemmas.Bool.{false≢true}
 use Rattle.uriparse_text.specs.Canonical.{canonical_tokens}
 use Rattle.uriparse_text.specs.Alike.{token_of}
-use Rattle.uriparse_text.proofs.CanonicalLemmas.{canonical_tokens-empty}
-use Rattle.uriparse_text.proofs.AlikeLemmas.{same_fronts, other_fronts, both_end}
+use Rattle.uriparse_text.proofs.lemmas.canonical.CanonicalLemmas.{canonical_tokens-empty}
+use Rattle.uriparse_text.proofs.lemmas.canonical.ComparisonLemmas.{same_fronts, other_fronts, both_end}
 use Rattle.uriparse_text.proofs.internal.alike.same_tokens.Goals as goal
 
 pub tokens-init : goal.tokens-init

@@ -1,6 +1,6 @@
 use Rattle.std.proofs.Common.{◌≡◌, ◌∷◌, rules}
 use Rattle.std.proofs.lemmas.List.{take_rest}
-use Rattle.uriparse_text.proofs.AlikeLemmas.{unreserved_front, escape_front, byte_front}
+use Rattle.uriparse_text.proofs.lemmas.canonical.ComparisonLemmas.{unreserved_front, escape_front, byte_front}
 use Rattle.uriparse_text.proofs.internal.alike.split_code.Goals as goal
 
 pub returns-then-is_unreserved-clause-cut : goal.returns-then-is_unreserved-clause-cut

@@ -1,5 +1,5 @@
 use Rattle.std.proofs.Common.{◌-◌}
-use Rattle.uriparse_text.proofs.BitLemmas.{joined-low, joined-high}
+use Rattle.uriparse_text.proofs.lemmas.scans.BitLemmas.{joined-low, joined-high}
 use Rattle.uriparse_text.proofs.internal.bits.joined_ends.Goals as goal
 
 pub returns-clause-low : goal.returns-clause-low

@@ -1,4 +1,4 @@
-use Rattle.uriparse_text.proofs.BitLemmas.{bit_at_shr}
+use Rattle.uriparse_text.proofs.lemmas.scans.BitLemmas.{bit_at_shr}
 use Rattle.uriparse_text.proofs.internal.bits.shifted_down.Goals as goal
 
 pub returns : goal.returns

@@ -2,7 +2,7 @@ use Rattle.std.proofs.Common.{◌-◌, inl, inr, arith}
 use Rattle.std.proofs.lemmas.Bool.{cases_lt}
 use Rattle.std.proofs.lemmas.Nat.{and_le_r}
 use Rattle.std.proofs.lemmas.Nat.Bits.{bit_at_and, bit_at-lt}
-use Rattle.uriparse_text.proofs.BitLemmas.{less_one-lowest, less_one-above}
+use Rattle.uriparse_text.proofs.lemmas.scans.BitLemmas.{less_one-lowest, less_one-above}
 use Rattle.uriparse_text.proofs.internal.bits.without_lowest.Goals as goal
 
 pub returns-clause-smaller : goal.returns-clause-smaller

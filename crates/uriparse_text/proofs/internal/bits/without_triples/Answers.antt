@@ -2,7 +2,7 @@ use Rattle.std.proofs.Common.{◌≡◌, ◌/◌, ◌^◌, ◌<◌, arith, w64, 
 use Rattle.std.specs.Int.{bit_at, bit_not}
 use Rattle.std.proofs.lemmas.Nat.{and_le_l}
 use Rattle.std.proofs.lemmas.Nat.Bits.{bit_at_and, bit_at_not, bit_at-lt}
-use Rattle.uriparse_text.proofs.BitLemmas.{bit_at_shr}
+use Rattle.uriparse_text.proofs.lemmas.scans.BitLemmas.{bit_at_shr}
 use Rattle.uriparse_text.proofs.internal.bits.without_triples.Goals as goal
 
 pub returns-clause-no_more : goal.returns-clause-no_more

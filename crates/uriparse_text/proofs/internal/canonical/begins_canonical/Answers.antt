@@ -1,7 +1,7 @@
 use Rattle.std.proofs.Common.{◌≡◌, [], refl, sym, ap, ◌∙◌, rules}
 use Rattle.std.proofs.lemmas.Bool.{false≢true}
 use Rattle.uriparse_text.specs.Canonical as spec
-use Rattle.uriparse_text.proofs.CanonicalLemmas.{canonical_in-nil, canonical_behind, canonical_more, canonical_never}
+use Rattle.uriparse_text.proofs.lemmas.canonical.CanonicalLemmas.{canonical_in-nil, canonical_behind, canonical_more, canonical_never}
 use Rattle.uriparse_text.proofs.internal.canonical.begins_canonical.Goals as goal
 
 pub returns-then-ne : goal.returns-then-ne

@@ -1,8 +1,8 @@
 use Rattle.std.proofs.Common.{◌++◌, sym, ap, ◌∙◌, append-nil}
 use Rattle.uriparse_text.specs.Canonical as spec
 use Rattle.uriparse_text.specs.Tokens.{spell}
-use Rattle.uriparse_text.proofs.CanonicalLemmas.{canonical_in-nil, spelled_more}
-use Rattle.uriparse_text.proofs.RunLemmas.{spelled_run}
+use Rattle.uriparse_text.proofs.lemmas.canonical.CanonicalLemmas.{canonical_in-nil, spelled_more}
+use Rattle.uriparse_text.proofs.lemmas.canonical.RunLemmas.{spelled_run}
 use Rattle.uriparse_text.proofs.internal.canonical.canonical_bytes.Goals as goal
 
 pub tokens-preserved : goal.tokens-preserved

@@ -1,5 +1,5 @@
 use Rattle.std.proofs.Common.{ap, ◌∙◌, fold, take_all}
-use Rattle.uriparse_text.proofs.FeedLemmas.{feeds_bytes}
+use Rattle.uriparse_text.proofs.lemmas.canonical.HashLemmas.{feeds_bytes}
 use Rattle.uriparse_text.proofs.internal.canonical.feed_bytes.Goals as goal
 
 pub returns : goal.returns

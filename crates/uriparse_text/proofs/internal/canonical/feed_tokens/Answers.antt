@@ -1,7 +1,7 @@
 use Rattle.std.proofs.Common.{◌++◌, ap, refl, ◌∙◌, fold, take, arith}
 use Rattle.uriparse_text.specs.Tokens.{spell}
 use Rattle.uriparse_text.specs.Canonical.{canonical_in, fed_bytes}
-use Rattle.uriparse_text.proofs.FeedLemmas.{feeds_token, feeds_waiting}
+use Rattle.uriparse_text.proofs.lemmas.canonical.HashLemmas.{feeds_token, feeds_waiting}
 use Rattle.uriparse_text.proofs.internal.canonical.feed_tokens.Goals as goal
 
 pub tokens-init : goal.tokens-init

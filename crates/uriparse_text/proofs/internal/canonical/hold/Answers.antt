@@ -1,6 +1,6 @@
 use Rattle.std.proofs.Common.{ap, ◌∙◌, fold, arith}
 use Rattle.uriparse_text.specs.Canonical.{fed_bytes}
-use Rattle.uriparse_text.proofs.FeedLemmas.{feeds_full}
+use Rattle.uriparse_text.proofs.lemmas.canonical.HashLemmas.{feeds_full}
 use Rattle.uriparse_text.proofs.internal.canonical.hold.Goals as goal
 
 pub returns-clause-fed : goal.returns-clause-fed

@@ -2,7 +2,7 @@ use Rattle.std.proofs.Common.{◌≡◌, [], length, refl, sym, ap, ◌∙◌}
 use Rattle.std.proofs.lemmas.Bool.{eqb-true}
 use Rattle.std.proofs.lemmas.List.{nil_from_length}
 use Rattle.uriparse_text.specs.Canonical.{canonical_in}
-use Rattle.uriparse_text.proofs.CanonicalLemmas.{canonical_in-nil, canonical_behind}
+use Rattle.uriparse_text.proofs.lemmas.canonical.CanonicalLemmas.{canonical_in-nil, canonical_behind}
 use Rattle.uriparse_text.proofs.internal.canonical.is_canonical.Goals as goal
 
 pub returns-then-is_empty : goal.returns-then-is_empty

@@ -1,7 +1,7 @@
 use Rattle.std.proofs.Common.{◌≡◌, ◌+◌, true, false, drop, get_or, sym, ap, subst, ◌∙◌}
 use Rattle.std.proofs.lemmas.List.{take_rest}
 use Rattle.uriparse_text.specs.Tokens.{is_escape}
-use Rattle.uriparse_text.proofs.FineLemmas.{AreLeft, left_at_first, left_after, fault_left, none_left}
+use Rattle.uriparse_text.proofs.lemmas.classes.FaultByByteLemmas.{AreLeft, left_at_first, left_after, fault_left, none_left}
 use Rattle.uriparse_text.proofs.internal.class.fault_at_marks.Goals as goal
 
 pub marks-init : goal.marks-init

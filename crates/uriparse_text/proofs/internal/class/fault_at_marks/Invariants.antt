@@ -1,4 +1,4 @@
-use Rattle.uriparse_text.proofs.FineLemmas.{AreLeft}
+use Rattle.uriparse_text.proofs.lemmas.classes.FaultByByteLemmas.{AreLeft}
 use Rattle.uriparse_text.proofs.internal.class.fault_at_marks.Given as goal
 
 abbrev pub invariant-marks : goal.invariant-marks

@@ -1,5 +1,5 @@
 use Rattle.std.proofs.Common.{◌+◌, ◌-◌, length, arith}
-use Rattle.uriparse_text.proofs.FineLemmas.{last_run}
+use Rattle.uriparse_text.proofs.lemmas.classes.FaultByByteLemmas.{last_run}
 use Rattle.uriparse_text.proofs.internal.class.fault_by_runs.Goals as goal
 
 pub returns : goal.returns

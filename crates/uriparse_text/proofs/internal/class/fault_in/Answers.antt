@@ -1,7 +1,7 @@
 use Rattle.std.proofs.Common.{◌≡◌, ◌+◌, ◌-◌, subst, arith}
 use Rattle.std.specs.Prelude.{MatchOption}
 use Rattle.uriparse_text.specs.Faults.{AllFine, IsFaultFrom}
-use Rattle.uriparse_text.proofs.FineLemmas.{in_doubt, none_outside}
+use Rattle.uriparse_text.proofs.lemmas.classes.FaultByByteLemmas.{in_doubt, none_outside}
 use Rattle.uriparse_text.proofs.internal.class.fault_in.Goals as goal
 
 pub returns-then-outside-eq0 : goal.returns-then-outside-eq0

@@ -1,4 +1,4 @@
-use Rattle.uriparse_text.proofs.FineLemmas.{fault_found, fault_absent}
+use Rattle.uriparse_text.proofs.lemmas.classes.FaultByByteLemmas.{fault_found, fault_absent}
 use Rattle.uriparse_text.proofs.internal.class.fault_of.Goals as goal
 
 pub returns-then-place-text : goal.returns-then-place-text

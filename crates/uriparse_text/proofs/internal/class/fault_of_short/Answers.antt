@@ -1,6 +1,6 @@
 use Rattle.std.proofs.Common.{◌≡◌, ◌+◌, length, refl, subst, arith}
 use Rattle.uriparse_text.specs.Faults.{AllFine}
-use Rattle.uriparse_text.proofs.FineLemmas.{in_doubt, none_outside, no_fault_place, last_run}
+use Rattle.uriparse_text.proofs.lemmas.classes.FaultByByteLemmas.{in_doubt, none_outside, no_fault_place, last_run}
 use Rattle.uriparse_text.proofs.internal.class.fault_of_short.Goals as goal
 
 pub returns-then-outside-eq0 : goal.returns-then-outside-eq0

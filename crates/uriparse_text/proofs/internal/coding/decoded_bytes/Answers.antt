@@ -1,6 +1,6 @@
 use Rattle.std.proofs.Common.{[], ◌∷◌, ◌++◌, sym, ap, ◌∙◌, append-nil}
 use Rattle.uriparse_text.specs.Coding.{decoded}
-use Rattle.uriparse_text.proofs.CodingLemmas.{decoded-nil, decoded_more}
+use Rattle.uriparse_text.proofs.lemmas.tokens.CodingLemmas.{decoded-nil, decoded_more}
 use Rattle.uriparse_text.proofs.internal.coding.decoded_bytes.Goals as goal
 
 pub tokens-preserved : goal.tokens-preserved

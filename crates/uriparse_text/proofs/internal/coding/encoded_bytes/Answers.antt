@@ -1,7 +1,7 @@
 use Rattle.std.proofs.Common.{get_or, ap, sym, ◌∙◌, refl, arith}
 use Rattle.std.specs.Prelude.{◌++◌}
 use Rattle.uriparse_text.specs.Tokens.{spell}
-use Rattle.uriparse_text.proofs.CodingLemmas.{encoded-nil, written_more}
+use Rattle.uriparse_text.proofs.lemmas.tokens.CodingLemmas.{encoded-nil, written_more}
 use Rattle.uriparse_text.proofs.internal.coding.encoded_bytes.Goals as goal
 
 pub loop-b-init : goal.loop-b-init

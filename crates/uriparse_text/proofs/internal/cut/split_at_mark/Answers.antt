@@ -1,5 +1,5 @@
 use Rattle.std.specs.Prelude.{◌==◌}
-use Rattle.uriparse_text.proofs.CutLemmas.{place_or_length, take_place, drop_place}
+use Rattle.uriparse_text.proofs.lemmas.readings.CutLemmas.{place_or_length, take_place, drop_place}
 use Rattle.uriparse_text.proofs.internal.cut.split_at_mark.Goals as goal
 
 pub returns-clause-front : goal.returns-clause-front

@@ -4,8 +4,8 @@ use Rattle.std.proofs.lemmas.Bool.{eq-eqb, ne_eqb}
 use Rattle.std.proofs.lemmas.List.{take_rest, drop-drop}
 use Rattle.uriparse_text.specs.Cuts.{before}
 use Rattle.uriparse_text.specs.Readings.{unless_fault, some_of}
-use Rattle.uriparse_text.proofs.EndLemmas.{whole_text, text_before, fault_before, reading-in}
-use Rattle.uriparse_text.proofs.SettledLemmas.{kept_by}
+use Rattle.uriparse_text.proofs.lemmas.classes.FaultBeforeMarkLemmas.{whole_text, text_before, fault_before, reading-in}
+use Rattle.uriparse_text.proofs.lemmas.canonical.SettledLemmas.{kept_by}
 use Rattle.uriparse_text.proofs.internal.found.find_text_before.Goals as goal
 
 pub found_text-requires : goal.found_text-requires

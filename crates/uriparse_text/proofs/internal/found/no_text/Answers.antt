@@ -1,6 +1,6 @@
 use Rattle.std.proofs.Common.{[], refl}
 use Rattle.std.proofs.lemmas.Bool.{false≢true}
-use Rattle.uriparse_text.proofs.FaultLemmas.{IsIn-plain}
+use Rattle.uriparse_text.proofs.lemmas.classes.FaultLemmas.{IsIn-plain}
 use Rattle.uriparse_text.proofs.internal.found.no_text.Goals as goal
 
 pub invariant_of-result : goal.invariant_of-result

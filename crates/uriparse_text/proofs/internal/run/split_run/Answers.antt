@@ -1,8 +1,8 @@
 use Rattle.std.proofs.Common.{◌++◌, take, sym, ap, ◌∙◌}
 use Rattle.std.proofs.lemmas.List.{take-append-drop}
 use Rattle.uriparse_text.specs.Canonical.{may_change}
-use Rattle.uriparse_text.proofs.CutLemmas.{take_place, drop_place}
-use Rattle.uriparse_text.proofs.RunLemmas.{canonical_in-run}
+use Rattle.uriparse_text.proofs.lemmas.readings.CutLemmas.{take_place, drop_place}
+use Rattle.uriparse_text.proofs.lemmas.canonical.RunLemmas.{canonical_in-run}
 use Rattle.uriparse_text.proofs.internal.run.split_run.Goals as goal
 
 pub returns-clause-whole : goal.returns-clause-whole

@@ -1,4 +1,4 @@
-use Rattle.uriparse_text.proofs.LaneLemmas.{high_ok, looked_up_high}
+use Rattle.uriparse_text.proofs.lemmas.scans.LaneLemmas.{high_ok, looked_up_high}
 use Rattle.uriparse_text.proofs.internal.scan.by_high.Goals as goal
 
 pub swizzle : goal.swizzle

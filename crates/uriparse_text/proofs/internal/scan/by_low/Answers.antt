@@ -1,4 +1,4 @@
-use Rattle.uriparse_text.proofs.LaneLemmas.{low_ok, looked_up_low}
+use Rattle.uriparse_text.proofs.lemmas.scans.LaneLemmas.{low_ok, looked_up_low}
 use Rattle.uriparse_text.proofs.internal.scan.by_low.Goals as goal
 
 pub swizzle : goal.swizzle

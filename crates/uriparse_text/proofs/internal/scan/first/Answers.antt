@@ -1,4 +1,4 @@
-use Rattle.uriparse_text.proofs.ScanLemmas.{place_within}
+use Rattle.uriparse_text.proofs.lemmas.scans.ScanLemmas.{place_within}
 use Rattle.uriparse_text.proofs.internal.scan.first.Goals as goal
 
 pub returns-then-len-lt8-clause-within : goal.returns-then-len-lt8-clause-within

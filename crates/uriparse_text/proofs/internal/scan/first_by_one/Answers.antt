@@ -1,5 +1,5 @@
 use Rattle.std.proofs.Common.{arith}
-use Rattle.uriparse_text.proofs.ScanLemmas.{found_here, found_nowhere}
+use Rattle.uriparse_text.proofs.lemmas.scans.ScanLemmas.{found_here, found_nowhere}
 use Rattle.uriparse_text.proofs.internal.scan.first_by_one.Goals as goal
 
 pub returns-then-has : goal.returns-then-has

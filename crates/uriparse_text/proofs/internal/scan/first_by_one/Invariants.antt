@@ -1,5 +1,5 @@
 use Rattle.std.proofs.Common.{length, ◌-◌}
-use Rattle.uriparse_text.proofs.ScanLemmas.{NoneBefore}
+use Rattle.uriparse_text.proofs.lemmas.scans.ScanLemmas.{NoneBefore}
 use Rattle.uriparse_text.proofs.internal.scan.first_by_one.Given as goal
 
 abbrev pub invariant-bytes : goal.invariant-bytes

@@ -1,5 +1,5 @@
 use Rattle.std.proofs.Common.{◌-◌, length, arith}
-use Rattle.uriparse_text.proofs.ScanLemmas.{found_in_run, found_at_end, run_empty}
+use Rattle.uriparse_text.proofs.lemmas.scans.ScanLemmas.{found_in_run, found_at_end, run_empty}
 use Rattle.uriparse_text.proofs.internal.scan.first_by_runs.Goals as goal
 
 pub returns-then-found-lt16 : goal.returns-then-found-lt16

@@ -1,5 +1,5 @@
 use Rattle.std.proofs.Common.{length, ◌-◌}
-use Rattle.uriparse_text.proofs.ScanLemmas.{NoneBefore}
+use Rattle.uriparse_text.proofs.lemmas.scans.ScanLemmas.{NoneBefore}
 use Rattle.uriparse_text.proofs.internal.scan.first_by_runs.Given as goal
 
 abbrev pub invariant-blocks-2 : goal.invariant-blocks-2

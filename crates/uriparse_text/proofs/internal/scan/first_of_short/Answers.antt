@@ -1,4 +1,4 @@
-use Rattle.uriparse_text.proofs.MarkLemmas.{first_marked, none_marked}
+use Rattle.uriparse_text.proofs.lemmas.scans.MarkLemmas.{first_marked, none_marked}
 use Rattle.uriparse_text.proofs.internal.scan.first_of_short.Goals as goal
 
 pub returns-then-marks-eq0 : goal.returns-then-marks-eq0

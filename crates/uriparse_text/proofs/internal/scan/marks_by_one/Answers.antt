@@ -1,6 +1,6 @@
 use Rattle.std.proofs.Common.{◌≡◌, ◌-◌, length, subst, arith}
 use Rattle.uriparse_text.specs.Marks.{AreMarks}
-use Rattle.uriparse_text.proofs.MarkLemmas.{marks_bound, marks_from}
+use Rattle.uriparse_text.proofs.lemmas.scans.MarkLemmas.{marks_bound, marks_from}
 use Rattle.uriparse_text.proofs.internal.scan.marks_by_one.Goals as goal
 
 pub overflow_mul-marks : goal.overflow_mul-marks

@@ -1,4 +1,4 @@
-use Rattle.uriparse_text.proofs.MarkLemmas.{run_marks}
+use Rattle.uriparse_text.proofs.lemmas.scans.MarkLemmas.{run_marks}
 use Rattle.uriparse_text.proofs.internal.scan.marks_of_run.Goals as goal
 
 pub returns : goal.returns

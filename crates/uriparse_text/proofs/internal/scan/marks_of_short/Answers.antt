@@ -1,6 +1,6 @@
 use Rattle.std.proofs.Common.{map, ap, ◌∙◌}
 use Rattle.std.specs.Simd.Lanes.{mask_l}
-use Rattle.uriparse_text.proofs.MarkLemmas.{ends_small, joined_are_marks}
+use Rattle.uriparse_text.proofs.lemmas.scans.MarkLemmas.{ends_small, joined_are_marks}
 use Rattle.uriparse_text.proofs.internal.scan.marks_of_short.Goals as goal
 
 pub joined_ends-requires-clause-small : goal.joined_ends-requires-clause-small

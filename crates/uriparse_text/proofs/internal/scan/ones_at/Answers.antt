@@ -1,4 +1,4 @@
-use Rattle.uriparse_text.proofs.LaneLemmas.{ones_where}
+use Rattle.uriparse_text.proofs.lemmas.scans.LaneLemmas.{ones_where}
 use Rattle.uriparse_text.proofs.internal.scan.ones_at.Goals as goal
 
 pub returns : goal.returns

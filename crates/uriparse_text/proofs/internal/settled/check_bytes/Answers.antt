@@ -1,8 +1,8 @@
 use Rattle.std.proofs.Common.{sym, true, arith}
 use Rattle.std.proofs.lemmas.Bool.{false≢true}
-use Rattle.uriparse_text.proofs.FaultLemmas.{no_fault}
-use Rattle.uriparse_text.proofs.FineLemmas.{fault_found, fault_absent}
-use Rattle.uriparse_text.proofs.SettledLemmas.{all_settled}
+use Rattle.uriparse_text.proofs.lemmas.classes.FaultLemmas.{no_fault}
+use Rattle.uriparse_text.proofs.lemmas.classes.FaultByByteLemmas.{fault_found, fault_absent}
+use Rattle.uriparse_text.proofs.lemmas.canonical.SettledLemmas.{all_settled}
 use Rattle.uriparse_text.proofs.internal.settled.check_bytes.Goals as goal
 
 pub returns-then-len-text : goal.returns-then-len-text

@@ -1,7 +1,7 @@
 use Rattle.std.proofs.Common.{subst}
 use Rattle.std.proofs.lemmas.List.{take_rest}
 use Rattle.uriparse_text.specs.Faults.{IsFaultPlace}
-use Rattle.uriparse_text.proofs.SettledLemmas.{fault_place_after}
+use Rattle.uriparse_text.proofs.lemmas.canonical.SettledLemmas.{fault_place_after}
 use Rattle.uriparse_text.proofs.internal.settled.fault_after.Goals as goal
 
 pub returns : goal.returns

@@ -1,7 +1,7 @@
 use Rattle.std.proofs.Common.{◌≡◌, get_or, false, arith, rules}
 use Rattle.std.proofs.lemmas.Bool.{ne_eqb}
 use Rattle.uriparse_text.specs.Classes.{is_plain}
-use Rattle.uriparse_text.proofs.SettledLemmas.{fault_place_end, fault_place_here, settled_fine}
+use Rattle.uriparse_text.proofs.lemmas.canonical.SettledLemmas.{fault_place_end, fault_place_here, settled_fine}
 use Rattle.uriparse_text.proofs.internal.settled.fault_behind.Goals as goal
 
 pub returns-then-len-text : goal.returns-then-len-text

@@ -1,6 +1,6 @@
 use Rattle.std.specs.Prelude.{not}
 use Rattle.uriparse_text.specs.Spelling.{is_settled}
-use Rattle.uriparse_text.proofs.ScanLemmas.{place_within}
+use Rattle.uriparse_text.proofs.lemmas.scans.ScanLemmas.{place_within}
 use Rattle.uriparse_text.proofs.internal.settled.settled_len.Goals as goal
 
 pub returns-then-text-lt8-clause-within : goal.returns-then-text-lt8-clause-within

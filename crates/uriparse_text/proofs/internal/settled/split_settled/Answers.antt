@@ -1,6 +1,6 @@
 use Rattle.std.proofs.Common.{sym, subst, true}
 use Rattle.uriparse_text.specs.Spelling.{IsKept}
-use Rattle.uriparse_text.proofs.SettledLemmas.{settled_take}
+use Rattle.uriparse_text.proofs.lemmas.canonical.SettledLemmas.{settled_take}
 use Rattle.uriparse_text.proofs.internal.settled.split_settled.Goals as goal
 
 pub returns-clause-front : goal.returns-clause-front

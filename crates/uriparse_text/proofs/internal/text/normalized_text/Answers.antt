@@ -4,8 +4,8 @@ use Rattle.uriparse_text.specs.declared.internal.canonical.Case.{Case}
 use Rattle.uriparse_text.specs.Faults.{IsIn}
 use Rattle.uriparse_text.specs.Canonical.{canonical_in}
 use Rattle.uriparse_text.specs.Spelling.{spelled}
-use Rattle.uriparse_text.proofs.CanonicalLemmas.{canonical_in-canonical_in}
-use Rattle.uriparse_text.proofs.ClassLemmas.{IsUtf8-in_class, IsIn-canonical_in}
+use Rattle.uriparse_text.proofs.lemmas.canonical.CanonicalLemmas.{canonical_in-canonical_in}
+use Rattle.uriparse_text.proofs.lemmas.classes.ClassLemmas.{IsUtf8-in_class, IsIn-canonical_in}
 use Rattle.uriparse_text.proofs.internal.text.normalized_text.Goals as goal
 
 spelled_in : (class : Class) (case : Case) (text bytes spelled : List ℕ) → bytes ≡ text → IsIn class text → spelled ≡ canonical_in case bytes →

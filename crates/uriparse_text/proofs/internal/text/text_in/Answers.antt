@@ -1,4 +1,4 @@
-use Rattle.uriparse_text.proofs.ClassLemmas.{IsUtf8-in_class}
+use Rattle.uriparse_text.proofs.lemmas.classes.ClassLemmas.{IsUtf8-in_class}
 use Rattle.uriparse_text.proofs.internal.text.text_in.Goals as goal
 
 pub from_utf8_unchecked-requires : goal.from_utf8_unchecked-requires

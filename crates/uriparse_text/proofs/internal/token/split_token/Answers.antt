@@ -1,7 +1,7 @@
 use Rattle.std.proofs.Common.{◌≡◌, ◌∷◌, ◌∙◌, ap, rules}
 use Rattle.std.proofs.lemmas.List.{take_rest}
 use Rattle.uriparse_text.specs.Tokens.{tokens}
-use Rattle.uriparse_text.proofs.TokenLemmas.{tokens-escape, tokens-byte}
+use Rattle.uriparse_text.proofs.lemmas.tokens.TokenLemmas.{tokens-escape, tokens-byte}
 use Rattle.uriparse_text.proofs.internal.token.split_token.Goals as goal
 
 pub returns-then-is_escape-clause-cut : goal.returns-then-is_escape-clause-cut

@@ -3,7 +3,7 @@ use Rattle.std.specs.Prelude.{IfOk, is_some}
 use Rattle.uriparse_reference.specs.Reference.{Parts, Valid}
 use Rattle.uriparse_reference.specs.Relate.{Relates}
 use Rattle.uriparse_reference.specs.Target.{target}
-use Rattle.uriparse_reference.proofs.RelateLemmas.{back_again, ok_more}
+use Rattle.uriparse_reference.proofs.lemmas.resolving.RelativizeLemmas.{back_again, ok_more}
 use Rattle.uriparse.proofs.uri.relate.URI.relativize.Goals as goal
 
 pub returns-clause-back : goal.returns-clause-back

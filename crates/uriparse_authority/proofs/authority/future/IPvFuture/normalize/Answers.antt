@@ -1,4 +1,4 @@
-use Rattle.uriparse_authority.proofs.FutureLemmas.{kept_or_lowered}
+use Rattle.uriparse_authority.proofs.lemmas.hosts.FutureLemmas.{kept_or_lowered}
 use Rattle.uriparse_authority.proofs.authority.future.IPvFuture.normalize.Goals as goal
 
 pub invariant_of-self : goal.invariant_of-self

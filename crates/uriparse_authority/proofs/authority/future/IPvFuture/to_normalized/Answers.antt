@@ -1,6 +1,6 @@
 use Rattle.std.proofs.Common.{sym, subst}
 use Rattle.uriparse_authority.specs.Future.{IsFuture}
-use Rattle.uriparse_authority.proofs.FutureLemmas.{IsFuture-canonical_lowered}
+use Rattle.uriparse_authority.proofs.lemmas.hosts.FutureLemmas.{IsFuture-canonical_lowered}
 use Rattle.uriparse_authority.proofs.authority.future.IPvFuture.to_normalized.Goals as goal
 
 pub invariant_of-result : goal.invariant_of-result

@@ -1,4 +1,4 @@
-use Rattle.uriparse_authority.proofs.LengthLemmas.{length-ipv4_host, length-ipv6_host}
+use Rattle.uriparse_authority.proofs.lemmas.authorities.LengthLemmas.{length-ipv4_host, length-ipv6_host}
 use Rattle.uriparse_authority.proofs.authority.host.Host.most_bytes.Goals as goal
 
 pub returns-in-IPv4Address : goal.returns-in-IPv4Address

@@ -1,6 +1,6 @@
 use Rattle.std.proofs.Common.{subst}
 use Rattle.uriparse_authority.specs.Host.{Valid}
-use Rattle.uriparse_authority.proofs.HostLemmas.{feeds_ipv4, feeds_ipv6, feeds_future}
+use Rattle.uriparse_authority.proofs.lemmas.hosts.HostLemmas.{feeds_ipv4, feeds_ipv6, feeds_future}
 use Rattle.uriparse_authority.proofs.authority.host.HostHash.hash.Goals as goal
 
 pub returns-in-IPv4Address-clause-key : goal.returns-in-IPv4Address-clause-key

@@ -1,4 +1,4 @@
-use Rattle.uriparse_authority.proofs.HostLemmas.{same_ipv4, same_ipv6, same_future}
+use Rattle.uriparse_authority.proofs.lemmas.hosts.HostLemmas.{same_ipv4, same_ipv6, same_future}
 use Rattle.uriparse_authority.proofs.authority.host.HostPartialEq.eq.Goals as goal
 
 pub returns-in-IPv4Address-IPv4Address : goal.returns-in-IPv4Address-IPv4Address

@@ -1,5 +1,5 @@
 use Rattle.std.proofs.Common.{sym, refl, rules, true, false}
-use Rattle.uriparse_authority.proofs.HostLemmas.{closed_by_last}
+use Rattle.uriparse_authority.proofs.lemmas.hosts.HostLemmas.{closed_by_last}
 use Rattle.uriparse_authority.proofs.authority.host.read.before_closing.Goals as goal
 
 pub returns-then-last-eq93 : goal.returns-then-last-eq93

@@ -1,5 +1,5 @@
 use Rattle.std.proofs.Common.{Ok, sym, ap, ◌∙◌}
-use Rattle.uriparse_authority.proofs.HostLemmas.{ipv4_first}
+use Rattle.uriparse_authority.proofs.lemmas.hosts.HostLemmas.{ipv4_first}
 use Rattle.uriparse_authority.proofs.authority.host.read.read_name.Goals as goal
 
 pub returns-in-Some : goal.returns-in-Some

@@ -1,5 +1,5 @@
 use Rattle.std.proofs.Common.{◌∙◌}
-use Rattle.uriparse_path.proofs.TallyLemmas.{counts_plain}
+use Rattle.uriparse_path.proofs.lemmas.list.SegmentCountLemmas.{counts_plain}
 use Rattle.uriparse_path.proofs.path.counts.Counts.add.Goals as goal
 
 pub returns-else-begins_with_dot : goal.returns-else-begins_with_dot

@@ -1,4 +1,4 @@
-use Rattle.uriparse_path.proofs.TallyLemmas.{canonical_told}
+use Rattle.uriparse_path.proofs.lemmas.list.SegmentCountLemmas.{canonical_told}
 use Rattle.uriparse_path.proofs.path.counts.Counts.all_canonical.Goals as goal
 
 pub returns : goal.returns

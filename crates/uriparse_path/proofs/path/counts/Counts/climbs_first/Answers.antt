@@ -1,7 +1,7 @@
 use Rattle.std.proofs.Common.{sym, ap, ◌∙◌, ◌&&◌}
 use Rattle.std.specs.Prelude.{◌==◌}
 use Rattle.std.proofs.lemmas.Bool.{eq-eqb, ne_eqb}
-use Rattle.uriparse_path.proofs.TallyLemmas.{climbs_told}
+use Rattle.uriparse_path.proofs.lemmas.list.SegmentCountLemmas.{climbs_told}
 use Rattle.uriparse_path.proofs.path.counts.Counts.climbs_first.Goals as goal
 
 pub returns-then-self-eq0 : goal.returns-then-self-eq0

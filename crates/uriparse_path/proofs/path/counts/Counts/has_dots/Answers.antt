@@ -1,7 +1,7 @@
 use Rattle.std.proofs.Common.{sym, ap, ◌∙◌, ◌||◌, not}
 use Rattle.std.specs.Prelude.{◌==◌}
 use Rattle.std.proofs.lemmas.Bool.{eq-eqb, ne_eqb}
-use Rattle.uriparse_path.proofs.TallyLemmas.{dots_told}
+use Rattle.uriparse_path.proofs.lemmas.list.SegmentCountLemmas.{dots_told}
 use Rattle.uriparse_path.proofs.path.counts.Counts.has_dots.Goals as goal
 
 pub returns-then-self-ne0 : goal.returns-then-self-ne0

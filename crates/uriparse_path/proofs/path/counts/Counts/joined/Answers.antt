@@ -1,7 +1,7 @@
 use Rattle.std.proofs.Common.{◌≡◌, arith, sym, ap, ◌∙◌, cond, length}
 use Rattle.std.specs.Prelude.{◌==◌}
 use Rattle.std.proofs.lemmas.Bool.{eq-eqb, ne_eqb}
-use Rattle.uriparse_path.proofs.TallyLemmas.{few, cond_le, counts_joined}
+use Rattle.uriparse_path.proofs.lemmas.list.SegmentCountLemmas.{few, cond_le, counts_joined}
 use Rattle.uriparse_path.proofs.path.counts.Counts.joined.Goals.{then-climbing, else-climbing}
 use Rattle.uriparse_path.proofs.path.counts.Counts.joined.Goals as goal
 

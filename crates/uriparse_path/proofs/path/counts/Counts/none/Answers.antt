@@ -1,4 +1,4 @@
-use Rattle.uriparse_path.proofs.TallyLemmas.{counts-nil}
+use Rattle.uriparse_path.proofs.lemmas.list.SegmentCountLemmas.{counts-nil}
 use Rattle.uriparse_path.proofs.path.counts.Counts.none.Goals as goal
 
 pub returns : goal.returns

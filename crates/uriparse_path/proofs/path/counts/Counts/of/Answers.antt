@@ -1,4 +1,4 @@
-use Rattle.uriparse_path.proofs.TallyLemmas.{canonical_at}
+use Rattle.uriparse_path.proofs.lemmas.list.SegmentCountLemmas.{canonical_at}
 use Rattle.uriparse_path.proofs.path.counts.Counts.of.Goals as goal
 
 pub add-requires-clause-canonical : goal.add-requires-clause-canonical

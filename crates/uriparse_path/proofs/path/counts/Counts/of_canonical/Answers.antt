@@ -1,4 +1,4 @@
-use Rattle.uriparse_path.proofs.TallyLemmas.{counts-canonical}
+use Rattle.uriparse_path.proofs.lemmas.list.SegmentCountLemmas.{counts-canonical}
 use Rattle.uriparse_path.proofs.path.counts.Counts.of_canonical.Goals as goal
 
 pub returns : goal.returns

@@ -1,7 +1,7 @@
 use Rattle.std.proofs.Common.{◌≡◌, sym, ap, ◌∙◌, ◌&&◌, ◌+◌, cond, length, arith}
 use Rattle.std.specs.Prelude.{◌==◌}
 use Rattle.uriparse_path.specs.Dots.{is_single_dot, is_double_dot}
-use Rattle.uriparse_path.proofs.TallyLemmas.{few, counts_push, single_by_bytes, double_by_bytes, no_stray}
+use Rattle.uriparse_path.proofs.lemmas.list.SegmentCountLemmas.{few, counts_push, single_by_bytes, double_by_bytes, no_stray}
 use Rattle.uriparse_path.proofs.path.counts.Counts.with_canonical.Goals.{then-is_double, else-is_double}
 use Rattle.uriparse_path.proofs.path.counts.Counts.with_canonical.Goals as goal
 

@@ -1,5 +1,5 @@
 use Rattle.std.proofs.Common.{ap, ◌∙◌, ◌+◌, cond}
-use Rattle.uriparse_path.proofs.TallyLemmas.{make, counts_undotted, counts_dotted}
+use Rattle.uriparse_path.proofs.lemmas.list.SegmentCountLemmas.{make, counts_undotted, counts_dotted}
 use Rattle.uriparse_path.proofs.path.counts.Counts.without_dots.Goals as goal
 
 pub returns-clause-plain : goal.returns-clause-plain

@@ -1,7 +1,7 @@
 use Rattle.std.proofs.Common.{◌≡◌, sym, ap, ◌∙◌, ◌&&◌, ◌+◌, cond, length}
 use Rattle.std.specs.Prelude.{◌==◌}
 use Rattle.uriparse_path.specs.Dots.{is_double_dot}
-use Rattle.uriparse_path.proofs.TallyLemmas.{has_last, counts_less, stray_is}
+use Rattle.uriparse_path.proofs.lemmas.list.SegmentCountLemmas.{has_last, counts_less, stray_is}
 use Rattle.uriparse_path.proofs.path.counts.Counts.without_last.Goals.{then-is_double, else-is_double}
 use Rattle.uriparse_path.proofs.path.counts.Counts.without_last.Goals as goal
 

@@ -1,5 +1,5 @@
 use Rattle.std.proofs.Common.{◌≡◌, ◌∷◌, [], slice_set, rules}
-use Rattle.uriparse_path.proofs.TallyLemmas.{cleared_kept}
+use Rattle.uriparse_path.proofs.lemmas.list.SegmentCountLemmas.{cleared_kept}
 use Rattle.uriparse_path.proofs.path.edit.Path.clear.Goals as goal
 
 pub invariant_of-self : goal.invariant_of-self

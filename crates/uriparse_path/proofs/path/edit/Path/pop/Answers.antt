@@ -3,7 +3,7 @@ use Rattle.uriparse_path.specs.Path.{flag}
 use Rattle.uriparse_path.specs.Dots.{all_but_last}
 use Rattle.uriparse_path.specs.Relative.{filled}
 use Rattle.uriparse_path.specs.Counts.{counts}
-use Rattle.uriparse_path.proofs.TallyLemmas.{popped_kept}
+use Rattle.uriparse_path.proofs.lemmas.list.SegmentCountLemmas.{popped_kept}
 use Rattle.uriparse_path.proofs.path.edit.Path.pop.Goals as goal
 
 pub invariant_of-self : goal.invariant_of-self

@@ -2,9 +2,9 @@ use Rattle.std.proofs.Common.{◌<◌, ◌≤◌, length, Ok, ap, ◌∙◌, con
 use Rattle.uriparse_path.specs.Path.{flag, max_segments}
 use Rattle.uriparse_path.specs.Edits.{with_last}
 use Rattle.uriparse_path.specs.Counts.{counts}
-use Rattle.uriparse_path.proofs.ReadLemmas.{limit_is}
-use Rattle.uriparse_path.proofs.EditLemmas.{full_answer, pushed_answer, pushed_fault}
-use Rattle.uriparse_path.proofs.TallyLemmas.{pushed_kept}
+use Rattle.uriparse_path.proofs.lemmas.reading.ReadingLemmas.{limit_is}
+use Rattle.uriparse_path.proofs.lemmas.list.EditLemmas.{full_answer, pushed_answer, pushed_fault}
+use Rattle.uriparse_path.proofs.lemmas.list.SegmentCountLemmas.{pushed_kept}
 use Rattle.uriparse_path.proofs.path.edit.Path.push.Goals.{After-put_last-result}
 use Rattle.uriparse_path.proofs.path.edit.Path.push.Goals as goal
 

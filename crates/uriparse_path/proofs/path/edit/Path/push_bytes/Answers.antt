@@ -4,8 +4,8 @@ use Rattle.uriparse_path.specs.declared.path.error.PathError.TheVariants.{OutOfM
 use Rattle.uriparse_path.specs.Path.{max_segments}
 use Rattle.uriparse_path.specs.Edits.{pushing}
 use Rattle.uriparse_path.specs.Segment as segment
-use Rattle.uriparse_path.proofs.ReadLemmas.{limit_is}
-use Rattle.uriparse_path.proofs.EditLemmas.{full_answer, full_fault, refused_answer, refused_fault}
+use Rattle.uriparse_path.proofs.lemmas.reading.ReadingLemmas.{limit_is}
+use Rattle.uriparse_path.proofs.lemmas.list.EditLemmas.{full_answer, full_fault, refused_answer, refused_fault}
 use Rattle.uriparse_path.proofs.path.edit.Path.push_bytes.Goals.{After-from_residual}
 use Rattle.uriparse_path.proofs.path.edit.Path.push_bytes.Goals as goal
 

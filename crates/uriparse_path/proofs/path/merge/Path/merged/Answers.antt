@@ -1,6 +1,6 @@
 use Rattle.std.proofs.Common.{◌≡◌, ◌+◌, ◌≤◌, length, inl, sym, subst, arith, IfErr, Err}
-use Rattle.uriparse_path.proofs.ReadLemmas.{limit_is}
-use Rattle.uriparse_path.proofs.MergingLemmas.{too_long, short_enough, listed_list}
+use Rattle.uriparse_path.proofs.lemmas.reading.ReadingLemmas.{limit_is}
+use Rattle.uriparse_path.proofs.lemmas.merge.MergedPathLemmas.{too_long, short_enough, listed_list}
 use Rattle.uriparse_path.proofs.path.merge.Path.merged.Goals as goal
 
 pub returns-then-front-back-gt-MAX_SEGMENTS-clause-answer :

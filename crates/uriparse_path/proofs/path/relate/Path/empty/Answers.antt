@@ -1,6 +1,6 @@
 use Rattle.std.proofs.Common.{[], ◌∷◌, ◌++◌, ap, sym, subst, ◌∙◌}
 use Rattle.uriparse_path.specs.Path.{IsListed}
-use Rattle.uriparse_path.proofs.RelateLemmas.{listed_empty}
+use Rattle.uriparse_path.proofs.lemmas.merge.LeadingPathLemmas.{listed_empty}
 use Rattle.uriparse_path.proofs.path.relate.Path.empty.Goals as goal
 
 pub of-requires-clause-listed : goal.of-requires-clause-listed

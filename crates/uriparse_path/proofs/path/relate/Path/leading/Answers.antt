@@ -3,8 +3,8 @@ use Rattle.std.specs.List.{list_all}
 use Rattle.std.proofs.lemmas.List.{take_rest}
 use Rattle.uriparse_path.specs.Segment.{is_segment}
 use Rattle.uriparse_path.specs.Relate.{may_lead}
-use Rattle.uriparse_path.proofs.ReadLemmas.{limit_is}
-use Rattle.uriparse_path.proofs.RelateLemmas.{no_room, led_path, led_listed}
+use Rattle.uriparse_path.proofs.lemmas.reading.ReadingLemmas.{limit_is}
+use Rattle.uriparse_path.proofs.lemmas.merge.LeadingPathLemmas.{no_room, led_path, led_listed}
 use Rattle.uriparse_path.proofs.path.relate.Path.leading.Goals as goal
 
 pub returns-then-directories-left-ge-MAX_SEGMENTS : goal.returns-then-directories-left-ge-MAX_SEGMENTS

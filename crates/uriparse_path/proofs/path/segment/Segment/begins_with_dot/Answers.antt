@@ -1,5 +1,5 @@
 use Rattle.std.proofs.Common.{ap, ◌∙◌, slice_get}
-use Rattle.uriparse_path.proofs.TallyLemmas.{canonical_dots, empty_dots}
+use Rattle.uriparse_path.proofs.lemmas.list.SegmentCountLemmas.{canonical_dots, empty_dots}
 use Rattle.uriparse_path.proofs.path.segment.Segment.begins_with_dot.Goals as goal
 
 pub returns-in-Some : goal.returns-in-Some

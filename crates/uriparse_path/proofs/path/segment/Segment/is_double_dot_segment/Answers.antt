@@ -1,4 +1,4 @@
-use Rattle.uriparse_path.proofs.DotLemmas.{double_by, no_double}
+use Rattle.uriparse_path.proofs.lemmas.dots.DotSegmentLemmas.{double_by, no_double}
 use Rattle.uriparse_path.proofs.path.segment.Segment.is_double_dot_segment.Goals as goal
 
 pub returns : goal.returns

@@ -1,4 +1,4 @@
-use Rattle.uriparse_path.proofs.DotLemmas.{single_by, no_single}
+use Rattle.uriparse_path.proofs.lemmas.dots.DotSegmentLemmas.{single_by, no_single}
 use Rattle.uriparse_path.proofs.path.segment.Segment.is_single_dot_segment.Goals as goal
 
 pub returns : goal.returns

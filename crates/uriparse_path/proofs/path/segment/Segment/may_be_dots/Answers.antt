@@ -1,5 +1,5 @@
 use Rattle.std.proofs.Common.{ap, ◌∙◌, slice_get, length, arith}
-use Rattle.uriparse_path.proofs.DotLemmas.{first_of_dots, none_of_dots, dots_short}
+use Rattle.uriparse_path.proofs.lemmas.dots.DotSegmentLemmas.{first_of_dots, none_of_dots, dots_short}
 use Rattle.uriparse_path.proofs.path.segment.Segment.may_be_dots.Goals as goal
 
 pub returns-then-as_bytes-gt6 : goal.returns-then-as_bytes-gt6

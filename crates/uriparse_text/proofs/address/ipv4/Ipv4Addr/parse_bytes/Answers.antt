@@ -1,8 +1,8 @@
 -- What std's reader gives is the one address that the text spells.
 use Rattle.std.proofs.Common.{ℕ, List, ap, sym, Some}
 use Rattle.uriparse_text.specs.Address.{SpellsIpv4}
-use Rattle.uriparse_text.proofs.OctetLemmas.{spells_from_dotted, dotted_from_spells}
-use Rattle.uriparse_text.proofs.AddressLemmas.{SpellsIpv4-unique, ipv4_reading-spelled, ipv4_reading-none}
+use Rattle.uriparse_text.proofs.lemmas.addresses.Ipv4Lemmas.{spells_from_dotted, dotted_from_spells}
+use Rattle.uriparse_text.proofs.lemmas.addresses.ReadingLemmas.{SpellsIpv4-unique, ipv4_reading-spelled, ipv4_reading-none}
 use Rattle.uriparse_text.proofs.address.ipv4.Ipv4Addr.parse_bytes.Goals as goal
 
 pub returns-in-Ok : goal.returns-in-Ok

@@ -1,8 +1,8 @@
 -- What std's reader gives is the one address that the text spells.
 use Rattle.std.proofs.Common.{ℕ, List, ap, sym, Some}
 use Rattle.uriparse_text.specs.Address.{SpellsIpv6}
-use Rattle.uriparse_text.proofs.AddressGrammarLemmas.{spells_from_colon_hex, colon_hex_from_spells}
-use Rattle.uriparse_text.proofs.AddressLemmas.{SpellsIpv6-unique, ipv6_reading-spelled, ipv6_reading-none}
+use Rattle.uriparse_text.proofs.lemmas.addresses.GrammarLemmas.{spells_from_colon_hex, colon_hex_from_spells}
+use Rattle.uriparse_text.proofs.lemmas.addresses.ReadingLemmas.{SpellsIpv6-unique, ipv6_reading-spelled, ipv6_reading-none}
 use Rattle.uriparse_text.proofs.address.ipv6.Ipv6Addr.parse_bytes.Goals as goal
 
 pub returns-in-Ok : goal.returns-in-Ok

@@ -1,4 +1,4 @@
-use Rattle.uriparse_text.proofs.LaneLemmas.{any_marks}
+use Rattle.uriparse_text.proofs.lemmas.scans.LaneLemmas.{any_marks}
 use Rattle.uriparse_text.proofs.internal.scan.IsAnyByteTest.marks.Goals as goal
 
 pub returns : goal.returns

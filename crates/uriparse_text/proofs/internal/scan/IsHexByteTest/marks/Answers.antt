@@ -1,6 +1,6 @@
 use Rattle.uriparse_text.specs.declared.internal.scan.TheConstants.{HEX_LOW, HEX_HIGH}
 use Rattle.uriparse_text.specs.Bytes.{is_hex}
-use Rattle.uriparse_text.proofs.LaneLemmas.{marks_by_tables, hex_kind}
+use Rattle.uriparse_text.proofs.lemmas.scans.LaneLemmas.{marks_by_tables, hex_kind}
 use Rattle.uriparse_text.proofs.internal.scan.IsHexByteTest.marks.Goals as goal
 
 pub returns : goal.returns

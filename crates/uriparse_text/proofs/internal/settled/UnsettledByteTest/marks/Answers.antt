@@ -2,7 +2,7 @@ use Rattle.std.specs.Prelude.{not}
 use Rattle.uriparse_text.specs.Canonical.{may_change}
 use Rattle.uriparse_text.specs.Classes.{is_plain}
 use Rattle.uriparse_text.specs.Spelling.{is_settled}
-use Rattle.uriparse_text.proofs.SettledLemmas.{masks_of_either, unsettled_parts}
+use Rattle.uriparse_text.proofs.lemmas.canonical.SettledLemmas.{masks_of_either, unsettled_parts}
 use Rattle.uriparse_text.proofs.internal.settled.UnsettledByteTest.marks.Goals as goal
 
 pub returns-in-Lowered : goal.returns-in-Lowered

@@ -1,4 +1,4 @@
-use Rattle.uriparse_text.proofs.ClassLemmas.{well_formed-in_class}
+use Rattle.uriparse_text.proofs.lemmas.classes.ClassLemmas.{well_formed-in_class}
 use Rattle.uriparse_text.proofs.internal.text.Text.as_bytes.Goals as goal
 
 pub returns-clause-formed : goal.returns-clause-formed

@@ -1,4 +1,4 @@
-use Rattle.uriparse_text.proofs.CodingLemmas.{decoded_alike}
+use Rattle.uriparse_text.proofs.lemmas.tokens.CodingLemmas.{decoded_alike}
 use Rattle.uriparse_text.proofs.internal.text.Text.decode.Goals as goal
 
 pub returns-clause-alike : goal.returns-clause-alike

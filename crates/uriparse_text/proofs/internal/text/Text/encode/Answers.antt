@@ -4,8 +4,8 @@ use Rattle.uriparse_text.specs.Faults.{IsIn}
 use Rattle.uriparse_text.specs.Canonical.{canonical_in}
 use Rattle.uriparse_text.specs.Coding.{decoded, encoded}
 use Rattle.uriparse_text.specs.Spelling.{spelled}
-use Rattle.uriparse_text.proofs.ClassLemmas.{IsUtf8-in_class}
-use Rattle.uriparse_text.proofs.CodingLemmas.{IsIn-encoded, decoded-encoded, canonical-encoded}
+use Rattle.uriparse_text.proofs.lemmas.classes.ClassLemmas.{IsUtf8-in_class}
+use Rattle.uriparse_text.proofs.lemmas.tokens.CodingLemmas.{IsIn-encoded, decoded-encoded, canonical-encoded}
 use Rattle.uriparse_text.proofs.internal.text.Text.encode.Goals as goal
 
 -- what was written is what is written in the kind's class

@@ -1,0 +1,2 @@
+pub mod FutureLemmas
+pub mod HostLemmas

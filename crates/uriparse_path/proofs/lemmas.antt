@@ -1,0 +1,6 @@
+pub mod text
+pub mod reading
+pub mod dots
+pub mod normal
+pub mod merge
+pub mod list

@@ -1,0 +1,4 @@
+pub mod DotSegmentLemmas
+pub mod RewritingStepLemmas
+pub mod ReplayLemmas
+pub mod ReplayInPlaceLemmas

@@ -1,0 +1,280 @@
+-- Dot segments, plain and percent-encoded, and what the canonical spelling says about a segment.
+use Rattle.std.proofs.Common.{◌≡◌, ℕ, ◌<◌, Bool, true, false, not, ◌&&◌, ◌||◌, List, [], ◌∷◌, ◌++◌, length, map, flat_map, refl, sym, ap, ◌∙◌, arith, Some}
+use Rattle.std.proofs.Common.{None, slice_get, ◌⊎◌, inl, inr, ⊎_elim, ◌≤◌, ◌*◌, cond, subst, length-append}
+use Rattle.std.specs.Char.{to_ascii_uppercase}
+use Rattle.std.specs.Prelude.{◌==◌, ◌↔◌, IsTrue, bytes_eq}
+use Rattle.std.specs.Bool.{one_answer}
+use Rattle.std.specs.List.{list_all, list_any}
+use Rattle.std.proofs.Math.Bool.{or-true}
+use Rattle.std.proofs.lemmas.Bool.{false≢true, eq-eqb, ne_eqb, and_parts, and_from, or_parts}
+use Rattle.std.proofs.lemmas.List.Folds.{list_all-append}
+use Rattle.std.proofs.lemmas.Slice.Eq.{bytes_eq-Decides}
+use Rattle.uriparse_text.specs.declared.internal.token.Token.{Token}
+use Rattle.uriparse_text.specs.declared.internal.token.Token.TheVariants.{Byte, Escape}
+use Rattle.uriparse_text.specs.declared.internal.class.Class.TheVariants.{Segment}
+use Rattle.uriparse_text.specs.declared.internal.canonical.Case.TheVariants.{Kept}
+use Rattle.uriparse_text.specs.Bytes.{dot, slash, colon, percent, is_hex, is_unreserved}
+use Rattle.uriparse_text.specs.Tokens.{tokens, spell, has_digits}
+use Rattle.uriparse_text.specs.Canonical.{canonical_token, escaped_byte, canonical_in, canonical, SpellsAlike}
+use Rattle.uriparse_text.specs.Cuts.{lacks}
+use Rattle.uriparse_text.proofs.lemmas.tokens.TokenLemmas.{spell-tokens, digits-tokens}
+use Rattle.uriparse_text.proofs.lemmas.canonical.CanonicalLemmas.{upper_digit, by_escaped, spell-canonical_token, canonical_in-canonical_in}
+use Rattle.uriparse_text.proofs.lemmas.classes.ClassLemmas.{well_formed-in_class}
+use Rattle.uriparse_text.proofs.lemmas.readings.CutLemmas.{other_byte}
+use Rattle.uriparse_text.proofs.lemmas.canonical.RunLemmas.{canonical_in-stays}
+use Rattle.uriparse_path.specs.Segment.{is_segment}
+use Rattle.uriparse_path.specs.Dots.{is_single_dot, is_double_dot, is_dot_segment, LacksSlash}
+use Rattle.uriparse_path.specs.Relative.{has_colon}
+use Rattle.uriparse_path.proofs.lemmas.text.CanonicalTextLemmas.{canonical-nil}
+
+-- ---- what the tests say
+
+bytes_same : (s t : List ℕ) → bytes_eq s t ≡ true → s ≡ t
+bytes_same s t h = (bytes_eq-Decides s t).0 h
+
+pub single_is : (s : List ℕ) → is_single_dot s ≡ true → canonical s ≡ dot ∷ []
+unfolding is_single_dot
+single_is s h = bytes_same (canonical s) (dot ∷ []) h
+
+pub double_is : (s : List ℕ) → is_double_dot s ≡ true → canonical s ≡ dot ∷ dot ∷ []
+unfolding is_double_dot
+double_is s h = bytes_same (canonical s) (dot ∷ dot ∷ []) h
+
+pub single_of : (s : List ℕ) → canonical s ≡ dot ∷ [] → is_single_dot s ≡ true
+unfolding is_single_dot
+single_of s e = (bytes_eq-Decides (canonical s) (dot ∷ [])).1 e
+
+pub double_of : (s : List ℕ) → canonical s ≡ dot ∷ dot ∷ [] → is_double_dot s ≡ true
+unfolding is_double_dot
+double_of s e = (bytes_eq-Decides (canonical s) (dot ∷ dot ∷ [])).1 e
+
+pub canonical-dot : canonical (dot ∷ []) ≡ dot ∷ []
+unfolding canonical_in tokens
+canonical-dot = refl
+
+canonical-dots : canonical (dot ∷ dot ∷ []) ≡ dot ∷ dot ∷ []
+unfolding canonical_in tokens
+canonical-dots = refl
+
+-- ---- the tests by comparing
+
+pub single_by : (s : List ℕ) (r : Bool) → (IsTrue r ↔ SpellsAlike Kept (dot ∷ []) s) → r ≡ is_single_dot s
+unfolding tokens
+single_by s r h = one_answer r (is_single_dot s) h (
+  λ k. record { formed = refl; same = canonical-dot ∙ sym (single_is s k) },
+  λ is. single_of s (sym is.same
+      ∙ canonical-dot),
+)
+
+pub double_by : (s : List ℕ) (r : Bool) → (IsTrue r ↔ SpellsAlike Kept (dot ∷ dot ∷ []) s) → r ≡ is_double_dot s
+unfolding tokens
+double_by s r h = one_answer r (is_double_dot s) h (
+  λ k. record { formed = refl; same = canonical-dots ∙ sym (double_is s k) },
+  λ is. double_of s (sym is.same
+      ∙ canonical-dots),
+)
+
+pub not_both : (s : List ℕ) → is_double_dot s ≡ true → is_single_dot s ≡ false
+not_both s h = by_single (is_single_dot s) refl
+  where
+    by_single : (v : Bool) → is_single_dot s ≡ v → v ≡ false
+    by_single true e = let f = single_is s e in let g = double_is s h in cc
+    by_single false e = refl
+
+pub empty_single : is_single_dot [] ≡ false
+unfolding is_single_dot
+empty_single = ap (λ u. bytes_eq u (dot ∷ [])) canonical-nil
+
+pub empty_double : is_double_dot [] ≡ false
+unfolding is_double_dot
+empty_double = ap (λ u. bytes_eq u (dot ∷ dot ∷ [])) canonical-nil
+
+pub empty_no_dot : is_dot_segment [] ≡ false
+empty_no_dot = rw (empty_single, empty_double) refl
+
+-- ---- how a dot segment begins
+
+single_or_double : (s : List ℕ) → is_dot_segment s ≡ true → (canonical s ≡ dot ∷ []) ⊎ (canonical s ≡ dot ∷ dot ∷ [])
+single_or_double s h = by_single (is_single_dot s) refl h
+  where
+    by_single : (v : Bool) → is_single_dot s ≡ v → (v || is_double_dot s) ≡ true → (canonical s ≡ dot ∷ []) ⊎ (canonical s ≡ dot ∷ dot ∷ [])
+    by_single true e k = inl (single_is s e)
+    by_single false e k = inr (double_is s k)
+
+b-is-b : (b : ℕ) → (b == b) ≡ true
+b-is-b b = eq-eqb b b refl
+
+pub dots_begin : (b : ℕ) (t : List ℕ) → is_dot_segment (b ∷ t) ≡ true → (b == dot || b == percent) ≡ true
+dots_begin b t h = by_escape (b == percent) refl
+  where
+    stays : (b == percent) ≡ false → canonical (b ∷ t) ≡ b ∷ canonical t
+    stays e = canonical_in-stays Kept b t (ap (λ v. v || not (b == b)) e ∙ ap not (b-is-b b))
+
+    is_dot : (b == percent) ≡ false → b ≡ dot
+    is_dot e = ⊎_elim (λ k. let same = stays e in cc) (λ k. let same = stays e in cc) (single_or_double (b ∷ t) h)
+
+    by_escape : (v : Bool) → (b == percent) ≡ v → (b == dot || v) ≡ true
+    by_escape true e = or-true (b == dot)
+    by_escape false e = ap (λ c. c == dot || false) (is_dot e)
+
+pub first_of_dots : (s : List ℕ) (b : ℕ) → Some b ≡ slice_get s 0 → (b ≡ dot → ⊥) → is_dot_segment s ≡ true → (b == percent) ≡ true
+first_of_dots [] b e n h = cc
+first_of_dots (c ∷ t) b e n h =
+    let same : b ≡ c = cc in
+    ap (λ x. x == percent) same ∙ ap (λ v. v || c == percent) (sym (ne_eqb c dot (λ k. n (same ∙ k)))) ∙ dots_begin c t h
+
+pub none_of_dots : (s : List ℕ) → None ≡ slice_get s 0 → is_dot_segment s ≡ true → false ≡ true
+none_of_dots [] e h = sym empty_no_dot ∙ h
+none_of_dots (c ∷ t) e h = cc
+
+pub no_single : (s : List ℕ) (r : Bool) → (is_dot_segment s ≡ true → r ≡ true) → r ≡ false → false ≡ is_single_dot s
+no_single s r h e = by_single (is_single_dot s) refl
+  where
+    by_single : (v : Bool) → is_single_dot s ≡ v → false ≡ v
+    by_single true k = sym e ∙ h (ap (λ v. v || is_double_dot s) k)
+    by_single false k = refl
+
+pub no_double : (s : List ℕ) (r : Bool) → (is_dot_segment s ≡ true → r ≡ true) → r ≡ false → false ≡ is_double_dot s
+no_double s r h e = by_double (is_double_dot s) refl
+  where
+    by_double : (v : Bool) → is_double_dot s ≡ v → false ≡ v
+    by_double true k = sym e ∙ h (ap (λ v. is_single_dot s || v) k ∙ or-true (is_single_dot s))
+    by_double false k = refl
+
+-- ---- single and double
+
+pub dot_single : is_single_dot (dot ∷ []) ≡ true
+dot_single = single_of (dot ∷ []) canonical-dot
+
+pub neither : (s : List ℕ) → is_dot_segment s ≡ false → (is_single_dot s ≡ false) × (is_double_dot s ≡ false)
+neither s h = or_parts (is_single_dot s) (is_double_dot s) h
+
+pub no_dot : (s : List ℕ) → is_single_dot s ≡ false → is_double_dot s ≡ false → is_dot_segment s ≡ false
+no_dot s h k = rw (h, k) refl
+
+pub single_dot : (s : List ℕ) → is_single_dot s ≡ true → is_dot_segment s ≡ true
+single_dot s h = rw h refl
+
+pub double_dot : (s : List ℕ) → is_double_dot s ≡ true → is_dot_segment s ≡ true
+double_dot s h = rw (not_both s h, h) refl
+
+pub dot_some : (s : List ℕ) → is_dot_segment s ≡ true → 0 < length s
+dot_some [] h = absurd (false≢true (sym empty_no_dot ∙ h))
+dot_some (b ∷ s) h = omega arith
+
+-- ---- the canonical spelling of a segment
+
+pub single-canonical : (s : List ℕ) → is_segment s ≡ true → is_single_dot (canonical s) ≡ is_single_dot s
+unfolding is_single_dot
+single-canonical s h = ap (λ u. bytes_eq u (dot ∷ [])) (canonical_in-canonical_in Kept s (well_formed-in_class Segment s h))
+
+pub double-canonical : (s : List ℕ) → is_segment s ≡ true → is_double_dot (canonical s) ≡ is_double_dot s
+unfolding is_double_dot
+double-canonical s h = ap (λ u. bytes_eq u (dot ∷ dot ∷ [])) (canonical_in-canonical_in Kept s (well_formed-in_class Segment s h))
+
+pub dot-canonical : (s : List ℕ) → is_segment s ≡ true → is_dot_segment (canonical s) ≡ is_dot_segment s
+dot-canonical s h = rw (single-canonical s h, double-canonical s h) refl
+
+empty_tokens : (ts : List Token) → flat_map spell (map (canonical_token Kept) ts) ≡ [] → flat_map spell ts ≡ []
+empty_tokens [] h = refl
+empty_tokens (Byte b ∷ ts) h = cc
+empty_tokens (Escape high low ∷ ts) h =
+    let no : flat_map spell (map (canonical_token Kept) (Escape high low ∷ ts)) ≡ []
+    → ⊥ = by_escaped Kept high low (λ t. spell t ++ flat_map spell (map (canonical_token Kept) ts) ≡ [] → ⊥) (λ e k. cc) (λ e k. cc) in
+    absurd (no h)
+
+-- only the empty text has an empty canonical spelling
+pub canonical-empty : (s : List ℕ) → canonical s ≡ [] → s ≡ []
+canonical-empty s h = sym (spell-tokens s) ∙ empty_tokens (tokens s) (spell-canonical_token Kept s ∙ h)
+
+-- ---- a byte that is no part of a percent-encoded octet stays where it is
+
+module _ (c : ℕ) (plain : is_unreserved c ≡ false) (digit : is_hex c ≡ false) (sign : (percent == c) ≡ false) where
+  lacks_token : (t : Token) → has_digits t ≡ true → lacks c (spell (canonical_token Kept t)) ≡ lacks c (spell t)
+  lacks_token (Byte b) h = refl
+  lacks_token (Escape high low) h =
+      let both = and_parts _ _ h in
+      let raw : lacks c (percent ∷ high ∷ low ∷ []) ≡ true =
+      and_from _ _ (ap not sign) (and_from _ _ (other_byte is_hex c high digit both.0) (and_from _ _ (other_byte is_hex c low digit both.1) refl)) in
+      by_escaped Kept high low (λ t. lacks c (spell t) ≡ true)
+      (λ e. and_from _ _ (other_byte is_unreserved c (escaped_byte high low) plain e) refl)
+      (λ e. and_from _ _ (ap not sign) (and_from _ _ (other_byte is_hex c _ digit (upper_digit high both.0))
+      (and_from _ _ (other_byte is_hex c _ digit (upper_digit low both.1)) refl)))
+      ∙ sym raw
+
+  lacks_tokens : (ts : List Token) → list_all has_digits ts ≡ true → lacks c (flat_map spell (map (canonical_token Kept) ts)) ≡ lacks c (flat_map spell ts)
+  lacks_tokens [] h = refl
+  lacks_tokens (t ∷ ts) h =
+      let both = and_parts _ _ h in
+      list_all-append (λ b. not (b == c)) (spell (canonical_token Kept t)) (flat_map spell (map (canonical_token Kept) ts))
+      ∙ rw (lacks_token t both.0, lacks_tokens ts both.1) (sym (list_all-append (λ b. not (b == c)) (spell t) (flat_map spell ts)))
+
+  lacks-canonical : (s : List ℕ) → lacks c (canonical s) ≡ lacks c s
+  lacks-canonical s = ap (lacks c) (sym (spell-canonical_token Kept s)) ∙ lacks_tokens (tokens s) (digits-tokens s) ∙ ap (lacks c) (spell-tokens s)
+
+slash_reserved : is_unreserved slash ≡ false
+unfolding is_unreserved
+slash_reserved = refl
+
+colon_reserved : is_unreserved colon ≡ false
+unfolding is_unreserved
+colon_reserved = refl
+
+pub lacks_slash-canonical : (s : List ℕ) → lacks slash (canonical s) ≡ lacks slash s
+lacks_slash-canonical s = lacks-canonical slash slash_reserved refl refl s
+
+pub has-lacks : (c : ℕ) (s : List ℕ) → list_any (λ b. b == c) s ≡ not (lacks c s)
+has-lacks c [] = refl
+has-lacks c (b ∷ s) = by_byte (b == c) (has-lacks c s)
+  where
+    by_byte : (v : Bool) → list_any (λ b. b == c) s ≡ not (lacks c s) → (v || list_any (λ b. b == c) s) ≡ not (not v && lacks c s)
+    by_byte true h = refl
+    by_byte false h = h
+
+pub has_colon-canonical : (s : List ℕ) → has_colon (canonical s) ≡ has_colon s
+has_colon-canonical s = has-lacks colon (canonical s) ∙ ap not (lacks-canonical colon colon_reserved refl refl s) ∙ sym (has-lacks colon s)
+
+pub single_lacks_slash : (s : List ℕ) → is_single_dot s ≡ true → LacksSlash s
+single_lacks_slash s h = sym (lacks_slash-canonical s) ∙ ap (lacks slash) (single_is s h)
+
+pub double_lacks_slash : (s : List ℕ) → is_double_dot s ≡ true → LacksSlash s
+double_lacks_slash s h = sym (lacks_slash-canonical s) ∙ ap (lacks slash) (double_is s h)
+
+pub dot_lacks_slash : (s : List ℕ) → is_dot_segment s ≡ true → LacksSlash s
+dot_lacks_slash s h = by_single (is_single_dot s) refl
+  where
+    second : (a b : Bool) → (a || b) ≡ true → a ≡ false → b ≡ true
+    second true b k e = cc
+    second false b k e = k
+
+    by_single : (v : Bool) → is_single_dot s ≡ v → LacksSlash s
+    by_single true e = single_lacks_slash s e
+    by_single false e = double_lacks_slash s (second (is_single_dot s) (is_double_dot s) h e)
+
+-- ---- the length of a dot segment
+
+-- a token has three bytes at most, and at least one in canonical form
+at_most : (ts : List Token) → length (flat_map spell ts) ≤ 3 * length (flat_map spell (map (canonical_token Kept) ts))
+at_most [] = omega arith
+at_most (Byte b ∷ ts) =
+    let rest = at_most ts in
+    let long = length-append (b ∷ []) (flat_map spell ts) in
+    let short = length-append (spell (canonical_token Kept (Byte b))) (flat_map spell (map (canonical_token Kept) ts)) in
+    omega (arith, rest, long, short)
+at_most (Escape high low ∷ ts) =
+    let rest = at_most ts in
+    let long = length-append (spell (Escape high low)) (flat_map spell ts) in
+    let short = length-append (spell (canonical_token Kept (Escape high low))) (flat_map spell (map (canonical_token Kept) ts)) in
+    let some = one_byte (is_unreserved (escaped_byte high low)) in
+    omega (arith, rest, long, short, some)
+  where
+    one_byte : (v : Bool) → 0 < length (spell (cond v (Byte (escaped_byte high low)) (Escape (to_ascii_uppercase high) (to_ascii_uppercase low))))
+    one_byte true = omega arith
+    one_byte false = omega arith
+
+canonical_length : (s : List ℕ) → length s ≤ 3 * length (canonical s)
+unfolding canonical_in
+canonical_length s = subst (λ t. length t ≤ 3 * length (canonical s)) (spell-tokens s) (at_most (tokens s))
+
+pub dots_short : (s : List ℕ) → is_dot_segment s ≡ true → length s ≤ 6
+dots_short s h = ⊎_elim (λ e. omega (arith, canonical_length s, ap length e)) (λ e. omega (arith, canonical_length s, ap length e)) (single_or_double s h)

@@ -1,0 +1,3 @@
+pub mod MergedPathLemmas
+pub mod MergedNormalFormLemmas
+pub mod LeadingPathLemmas

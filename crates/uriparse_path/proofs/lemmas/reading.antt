@@ -1,0 +1,6 @@
+pub mod FaultLemmas
+pub mod CountingWalkLemmas
+pub mod CuttingWalkLemmas
+pub mod ReadingLemmas
+pub mod LengthFaultLemmas
+pub mod NoEscapeLemmas

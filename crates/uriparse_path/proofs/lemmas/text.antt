@@ -1,0 +1,6 @@
+pub mod SplitLemmas
+pub mod PathTextLemmas
+pub mod BeginningLemmas
+pub mod CanonicalTextLemmas
+pub mod SpelledAlikeLemmas
+pub mod HashLemmas

@@ -1,0 +1,5 @@
+pub mod reading
+pub mod equality
+pub mod edits
+pub mod normalizing
+pub mod resolving

@@ -1,0 +1,3 @@
+pub mod PathRuleLemmas
+pub mod EditLemmas
+pub mod EditListLemmas

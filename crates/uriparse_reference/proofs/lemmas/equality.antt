@@ -1,0 +1,3 @@
+pub mod CanonicalComponentLemmas
+pub mod EqualityLemmas
+pub mod HashLemmas

@@ -1,0 +1,2 @@
+pub mod NormalizingLemmas
+pub mod NormalFormLemmas

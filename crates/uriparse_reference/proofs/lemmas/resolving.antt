@@ -1,0 +1,7 @@
+pub mod MergedPathLemmas
+pub mod ValidTargetLemmas
+pub mod ResolveLemmas
+pub mod RelativizeLemmas
+pub mod EqualTargetLemmas
+pub mod NormalizedTargetLemmas
+pub mod CommutationLemmas

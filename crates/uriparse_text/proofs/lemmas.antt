@@ -1,0 +1,6 @@
+pub mod tokens
+pub mod classes
+pub mod canonical
+pub mod scans
+pub mod addresses
+pub mod readings

@@ -1,0 +1,5 @@
+pub mod HashLemmas
+pub mod CanonicalLemmas
+pub mod RunLemmas
+pub mod SettledLemmas
+pub mod ComparisonLemmas

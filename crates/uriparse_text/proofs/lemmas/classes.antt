@@ -1,0 +1,5 @@
+pub mod FaultLemmas
+pub mod ClassLemmas
+pub mod FaultByByteLemmas
+pub mod GrammarLemmas
+pub mod FaultBeforeMarkLemmas

@@ -1,0 +1,4 @@
+pub mod CutLemmas
+pub mod OptionLemmas
+pub mod ReadingLemmas
+pub mod SaturatingLemmas

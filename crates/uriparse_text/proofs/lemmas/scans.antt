@@ -1,0 +1,4 @@
+pub mod BitLemmas
+pub mod LaneLemmas
+pub mod MarkLemmas
+pub mod ScanLemmas

@@ -1,0 +1,3 @@
+pub mod TokenLemmas
+pub mod UnescapedLemmas
+pub mod CodingLemmas

@@ -1,0 +1,191 @@
+-- Bytes that are written as a text, and the bytes that a text stands for.
+use Rattle.std.proofs.Common.{◌≡◌, ℕ, ◌<◌, Bool, true, false, List, [], ◌∷◌, ◌++◌, map, refl, sym, ap, ◌∙◌, arith, append_assoc, append-nil, ◌+◌, length, take, get_or, suc}
+use Rattle.std.specs.Prelude.{◌==◌, ◌/◌, ◌%◌}
+use Rattle.std.specs.List.{flat_map, list_all}
+use Rattle.std.specs.Int.{is_in_range}
+use Rattle.std.specs.Char.{to_ascii_uppercase}
+use Rattle.std.proofs.lemmas.Bool.{agree_below_at, and_from, and_parts, cond_both, cond-false, eqb-true}
+use Rattle.std.proofs.lemmas.Bool.Decides.{nat_tests}
+use Rattle.std.proofs.lemmas.List.{map-append}
+use Rattle.std.proofs.lemmas.Grind.{flat_map-append}
+use Rattle.std.proofs.lemmas.List.Folds.{list_all_more}
+use Rattle.std.proofs.Math.Seq.{take-suc}
+use Rattle.uriparse_text.specs.declared.internal.token.Token.{Token}
+use Rattle.uriparse_text.specs.declared.internal.token.Token.TheVariants.{Byte, Escape}
+use Rattle.uriparse_text.specs.declared.internal.class.Class.{Class}
+use Rattle.uriparse_text.specs.declared.internal.canonical.Case.{Case}
+use Rattle.uriparse_text.specs.declared.internal.canonical.Case.TheVariants.{Kept}
+use Rattle.uriparse_text.specs.Bytes.{is_hex, is_unreserved}
+use Rattle.uriparse_text.specs.Classes.{is_plain}
+use Rattle.uriparse_text.specs.Tokens.{tokens, spell, is_token, has_digits, is_well_formed}
+use Rattle.uriparse_text.specs.Faults.{allows, IsIn}
+use Rattle.uriparse_text.specs.Canonical.{canonical_token, canonical_in, escaped_byte}
+use Rattle.uriparse_text.specs.Alike.{upper_digit_of}
+use Rattle.uriparse_text.specs.Coding.{value_of, decoded, token_for, encoded, are_bytes}
+use Rattle.uriparse_text.proofs.lemmas.tokens.TokenLemmas.{tokens-nil, tokens_of_concatenation, digits-tokens}
+use Rattle.uriparse_text.proofs.lemmas.canonical.CanonicalLemmas.{by_escaped, upper_value, tokens-canonical_in}
+use Rattle.uriparse_text.proofs.lemmas.classes.ClassLemmas.{is_token-allows, unreserved_plain, well_formed-in_class}
+
+-- ---- one byte
+
+high_is_hex : (b : ℕ) → b < 256 → is_hex (upper_digit_of (b / 16)) ≡ true
+high_is_hex b small = agree_below_at (λ b. is_hex (upper_digit_of (b / 16))) (λ b. true) 256 b refl small
+
+low_is_hex : (b : ℕ) → b < 256 → is_hex (upper_digit_of (b % 16)) ≡ true
+low_is_hex b small = agree_below_at (λ b. is_hex (upper_digit_of (b % 16))) (λ b. true) 256 b refl small
+
+escape_value : (b : ℕ) → b < 256 → escaped_byte (upper_digit_of (b / 16)) (upper_digit_of (b % 16)) ≡ b
+escape_value b small =
+    eqb-true _ _ (agree_below_at (λ b. escaped_byte (upper_digit_of (b / 16)) (upper_digit_of (b % 16)) == b) (λ b. true) 256 b refl small)
+
+upper_high : (b : ℕ) → b < 256 → to_ascii_uppercase (upper_digit_of (b / 16)) ≡ upper_digit_of (b / 16)
+upper_high b small =
+    eqb-true _ _ (agree_below_at (λ b. to_ascii_uppercase (upper_digit_of (b / 16)) == upper_digit_of (b / 16)) (λ b. true) 256 b refl small)
+
+upper_low : (b : ℕ) → b < 256 → to_ascii_uppercase (upper_digit_of (b % 16)) ≡ upper_digit_of (b % 16)
+upper_low b small =
+    eqb-true _ _ (agree_below_at (λ b. to_ascii_uppercase (upper_digit_of (b % 16)) == upper_digit_of (b % 16)) (λ b. true) 256 b refl small)
+
+-- what holds of both outcomes holds of a byte's token
+by_plain : (class : Class) (b : ℕ) (P : Token → Type 0) → (is_plain class b ≡ true → P (Byte b))
+    → (is_plain class b ≡ false → P (Escape (upper_digit_of (b / 16)) (upper_digit_of (b % 16)))) → P (token_for class b)
+by_plain class b P f g = cond_both (is_plain class b) (Byte b) (Escape (upper_digit_of (b / 16)) (upper_digit_of (b % 16))) P f g
+
+allows-token_for : (class : Class) (b : ℕ) → b < 256 → allows class (token_for class b) ≡ true
+allows-token_for class b small =
+    by_plain class b (λ t. allows class t ≡ true) (λ h. h) (λ h. and_from _ _ (high_is_hex b small) (low_is_hex b small))
+
+value_of-token_for : (class : Class) (b : ℕ) → b < 256 → value_of (token_for class b) ≡ b
+value_of-token_for class b small = by_plain class b (λ t. value_of t ≡ b) (λ h. refl) (λ h. escape_value b small)
+
+not_unreserved : (class : Class) (b : ℕ) → is_plain class b ≡ false → is_unreserved b ≡ false
+not_unreserved class b h = by_test (is_unreserved b) refl
+  where
+    by_test : (v : Bool) → is_unreserved b ≡ v → v ≡ false
+    by_test true e = sym (unreserved_plain class b e) ∙ h
+    by_test false e = refl
+
+canonical-token_for : (class : Class) (b : ℕ) → b < 256 → canonical_token Kept (token_for class b) ≡ token_for class b
+canonical-token_for class b small =
+    by_plain class b (λ t. canonical_token Kept t ≡ t) (λ h. refl)
+    (λ h. cond-false _ _ _ (ap is_unreserved (escape_value b small) ∙ not_unreserved class b h) ∙ rw (upper_high b small, upper_low b small) refl)
+
+-- ---- all bytes
+
+small_byte : (b : ℕ) → is_in_range 0 255 b ≡ true → b < 256
+small_byte b h = grind (arith, nat_tests)
+
+each_allowed : (class : Class) (bytes : List ℕ) → are_bytes bytes ≡ true → list_all (allows class) (map (token_for class) bytes) ≡ true
+each_allowed class [] h = refl
+each_allowed class (b ∷ bytes) h =
+    let both = and_parts (is_in_range 0 255 b) (are_bytes bytes) h in
+    and_from _ _ (allows-token_for class b (small_byte b both.0)) (each_allowed class bytes both.1)
+
+each_token : (class : Class) (ts : List Token) → list_all (allows class) ts ≡ true → list_all is_token ts ≡ true
+each_token class [] h = refl
+each_token class (t ∷ ts) h =
+    let both = and_parts (allows class t) (list_all (allows class) ts) h in
+    and_from _ _ (is_token-allows class t both.0) (each_token class ts both.1)
+
+tokens-encoded : (class : Class) (bytes : List ℕ) → are_bytes bytes ≡ true → tokens (encoded class bytes) ≡ map (token_for class) bytes
+unfolding encoded
+tokens-encoded class bytes h = tokens_of_concatenation (map (token_for class) bytes) (each_token class (map (token_for class) bytes) (each_allowed class bytes h))
+
+pub IsIn-encoded : (class : Class) (bytes : List ℕ) → are_bytes bytes ≡ true → IsIn class (encoded class bytes)
+IsIn-encoded class bytes h = ap (list_all (allows class)) (tokens-encoded class bytes h) ∙ each_allowed class bytes h
+
+values : (class : Class) (bytes : List ℕ) → are_bytes bytes ≡ true → map value_of (map (token_for class) bytes) ≡ bytes
+values class [] h = refl
+values class (b ∷ bytes) h =
+    let both = and_parts (is_in_range 0 255 b) (are_bytes bytes) h in
+    rw (value_of-token_for class b (small_byte b both.0), values class bytes both.1) refl
+
+pub decoded-encoded : (class : Class) (bytes : List ℕ) → are_bytes bytes ≡ true → decoded (encoded class bytes) ≡ bytes
+unfolding decoded
+decoded-encoded class bytes h = ap (map value_of) (tokens-encoded class bytes h) ∙ values class bytes h
+
+kept : (class : Class) (bytes : List ℕ) → are_bytes bytes ≡ true → map (canonical_token Kept) (map (token_for class) bytes) ≡ map (token_for class) bytes
+kept class [] h = refl
+kept class (b ∷ bytes) h =
+    let both = and_parts (is_in_range 0 255 b) (are_bytes bytes) h in
+    rw (canonical-token_for class b (small_byte b both.0), kept class bytes both.1) refl
+
+unfold_encoded : (class : Class) (bytes : List ℕ) → encoded class bytes ≡ flat_map spell (map (token_for class) bytes)
+unfolding encoded
+unfold_encoded class bytes = refl
+
+pub canonical-encoded : (case : Case) (class : Class) (bytes : List ℕ) → case ≡ Kept → are_bytes bytes ≡ true
+    → canonical_in case (encoded class bytes) ≡ encoded class bytes
+unfolding canonical_in
+canonical-encoded case class bytes k h =
+    ap (λ c. canonical_in c (encoded class bytes)) k
+    ∙ ap (λ ts. flat_map spell (map (canonical_token Kept) ts)) (tokens-encoded class bytes h)
+    ∙ ap (flat_map spell) (kept class bytes h)
+    ∙ sym (unfold_encoded class bytes)
+
+-- ---- texts that are spelled alike
+
+value-canonical_token : (t : Token) → has_digits t ≡ true → value_of (canonical_token Kept t) ≡ value_of t
+value-canonical_token (Byte b) h = refl
+value-canonical_token (Escape high low) h =
+    let both = and_parts (is_hex high) (is_hex low) h in
+    by_escaped Kept high low (λ t. value_of t ≡ escaped_byte high low) (λ e. refl) (λ e. rw (upper_value high both.0, upper_value low both.1) refl)
+
+same_values : (ts : List Token) → list_all has_digits ts ≡ true → map value_of (map (canonical_token Kept) ts) ≡ map value_of ts
+same_values [] h = refl
+same_values (t ∷ ts) h =
+    let both = and_parts (has_digits t) (list_all has_digits ts) h in
+    rw (value-canonical_token t both.0, same_values ts both.1) refl
+
+decoded-canonical : (text : List ℕ) → is_well_formed text ≡ true → decoded (canonical_in Kept text) ≡ decoded text
+unfolding decoded
+decoded-canonical text h = ap (map value_of) (tokens-canonical_in Kept text h) ∙ same_values (tokens text) (digits-tokens text)
+
+pub decoded_alike : (class : Class) (other text : List ℕ) → IsIn class other → IsIn class text → canonical_in Kept other ≡ canonical_in Kept text
+    → decoded other ≡ decoded text
+decoded_alike class other text h k e =
+    sym (decoded-canonical other (well_formed-in_class class other h)) ∙ ap decoded e ∙ decoded-canonical text (well_formed-in_class class text k)
+
+-- ---- walks
+
+pub decoded-nil : (text : List ℕ) → text ≡ [] → decoded text ≡ []
+unfolding decoded
+decoded-nil text e = ap (λ t. map value_of (tokens t)) e ∙ ap (map value_of) tokens-nil
+
+decoded-cons : (rest after : List ℕ) (t : Token) → tokens rest ≡ t ∷ tokens after → decoded rest ≡ value_of t ∷ decoded after
+unfolding decoded
+decoded-cons rest after t e = ap (map value_of) e
+
+-- a token more
+pub decoded_more : (done rest after : List ℕ) (t : Token) (whole : List ℕ) → tokens rest ≡ t ∷ tokens after → done ++ decoded rest ≡ whole
+    → (done ++ value_of t ∷ []) ++ decoded after ≡ whole
+decoded_more done rest after t whole e h =
+    append_assoc done (value_of t ∷ []) (decoded after) ∙ ap (λ u. done ++ u) (sym (decoded-cons rest after t e)) ∙ h
+
+pub encoded-nil : (class : Class) → encoded class [] ≡ []
+unfolding encoded
+encoded-nil class = refl
+
+-- a byte more
+pub encoded_push : (class : Class) (bytes : List ℕ) (b : ℕ) → encoded class (bytes ++ b ∷ []) ≡ encoded class bytes ++ spell (token_for class b)
+unfolding encoded
+encoded_push class bytes b =
+    ap (flat_map spell) (map-append (token_for class) bytes (b ∷ []))
+    ∙ flat_map-append spell (map (token_for class) bytes) (token_for class b ∷ [])
+    ∙ ap (λ u. flat_map spell (map (token_for class) bytes) ++ u) (append-nil (spell (token_for class b)))
+
+range_byte : (b : ℕ) → b < 256 → is_in_range 0 255 b ≡ true
+range_byte b h = grind (arith, nat_tests)
+
+-- the byte at a place more
+pub written_more : (class : Class) (bytes done new : List ℕ) (i b : ℕ) → i < length bytes → b ≡ get_or bytes i 0 → b < 256
+    → (done ≡ encoded class (take i bytes)) × (are_bytes (take i bytes) ≡ true) → new ≡ done ++ spell (token_for class b)
+    → (new ≡ encoded class (take (i + 1) bytes)) × (are_bytes (take (i + 1) bytes) ≡ true)
+written_more class bytes done new i b h e small is f = (
+  f ∙ ap (λ u. u ++ spell (token_for class b)) is.0 ∙ sym (encoded_push class (take i bytes) b)
+      ∙ ap (encoded class) (ap (λ x. take i bytes ++ x ∷ []) e ∙ sym (take-suc bytes i 0 h) ∙ ap (λ n. take n bytes) next),
+  list_all_more (is_in_range 0 255) bytes i 0 h ∙ and_from _ _ is.1 (ap (is_in_range 0 255) (sym e) ∙ range_byte b small),
+)
+  where
+    next : suc i ≡ i + 1
+    next = omega arith
