@@ -92,7 +92,7 @@ fn give_relative<'t>(
     builder.try_fragment(texts.fragment)
 }
 
-/// What was built, or the refusal.
+/// What was built, or the error.
 fn made<T: Display + Drop, E: Display + Drop>(alloc: Global, made: Result<T, E>) -> Answer {
     match made {
         Ok(value) => shown(alloc, &value),
@@ -119,7 +119,7 @@ fn build_relative(alloc: Global, texts: Texts<'_>) -> Answer {
     made(alloc, given.and(builder.build()))
 }
 
-/// Whether a text that is no such part is refused for each part.
+/// Whether a text that is no such part is rejected for each part.
 fn refuses(alloc: Global, builder: &mut URIBuilder<'_>) -> bool {
     builder.try_scheme(b":").is_err()
         && builder.try_authority(Some(b"/")).is_err()

@@ -1,4 +1,4 @@
-//! The rows, with ample memory and where it is refused.
+//! The rows, with ample memory and with memory running out.
 
 use crate::builders;
 use std::alloc::Global;

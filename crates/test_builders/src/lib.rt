@@ -1,5 +1,5 @@
 //! Tests of the builders of references of each type: each public function once, and requests for
-//! memory that are refused.
+//! memory that fail.
 #![tactic(auto)]
 
 #[cfg(test)]

@@ -101,7 +101,7 @@ fn nine_for_eight(port: Option<u16>) -> Option<u16> {
     }
 }
 
-/// Changes the port as it is named, and answers whether the port that is answered is set.
+/// Changes the port as it is named, and returns whether the returned port is set.
 fn change_port(authority: &mut Authority<'_>, command: &str, other: &str) -> bool {
     let port = match command {
         "set-port" => authority.set_port(parse_port(other.as_bytes()).unwrap_or(None)),
@@ -111,7 +111,7 @@ fn change_port(authority: &mut Authority<'_>, command: &str, other: &str) -> boo
     port == authority.port()
 }
 
-/// Changes the authority as it is named, and answers whether that was accepted.
+/// Changes the authority as it is named, and returns whether that was accepted.
 fn change<'t>(authority: &mut Authority<'t>, command: &str, other: &'t str) -> bool {
     match command {
         "set-port" | "drop-port" | "map-port-8-to-9" => change_port(authority, command, other),
@@ -170,7 +170,7 @@ fn told_normal(alloc: Global, authority: &Authority<'_>, was_normal: bool) -> An
     }
 }
 
-/// The same of the normal form. After want of memory the authority is to be as it was.
+/// The same of the normal form. After running out of memory the authority is to be as it was.
 fn normalized(alloc: Global, authority: &mut Authority<'_>) -> Answer {
     let was_normal = authority.is_normalized();
     let text = authority.to_string(alloc)?;

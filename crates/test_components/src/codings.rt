@@ -69,7 +69,7 @@ fn name_bytes(alloc: Global, text: &str) -> Answer {
     }
 }
 
-/// The bytes of what was read, or the refusal.
+/// The bytes of what was read, or the error.
 fn text_bytes<K: TextKind, E: Display + Drop>(
     alloc: Global,
     read: Result<Text<'_, K>, E>,

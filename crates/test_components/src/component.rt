@@ -7,11 +7,10 @@ use test_rows::answer::{
     Answer, after_refusal, complaint_of_change, printed, said, shown, verdict,
 };
 use test_rows::same::hash_of;
-use uriparse_authority::authority::{IPvFuture, Password, RegisteredName, Username};
+use uriparse_authority::authority::{IPvFuture, RegisteredName};
 use uriparse_path::path::Segment;
 use uriparse_scheme::scheme::{Scheme, UnregisteredScheme};
-use uriparse_text::fragment::Fragment;
-use uriparse_text::query::Query;
+use uriparse_text::internal::{Text, TextKind};
 
 /// What a component tells of itself, and whether it is another text.
 #[derive(Clone, Copy)]
@@ -28,7 +27,7 @@ pub struct Told<'t> {
 
 /// The calls that each component has.
 pub trait Component: Display + Eq + Hash + Drop {
-    /// What the calls tell that take no memory.
+    /// What the calls that do not allocate return.
     fn told(&self, other: &str) -> Told<'_>;
 
     /// `as_borrowed`, `into_owned` and `to_string`.
@@ -38,7 +37,7 @@ pub trait Component: Display + Eq + Hash + Drop {
     fn make_normal(&mut self, alloc: Global) -> Result<(), AllocError>;
 }
 
-/// Whether a copy and the calls that take no memory give this text.
+/// Whether a copy and the calls that do not allocate give this text.
 fn has_text<T: Component>(alloc: Global, value: &T, text: &str) -> Result<bool, AllocError> {
     let copied = value.copied(alloc)?;
     let told = value.told("");
@@ -54,7 +53,7 @@ fn text_of<T: Component>(alloc: Global, value: &T) -> Answer {
     said(alloc, "several texts")
 }
 
-/// The text of what was read, or of the refusal.
+/// The text of what was read, or of the error.
 pub fn read<T: Component, E: Display + Drop>(alloc: Global, answer: Result<T, E>) -> Answer {
     match answer {
         Ok(value) => text_of(alloc, &value),
@@ -71,14 +70,15 @@ fn told_normal<T: Component>(alloc: Global, value: &T, was_normal: bool) -> Answ
     }
 }
 
-/// Whether a value is in no normal form and has this text, as it is to be after want of memory.
+/// Whether a value is in no normal form and has this text, as it is to be after running out of
+/// memory.
 fn is_left<T: Component>(value: &T, text: &str) -> bool {
     let told = value.told(text);
     !told.is_normal && told.text == text && told.is_other == (true, true)
 }
 
-/// The text of the normal form, or "normal" where the value is that already. After want of memory
-/// the value is to be as it was.
+/// The text of the normal form, or "normal" where the value is that already. After running out of
+/// memory the value is to be as it was.
 fn normalized<T: Component>(alloc: Global, value: &mut T) -> Answer {
     let was_normal = value.told("").is_normal;
     let text = said(alloc, value.told("").text)?;
@@ -89,7 +89,7 @@ fn normalized<T: Component>(alloc: Global, value: &mut T) -> Answer {
     }
 }
 
-/// The same of what was read, or the refusal.
+/// The same of what was read, or the error.
 pub fn normal<T: Component, E: Display + Drop>(alloc: Global, answer: Result<T, E>) -> Answer {
     match answer {
         Ok(mut value) => normalized(alloc, &mut value),
@@ -126,64 +126,8 @@ pub fn compared<T: Component, E: Drop, F: Drop>(
     }
 }
 
-impl<'q> Component for Query<'q> {
-    fn told(&self, other: &str) -> Told<'_> {
-        Told {
-            text: self.as_str(),
-            bytes: self.as_bytes(),
-            is_other: (self.eq_str(other), self.eq_bytes(other.as_bytes())),
-            is_normal: self.is_normalized(),
-        }
-    }
-
-    fn copied(&self, alloc: Global) -> Answer {
-        self.as_borrowed().into_owned(alloc)?.to_string(alloc)
-    }
-
-    fn make_normal(&mut self, alloc: Global) -> Result<(), AllocError> {
-        self.normalize(alloc)
-    }
-}
-
-impl<'f> Component for Fragment<'f> {
-    fn told(&self, other: &str) -> Told<'_> {
-        Told {
-            text: self.as_str(),
-            bytes: self.as_bytes(),
-            is_other: (self.eq_str(other), self.eq_bytes(other.as_bytes())),
-            is_normal: self.is_normalized(),
-        }
-    }
-
-    fn copied(&self, alloc: Global) -> Answer {
-        self.as_borrowed().into_owned(alloc)?.to_string(alloc)
-    }
-
-    fn make_normal(&mut self, alloc: Global) -> Result<(), AllocError> {
-        self.normalize(alloc)
-    }
-}
-
-impl<'u> Component for Username<'u> {
-    fn told(&self, other: &str) -> Told<'_> {
-        Told {
-            text: self.as_str(),
-            bytes: self.as_bytes(),
-            is_other: (self.eq_str(other), self.eq_bytes(other.as_bytes())),
-            is_normal: self.is_normalized(),
-        }
-    }
-
-    fn copied(&self, alloc: Global) -> Answer {
-        self.as_borrowed().into_owned(alloc)?.to_string(alloc)
-    }
-
-    fn make_normal(&mut self, alloc: Global) -> Result<(), AllocError> {
-        self.normalize(alloc)
-    }
-}
-
-impl<'p> Component for Password<'p> {
+/// Queries, fragments, user names and passwords.
+impl<'t, K: TextKind> Component for Text<'t, K> {
     fn told(&self, other: &str) -> Told<'_> {
         Told {
             text: self.as_str(),

@@ -4,7 +4,7 @@ ghost use Rattle.std.specs.Prelude.{◌≡◌, ◌+◌, ◌*◌, ◌%◌, ◌^�
 use std::hash::{Hash, Hasher};
 use uriparse_path::path::Segment;
 
-/// Holds up to seven bytes that it is fed, as the digits of a number behind a one.
+/// Holds up to seven bytes that it is fed, as the digits of a number, after a one.
 #[derive(Drop)]
 struct Recorder(u64);
 

@@ -1,4 +1,4 @@
-//! Hosts, addresses, and the parts of authorities behind their names.
+//! Hosts, addresses, and the parts of authorities with their names.
 
 use std::alloc::Global;
 use std::hash::Hash;
@@ -50,7 +50,7 @@ fn told_normal(alloc: Global, host: &Host<'_>, was_normal: bool) -> Answer {
     }
 }
 
-/// The same of the normal form. After want of memory the host is to be as it was.
+/// The same of the normal form. After running out of memory the host is to be as it was.
 fn normalized(alloc: Global, host: &mut Host<'_>) -> Answer {
     let was_normal = host.is_normalized();
     let text = host.to_string(alloc)?;

@@ -1,4 +1,4 @@
-//! The rows of each layer, with ample memory and where it is refused.
+//! The rows of each layer, with ample memory and with memory running out.
 
 use crate::{authorities, codings, components, hosts, long, path_edits, paths, schemes, users};
 use std::alloc::Global;
@@ -49,7 +49,7 @@ impl Layer for Parts {
     }
 }
 
-// Long texts want more memory than the runs in which it is refused have.
+// Long texts need more memory than is left in the runs where requests fail.
 static STARVED: [Parts; 8] = [
     Parts::Components,
     Parts::Codings,

@@ -7,7 +7,7 @@ use test_rows::answer::{Answer, complaint_of_change, refused, repeated, said, wo
 use test_rows::written::writes;
 use uriparse_path::path::{MAX_SEGMENTS, Path, PathError, Segment};
 
-/// The path's text after a push, or the refusal, after which the path is to be as it was: else the
+/// The path's text after a push, or the error, after which the path is to be as it was: else the
 /// complaint.
 fn pushed(
     alloc: Global,
@@ -163,7 +163,7 @@ pub fn answer(alloc: Global, asked: &str) -> Answer {
     }
 }
 
-/// What is answered to the push of these bytes on a path of this many empty segments.
+/// The result of pushing these bytes on a path of this many empty segments.
 fn push_on_slashes(alloc: Global, count: usize, bytes: &str) -> Answer {
     let slashes = repeated(alloc, count, "/")?;
     match Path::try_from_str(alloc, slashes.as_str()) {

@@ -92,13 +92,14 @@ fn segments_without_dots(alloc: Global, text: &str) -> Answer {
     }
 }
 
-/// Whether a path is in no normal form and prints this text, as it is to after want of memory.
+/// Whether a path is in no normal form and prints this text, as it is to after running out of
+/// memory.
 fn is_left(path: &Path<'_>, as_reference: bool, text: &str) -> bool {
     !path.is_normalized(as_reference) && writes(path, text)
 }
 
-/// The text of the normal form. After want of memory the path, which was read from this text, is to
-/// be as it was.
+/// The text of the normal form. After running out of memory the path, which was read from this
+/// text, is to be as it was.
 fn normalized(alloc: Global, as_reference: bool, path: &mut Path<'_>, text: &str) -> Answer {
     let complaint = complaint_of_change(alloc)?;
     match path.normalize(alloc, as_reference) {

@@ -1,5 +1,5 @@
 //! Long references that are read, copied, normalized, resolved against, built and pushed to. Each
-//! answer is exact, and given: a call that reports want of memory for long texts alone fails.
+//! result is exact, and returned: a call that runs out of memory for long texts alone fails.
 
 use crate::texts::{Sizes, Test, longer_text, path_text, reference_text, sizes_of, target_text};
 use std::alloc::{AllocError, Global};

@@ -4,7 +4,7 @@
 use std::alloc::{AllocError, Global};
 use test_rows::answer::{Answer, repeated, word};
 
-/// Whether a test holds, or want of memory.
+/// Whether a test holds, or `AllocError`.
 pub type Test = Result<bool, AllocError>;
 
 /// How many segments the path has, and how many tokens the query.

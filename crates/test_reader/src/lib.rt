@@ -1,4 +1,4 @@
-//! Tests of whole references: the texts of refusals, and texts that are read by a slow reading too.
+//! Tests of whole references: the texts of errors, and texts that are read by a slow reading too.
 #![tactic(auto)]
 
 #[cfg(test)]

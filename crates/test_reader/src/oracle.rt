@@ -60,7 +60,7 @@ struct Pieces<'t> {
     fragment: Option<&'t [u8]>,
 }
 
-/// The pieces of an authority. The port is the text behind its colon.
+/// The pieces of an authority. The port is the text after its colon.
 #[derive(Clone, Copy)]
 struct AuthorityPieces<'t> {
     username: Option<&'t [u8]>,
@@ -69,7 +69,7 @@ struct AuthorityPieces<'t> {
     port: Option<&'t [u8]>,
 }
 
-/// The host and, behind the last colon that no closing bracket follows, the port.
+/// The host and, after the last colon that no closing bracket follows, the port.
 fn cut_port(text: &[u8]) -> (&[u8], Option<&[u8]>) {
     let end = text.iter().rposition(|b| b":]".contains(b));
     match text.split_at_checked(end.unwrap_or(text.len())) {
@@ -240,7 +240,7 @@ fn path_refusal(pieces: &Pieces<'_>) -> Option<&'static str> {
     piece_refusal(&row).or(colon_refusal(pieces))
 }
 
-/// What is said of the first faulty part behind the path.
+/// What is said of the first faulty component after the path.
 #[rattlefmt::skip]
 fn tail_refusal(pieces: &Pieces<'_>) -> Option<&'static str> {
     first_refusal(&[

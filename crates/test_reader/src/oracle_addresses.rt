@@ -36,7 +36,7 @@ fn octet(text: &[u8]) -> Option<u8> {
     }
 }
 
-/// The text behind a byte.
+/// The text after a byte.
 fn behind(text: &[u8], first: u8) -> Option<&[u8]> {
     match text {
         [b, rest @ ..] if *b == first => Some(rest),

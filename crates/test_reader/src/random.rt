@@ -205,7 +205,7 @@ fn reads_random_texts_as_the_slow_reading(rt: HostRuntime) -> Result<(), Fail> {
             accepted = accepted.saturating_add(1);
         }
     }
-    // Both answers are common.
+    // Both results are common.
     assert!(rt;
         accepted > 4_000 && accepted < 16_000,
         "{accepted} accepted"

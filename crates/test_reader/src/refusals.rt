@@ -1,4 +1,4 @@
-//! What refusals say. One that holds another says what that says.
+//! What errors say. One that holds another says what that says.
 
 use std::alloc::Global;
 use std::fmt::Display;
@@ -44,7 +44,7 @@ static ROWS: [(URIReferenceError, &str); 27] = [
     (URIReferenceError::MissingPath, "URI reference missing path"),
 ];
 
-/// What a copy of the refusal says, if it is equal.
+/// What a copy of the error says, if it is equal.
 fn said_by<E: Clone + Display + Drop + Eq>(alloc: Global, why: &E) -> Result<String, Fail> {
     let copy = why.clone()?;
     let same = copy == *why;

@@ -1,4 +1,4 @@
-//! The rows of each layer, with ample memory and where it is refused.
+//! The rows of each layer, with ample memory and with memory running out.
 
 use crate::{
     kinds, limits, normal_forms, reference_edits, references, relatives, resolutions, uris,

@@ -1,5 +1,5 @@
 //! Tests of references of each type: vectors from RFC 3986 and worked by hand, each public function
-//! once, and requests for memory that are refused.
+//! once, and requests for memory that fail.
 #![tactic(auto)]
 
 #[cfg(test)]

@@ -1,10 +1,10 @@
-//! Long texts. A reference is resolved behind the base that the first two of their words make.
+//! Long texts. A reference is resolved against the base that the first two of their words make.
 
 use crate::{references, uris};
 use std::alloc::Global;
 use test_rows::answer::{Answer, repeated, split_long};
 
-/// The answer to a question about a reference behind the base that these words make.
+/// The answer to a question about a reference against the base that these words make.
 fn behind(alloc: Global, command: &str, front: &str, middle: &str, reference: &str) -> Answer {
     let base = format!(in alloc; "{front}{middle}")?;
     uris::asked_of(alloc, command, base.as_str(), reference)

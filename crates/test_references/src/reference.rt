@@ -1,5 +1,5 @@
-//! What the references of all three types have in common, by their names in [`Shown`], [`Reads`] and
-//! [`Reference`].
+//! What the references of all three types have in common, by their names in [`Shown`], [`Reads`]
+//! and [`Reference`].
 
 use crate::normal_forms::normalized;
 use crate::references;
@@ -84,16 +84,16 @@ pub trait Reference<'t>: Reads<'t> + Eq + Hash {
     /// `map_scheme`, to the scheme that it has, if the type has that call.
     fn keep_scheme(self) -> Result<Self, Self::Error>;
 
-    /// `map_authority`, to this authority where there is one.
+    /// `map_authority`, to this authority if there is one.
     fn swap_authority(self, new: Option<Authority<'t>>) -> Result<Self, Self::Error>;
 
     /// `map_path`, to the path that it has.
     fn keep_path(self) -> Result<Self, Self::Error>;
 
-    /// `map_query`, to this query where there is one.
+    /// `map_query`, to this query if there is one.
     fn swap_query(self, new: Option<Query<'t>>) -> Result<Self, Self::Error>;
 
-    /// `map_fragment`, to this fragment where there is one.
+    /// `map_fragment`, to this fragment if there is one.
     fn swap_fragment(self, new: Option<Fragment<'t>>) -> Result<Self, Self::Error>;
 
     /// `into_parts` and `from_parts`: a reference whole, others without their authority.
@@ -144,7 +144,7 @@ pub fn made<'t, T: Shown<'t>, E: Display + Drop>(alloc: Global, made: Result<T, 
     }
 }
 
-/// Adds the path and what is behind it.
+/// Adds the path and what follows it.
 fn add_back(
     text: &mut String,
     path: &Path<'_>,
@@ -156,7 +156,7 @@ fn add_back(
     add(text, "fragment", fragment)
 }
 
-/// Each part behind its name.
+/// Each component with its name.
 pub fn listed(alloc: Global, parts: Parts<'_, '_>, of_authority: AuthorityParts<'_, '_>) -> Answer {
     let mut text = String::new(alloc);
     add(&mut text, "scheme", parts.0)?;
@@ -204,7 +204,7 @@ fn has_parts<'t, T: Reference<'t>>(
     Ok(again.as_str() == text && text.contains(authority.as_str()) && tells_its_parts(value))
 }
 
-/// Each part behind its name, where all calls that tell of the parts agree.
+/// Each component with its name, where all calls that tell of the parts agree.
 fn parts<'t, T: Reference<'t>>(alloc: Global, value: &T) -> Answer {
     let text = listed_of(alloc, value)?;
     if has_parts(alloc, value, text.as_str())? {
@@ -214,7 +214,7 @@ fn parts<'t, T: Reference<'t>>(alloc: Global, value: &T) -> Answer {
     }
 }
 
-/// The text after an edit, or the refusal, after which the value is to be as it was.
+/// The text after an edit, or the error, after which the value is to be as it was.
 pub fn settled<'t, T: Shown<'t>, E: Display + Drop>(
     alloc: Global,
     answer: Result<(), E>,
@@ -275,7 +275,7 @@ fn put<'t, T: Reference<'t>>(value: &mut T, command: &str, new: &'t str) -> Resu
     }
 }
 
-/// What is answered after an edit of a value in its place, or to another question.
+/// The result of an edit of a value in its place, or to another question.
 fn edited<'t, T: Asked<'t>>(
     alloc: Global,
     command: &str,
@@ -356,7 +356,8 @@ fn converted<'t, T: Reference<'t>>(alloc: Global, text: &'t str) -> Answer {
     }
 }
 
-/// The answer to a question about a reference, which is read from bytes where nothing else is asked.
+/// The answer to a question about a reference, which is read from bytes where nothing else is
+/// asked.
 pub fn answer_of<'t, T: Asked<'t>>(
     alloc: Global,
     command: &str,

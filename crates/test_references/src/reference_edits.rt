@@ -100,7 +100,7 @@ fn edited_between<'t>(
     normalized_between(alloc, reference, edits, with_query.as_str())
 }
 
-/// What is answered after an edit in place that only a reference has.
+/// The result of an edit in place that only a reference has.
 pub fn edited<'t>(
     alloc: Global,
     command: &str,

@@ -146,7 +146,7 @@ fn scheme_length(alloc: Global, reference: &URIReference<'_>) -> Answer {
     }
 }
 
-/// Each part of a reference behind its name.
+/// Each component of a reference with its name.
 pub fn listed(alloc: Global, reference: &URIReference<'_>) -> Answer {
     reference::listed(alloc, reference.parts(), reference.parts_of_authority())
 }

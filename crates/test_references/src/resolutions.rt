@@ -1,4 +1,4 @@
-//! References resolved behind a base.
+//! References resolved against a base.
 
 use crate::reference::{Reads, Shown, made};
 use crate::uris;
@@ -10,7 +10,7 @@ use uriparse::{URI, URIReference};
 /// The base of RFC 3986, section 5.4.
 const RFC_BASE: &str = "http://a/b/c/d;p?q";
 
-/// How many segments the target's path has, or the refusal.
+/// How many segments the target's path has, or the error.
 fn counted<'t, T: Shown<'t>, E: Display + Drop>(alloc: Global, target: Result<T, E>) -> Answer {
     match target {
         Ok(target) => printed(alloc, target.as_reference().path().segments().len()),
@@ -44,12 +44,12 @@ fn resolved<'t, T: Reads<'t>>(
     }
 }
 
-/// The answer to a question about the target of a reference behind this base.
+/// The answer to a question about the target of a reference against this base.
 pub fn behind(alloc: Global, command: &str, base: &URI<'_>, reference: &str) -> Answer {
     resolved::<URIReference<'_>>(alloc, command, base, reference)
 }
 
-/// The answer to a question about a reference behind a base, which is the one of section 5.4 where
+/// The answer to a question about a reference against a base, which is the one of section 5.4 where
 /// none is named.
 pub fn answer(alloc: Global, asked: &str) -> Answer {
     let (command, rest) = word(asked);

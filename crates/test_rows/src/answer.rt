@@ -1,12 +1,12 @@
-//! What a question is made of, and what answers are made with.
+//! What a question is made of, and how results are made.
 
 use std::alloc::{AllocError, Global};
 use std::fmt::{Display, Write};
 
-/// What is answered, or want of memory.
+/// The result, or `AllocError`.
 pub type Answer = Result<String, AllocError>;
 
-/// The first word of a line, and what is behind it.
+/// The first word of a line, and what follows it.
 pub fn word(line: &str) -> (&str, &str) {
     match line.strip_prefix('\'') {
         Some(quoted) => {
@@ -49,7 +49,7 @@ pub fn said(alloc: Global, text: &str) -> Answer {
     String::from_str(alloc, text)
 }
 
-/// What a value or a refusal prints.
+/// What a value or an error prints.
 pub fn printed<T: Display + Drop>(alloc: Global, value: T) -> Answer {
     format!(in alloc; "{value}")
 }
@@ -70,7 +70,7 @@ pub fn shown<T: Display>(alloc: Global, value: &T) -> Answer {
     said(alloc, "another text under options")
 }
 
-/// What a refusal says, or want of memory where it is that.
+/// What an error says, or `AllocError` if it is that one.
 pub fn refused<E: Display + Drop>(alloc: Global, why: E) -> Answer {
     let text = printed(alloc, why)?;
     if text.as_str() == "out of memory" {
@@ -79,12 +79,13 @@ pub fn refused<E: Display + Drop>(alloc: Global, why: E) -> Answer {
     Ok(text)
 }
 
-/// What is said of a value that want of memory changed. It is made before, while there is memory.
+/// What is said of a value that changed although memory ran out. It is made before, while there is
+/// memory.
 pub fn complaint_of_change(alloc: Global) -> Answer {
     said(alloc, "refused and changed")
 }
 
-/// Want of memory, where the value is as it was, else that complaint.
+/// `AllocError` if the value is as it was, else that complaint.
 pub fn after_refusal(is_unchanged: bool, complaint: String) -> Answer {
     match is_unchanged {
         true => Err(AllocError),
@@ -92,7 +93,7 @@ pub fn after_refusal(is_unchanged: bool, complaint: String) -> Answer {
     }
 }
 
-/// Adds the part behind a space and its name, if there is one.
+/// Adds a space, the name and the component, if it is present.
 pub fn add<T: Display>(text: &mut String, name: &str, part: Option<&T>) -> Result<(), AllocError> {
     let Some(part) = part else {
         return Ok(());
@@ -111,7 +112,7 @@ pub fn named(alloc: Global, tests: &[(bool, &str)]) -> Answer {
     said(alloc, text.as_str().trim_start())
 }
 
-/// What is printed by what was read or made, or by the refusal.
+/// What is printed by what was read or made, or by the error.
 pub fn told<T: Display + Drop, E: Display + Drop>(alloc: Global, made: Result<T, E>) -> Answer {
     match made {
         Ok(value) => printed(alloc, value),

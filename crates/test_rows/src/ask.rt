@@ -8,11 +8,11 @@ pub trait Layer {
     /// The rows, one a line.
     fn rows(&self) -> &'static str;
 
-    /// What is answered to what a row asks.
+    /// The result of what a row asks.
     fn answer(&self, alloc: Global, asked: &str) -> Answer;
 }
 
-/// What a row asks, and what it wants to be answered.
+/// What a row asks, and the result that it expects.
 pub(super) fn split_row(row: &str) -> (&str, &str) {
     match row.split_once(" -> ") {
         Some((asked, "''")) => (asked, ""),
@@ -21,7 +21,7 @@ pub(super) fn split_row(row: &str) -> (&str, &str) {
     }
 }
 
-/// What is wrong with the first row that is answered wrongly, or nothing.
+/// What is wrong with the first row with a wrong result, or nothing.
 pub fn wrong_row<L: Layer>(alloc: Global, layer: &L) -> Answer {
     for row in layer.rows().lines() {
         let (asked, wanted) = split_row(row);
@@ -33,7 +33,7 @@ pub fn wrong_row<L: Layer>(alloc: Global, layer: &L) -> Answer {
     said(alloc, "")
 }
 
-/// The same of the first layer where a row is answered wrongly.
+/// The same of the first layer with a wrong row.
 pub fn wrong_row_of_all<L: Layer>(alloc: Global, layers: &[L]) -> Answer {
     for layer in layers {
         let wrong = wrong_row(alloc, layer)?;

@@ -1,4 +1,4 @@
-//! How the parts of an authority are told, each behind its name.
+//! How the parts of an authority are told, each with its name.
 
 use crate::answer::{Answer, add, said};
 use std::alloc::{AllocError, Global};
@@ -25,7 +25,7 @@ pub type AuthorityParts<'r, 't> = (
     Option<u16>,
 );
 
-/// Adds the host behind its kind, if there is one.
+/// Adds the host with its kind, if it is present.
 fn add_host(text: &mut String, host: Option<&Host<'_>>) -> Result<(), AllocError> {
     match host {
         Some(host) => add(text, kind_of(host), Some(host)),
@@ -52,7 +52,7 @@ fn parts_of<'r, 't>(authority: &'r Authority<'t>) -> AuthorityParts<'r, 't> {
     )
 }
 
-/// The parts behind their names.
+/// The parts with their names.
 pub fn listed_authority(alloc: Global, authority: &Authority<'_>) -> Answer {
     let mut text = String::new(alloc);
     add_authority(&mut text, parts_of(authority))?;

@@ -1,4 +1,4 @@
-//! Rows of questions and answers, for tests.
+//! Rows of inputs and expected results, for tests.
 //!
 //! A row is `COMMAND WORD.. -> ANSWER`. A word in quotes may be empty and may have spaces; an empty
 //! answer is written as two quotes. Each layer of a library has a text of rows, one short function

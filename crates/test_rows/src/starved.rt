@@ -1,4 +1,4 @@
-//! Each row asked where requests for memory are refused in turn.
+//! Each row, run while each request for memory fails in turn.
 
 use crate::answer::Answer;
 use crate::ask::{Layer, split_row};
@@ -28,7 +28,7 @@ fn outcome_of_rows<L: Layer>(alloc: Global, layer: &L, first: usize) -> Outcome 
     all
 }
 
-/// What is wrong with these outcomes, of which at least so many are to be refusals.
+/// What is wrong with these outcomes, of which at least so many must be errors.
 pub fn complaint(outcomes: &[Outcome], least: usize) -> &'static str {
     let refused = outcomes.iter().filter(|o| **o == Outcome::Refused).count();
     if outcomes.iter().any(|o| *o == Outcome::Wrong) {
@@ -44,8 +44,8 @@ pub fn complaint(outcomes: &[Outcome], least: usize) -> &'static str {
     }
 }
 
-/// What is wrong with the rows where each request for memory is refused in turn, or nothing. Each
-/// answer is to be want of memory or the row's, and the last one the row's.
+/// What is wrong with the rows while each request for memory fails in turn, or nothing. Each
+/// result must be `AllocError` or the row's, and the last one the row's.
 fn wrong_starved_row<L: Layer>(alloc: Global, layer: &L) -> Result<&'static str, AllocError> {
     for first in 0..8 {
         let outcomes = starve(alloc, 4096, |alloc| outcome_of_rows(alloc, layer, first))?;

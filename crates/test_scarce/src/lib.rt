@@ -19,11 +19,11 @@ const BLOCKS: usize = 400_000;
 /// What a run under scarce memory came to.
 #[derive(Clone, Copy, Debug, PartialEq, Eq)]
 pub enum Outcome {
-    /// It answered want of memory.
+    /// It ran out of memory.
     Refused,
-    /// It answered as with ample memory.
+    /// It returned what it does with ample memory.
     Right,
-    /// It answered something else, or left something changed after want of memory.
+    /// It returned something else, or left something changed after running out of memory.
     Wrong,
 }
 

@@ -1,5 +1,5 @@
 //! Promises of hosts and authorities for which the must-fail edits beside this file put wrong
-//! bodies, as those of `wrong_references`.
+//! bodies, as those of `test_wrong_references`.
 #![tactic(auto)]
 
 ghost use Rattle.std.specs.Prelude.{◌≡◌, Ok, OnOk, Some, bytes_eq};

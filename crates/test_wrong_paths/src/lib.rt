@@ -1,19 +1,19 @@
 //! Promises of paths for which the must-fail edits beside this file put wrong bodies.
 //!
-//! They are made as those of `wrong_references`.
+//! They are made as those of `test_wrong_references`.
 #![tactic(auto)]
 
-ghost use Rattle.std.specs.Prelude.{◌≡◌, ◌↔◌, IsTrue, IfOk, Ok, OnOk, true, false, if◌then◌else◌, bytes_eq};
+ghost use Rattle.std.specs.Prelude.{◌≡◌, ◌↔◌, IsTrue, IfOk, Ok, OnOk, true, false, bytes_eq};
 ghost use Rattle.uriparse_text.specs.Canonical.{canonical};
 ghost use Rattle.uriparse_text.specs.Readings.{SettlesUnless};
 ghost use Rattle.uriparse_path.specs.declared.path.error.PathError.TheVariants as errors;
 ghost use Rattle.uriparse_path.specs.Path.{hides_root, text};
 ghost use Rattle.uriparse_path.specs.Dots.{without_dots};
-ghost use Rattle.uriparse_path.specs.Edits.{pushing, shield};
+ghost use Rattle.uriparse_path.specs.Edits.{pushing, shield_unless};
 ghost use Rattle.uriparse_path.specs.Normal.{pnormal};
 
 use std::alloc::{AllocError, Global};
-use uriparse_path::internal::normalize_path;
+use uriparse_path::internal::{Place, normalize_path};
 use uriparse_path::path::{Path, PathError, Segment};
 
 /// Whether two paths are equal, so that their texts have one canonical spelling.
@@ -37,17 +37,21 @@ pub fn normalize(alloc: Global, path: &mut Path<'_>, as_reference: bool) -> Resu
     path.normalize(alloc, as_reference)
 }
 
-/// Brings a path into its normal form, with a `.` in front of two slashes where no authority stands
-/// before them.
+/// Brings a path into its normal form. Without an authority, a path that would start with `//` gets
+/// a leading `/.`.
 pub fn normalize_shielded(
     alloc: Global,
     path: &mut Path<'_>,
-    shields: bool,
+    has_authority: bool,
 ) -> Result<(), AllocError>
-    requires { shields ≡ true → hides_root path.old.segments ≡ false }
-    ensures { OnOk result (path.new ≡ (if shields then shield (pnormal path.old false) else pnormal path.old false)) }
+    requires { has_authority ≡ false → hides_root path.old.segments ≡ false }
+    ensures { OnOk result (path.new ≡ shield_unless has_authority (pnormal path.old false)) }
 {
-    normalize_path(path, alloc, false, shields)
+    let place = Place {
+        has_scheme: true,
+        has_authority,
+    };
+    normalize_path(path, alloc, place)
 }
 
 /// Whether a path has the text of its normal form.
@@ -57,7 +61,7 @@ pub fn is_normalized(path: &Path<'_>, as_reference: bool) -> bool
     path.is_normalized(as_reference)
 }
 
-/// Puts a segment at the end, and answers whether the path has the text of its normal form then.
+/// Puts a segment at the end, and returns whether the path has the text of its normal form then.
 pub fn push_and_test<'p>(
     alloc: Global,
     path: &mut Path<'p>,

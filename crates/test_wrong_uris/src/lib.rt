@@ -1,5 +1,5 @@
 //! Promises of `URI` and of its builder for which the must-fail edits beside this file put wrong
-//! bodies, as those of `wrong_references`.
+//! bodies, as those of `test_wrong_references`.
 #![tactic(auto)]
 
 ghost use Rattle.std.specs.Prelude.{◌≡◌, Err, IsOk, MatchOption, Ok, OnOk, Some, true};
@@ -37,7 +37,7 @@ pub fn as_uri(reference: URIReference<'_>) -> Result<URI<'_>, URIError>
     URI::try_from(reference)
 }
 
-/// Brings a URI into its normal form. Takes no memory where each text is canonical.
+/// Brings a URI into its normal form. Does not allocate where each text is canonical.
 pub fn normalize(uri: &mut URI<'_>, alloc: Global) -> Result<(), AllocError>
     ensures ok { OnOk result (uri.new ≡ normal uri.old) }
     ensures takes_no_memory { canonical_texts uri.old ≡ uri.old → IsOk result }
@@ -45,7 +45,7 @@ pub fn normalize(uri: &mut URI<'_>, alloc: Global) -> Result<(), AllocError>
     uri.normalize(alloc)
 }
 
-/// The target of a reference behind a base.
+/// The target of a reference against a base.
 pub fn resolve<'a>(
     alloc: Global,
     base: &'a URI<'_>,

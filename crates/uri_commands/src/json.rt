@@ -1,8 +1,9 @@
 //! `uri --json parse TEXT`: a reference as a JSON object, on a line of its own.
 //!
-//! The object is written by hand. Its members are, always in this order, `text`, `scheme`, `username`,
-//! `password`, `host`, `host_kind`, `port`, `path`, `query`, `fragment` and `segments`. The port is a
-//! number and the segments are a list; all else is a string, or `null` if it is absent.
+//! The object is written by hand. Its members are, always in this order, `text`, `scheme`,
+//! `username`, `password`, `host`, `host_kind`, `port`, `path`, `query`, `fragment` and `segments`.
+//! The port is a number and the segments are a list; all else is a string, or `null` if it is
+//! absent.
 
 ghost use Rattle.std.specs.Prelude.{◌≡◌, OnOk};
 ghost use Rattle.std.specs.Io.KnownBytes.{Appends};
@@ -34,7 +35,7 @@ impl<'o, O: Write> Write for Escaping<'o, O> {
     }
 }
 
-/// Whether a JSON string has this byte only behind a `\`.
+/// Whether a JSON string has this byte only after a `\`.
 fn is_special(b: u8) -> bool
     ensures { result ≡ is_special b }
 {
@@ -48,7 +49,7 @@ fn is_plain(text: &[u8]) -> bool
     text.iter().all(|b| !is_special(*b))
 }
 
-/// Writes the byte, behind a `\` if it is special.
+/// Writes the byte, after a `\` if it is special.
 fn write_byte<O: Write>(b: u8, out: &mut O) -> io::Result<()>
     ensures { OnOk result (Appends (O.contents out.old) (O.contents out.new) (escaped_byte b)) }
 {

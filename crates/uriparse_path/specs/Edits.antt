@@ -1,5 +1,5 @@
 -- Paths after edits.
-use Rattle.std.specs.Prelude.{ℕ, nat_lt, if◌then◌else◌, List, [], ◌∷◌, ◌++◌, length, Result, Ok, Err}
+use Rattle.std.specs.Prelude.{ℕ, Bool, nat_lt, if◌then◌else◌, List, [], ◌∷◌, ◌++◌, length, Result, Ok, Err}
 use Rattle.uriparse_text.specs.Readings.{◌>>=◌}
 use Rattle.uriparse_text.specs.Bytes.{dot}
 use Rattle.uriparse_path.specs.declared.path.error.PathError.{PathError}
@@ -35,3 +35,7 @@ dotted p = record p { segments = (dot ∷ []) ∷ p.segments }
 -- the path without an authority before it: a leading "." keeps its text from beginning with two slashes
 abbrev pub shield : PathParts → PathParts
 shield p = if has_two_slashes (text p) then dotted p else p
+
+-- the same, unless an authority precedes the path
+abbrev pub shield_unless : Bool → PathParts → PathParts
+shield_unless has_authority p = if has_authority then p else shield p

@@ -1,5 +1,5 @@
 //! What the crates above build on. Users do not need it.
-ghost use Rattle.std.specs.Prelude.{◌≡◌, ◌↔◌, ◌≤◌, ◌⊎◌, Err, IfErr, IfOk, IsOk, IsTrue, OnOk, OnErr, if◌then◌else◌, length, true, false};
+ghost use Rattle.std.specs.Prelude.{◌≡◌, ◌↔◌, ◌≤◌, ◌⊎◌, Err, IfErr, IfOk, IsOk, IsTrue, OnOk, OnErr, length, true, false};
 ghost use Rattle.std.specs.List.{list_all};
 ghost use Rattle.uriparse_text.specs.Bytes.{colon};
 ghost use Rattle.uriparse_text.specs.Cuts.{lacks, up_to};
@@ -7,48 +7,42 @@ ghost use Rattle.uriparse_text.specs.Readings.{IsUnless};
 ghost use Rattle.uriparse_path.specs.declared.path.error.PathError.TheVariants as errors;
 ghost use Rattle.uriparse_path.specs.Path.{IsListed, has_two_slashes, hides_root, is_slash, made_absolute, spelled, text};
 ghost use Rattle.uriparse_path.specs.Dots.{has_dot_segment, without_dots};
-ghost use Rattle.uriparse_path.specs.Edits.{shield};
+ghost use Rattle.uriparse_path.specs.Edits.{shield_unless};
 ghost use Rattle.uriparse_path.specs.Merge.{merging};
 ghost use Rattle.uriparse_path.specs.Relate.{leading, no_path};
-ghost use Rattle.uriparse_path.specs.Normal.{is_canonical, is_normal_in, pnormal};
+ghost use Rattle.uriparse_path.specs.Normal.{is_canonical, is_normal_at, normal_at};
 
+pub use crate::path::normal::Place;
 pub use crate::path::read::{PathFront, counted_path, split_path};
 use crate::path::{Path, PathError};
 use std::alloc::{AllocError, Global};
 
-/// Removes the dot segments as [`Path::remove_dot_segments`] does. Where no authority stands before
-/// the path, a `.` comes in front of a text that would begin with two slashes then. Takes no
-/// memory.
-pub fn remove_dots(path: &mut Path<'_>, shields: bool)
-    requires { shields ≡ true → hides_root path.old.segments ≡ false }
-    ensures { path.new ≡ (if shields then shield (without_dots path.old) else without_dots path.old) }
+/// Removes the dot segments as [`Path::remove_dot_segments`] does. Without an authority, a path
+/// that would start with `//` gets a leading `/.`. Does not allocate.
+pub fn remove_dots(path: &mut Path<'_>, has_authority: bool)
+    requires { has_authority ≡ false → hides_root path.old.segments ≡ false }
+    ensures { path.new ≡ shield_unless has_authority (without_dots path.old) }
 {
-    path.remove_dots(shields);
+    path.remove_dots(has_authority);
 }
 
-/// Whether the path has the text of its normal form, where a `.` may be needed in front of it or
-/// not.
-pub fn is_normal_path(path: &Path<'_>, as_reference: bool, shields: bool) -> bool
-    ensures { result ≡ is_normal_in shields path.now as_reference }
+/// Whether the path has the text of its normal form at this place in a reference.
+pub fn is_normal_path(path: &Path<'_>, place: Place) -> bool
+    ensures { result ≡ is_normal_at place path.now }
 {
-    path.is_normal_in(as_reference, shields)
+    path.is_normal_at(place)
 }
 
-/// Brings the path into its normal form as [`Path::normalize`] does. Where no authority stands
-/// before the path, a `.` comes in front of a text that would begin with two slashes then. Memory
-/// is wanted for the segments that aren't canonical; where there is none, the path is kept.
-pub fn normalize_path(
-    path: &mut Path<'_>,
-    alloc: Global,
-    as_reference: bool,
-    shields: bool,
-) -> Result<(), AllocError>
-    requires { shields ≡ true → hides_root path.old.segments ≡ false }
-    ensures ok { OnOk result (path.new ≡ (if shields then shield (pnormal path.old as_reference) else pnormal path.old as_reference)) }
+/// Brings the path into its normal form as [`Path::normalize`] does. Without an authority, a path
+/// that would start with `//` gets a leading `/.`. Allocates copies of the segments that are not
+/// canonical. On an error the path is unchanged.
+pub fn normalize_path(path: &mut Path<'_>, alloc: Global, place: Place) -> Result<(), AllocError>
+    requires { place.has_authority ≡ false → hides_root path.old.segments ≡ false }
+    ensures ok { OnOk result (path.new ≡ normal_at place path.old) }
     ensures err { OnErr result (path.new ≡ path.old) }
     ensures takes_no_memory { list_all is_canonical path.old.segments ≡ true → IsOk result }
 {
-    path.put_normal(alloc, as_reference, shields)
+    path.put_normal(alloc, place)
 }
 
 /// The same path, made absolute.

@@ -1,5 +1,5 @@
 //! A path: RFC 3986, section 3.3.
-ghost use Rattle.std.specs.Prelude.{◌≡◌, ◌≤◌, ◌⊎◌, ◌↔◌, ◌&&◌, ◌||◌, ◌∷◌, ◌++◌, fold, length, IsTrue, IfOk, IfSome, IsSome, OnOk, OnErr, IsOk, IsErr, Some, true, false, if◌then◌else◌, not, map, filter, bytes_eq, string_bytes};
+ghost use Rattle.std.specs.Prelude.{◌≡◌, ◌≤◌, ◌⊎◌, ◌↔◌, ◌∷◌, ◌++◌, fold, length, IsTrue, IfOk, IfSome, IsSome, IsErr, Some, true, not, bytes_eq, string_bytes};
 ghost use Rattle.std.proofs.Common.{rules};
 ghost use Rattle.std.specs.Ordering.{on};
 ghost use Rattle.std.specs.Cmp.Rules.{comparing, hashing};
@@ -10,13 +10,10 @@ ghost use Rattle.uriparse_text.specs.Bytes.{colon, slash};
 ghost use Rattle.uriparse_text.specs.Cuts.{from_first, lacks, up_to};
 ghost use Rattle.uriparse_text.specs.Canonical.{canonical, SpellsAlike};
 ghost use Rattle.uriparse_text.specs.Readings.{IsUnless};
-ghost use Rattle.uriparse_path.specs.Path.{IsListed, fed, fed_piece, flag, has_two_slashes, hides_root, is_rooted, is_slash, made_absolute, spelled, text};
+ghost use Rattle.uriparse_path.specs.Path.{IsListed, fed, fed_piece, flag, has_two_slashes, is_rooted, is_slash, made_absolute, spelled, text};
 ghost use Rattle.uriparse_path.specs.Segment.{is_segment};
 ghost use Rattle.uriparse_path.specs.Faults.{reading};
-ghost use Rattle.uriparse_path.specs.Dots.{has_dot_segment, without_dots};
-ghost use Rattle.uriparse_path.specs.Edits.{shield};
-ghost use Rattle.uriparse_path.specs.Relative.{ended, reduced};
-ghost use Rattle.uriparse_path.specs.Normal.{canonical_path, climbs_first, is_canonical, is_guarded, is_normal_in, is_shielded, pnormal, stays_relative};
+ghost use Rattle.uriparse_path.specs.Normal.{is_canonical};
 ghost use Rattle.uriparse_path.specs.Counts as spec;
 
 use std::alloc::{AllocError, Global};
@@ -33,21 +30,19 @@ mod dots;
 mod edit;
 mod error;
 mod merge;
-mod normal;
+pub(crate) mod normal;
 pub(crate) mod read;
+mod reduce;
 mod relate;
 mod segment;
+mod segments;
 
 use counts::{Counts, Dotted};
-use dots::{has_dot_segment, replay, root_first};
 pub use error::PathError;
-use normal::{
-    begins_twice, canonical_copies, guard, has_first_colon, hides_root, is_counted_normal,
-    is_normal, make_relative, needs_shield, put_copies,
-};
 use read::{count_segments, counted_path, split_root};
 pub use segment::Segment;
 use segment::each_is_segment;
+use segments::{begins_twice, has_first_colon, hides_root};
 
 /// The maximum number of segments of a path.
 pub const MAX_SEGMENTS: usize = 1_000_000;
@@ -129,28 +124,13 @@ impl<'p> Path<'p> {
         }
     }
 
-    /// Counts the segments, each of which is canonical, where their numbers are not known.
-    fn count_canonical(&mut self)
-        requires { list_all is_canonical self.old.segments ≡ true }
-        ensures { self.new ≡ self.old }
+    /// Whether each segment is known to be canonical.
+    fn is_known_canonical(&self) -> bool
+        ensures { result ≡ true → list_all is_canonical self.now.segments ≡ true }
     {
-        if self.known != 0 {
-            return;
-        }
-        self.counts = Counts::of(&self.segments);
-        self.known = 1;
-    }
-
-    /// Whether a dot segment is among the segments.
-    #[inline]
-    pub(crate) fn has_dots(&self) -> bool
-        ensures answer { result ≡ has_dot_segment self.now.segments }
-        ensures listed { IsListed self.now.segments }
-    {
-        let segments = self.segments();
         match self.known_counts() {
-            Some(counts) => counts.has_dots(),
-            None => has_dot_segment(segments),
+            Some(counts) => counts.all_canonical(),
+            None => false,
         }
     }
 
@@ -172,7 +152,7 @@ impl<'p> Path<'p> {
         Ok(counted_path(alloc, count, escaped, bytes)?)
     }
 
-    /// The same for a text.
+    /// The same for a `str`.
     pub fn try_from_str(alloc: Global, text: &'p str) -> Result<Path<'p>, PathError>
         ensures answer { IsUnless PathError.OutOfMemory result (reading text.now) }
         ensures always { IsErr (reading text.now) → result ≡ reading text.now }
@@ -204,212 +184,11 @@ impl<'p> Path<'p> {
         self.absolute == 0
     }
 
-    /// Removes the dot segments as RFC 3986, section 5.2.4, rewrites the path's text; dots may be
-    /// escaped. So `/a/b/..` becomes `/a/`, `a/..//b` becomes `//b`. A path without dot segments is
-    /// kept as it is. Takes no memory.
-    pub fn remove_dot_segments(&mut self)
-        ensures { self.new ≡ without_dots self.old }
-    {
-        self.remove_dots(false);
-    }
-
-    /// The same, and where no authority stands before the path, a `.` comes in front of a text that
-    /// would begin with two slashes then. There is room for it, since the list has become shorter.
-    pub(crate) fn remove_dots(&mut self, shields: bool)
-        requires { shields ≡ true → hides_root self.old.segments ≡ false }
-        ensures { self.new ≡ (if shields then shield (without_dots self.old) else without_dots self.old) }
-    {
-        if self.has_dots() {
-            self.take_dots(shields);
-        }
-    }
-
-    /// Whether each segment is known to be canonical.
-    fn is_known_canonical(&self) -> bool
-        ensures { result ≡ true → list_all is_canonical self.now.segments ≡ true }
-    {
-        match self.known_counts() {
-            Some(counts) => counts.all_canonical(),
-            None => false,
-        }
-    }
-
-    /// The same, where a dot segment is among the segments.
-    fn take_dots(&mut self, shields: bool)
-        requires shown { shields ≡ true → hides_root self.old.segments ≡ false }
-        requires dots { has_dot_segment self.old.segments ≡ true }
-        ensures { self.new ≡ (if shields then shield (without_dots self.old) else without_dots self.old) }
-    {
-        self.segments();
-        let all_canonical = self.is_known_canonical();
-        let (rooted, kept) = replay(self.absolute != 0, &mut self.segments);
-        let (absolute, kept) = root_first(rooted, &mut self.segments, kept);
-        let shielded = needs_shield(shields, absolute, &self.segments[..kept]);
-        guard(&mut self.segments, shielded, kept);
-        self.counts = Counts::without_dots(shielded);
-        self.known = word_of(all_canonical);
-        self.absolute = word_of(absolute);
-    }
-
     /// Whether the path's text begins with a slash.
     fn is_rooted(&self) -> bool
         ensures { result ≡ is_rooted (text self.now) }
     {
         self.is_absolute() || hides_root(self.segments())
-    }
-
-    /// Whether the path is normalised as one that a base comes before.
-    fn stays_relative(&self, as_reference: bool) -> bool
-        ensures { result ≡ stays_relative self.now as_reference }
-    {
-        as_reference && !self.is_rooted()
-    }
-
-    /// Whether normalising the path would keep its text, where it may be the path of a reference
-    /// without a scheme or not: RFC 3986, section 6.2.2. Then it keeps the path, part for part. Takes
-    /// no memory.
-    pub fn is_normalized(&self, as_reference: bool) -> bool
-        ensures text { IsTrue result ↔ (text (pnormal self.now as_reference) ≡ text self.now) }
-        ensures form { IsTrue result → pnormal self.now as_reference ≡ self.now }
-    {
-        self.is_normal(self.stays_relative(as_reference))
-    }
-
-    /// Whether the segments are those of a normal form, of a path that stays relative or of another.
-    fn is_normal(&self, stays_relative: bool) -> bool
-        ensures answer { result ≡ (list_all is_canonical self.now.segments && (if stays_relative then climbs_first self.now.segments || is_guarded self.now.segments else not (has_dot_segment self.now.segments))) }
-        ensures listed { IsListed self.now.segments }
-    {
-        let segments = self.segments();
-        match self.known_counts() {
-            Some(counts) => is_counted_normal(stays_relative, counts, segments),
-            None => is_normal(stays_relative, segments),
-        }
-    }
-
-    /// Whether it is known that the segments are those of a normal form.
-    fn is_known_normal(&self, stays_relative: bool) -> bool
-        ensures answer { result ≡ true → (list_all is_canonical self.now.segments && (if stays_relative then climbs_first self.now.segments || is_guarded self.now.segments else not (has_dot_segment self.now.segments))) ≡ true }
-        ensures listed { IsListed self.now.segments }
-    {
-        let segments = self.segments();
-        match self.known_counts() {
-            Some(counts) => is_counted_normal(stays_relative, counts, segments),
-            None => false,
-        }
-    }
-
-    /// Puts canonical copies in the place of the segments that aren't canonical.
-    fn put_canonical(&mut self, copies: Vec<Segment<'p>>)
-        requires { copies.items ≡ map canonical (filter (λ s. not (is_canonical s)) self.old.segments) }
-        ensures { self.new ≡ canonical_path self.old }
-    {
-        each_is_segment(&self.segments);
-        let counts = self.counts.of_canonical();
-        put_copies(&mut self.segments, copies);
-        self.counts = counts;
-    }
-
-    /// Brings each segment into canonical spelling. Where there is no memory, the path is kept.
-    fn make_canonical(&mut self, alloc: Global) -> Result<(), AllocError>
-        ensures ok { OnOk result (self.new ≡ canonical_path self.old) }
-        ensures err { OnErr result (self.new ≡ self.old) }
-        ensures takes_no_memory { list_all is_canonical self.old.segments ≡ true → IsOk result }
-        ensures listed { IsListed self.old.segments }
-    {
-        let segments = self.segments();
-        if self.is_known_canonical() {
-            return Ok(());
-        }
-        let copies = canonical_copies(alloc, segments)?;
-        self.put_canonical(copies);
-        self.count_canonical();
-        Ok(())
-    }
-
-    /// Brings a path whose text begins with no slash and whose segments are canonical into its
-    /// relative normal form.
-    fn shape_relative(&mut self)
-        requires canonical { list_all is_canonical self.old.segments ≡ true }
-        requires relative { self.old.absolute ≡ false }
-        requires shown { hides_root self.old.segments ≡ false }
-        ensures { self.new ≡ record { absolute = false; segments = ended self.old.segments (reduced self.old.segments) } }
-    {
-        make_relative(&mut self.segments);
-        self.counts = Counts::of(&self.segments);
-        self.known = 1;
-    }
-
-    /// Brings the path into its normal form: RFC 3986, sections 4.2 and 6.2.2. Each segment gets its
-    /// canonical spelling. Where the path may be that of a reference without a scheme and its text
-    /// begins with no slash, a single dot segment goes, and a segment with the double dot segment
-    /// behind it; where a dot segment stood last, an empty segment does then, unless nothing or a
-    /// double dot segment is left. So `a/b/..` becomes `a/`, and `../.` becomes `..`. A `.` stands in
-    /// front where the first segment would else be taken for a scheme or a root. Dot segments of
-    /// other paths are removed as by [`remove_dot_segments`](Path::remove_dot_segments). A second
-    /// call changes nothing.
-    ///
-    /// No memory is wanted where each segment is canonical. Else the segments that aren't are copied
-    /// before anything is put in place, so where there is no memory, the path is kept.
-    pub fn normalize(&mut self, alloc: Global, as_reference: bool) -> Result<(), AllocError>
-        ensures ok { OnOk result (self.new ≡ pnormal self.old as_reference) }
-        ensures err { OnErr result (self.new ≡ self.old) }
-        ensures takes_no_memory { text (pnormal self.old as_reference) ≡ text self.old → IsOk result }
-        ensures canonical_takes_no_memory { canonical_path self.old ≡ self.old → IsOk result }
-    {
-        self.put_normal(alloc, as_reference, false)
-    }
-
-    /// Brings the path into its normal form; where no authority stands before it, a `.` comes in
-    /// front of a text that would begin with two slashes then. Memory is wanted for the segments
-    /// that aren't canonical; where there is none, the path is kept.
-    pub(crate) fn put_normal(
-        &mut self,
-        alloc: Global,
-        as_reference: bool,
-        shields: bool,
-    ) -> Result<(), AllocError>
-        requires { shields ≡ true → hides_root self.old.segments ≡ false }
-        ensures ok { OnOk result (self.new ≡ (if shields then shield (pnormal self.old as_reference) else pnormal self.old as_reference)) }
-        ensures err { OnErr result (self.new ≡ self.old) }
-        ensures takes_no_memory { list_all is_canonical self.old.segments ≡ true → IsOk result }
-        ensures listed { IsListed self.old.segments }
-    {
-        let stays_relative = self.stays_relative(as_reference);
-        if self.is_known_normal(stays_relative) {
-            return Ok(());
-        }
-        self.make_canonical(alloc)?;
-        if stays_relative {
-            self.shape_relative();
-        } else {
-            self.remove_dots(shields);
-        }
-        Ok(())
-    }
-
-    /// Whether a `.` stands in front of an absolute path, which is needed where no authority stands
-    /// before it, and behind that a normal path.
-    fn is_shielded(&self) -> bool
-        ensures { result ≡ is_shielded self.now.absolute self.now.segments }
-    {
-        match self.segments().split_first() {
-            Some((first, later)) => {
-                self.is_absolute()
-                    && first.as_str() == "."
-                    && hides_root(later)
-                    && is_normal(false, later)
-            }
-            None => false,
-        }
-    }
-
-    /// Whether the normal form has the path's text, where a `.` may be needed in front or not.
-    pub(crate) fn is_normal_in(&self, as_reference: bool, shields: bool) -> bool
-        ensures { result ≡ is_normal_in shields self.now as_reference }
-    {
-        let relative = self.stays_relative(as_reference);
-        self.is_normal(relative) || (shields && self.is_shielded())
     }
 
     /// An upper bound of the length of the path's text in bytes, or `usize::MAX`.
@@ -503,7 +282,7 @@ impl<'p> Path<'p> {
         }
     }
 
-    /// The same for a text.
+    /// The same for a `str`.
     pub fn eq_str(&self, other: &str) -> bool
         ensures { IsTrue result ↔ SpellsAlike case.Kept other.now (text self.now) }
     {

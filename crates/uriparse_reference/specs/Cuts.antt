@@ -1,32 +1,11 @@
 -- How the text of a reference is cut into its components: RFC 3986, sections 3 and 4.1.
-use Rattle.std.specs.Prelude.{ℕ, Bool, ◌==◌, ◌||◌, if◌then◌else◌, List, [], ◌∷◌, Option, Some, None, drop}
-use Rattle.uriparse_text.specs.Bytes.{colon, question_mark, number_sign}
-use Rattle.uriparse_text.specs.Cuts.{front, rest, before, after, up_to, from_first}
+use Rattle.std.specs.Prelude.{ℕ, ◌==◌, if◌then◌else◌, List, [], ◌∷◌, Option, Some, None, drop}
+use Rattle.uriparse_text.specs.Bytes.{question_mark, number_sign}
+use Rattle.uriparse_text.specs.Cuts.{before, after, up_to, from_first}
 use Rattle.uriparse_path.specs.Path.{has_two_slashes}
 use Rattle.uriparse_path.specs.Faults.{ends_path}
 use Rattle.uriparse_authority.specs.Authority.{ends_authority}
-use Rattle.uriparse_scheme.specs.Scheme.{is_scheme}
-
--- the text, where it is a scheme
-abbrev pub if_scheme : Option (List ℕ) → Option (List ℕ)
-if_scheme None = None
-if_scheme (Some s) = if is_scheme s then Some s else None
-
--- The scheme is what stands before the first ":", where that is a scheme.
-abbrev pub scheme_text : List ℕ → Option (List ℕ)
-scheme_text t = if_scheme (front colon t)
-
--- A ":" ends a scheme, and behind a "/", "?" or "#" none ends.
-abbrev pub ends_scheme : ℕ → Bool
-ends_scheme b = b == colon || ends_authority b
-
--- the one where there is no scheme, the other where there is
-abbrev pub unless_scheme : Option (List ℕ) → List ℕ → List ℕ → List ℕ
-unless_scheme None t u = t
-unless_scheme (Some s) t u = u
-
-abbrev pub after_scheme : List ℕ → List ℕ
-after_scheme t = unless_scheme (scheme_text t) t (rest colon t)
+pub use Rattle.uriparse_scheme.specs.Cuts.{if_scheme, scheme_text, ends_scheme, unless_scheme, after_scheme, if_some}
 
 -- After two slashes, the authority runs to the first "/", "?", "#" or the end.
 abbrev pub cut_authority : List ℕ → Option (List ℕ)
@@ -54,11 +33,6 @@ abbrev pub fragment_text : List ℕ → Option (List ℕ)
 fragment_text t = after number_sign (after_authority t)
 
 -- ---- words of the clauses of private functions alone
-
--- a piece that is never empty, or none where it is
-abbrev pub if_some : List ℕ → Option (List ℕ)
-if_some [] = None
-if_some (b ∷ t) = Some (b ∷ t)
 
 -- the query and the fragment of what follows a path
 abbrev pub tail_query : List ℕ → Option (List ℕ)

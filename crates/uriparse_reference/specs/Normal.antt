@@ -1,9 +1,10 @@
 -- Normal forms of references: RFC 3986, section 6.2.2.
-use Rattle.std.specs.Prelude.{Bool, ◌&&◌, Option, Some, None, is_none, bytes_eq}
+use Rattle.std.specs.Prelude.{Bool, ◌&&◌, Option, Some, None, is_none, is_some, bytes_eq}
 use Rattle.std.specs.Option.{option_map, option_eq}
 use Rattle.uriparse_text.specs.Canonical.{canonical}
 use Rattle.uriparse_path.specs.Edits.{shield}
 use Rattle.uriparse_path.specs.Path.{PathParts}
+use Rattle.uriparse_path.specs.declared.path.normal.Place.{Place}
 use Rattle.uriparse_path.specs.Normal as path
 use Rattle.uriparse_authority.specs.Authority as authority
 use Rattle.uriparse_authority.specs.Normal.{AreCanonicalCopies, canonical_authority}
@@ -39,16 +40,16 @@ canonical_texts p = record {
 
 -- ---- references that are unchanged
 
--- the path is in its normal form, for this scheme and authority
-abbrev pub is_normal_path : Option authority.AuthorityParts → PathParts → Bool → Bool
-is_normal_path a p as_reference = path.is_normal_in (is_none a) p as_reference
+-- what precedes the path
+abbrev pub place : Parts → Place
+place p = record { has_scheme = is_some p.scheme; has_authority = is_some p.authority }
 
 -- Each component has the text of its normal form.
 abbrev pub is_normal : Parts → Bool
 is_normal p =
     option_eq bytes_eq (option_map scheme.canonical_text p.scheme) (scheme_part p)
     && (option_eq bytes_eq (option_map authority.canonical_text p.authority) (authority_part p)
-    && (is_normal_path p.authority p.path (is_none p.scheme)
+    && (path.is_normal_at (place p) p.path
     && (option_eq bytes_eq (option_map canonical p.query) p.query
     && option_eq bytes_eq (option_map canonical p.fragment) p.fragment)))
 

@@ -3,3 +3,4 @@ pub mod SortedLemmas
 pub mod TableLemmas
 pub mod SchemeLemmas
 pub mod NormalLemmas
+pub mod CutLemmas

@@ -5,6 +5,7 @@ ghost use Rattle.uriparse_scheme.specs.Normal.{canonical_scheme};
 ghost use Rattle.uriparse_scheme.specs.Scheme as spec;
 
 use crate::scheme::Scheme;
+pub use crate::scheme::cut::{SchemeCut, scheme_if, split_scheme};
 pub use crate::scheme::read::is_scheme;
 use std::alloc::{AllocError, Global};
 

@@ -13,6 +13,7 @@ use std::fmt;
 use std::hash::{Hash, Hasher};
 
 mod constants;
+pub(crate) mod cut;
 mod error;
 mod find;
 mod lookup;

@@ -1,7 +1,7 @@
 //! Copies of a path. They allocate the list of segments.
 ghost use Rattle.std.specs.Prelude.{◌≡◌, IfOk};
 
-use super::merge::push_borrowed;
+use super::segments::push_borrowed;
 use super::{Path, Segment};
 use std::alloc::{AllocError, Global};
 

@@ -10,8 +10,8 @@ ghost use Rattle.uriparse_path.specs.Edits.{with_last};
 ghost use Rattle.uriparse_path.specs.Counts as spec;
 
 use super::counts::Counts;
-use super::edit::takes_the_place;
 use super::segment::Segment;
+use super::segments::takes_the_place;
 
 /// The number, plus one if `is_more`.
 #[inline(always)]

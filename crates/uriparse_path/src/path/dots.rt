@@ -1,17 +1,13 @@
-//! Dot segments taken out of a list of segments: RFC 3986, section 5.2.4.
-ghost use Rattle.std.specs.Prelude.{◌≡◌, ◌+◌, ◌<◌, ◌≤◌, [], take, drop, vec_len};
+//! Removal of dot segments: RFC 3986, section 5.2.4.
+ghost use Rattle.std.specs.Prelude.{◌≡◌, ◌+◌, ◌<◌, ◌≤◌, ◌&&◌, ◌||◌, [], not, true, false, take, drop, vec_len};
 ghost use Rattle.uriparse_path.specs.Path as path;
 ghost use Rattle.uriparse_path.specs.Dots as spec;
+ghost use Rattle.uriparse_path.specs.Edits.{shield_unless};
 
-use super::normal::hides_root;
+use super::counts::Counts;
 use super::segment::Segment;
-
-/// Whether a dot segment is among the segments.
-pub(super) fn has_dot_segment(segments: &[Segment<'_>]) -> bool
-    ensures { result ≡ spec.has_dot_segment segments.now }
-{
-    segments.iter().any(|segment| segment.is_dot_segment())
-}
+use super::segments::{begins_twice, guard, has_dot_segment, hides_root};
+use super::{Path, word_of};
 
 /// Replays the segment at `at` on the output so far, which is the first `kept` of the list. Returns
 /// whether a slash precedes the output then, and how long it is.
@@ -51,7 +47,7 @@ fn replay_segment(
 
 /// Removes the dot segments in one pass; what is left is at the start of the list. Returns whether
 /// a slash precedes it, and how many segments are left.
-pub(super) fn replay(absolute: bool, segments: &mut Vec<Segment<'_>>) -> (bool, usize)
+fn replay(absolute: bool, segments: &mut Vec<Segment<'_>>) -> (bool, usize)
     ensures segments { take result.1 segments.new.items ≡ spec.replay [] segments.old.items }
     ensures root { result.0 ≡ spec.rooted_after absolute [] segments.old.items }
     ensures within { result.1 ≤ vec_len segments.new }
@@ -68,11 +64,7 @@ pub(super) fn replay(absolute: bool, segments: &mut Vec<Segment<'_>>) -> (bool, 
 /// Makes the first `kept` of the list the segments of the path that their text spells: without a
 /// slash before it, an empty first segment that others follow is removed. Returns whether a slash
 /// precedes the segments then, and how many are left.
-pub(super) fn root_first(
-    rooted: bool,
-    segments: &mut Vec<Segment<'_>>,
-    kept: usize,
-) -> (bool, usize)
+fn root_first(rooted: bool, segments: &mut Vec<Segment<'_>>, kept: usize) -> (bool, usize)
     requires within { kept ≤ vec_len segments.old }
     ensures path { record { absolute = result.0; segments = take result.1 segments.new.items } ≡ path.respelled (record { absolute = rooted; segments = take kept segments.old.items }) }
     ensures within { result.1 ≤ vec_len segments.new }
@@ -88,4 +80,63 @@ pub(super) fn root_first(
     }
     let _ = segments.remove(0);
     (true, kept - 1)
+}
+
+/// Whether no authority precedes the path with these segments and its text begins with two slashes.
+fn needs_shield(has_authority: bool, absolute: bool, segments: &[Segment<'_>]) -> bool
+    ensures { result ≡ (not has_authority && (path.hides_root segments.now && (absolute || path.hides_root (drop 1 segments.now)))) }
+{
+    !has_authority && begins_twice(absolute, segments)
+}
+
+impl<'p> Path<'p> {
+    /// Whether the path has a dot segment.
+    #[inline]
+    pub(crate) fn has_dots(&self) -> bool
+        ensures answer { result ≡ spec.has_dot_segment self.now.segments }
+        ensures listed { path.IsListed self.now.segments }
+    {
+        let segments = self.segments();
+        match self.known_counts() {
+            Some(counts) => counts.has_dots(),
+            None => has_dot_segment(segments),
+        }
+    }
+
+    /// Removes the dot segments as described in RFC 3986, section 5.2.4. Dots may be
+    /// percent-encoded. So `/a/b/..` becomes `/a/`, and `a/..//b` becomes `//b`. A path without dot
+    /// segments is unchanged. Does not allocate.
+    pub fn remove_dot_segments(&mut self)
+        ensures { self.new ≡ spec.without_dots self.old }
+    {
+        self.remove_dots(true);
+    }
+
+    /// The same; and without an authority, a path that would start with `//` gets a leading `/.`.
+    /// The list has capacity for it, since it has become shorter.
+    pub(crate) fn remove_dots(&mut self, has_authority: bool)
+        requires { has_authority ≡ false → path.hides_root self.old.segments ≡ false }
+        ensures { self.new ≡ shield_unless has_authority (spec.without_dots self.old) }
+    {
+        if self.has_dots() {
+            self.take_dots(has_authority);
+        }
+    }
+
+    /// The same for a path with a dot segment.
+    fn take_dots(&mut self, has_authority: bool)
+        requires shown { has_authority ≡ false → path.hides_root self.old.segments ≡ false }
+        requires dots { spec.has_dot_segment self.old.segments ≡ true }
+        ensures { self.new ≡ shield_unless has_authority (spec.without_dots self.old) }
+    {
+        self.segments();
+        let all_canonical = self.is_known_canonical();
+        let (rooted, kept) = replay(self.absolute != 0, &mut self.segments);
+        let (absolute, kept) = root_first(rooted, &mut self.segments, kept);
+        let shielded = needs_shield(has_authority, absolute, &self.segments[..kept]);
+        guard(&mut self.segments, shielded, kept);
+        self.counts = Counts::without_dots(shielded);
+        self.known = word_of(all_canonical);
+        self.absolute = word_of(absolute);
+    }
 }

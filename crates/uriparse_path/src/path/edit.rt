@@ -11,19 +11,9 @@ ghost use Rattle.uriparse_path.specs.Dots.{all_but_last};
 ghost use Rattle.uriparse_path.specs.Relative.{filled};
 
 use super::counts::{Counts, Dotted};
+use super::segments::takes_the_place;
 use super::{MAX_SEGMENTS, Path, PathError, PathOf, Segment, word_of};
 use std::alloc::{AllocError, Global};
-
-/// Whether the segment takes the place of the only one, as that is empty and it isn't.
-pub(super) fn takes_the_place(segments: &[Segment<'_>], segment: &Segment<'_>) -> bool
-    ensures empty { result ≡ true → segments.now ≡ [] ∷ [] }
-    ensures with { spec.with_last segments.now segment.now ≡ (if result then segment.now ∷ [] else segments.now ++ segment.now ∷ []) }
-{
-    match segments {
-        [only] => only.as_bytes().is_empty() && !segment.as_bytes().is_empty(),
-        _ => false,
-    }
-}
 
 /// Appends the segment, or replaces the only, empty one by it.
 fn put_last<'p>(segments: &mut Vec<Segment<'p>>, segment: Segment<'p>) -> Result<(), PathError>

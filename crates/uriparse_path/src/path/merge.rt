@@ -8,29 +8,9 @@ ghost use Rattle.uriparse_path.specs.Merge.{merging};
 ghost use Rattle.uriparse_path.specs.Counts as tally;
 
 use super::counts::Counts;
+use super::segments::{directory, push_borrowed};
 use super::{MAX_SEGMENTS, Path, PathError, Segment};
 use std::alloc::{AllocError, Global};
-
-/// The segments but for the last one.
-pub(super) fn directory<'d, 's>(segments: &'d [Segment<'s>]) -> &'d [Segment<'s>]
-    requires { 0 < length segments.now }
-    ensures { result.now ≡ all_but_last segments.now }
-{
-    &segments[..segments.len() - 1]
-}
-
-/// Puts the segments at the end of the list. They borrow the texts of these.
-pub(super) fn push_borrowed<'p>(
-    list: &mut Vec<Segment<'p>>,
-    segments: &'p [Segment<'_>],
-) -> Result<(), AllocError>
-    ensures { OnOk result (list.new.items ≡ list.old.items ++ segments.now) }
-{
-    for segment in segments {
-        list.push(segment.as_borrowed())?;
-    }
-    Ok(())
-}
 
 /// Both lists, one after the other. Allocates once.
 fn joined<'p>(

@@ -1,63 +1,38 @@
-//! Normal forms of lists of segments: RFC 3986, section 6.2.2.
-ghost use Rattle.std.specs.Prelude.{◌≡◌, ◌+◌, ◌<◌, ◌≤◌, ◌∷◌, ◌&&◌, ◌||◌, [], true, false, not, if◌then◌else◌, IfOk, IsOk, filter, map, length, take, drop, reverse, slice_set, vec_len};
+//! Normal forms of paths: RFC 3986, sections 4.2 and 6.2.2.
+ghost use Rattle.std.specs.Prelude.{◌≡◌, ◌↔◌, ◌<◌, ◌||◌, true, false, not, IfOk, IsOk, IsTrue, OnOk, OnErr, filter, map, slice_set, vec_len};
 ghost use Rattle.std.specs.List.{list_all};
-ghost use Rattle.uriparse_text.specs.Bytes.{dot};
 ghost use Rattle.uriparse_text.specs.Canonical.{canonical};
-ghost use Rattle.uriparse_path.specs.Path as path;
-ghost use Rattle.uriparse_path.specs.Dots as dots;
+ghost use Rattle.uriparse_path.specs.Path.{IsListed, hides_root, text};
 ghost use Rattle.uriparse_path.specs.Relative as relative;
 ghost use Rattle.uriparse_path.specs.Normal as spec;
 ghost use Rattle.uriparse_path.specs.Counts as tally;
 
+use super::Path;
 use super::counts::Counts;
-use super::dots::has_dot_segment;
-use super::segment::Segment;
+use super::reduce::make_relative;
+use super::segment::{Segment, each_is_segment};
+use super::segments::{has_dot_segment, hides_root, needs_guard};
 use std::alloc::{AllocError, Global};
 
-/// Whether the list begins with an empty segment and goes on, so that its text begins with a slash.
-pub(super) fn hides_root(segments: &[Segment<'_>]) -> bool
-    ensures { result ≡ path.hides_root segments.now }
-{
-    match segments {
-        [first, _, ..] => first.as_bytes().is_empty(),
-        _ => false,
+/// What precedes a path in a reference.
+#[derive(Clone, Copy)]
+pub struct Place {
+    /// Without a scheme, a path whose text does not begin with a slash stays relative.
+    pub has_scheme: bool,
+    /// Without an authority, the path's text must not begin with two slashes.
+    pub has_authority: bool,
+}
+
+impl Place {
+    /// The place of a path on its own, in which two slashes may come first.
+    fn alone(as_reference: bool) -> Place
+        ensures { result ≡ record { has_scheme = not as_reference; has_authority = true } }
+    {
+        Place {
+            has_scheme: !as_reference,
+            has_authority: true,
+        }
     }
-}
-
-/// Whether two slashes begin the text of the path with these segments.
-pub(super) fn begins_twice(absolute: bool, segments: &[Segment<'_>]) -> bool
-    ensures { result ≡ (path.hides_root segments.now && (absolute || path.hides_root (drop 1 segments.now))) }
-{
-    match segments {
-        [_, followers @ ..] => hides_root(segments) && (absolute || hides_root(followers)),
-        [] => false,
-    }
-}
-
-/// Whether two slashes begin the text of the path with these segments, where no authority stands
-/// before it.
-pub(super) fn needs_shield(shields: bool, absolute: bool, segments: &[Segment<'_>]) -> bool
-    ensures { result ≡ (shields && (path.hides_root segments.now && (absolute || path.hides_root (drop 1 segments.now)))) }
-{
-    shields && begins_twice(absolute, segments)
-}
-
-/// Whether a colon stands in the first segment.
-pub(super) fn has_first_colon(segments: &[Segment<'_>]) -> bool
-    ensures { result ≡ relative.is_first relative.has_colon segments.now }
-{
-    match segments.first() {
-        Some(first) => first.has_colon(),
-        None => false,
-    }
-}
-
-/// Whether a `.` has to stand before segments that take the place of others, by whether a colon
-/// stood in the first of those.
-fn needs_guard(had_colon: bool, segments: &[Segment<'_>]) -> bool
-    ensures { result ≡ (path.hides_root segments.now || (relative.is_first relative.has_colon segments.now && not had_colon)) }
-{
-    hides_root(segments) || (has_first_colon(segments) && !had_colon)
 }
 
 /// Whether `..` segments come first and no dot segment follows them.
@@ -96,8 +71,8 @@ fn all_canonical(segments: &[Segment<'_>]) -> bool
 }
 
 /// Whether the segments are in normal form, for a path that stays relative or for another.
-pub(super) fn is_normal(stays_relative: bool, segments: &[Segment<'_>]) -> bool
-    ensures { result ≡ (list_all spec.is_canonical segments.now && (if stays_relative then spec.climbs_first segments.now || spec.is_guarded segments.now else not (dots.has_dot_segment segments.now))) }
+fn is_normal(stays_relative: bool, segments: &[Segment<'_>]) -> bool
+    ensures { result ≡ spec.are_normal stays_relative segments.now }
 {
     if !all_canonical(segments) {
         return false;
@@ -110,13 +85,9 @@ pub(super) fn is_normal(stays_relative: bool, segments: &[Segment<'_>]) -> bool
 }
 
 /// The same, from the counts of the segments.
-pub(super) fn is_counted_normal(
-    stays_relative: bool,
-    counts: Counts,
-    segments: &[Segment<'_>],
-) -> bool
+fn is_counted_normal(stays_relative: bool, counts: Counts, segments: &[Segment<'_>]) -> bool
     requires { counts ≡ tally.counts segments.now }
-    ensures { result ≡ (list_all spec.is_canonical segments.now && (if stays_relative then spec.climbs_first segments.now || spec.is_guarded segments.now else not (dots.has_dot_segment segments.now))) }
+    ensures { result ≡ spec.are_normal stays_relative segments.now }
 {
     if !counts.all_canonical() {
         return false;
@@ -128,129 +99,8 @@ pub(super) fn is_counted_normal(
     }
 }
 
-/// Whether the last segment is a dot segment.
-fn ends_in_dots(segments: &[Segment<'_>]) -> bool
-    ensures { result ≡ relative.is_last dots.is_dot_segment segments.now }
-{
-    match segments.split_last() {
-        Some((last, _)) => last.is_dot_segment(),
-        None => false,
-    }
-}
-
-/// Whether the last segment is a double dot segment.
-fn ends_in_double_dot(segments: &[Segment<'_>]) -> bool
-    ensures { result ≡ relative.is_last dots.is_double_dot segments.now }
-{
-    match segments.split_last() {
-        Some((last, _)) => last.is_double_dot_segment(),
-        None => false,
-    }
-}
-
-/// Whether the last segment is no dot segment.
-fn ends_in_name(segments: &[Segment<'_>]) -> bool
-    ensures { result ≡ relative.is_last (λ s. not (dots.is_dot_segment s)) segments.now }
-{
-    match segments.split_last() {
-        Some((last, _)) => !last.is_dot_segment(),
-        None => false,
-    }
-}
-
-/// Puts the segment at a place behind those that are left so far, which are the first `kept` of the
-/// list, with the deletion that it brings. Answers how many are left then.
-fn put_segment(segments: &mut Vec<Segment<'_>>, kept: usize, at: usize) -> usize
-    requires order { kept ≤ at }
-    requires within { at < vec_len segments.old }
-    ensures order { result ≤ at + 1 }
-    ensures len { vec_len segments.new ≡ vec_len segments.old }
-    ensures put { relative.put_all (reverse (take result segments.new.items)) (drop (at + 1) segments.new.items) ≡ relative.put_all (reverse (take kept segments.old.items)) (drop at segments.old.items) }
-{
-    if segments[at].is_single_dot_segment() {
-        return kept;
-    }
-    let climbs = segments[at].is_double_dot_segment();
-    if climbs {
-        let is_pair = ends_in_name(&segments[..kept]);
-        if is_pair {
-            return kept - 1;
-        }
-    }
-    segments.swap(kept, at);
-    kept + 1
-}
-
-/// Deletes all that can be deleted, in one pass, and answers how many segments are left in front.
-fn reduce(segments: &mut Vec<Segment<'_>>) -> usize
-    ensures left { take result segments.new.items ≡ relative.reduced segments.old.items }
-    ensures within { result ≤ vec_len segments.new }
-    ensures len { vec_len segments.new ≡ vec_len segments.old }
-{
-    let mut kept = 0;
-    for at in 0..segments.len() {
-        kept = put_segment(segments, kept, at);
-    }
-    kept
-}
-
-/// Puts an empty segment behind those that are left, which are the first `kept` of the list, where
-/// the old ones ended in a dot segment. Answers how many there are then.
-fn close(segments: &mut Vec<Segment<'_>>, ended_in_dots: bool, kept: usize) -> usize
-    requires within { kept ≤ vec_len segments.old }
-    requires room { length (relative.closed ended_in_dots (take kept segments.old.items)) ≤ vec_len segments.old }
-    ensures closed { take result segments.new.items ≡ relative.closed ended_in_dots (take kept segments.old.items) }
-    ensures within { result ≤ vec_len segments.new }
-    ensures len { vec_len segments.new ≡ vec_len segments.old }
-{
-    if kept == 0 || !ended_in_dots {
-        return kept;
-    }
-    let climbs = ends_in_double_dot(&segments[..kept]);
-    if climbs {
-        return kept;
-    }
-    segments[kept] = Segment::empty();
-    kept + 1
-}
-
-/// Leaves the first `kept` of the list, with a `.` in front where one is needed, and an empty
-/// segment where there is none.
-pub(super) fn guard(segments: &mut Vec<Segment<'_>>, needs_guard: bool, kept: usize)
-    requires within { kept ≤ vec_len segments.old }
-    requires room { length (relative.filled (if needs_guard then (dot ∷ []) ∷ take kept segments.old.items else take kept segments.old.items)) ≤ vec_len segments.old }
-    ensures { segments.new.items ≡ relative.filled (if needs_guard then (dot ∷ []) ∷ take kept segments.old.items else take kept segments.old.items) }
-{
-    if needs_guard {
-        segments[kept] = Segment::single_dot();
-        segments.truncate(kept + 1);
-        segments.rotate_right(1);
-        return;
-    }
-    if kept == 0 {
-        segments[0] = Segment::empty();
-        segments.truncate(1);
-        return;
-    }
-    segments.truncate(kept);
-}
-
-/// Brings the segments of a relative path into their normal form, but for their spelling.
-pub(super) fn make_relative(segments: &mut Vec<Segment<'_>>)
-    requires some { 0 < vec_len segments.old }
-    requires shown { path.hides_root segments.old.items ≡ false }
-    ensures { segments.new.items ≡ relative.ended segments.old.items (relative.reduced segments.old.items) }
-{
-    let ended_in_dots = ends_in_dots(segments);
-    let had_colon = has_first_colon(segments);
-    let left = reduce(segments);
-    let kept = close(segments, ended_in_dots, left);
-    let guarded = needs_guard(had_colon, &segments[..kept]);
-    guard(segments, guarded, kept);
-}
-
 /// Copies of the segments that are not canonical, in canonical spelling and in order.
-pub(super) fn canonical_copies(
+fn canonical_copies(
     alloc: Global,
     segments: &[Segment<'_>],
 ) -> Result<Vec<Segment<'static>>, AllocError>
@@ -276,7 +126,7 @@ fn put<'s>(segments: &mut Vec<Segment<'s>>, at: usize, segment: Segment<'s>)
 }
 
 /// Replaces the segments that are not canonical by these copies, from the last one to the first.
-pub(super) fn put_copies<'s>(segments: &mut Vec<Segment<'s>>, copies: Vec<Segment<'s>>)
+fn put_copies<'s>(segments: &mut Vec<Segment<'s>>, copies: Vec<Segment<'s>>)
     requires { copies.items ≡ map canonical (filter (λ s. not (spec.is_canonical s)) segments.old.items) }
     ensures { segments.new.items ≡ map canonical segments.old.items }
 {
@@ -292,5 +142,171 @@ pub(super) fn put_copies<'s>(segments: &mut Vec<Segment<'s>>, copies: Vec<Segmen
                 put(segments, at, copy);
             }
         }
+    }
+}
+
+impl<'p> Path<'p> {
+    /// Whether the path stays relative to a base: it may be that of a reference without a scheme,
+    /// and its text does not begin with a slash.
+    fn stays_relative(&self, as_reference: bool) -> bool
+        ensures { result ≡ spec.stays_relative self.now as_reference }
+    {
+        as_reference && !self.is_rooted()
+    }
+
+    /// Whether the path has the text of its normal form: RFC 3986, section 6.2.2. Then it is that
+    /// form, segment for segment. `as_reference` says whether it may be the path of a reference
+    /// without a scheme. Does not allocate.
+    pub fn is_normalized(&self, as_reference: bool) -> bool
+        ensures text { IsTrue result ↔ (text (spec.pnormal self.now as_reference) ≡ text self.now) }
+        ensures form { IsTrue result → spec.pnormal self.now as_reference ≡ self.now }
+    {
+        self.is_normal(self.stays_relative(as_reference))
+    }
+
+    /// Whether the segments are in normal form, for a path that stays relative or for another.
+    fn is_normal(&self, stays_relative: bool) -> bool
+        ensures answer { result ≡ spec.are_normal stays_relative self.now.segments }
+        ensures listed { IsListed self.now.segments }
+    {
+        let segments = self.segments();
+        match self.known_counts() {
+            Some(counts) => is_counted_normal(stays_relative, counts, segments),
+            None => is_normal(stays_relative, segments),
+        }
+    }
+
+    /// Whether the segments are known to be in normal form.
+    fn is_known_normal(&self, stays_relative: bool) -> bool
+        ensures answer { result ≡ true → spec.are_normal stays_relative self.now.segments ≡ true }
+        ensures listed { IsListed self.now.segments }
+    {
+        let segments = self.segments();
+        match self.known_counts() {
+            Some(counts) => is_counted_normal(stays_relative, counts, segments),
+            None => false,
+        }
+    }
+
+    /// Whether the path is absolute and normal except for a leading `.`, which is needed without an
+    /// authority.
+    fn is_shielded(&self) -> bool
+        ensures { result ≡ spec.is_shielded self.now.absolute self.now.segments }
+    {
+        match self.segments().split_first() {
+            Some((first, later)) => {
+                self.is_absolute()
+                    && first.as_str() == "."
+                    && hides_root(later)
+                    && is_normal(false, later)
+            }
+            None => false,
+        }
+    }
+
+    /// Whether the path has the text of its normal form at this place.
+    pub(crate) fn is_normal_at(&self, place: Place) -> bool
+        ensures { result ≡ spec.is_normal_at place self.now }
+    {
+        let stays_relative = self.stays_relative(!place.has_scheme);
+        self.is_normal(stays_relative) || (!place.has_authority && self.is_shielded())
+    }
+
+    /// Counts the segments, which are canonical, if their counts are not known.
+    fn count_canonical(&mut self)
+        requires { list_all spec.is_canonical self.old.segments ≡ true }
+        ensures { self.new ≡ self.old }
+    {
+        if self.known != 0 {
+            return;
+        }
+        self.counts = Counts::of(&self.segments);
+        self.known = 1;
+    }
+
+    /// Replaces the segments that are not canonical by canonical copies.
+    fn put_canonical(&mut self, copies: Vec<Segment<'p>>)
+        requires { copies.items ≡ map canonical (filter (λ s. not (spec.is_canonical s)) self.old.segments) }
+        ensures { self.new ≡ spec.canonical_path self.old }
+    {
+        each_is_segment(&self.segments);
+        let counts = self.counts.of_canonical();
+        put_copies(&mut self.segments, copies);
+        self.counts = counts;
+    }
+
+    /// Brings each segment into canonical spelling. On an error the path is unchanged.
+    fn make_canonical(&mut self, alloc: Global) -> Result<(), AllocError>
+        ensures ok { OnOk result (self.new ≡ spec.canonical_path self.old) }
+        ensures err { OnErr result (self.new ≡ self.old) }
+        ensures takes_no_memory { list_all spec.is_canonical self.old.segments ≡ true → IsOk result }
+        ensures listed { IsListed self.old.segments }
+    {
+        let segments = self.segments();
+        if self.is_known_canonical() {
+            return Ok(());
+        }
+        let copies = canonical_copies(alloc, segments)?;
+        self.put_canonical(copies);
+        self.count_canonical();
+        Ok(())
+    }
+
+    /// Brings a path with canonical segments, whose text does not begin with a slash, into its
+    /// relative normal form.
+    fn shape_relative(&mut self)
+        requires canonical { list_all spec.is_canonical self.old.segments ≡ true }
+        requires relative { self.old.absolute ≡ false }
+        requires shown { hides_root self.old.segments ≡ false }
+        ensures { self.new ≡ record { absolute = false; segments = relative.ended self.old.segments (relative.reduced self.old.segments) } }
+    {
+        make_relative(&mut self.segments);
+        self.counts = Counts::of(&self.segments);
+        self.known = 1;
+    }
+
+    /// Brings the path into its normal form: RFC 3986, sections 4.2 and 6.2.2. Each segment gets
+    /// its canonical spelling.
+    ///
+    /// With `as_reference` the path may be that of a reference without a scheme. If so and its text
+    /// does not begin with a slash, each `.` is removed, and each `..` together with the segment
+    /// before it. If a dot segment was last, an empty segment is last then, unless nothing or a
+    /// `..` is left. So `a/b/..` becomes `a/`, and `../.` becomes `..`. A leading `.` is added if
+    /// the first segment would otherwise be read as a scheme or a root.
+    ///
+    /// Dot segments of other paths are removed as by
+    /// [`remove_dot_segments`](Path::remove_dot_segments). A second call changes nothing.
+    ///
+    /// Does not allocate if each segment is canonical. Otherwise the segments that are not
+    /// canonical are copied before anything is replaced, so on an error the path is unchanged.
+    pub fn normalize(&mut self, alloc: Global, as_reference: bool) -> Result<(), AllocError>
+        ensures ok { OnOk result (self.new ≡ spec.pnormal self.old as_reference) }
+        ensures err { OnErr result (self.new ≡ self.old) }
+        ensures takes_no_memory { text (spec.pnormal self.old as_reference) ≡ text self.old → IsOk result }
+        ensures canonical_takes_no_memory { spec.canonical_path self.old ≡ self.old → IsOk result }
+    {
+        self.put_normal(alloc, Place::alone(as_reference))
+    }
+
+    /// Brings the path into its normal form at this place. Allocates copies of the segments that
+    /// are not canonical. On an error the path is unchanged.
+    pub(crate) fn put_normal(&mut self, alloc: Global, place: Place) -> Result<(), AllocError>
+        requires { place.has_authority ≡ false → hides_root self.old.segments ≡ false }
+        ensures ok { OnOk result (self.new ≡ spec.normal_at place self.old) }
+        ensures err { OnErr result (self.new ≡ self.old) }
+        ensures takes_no_memory { list_all spec.is_canonical self.old.segments ≡ true → IsOk result }
+        ensures listed { IsListed self.old.segments }
+    {
+        let stays_relative = self.stays_relative(!place.has_scheme);
+        if self.is_known_normal(stays_relative) {
+            return Ok(());
+        }
+        self.make_canonical(alloc)?;
+        if stays_relative {
+            self.shape_relative();
+        } else {
+            self.remove_dots(place.has_authority);
+        }
+        Ok(())
     }
 }

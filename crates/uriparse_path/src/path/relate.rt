@@ -7,9 +7,8 @@ ghost use Rattle.uriparse_path.specs.Relate as spec;
 ghost use Rattle.uriparse_path.specs.Relative.{is_first};
 
 use super::counts::Counts;
-use super::dots::has_dot_segment;
-use super::merge::{directory, push_borrowed};
 use super::segment::each_is_segment;
+use super::segments::{directory, has_dot_segment, push_borrowed};
 use super::{MAX_SEGMENTS, Path, Segment};
 use std::alloc::{AllocError, Global};
 

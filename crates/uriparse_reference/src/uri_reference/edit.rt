@@ -50,6 +50,7 @@ fn has_scheme(scheme: &Option<Scheme<'_>>) -> bool
 {
     match scheme {
         Some(scheme) => {
+            // The proof needs the scheme's own invariant, and only a call on the scheme gives it.
             let _text = scheme.as_str();
             true
         }

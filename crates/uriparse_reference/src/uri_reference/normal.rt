@@ -16,7 +16,7 @@ use std::alloc::{AllocError, Global};
 use uriparse_authority::authority::Authority;
 use uriparse_authority::internal as authority;
 use uriparse_authority::internal::CanonicalCopies;
-use uriparse_path::internal::{is_normal_path, normalize_path};
+use uriparse_path::internal::{Place, is_normal_path, normalize_path};
 use uriparse_path::path::Path;
 use uriparse_scheme::internal as scheme;
 use uriparse_scheme::scheme::Scheme;
@@ -41,6 +41,16 @@ fn is_canonical_authority(authority: &Option<Authority<'_>>) -> bool
     match authority {
         Some(authority) => authority.is_normalized(),
         None => true,
+    }
+}
+
+/// What precedes a path, by the scheme and the authority.
+fn place_of(scheme: &Option<Scheme<'_>>, authority: &Option<Authority<'_>>) -> Place
+    ensures { result ≡ record { has_scheme = is_some scheme.now; has_authority = is_some authority.now } }
+{
+    Place {
+        has_scheme: scheme.is_some(),
+        has_authority: authority.is_some(),
     }
 }
 
@@ -78,7 +88,7 @@ fn normalize_tail(
 {
     let query_copy = canonical_copy(alloc, query)?;
     let fragment_copy = canonical_copy(alloc, fragment)?;
-    normalize_path(path, alloc, scheme.is_none(), authority.is_none())?;
+    normalize_path(path, alloc, place_of(scheme, authority))?;
     put_copy(query, query_copy);
     put_copy(fragment, fragment_copy);
     Ok(())
@@ -104,7 +114,7 @@ impl<'r> URIReference<'r> {
     {
         is_canonical_scheme(&self.scheme)
             && is_canonical_authority(&self.authority)
-            && is_normal_path(&self.path, self.scheme.is_none(), self.authority.is_none())
+            && is_normal_path(&self.path, place_of(&self.scheme, &self.authority))
             && is_canonical_part(&self.query)
             && is_canonical_part(&self.fragment)
     }

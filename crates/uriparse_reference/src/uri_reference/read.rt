@@ -1,17 +1,17 @@
 //! Cutting the text of a reference into its components, and reading these: RFC 3986, sections 3 and
 //! 4.
-ghost use Rattle.std.specs.Prelude.{◌≡◌, position, ◌||◌, not, Option, drop, IfSome, is_some, true, false, Ok, Err, MatchOption, MatchResult};
-ghost use Rattle.std.specs.Option.{option_copied, option_map};
+ghost use Rattle.std.specs.Prelude.{◌≡◌, not, drop, IfSome, is_some, true, false, Ok, Err, MatchOption, MatchResult};
+ghost use Rattle.std.specs.Option.{option_copied};
 ghost use Rattle.uriparse_text.specs.Readings.{if_present, of_piece, unless_fault};
 ghost use Rattle.uriparse_text.specs.Bytes.{percent};
 ghost use Rattle.uriparse_text.specs.Query as query;
 ghost use Rattle.uriparse_authority.specs.Authority as authority;
-ghost use Rattle.uriparse_authority.specs.Authority.{colon_part};
-ghost use Rattle.uriparse_text.specs.Cuts.{lacks, up_to, from_first};
+ghost use Rattle.uriparse_text.specs.Cuts.{lacks, up_to};
 ghost use Rattle.uriparse_path.specs.Path.{IsPath, has_two_slashes};
-ghost use Rattle.uriparse_scheme.specs.Scheme as schemes;
-ghost use Rattle.uriparse_scheme.specs.Scheme.{named};
-ghost use Rattle.uriparse_reference.specs.Cuts.{after_authority, after_scheme, authority_text, cut_authority, ends_scheme, if_some, scheme_text, tail_fragment, tail_query, without_authority};
+ghost use Rattle.uriparse_path.specs.Faults.{ends_path};
+ghost use Rattle.uriparse_scheme.specs.Registered.{name_of};
+ghost use Rattle.uriparse_scheme.specs.Cuts.{if_some, scheme_text};
+ghost use Rattle.uriparse_reference.specs.Cuts.{cut_authority, tail_fragment, tail_query, without_authority};
 ghost use Rattle.uriparse_path.specs.declared.path.error.PathError.TheVariants.{OutOfMemory};
 ghost use Rattle.uriparse_reference.specs.declared.uri_reference.error.URIReferenceError.TheVariants as errors;
 ghost use Rattle.uriparse_reference.specs.Reading.{IsAnswer, behind_reading, parts_of, reading, text_tail};
@@ -23,86 +23,11 @@ use std::alloc::Global;
 use uriparse_authority::internal::{FoundAuthority, find_authority};
 use uriparse_path::internal::{counted_path, into_absolute, split_path};
 use uriparse_path::path::{Path, PathError};
-use uriparse_scheme::internal::{is_scheme, scheme_of};
-use uriparse_scheme::scheme::Scheme;
+use uriparse_scheme::internal::{scheme_if, split_scheme};
+use uriparse_scheme::scheme::RegisteredScheme;
 use uriparse_text::fragment::FragmentKind;
-use uriparse_text::internal::{Found, find_text_before, find_text_if, no_text, split_at_mark};
+use uriparse_text::internal::{Found, find_text_before, find_text_if, no_text};
 use uriparse_text::query::{QueryError, QueryKind};
-
-/// A `:` ends a scheme, and behind a `/`, `?` or `#` none ends.
-fn ends_scheme(b: u8) -> bool
-    ensures { result ≡ ends_scheme b }
-{
-    matches!(b, b':' | b'/' | b'?' | b'#')
-}
-
-/// Where the first byte stands that ends a scheme, or behind which none ends.
-fn end_of_scheme(text: &[u8]) -> Option<usize>
-    ensures { result ≡ position ends_scheme text.now }
-{
-    text.iter().position(|b| ends_scheme(*b))
-}
-
-/// The text before that byte, and the rest, which begins with it.
-fn split_at_scheme_end(text: &[u8]) -> (&[u8], &[u8])
-    ensures front { result.0.now ≡ up_to ends_scheme text.now }
-    ensures rest { result.1.now ≡ from_first ends_scheme text.now }
-{
-    text.split_at(end_of_scheme(text).unwrap_or(text.len()))
-}
-
-/// What stands behind the colon that a rest begins with, if it does.
-fn behind_colon(rest: &[u8]) -> Option<&[u8]>
-    ensures { option_copied result ≡ colon_part rest.now }
-{
-    match rest {
-        [b':', behind @ ..] => Some(behind),
-        _ => None,
-    }
-}
-
-/// The text of the scheme that the text begins with, and what stands behind its colon; or the empty
-/// text, and the whole. `https` and `http`, which most texts have, are told by their bytes, with no
-/// search.
-#[inline(always)]
-fn split_scheme(text: &[u8]) -> (&[u8], &[u8])
-    ensures scheme { if_some result.0.now ≡ scheme_text text.now }
-    ensures rest { result.1.now ≡ after_scheme text.now }
-{
-    match text {
-        [b'h', b't', b't', b'p', b's', b':', behind @ ..] => (b"https", behind),
-        [b'h', b't', b't', b'p', b':', behind @ ..] => (b"http", behind),
-        _ => split_any_scheme(text),
-    }
-}
-
-/// The same, by a search for the colon.
-fn split_any_scheme(text: &[u8]) -> (&[u8], &[u8])
-    ensures scheme { if_some result.0.now ≡ scheme_text text.now }
-    ensures rest { result.1.now ≡ after_scheme text.now }
-{
-    let (front, rest) = split_at_scheme_end(text);
-    let Some(behind) = behind_colon(rest) else {
-        return (b"", text);
-    };
-    if is_scheme(front) {
-        (front, behind)
-    } else {
-        (b"", text)
-    }
-}
-
-/// The scheme of a text that is one, or none where the text is empty.
-#[inline(always)]
-fn scheme_if(text: &[u8]) -> Option<Scheme<'_>>
-    requires { IfSome (if_some text.now) (λ s. schemes.is_scheme s ≡ true) }
-    ensures { result ≡ option_map named (if_some text.now) }
-{
-    match text {
-        [] => None,
-        _ => Some(scheme_of(text)),
-    }
-}
 
 /// Whether there is a scheme: its text is not empty.
 fn is_there(scheme: &[u8]) -> bool
@@ -138,22 +63,21 @@ fn find_front(text: &[u8]) -> Result<(Option<FoundAuthority<'_>>, &[u8]), URIRef
     }
 }
 
-/// Whether no colon stands in the first segment.
-fn lacks_colon_segment(path: &[u8]) -> bool
-    ensures { result ≡ is_noscheme path.now }
-{
-    let (first, _) = split_at_mark(path, b'/');
-    first.iter().all(|b| *b != b':')
-}
-
-/// Refuses a path that may not stand with a scheme or without one, and behind an authority or not.
-fn check_path(has_scheme: bool, has_authority: bool, path: &[u8]) -> Result<(), URIReferenceError>
+/// Rejects a path that may not follow a scheme or none, and an authority or none. The flag says,
+/// without both, whether the path's first segment has a colon: no byte is read for it.
+fn check_path(
+    has_scheme: bool,
+    has_authority: bool,
+    has_colon_segment: bool,
+    path: &[u8],
+) -> Result<(), URIReferenceError>
+    requires { has_scheme ≡ false → has_authority ≡ false → is_noscheme path.now ≡ not has_colon_segment }
     ensures { result ≡ unless_fault (path_refusal has_scheme has_authority path.now) tt }
 {
     match path {
         _ if has_authority => Ok(()),
         [b'/', b'/', ..] => Err(URIReferenceError::AbsolutePathStartsWithTwoSlashes),
-        _ if has_scheme || lacks_colon_segment(path) => Ok(()),
+        _ if has_scheme || !has_colon_segment => Ok(()),
         _ => Err(URIReferenceError::SchemelessPathStartsWithColonSegment),
     }
 }
@@ -198,12 +122,14 @@ pub struct FoundTail<'t> {
 fn find_tail(
     has_scheme: bool,
     has_authority: bool,
+    has_colon_segment: bool,
     text: &[u8],
 ) -> Result<FoundTail<'_>, URIReferenceError>
+    requires { has_scheme ≡ false → has_authority ≡ false → is_noscheme (up_to ends_path text.now) ≡ not has_colon_segment }
     ensures { MatchResult result (λ t. IsPath t.path.now × (t.escaped ≡ 0 → lacks percent t.path.now ≡ true) × (text_tail has_scheme has_authority text.now ≡ Ok (path_of has_authority t.path.now, t.query, t.fragment))) (λ e. text_tail has_scheme has_authority text.now ≡ Err e) }
 {
     let front = split_path(text)?;
-    check_path(has_scheme, has_authority, front.text)?;
+    check_path(has_scheme, has_authority, has_colon_segment, front.text)?;
     let (query, fragment) = find_behind(front.behind)?;
     Ok(FoundTail {
         path: front.text,
@@ -218,6 +144,8 @@ fn find_tail(
 #[derive(Drop)]
 pub struct Pieces<'t> {
     pub scheme: &'t [u8],
+    /// The scheme, if it was recognized by its bytes.
+    pub known: Option<RegisteredScheme>,
     pub authority: Option<FoundAuthority<'t>>,
     pub tail: FoundTail<'t>,
 }
@@ -235,13 +163,15 @@ impl<'t> Pieces<'t> {
 #[inline(always)]
 #[tactic(auto, unfolding(crate::specs::Reading::reading))]
 pub fn find_pieces(text: &[u8]) -> Result<Pieces<'_>, URIReferenceError>
-    ensures { MatchResult result (λ p. (if_some p.scheme.now ≡ scheme_text text.now) × IsPath p.tail.path.now × (p.tail.escaped ≡ 0 → lacks percent p.tail.path.now ≡ true) × (reading text.now ≡ Ok (parts_of text.now p.authority p.tail.path.now p.tail.query p.tail.fragment))) (λ e. reading text.now ≡ Err e) }
+    ensures { MatchResult result (λ p. (if_some p.scheme.now ≡ scheme_text text.now) × IsPath p.tail.path.now × (p.tail.escaped ≡ 0 → lacks percent p.tail.path.now ≡ true) × (reading text.now ≡ Ok (parts_of text.now p.authority p.tail.path.now p.tail.query p.tail.fragment)) × IfSome p.known (λ s. p.scheme.now ≡ name_of s)) (λ e. reading text.now ≡ Err e) }
 {
-    let (scheme, rest) = split_scheme(text);
-    let (authority, rest) = find_front(rest)?;
-    let tail = find_tail(is_there(scheme), authority.is_some(), rest)?;
+    let cut = split_scheme(text);
+    let (authority, rest) = find_front(cut.rest)?;
+    let has_scheme = is_there(cut.scheme);
+    let tail = find_tail(has_scheme, authority.is_some(), cut.has_colon_segment, rest)?;
     Ok(Pieces {
-        scheme,
+        scheme: cut.scheme,
+        known: cut.known,
         authority,
         tail,
     })
@@ -280,6 +210,7 @@ impl<'r> URIReference<'r> {
         pieces: &Pieces<'r>,
     ) -> Result<URIReference<'r>, URIReferenceError>
         requires scheme { if_some pieces.now.scheme.now ≡ scheme_text text.now }
+        requires known { IfSome pieces.now.known (λ s. pieces.now.scheme.now ≡ name_of s) }
         requires path { IsPath pieces.now.tail.path.now }
         requires escaped { pieces.now.tail.escaped ≡ 0 → lacks percent pieces.now.tail.path.now ≡ true }
         requires found { reading text.now ≡ Ok (parts_of text.now pieces.now.authority pieces.now.tail.path.now pieces.now.tail.query pieces.now.tail.fragment) }
@@ -298,7 +229,7 @@ impl<'r> URIReference<'r> {
             None => None,
         };
         Ok(URIReference {
-            scheme: scheme_if(pieces.scheme),
+            scheme: scheme_if(pieces.scheme, pieces.known),
             authority,
             path,
             query: tail.query.to_text(),

@@ -125,13 +125,12 @@ fn in_place<'r>(
 ) -> Result<URIReference<'r>, AllocError>
     ensures { IfOk result (λ r. (r ≡ record { scheme = None; authority = None; path = no_path; query = r.query; fragment = target.now.fragment }) × spec.IsQueryLeft base.now target.now r.query) }
 {
-    let _valid = target.path();
     Ok(URIReference {
         scheme: None,
         authority: None,
         path: empty_path(alloc)?,
         query: query_left(base, target),
-        fragment: borrowed_text(target.fragment()),
+        fragment: borrowed_text(target.fragment.as_ref()),
     })
 }
 
@@ -169,14 +168,14 @@ fn behind_path<'r>(
     requires { spec.inner base.now.path target.now.path ≡ Some path }
     ensures { result ≡ spec.behind_path target.now path.entry }
 {
-    let _valid = target.path();
+    // The proof needs the path's own invariant, and only a call on the path gives it.
     let _listed = path.segments();
     URIReference {
         scheme: None,
         authority: None,
         path,
-        query: borrowed_text(target.query()),
-        fragment: borrowed_text(target.fragment()),
+        query: borrowed_text(target.query.as_ref()),
+        fragment: borrowed_text(target.fragment.as_ref()),
     }
 }
 
@@ -192,8 +191,8 @@ pub fn relativize<'r>(
     ensures relates { IfOk result (λ r. spec.Relates base.now target.now r) }
     ensures valid { Valid base.now × Valid target.now }
 {
-    let _base = base.path();
-    let _target = target.path();
+    let base_path = base.path();
+    let target_path = target.path();
     if !has_same_scheme(base.scheme(), target.scheme()) {
         return target.to_borrowed(alloc);
     }
@@ -203,7 +202,7 @@ pub fn relativize<'r>(
     if is_in_place(base, target) {
         return in_place(alloc, base, target);
     }
-    match inner_path(alloc, base.path(), target.path())? {
+    match inner_path(alloc, base_path, target_path)? {
         Some(path) => Ok(behind_path(base, target, path)),
         None => network(alloc, target),
     }

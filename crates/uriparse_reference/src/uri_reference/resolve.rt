@@ -1,9 +1,9 @@
 //! Resolving a reference against a base: RFC 3986, section 5.2.
-ghost use Rattle.std.specs.Prelude.{◌≡◌, ◌||◌, Err, IfOk, IsSome, MatchOption, MatchResult, Ok, false, if◌then◌else◌, is_some, not, option_copied};
-ghost use Rattle.std.specs.Option.{option_or};
+ghost use Rattle.std.specs.Prelude.{◌≡◌, Err, IfOk, IsSome, MatchOption, MatchResult, Ok, false, if◌then◌else◌};
 ghost use Rattle.uriparse_text.specs.Readings.{IsUnless};
 ghost use Rattle.uriparse_path.specs.Dots.{without_dots};
 ghost use Rattle.uriparse_path.specs.Edits.{shield};
+ghost use Rattle.uriparse_path.specs.Merge.{merging};
 ghost use Rattle.uriparse_path.specs.Path.{hides_root, text};
 ghost use Rattle.uriparse_path.specs.declared.path.error.PathError.TheVariants as paths;
 ghost use Rattle.uriparse_reference.specs.declared.uri_reference.error.URIReferenceError.TheVariants as errors;
@@ -14,12 +14,9 @@ use super::URIReference;
 use super::copy::{borrowed_authority, borrowed_scheme};
 use super::error::URIReferenceError;
 use std::alloc::Global;
-use uriparse_authority::authority::Authority;
 use uriparse_path::internal::{merged_path, remove_dots};
 use uriparse_path::path::{Path, PathError};
-use uriparse_scheme::scheme::Scheme;
 use uriparse_text::internal::borrowed_text;
-use uriparse_text::query::Query;
 
 /// Whether the path's text is empty.
 fn is_empty(path: &Path<'_>) -> bool
@@ -31,52 +28,7 @@ fn is_empty(path: &Path<'_>) -> bool
     }
 }
 
-/// Whether the reference has a scheme or an authority. Then it takes at most the scheme of a base.
-fn has_front(reference: &URIReference<'_>) -> bool
-    ensures { result ≡ (is_some reference.now.scheme || is_some reference.now.authority) }
-{
-    reference.scheme().is_some() || reference.authority().is_some()
-}
-
-/// The scheme of the reference, else of the base.
-fn target_scheme<'r>(
-    base: &'r URIReference<'_>,
-    reference: &'r URIReference<'_>,
-) -> Option<Scheme<'r>>
-    ensures { result ≡ option_or reference.now.scheme base.now.scheme }
-{
-    borrowed_scheme(reference.scheme()).or(borrowed_scheme(base.scheme()))
-}
-
-/// The authority of the reference, or of the base where the reference has neither scheme nor
-/// authority.
-fn target_authority<'r>(
-    base: &'r URIReference<'_>,
-    reference: &'r URIReference<'_>,
-) -> Option<Authority<'r>>
-    ensures { result ≡ (if is_some reference.now.scheme || is_some reference.now.authority then reference.now.authority else base.now.authority) }
-{
-    if has_front(reference) {
-        return borrowed_authority(reference.authority());
-    }
-    borrowed_authority(base.authority())
-}
-
-/// The query of the reference, or of the base where the reference has nothing but a fragment.
-fn target_query<'r>(
-    base: &'r URIReference<'_>,
-    reference: &'r URIReference<'_>,
-) -> Option<Query<'r>>
-    ensures { result ≡ (if (is_some reference.now.scheme || is_some reference.now.authority) || not (is_empty (text reference.now.path)) then reference.now.query else option_or reference.now.query base.now.query) }
-{
-    if has_front(reference) || !is_empty(reference.path()) {
-        return borrowed_text(reference.query());
-    }
-    borrowed_text(reference.query()).or(borrowed_text(base.query()))
-}
-
-/// A path without its dot segments, as it stands behind an authority or where there is none. It
-/// borrows the texts of this one; room for the list is asked for once.
+/// Copies the path, which borrows the segments, and removes its dot segments as section 5.2.4 does.
 fn path_without_dots<'r>(
     alloc: Global,
     path: &'r Path<'_>,
@@ -86,34 +38,30 @@ fn path_without_dots<'r>(
     ensures { MatchResult result (λ p. p ≡ (if has_authority then without_dots path.now else shield (without_dots path.now))) (λ e. e ≡ paths.OutOfMemory) }
 {
     let mut copy = path.to_borrowed(alloc)?;
-    remove_dots(&mut copy, !has_authority);
+    remove_dots(&mut copy, has_authority);
     Ok(copy)
 }
 
-/// The path of the target.
-fn target_path<'r>(
+/// Merges the paths as section 5.2.3 does, and removes the dot segments.
+fn merged_without_dots<'r>(
     alloc: Global,
-    base: &'r URIReference<'_>,
-    reference: &'r URIReference<'_>,
+    base: &'r Path<'_>,
+    path: &'r Path<'_>,
+    has_authority: bool,
 ) -> Result<Path<'r>, PathError>
-    ensures answer { MatchOption (target base.now reference.now) (result ≡ Err paths.ExceededMaximumLength) (λ t. IsUnless paths.OutOfMemory result (Ok t.path)) }
-    ensures valid { Valid base.now × Valid reference.now }
+    requires { has_authority ≡ false → IfOk (merging base.now path.now) (λ m. hides_root m.segments ≡ false) }
+    ensures { MatchResult (merging base.now path.now) (λ m. IsUnless paths.OutOfMemory result (Ok (if has_authority then without_dots m else shield (without_dots m)))) (λ e. result ≡ Err e) }
 {
-    let own = reference.path();
-    let inherited = base.path();
-    if has_front(reference) {
-        return path_without_dots(alloc, own, reference.authority().is_some());
-    }
-    if is_empty(own) {
-        return Ok(inherited.to_borrowed(alloc)?);
-    }
-    let has_authority = base.authority().is_some();
-    if own.is_absolute() {
-        return path_without_dots(alloc, own, has_authority);
-    }
-    let mut merged = merged_path(alloc, inherited, own)?;
-    remove_dots(&mut merged, !has_authority);
+    let mut merged = merged_path(alloc, base, path)?;
+    remove_dots(&mut merged, has_authority);
     Ok(merged)
+}
+
+/// Copies the path, which borrows the segments.
+fn same_path<'r>(alloc: Global, path: &'r Path<'_>) -> Result<Path<'r>, PathError>
+    ensures { MatchResult result (λ p. p ≡ path.now) (λ e. e ≡ paths.OutOfMemory) }
+{
+    Ok(path.to_borrowed(alloc)?)
 }
 
 /// Resolves a reference against a base with a scheme. The target borrows the texts of both. Nothing
@@ -135,12 +83,32 @@ pub fn resolve<'r>(
     ensures valid { Valid base.now × Valid reference.now }
     ensures answer { MatchOption (target base.now reference.now) (result ≡ Err (errors.Path paths.ExceededMaximumLength)) (λ t. IsUnless (errors.Path paths.OutOfMemory) result (Ok t)) }
 {
-    let path = target_path(alloc, base, reference)?;
+    let own = reference.path();
+    let inherited = base.path();
+    let query = reference.query();
+    let (scheme, authority, path, query) = if reference.scheme().is_some() {
+        let authority = reference.authority();
+        let path = path_without_dots(alloc, own, authority.is_some());
+        (reference.scheme(), authority, path, query)
+    } else if reference.authority().is_some() {
+        let path = path_without_dots(alloc, own, true);
+        (base.scheme(), reference.authority(), path, query)
+    } else if is_empty(own) {
+        let path = same_path(alloc, inherited);
+        let query = query.or(base.query());
+        (base.scheme(), base.authority(), path, query)
+    } else if own.is_absolute() {
+        let path = path_without_dots(alloc, own, base.authority().is_some());
+        (base.scheme(), base.authority(), path, query)
+    } else {
+        let path = merged_without_dots(alloc, inherited, own, base.authority().is_some());
+        (base.scheme(), base.authority(), path, query)
+    };
     Ok(URIReference {
-        scheme: target_scheme(base, reference),
-        authority: target_authority(base, reference),
-        path,
-        query: target_query(base, reference),
+        path: path?,
+        scheme: borrowed_scheme(scheme),
+        authority: borrowed_authority(authority),
+        query: borrowed_text(query),
         fragment: borrowed_text(reference.fragment()),
     })
 }

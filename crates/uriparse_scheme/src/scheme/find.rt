@@ -80,18 +80,12 @@ fn frequent(text: &[u8]) -> Option<RegisteredScheme> {
     }
 }
 
-/// The registered scheme with this name, in any case. `https` and `http` are compared first, since
-/// most texts have them, and then the one other frequent scheme that it may be; else the table is
-/// searched.
+/// The registered scheme with this name, in any case. Compares the one frequent scheme that it may
+/// be, and else searches the table. `https` and `http` need no test of their own here:
+/// `split_scheme` recognizes them in the text of a reference.
 pub(super) fn registered_named(text: &[u8]) -> Option<RegisteredScheme>
     ensures { result ≡ spec.registered_named (str_to_ascii_lowercase text.now) }
 {
-    if text == b"https".as_slice() {
-        return Some(RegisteredScheme::HTTPS);
-    }
-    if text == b"http".as_slice() {
-        return Some(RegisteredScheme::HTTP);
-    }
     match frequent(text) {
         Some(scheme) if text.eq_ignore_ascii_case(scheme.name().as_bytes()) => Some(scheme),
         _ => searched_scheme(text),

@@ -10,7 +10,7 @@ use Rattle.std.proofs.Math.Nat.{eq-or-lt_of_le}
 use Rattle.uriparse_path.specs.Path.{PathParts, IsListed, text, spelled}
 use Rattle.uriparse_path.specs.Dots.{is_single_dot, is_double_dot, has_dot_segment, all_but_last, replay, is_one, rooted_after, undot, without_dots}
 use Rattle.uriparse_path.proofs.lemmas.dots.DotSegmentLemmas.{not_both}
-use Rattle.uriparse_path.specs.Normal.{stays_relative, pnormal, is_canonical, climbs_first, is_guarded}
+use Rattle.uriparse_path.specs.Normal.{stays_relative, pnormal, are_normal}
 use Rattle.uriparse_path.proofs.lemmas.normal.NormalFormLemmas.{undot_path, normal_iff}
 
 -- ---- the front
@@ -147,8 +147,5 @@ passed p q a l is dots e f g =
 
 -- ---- the test
 
-abbrev passes : PathParts → Bool → Bool
-passes p v = list_all is_canonical p.segments && cond v (climbs_first p.segments || is_guarded p.segments) (not (has_dot_segment p.segments))
-
-pub tested : (p : PathParts) (r v b : Bool) → IsListed p.segments → v ≡ stays_relative p r → b ≡ passes p v → (b ≡ true) ↔ (text (pnormal p r) ≡ text p)
-tested p r v b is e f = subst (λ u. (u ≡ true) ↔ (text (pnormal p r) ≡ text p)) (sym (f ∙ ap (passes p) e)) (normal_iff p r is)
+pub tested : (p : PathParts) (r v b : Bool) → IsListed p.segments → v ≡ stays_relative p r → b ≡ are_normal v p.segments → (b ≡ true) ↔ (text (pnormal p r) ≡ text p)
+tested p r v b is e f = subst (λ u. (u ≡ true) ↔ (text (pnormal p r) ≡ text p)) (sym (f ∙ ap (λ w. are_normal w p.segments) e)) (normal_iff p r is)

@@ -1,13 +1,13 @@
 -- Paths without their dot segments or in normal form, with a leading "." if they would begin with two slashes.
-use Rattle.std.proofs.Common.{◌≡◌, ℕ, ◌+◌, ◌<◌, ◌≤◌, Bool, true, false, ◌&&◌, ◌||◌, cond, List, [], ◌∷◌, length, take, drop, refl, sym, ap, ◌∙◌, subst}
+use Rattle.std.proofs.Common.{◌≡◌, ℕ, ◌+◌, ◌<◌, ◌≤◌, Bool, true, false, ◌&&◌, ◌||◌, not, cond, List, [], ◌∷◌, length, take, drop, refl, sym, ap, ◌∙◌, subst}
 use Rattle.std.proofs.Common.{arith}
 use Rattle.std.specs.List.{list_all}
-use Rattle.std.proofs.lemmas.Bool.{and_parts}
+use Rattle.std.proofs.lemmas.Bool.{and_parts, not-true}
 use Rattle.std.proofs.lemmas.List.{length-take-le}
 use Rattle.uriparse_text.specs.Bytes.{dot}
 use Rattle.uriparse_path.specs.Path.{PathParts, IsListed, IsCounted, text, spelled, hides_root, respelled}
 use Rattle.uriparse_path.specs.Dots.{has_dot_segment, replay, replayed, rooted_after, undot, without_dots}
-use Rattle.uriparse_path.specs.Edits.{dotted, shield}
+use Rattle.uriparse_path.specs.Edits.{dotted, shield, shield_unless}
 use Rattle.uriparse_path.specs.Relative.{filled}
 use Rattle.uriparse_path.specs.Normal.{stays_relative, pnormal, is_normal, is_canonical}
 use Rattle.uriparse_path.specs.declared.path.counts.Counts.{Counts}
@@ -26,10 +26,6 @@ make a l = record { absolute = a; segments = l }
 abbrev pub twice : PathParts → Bool
 twice q = hides_root q.segments && (q.absolute || hides_root (drop 1 q.segments))
 
--- the path with a "." in front where no authority stands before it, or as it is
-abbrev pub shielded : Bool → PathParts → PathParts
-shielded v q = cond v (shield q) q
-
 -- the list with a leading "." or not
 abbrev pub behind : Bool → List (List ℕ) → List (List ℕ)
 behind n l = filled (cond n ((dot ∷ []) ∷ l) l)
@@ -45,18 +41,18 @@ not_twice : (q : PathParts) → hides_root q.segments ≡ false → twice q ≡ 
 not_twice q h = ap (λ v. v && (q.absolute || hides_root (drop 1 q.segments))) h
 
 -- a path that hides no root stays
-pub shown_stays : (v : Bool) (q : PathParts) → IsListed q.segments → (v ≡ true → hides_root q.segments ≡ false) → shielded v q ≡ q
-shown_stays false q is h = refl
-shown_stays true q is h = shield_is q is ∙ ap (λ w. cond w (dotted q) q) (not_twice q (h refl))
+pub shown_stays : (v : Bool) (q : PathParts) → IsListed q.segments → (v ≡ false → hides_root q.segments ≡ false) → shield_unless v q ≡ q
+shown_stays true q is h = refl
+shown_stays false q is h = shield_is q is ∙ ap (λ w. cond w (dotted q) q) (not_twice q (h refl))
 
 -- a normal path is unchanged
-pub normal_shielded : (v : Bool) (p : PathParts) (r : Bool) → IsListed p.segments → is_normal p r ≡ true → (v ≡ true → hides_root p.segments ≡ false)
-    → p ≡ shielded v (pnormal p r)
-normal_shielded v p r listed h shown = sym (ap (shielded v) (normal_kept p r listed h) ∙ shown_stays v p listed shown)
+pub normal_shielded : (v : Bool) (p : PathParts) (r : Bool) → IsListed p.segments → is_normal p r ≡ true → (v ≡ false → hides_root p.segments ≡ false)
+    → p ≡ shield_unless v (pnormal p r)
+normal_shielded v p r listed h shown = sym (ap (shield_unless v) (normal_kept p r listed h) ∙ shown_stays v p listed shown)
 
-pub kept_shielded : (v : Bool) (p : PathParts) → IsListed p.segments → has_dot_segment p.segments ≡ false → (v ≡ true → hides_root p.segments ≡ false)
-    → p ≡ shielded v (without_dots p)
-kept_shielded v p is h f = sym (ap (λ w. shielded v (cond w (spelled (undot (text p))) p)) h ∙ shown_stays v p is f)
+pub kept_shielded : (v : Bool) (p : PathParts) → IsListed p.segments → has_dot_segment p.segments ≡ false → (v ≡ false → hides_root p.segments ≡ false)
+    → p ≡ shield_unless v (without_dots p)
+kept_shielded v p is h f = sym (ap (λ w. shield_unless v (cond w (spelled (undot (text p))) p)) h ∙ shown_stays v p is f)
 
 -- ---- what comes out of the pass
 
@@ -87,7 +83,7 @@ pub record Pass (v : Bool) (p : PathParts) (rooted : Bool) (kept : ℕ) (first :
     (n : Bool) : Type 0 where
   pub listed : IsListed p.segments
   pub dots : has_dot_segment p.segments ≡ true
-  pub shown : v ≡ true → hides_root p.segments ≡ false
+  pub shown : v ≡ false → hides_root p.segments ≡ false
   pub segments : take kept first ≡ replay [] p.segments
   pub root : rooted ≡ rooted_after p.absolute [] p.segments
   pub within : kept ≤ length first
@@ -96,7 +92,7 @@ pub record Pass (v : Bool) (p : PathParts) (rooted : Bool) (kept : ℕ) (first :
   pub inside : left ≤ length rest
   pub spare : length rest + kept ≡ length first + left
   pub no_longer : length rest ≤ length first
-  pub need : n ≡ (v && twice (make absolute (take left rest)))
+  pub need : n ≡ (not v && twice (make absolute (take left rest)))
 
 module _ {v : Bool} {p : PathParts} {rooted : Bool} {kept : ℕ} {first : List (List ℕ)} {absolute : Bool} {left : ℕ} {rest : List (List ℕ)} {n : Bool}
     (is : Pass v p rooted kept first absolute left rest n) where
@@ -118,11 +114,11 @@ module _ {v : Bool} {p : PathParts} {rooted : Bool} {kept : ℕ} {first : List (
   -- there is room for the "."
   room_for : n ≡ true → left + 1 ≤ length rest
   room_for e =
-      let both = and_parts v (twice out) (sym is.need ∙ e) in
+      let both = and_parts (not v) (twice out) (sym is.need ∙ e) in
       let hides : hides_root out.segments ≡ true = (and_parts (hides_root out.segments) _ both.1).0 in
       let before : hides_root (replay [] p.segments) ≡ true = ap hides_root (sym is.segments)
       ∙ hidden_before (make rooted (take kept first)) (ap (λ q. hides_root q.segments) (sym is.path) ∙ hides) in
-      let less = shorter p.segments (is.shown both.0) before in
+      let less = shorter p.segments (is.shown (not-true v both.0)) before in
       omega (arith, less, kept_is, is.spare, is.len)
 
   pub room_left : length (behind n out.segments) ≤ length rest
@@ -142,12 +138,12 @@ module _ {v : Bool} {p : PathParts} {rooted : Bool} {kept : ℕ} {first : List (
   pub counted_left : IsCounted (behind n out.segments)
   counted_left = let k = is.listed.short in record { some = some_left; short = omega (arith, room_left, k, is.no_longer, is.len) }
 
-  pub passed : make absolute (behind n out.segments) ≡ shielded v (without_dots p)
-  passed = by_need v n is.need ∙ ap (shielded v) (came ∙ sym (undotted_is p is.listed is.dots))
+  pub passed : make absolute (behind n out.segments) ≡ shield_unless v (without_dots p)
+  passed = by_need v n is.need ∙ ap (shield_unless v) (came ∙ sym (undotted_is p is.listed is.dots))
     where
-      by_need : (w m : Bool) → m ≡ (w && twice out) → make absolute (behind m out.segments) ≡ shielded w out
-      by_need false m e = ap (λ u. make absolute (behind u out.segments)) e ∙ ap (make absolute) (filled_some out.segments listed_out.some)
-      by_need true m e = ap (λ u. make absolute (behind u out.segments)) e ∙ by_test (twice out) ∙ sym (shield_is out listed_out)
+      by_need : (w m : Bool) → m ≡ (not w && twice out) → make absolute (behind m out.segments) ≡ shield_unless w out
+      by_need true m e = ap (λ u. make absolute (behind u out.segments)) e ∙ ap (make absolute) (filled_some out.segments listed_out.some)
+      by_need false m e = ap (λ u. make absolute (behind u out.segments)) e ∙ by_test (twice out) ∙ sym (shield_is out listed_out)
         where
           by_test : (t : Bool) → make absolute (behind t out.segments) ≡ cond t (dotted out) out
           by_test true = refl
@@ -178,6 +174,6 @@ module _ {v : Bool} {p : PathParts} {rooted : Bool} {kept : ℕ} {first : List (
 -- ---- normal forms
 
 -- a path that stays relative needs no "." against slashes
-pub relative_stays : (v : Bool) (p : PathParts) (r : Bool) → IsListed p.segments → stays_relative p r ≡ true → shielded v (pnormal p r) ≡ pnormal p r
+pub relative_stays : (v : Bool) (p : PathParts) (r : Bool) → IsListed p.segments → stays_relative p r ≡ true → shield_unless v (pnormal p r) ≡ pnormal p r
 relative_stays v p r is e = shown_stays v (pnormal p r) (listed_pnormal p r is) (λ h. ap (λ q. hides_root q.segments) (pnormal_relative p r e)
     ∙ hides_relative p.segments)

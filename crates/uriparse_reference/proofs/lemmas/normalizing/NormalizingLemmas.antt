@@ -22,7 +22,7 @@ use Rattle.uriparse_scheme.specs.Scheme as scheme
 use Rattle.uriparse_reference.specs.Reference.{Parts, joined, Valid, scheme_part, authority_part, print, kind}
 use Rattle.uriparse_reference.specs.Cuts.{scheme_text, authority_text, path_text, query_text, fragment_text}
 use Rattle.uriparse_path.specs.Edits.{dotted, shield}
-use Rattle.uriparse_reference.specs.Normal.{shielded, normal, is_normal_path, is_normal}
+use Rattle.uriparse_reference.specs.Normal.{shielded, normal, is_normal}
 use Rattle.uriparse_reference.proofs.lemmas.equality.EqualityLemmas.{print_cut, same_scheme}
 use Rattle.uriparse_authority.proofs.lemmas.authorities.NormalLemmas.{one_printed}
 use Rattle.uriparse_reference.proofs.lemmas.equality.CanonicalComponentLemmas.{scheme-text, same_texts}
@@ -70,6 +70,10 @@ kept_shielded true (s ∷ ss) r is h =
     ∙ ap (λ q. text (shielded None q)) same
     ∙ ap (λ v. text (cond v (dotted (make true ss)) (make true ss))) two
     ∙ ap (λ u. text (make true (u ∷ ss))) (sym e)
+
+-- the path after this authority, or without one, is its own normal form
+abbrev is_normal_path : Option AuthorityParts → PathParts → Bool → Bool
+is_normal_path a p r = path.is_normal p r || (is_none a && is_shielded p.absolute p.segments)
 
 pub path_iff : (a : Option AuthorityParts) (p : PathParts) (r : Bool) → Fits (is_some a) p
     → (is_normal_path a p r ≡ true) ↔ (text (shielded a (pnormal p r)) ≡ text p)
@@ -161,21 +165,11 @@ kept_whole p v h =
 
 -- ---- what is put in place
 
--- the path's normal form depends on the scheme and the authority only by their presence
-pub placed_normal : (s : Option Scheme) (a : Option AuthorityParts) (p : PathParts) (v w : Bool) → is_some s ≡ not v → is_some a ≡ not w
-    → cond w (shield (pnormal p v)) (pnormal p v) ≡ shielded a (pnormal p (is_none s))
-placed_normal s a p v w e f = ap (λ u. cond w (shield (pnormal p u)) (pnormal p u)) (sym (none_is s v e))
-    ∙ ap (λ u. cond u (shield (pnormal p (is_none s))) (pnormal p (is_none s))) (sym (none_is a w f)) ∙ by_authority a
-  where
-    none_is : {A : Type 0} (o : Option A) (v : Bool) → is_some o ≡ not v → is_none o ≡ v
-    none_is None true e = refl
-    none_is None false e = absurd (false≢true e)
-    none_is (Some x) true e = absurd (false≢true (sym e))
-    none_is (Some x) false e = refl
-
-    by_authority : (a : Option AuthorityParts) → cond (is_none a) (shield (pnormal p (is_none s))) (pnormal p (is_none s)) ≡ shielded a (pnormal p (is_none s))
-    by_authority None = refl
-    by_authority (Some a) = refl
+-- the path's normal form is told by what precedes it
+pub placed_normal : (s : Option Scheme) (a : Option AuthorityParts) (p : PathParts)
+    → path.normal_at (record { has_scheme = is_some s; has_authority = is_some a }) p ≡ shielded a (pnormal p (is_none s))
+placed_normal s None p = refl
+placed_normal s (Some a) p = refl
 
 pub made_is : (p : Parts) (s : Option Scheme) (a : Option AuthorityParts) (h : PathParts) (q f : Option (List ℕ))
     → s ≡ (normal p).scheme → a ≡ (normal p).authority → h ≡ (normal p).path → q ≡ (normal p).query → f ≡ (normal p).fragment

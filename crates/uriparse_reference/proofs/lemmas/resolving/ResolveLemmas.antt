@@ -1,5 +1,5 @@
 -- The target's components, case by case, and the result that they make.
-use Rattle.std.proofs.Common.{◌≡◌, ℕ, ◌≤◌, Bool, true, false, ◌||◌, not, cond, List, [], ◌∷◌, length, Option, Some, None, Result, Ok, Err, IfErr, inl}
+use Rattle.std.proofs.Common.{◌≡◌, ℕ, ◌≤◌, Bool, true, false, ◌||◌, not, cond, List, [], ◌∷◌, length, Option, Some, None, Result, Ok, Err, IfErr, IfOk, inl}
 use Rattle.std.proofs.Common.{inr, refl, sym, ap, ◌∙◌, subst, ⊎_elim, arith, ◌<◌}
 use Rattle.std.specs.Prelude.{IfSome, MatchOption, MatchResult, is_some, nat_le}
 use Rattle.std.specs.Option.{option_or}
@@ -7,7 +7,7 @@ use Rattle.std.proofs.lemmas.Bool.{false≢true, or_parts}
 use Rattle.uriparse_text.specs.Readings.{IsUnless}
 use Rattle.uriparse_path.specs.declared.path.error.PathError.{PathError}
 use Rattle.uriparse_path.specs.declared.path.error.PathError.TheVariants.{ExceededMaximumLength, OutOfMemory}
-use Rattle.uriparse_path.specs.Path.{PathParts, max_segments, text, is_rooted, pieces}
+use Rattle.uriparse_path.specs.Path.{PathParts, hides_root, max_segments, text, is_rooted, pieces}
 use Rattle.uriparse_path.specs.Dots.{has_dot_segment, without_dots}
 use Rattle.uriparse_path.specs.Edits.{shield}
 use Rattle.uriparse_path.specs.Merge.{merged, merging}
@@ -92,9 +92,6 @@ flipped false q = refl
 
 -- ---- the result for the target's path
 
-abbrev IsPathOf : Option Parts → Result PathParts PathError → Type 0
-IsPathOf o result = MatchOption o (result ≡ Err ExceededMaximumLength) (λ t. IsUnless OutOfMemory result (Ok t.path))
-
 answered : (result : Result PathParts PathError) (made path : PathParts) → MatchResult result (λ p. p ≡ made) (λ e. e ≡ OutOfMemory) → made ≡ path
     → IsUnless OutOfMemory result (Ok path)
 answered (Ok p) made path is e = inl (ap Ok (is ∙ e))
@@ -104,33 +101,59 @@ answered (Err x) made path is e = inr (ap Err is)
 alone : (r : Parts) → Valid r → has_front r ≡ false → Fits false r.path
 alone r v h = subst (λ w. Fits w r.path) (or_parts (is_some r.scheme) (is_some r.authority) h).1 (fits_of r v)
 
-module _ (b r : Parts) (w : Bool) (q : PathParts) (own : q ≡ r.path) (valid : Valid r) where
-  pub own_answer : (result : Result PathParts PathError) → has_front r ≡ true → w ≡ is_some r.authority
-      → MatchResult result (λ p. p ≡ cond w (without_dots q) (shield (without_dots q))) (λ e. e ≡ OutOfMemory)
-      → IsPathOf (target b r) result
-  own_answer result h e is =
-      let made = in_place r.authority w (without_dots q) (dots_removed (text r.path)) e
-      (ap without_dots own ∙ without_dots-text (is_some r.authority) r.path (fits_of r valid)) in
-      subst (λ o. IsPathOf o result) (sym (target_own b r h))
-      (answered result (cond w (without_dots q) (shield (without_dots q))) (shielded r.authority (dots_removed (text r.path))) is made)
+-- ---- the target's components, whatever its path
 
-  pub rooted_answer : (result : Result PathParts PathError) → has_front r ≡ false → is_empty (text r.path) ≡ false → q.absolute ≡ true → w ≡ is_some b.authority
-      → MatchResult result (λ p. p ≡ cond w (without_dots q) (shield (without_dots q))) (λ e. e ≡ OutOfMemory)
-      → IsPathOf (target b r) result
-  rooted_answer result h k a e is =
-      let fits = alone r valid h in
-      let made = in_place b.authority w (without_dots q) (dots_removed (text r.path)) e (ap without_dots own ∙ without_dots-text false r.path fits) in
-      let rooted : is_rooted (text r.path) ≡ true = rooted_formed r.path fits.listed fits.formed ∙ sym (ap (λ p. p.absolute) own) ∙ a in
-      subst (λ o. IsPathOf o result) (sym (target_rooted b r h k rooted))
-      (answered result (cond w (without_dots q) (shield (without_dots q))) (shielded b.authority (dots_removed (text r.path))) is made)
+abbrev make_of : Option Scheme → Option AuthorityParts → PathParts → Option (List ℕ) → Option (List ℕ) → Parts
+make_of s a p q f = record { scheme = s; authority = a; path = p; query = q; fragment = f }
 
--- ---- the case of the base's own path
+-- The target, if there is one, has these components, and the path that is given unless memory ran out.
+abbrev pub IsTarget : Option Parts → Option Scheme → Option AuthorityParts → Option (List ℕ) → Option (List ℕ) → Result PathParts PathError → Type 0
+IsTarget o s a q f given =
+    MatchOption o (given ≡ Err ExceededMaximumLength) (λ t. IsUnless OutOfMemory given (Ok t.path) × (t ≡ make_of s a t.path q f))
 
-pub kept_answer : (b r : Parts) (p q made : PathParts) → p ≡ b.path → q ≡ r.path → Valid b → has_front r ≡ false → is_empty (text q) ≡ true → made ≡ p
-    → IsPathOf (target b r) (Ok made)
-kept_answer b r p q made base own valid h e same =
-    subst (λ o. IsPathOf o (Ok made)) (sym (target_kept b r h (ap (λ u. is_empty (text u)) (sym own) ∙ e)))
-    (inl (ap Ok (same ∙ base ∙ sym (shielded_fits b.authority b.path (fits_of b valid)))))
+with_parts : (s u : Option Scheme) (a c : Option AuthorityParts) (q d : Option (List ℕ)) (p : PathParts) (f : Option (List ℕ)) → s ≡ u → a ≡ c → q ≡ d
+    → make_of u c p d f ≡ make_of s a p q f
+with_parts s u a c q d p f e g h =
+    sym (ap (λ x. make_of x a p q f) e ∙ ap (λ x. make_of u x p q f) g ∙ ap (λ x. make_of u c p x f) h)
+
+module _ (b r : Parts) (s : Option Scheme) (a : Option AuthorityParts) (q : Option (List ℕ)) (given : Result PathParts PathError) where
+  module _ (w : Bool) (own : PathParts) (same : own ≡ r.path) (valid : Valid r)
+      (is : MatchResult given (λ p. p ≡ cond w (without_dots own) (shield (without_dots own))) (λ e. e ≡ OutOfMemory)) where
+    -- the reference's own path
+    own_path : (u : Option Scheme) (c : Option AuthorityParts) → w ≡ is_some c → s ≡ u → a ≡ c → q ≡ r.query
+        → IsTarget (Some (target_of u c (dots_removed (text r.path)) r.query r.fragment)) s a q r.fragment given
+    own_path u c e f g h = (
+      answered given (cond w (without_dots own) (shield (without_dots own))) (shielded c (dots_removed (text r.path))) is
+          (in_place c w (without_dots own) (dots_removed (text r.path)) e
+          (ap without_dots same ∙ without_dots-text (is_some r.authority) r.path (fits_of r valid))),
+      with_parts s u a c q r.query (shielded c (dots_removed (text r.path))) r.fragment f g h,
+    )
+
+    pub scheme_target : is_some r.scheme ≡ true → w ≡ is_some r.authority → s ≡ r.scheme → a ≡ r.authority → q ≡ r.query → IsTarget (target b r) s a q r.fragment given
+    scheme_target h e f g k =
+        subst (λ o. IsTarget o s a q r.fragment given) (sym (ap (λ v. chosen v (is_some r.authority) (is_empty (text r.path)) (is_rooted (text r.path)) b r) h))
+        (own_path r.scheme r.authority e f g k)
+
+    pub authority_target : is_some r.scheme ≡ false → is_some r.authority ≡ true → w ≡ true → s ≡ b.scheme → a ≡ r.authority → q ≡ r.query → IsTarget (target b r) s a q r.fragment given
+    authority_target h i e f g k =
+        subst (λ o. IsTarget o s a q r.fragment given) (sym (ap (λ v. chosen v (is_some r.authority) (is_empty (text r.path)) (is_rooted (text r.path)) b r) h
+        ∙ ap (λ v. chosen false v (is_empty (text r.path)) (is_rooted (text r.path)) b r) i))
+        (own_path b.scheme r.authority (e ∙ sym i) f g k)
+
+    pub rooted_target : has_front r ≡ false → is_empty (text r.path) ≡ false → own.absolute ≡ true → w ≡ is_some b.authority → s ≡ b.scheme
+        → a ≡ b.authority → q ≡ r.query → IsTarget (target b r) s a q r.fragment given
+    rooted_target h k i e f g l =
+        let fits = fits_of r valid in
+        let rooted : is_rooted (text r.path) ≡ true = rooted_formed r.path fits.listed fits.formed ∙ sym (ap (λ p. p.absolute) same) ∙ i in
+        subst (λ o. IsTarget o s a q r.fragment given) (sym (target_rooted b r h k rooted)) (own_path b.scheme b.authority e f g l)
+
+  pub kept_target : (inherited : PathParts) → inherited ≡ b.path → Valid b → has_front r ≡ false → is_empty (text r.path) ≡ true
+      → MatchResult given (λ p. p ≡ inherited) (λ e. e ≡ OutOfMemory) → s ≡ b.scheme → a ≡ b.authority → q ≡ option_or r.query b.query → IsTarget (target b r) s a q r.fragment given
+  kept_target inherited same valid h k is f g l =
+      subst (λ o. IsTarget o s a q r.fragment given) (sym (target_kept b r h k)) (
+        answered given inherited (shielded b.authority b.path) is (same ∙ sym (shielded_fits b.authority b.path (fits_of b valid))),
+        with_parts s b.scheme a b.authority q (option_or r.query b.query) (shielded b.authority b.path) r.fragment f g l,
+      )
 
 -- ---- the case of merged paths
 
@@ -161,126 +184,98 @@ module _ (b r : Parts) (p q : PathParts) (base : p ≡ b.path) (own : q ≡ r.pa
   merging_is z e = ap (λ x. merging x q) base ∙ ap (λ x. merging b.path x) own
       ∙ ap (λ v. cond {A = Result PathParts PathError} v (Ok (merged b.path r.path)) (Err ExceededMaximumLength)) e
 
-  module _ (given : Result PathParts PathError) (answer : IsUnless OutOfMemory given (merging p q)) (fault : IfErr (merging p q) (λ e. given ≡ Err e)) where
-    pub merged_refused : (x : PathError) (result : Result PathParts PathError) → given ≡ Err x → result ≡ Err x → IsPathOf (target b r) result
-    merged_refused x result was same = by_room (nat_le (length (merged b.path r.path).segments) max_segments) refl
-      where
-        by_room : (z : Bool) → nat_le (length (merged b.path r.path).segments) max_segments ≡ z → IsPathOf (target b r) result
-        by_room true e = subst (λ o. IsPathOf o result) (sym (target_is true e))
-            (⊎_elim (λ ok. absurd (let bad : Err x ≡ Ok (merged b.path r.path) = sym was ∙ ok ∙ merging_is true e in cc))
-            (λ bad. inr (same ∙ sym was ∙ bad)) answer)
-        by_room false e = subst (λ o. IsPathOf o result) (sym (target_is false e))
-            (same ∙ sym was ∙ subst (λ m. IfErr m (λ e. given ≡ Err e)) (merging_is false e) fault)
+  pub merged_shown : (w : Bool) → w ≡ is_some b.authority → w ≡ false → IfOk (merging p q) (λ m. hides_root m.segments ≡ false)
+  merged_shown w e none = by_room (nat_le (length (merged b.path r.path).segments) max_segments) refl
+    where
+      by_room : (z : Bool) → nat_le (length (merged b.path r.path).segments) max_segments ≡ z → IfOk (merging p q) (λ m. hides_root m.segments ≡ false)
+      by_room true k =
+          subst (λ x. IfOk x (λ m. hides_root m.segments ≡ false)) (sym (merging_is true k))
+          ((fits_merged (is_some b.authority) b.path r.path is js (le_from _ _ k)).shown (sym e ∙ none))
+      by_room false k = subst (λ x. IfOk x (λ m. hides_root m.segments ≡ false)) (sym (merging_is false k)) tt
 
-    pub merged_made : (w : Bool) (path made : PathParts) → given ≡ Ok path → w ≡ is_some b.authority
-        → made ≡ cond w (without_dots path) (shield (without_dots path)) → IsPathOf (target b r) (Ok made)
-    merged_made w path made was e is_made = by_room (nat_le (length (merged b.path r.path).segments) max_segments) refl
-      where
-        by_room : (z : Bool) → nat_le (length (merged b.path r.path).segments) max_segments ≡ z → IsPathOf (target b r) (Ok made)
-        by_room true k =
-            let short : length (merged b.path r.path).segments ≤ max_segments = le_from _ _ k in
-            let path_is : path ≡ merged b.path r.path = ⊎_elim
-            (λ ok. let same : Ok path ≡ Ok (merged b.path r.path) = sym was ∙ ok ∙ merging_is true k in cc)
-            (λ bad. absurd (let worse : Ok path ≡ Err OutOfMemory = sym was ∙ bad in cc)) answer in
-            let fits = fits_merged (is_some b.authority) b.path r.path is js short in
-            let bare : without_dots path ≡ dots_removed (merge b r) =
-            ap without_dots path_is
-            ∙ without_dots-text (is_some b.authority) (merged b.path r.path) fits
-            ∙ dots_removed-text (merged b.path r.path) fits.listed
-            ∙ sym (dots_removed-merged (is_some b.authority) b.path r.path is js short) in
-            subst (λ o. IsPathOf o (Ok made)) (sym (target_is true k))
-            (inl (ap Ok (is_made ∙ in_place b.authority w (without_dots path) (dots_removed (merge b r)) e bare)))
-        by_room false k = absurd
-            (let bad : Ok path ≡ Err ExceededMaximumLength = sym was ∙ subst (λ m. IfErr m (λ e. given ≡ Err e)) (merging_is false k) fault in cc)
+  pub merged_target : (s : Option Scheme) (a : Option AuthorityParts) (query : Option (List ℕ)) (given : Result PathParts PathError) (w : Bool)
+      → MatchResult (merging p q) (λ m. IsUnless OutOfMemory given (Ok (cond w (without_dots m) (shield (without_dots m))))) (λ e. given ≡ Err e)
+      → w ≡ is_some b.authority → s ≡ b.scheme → a ≡ b.authority → query ≡ r.query → IsTarget (target b r) s a query r.fragment given
+  merged_target s a query given w answer e f g l = by_room (nat_le (length (merged b.path r.path).segments) max_segments) refl
+    where
+      by_room : (z : Bool) → nat_le (length (merged b.path r.path).segments) max_segments ≡ z → IsTarget (target b r) s a query r.fragment given
+      by_room true k =
+          let short : length (merged b.path r.path).segments ≤ max_segments = le_from _ _ k in
+          let fits = fits_merged (is_some b.authority) b.path r.path is js short in
+          let bare : without_dots (merged b.path r.path) ≡ dots_removed (merge b r) =
+          without_dots-text (is_some b.authority) (merged b.path r.path) fits
+          ∙ dots_removed-text (merged b.path r.path) fits.listed
+          ∙ sym (dots_removed-merged (is_some b.authority) b.path r.path is js short) in
+          let m = merged b.path r.path in
+          let made = in_place b.authority w (without_dots m) (dots_removed (merge b r)) e bare in
+          subst (λ o. IsTarget o s a query r.fragment given) (sym (target_is true k)) (
+            subst (λ p. IsUnless OutOfMemory given (Ok p)) made
+                (subst (λ x. MatchResult x (λ m. IsUnless OutOfMemory given (Ok (cond w (without_dots m) (shield (without_dots m))))) (λ e. given ≡ Err e))
+                (merging_is true k) answer),
+            with_parts s b.scheme a b.authority query r.query (shielded b.authority (dots_removed (merge b r))) r.fragment f g l,
+          )
+      by_room false k =
+          subst (λ o. IsTarget o s a query r.fragment given) (sym (target_is false k))
+          (subst (λ x. MatchResult x (λ m. IsUnless OutOfMemory given (Ok (cond w (without_dots m) (shield (without_dots m))))) (λ e. given ≡ Err e))
+          (merging_is false k) answer)
+
+-- ---- a merged path, as it was made
+
+pub made_of : (given m : Result PathParts PathError) (path : PathParts) → given ≡ Ok path → IsUnless OutOfMemory given m → m ≡ Ok path
+made_of given m path was answer =
+    ⊎_elim (λ e. sym e ∙ was) (λ bad. absurd (let worse : ◌≡◌ {A = Result PathParts PathError} (Ok path) (Err OutOfMemory) = sym was ∙ bad in cc)) answer
+
+pub merged_made : (given m : Result PathParts PathError) (path : PathParts) (w : Bool) (new : PathParts) → given ≡ Ok path → IsUnless OutOfMemory given m
+    → new ≡ cond w (without_dots path) (shield (without_dots path))
+    → MatchResult m (λ p. IsUnless OutOfMemory (Ok new) (Ok (cond w (without_dots p) (shield (without_dots p)))))
+    (λ e. ◌≡◌ {A = Result PathParts PathError} (Ok new) (Err e))
+merged_made given m path w new was answer is =
+    subst (λ x. MatchResult x (λ p. IsUnless OutOfMemory (Ok new) (Ok (cond w (without_dots p) (shield (without_dots p)))))
+    (λ e. ◌≡◌ {A = Result PathParts PathError} (Ok new) (Err e)))
+    (sym (made_of given m path was answer)) (inl (ap Ok is))
+
+pub not_true : (v : Bool) → not v ≡ true → v ≡ false
+not_true true h = absurd (false≢true h)
+not_true false h = refl
+
+pub not_made : (m given : Result PathParts PathError) (x : PathError) (result : Result PathParts PathError) (make : PathParts → PathParts)
+    → IsUnless OutOfMemory given m → IfErr m (λ e. given ≡ Err e) → given ≡ Err x → result ≡ Err x
+    → MatchResult m (λ p. IsUnless OutOfMemory result (Ok (make p))) (λ e. result ≡ Err e)
+not_made (Ok p) given x result make answer fault was same =
+    ⊎_elim (λ ok. absurd (let bad : ◌≡◌ {A = Result PathParts PathError} (Err x) (Ok p) = sym was ∙ ok in cc)) (λ bad. inr (same ∙ sym was ∙ bad)) answer
+not_made (Err e) given x result make answer fault was same = same ∙ sym was ∙ fault
 
 -- ---- the result
 
-abbrev authority_of : Parts → Parts → Option AuthorityParts
-authority_of b r = cond (has_front r) r.authority b.authority
-
-abbrev query_of : Parts → Parts → Option (List ℕ)
-query_of b r = cond (has_front r || not (is_empty (text r.path))) r.query (option_or r.query b.query)
-
--- the parts of the target but for its path
-record AreParts (b r t : Parts) : Type 0 where
-  schemes : option_or r.scheme b.scheme ≡ t.scheme
-  authorities : authority_of b r ≡ t.authority
-  queries : query_of b r ≡ t.query
-  fragments : r.fragment ≡ t.fragment
-
-parts_are : (b r : Parts) → IfSome (target b r) (AreParts b r)
-parts_are b r = by_front (has_front r) refl (is_empty (text r.path)) refl (is_rooted (text r.path)) refl
-  where
-    none : (s : Option Scheme) → is_some s ≡ false → option_or s b.scheme ≡ b.scheme
-    none None e = refl
-    none (Some s) e = absurd (false≢true (sym e))
-
-    -- the query, by the two tests
-    query_by : (v x : Bool) → has_front r ≡ v → is_empty (text r.path) ≡ x → query_of b r ≡ cond (v || not x) r.query (option_or r.query b.query)
-    query_by v x h i =
-        ap (λ w. cond (w || not (is_empty (text r.path))) r.query (option_or r.query b.query)) h
-        ∙ ap (λ w. cond (v || not w) r.query (option_or r.query b.query)) i
-
-    of_base : has_front r ≡ false → (x : Bool) → is_empty (text r.path) ≡ x → (p : PathParts)
-        → AreParts b r (target_of b.scheme b.authority p (cond (not x) r.query (option_or r.query b.query)) r.fragment)
-    of_base h x i p = record {
-      schemes = none r.scheme (or_parts (is_some r.scheme) (is_some r.authority) h).0;
-      authorities = ap (λ v. cond v r.authority b.authority) h;
-      queries = query_by false x h i;
-      fragments = refl;
-    }
-
-    by_room : has_front r ≡ false → is_empty (text r.path) ≡ false → (z : Bool)
-        → IfSome (cond z (Some (target_of b.scheme b.authority (dots_removed (merge b r)) r.query r.fragment)) None) (AreParts b r)
-    by_room h i true = of_base h false i (dots_removed (merge b r))
-    by_room h i false = tt
-
-    by_front : (v : Bool) → has_front r ≡ v → (x : Bool) → is_empty (text r.path) ≡ x → (y : Bool) → is_rooted (text r.path) ≡ y
-        → IfSome (target b r) (AreParts b r)
-    by_front true h x i y j =
-        subst (λ o. IfSome o (AreParts b r)) (sym (target_own b r h))
-        (record { schemes = refl; authorities = ap (λ v. cond v r.authority b.authority) h; queries = query_by true x h i; fragments = refl })
-    by_front false h true i y j = subst (λ o. IfSome o (AreParts b r)) (sym (target_kept b r h i)) (of_base h true i b.path)
-    by_front false h false i true j =
-        subst (λ o. IfSome o (AreParts b r)) (sym (target_rooted b r h i j)) (of_base h false i (dots_removed (text r.path)))
-    by_front false h false i false j =
-        subst (λ o. IfSome o (AreParts b r)) (sym (target_merged b r h i j))
-        (by_room h i (nat_le (length (pieces (merge b r))) max_segments))
-
-abbrev make_of : Option Scheme → Option AuthorityParts → PathParts → Option (List ℕ) → Option (List ℕ) → Parts
-make_of s a p q f = record { scheme = s; authority = a; path = p; query = q; fragment = f }
-
 -- the result for this target
-abbrev Answers : Option Parts → Result Parts URIReferenceError → Type 0
-Answers o result =
+abbrev pub IsResult : Option Parts → Result Parts URIReferenceError → Type 0
+IsResult o result =
     MatchOption o (result ≡ Err (errors.Path ExceededMaximumLength)) (λ t. IsUnless (errors.Path OutOfMemory) result (Ok t))
 
-module _ (b r : Parts) (s : Option Scheme) (a : Option AuthorityParts) (p : PathParts) (q f : Option (List ℕ)) (given : Result PathParts PathError)
-    (path : IsPathOf (target b r) given) (was : given ≡ Ok p)
-    (of_scheme : s ≡ option_or r.scheme b.scheme) (of_authority : a ≡ authority_of b r) (of_query : q ≡ query_of b r) (of_fragment : f ≡ r.fragment) where
-  resolved : target b r ≡ Some (make_of s a p q f)
-  resolved = by_target (target b r) (parts_are b r) (subst (IsPathOf (target b r)) was path)
+module _ (b r : Parts) (s : Option Scheme) (a : Option AuthorityParts) (q : Option (List ℕ)) (given : Result PathParts PathError)
+    (is : IsTarget (target b r) s a q r.fragment given) where
+  module _ (p : PathParts) (was : given ≡ Ok p) where
+    resolved : target b r ≡ Some (make_of s a p q r.fragment)
+    resolved = by_target (target b r) (subst (IsTarget (target b r) s a q r.fragment) was is)
+      where
+        by_target : (o : Option Parts) → IsTarget o s a q r.fragment (Ok p) → o ≡ Some (make_of s a p q r.fragment)
+        by_target None k = absurd (let bad : ◌≡◌ {A = Result PathParts PathError} (Ok p) (Err ExceededMaximumLength) = k in cc)
+        by_target (Some t) k =
+            let same : p ≡ t.path = ⊎_elim (λ e. cc) (λ bad. absurd (cc)) k.0 in
+            ap Some (k.1 ∙ sym (ap (λ x. make_of s a x q r.fragment) same))
+
+    pub resolved_valid : Valid b → Valid r → is_some b.scheme ≡ true → Valid (make_of s a p q r.fragment)
+    resolved_valid v w h = subst (λ o. IfSome o Valid) resolved (target_valid b r v w h)
+
+    pub resolved_answer : IsResult (target b r) (Ok (make_of s a p q r.fragment))
+    resolved_answer = subst (λ o. IsResult o (Ok (make_of s a p q r.fragment))) (sym resolved) (inl refl)
+
+  pub refused_answer : (x : PathError) (result : Result Parts URIReferenceError) → given ≡ Err x → result ≡ Err (errors.Path x) → IsResult (target b r) result
+  refused_answer x result was same = by_target (target b r) is
     where
-      by_target : (o : Option Parts) → IfSome o (AreParts b r) → IsPathOf o (Ok p) → o ≡ Some (make_of s a p q f)
-      by_target None h k = absurd (let bad : ◌≡◌ {A = Result PathParts PathError} (Ok p) (Err ExceededMaximumLength) = k in cc)
-      by_target (Some t) h k =
-          let same : p ≡ t.path = ⊎_elim (λ e. cc) (λ bad. absurd (cc)) k in
-          sym (ap (λ x. Some (make_of x a p q f)) (of_scheme ∙ h.schemes)
-          ∙ ap (λ x. Some (make_of t.scheme x p q f)) (of_authority ∙ h.authorities)
-          ∙ ap (λ x. Some (make_of t.scheme t.authority x q f)) same
-          ∙ ap (λ x. Some (make_of t.scheme t.authority t.path x f)) (of_query ∙ h.queries)
-          ∙ ap (λ x. Some (make_of t.scheme t.authority t.path t.query x)) (of_fragment ∙ h.fragments))
-
-  pub resolved_valid : Valid b → Valid r → is_some b.scheme ≡ true → Valid (make_of s a p q f)
-  resolved_valid v w h = subst (λ o. IfSome o Valid) resolved (target_valid b r v w h)
-
-  pub resolved_answer : Answers (target b r) (Ok (make_of s a p q f))
-  resolved_answer = subst (λ o. Answers o (Ok (make_of s a p q f))) (sym resolved) (inl refl)
-
-pub refused : (o : Option Parts) (given : Result PathParts PathError) (x : PathError) (result : Result Parts URIReferenceError)
-    → IsPathOf o given → given ≡ Err x → result ≡ Err (errors.Path x) → Answers o result
-refused None given x result is was same = let e : x ≡ ExceededMaximumLength = cc in same ∙ ap (λ u. Err (errors.Path u)) e
-refused (Some t) given x result is was same =
-    ⊎_elim
-    (λ ok. absurd (let bad : Err x ≡ Ok t.path = sym was ∙ ok in cc))
-    (λ bad. let e : x ≡ OutOfMemory = cc in inr (same ∙ ap (λ u. Err (errors.Path u)) e)) is
+      by_target : (o : Option Parts) → IsTarget o s a q r.fragment given → IsResult o result
+      by_target None k = let e : x ≡ ExceededMaximumLength = cc in same ∙ ap (λ u. Err (errors.Path u)) e
+      by_target (Some t) k =
+          ⊎_elim
+          (λ ok. absurd (let bad : Err x ≡ Ok t.path = sym was ∙ ok in cc))
+          (λ bad. let e : x ≡ OutOfMemory = cc in inr (same ∙ ap (λ u. Err (errors.Path u)) e)) k.0

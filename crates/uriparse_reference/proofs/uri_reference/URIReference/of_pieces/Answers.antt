@@ -1,6 +1,6 @@
 use Rattle.std.proofs.Common.{◌≡◌, Ok, rules}
 use Rattle.uriparse_reference.specs.Reading.{reading}
-use Rattle.uriparse_reference.proofs.lemmas.reading.CutLemmas.{is_scheme_text}
+use Rattle.uriparse_scheme.proofs.CutLemmas.{is_scheme_text}
 use Rattle.uriparse_reference.proofs.lemmas.reading.ReadingLemmas.{found}
 use Rattle.uriparse_reference.proofs.lemmas.reading.SpellingLemmas.{valid}
 use Rattle.uriparse_reference.proofs.uri_reference.URIReference.of_pieces.Goals.{in-Some, in-None}
@@ -17,5 +17,5 @@ invariant_of-result c =
     rw (c.scheme_if.ensures, c.requires.scheme, a, c.in_ok-path.ensures, c.to_text.ensures, c.to_text-2.ensures, c.is_some.ensures) c.requires.found in
     valid t _ (found t _ r)
 
-pub scheme_if-requires : goal.scheme_if-requires
-scheme_if-requires c = is_scheme_text c.args.text.now c.args.pieces.now.scheme.now c.requires.scheme
+pub scheme_if-requires-clause-text : goal.scheme_if-requires-clause-text
+scheme_if-requires-clause-text c = is_scheme_text c.args.text.now c.args.pieces.now.scheme.now c.requires.scheme

@@ -5,7 +5,7 @@ use Rattle.uriparse_path.specs.Faults.{ends_path}
 use Rattle.uriparse_path.proofs.lemmas.reading.ReadingLemmas.{no_fault_iff}
 use Rattle.uriparse_reference.specs.Cuts.{tail_query, tail_fragment}
 use Rattle.uriparse_reference.specs.Reading.{behind_reading}
-use Rattle.uriparse_reference.specs.Reference.{path_refusal}
+use Rattle.uriparse_reference.specs.Reference.{is_noscheme, path_refusal}
 use Rattle.uriparse_reference.proofs.lemmas.reading.TailLemmas.{refused_path, refused_place, refused_behind, accepted_tail, is_refused, is_placed}
 use Rattle.uriparse_reference.specs.declared.uri_reference.error.URIReferenceError.TheVariants as errors
 use Rattle.uriparse_reference.proofs.uri_reference.read.find_tail.Goals as goal
@@ -16,6 +16,9 @@ returns-in_err-front c =
     let answered : c.from_residual.result ≡ Err (errors.Path e) = search rules in
     let is : paths.fault (up_to ends_path c.args.text.now) ≡ Some e = c.in_err-front.ensures in
     rw answered (refused_path c.args.has_scheme c.args.has_authority c.args.text.now e is)
+
+pub check_path-requires : goal.check_path-requires
+check_path-requires c s a = ap is_noscheme c.in_ok-front.ensures.1 ∙ c.requires s a
 
 pub returns-in_err-check_path : goal.returns-in_err-check_path
 returns-in_err-check_path c =

@@ -17,7 +17,7 @@ returns-then-not-has_same_authority-clause-relates c =
     let schemes : b.scheme ≡ t.scheme = search rules in
     let differ : b.authority ≡ t.authority → ⊥ = search rules in
     ok_more (λ r. r ≡ network t) (Relates b t) c.network.result
-    (λ r e. subst (Relates b t) (sym e) (network_leads b t c.path-target.ensures.valid schemes c.requires (λ a. absurd (differ a)))) c.network.ensures
+    (λ r e. subst (Relates b t) (sym e) (network_leads b t c.path-target_path.ensures.valid schemes c.requires (λ a. absurd (differ a)))) c.network.ensures
 
 pub returns-then-is_in_place-clause-relates : goal.returns-then-is_in_place-clause-relates
 returns-then-is_in_place-clause-relates c =
@@ -27,7 +27,7 @@ returns-then-is_in_place-clause-relates c =
     let authorities : b.authority ≡ t.authority = search rules in
     let place : IsInPlace b t = search rules in
     ok_more (λ r. (r ≡ placed_there t r.query) × IsQueryLeft b t r.query) (Relates b t) c.in_place.result
-    (λ r h. place_leads b t r c.path-base.ensures.valid c.path-target.ensures.valid c.requires schemes authorities place h.0 h.1) c.in_place.ensures
+    (λ r h. place_leads b t r c.path-base_path.ensures.valid c.path-target_path.ensures.valid c.requires schemes authorities place h.0 h.1) c.in_place.ensures
 
 pub returns-in-Some-clause-relates : goal.returns-in-Some-clause-relates
 returns-in-Some-clause-relates c =
@@ -38,7 +38,7 @@ returns-in-Some-clause-relates c =
     let no_place : IsInPlace b t → ⊥ = search rules in
     let leads : inner b.path t.path ≡ Some c.in-Some.path = search rules in
     subst (Relates b t) (sym c.behind_path.ensures)
-    (inner_leads b t c.in-Some.path c.path-base.ensures.valid c.path-target.ensures.valid (search rules) c.requires schemes authorities no_place leads)
+    (inner_leads b t c.in-Some.path c.path-base_path.ensures.valid c.path-target_path.ensures.valid (search rules) c.requires schemes authorities no_place leads)
 
 pub returns-in-None-clause-relates : goal.returns-in-None-clause-relates
 returns-in-None-clause-relates c =
@@ -48,4 +48,4 @@ returns-in-None-clause-relates c =
     let no_place : IsInPlace b t → ⊥ = search rules in
     let none : inner b.path t.path ≡ None = search rules in
     ok_more (λ r. r ≡ network t) (Relates b t) c.network-in-None.result
-    (λ r e. subst (Relates b t) (sym e) (network_leads b t c.path-target.ensures.valid schemes c.requires (λ _. (none, no_place)))) c.network-in-None.ensures
+    (λ r e. subst (Relates b t) (sym e) (network_leads b t c.path-target_path.ensures.valid schemes c.requires (λ _. (none, no_place)))) c.network-in-None.ensures

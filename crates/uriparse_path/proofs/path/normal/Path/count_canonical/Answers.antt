@@ -1,0 +1,7 @@
+use Rattle.std.proofs.Common.{◌≤◌, length, sym, subst}
+use Rattle.uriparse_path.proofs.lemmas.list.SegmentCountLemmas.{fits}
+use Rattle.uriparse_path.proofs.path.normal.Path.count_canonical.Goals as goal
+
+pub of-self-inside-requires-clause-short : goal.of-self-inside-requires-clause-short
+of-self-inside-requires-clause-short c =
+    subst (λ l. length l ≤ 4294967295) (sym c.deref.ensures.value) (fits c.self.inside.segments.items c.self.invariant.short)

@@ -1,0 +1,109 @@
+//! The relative normal form of a list of segments: RFC 3986, sections 4.2 and 6.2.2.
+ghost use Rattle.std.specs.Prelude.{◌≡◌, ◌+◌, ◌<◌, ◌≤◌, false, not, length, take, drop, reverse, vec_len};
+ghost use Rattle.uriparse_path.specs.Path as path;
+ghost use Rattle.uriparse_path.specs.Dots as dots;
+ghost use Rattle.uriparse_path.specs.Relative as relative;
+
+use super::segment::Segment;
+use super::segments::{guard, has_first_colon, needs_guard};
+
+/// Whether the last segment is a dot segment.
+fn ends_in_dots(segments: &[Segment<'_>]) -> bool
+    ensures { result ≡ relative.is_last dots.is_dot_segment segments.now }
+{
+    match segments.split_last() {
+        Some((last, _)) => last.is_dot_segment(),
+        None => false,
+    }
+}
+
+/// Whether the last segment is a double dot segment.
+fn ends_in_double_dot(segments: &[Segment<'_>]) -> bool
+    ensures { result ≡ relative.is_last dots.is_double_dot segments.now }
+{
+    match segments.split_last() {
+        Some((last, _)) => last.is_double_dot_segment(),
+        None => false,
+    }
+}
+
+/// Whether there is a last segment and it is not a dot segment.
+fn ends_in_name(segments: &[Segment<'_>]) -> bool
+    ensures { result ≡ relative.is_last (λ s. not (dots.is_dot_segment s)) segments.now }
+{
+    match segments.split_last() {
+        Some((last, _)) => !last.is_dot_segment(),
+        None => false,
+    }
+}
+
+/// Appends the segment at `at` to those that are left so far, the first `kept` of the list, or
+/// makes the deletion that it brings. Returns how many are left then.
+fn put_segment(segments: &mut Vec<Segment<'_>>, kept: usize, at: usize) -> usize
+    requires order { kept ≤ at }
+    requires within { at < vec_len segments.old }
+    ensures order { result ≤ at + 1 }
+    ensures len { vec_len segments.new ≡ vec_len segments.old }
+    ensures put { relative.put_all (reverse (take result segments.new.items)) (drop (at + 1) segments.new.items) ≡ relative.put_all (reverse (take kept segments.old.items)) (drop at segments.old.items) }
+{
+    if segments[at].is_single_dot_segment() {
+        return kept;
+    }
+    let climbs = segments[at].is_double_dot_segment();
+    if climbs {
+        let is_pair = ends_in_name(&segments[..kept]);
+        if is_pair {
+            return kept - 1;
+        }
+    }
+    segments.swap(kept, at);
+    kept + 1
+}
+
+/// Deletes all that can be deleted in one pass; what is left is at the start of the list. Returns
+/// how many segments are left.
+fn reduce(segments: &mut Vec<Segment<'_>>) -> usize
+    ensures left { take result segments.new.items ≡ relative.reduced segments.old.items }
+    ensures within { result ≤ vec_len segments.new }
+    ensures len { vec_len segments.new ≡ vec_len segments.old }
+{
+    let mut kept = 0;
+    for at in 0..segments.len() {
+        kept = put_segment(segments, kept, at);
+    }
+    kept
+}
+
+/// Appends an empty segment to the first `kept` of the list if the old ones ended in a dot segment,
+/// unless none is left or they end in `..`. Returns how many there are then.
+fn close(segments: &mut Vec<Segment<'_>>, ended_in_dots: bool, kept: usize) -> usize
+    requires within { kept ≤ vec_len segments.old }
+    requires room { length (relative.closed ended_in_dots (take kept segments.old.items)) ≤ vec_len segments.old }
+    ensures closed { take result segments.new.items ≡ relative.closed ended_in_dots (take kept segments.old.items) }
+    ensures within { result ≤ vec_len segments.new }
+    ensures len { vec_len segments.new ≡ vec_len segments.old }
+{
+    if kept == 0 || !ended_in_dots {
+        return kept;
+    }
+    let climbs = ends_in_double_dot(&segments[..kept]);
+    if climbs {
+        return kept;
+    }
+    segments[kept] = Segment::empty();
+    kept + 1
+}
+
+/// Brings the segments of a relative path into their normal form, except for their spelling.
+pub(super) fn make_relative(segments: &mut Vec<Segment<'_>>)
+    requires some { 0 < vec_len segments.old }
+    requires shown { path.hides_root segments.old.items ≡ false }
+    ensures { segments.new.items ≡ relative.ended segments.old.items (relative.reduced segments.old.items) }
+{
+    let ended_in_dots = ends_in_dots(segments);
+    let had_colon = has_first_colon(segments);
+    let left = reduce(segments);
+    let kept = close(segments, ended_in_dots, left);
+    let guarded = needs_guard(had_colon, &segments[..kept]);
+    guard(segments, guarded, kept);
+}

@@ -1,0 +1,108 @@
+//! Lists of segments: what dot removal, normal forms, merging and edits share.
+ghost use Rattle.std.specs.Prelude.{◌≡◌, ◌<◌, ◌≤◌, ◌∷◌, ◌++◌, ◌&&◌, ◌||◌, [], true, not, if◌then◌else◌, OnOk, length, take, drop, vec_len};
+ghost use Rattle.uriparse_text.specs.Bytes.{dot};
+ghost use Rattle.uriparse_path.specs.Path as path;
+ghost use Rattle.uriparse_path.specs.Dots as dots;
+ghost use Rattle.uriparse_path.specs.Edits as edits;
+ghost use Rattle.uriparse_path.specs.Relative as relative;
+
+use super::segment::Segment;
+use std::alloc::AllocError;
+
+/// Whether there is a dot segment.
+pub(super) fn has_dot_segment(segments: &[Segment<'_>]) -> bool
+    ensures { result ≡ dots.has_dot_segment segments.now }
+{
+    segments.iter().any(|segment| segment.is_dot_segment())
+}
+
+/// Whether the first segment is empty and others follow it, so that their text begins with a slash.
+pub(super) fn hides_root(segments: &[Segment<'_>]) -> bool
+    ensures { result ≡ path.hides_root segments.now }
+{
+    match segments {
+        [first, _, ..] => first.as_bytes().is_empty(),
+        _ => false,
+    }
+}
+
+/// Whether the text of the path with these segments begins with two slashes.
+pub(super) fn begins_twice(absolute: bool, segments: &[Segment<'_>]) -> bool
+    ensures { result ≡ (path.hides_root segments.now && (absolute || path.hides_root (drop 1 segments.now))) }
+{
+    match segments {
+        [_, followers @ ..] => hides_root(segments) && (absolute || hides_root(followers)),
+        [] => false,
+    }
+}
+
+/// Whether the first segment has a colon.
+pub(super) fn has_first_colon(segments: &[Segment<'_>]) -> bool
+    ensures { result ≡ relative.is_first relative.has_colon segments.now }
+{
+    match segments.first() {
+        Some(first) => first.has_colon(),
+        None => false,
+    }
+}
+
+/// Whether segments that replace others need a leading `.`. `had_colon` says whether the first of
+/// the others had a colon.
+pub(super) fn needs_guard(had_colon: bool, segments: &[Segment<'_>]) -> bool
+    ensures { result ≡ (path.hides_root segments.now || (relative.is_first relative.has_colon segments.now && not had_colon)) }
+{
+    hides_root(segments) || (has_first_colon(segments) && !had_colon)
+}
+
+/// Whether a pushed segment replaces the only one: that one is empty, and it is not.
+pub(super) fn takes_the_place(segments: &[Segment<'_>], segment: &Segment<'_>) -> bool
+    ensures empty { result ≡ true → segments.now ≡ [] ∷ [] }
+    ensures with { edits.with_last segments.now segment.now ≡ (if result then segment.now ∷ [] else segments.now ++ segment.now ∷ []) }
+{
+    match segments {
+        [only] => only.as_bytes().is_empty() && !segment.as_bytes().is_empty(),
+        _ => false,
+    }
+}
+
+/// The segments without the last one.
+pub(super) fn directory<'d, 's>(segments: &'d [Segment<'s>]) -> &'d [Segment<'s>]
+    requires { 0 < length segments.now }
+    ensures { result.now ≡ dots.all_but_last segments.now }
+{
+    &segments[..segments.len() - 1]
+}
+
+/// Appends the segments to the list, borrowing their texts.
+pub(super) fn push_borrowed<'p>(
+    list: &mut Vec<Segment<'p>>,
+    segments: &'p [Segment<'_>],
+) -> Result<(), AllocError>
+    ensures { OnOk result (list.new.items ≡ list.old.items ++ segments.now) }
+{
+    for segment in segments {
+        list.push(segment.as_borrowed())?;
+    }
+    Ok(())
+}
+
+/// Keeps the first `kept` of the list, with a leading `.` if needed, or one empty segment if none
+/// is left.
+pub(super) fn guard(segments: &mut Vec<Segment<'_>>, needs_guard: bool, kept: usize)
+    requires within { kept ≤ vec_len segments.old }
+    requires room { length (relative.filled (if needs_guard then (dot ∷ []) ∷ take kept segments.old.items else take kept segments.old.items)) ≤ vec_len segments.old }
+    ensures { segments.new.items ≡ relative.filled (if needs_guard then (dot ∷ []) ∷ take kept segments.old.items else take kept segments.old.items) }
+{
+    if needs_guard {
+        segments[kept] = Segment::single_dot();
+        segments.truncate(kept + 1);
+        segments.rotate_right(1);
+        return;
+    }
+    if kept == 0 {
+        segments[0] = Segment::empty();
+        segments.truncate(1);
+        return;
+    }
+    segments.truncate(kept);
+}
