@@ -77,6 +77,95 @@ pub fn relative_is_built(path: Path<'_>) -> bool {
         && is_built(builder.with_query(None).build(), "//h/a#f")
 }
 
+/// Builds a reference again, by the setters.
+fn set_reference(reference: URIReference<'_>) -> Result<URIReference<'_>, URIReferenceError> {
+    let (scheme, authority, path, query, fragment) = reference.into_parts();
+    let mut builder = URIReferenceBuilder::new();
+    builder.scheme(scheme);
+    builder.authority(authority);
+    builder.path(path);
+    builder.query(query);
+    builder.fragment(fragment);
+    builder.build()
+}
+
+/// Builds a reference again, by the chained setters.
+fn chain_reference(reference: URIReference<'_>) -> Result<URIReference<'_>, URIReferenceError> {
+    let (scheme, authority, path, query, fragment) = reference.into_parts();
+    URIReferenceBuilder::new()
+        .with_scheme(scheme)
+        .with_authority(authority)
+        .with_path(path)
+        .with_query(query)
+        .with_fragment(fragment)
+        .build()
+}
+
+/// Whether the setters of a builder, given the components of a reference, build it again.
+pub fn reference_is_rebuilt(reference: URIReference<'_>, text: &str) -> bool {
+    is_built(set_reference(reference).and_then(chain_reference), text)
+}
+
+/// Builds a URI again, by the setters.
+fn set_uri(uri: URI<'_>) -> Result<URI<'_>, URIError> {
+    let (scheme, authority, path, query, fragment) = uri.into_parts();
+    let mut builder = URIBuilder::new();
+    builder.scheme(scheme);
+    builder.authority(authority);
+    builder.path(path);
+    builder.query(query);
+    builder.fragment(fragment);
+    builder.build()
+}
+
+/// Builds a URI again, by the chained setters.
+fn chain_uri(uri: URI<'_>) -> Result<URI<'_>, URIError> {
+    let (scheme, authority, path, query, fragment) = uri.into_parts();
+    URIBuilder::new()
+        .with_scheme(scheme)
+        .with_authority(authority)
+        .with_path(path)
+        .with_query(query)
+        .with_fragment(fragment)
+        .build()
+}
+
+/// Whether the setters of a builder, given the components of a URI, build it again.
+pub fn uri_is_rebuilt(uri: URI<'_>, text: &str) -> bool {
+    is_built(set_uri(uri).and_then(chain_uri), text)
+}
+
+/// Builds a relative reference again, by the setters.
+fn set_relative(
+    relative: RelativeReference<'_>,
+) -> Result<RelativeReference<'_>, RelativeReferenceError> {
+    let (authority, path, query, fragment) = relative.into_parts();
+    let mut builder = RelativeReferenceBuilder::new();
+    builder.authority(authority);
+    builder.path(path);
+    builder.query(query);
+    builder.fragment(fragment);
+    builder.build()
+}
+
+/// Builds a relative reference again, by the chained setters.
+fn chain_relative(
+    relative: RelativeReference<'_>,
+) -> Result<RelativeReference<'_>, RelativeReferenceError> {
+    let (authority, path, query, fragment) = relative.into_parts();
+    RelativeReferenceBuilder::new()
+        .with_authority(authority)
+        .with_path(path)
+        .with_query(query)
+        .with_fragment(fragment)
+        .build()
+}
+
+/// Whether the setters of a builder, given the components of a relative reference, build it again.
+pub fn relative_is_rebuilt(relative: RelativeReference<'_>, text: &str) -> bool {
+    is_built(set_relative(relative).and_then(chain_relative), text)
+}
+
 /// Whether builders reject malformed components, and a reference without a path.
 pub fn components_are_rejected() -> bool {
     let mut builder = URIReferenceBuilder::new();

@@ -1,5 +1,5 @@
-//! The tests. What holds a path is read while memory is ample, and lives until it is ample again, so
-//! that nothing returns memory to the heap in between.
+//! The tests. What holds a path is read while memory is ample, and lives until it is ample again,
+//! so that nothing returns memory to the heap in between.
 
 use crate::{authorities, builders, components, paths, references, schemes, wholes};
 use std::alloc::{AllocError, Global};
@@ -177,6 +177,45 @@ fn relative_builder_calls(alloc: Global) -> Test {
     holds_without_memory(alloc, || builders::relative_is_built(path))
 }
 
+/// The setters of the builder of references.
+fn reference_setter_calls(alloc: Global) -> Test {
+    let reference = reference(alloc)?;
+    holds_without_memory(
+        alloc,
+        || builders::reference_is_rebuilt(reference, REFERENCE),
+    )
+}
+
+/// The setters of the builder of URIs.
+fn uri_setter_calls(alloc: Global) -> Test {
+    let uri = uri(alloc)?;
+    holds_without_memory(alloc, || builders::uri_is_rebuilt(uri, REFERENCE))
+}
+
+/// The setters of the builder of relative references.
+fn relative_setter_calls(alloc: Global) -> Test {
+    let relative = relative(alloc)?;
+    holds_without_memory(alloc, || builders::relative_is_rebuilt(relative, RELATIVE))
+}
+
+/// `set_path` of a URI.
+fn set_uri_path_calls(alloc: Global) -> Test {
+    let mut edited = uri(alloc)?;
+    let path = path(alloc, "/x")?;
+    holds_without_memory(alloc, || {
+        wholes::uri_path_is_set(&mut edited, path, "s://u:p@h:8/x?q#f")
+    })
+}
+
+/// `set_path` of a relative reference.
+fn set_relative_path_calls(alloc: Global) -> Test {
+    let mut edited = relative(alloc)?;
+    let path = path(alloc, "/x")?;
+    holds_without_memory(alloc, || {
+        wholes::relative_path_is_set(&mut edited, path, "//u:p@h:8/x?q#f")
+    })
+}
+
 #[test]
 fn calls_on_components_do_not_allocate(rt: HostRuntime) -> Result<(), Fail> {
     assert!(rt; lone_calls(rt.alloc())?);
@@ -213,5 +252,20 @@ fn calls_on_builders_do_not_allocate(rt: HostRuntime) -> Result<(), Fail> {
     assert!(rt; reference_builder_calls(rt.alloc())?);
     assert!(rt; uri_builder_calls(rt.alloc())?);
     assert!(rt; relative_builder_calls(rt.alloc())?);
+    Ok(())
+}
+
+#[test]
+fn setters_of_builders_do_not_allocate(rt: HostRuntime) -> Result<(), Fail> {
+    assert!(rt; reference_setter_calls(rt.alloc())?);
+    assert!(rt; uri_setter_calls(rt.alloc())?);
+    assert!(rt; relative_setter_calls(rt.alloc())?);
+    Ok(())
+}
+
+#[test]
+fn paths_are_set_without_memory(rt: HostRuntime) -> Result<(), Fail> {
+    assert!(rt; set_uri_path_calls(rt.alloc())?);
+    assert!(rt; set_relative_path_calls(rt.alloc())?);
     Ok(())
 }

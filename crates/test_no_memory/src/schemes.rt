@@ -2,7 +2,7 @@
 
 use crate::component::is_read_as_text;
 use std::alloc::Global;
-use uriparse::scheme::UnregisteredSchemeError;
+use uriparse::scheme::{RegisteredScheme, UnregisteredSchemeError};
 use uriparse::{Scheme, SchemeError, SchemeStatus, UnregisteredScheme};
 
 fn scheme_is_read(alloc: Global, text: &str) -> bool {
@@ -52,6 +52,12 @@ fn statuses_hold() -> bool {
     tests_of(Scheme::HTTP.status()) == [false, true, false, false] && is_unregistered("s")
 }
 
+/// Whether a registered scheme has its name and its status.
+fn registered_holds() -> bool {
+    RegisteredScheme::HTTP.name() == "http"
+        && RegisteredScheme::HTTP.status() == SchemeStatus::Permanent
+}
+
 /// Whether the calls on schemes hold.
 pub fn schemes(alloc: Global) -> bool {
     scheme_is_read(alloc, "http")
@@ -59,4 +65,5 @@ pub fn schemes(alloc: Global) -> bool {
         && unregistered_is_read(alloc, "s+x")
         && schemes_are_rejected()
         && statuses_hold()
+        && registered_holds()
 }

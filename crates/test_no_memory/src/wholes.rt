@@ -4,7 +4,9 @@ use crate::component::is_same;
 use std::alloc::Global;
 use std::convert::identity;
 use test_rows::written::writes;
-use uriparse::{RelativeReference, RelativeReferenceError, Scheme, URI, URIError, URIReference};
+use uriparse::{
+    Path, RelativeReference, RelativeReferenceError, Scheme, URI, URIError, URIReference,
+};
 
 /// Whether a URI has the components of `s://u:p@h:8/a?q#f` up to its path.
 fn front_of_uri_holds(uri: &URI<'_>) -> bool {
@@ -192,4 +194,18 @@ pub fn wholes_are_rejected(alloc: Global) -> bool {
         && URI::try_from_bytes(alloc, b"1:").is_err()
         && RelativeReference::try_from_str(alloc, "a b").is_err()
         && RelativeReference::try_from_bytes(alloc, b"1:").is_err()
+}
+
+/// Whether a URI gets this path, and then prints this text.
+pub fn uri_path_is_set<'t>(uri: &mut URI<'t>, path: Path<'t>, text: &str) -> bool {
+    uri.set_path(path).is_ok() && writes(uri, text)
+}
+
+/// Whether a relative reference gets this path, and then prints this text.
+pub fn relative_path_is_set<'t>(
+    relative: &mut RelativeReference<'t>,
+    path: Path<'t>,
+    text: &str,
+) -> bool {
+    relative.set_path(path).is_ok() && writes(relative, text)
 }

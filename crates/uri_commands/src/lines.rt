@@ -1,6 +1,6 @@
 //! `uri --lines COMMAND`: a command for each line of the standard input.
 
-ghost use Rattle.std.specs.Prelude.{◌≡◌, ◌≤◌, false, IfOk, IfSome, OnOk};
+ghost use Rattle.std.specs.Prelude.{◌≡◌, ◌<◌, ◌≤◌, false, length, true, IfOk, IfSome, OnOk};
 ghost use Rattle.std.specs.Io.BufRead.{DropsThrough, first_piece, strip_last};
 ghost use Rattle.std.specs.Io.KnownBytes.{IsAtEnd};
 ghost use Rattle.uri_commands.specs.Lines.{newline};
@@ -150,6 +150,7 @@ fn read_line<I: BufRead>(input: &mut I, line: &mut Vec<u8>) -> io::Result<bool>
     ensures line { OnOk result (IfSome (I.remaining input.old) (λ bytes. line.new.items ≡ first_piece newline bytes)) }
     ensures rest { OnOk result (DropsThrough (I.remaining input.old) (I.remaining input.new) newline) }
     ensures end { IfOk result (λ is_line. is_line ≡ false → IsAtEnd (I.remaining input.old)) }
+    ensures some { IfOk result (λ is_line. is_line ≡ true → IfSome (I.remaining input.old) (λ bytes. 0 < length bytes)) }
 {
     line.clear();
     let count = input.read_until(b'\n', line)?;
@@ -164,8 +165,8 @@ fn report<E: Write>(number: u64, failure: &Failure, line: &[u8], err: &mut E) ->
     err.write_all(b"\n")
 }
 
-/// Does the task for a line, and reports a rejection unless the task is quiet. A failure of memory or
-/// of a write is returned.
+/// Does the task for a line, and reports a rejection unless the task is quiet. A failure of memory
+/// or of a write is returned.
 fn do_line<O: Write, E: Write>(
     alloc: Global,
     task: &Task<'_>,
@@ -227,12 +228,12 @@ fn do_buffered<I: BufRead, O: Write, E: Write>(
     Ok(worst)
 }
 
-/// Runs the command of these words for each line of the input, and returns the status: 0, 1 if a line
-/// was rejected, else 3 if a quiet comparison found different references.
+/// Runs the command of these words for each line of the input, and returns the status: 0, 1 if a
+/// line was rejected, else 3 if a quiet comparison found different references.
 ///
-/// Each line is one text, or two with a tab between them. Its bytes need not be UTF-8, and a `\r` is a
-/// byte like any other. A rejected line is reported on `err`, and the work goes on; it ends early only
-/// if memory runs out or a read or a write fails.
+/// Each line is one text, or two with a tab between them. Its bytes need not be UTF-8, and a `\r`
+/// is a byte like any other. A rejected line is reported on `err`, and the work goes on; it ends
+/// early only if memory runs out or a read or a write fails.
 pub fn lines<I: Read, O: Write, E: Write>(
     alloc: Global,
     options: Options,
