@@ -128,7 +128,7 @@ fn refuses(alloc: Global, builder: &mut URIBuilder<'_>) -> bool {
         && builder.try_fragment(Some(b"#")).is_err()
 }
 
-/// Gives a builder each text, and then texts that it is to refuse.
+/// Gives a builder each text, and then texts that it must reject.
 fn give_and_refuse<'t>(
     alloc: Global,
     builder: &mut URIBuilder<'t>,
@@ -141,7 +141,7 @@ fn give_and_refuse<'t>(
     }
 }
 
-/// What is built of the texts after others were refused.
+/// What is built of the texts after others were rejected.
 fn after_refusals(alloc: Global, texts: Texts<'_>) -> Answer {
     let mut builder = URI::builder();
     let given = give_and_refuse(alloc, &mut builder, texts);

@@ -12,7 +12,7 @@ use uriparse_path::path::Segment;
 use uriparse_scheme::scheme::{Scheme, UnregisteredScheme};
 use uriparse_text::internal::{Text, TextKind};
 
-/// What a component tells of itself, and whether it is another text.
+/// What a component's calls return, and whether it equals another text.
 #[derive(Clone, Copy)]
 pub struct Told<'t> {
     /// `as_str`

@@ -123,7 +123,7 @@ where
     }
 }
 
-/// What a host tells of itself that is made of the address both ways.
+/// What the calls of a host return that is made of the address both ways.
 fn host_of(alloc: Global, host: Host<'_>, address: IpAddr) -> Answer {
     if host == Host::from(address) {
         told(alloc, &host)

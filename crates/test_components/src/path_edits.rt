@@ -119,7 +119,7 @@ fn copy(alloc: Global, path: &Path<'_>) -> Answer {
     told(alloc, &path.to_borrowed(alloc)?.into_owned(alloc)?)
 }
 
-/// An edit that is never refused.
+/// An edit that always succeeds.
 fn change<'t>(command: &str, path: &mut Path<'t>, other: &'t str) {
     match command {
         "pop" => path.pop(),

@@ -12,7 +12,7 @@ fn digit_value(digit: u8) -> Option<u32> {
     }
 }
 
-/// The number that these digits write, if there are any and no more than so many.
+/// The number that these digits write, if there are any and at most `most`.
 fn number(digits: &[u8], radix: u32, most: usize) -> Option<u16> {
     if digits.is_empty() || digits.len() > most {
         return None;

@@ -73,7 +73,7 @@ fn a_lone_refusal_has_its_text(rt: HostRuntime) -> Result<(), Fail> {
     Ok(())
 }
 
-/// Whether a part's refusal becomes the authority's that holds it.
+/// Whether a component's error becomes that of the authority.
 fn become_authority_errors() -> bool {
     AuthorityError::from(HostError::InvalidIPv6Format)
         == AuthorityError::Host(HostError::InvalidIPv6Format)
@@ -84,7 +84,7 @@ fn become_authority_errors() -> bool {
         && AuthorityError::from(PortError::Overflow) == AuthorityError::Port(PortError::Overflow)
 }
 
-/// Whether a part's refusal becomes the reference's that holds it.
+/// Whether a component's error becomes that of the reference.
 fn become_reference_errors() -> bool {
     URIReferenceError::from(AuthorityError::Port(PortError::Overflow))
         == URIReferenceError::Authority(AuthorityError::Port(PortError::Overflow))

@@ -4,7 +4,7 @@ use std::alloc::Global;
 use test_rows::answer::{Answer, named};
 use uriparse::URIReference;
 
-/// The parts that a reference has and the kinds that it is of, as its tests tell them.
+/// The parts that a reference has and the kinds that it is of, as its tests return them.
 pub fn kinds(alloc: Global, reference: &URIReference<'_>) -> Answer {
     named(
         alloc,

@@ -136,7 +136,7 @@ pub fn copied<T: Display + Drop>(alloc: Global, copy: Result<T, AllocError>) -> 
     printed(alloc, copy?)
 }
 
-/// What was read or made, or its refusal.
+/// What was read or made, or the error.
 pub fn made<'t, T: Shown<'t>, E: Display + Drop>(alloc: Global, made: Result<T, E>) -> Answer {
     match made {
         Ok(value) => told(alloc, &value),
@@ -193,7 +193,7 @@ fn authority_text(alloc: Global, authority: Option<&Authority<'_>>) -> Answer {
     }
 }
 
-/// Whether all calls that tell of the parts agree, where these are listed so.
+/// Whether all calls that return the components agree with this list.
 fn has_parts<'t, T: Reference<'t>>(
     alloc: Global,
     value: &T,
@@ -204,7 +204,7 @@ fn has_parts<'t, T: Reference<'t>>(
     Ok(again.as_str() == text && text.contains(authority.as_str()) && tells_its_parts(value))
 }
 
-/// Each component with its name, where all calls that tell of the parts agree.
+/// Each component with its name, if all calls that return the components agree.
 fn parts<'t, T: Reference<'t>>(alloc: Global, value: &T) -> Answer {
     let text = listed_of(alloc, value)?;
     if has_parts(alloc, value, text.as_str())? {

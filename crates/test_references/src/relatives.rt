@@ -137,7 +137,7 @@ impl<'t> Asked<'t> for RelativeReference<'t> {
     }
 }
 
-/// The parts that a relative reference has and the kinds that it is of, as its tests tell them.
+/// The parts that a relative reference has and the kinds that it is of, as its tests return them.
 fn kinds(alloc: Global, relative: &RelativeReference<'_>) -> Answer {
     named(
         alloc,

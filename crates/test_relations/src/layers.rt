@@ -1,4 +1,4 @@
-//! The rows, with ample memory and with refused memory.
+//! The rows, with ample memory and with memory running out.
 
 use crate::{made, relations};
 use std::alloc::Global;

@@ -1,4 +1,4 @@
-//! How the parts of an authority are told, each with its name.
+//! How the components of an authority are listed, each with its name.
 
 use crate::answer::{Answer, add, said};
 use std::alloc::{AllocError, Global};

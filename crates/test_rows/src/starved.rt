@@ -28,7 +28,7 @@ fn outcome_of_rows<L: Layer>(alloc: Global, layer: &L, first: usize) -> Outcome 
     all
 }
 
-/// What is wrong with these outcomes, of which at least so many must be errors.
+/// What is wrong with these outcomes, of which at least `least` must be errors.
 pub fn complaint(outcomes: &[Outcome], least: usize) -> &'static str {
     let refused = outcomes.iter().filter(|o| **o == Outcome::Refused).count();
     if outcomes.iter().any(|o| *o == Outcome::Wrong) {

@@ -1,4 +1,4 @@
-//! What a value writes, told without memory.
+//! What a value writes, compared without allocating.
 
 use std::fmt::{self, Display, Write};
 

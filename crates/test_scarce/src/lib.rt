@@ -4,10 +4,10 @@
 
 use std::alloc::{AllocError, Global};
 
-/// The largest block that is asked for has 2 to this power bytes.
+/// The largest block that is requested has 2 to this power bytes.
 const LARGEST: u32 = 46;
 
-/// Each size of 16 times a number up to this, and one byte, is asked for by itself.
+/// Each size of 16 times a number up to this, and one byte, is requested by itself.
 const SMALL: usize = 66;
 
 /// How many blocks of one size are taken at most.

@@ -90,7 +90,7 @@ pub fn is_normalized(reference: &URIReference<'_>) -> bool
     reference.is_normalized()
 }
 
-/// Sets a reference's path, and tells whether the reference prints as its normal form does then.
+/// Sets a reference's path, and returns whether the reference then prints as its normal form.
 pub fn set_path_and_test<'r>(
     reference: &mut URIReference<'r>,
     path: Path<'r>,

@@ -16,7 +16,7 @@ ghost use Rattle.uriparse.specs.declared.uri.error.URIError.TheVariants as error
 use std::alloc::{AllocError, Global};
 use uriparse::{Query, URI, URIBuilder, URIError, URIReference};
 
-/// Reads a URI. A text's fault is told whatever memory there is.
+/// Reads a URI. A text's fault is returned whatever memory there is.
 pub fn read(alloc: Global, bytes: &[u8]) -> Result<URI<'_>, URIError>
     ensures { (e : URIReferenceError) → fault bytes.now ≡ Some e → result ≡ Err (told e) }
 {

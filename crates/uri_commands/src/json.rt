@@ -42,7 +42,7 @@ fn is_special(b: u8) -> bool
     matches!(b, b'"' | b'\\')
 }
 
-/// Whether the text stands in a JSON string as it is.
+/// Whether a JSON string holds the text unchanged.
 fn is_plain(text: &[u8]) -> bool
     ensures { result ≡ list_all is_plain text.now }
 {

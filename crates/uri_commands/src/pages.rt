@@ -1,4 +1,4 @@
-//! The pages of `uri help COMMAND`. Each ends with an example that a shell takes as it stands, and
+//! The pages of `uri help COMMAND`. Each ends with an example that a shell runs unchanged, and
 //! with what it prints.
 
 const PARSE: &str = "\

@@ -1,4 +1,4 @@
--- What a builder's reference tells of the parts that were given.
+-- What follows from a builder's reference for the components that were given.
 use Rattle.std.proofs.Common.{◌≡◌, Option, Some, None, Ok, ap}
 use Rattle.std.specs.Prelude.{Result, is_some}
 use Rattle.uriparse_text.specs.Readings.{unless_fault}
@@ -7,7 +7,7 @@ use Rattle.uriparse_reference.specs.declared.uri_reference.error.URIReferenceErr
 use Rattle.uriparse_reference.specs.Reference.{Parts}
 use Rattle.uriparse_reference.specs.Builder.{Held, built_with}
 
--- what is made is what was to be made, where nothing refuses it
+-- what is built is what was to be built, if no rule rejects it
 made : (o : Option URIReferenceError) (p q : Parts) → ◌≡◌ {A = Result Parts URIReferenceError} (Ok p) (unless_fault o q) → p ≡ q
 made None p q e = cc
 made (Some x) p q e = absurd (cc)

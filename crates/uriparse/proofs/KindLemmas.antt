@@ -1,4 +1,4 @@
--- What reading a reference of one kind gives.
+-- The result of reading a reference of one kind.
 use Rattle.std.proofs.Common.{◌≡◌, ℕ, Bool, true, false, cond, List, Option, None, Some, Ok, Err, inl, inr, refl, sym, ap, ◌∙◌}
 use Rattle.std.specs.Prelude.{IfOk, Result, is_some}
 use Rattle.std.specs.Bool.{beq}
@@ -36,7 +36,7 @@ pub taken : {E : Type 0} (v : Bool) (told : URIReferenceError → E) (other : E)
 taken v told other (Ok q) p h = taken_by other p q (beq (is_some q.scheme) v) h
 taken v told other (Err e) p h = absurd (cc)
 
--- ---- what an answer by the reading tells in the grammar's words
+-- ---- the result of the reading in the grammar's words
 
 pub kind_found : {E : Type 0} (v : Bool) (told : URIReferenceError → E) (other x : E) (t : List ℕ) (r : Result Parts E)
     → IsUnless x r (reading_of v told other t) → IfOk r (λ p. Spells t p)
@@ -49,7 +49,7 @@ pub kind_only : {E : Type 0} (v : Bool) (told : URIReferenceError → E) (other 
 kind_only v told other x t r (inl h) p s k = inl (h ∙ read_of v told other t p s ∙ of_its_kind v other p k)
 kind_only v told other x t r (inr h) p s k = inr h
 
--- ---- what a check by the pieces tells
+-- ---- what a check by the pieces returns
 
 pub map_some : {A B : Type 0} (f : A → B) (o : Option A) → is_some (option_map f o) ≡ is_some o
 map_some f None = refl

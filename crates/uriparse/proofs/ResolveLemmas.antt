@@ -1,4 +1,4 @@
--- What resolving a reference tells of a URI's errors.
+-- The errors of resolving, as those of a URI.
 use Rattle.std.proofs.Common.{◌≡◌, true, Option, Some, None, Ok, Err, inl, inr, sym, ap, ◌∙◌}
 use Rattle.std.specs.Prelude.{Result, MatchOption, is_some}
 use Rattle.uriparse_text.specs.Readings.{IsUnless}
@@ -16,7 +16,7 @@ use Rattle.uriparse.specs.Uri.{told}
 abbrev pub Answers : {E : Type 0} → E → E → Option Parts → Result Parts E → Type 0
 Answers long memory o r = MatchOption o (r ≡ Err long) (λ t. IsUnless memory r (Ok t))
 
--- an error that is told as a URI's
+-- an error reported as a URI's
 pub refusal_told : (o : Option Parts) (e : URIReferenceError) (d : URIError) → d ≡ told e
     → Answers (references.Path paths.ExceededMaximumLength) (references.Path paths.OutOfMemory) o (Err e)
     → Answers (errors.Path paths.ExceededMaximumLength) (errors.Path paths.OutOfMemory) o (Err d)

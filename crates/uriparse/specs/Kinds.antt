@@ -7,7 +7,7 @@ use Rattle.uriparse_reference.specs.Reference.{Parts}
 use Rattle.uriparse_reference.specs.Builder.{Held}
 use Rattle.uriparse_reference.specs.Reading.{reading}
 
--- the same answer, its refusal told as another
+-- the same result, its error mapped to another
 abbrev pub told_of : {E F A : Type 0} → (E → F) → Result A E → Result A F
 told_of told answer = of_piece told answer
 
@@ -15,7 +15,7 @@ told_of told answer = of_piece told answer
 abbrev pub IsOfKind : Bool → Parts → Type 0
 IsOfKind has_scheme p = is_some p.scheme ≡ has_scheme
 
--- the same parts where they are of the kind, or else this refusal
+-- the same components if they are of the kind, else this error
 abbrev pub of_kind : {E : Type 0} → Bool → E → Parts → Result Parts E
 of_kind has_scheme other p = if beq (is_some p.scheme) has_scheme then Ok p else Err other
 

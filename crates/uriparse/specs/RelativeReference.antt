@@ -19,7 +19,7 @@ relative_error (references.Query e) = Some (errors.Query e)
 relative_error (references.Fragment e) = Some (errors.Fragment e)
 relative_error (references.Scheme e) = None
 
--- what a relative reference's caller is told
+-- the error that a relative reference's caller gets
 abbrev pub told : URIReferenceError → RelativeReferenceError
 told e = unwrap_or (relative_error e) errors.NotRelativeReference
 

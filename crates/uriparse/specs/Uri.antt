@@ -20,11 +20,11 @@ uri_error (references.Query e) = Some (errors.Query e)
 uri_error (references.Fragment e) = Some (errors.Fragment e)
 uri_error (references.Scheme e) = Some (errors.Scheme e)
 
--- what a URI's caller is told: a reference that lacks a scheme is no URI
+-- the error that a URI's caller gets: a reference without a scheme is not a URI
 abbrev pub told : URIReferenceError → URIError
 told e = unwrap_or (uri_error e) errors.NotURI
 
--- what a builder's caller is told: the scheme is what is missing
+-- the error that a builder's caller gets: the scheme is missing
 abbrev pub told_built : URIReferenceError → URIError
 told_built e = unwrap_or (uri_error e) errors.MissingScheme
 

@@ -86,8 +86,7 @@ impl<'r, K: ReferenceKind> ReferenceOf<'r, K> {
     /// [`NotURI`](crate::uri::URIError::NotURI). A faultless text of the other kind is rejected
     /// with [`NotURI`](crate::uri::URIError::NotURI) or
     /// [`NotRelativeReference`](crate::relative_reference::RelativeReferenceError::NotRelativeReference).
-    /// If memory runs out, that is the error, also for a text of the other kind.
-    /// of the other kind.
+    /// If memory runs out, that is the error, possibly also for a faultless text of the other kind.
     pub fn try_from_bytes(alloc: Global, bytes: &'r [u8]) -> Result<ReferenceOf<'r, K>, K::Error>
         // What is read is what the grammar spells, and is of the kind.
         ensures found { IfOk result (λ u. Spells bytes.now u) }
@@ -118,8 +117,7 @@ impl<'r, K: ReferenceKind> ReferenceOf<'r, K> {
 
     /// Checks whether [`try_from_bytes`](ReferenceOf::try_from_bytes) accepts a text: returns the
     /// text's fault, mapped to the kind's error, or that it is of the other kind. Does not
-    /// allocate, so it never fails for lack of memory.
-    /// never answers want of it.
+    /// allocate, so it never runs out of memory.
     pub fn check(bytes: &[u8]) -> Result<(), K::Error>
         ensures { result ≡ unless_fault (fault_of K.has_scheme K.told K.other bytes.now) tt }
     {

@@ -116,7 +116,7 @@ port_text a = cut_port (host_and_port_text a)
 
 -- ---- reading
 
--- what reading a text gives: the parts, or the fault of the first piece that has one
+-- the result of reading a text: its components, or the fault of the first faulty one
 unfoldable pub reading : List ℕ → Result AuthorityParts AuthorityError
 reading a = do
   username ← of_piece errors.Username (if_present username.reading (username_text a))
@@ -128,7 +128,7 @@ reading a = do
 abbrev pub fault : List ℕ → Option AuthorityError
 fault a = fault_in (reading a)
 
--- what reading user information gives, if there is any: a word of a private function's clause alone
+-- the result of reading user information, if there is any: a word of a private function's clause alone
 abbrev pub userinfo_reading : Option (List ℕ) → Result (Option (List ℕ) × Option (List ℕ)) AuthorityError
 userinfo_reading i = do
   username ← of_piece errors.Username (if_present username.reading (username_in i))
@@ -154,7 +154,7 @@ abbrev pub unless_rest : List ℕ → AuthorityParts → Result AuthorityParts A
 unless_rest [] p = Ok p
 unless_rest (b ∷ t) p = Err (rest_error p.port (kind p))
 
--- what reading a text by itself gives: the authority's own faults come before that of a rest after it
+-- the result of reading a text by itself: the authority's own faults precede that of what follows it
 abbrev pub whole_reading : List ℕ → Result AuthorityParts AuthorityError
 whole_reading t = reading (up_to ends_authority t) >>= unless_rest (from_first ends_authority t)
 
@@ -180,7 +180,7 @@ fed p =
     ++ (host.fed p.host
     ++ option u16 p.port))
 
--- the same, told by the key alone: for these pieces of the canonical text, with the code of the host's kind
+-- the same, from the key alone: for these pieces of the canonical text, with the code of the host's kind
 abbrev pub fed_pieces : ℕ → Option (List ℕ) → Option (List ℕ) → List ℕ → Option (List ℕ) → HashWrites
 fed_pieces code username password host_piece port_piece =
     option fed_text username

@@ -18,7 +18,7 @@ use Rattle.uriparse_authority.specs.declared.authority.host.Host.TheVariants.{IP
 use Rattle.uriparse_authority.specs.declared.authority.error.HostError.{HostError}
 use Rattle.uriparse_authority.specs.declared.authority.error.HostError.TheVariants as errors
 
--- what tells hosts apart besides their texts
+-- the kind of a host, which distinguishes it besides its text
 pub data Kind : Type 0 where
   V4 : Kind
   V6 : Kind
@@ -118,7 +118,7 @@ abbrev pub future_host : Result (List ℕ) HostError → Result Host HostError
 future_host (Ok f) = Ok (IPvFuture f)
 future_host (Err e) = Err e
 
--- what reading the text between brackets gives
+-- the result of reading the text between brackets
 abbrev pub literal_reading : List ℕ → Result Host HostError
 literal_reading t =
     if begins_future t then future_host (future.reading t)
@@ -130,7 +130,7 @@ abbrev pub address_or_name : List ℕ → Option (List ℕ) → Host
 address_or_name t (Some a) = IPv4Address a
 address_or_name t None = RegisteredName t
 
--- what reading a text without brackets gives
+-- the result of reading a text without brackets
 abbrev pub name_reading : List ℕ → Result Host HostError
 name_reading t =
     if is_none (fault class.Name t) then Ok (address_or_name t (ipv4_reading t))
@@ -140,7 +140,7 @@ abbrev pub bracket_reading : Option (List ℕ) → List ℕ → Result Host Host
 bracket_reading (Some inner) t = literal_reading inner
 bracket_reading None t = name_reading t
 
--- what reading a text as a host gives
+-- the result of reading a text as a host
 abbrev pub reading : List ℕ → Result Host HostError
 reading t = bracket_reading (in_brackets t) t
 
@@ -161,7 +161,7 @@ abbrev pub fed_read : Result Host HostError → HashWrites
 fed_read (Ok h) = fed h
 fed_read (Err e) = []
 
--- the same, told by the key alone: for a name its canonical spelling, else what is fed for the host that is read again
+-- the same, from the key alone: for a name its canonical spelling, else what is fed for the host that is read again
 abbrev pub fed_key : List ℕ → HashWrites
 fed_key [] = []
 fed_key (code ∷ t) = if code == kind_code Name then u8 code ++ fed_text t else fed_read (reading t)

@@ -47,8 +47,8 @@ pub fn first_fault()
     ensures rest { (a : List ℕ) (b : ℕ) (u : List ℕ) (p : AuthorityParts) → Spells a p → ends_authority b ≡ true → whole_reading (a ++ b ∷ u) ≡ Err (rest_error p.port (kind p)) }
 {}
 
-/// Every text is its pieces put together. The user name lacks the delimiters that end it, the
-/// password the `@` that ends it; without a user name the text has no `@`. The port lacks the
+/// Every text is the concatenation of its components. The user name has none of the delimiters that
+/// end it, the password no `@`; without a user name the text has no `@`. The port has none of the
 /// delimiters that would end a host before it; without a port, a `]` follows each colon of the
 /// host.
 pub fn one_cut()
@@ -64,8 +64,8 @@ pub fn one_cut()
 
 /// What a text spells reads back: its own printed text spells it. So does that of each valid host
 /// and authority, unless the host is a name whose text spells an IPv4 address. A port is read back
-/// from its decimal text. Two valid authorities that print alike are equal, unless one holds as a
-/// name what the other holds as an IPv4 address.
+/// from its decimal text. Two valid authorities with one printed text are equal, unless one holds
+/// as a name what the other holds as an IPv4 address.
 pub fn reading_back()
     ensures host_spelled { (t : List ℕ) (h : Host) → host.Spells t h → host.ReadsBack h }
     ensures host { (h : Host) → host.Valid h → (host.IsHiddenAddress h → ⊥) → host.ReadsBack h }

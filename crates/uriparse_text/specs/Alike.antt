@@ -15,6 +15,6 @@ upper_digit_of n = to_ascii_uppercase (digit_char n)
 abbrev pub token_of : ℕ → Token
 token_of n = if is_in_range 0 255 n then Byte n else Escape (upper_digit_of ((n - 256) / 16)) (upper_digit_of (n % 16))
 
--- so many bytes in front are the same in both texts, and none of them is `%`
+-- this many leading bytes are the same in both texts, and none of them is `%`
 abbrev pub AreCommon : List ℕ → List ℕ → ℕ → Type 0
 AreCommon left right n = (k : ℕ) → k < n → (slice_index left k ≡ slice_index right k) × ((slice_index left k == percent) ≡ false)

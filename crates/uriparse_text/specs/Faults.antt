@@ -27,7 +27,7 @@ abbrev pub first_byte : Token → ℕ
 first_byte (Byte b) = b
 first_byte (Escape high low) = percent
 
--- the byte at which the first token stands that the class lacks: the leftmost fault
+-- the first byte of the first token that is not in the class: the leftmost fault
 unfoldable pub fault : Class → List ℕ → Option ℕ
 fault class text = option_map first_byte (find (λ t. not (allows class t)) (tokens text))
 
@@ -48,7 +48,7 @@ begins_fine class (b ∷ after) = is_plain class b || is_escape b after
 abbrev pub AllFine : Class → List ℕ → ℕ → ℕ → Type 0
 AllFine class text from to = (k : ℕ) → from ≤ k → k < to → begins_fine class (drop k text) ≡ true
 
--- of so many bytes from a place on, those with no mark are fine, and those with one aren't in the class
+-- of this many bytes from a place on, those with no mark are fine, and those with one aren't in the class
 abbrev pub AreInDoubt : Class → List ℕ → ℕ → ℕ → ℕ → Type 0
 AreInDoubt class text at n marks =
     ((k : ℕ) → k < n → bit_at marks k ≡ 0 → begins_fine class (drop (at + k) text) ≡ true)

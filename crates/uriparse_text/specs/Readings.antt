@@ -13,7 +13,7 @@ unless_fault (Some e) x = Err e
 abbrev pub reading_in : {E : Type 0} → Class → (ℕ → E) → List ℕ → Result (List ℕ) E
 reading_in class error_of text = unless_fault (option_map error_of (fault class text)) text
 
--- this answer, or this error in its place
+-- this result, or this error in its place
 abbrev pub IsUnless : {E A : Type 0} → E → Result A E → Result A E → Type 0
 IsUnless error answer right = (answer ≡ right) ⊎ (answer ≡ Err error)
 
@@ -35,7 +35,7 @@ abbrev pub ◌>>=◌ : {E A B : Type 0} → Result A E → (A → Result B E) �
 (Ok x) >>= f = f x
 (Err e) >>= f = Err e
 
--- the same reading, its fault told as that of a piece
+-- the same reading, its fault mapped to that of a component
 abbrev pub of_piece : {E F A : Type 0} → (E → F) → Result A E → Result A F
 of_piece of (Ok x) = Ok x
 of_piece of (Err e) = Err (of e)
@@ -45,7 +45,7 @@ abbrev pub fault_in : {E A : Type 0} → Result A E → Option E
 fault_in (Ok x) = None
 fault_in (Err e) = Some e
 
--- what reading a piece gives that may be absent
+-- the result of reading an optional component
 abbrev pub some_of : {E A : Type 0} → Result A E → Result (Option A) E
 some_of (Ok x) = Ok (Some x)
 some_of (Err e) = Err e

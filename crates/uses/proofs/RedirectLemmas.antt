@@ -1,4 +1,4 @@
--- What the results of reading and resolving tell of a redirect.
+-- What the results of reading and resolving mean for a redirect.
 use Rattle.std.proofs.Common.{◌≡◌, ℕ, List, Option, Some, None, Ok, Err, inl, inr, refl, sym, ap, subst, ◌∙◌}
 use Rattle.std.specs.Prelude.{◌⊎◌, Result, IfOk, MatchOption}
 use Rattle.uriparse.specs.Readings.{IsUnless}
@@ -18,14 +18,14 @@ use Rattle.uses.specs.Redirects.{GoesTo, IsAt, IsWant, IsUnlessWant, Follows}
 abbrev pub Resolves : Option Parts → Result Parts URIError → Type 0
 Resolves o r = MatchOption o (r ≡ Err (uris.Path ExceededMaximumLength)) (λ t. IsUnless (uris.Path OutOfMemory) r (Ok t))
 
--- why there is no answer
+-- why there is no result
 pub unresolved : (o : Option Parts) (e : URIError) → Resolves o (Err e)
     → ((o ≡ None) × (e ≡ uris.Path ExceededMaximumLength)) ⊎ (e ≡ uris.Path OutOfMemory)
 unresolved None e h = inl (refl, cc)
 unresolved (Some t) e (inl h) = absurd (cc)
 unresolved (Some t) e (inr h) = inr (cc)
 
--- the answer
+-- the result
 pub resolved : (o : Option Parts) (t : Parts) → Resolves o (Ok t) → o ≡ Some t
 resolved None t h = absurd (cc)
 resolved (Some u) t (inl h) = let same : t ≡ u = cc in ap Some (sym same)

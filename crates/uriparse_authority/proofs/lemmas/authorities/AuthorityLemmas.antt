@@ -58,7 +58,7 @@ some_password : (b : ℕ) → is_gen_delim b ≡ true → (b == colon) ≡ false
 some_password b gen other None is = tt
 some_password b gen other (Some t) is = password_lacks b gen other t is
 
--- user information lacks a delimiter that is neither its colon nor one of a password's bytes
+-- user information has no delimiter that is neither its colon nor one of a password's bytes
 user_lacks : (b : ℕ) → is_gen_delim b ≡ true → (b == colon) ≡ false → not (colon == b) ≡ true → (u w : Option (List ℕ)) → IfSome u username.IsUsername
     → IfSome w password.IsPassword → IfSome (userinfo u w) (λ t. lacks b t ≡ true)
 user_lacks b gen other mark None w is also = tt
@@ -477,7 +477,7 @@ back p v r =
       is_port = port_back p.port v.is_port;
     }
 
--- ---- authorities that print alike
+-- ---- authorities with one printed text
 
 pub one_port : (m n : Option ℕ) → IfSome m port.IsPort → IfSome n port.IsPort → option_map port.text m ≡ option_map port.text n → m ≡ n
 one_port None None v w e = refl
@@ -547,7 +547,7 @@ fed_cut code t u w g n cut =
     ∙ ap (λ x. fed_pieces code u w x (port_text t)) cut.host
     ∙ ap (λ x. fed_pieces code u w g x) cut.port
 
--- the key alone tells it
+-- the key alone determines it
 pub fed_parts : (p : AuthorityParts) → Valid p → fed_key (key p) ≡ fed p
 fed_parts p v =
     fed_cut (host.kind_code (kind p)) (canonical_text p) (option_map canonical p.username) (option_map canonical p.password) (host.canonical_text p.host)

@@ -146,7 +146,7 @@ canonical_kept a v e =
 pub kept_inside : (a p : AuthorityParts) → a ≡ p → Valid a → print (canonical_authority p) ≡ print p → canonical_authority a ≡ a
 kept_inside a p e v same = canonical_kept a v (subst (λ q. print (canonical_authority q) ≡ print q) (sym e) same)
 
--- ---- valid hosts, and authorities, that print alike
+-- ---- valid hosts, and authorities, with one printed text
 
 pub host_same : (g h : Host) → host.Valid g → host.Valid h → host.text g ≡ host.text h → host.kind g ≡ host.kind h → g ≡ h
 host_same (IPv4Address a) (IPv4Address b) v w e k = ap IPv4Address (ipv4_text-injective a b v w e)

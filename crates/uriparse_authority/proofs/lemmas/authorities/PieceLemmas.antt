@@ -1,4 +1,4 @@
--- What the pieces lack that a text is cut into; and which fault of a text is that of a longer one.
+-- Which delimiters the components of a text do not have; and which fault of a text is that of a longer one.
 use Rattle.std.proofs.Common.{◌≡◌, ℕ, Bool, true, false, not, ◌&&◌, ◌||◌, List, [], ◌∷◌, ◌++◌, cond, Option, Some, None, Ok, Err, refl, sym, ap, subst, ◌∙◌}
 use Rattle.std.proofs.Common.{append-nil}
 use Rattle.std.proofs.lemmas.Bool.{false≢true, and_parts, not-true, eqb-true}

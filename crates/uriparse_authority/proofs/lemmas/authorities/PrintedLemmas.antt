@@ -1,4 +1,4 @@
--- What the printed text of an authority tells.
+-- What follows from the printed text of an authority.
 use Rattle.std.proofs.Common.{◌≡◌, ◌⊎◌, ℕ, List, refl, sym, ap, ◌∙◌, subst, inl, inr}
 use Rattle.uriparse_text.specs.Address.{IsSegments, SpellsIpv4, ipv4_text, ipv6_text}
 use Rattle.uriparse_text.proofs.lemmas.addresses.ReadingLemmas.{SpellsIpv4-ipv4_text, SpellsIpv6-ipv6_text}
@@ -21,13 +21,13 @@ spelled_reads_back a p s = spelled_back s.host_text p.host s.is_host
 pub plain_back : (p : AuthorityParts) → Valid p → (host.IsHiddenAddress p.host → ⊥) → Spells (print p) p
 plain_back p v plain = back p v (host_back p.host v.is_host plain)
 
--- ---- what prints alike
+-- ---- equal printed texts
 
 other_address : (a f : List ℕ) → IsSegments a → IsFuture f → ipv6_text a ≡ f → ⊥
 other_address a f v is e =
     not_both (ipv6_text a) (SpellsIpv6-bytes (ipv6_text a) a (SpellsIpv6-ipv6_text a v)) (subst IsFuture (sym e) is)
 
--- hosts that print alike are one, or one of them holds as a name what the other holds as an IPv4 address
+-- hosts with one printed text are equal, or one of them holds as a name what the other holds as an IPv4 address
 pub hosts_apart : (g h : Host) → host.Valid g → host.Valid h → host.text g ≡ host.text h → (g ≡ h) ⊎ OneHidesAddress g h
 hosts_apart (IPv4Address a) (IPv4Address b) v w e = inl (host_same (IPv4Address a) (IPv4Address b) v w e refl)
 hosts_apart (IPv6Address a) (IPv6Address b) v w e = inl (host_same (IPv6Address a) (IPv6Address b) v w e refl)

@@ -1,4 +1,4 @@
--- Which bytes user names and passwords lack, and their canonical spellings.
+-- Which bytes user names and passwords do not have, and their canonical spellings.
 use Rattle.std.proofs.Common.{◌≡◌, ℕ, Bool, true, false, List, arith}
 use Rattle.std.specs.Prelude.{◌==◌, codes}
 use Rattle.std.proofs.lemmas.Bool.Decides.{nat_tests}
@@ -14,7 +14,7 @@ use Rattle.uriparse_authority.specs.Username as username
 use Rattle.uriparse_authority.specs.Password as password
 use Rattle.uriparse_authority.specs.Future.{is_future_byte}
 
--- ---- the bytes that they lack
+-- ---- the bytes that they do not have
 
 -- gen-delims = ":" / "/" / "?" / "#" / "[" / "]" / "@"
 abbrev pub is_gen_delim : ℕ → Bool

@@ -43,7 +43,7 @@ use Rattle.uriparse_authority.proofs.lemmas.hosts.FutureLemmas.{IsFuture-bytes, 
 
 -- ---- brackets
 
--- the last byte tells
+-- the last byte decides
 pub closed-last : (t : List ℕ) (b : ℕ) → closed (t ++ b ∷ []) ≡ cond (b == right_bracket) (Some t) None
 closed-last [] b = refl
 closed-last (c ∷ []) b =
@@ -171,7 +171,7 @@ found t h k = at_brackets (in_brackets t) refl k
 pub host_exact : IsExact Spells reading
 host_exact = record { again = again; found = found }
 
--- a name read by itself is what reading a host gives as a name
+-- a name read by itself is the name that reading a host returns
 names_again : (t n : List ℕ) → Spells t (RegisteredName n) → name.reading t ≡ Ok n
 names_again t n s = at_address (ipv4_reading t) refl
   where
@@ -266,7 +266,7 @@ spelled_back t (RegisteredName n) s = subst (λ x. Spells x (RegisteredName n)) 
 pub unbracketed : (t u : List ℕ) → IsName t → t ≡ bracketed u → ⊥
 unbracketed t u is e = let o : None ≡ Some u = sym (name_no_brackets t is) ∙ (brackets_exactly t u).1 e in cc
 
--- ---- hosts that print alike
+-- ---- hosts with one printed text
 
 pub bracketed-injective : (t u : List ℕ) → bracketed t ≡ bracketed u → t ≡ u
 bracketed-injective t u e = let o : Some t ≡ Some u = sym (closed-bracket t) ∙ ap in_brackets e ∙ closed-bracket u in cc
@@ -358,7 +358,7 @@ same_host g h = (
 
 -- ---- what a hasher is fed: the kind, and then an address as its numbers or any other text
 
--- the key alone tells it
+-- the key alone determines it
 pub fed_host : (h : Host) → Valid h → fed_key (key h) ≡ fed h
 fed_host (IPv4Address a) v = ap fed_read (host_exact.again (ipv4_text a) (IPv4Address a) (SpellsIpv4-ipv4_text a v))
 fed_host (IPv6Address a) v =

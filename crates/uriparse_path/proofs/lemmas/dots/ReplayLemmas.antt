@@ -253,7 +253,7 @@ render-text true l h = sym (text-absolute l h)
 render-text false [] h = absurd (omega arith)
 render-text false (s ∷ l) h = sym (joined-behind s l)
 
--- the text of any path whose segments lack slashes is rewritten to that of the replayed path
+-- the text of any path whose segments have no slash is rewritten to that of the replayed path
 pub undots_replayed : (p : PathParts) → 0 < length p.segments → AreClean p.segments → Undots (text p) (text (replayed p))
 undots_replayed p some clean = by_flag p.absolute p.segments some clean
   where

@@ -108,7 +108,7 @@ listed-respelled p is = by_shape p.absolute p.segments is
     by_shape false ([] ∷ r ∷ ss) is = record { some = omega arith; short = let short = is.short in omega arith; each = (and_parts _ _ is.each).1 }
     by_shape false ((b ∷ s) ∷ ss) is = is
 
--- ---- bytes that the text of a path lacks
+-- ---- bytes that the text of a path does not have
 
 lacks-behind_slashes : (b : ℕ) → is_plain Segment b ≡ false → (percent == b) ≡ false → is_hex b ≡ false → (slash == b) ≡ false → (ss : List (List ℕ))
     → list_all is_segment ss ≡ true → lacks b (flat_map (λ s. slash ∷ s) ss) ≡ true

@@ -165,7 +165,7 @@ kept_whole p v h =
 
 -- ---- what is put in place
 
--- the path's normal form is told by what precedes it
+-- the path's normal form depends only on what precedes it
 pub placed_normal : (s : Option Scheme) (a : Option AuthorityParts) (p : PathParts)
     → path.normal_at (record { has_scheme = is_some s; has_authority = is_some a }) p ≡ shielded a (pnormal p (is_none s))
 placed_normal s None p = refl

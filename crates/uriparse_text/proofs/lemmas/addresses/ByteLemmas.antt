@@ -75,7 +75,7 @@ spelled text segments (inr h) =
 pub SpellsIpv6-bytes : (text segments : List ℕ) → SpellsIpv6 text segments → list_all is_ipv6_byte text ≡ true
 SpellsIpv6-bytes text segments h = (spelled text segments h).all
 
--- ---- bytes that a spelling lacks
+-- ---- bytes that a spelling does not have
 
 pub lacks-SpellsIpv4 : (text a : List ℕ) → SpellsIpv4 text a → (b : ℕ) → is_ipv4_byte b ≡ false → lacks b text ≡ true
 lacks-SpellsIpv4 text a h b other = lacks_by is_ipv4_byte b text other (SpellsIpv4-bytes text a h)

@@ -81,7 +81,7 @@ SpellsIpv4-not_ipv6 text a b h k =
 pub SpellsIpv6-ipv6_text : (a : List ℕ) → IsSegments a → SpellsIpv6 (ipv6_text a) a
 SpellsIpv6-ipv6_text a h = spells_from_colon_hex (ipv6_text a) a (IsColonHex-ipv6_text a h.eight h.fit)
 
--- addresses that are printed alike are equal
+-- addresses with one printed text are equal
 pub ipv4_text-injective : (a b : List ℕ) → IsOctets a → IsOctets b → ipv4_text a ≡ ipv4_text b → a ≡ b
 ipv4_text-injective a b h k e =
     SpellsIpv4-unique (ipv4_text b) a b (subst (λ t. SpellsIpv4 t a) e (SpellsIpv4-ipv4_text a h)) (SpellsIpv4-ipv4_text b k)

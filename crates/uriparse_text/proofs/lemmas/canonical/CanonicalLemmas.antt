@@ -129,7 +129,7 @@ canonical_in-concatenation case ts text is =
     along [] = refl
     along (u ∷ us) = ap (λ x. spell (canonical_token case u) ++ x) (along us)
 
--- texts have the same canonical tokens exactly if they are spelled alike
+-- texts have the same canonical tokens exactly if they have one canonical spelling
 pub same_tokens : (case : Case) (bytes text : List ℕ) → is_well_formed text ≡ true
     → (canonical_tokens case bytes ≡ canonical_tokens case text) ↔ SpellsAlike case bytes text
 unfolding canonical_in

@@ -157,7 +157,7 @@ behind_common case (suc n) (x ∷ left) (y ∷ right) are h k =
     let later = behind_common case n left right (λ i l. are (suc i) (omega arith)) (omega arith) (omega arith) in
     (λ e. here.0 (later.0 e), λ e. later.1 (here.1 e))
 
--- so many more from a place on
+-- that many more from a place on
 pub common_more : (left right : List ℕ) (at n : ℕ) → AreCommon left right at
     → ((k : ℕ) → k < n → (get_or left (at + k) 0 ≡ get_or right (at + k) 0) × ((get_or left (at + k) 0 == percent) ≡ false)) → AreCommon left right (at + n)
 common_more left right at n are more k h = elim (cases_lt k at) [

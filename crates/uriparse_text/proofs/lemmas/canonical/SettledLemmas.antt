@@ -145,7 +145,7 @@ fault_place_after class t n place within fine is =
       faulty = λ more. subst (λ u. begins_fine class u ≡ false) (drop-drop place n t) (is.faulty (omega (arith, length-drop n t)));
     }
 
--- ---- what is known of a text whose settled bytes were counted, by a class and a case as calls answer them
+-- ---- what is known of a text whose settled bytes were counted, by the class and the case that calls return
 
 module _ (class answered_class : Class) (case answered_case : Case) (same_class : answered_class ≡ class) (same_case : answered_case ≡ case) where
   pub kept_by : (t : List ℕ) (n place : ℕ) (u : List ℕ) → n ≡ position_or_len (λ b. not (is_settled answered_class answered_case b)) t → u ≡ take place t

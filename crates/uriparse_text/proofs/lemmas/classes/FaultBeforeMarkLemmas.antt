@@ -128,7 +128,7 @@ module _ (class : Class) (mark : ℕ) (ends : EndsClass class mark) where
     fault_before more e =
         fault-before t ∙ ap (other_fault mark) (sym (fault_found class t place is more)) ∙ ap (λ v. cond v None (Some (get_or t place 0))) e
 
--- what reading a text of the class gives
+-- the result of reading a text of the class
 pub reading-in : {E : Type 0} (class : Class) (error_of : ℕ → E) (t u : List ℕ) → u ≡ t → IsIn class u → reading_in class error_of t ≡ Ok u
 reading-in class error_of t u same is =
     ap (reading_in class error_of) (sym same) ∙ ap (λ f. unless_fault (option_map error_of f) u) ((no_fault class u).1 is)

@@ -78,7 +78,7 @@ pub not_fine_at : (class : Class) (text : List ℕ) (i : ℕ) → i < length tex
 not_fine_at class text i within plain never =
     ap (begins_fine class) (drop_more text i 0 within) ∙ not_fine class (get_or text i 0) (drop (i + 1) text) plain never
 
--- of so many bytes, those whose bit is unset are fine, and the others aren't plain
+-- of the marked bytes, those whose bit is unset are fine, and the others aren't plain
 pub record AreLeft (class : Class) (text : List ℕ) (at n left : ℕ) : Type 0 where
   pub passed : (k : ℕ) → k < n → bit_at left k ≡ 0 → begins_fine class (drop (at + k) text) ≡ true
   pub waiting : (k : ℕ) → bit_at left k ≡ 1 → (k < n) × (is_plain class (get_or text (at + k) 0) ≡ false)

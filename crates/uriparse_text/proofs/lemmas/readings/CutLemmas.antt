@@ -15,7 +15,7 @@ use Rattle.uriparse_text.specs.Faults.{IsIn}
 use Rattle.uriparse_text.specs.Cuts.{lacks, none_pass, behind, ahead, up_to, from_first, from_last, up_to_last, part, before, after, front, rest}
 use Rattle.uriparse_text.proofs.lemmas.classes.ClassLemmas.{bytes-in_class}
 
--- ---- bytes that a text lacks
+-- ---- bytes that a text does not have
 
 -- what passes p is not a byte that doesn't
 pub other_byte : (p : ℕ → Bool) (b c : ℕ) → p b ≡ false → p c ≡ true → not (c == b) ≡ true
@@ -39,13 +39,13 @@ pub lacks-behind : (b mark : ℕ) (o : Option (List ℕ)) → not (mark == b) �
 lacks-behind b mark None h k = refl
 lacks-behind b mark (Some t) h k = and_from _ _ h k
 
--- a text of a class lacks each byte that neither the class nor an escape has
+-- a text of a class has no byte that neither the class nor an escape has
 pub lacks-in_class : (class : Class) (b : ℕ) → is_plain class b ≡ false → (percent == b) ≡ false → is_hex b ≡ false → (t : List ℕ) → IsIn class t
     → lacks b t ≡ true
 lacks-in_class class b plain sign digit t h =
     bytes-in_class class (λ c. not (c == b)) (λ c e. other_byte (is_plain class) b c plain e) (not_from_false _ sign) (λ c e. other_byte is_hex b c digit e) t h
 
--- both parts of a text that lacks a byte lack it
+-- if a text does not have a byte, neither do both parts of it
 pub lacks-left : (b : ℕ) (t u : List ℕ) → lacks b (t ++ u) ≡ true → lacks b t ≡ true
 lacks-left b t u h = (and_parts (lacks b t) (lacks b u) (sym (list_all-append (λ c. not (c == b)) t u) ∙ h)).0
 
@@ -103,7 +103,7 @@ rest_is mark (b ∷ t) = by_test (b == mark) refl (rest_is mark t)
 pub before_after : (mark : ℕ) (t : List ℕ) → before mark t ++ behind mark (after mark t) ≡ t
 before_after mark t = ap (λ u. before mark t ++ u) (sym (rest_is mark t)) ∙ cut-whole (λ b. b == mark) t
 
--- the pieces before and after a mark lack what the text lacks, and the one before it lacks the mark
+-- the texts before and after a delimiter have no byte that the whole does not have, and the one before it has no delimiter
 pub lacks-before : (b mark : ℕ) (t : List ℕ) → lacks b t ≡ true → lacks b (before mark t) ≡ true
 lacks-before b mark t h = lacks-left b (before mark t) (behind mark (after mark t)) (ap (lacks b) (before_after mark t) ∙ h)
 

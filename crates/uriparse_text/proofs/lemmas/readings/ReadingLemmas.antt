@@ -7,7 +7,7 @@ use Rattle.uriparse_text.specs.Faults.{fault, IsIn}
 use Rattle.uriparse_text.specs.Readings.{unless_fault, reading_in, ◌>>=◌, of_piece, fault_in, some_of, if_present, IfPresent}
 use Rattle.uriparse_text.proofs.lemmas.classes.FaultLemmas.{no_fault}
 
--- A reading is exact where it gives what the relation says.
+-- A reading is exact if it returns what the relation says.
 pub record IsExact {E A : Type 0} (Spells : List ℕ → A → Type 0) (read : List ℕ → Result A E) : Type 0 where
   pub again : (t : List ℕ) (x : A) → Spells t x → read t ≡ Ok x
   pub found : (t : List ℕ) (x : A) → read t ≡ Ok x → Spells t x
@@ -71,7 +71,7 @@ pub bind_ok : {E A B : Type 0} (r : Result A E) (g : A → Result B E) (y : B) �
 bind_ok (Ok x) g y h = (x, refl, h)
 bind_ok (Err e) g y h = cc
 
--- a reading either gives something or has a fault
+-- a reading either returns something or has a fault
 pub none_or : {E A : Type 0} (r : Result A E) → fault_in r ≡ None → (x : A) × (r ≡ Ok x)
 none_or (Ok x) h = (x, refl)
 none_or (Err e) h = cc

@@ -43,7 +43,7 @@ high_ok v fits =
     SwzOk-from_below w8 16 1 16 0 (zip2 high v (replicate 16 4)) refl (omega (arith, length-zip2 high v (replicate 16 4) fits.0, fits.0))
     (Each1-zip2 high (λ j. j < 16) v (replicate 16 4) (Each2-splat (λ a b. high a b < 16) v 16 4 small))
 
--- a table of sixteen, read at a place below 16 that each byte gives
+-- a table of sixteen, read at a place below 16, one for each byte
 looked_up : (t : List ℕ) (g : ℕ → ℕ) (v js : List ℕ) → AreLanes v → js ≡ map g v → ((x : ℕ) → x < 256 → g x < 16)
     → swz_l w8 16 t 0 js ≡ map (λ x. get_or t (g x) 0) v
 looked_up t g v js fits e small =

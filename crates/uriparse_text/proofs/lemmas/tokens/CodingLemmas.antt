@@ -123,7 +123,7 @@ canonical-encoded case class bytes k h =
     ∙ ap (flat_map spell) (kept class bytes h)
     ∙ sym (unfold_encoded class bytes)
 
--- ---- texts that are spelled alike
+-- ---- texts with one canonical spelling
 
 value-canonical_token : (t : Token) → has_digits t ≡ true → value_of (canonical_token Kept t) ≡ value_of t
 value-canonical_token (Byte b) h = refl

@@ -1,4 +1,4 @@
--- What std's reader gives is the one address that the text spells.
+-- What std's reader returns is the one address that the text spells.
 use Rattle.std.proofs.Common.{ℕ, List, ap, sym, Some}
 use Rattle.uriparse_text.specs.Address.{SpellsIpv4}
 use Rattle.uriparse_text.proofs.lemmas.addresses.Ipv4Lemmas.{spells_from_dotted, dotted_from_spells}

@@ -1,4 +1,4 @@
--- What std's reader gives is the one address that the text spells.
+-- What std's reader returns is the one address that the text spells.
 use Rattle.std.proofs.Common.{ℕ, List, ap, sym, Some}
 use Rattle.uriparse_text.specs.Address.{SpellsIpv6}
 use Rattle.uriparse_text.proofs.lemmas.addresses.GrammarLemmas.{spells_from_colon_hex, colon_hex_from_spells}
