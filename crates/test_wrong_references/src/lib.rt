@@ -1,10 +1,10 @@
 //! Promises of `URIReference`, of schemes and of dot segments for which the must-fail edits beside
 //! this file put wrong bodies.
 //!
-//! Each function hands on what one call of the library returns, and its clauses follow from that
-//! call's alone. So a body that breaks a clause breaks the library's too: what the prover refuses
-//! here, no body of the library does. No proof is written for a function: the search finds it, as
-//! it would for another right body.
+//! Each function hands on what the library returns, and its clauses follow from the contracts of
+//! the calls alone. So a body that breaks a clause breaks the library's too: what the prover
+//! refuses here, no body of the library does. No proof is written for a function: the search finds
+//! it.
 #![tactic(auto)]
 
 ghost use Rattle.std.specs.Prelude.{◌≡◌, ◌↔◌, Err, IfOk, IsTrue, MatchResult, None, Ok, OnErr, OnOk, Some, length};

@@ -109,7 +109,6 @@ impl<'a> Authority<'a> {
     ) -> Result<Authority<'a>, AuthorityError>
         ensures { result ≡ Ok (spec.of_parts username.entry password.entry host.entry port) }
     {
-        host.assert_valid();
         let username = with_empty(username, password.is_some());
         Ok(Authority {
             username,

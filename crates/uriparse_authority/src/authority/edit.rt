@@ -12,7 +12,6 @@ impl<'a> Authority<'a> {
         ensures answer { result ≡ Ok tt }
         ensures value { self.new ≡ spec.with_host self.old host.entry }
     {
-        host.assert_valid();
         self.host = host;
         Ok(())
     }

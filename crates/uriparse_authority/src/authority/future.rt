@@ -1,5 +1,5 @@
 //! The address of a later version of IP: RFC 3986, section 3.2.2.
-ghost use Rattle.std.specs.Prelude.{◌≡◌, ◌↔◌, ◌&&◌, IsTrue, IsOk, IfOk, OnOk, OnErr, Some, bytes_eq, string_bytes, true};
+ghost use Rattle.std.specs.Prelude.{◌≡◌, ◌↔◌, ◌&&◌, IsTrue, IsOk, IfOk, OnOk, OnErr, Some, bytes_eq, fold, string_bytes, true};
 ghost use Rattle.std.proofs.Common.{rules};
 ghost use Rattle.std.specs.List.{list_all};
 ghost use Rattle.std.specs.Option.{option_copied};
@@ -293,7 +293,10 @@ impl<'host> Hash for IPvFuture<'host> {
 
     ghost respects_eq = { Prim.search (hashing, rules) };
 
-    fn hash<H: Hasher>(&self, state: &mut H) {
+    fn hash<H: Hasher>(&self, state: &mut H)
+        ensures fed { state.new ≡ fold H.write state.old (fed_text (canonical_lowered self.now)) }
+        ensures valid { spec.IsFuture self.now }
+    {
         self.text.hash(state);
     }
 }

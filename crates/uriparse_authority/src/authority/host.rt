@@ -45,14 +45,6 @@ pub enum Host<'h> {
     RegisteredName(RegisteredName<'h>),
 }
 
-/// The most bytes that the text of an IPv4 address has: four numbers of three digits, and three
-/// dots.
-const IPV4_BYTES: usize = 15;
-
-/// The most bytes that the text of an IPv6 address has: eight groups of four digits, seven colons
-/// and two brackets.
-const IPV6_BYTES: usize = 41;
-
 impl<'h> Host<'h> {
     /// Reads a host. A name and an address of a later version borrow the bytes. Does not allocate.
     ///
@@ -183,34 +175,15 @@ impl<'h> Host<'h> {
         }
     }
 
-    /// A host of each kind is valid by its type. This does nothing but to say so.
-    pub(super) fn assert_valid(&self)
-        ensures { spec.Valid self.now }
-    {
-        match self {
-            Host::IPv4Address(address) => {
-                let _octets = address.octets();
-            }
-            Host::IPv6Address(address) => {
-                let _segments = address.segments();
-            }
-            Host::IPvFuture(address) => {
-                let _text = address.as_str();
-            }
-            Host::RegisteredName(name) => {
-                let _text = name.as_str();
-            }
-        }
-    }
-
     /// An upper bound on the number of bytes of the host's text.
     pub(super) fn most_bytes(&self) -> usize
         ensures { length (spec.text self.now) ≤ result }
     {
-        self.assert_valid();
         match self {
-            Host::IPv4Address(_) => IPV4_BYTES,
-            Host::IPv6Address(_) => IPV6_BYTES,
+            // At most three digits of each octet, and dots between them.
+            Host::IPv4Address(address) => 4 * address.octets().len() - 1,
+            // At most four digits of each group, colons between them, and two brackets.
+            Host::IPv6Address(address) => 5 * address.segments().len() + 1,
             Host::IPvFuture(address) => address.as_str().len() + 2,
             Host::RegisteredName(name) => name.as_str().len(),
         }
@@ -310,7 +283,6 @@ impl<'h> Hash for Host<'h> {
                 address.segments().hash(state);
             }
             Host::IPvFuture(address) => {
-                self.assert_valid();
                 state.write_u8(7);
                 address.hash(state);
             }

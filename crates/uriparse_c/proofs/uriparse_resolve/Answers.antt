@@ -1,7 +1,7 @@
 use Rattle.uriparse_reference.specs.Reference.{print}
 use Rattle.uriparse.specs.Uri.{told}
 use Rattle.uriparse_c.specs.Code as spec
-use Rattle.uriparse_c.proofs.TextLemmas.{written, refused, refused_or_want}
+use Rattle.uriparse_c.proofs.lemmas.TextLemmas.{written, refused, refused_or_want}
 use Rattle.uriparse_c.proofs.uriparse_resolve.Goals as goal
 
 pub returns-clause-written : goal.returns-clause-written

@@ -10,7 +10,7 @@ ghost use Rattle.uriparse_path.specs.Counts as tally;
 use super::Path;
 use super::counts::Counts;
 use super::reduce::make_relative;
-use super::segment::{Segment, each_is_segment};
+use super::segment::Segment;
 use super::segments::{has_dot_segment, hides_root, needs_guard};
 use std::alloc::{AllocError, Global};
 
@@ -226,10 +226,10 @@ impl<'p> Path<'p> {
 
     /// Replaces the segments that are not canonical by canonical copies.
     fn put_canonical(&mut self, copies: Vec<Segment<'p>>)
-        requires { copies.items ≡ map canonical (filter (λ s. not (spec.is_canonical s)) self.old.segments) }
+        requires copied { copies.items ≡ map canonical (filter (λ s. not (spec.is_canonical s)) self.old.segments) }
+        requires listed { IsListed self.old.segments }
         ensures { self.new ≡ spec.canonical_path self.old }
     {
-        each_is_segment(&self.segments);
         let counts = self.counts.of_canonical();
         put_copies(&mut self.segments, copies);
         self.counts = counts;

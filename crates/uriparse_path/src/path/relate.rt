@@ -7,7 +7,6 @@ ghost use Rattle.uriparse_path.specs.Relate as spec;
 ghost use Rattle.uriparse_path.specs.Relative.{is_first};
 
 use super::counts::Counts;
-use super::segment::each_is_segment;
 use super::segments::{directory, has_dot_segment, push_borrowed};
 use super::{MAX_SEGMENTS, Path, Segment};
 use std::alloc::{AllocError, Global};
@@ -43,8 +42,7 @@ fn shared_len(directories: &[Segment<'_>], segments: &[Segment<'_>]) -> usize
 fn push_climbs(list: &mut Vec<Segment<'_>>, directories: &[Segment<'_>]) -> Result<(), AllocError>
     ensures { OnOk result (list.new.items ≡ list.old.items ++ spec.climbs directories.now) }
 {
-    for directory in directories {
-        let _ = directory;
+    for _directory in directories {
         list.push(Segment::double_dot())?;
     }
     Ok(())
@@ -182,7 +180,6 @@ impl<'p> Path<'p> {
             return Ok(None);
         }
         let list = led(alloc, left, rest)?;
-        each_is_segment(&list);
         Ok(Some(Path::of(false, list, Counts::none(), false)))
     }
 }

@@ -1,7 +1,6 @@
 //! Building a reference from its components, and changing one: RFC 3986, section 4.1.
-ghost use Rattle.std.specs.Prelude.{◌≡◌, IfSome, Ok, Some, None, is_some, length, MatchResult};
+ghost use Rattle.std.specs.Prelude.{◌≡◌, Ok, Some, None, is_some, length, MatchResult};
 ghost use Rattle.uriparse_path.specs.Path.{IsListed, text};
-ghost use Rattle.uriparse_scheme.specs.Scheme as schemes;
 ghost use Rattle.uriparse_reference.specs.Reference.{path_refusal};
 ghost use Rattle.uriparse_reference.specs.Edits.{placed};
 
@@ -41,21 +40,6 @@ pub enum Edit<'e> {
     Fragment(Option<Fragment<'e>>),
     /// Normalizes the reference.
     Normalize,
-}
-
-/// Whether there is a scheme. A scheme that is there is valid.
-fn has_scheme(scheme: &Option<Scheme<'_>>) -> bool
-    ensures test { result ≡ is_some scheme.now }
-    ensures valid { IfSome scheme.now schemes.Valid }
-{
-    match scheme {
-        Some(scheme) => {
-            // The proof needs the scheme's own invariant, and only a call on the scheme gives it.
-            let _text = scheme.as_str();
-            true
-        }
-        None => false,
-    }
 }
 
 /// Why a path may not follow a scheme or none, and an authority or none.
@@ -116,7 +100,7 @@ impl<'r> URIReference<'r> {
     ) -> Result<URIReference<'r>, URIReferenceError>
         ensures { result ≡ of_parts (record { scheme = scheme.entry; authority = authority.entry; path = path.entry; query = query.entry; fragment = fragment.entry }) }
     {
-        let has_scheme = has_scheme(&scheme);
+        let has_scheme = scheme.is_some();
         let has_authority = authority.is_some();
         match place_refusal(has_scheme, has_authority, &path) {
             Some(error) => Err(error),
@@ -162,7 +146,7 @@ impl<'r> URIReference<'r> {
     pub fn set_scheme(&mut self, scheme: Option<Scheme<'r>>) -> Result<(), URIReferenceError>
         ensures { Settles self.old self.new result (edited self.old (edits.Scheme scheme.entry)) }
     {
-        match place_refusal(has_scheme(&scheme), self.authority.is_some(), &self.path) {
+        match place_refusal(scheme.is_some(), self.authority.is_some(), &self.path) {
             Some(error) => Err(error),
             None => {
                 self.scheme = scheme;

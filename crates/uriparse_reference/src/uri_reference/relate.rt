@@ -168,8 +168,6 @@ fn behind_path<'r>(
     requires { spec.inner base.now.path target.now.path ≡ Some path }
     ensures { result ≡ spec.behind_path target.now path.entry }
 {
-    // The proof needs the path's own invariant, and only a call on the path gives it.
-    let _listed = path.segments();
     URIReference {
         scheme: None,
         authority: None,

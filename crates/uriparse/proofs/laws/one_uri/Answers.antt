@@ -4,7 +4,7 @@ use Rattle.uriparse_reference.proofs.lemmas.edits.EditLemmas.{own_parts}
 use Rattle.uriparse.specs.declared.uri.error.URIError.TheVariants as errors
 use Rattle.uriparse.specs.Kinds.{told_of, of_kind}
 use Rattle.uriparse.specs.Uri.{told, told_built}
-use Rattle.uriparse.proofs.KindLemmas.{of_its_kind}
+use Rattle.uriparse.proofs.lemmas.KindLemmas.{of_its_kind}
 use Rattle.uriparse.proofs.laws.one_uri.Goals as goal
 
 pub returns : goal.returns

@@ -1,10 +1,10 @@
 -- How long the texts of hosts and authorities are at most.
-use Rattle.std.proofs.Common.{◌≡◌, ℕ, ◌+◌, ◌≤◌, List, [], ◌∷◌, length, Option, Some, None, subst, arith}
+use Rattle.std.proofs.Common.{◌≡◌, ℕ, ◌+◌, ◌≤◌, List, [], ◌∷◌, length, Option, Some, None, arith}
 use Rattle.std.proofs.lemmas.Fmt.{length-decimal-le}
 use Rattle.std.proofs.lemmas.List.{length-append}
 use Rattle.std.specs.Prelude.{◌++◌, IfSome, unwrap_or}
 use Rattle.std.specs.Option.{option_map}
-use Rattle.uriparse_text.specs.Address.{ipv6_text}
+use Rattle.uriparse_text.specs.Address.{IsOctets, IsSegments, ipv6_text}
 use Rattle.uriparse_text.specs.Bytes.{at_sign, colon, right_bracket}
 use Rattle.uriparse_text.specs.Cuts.{ahead, behind}
 use Rattle.uriparse_text.proofs.lemmas.addresses.LengthLemmas.{length-ipv4_text, length-ipv6_text}
@@ -16,14 +16,14 @@ use Rattle.uriparse_authority.specs.Authority.{AuthorityParts, Valid, userinfo, 
 
 -- ---- hosts
 
-pub length-ipv4_host : (h : Host) (a : List ℕ) → h ≡ IPv4Address a → host.Valid h → length (host.text h) ≤ 15
-length-ipv4_host h a is v = rw is (length-ipv4_text a (subst host.Valid is v).fit)
+pub length-ipv4_host : (h : Host) (a : List ℕ) → h ≡ IPv4Address a → IsOctets a → length (host.text h) ≤ 15
+length-ipv4_host h a is v = rw is (length-ipv4_text a v.fit)
 
 length-bracketed : (t : List ℕ) → length t ≤ 39 → length (host.bracketed t) ≤ 41
 length-bracketed t short = let whole = length-append t (right_bracket ∷ []) in omega arith
 
-pub length-ipv6_host : (h : Host) (a : List ℕ) → h ≡ IPv6Address a → host.Valid h → length (host.text h) ≤ 41
-length-ipv6_host h a is v = rw is (length-bracketed (ipv6_text a) (length-ipv6_text a (subst host.Valid is v)))
+pub length-ipv6_host : (h : Host) (a : List ℕ) → h ≡ IPv6Address a → IsSegments a → length (host.text h) ≤ 41
+length-ipv6_host h a is v = rw is (length-bracketed (ipv6_text a) (length-ipv6_text a v))
 
 -- ---- authorities
 

@@ -60,7 +60,6 @@ pub(in crate::authority) fn found_name(bytes: &[u8], canonical: bool) -> FoundHo
 pub(in crate::authority) fn found_ipv4(address: Ipv4Addr) -> FoundHost<'static>
     ensures { result ≡ hosts.IPv4Address address }
 {
-    let _octets = address.octets();
     FoundHost {
         kind: 4,
         text: b"",
@@ -74,7 +73,6 @@ pub(in crate::authority) fn found_ipv4(address: Ipv4Addr) -> FoundHost<'static>
 pub(super) fn found_ipv6(address: Ipv6Addr) -> FoundHost<'static>
     ensures { result ≡ hosts.IPv6Address address }
 {
-    let _segments = address.segments();
     FoundHost {
         kind: 6,
         text: b"",

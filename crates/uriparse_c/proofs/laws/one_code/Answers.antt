@@ -1,4 +1,4 @@
-use Rattle.uriparse_c.proofs.CodeLemmas as lemmas
+use Rattle.uriparse_c.proofs.lemmas.CodeLemmas as lemmas
 use Rattle.uriparse_c.proofs.laws.one_code.Goals as goal
 
 pub returns-clause-one : goal.returns-clause-one

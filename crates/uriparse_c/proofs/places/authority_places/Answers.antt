@@ -4,7 +4,7 @@ use Rattle.uriparse_text.specs.Bytes.{at_sign}
 use Rattle.uriparse_text.specs.Cuts.{ahead}
 use Rattle.uriparse_authority.specs.Authority.{userinfo_text, username_in, password_in, cut_host, cut_port}
 use Rattle.uriparse_c.specs.Spans.{span}
-use Rattle.uriparse_c.proofs.PlaceLemmas.{ahead_size, userinfo_size}
+use Rattle.uriparse_c.proofs.lemmas.PlaceLemmas.{ahead_size, userinfo_size}
 use Rattle.uriparse_c.proofs.places.authority_places.Goals as goal
 
 pub user_places-requires : goal.user_places-requires

@@ -2,7 +2,7 @@ use Rattle.std.proofs.Common.{length, ap, arith}
 use Rattle.uriparse_text.specs.Bytes.{colon}
 use Rattle.uriparse_text.specs.Cuts.{behind}
 use Rattle.uriparse_c.specs.declared.span.UriSpan.{UriSpan}
-use Rattle.uriparse_c.proofs.PlaceLemmas.{host_port_size}
+use Rattle.uriparse_c.proofs.lemmas.PlaceLemmas.{host_port_size}
 use Rattle.uriparse_c.proofs.places.host_places.Goals as goal
 
 pub place-host-requires : goal.place-host-requires

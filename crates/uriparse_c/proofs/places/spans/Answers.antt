@@ -6,7 +6,7 @@ use Rattle.uriparse_reference.specs.Reference.{behind_slashes}
 use Rattle.uriparse_reference.specs.Cuts.{scheme_text, authority_text, path_text, query_text, fragment_text, cut_authority}
 use Rattle.uriparse_c.specs.Spans.{span}
 use Rattle.uriparse_c.specs.Places.{AreInAuthority}
-use Rattle.uriparse_c.proofs.PlaceLemmas.{ahead_behind, behind_size, scheme_dropped, sizes, span_is}
+use Rattle.uriparse_c.proofs.lemmas.PlaceLemmas.{ahead_behind, behind_size, scheme_dropped, sizes, span_is}
 use Rattle.uriparse_c.proofs.places.spans.Goals as goal
 
 pub split_at-requires : goal.split_at-requires

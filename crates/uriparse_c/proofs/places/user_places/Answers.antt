@@ -4,7 +4,7 @@ use Rattle.std.specs.Option.{option_copied}
 use Rattle.uriparse_text.specs.Bytes.{colon}
 use Rattle.uriparse_text.specs.Cuts.{behind, part}
 use Rattle.uriparse_c.specs.declared.span.UriSpan.{UriSpan}
-use Rattle.uriparse_c.proofs.PlaceLemmas.{user_size}
+use Rattle.uriparse_c.proofs.lemmas.PlaceLemmas.{user_size}
 use Rattle.uriparse_c.proofs.places.user_places.Goals as goal
 
 pub place-username-requires : goal.place-username-requires

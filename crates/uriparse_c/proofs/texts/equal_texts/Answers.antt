@@ -1,7 +1,7 @@
 use Rattle.std.proofs.Common.{ap, Err, inl, inr}
 use Rattle.std.specs.Prelude.{bytes_eq}
 use Rattle.uriparse_reference.specs.Key.{key}
-use Rattle.uriparse_c.proofs.TextLemmas.{equal_along}
+use Rattle.uriparse_c.proofs.lemmas.TextLemmas.{equal_along}
 use Rattle.uriparse_c.proofs.texts.equal_texts.Goals as goal
 
 pub returns-in-Ok-clause-compared : goal.returns-in-Ok-clause-compared

@@ -1,6 +1,6 @@
 use Rattle.uriparse_reference.specs.Normal.{normal}
 use Rattle.uriparse_reference.specs.Reference.{print}
-use Rattle.uriparse_c.proofs.TextLemmas.{text_of_same}
+use Rattle.uriparse_c.proofs.lemmas.TextLemmas.{text_of_same}
 use Rattle.uriparse_c.proofs.texts.normalized.Goals as goal
 
 pub returns-in-Ok-clause-made : goal.returns-in-Ok-clause-made

@@ -2,7 +2,7 @@ use Rattle.std.proofs.Common.{ap, ◌∙◌}
 use Rattle.uriparse_path.specs.declared.path.error.PathError.TheVariants.{OutOfMemory}
 use Rattle.uriparse_reference.specs.declared.uri_reference.error.URIReferenceError.TheVariants as errors
 use Rattle.uriparse_c.specs.Code as spec
-use Rattle.uriparse_c.proofs.TextLemmas.{same, want}
+use Rattle.uriparse_c.proofs.lemmas.TextLemmas.{same, want}
 use Rattle.uriparse_c.proofs.texts.read.Goals as goal
 
 pub returns-in-Ok-clause-found : goal.returns-in-Ok-clause-found

@@ -1,5 +1,5 @@
 use Rattle.uriparse_c.specs.Code as spec
-use Rattle.uriparse_c.proofs.TextLemmas.{no_relative, relative_code, to_refusal}
+use Rattle.uriparse_c.proofs.lemmas.TextLemmas.{no_relative, relative_code, to_refusal}
 use Rattle.uriparse_c.proofs.texts.read_base.Goals as goal
 
 pub returns-in-Ok-clause-relative : goal.returns-in-Ok-clause-relative

@@ -1,7 +1,7 @@
 use Rattle.std.proofs.Common.{ap, Err, inl, inr, ◌∙◌}
 use Rattle.uriparse_reference.specs.Target.{target}
 use Rattle.uriparse_c.specs.Code as spec
-use Rattle.uriparse_c.proofs.TextLemmas.{err_is, no_refusal, refusal_again}
+use Rattle.uriparse_c.proofs.lemmas.TextLemmas.{err_is, no_refusal, refusal_again}
 use Rattle.uriparse_c.proofs.texts.resolved.Goals as goal
 
 pub returns-in-Ok-clause-made : goal.returns-in-Ok-clause-made

@@ -1,5 +1,5 @@
 use Rattle.std.proofs.Common.{ap, Err, inl, inr}
-use Rattle.uriparse_c.proofs.TextLemmas.{against_made, against_too_long}
+use Rattle.uriparse_c.proofs.lemmas.TextLemmas.{against_made, against_too_long}
 use Rattle.uriparse_c.proofs.texts.resolved_against.Goals as goal
 
 pub returns-in-Ok-clause-made : goal.returns-in-Ok-clause-made

@@ -1,6 +1,6 @@
 use Rattle.std.proofs.Common.{ap, Err}
 use Rattle.uriparse_reference.specs.Target.{target}
-use Rattle.uriparse_c.proofs.TextLemmas.{target_made, target_refused}
+use Rattle.uriparse_c.proofs.lemmas.TextLemmas.{target_made, target_refused}
 use Rattle.uriparse_c.proofs.texts.target_text_of.Goals as goal
 
 pub returns-in-Ok : goal.returns-in-Ok

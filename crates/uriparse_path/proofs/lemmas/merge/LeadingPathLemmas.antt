@@ -30,6 +30,10 @@ pub dots_segment : is_segment (dot ∷ dot ∷ []) ≡ true
 unfolding tokens is_plain is_unreserved
 dots_segment = refl
 
+dot_segment : is_segment (dot ∷ []) ≡ true
+unfolding tokens is_plain is_unreserved
+dot_segment = refl
+
 double : is_double_dot (dot ∷ dot ∷ []) ≡ true
 unfolding is_double_dot canonical_in tokens
 double = refl
@@ -145,20 +149,57 @@ fronted_some ss h = by_test (is_first is_taken ss)
     by_test true = omega arith
     by_test false = h
 
-pub led_listed : (list left rest : List (List ℕ)) (n : ℕ) → list_all is_segment list ≡ true → list ≡ fronted (climbs left ++ rest) → 0 < length rest
-    → n + (length left + length rest) < max_segments → IsListed list
-led_listed list left rest n each e h k =
-    let f : length (climbs left ++ rest) ≡ length left + length rest = length-append (climbs left) rest ∙ ap (λ m. m + length rest) (long left) in
-    let g = length-fronted (climbs left ++ rest) in
-    record {
-      some = subst (λ l. 0 < length l) (sym e) (fronted_some (climbs left ++ rest) (omega (arith, f)));
-      short = subst (λ l. length l ≤ max_segments) (sym e) (omega (arith, f, g));
-      each = each;
-    }
+apart_some : (ds ss : List (List ℕ)) → 0 < length ss → 0 < length (apart ds ss)
+apart_some ds [] h = absurd (omega arith)
+apart_some [] (s ∷ ss) h = omega arith
+apart_some (d ∷ ds) (s ∷ []) h = omega arith
+apart_some (d ∷ ds) (s ∷ r ∷ ss) h = by_test (bytes_eq d s) (apart_some ds (r ∷ ss) (omega arith))
   where
-    long : (ds : List (List ℕ)) → length (climbs ds) ≡ length ds
-    long [] = refl
-    long (d ∷ ds) = ap suc (long ds)
+    by_test : (v : Bool) → 0 < length (apart ds (r ∷ ss)) → 0 < length (cond v (apart ds (r ∷ ss)) (climbs (d ∷ ds) ++ s ∷ r ∷ ss))
+    by_test true k = k
+    by_test false k = omega arith
+
+each_climb : (ds ss : List (List ℕ)) → list_all is_segment ss ≡ true → list_all is_segment (climbs ds ++ ss) ≡ true
+each_climb [] ss h = h
+each_climb (d ∷ ds) ss h = and_from _ _ dots_segment (each_climb ds ss h)
+
+each_apart : (ds ss : List (List ℕ)) → list_all is_segment ss ≡ true → list_all is_segment (apart ds ss) ≡ true
+each_apart [] ss h = h
+each_apart (d ∷ ds) [] h = subst (λ l. list_all is_segment l ≡ true) (append-nil (climbs (d ∷ ds))) (each_climb (d ∷ ds) [] refl)
+each_apart (d ∷ ds) (s ∷ []) h = each_climb (d ∷ ds) (s ∷ []) h
+each_apart (d ∷ ds) (s ∷ r ∷ ss) h = by_test (bytes_eq d s) (each_apart ds (r ∷ ss) (and_parts (is_segment s) (list_all is_segment (r ∷ ss)) h).1)
+  where
+    by_test : (v : Bool) → list_all is_segment (apart ds (r ∷ ss)) ≡ true → list_all is_segment (cond v (apart ds (r ∷ ss)) (climbs (d ∷ ds) ++ s ∷ r ∷ ss)) ≡ true
+    by_test true k = k
+    by_test false k = each_climb (d ∷ ds) (s ∷ r ∷ ss) h
+
+each_fronted : (ss : List (List ℕ)) → list_all is_segment ss ≡ true → list_all is_segment (fronted ss) ≡ true
+each_fronted ss h = by_test (is_first is_taken ss)
+  where
+    by_test : (v : Bool) → list_all is_segment (cond v ((dot ∷ []) ∷ ss) ss) ≡ true
+    by_test true = and_from _ _ dot_segment h
+    by_test false = h
+
+-- what leads to a path has a path's segments
+pub listed_leading : (b t p : PathParts) → IsListed t.segments → leading b t ≡ Some p → IsListed p.segments
+listed_leading b t p is h = by_test (may_lead b t) (has_room b t) refl h
+  where
+    made : has_room b t ≡ true → IsListed (fronted (apart_of b t))
+    made e =
+        let room = ltb-true _ max_segments e in
+        let long = length-fronted (apart_of b t) in
+        record {
+          some = fronted_some (apart_of b t) (apart_some (all_but_last b.segments) t.segments is.some);
+          short = omega (arith, room, long);
+          each = each_fronted (apart_of b t) (each_apart (all_but_last b.segments) t.segments is.each);
+        }
+
+    by_test : (v w : Bool) → has_room b t ≡ w → cond (v && w) (Some (record { absolute = false; segments = fronted (apart_of b t) })) None ≡ Some p → IsListed p.segments
+    by_test true true e k =
+        let same : record { absolute = false; segments = fronted (apart_of b t) } ≡ p = cc in
+        subst (λ q. IsListed q.segments) same (made e)
+    by_test true false e k = let bad : ◌≡◌ {A = Option PathParts} None (Some p) = k in absurd (cc)
+    by_test false w e k = let bad : ◌≡◌ {A = Option PathParts} None (Some p) = k in absurd (cc)
 
 -- ---- merged with the base's directory it leads to the path
 
@@ -179,16 +220,6 @@ replay_climbs out (d ∷ ds) rest h n =
     ∙ replay_climbs (out ++ d ∷ []) ds ((dot ∷ dot ∷ []) ∷ rest) parts.1 (omega arith)
     ∙ replay_more (out ++ d ∷ []) (dot ∷ dot ∷ []) rest n
     ∙ ap (λ u. replay u rest) (step_double (out ++ d ∷ []) (dot ∷ dot ∷ []) double ∙ all_but_last_push out d)
-
-apart_some : (ds ss : List (List ℕ)) → 0 < length ss → 0 < length (apart ds ss)
-apart_some ds [] h = absurd (omega arith)
-apart_some [] (s ∷ ss) h = omega arith
-apart_some (d ∷ ds) (s ∷ []) h = omega arith
-apart_some (d ∷ ds) (s ∷ r ∷ ss) h = by_test (bytes_eq d s) (apart_some ds (r ∷ ss) (omega arith))
-  where
-    by_test : (v : Bool) → 0 < length (apart ds (r ∷ ss)) → 0 < length (cond v (apart ds (r ∷ ss)) (climbs (d ∷ ds) ++ s ∷ r ∷ ss))
-    by_test true k = k
-    by_test false k = omega arith
 
 replay_apart : (out ds ss : List (List ℕ)) → has_dot_segment ds ≡ false → has_dot_segment ss ≡ false → 0 < length ss → replay out (ds ++ apart ds ss) ≡ out ++ ss
 replay_apart out ds [] h k n = absurd (omega arith)

@@ -11,7 +11,7 @@ use Rattle.uriparse_authority.specs.Normal.{canonical_authority}
 use Rattle.uriparse_scheme.specs.declared.scheme.Scheme.{Scheme}
 use Rattle.uriparse_scheme.specs.Scheme as scheme
 use Rattle.uriparse_scheme.specs.Normal.{canonical_scheme}
-use Rattle.uriparse_scheme.proofs.NormalLemmas as schemes
+use Rattle.uriparse_scheme.proofs.lemmas.schemes.NormalLemmas as schemes
 use Rattle.uriparse_authority.proofs.lemmas.authorities.NormalLemmas as authorities
 pub use Rattle.uriparse_authority.proofs.lemmas.authorities.NormalLemmas.{text_valid, text_twice}
 

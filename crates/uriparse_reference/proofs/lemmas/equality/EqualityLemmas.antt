@@ -31,8 +31,8 @@ use Rattle.uriparse_authority.proofs.lemmas.hosts.HostLemmas.{code_kind}
 use Rattle.uriparse_authority.proofs.lemmas.authorities.AuthorityLemmas.{LacksEnds}
 use Rattle.uriparse_scheme.specs.declared.scheme.Scheme.{Scheme}
 use Rattle.uriparse_scheme.specs.Scheme as scheme
-use Rattle.uriparse_scheme.proofs.SchemeLemmas as schemes
-use Rattle.uriparse_scheme.proofs.GrammarLemmas.{is_scheme-canonical_lowered}
+use Rattle.uriparse_scheme.proofs.lemmas.schemes.SchemeLemmas as schemes
+use Rattle.uriparse_scheme.proofs.lemmas.schemes.GrammarLemmas.{is_scheme-canonical_lowered}
 use Rattle.uriparse_reference.specs.Reference.{Parts, is_abempty, is_noscheme, path_refusal, Valid, Same, scheme_part, authority_part, print, canonical_text}
 use Rattle.uriparse_reference.specs.Reference.{kind}
 use Rattle.uriparse_reference.specs.Cuts.{scheme_text, authority_text, path_text, query_text, fragment_text}

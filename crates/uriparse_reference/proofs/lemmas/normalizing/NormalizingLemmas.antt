@@ -1,5 +1,5 @@
 -- References in normal form, and what normalizing puts in place.
-use Rattle.std.proofs.Common.{◌≡◌, ◌↔◌, ℕ, ◌<◌, Bool, true, false, not, ◌&&◌, ◌||◌, cond, List, [], ◌∷◌, length, Option, Some, None, refl, sym, ap, ◌∙◌}
+use Rattle.std.proofs.Common.{◌≡◌, ◌↔◌, ℕ, ◌<◌, Bool, true, false, ◌&&◌, ◌||◌, cond, List, [], ◌∷◌, length, Option, Some, None, refl, sym, ap, ◌∙◌}
 use Rattle.std.proofs.Common.{subst, arith}
 use Rattle.std.specs.Prelude.{IfSome, is_some, is_none, bytes_eq}
 use Rattle.std.specs.Option.{option_map, option_eq}
@@ -21,7 +21,7 @@ use Rattle.uriparse_scheme.specs.declared.scheme.Scheme.{Scheme}
 use Rattle.uriparse_scheme.specs.Scheme as scheme
 use Rattle.uriparse_reference.specs.Reference.{Parts, joined, Valid, scheme_part, authority_part, print, kind}
 use Rattle.uriparse_reference.specs.Cuts.{scheme_text, authority_text, path_text, query_text, fragment_text}
-use Rattle.uriparse_path.specs.Edits.{dotted, shield}
+use Rattle.uriparse_path.specs.Edits.{dotted}
 use Rattle.uriparse_reference.specs.Normal.{shielded, normal, is_normal}
 use Rattle.uriparse_reference.proofs.lemmas.equality.EqualityLemmas.{print_cut, same_scheme}
 use Rattle.uriparse_authority.proofs.lemmas.authorities.NormalLemmas.{one_printed}

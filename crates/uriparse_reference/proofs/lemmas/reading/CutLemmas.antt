@@ -19,7 +19,7 @@ use Rattle.uriparse_scheme.specs.Scheme as scheme
 use Rattle.uriparse_reference.specs.declared.uri_reference.error.URIReferenceError.TheVariants as errors
 use Rattle.uriparse_reference.specs.Reference.{behind_slashes, joined, is_abempty, is_noscheme, path_refusal}
 use Rattle.uriparse_scheme.specs.Cuts.{if_scheme, scheme_text, ends_segment, unless_scheme, after_scheme, has_colon_segment}
-use Rattle.uriparse_scheme.proofs.CutLemmas.{NoScheme, no_scheme, scheme_colon, slash_no_scheme}
+use Rattle.uriparse_scheme.proofs.lemmas.schemes.CutLemmas.{NoScheme, no_scheme, scheme_colon, slash_no_scheme}
 use Rattle.uriparse_reference.specs.Cuts.{cut_authority, authority_text, without_authority}
 use Rattle.uriparse_reference.specs.Cuts.{after_authority}
 use Rattle.uriparse_reference.specs.Cuts.{path_text, query_text, fragment_text, tail_query, tail_fragment}

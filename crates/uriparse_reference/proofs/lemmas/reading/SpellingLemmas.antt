@@ -12,7 +12,7 @@ use Rattle.uriparse_authority.specs.Authority.{AuthorityParts}
 use Rattle.uriparse_authority.proofs.lemmas.authorities.AuthorityLemmas as authorities
 use Rattle.uriparse_scheme.specs.declared.scheme.Scheme.{Scheme}
 use Rattle.uriparse_scheme.specs.Scheme as scheme
-use Rattle.uriparse_scheme.proofs.SchemeLemmas as schemes
+use Rattle.uriparse_scheme.proofs.lemmas.schemes.SchemeLemmas as schemes
 use Rattle.uriparse_reference.specs.Reference.{Parts, is_abempty, path_refusal, path_of, Spells, Valid, ReadsBack, Same, print}
 use Rattle.uriparse_reference.proofs.lemmas.reading.ReadingLemmas.{scheme_back, authority_back}
 

@@ -13,10 +13,10 @@ use Rattle.uriparse_path.specs.Relative.{is_first, has_colon}
 use Rattle.uriparse_path.specs.Relate.{leading, no_path, is_taken}
 use Rattle.uriparse_path.proofs.lemmas.normal.NormalFormLemmas.{rooted-text}
 use Rattle.uriparse_path.proofs.lemmas.merge.MergedNormalFormLemmas.{undotted, undotted_kept}
-use Rattle.uriparse_path.proofs.lemmas.merge.LeadingPathLemmas.{Leads, leads, listed_empty}
+use Rattle.uriparse_path.proofs.lemmas.merge.LeadingPathLemmas.{Leads, leads, listed_empty, listed_leading}
 use Rattle.uriparse_scheme.specs.declared.scheme.Scheme.{Scheme}
 use Rattle.uriparse_scheme.specs.Scheme as scheme
-use Rattle.uriparse_scheme.proofs.SchemeLemmas.{spells_back}
+use Rattle.uriparse_scheme.proofs.lemmas.schemes.SchemeLemmas.{spells_back}
 use Rattle.uriparse_reference.specs.Reference.{Parts, Valid}
 use Rattle.uriparse_reference.specs.Normal.{shielded}
 use Rattle.uriparse_reference.specs.Target.{merge, dots_removed, is_empty, target_of, target}
@@ -197,12 +197,16 @@ is_inner b t p w fits h = ⊎_elim
       no_colon = λ a. absurd (false≢true (sym a ∙ both.0));
     })) (either b t p h)
 
-pub inner_valid : (b t : Parts) (p : PathParts) (q f : Option (List ℕ)) → Valid t → IsListed p.segments → inner b.path t.path ≡ Some p → IfSome q IsQuery → IfSome f IsFragment
+pub listed_inner : (b t p : PathParts) → IsListed t.segments → inner b t ≡ Some p → IsListed p.segments
+listed_inner b t p listed h = ⊎_elim (listed_leading b t p listed) (λ k. subst (λ q. IsListed q.segments) k.1 listed) (either b t p h)
+
+pub inner_valid : (b t : Parts) (p : PathParts) (q f : Option (List ℕ)) → Valid t → inner b.path t.path ≡ Some p → IfSome q IsQuery → IfSome f IsFragment
     → Valid (record { scheme = None; authority = None; path = p; query = q; fragment = f })
-inner_valid b t p q f v listed h vq vf =
-    let is = is_inner b.path t.path p (is_some t.authority) (fits_of t v) h in
+inner_valid b t p q f v h vq vf =
+    let fits = fits_of t v in
+    let is = is_inner b.path t.path p (is_some t.authority) fits h in
     valid_made None None p q f tt tt (placed false false p (record {
-      listed = listed;
+      listed = listed_inner b.path t.path p fits.listed h;
       formed = ap (λ w. cond w (make true (tail p.segments)) p) (hidden p.absolute is.shown);
       rooted = λ k. absurd (false≢true k);
       shown = λ _. is.shown;

@@ -1,5 +1,5 @@
-use Rattle.uriparse_scheme.proofs.GrammarLemmas.{canonical_low_of_scheme, well_formed-scheme}
-use Rattle.uriparse_scheme.proofs.SchemeLemmas.{canonical_spelled}
+use Rattle.uriparse_scheme.proofs.lemmas.schemes.GrammarLemmas.{canonical_low_of_scheme, well_formed-scheme}
+use Rattle.uriparse_scheme.proofs.lemmas.schemes.SchemeLemmas.{canonical_spelled}
 use Rattle.uriparse_scheme.proofs.laws.canonical_is_lower_case.Goals as goal
 
 pub returns-clause-formed : goal.returns-clause-formed

@@ -1,4 +1,4 @@
-use Rattle.uriparse_scheme.proofs.SchemeLemmas.{no_fault, fault_empty, fault_first, fault_later}
+use Rattle.uriparse_scheme.proofs.lemmas.schemes.SchemeLemmas.{no_fault, fault_empty, fault_first, fault_later}
 use Rattle.uriparse_scheme.proofs.laws.one_fault.Goals as goal
 
 pub returns-clause-none : goal.returns-clause-none

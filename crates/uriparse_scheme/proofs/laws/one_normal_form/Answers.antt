@@ -1,4 +1,4 @@
-use Rattle.uriparse_scheme.proofs.NormalLemmas.{text-canonical, valid_canonical, canonical_twice, canonical_kept}
+use Rattle.uriparse_scheme.proofs.lemmas.schemes.NormalLemmas.{text-canonical, valid_canonical, canonical_twice, canonical_kept}
 use Rattle.uriparse_scheme.proofs.laws.one_normal_form.Goals as goal
 
 pub returns : goal.returns

@@ -1,4 +1,4 @@
-use Rattle.uriparse_scheme.proofs.SchemeLemmas.{reads, one_scheme, valid_spelled, spells_back}
+use Rattle.uriparse_scheme.proofs.lemmas.schemes.SchemeLemmas.{reads, one_scheme, valid_spelled, spells_back}
 use Rattle.uriparse_scheme.proofs.laws.one_reading.Goals as goal
 
 pub returns-clause-reads : goal.returns-clause-reads

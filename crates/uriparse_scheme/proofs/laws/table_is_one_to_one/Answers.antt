@@ -1,5 +1,5 @@
-use Rattle.uriparse_scheme.proofs.SortedLemmas.{names_sorted, lowered_names}
-use Rattle.uriparse_scheme.proofs.TableLemmas.{listed, listed_once, same_name, name_is_scheme, named_iff}
+use Rattle.uriparse_scheme.proofs.lemmas.table.SortedLemmas.{names_sorted, lowered_names}
+use Rattle.uriparse_scheme.proofs.lemmas.table.TableLemmas.{listed, listed_once, same_name, name_is_scheme, named_iff}
 use Rattle.uriparse_scheme.proofs.laws.table_is_one_to_one.Goals as goal
 
 pub returns-clause-sorted : goal.returns-clause-sorted

@@ -2,7 +2,7 @@ use Rattle.std.proofs.Common.{Err, sym, ap, ◌∙◌}
 use Rattle.std.specs.Prelude.{is_some}
 use Rattle.uriparse_scheme.specs.Scheme.{named}
 use Rattle.uriparse_reference.specs.Cuts.{scheme_text}
-use Rattle.uriparse.proofs.KindLemmas.{checked, map_some, unchecked}
+use Rattle.uriparse.proofs.lemmas.KindLemmas.{checked, map_some, unchecked}
 use Rattle.uriparse.proofs.reference_of.ReferenceOf.check.Goals as goal
 
 pub returns-in-Ok : goal.returns-in-Ok

@@ -1,5 +1,5 @@
 use Rattle.std.proofs.Common.{inl, sym, ◌∙◌}
-use Rattle.uriparse.proofs.KindLemmas.{read_of}
+use Rattle.uriparse.proofs.lemmas.KindLemmas.{read_of}
 use Rattle.uriparse.proofs.reference_of.ReferenceOf.read.Goals as goal
 
 pub returns-in-Ok-clause-answer : goal.returns-in-Ok-clause-answer

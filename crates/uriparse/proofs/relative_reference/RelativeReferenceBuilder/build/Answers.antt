@@ -2,7 +2,7 @@ use Rattle.std.proofs.Common.{Ok, Err, refl, ap, ◌∙◌}
 use Rattle.uriparse_reference.specs.Builder.{Held}
 use Rattle.uriparse.specs.Kinds.{told_of}
 use Rattle.uriparse.specs.RelativeReference.{told, relative_built}
-use Rattle.uriparse.proofs.BuilderLemmas.{built_scheme}
+use Rattle.uriparse.proofs.lemmas.BuilderLemmas.{built_scheme}
 use Rattle.uriparse.proofs.relative_reference.RelativeReferenceBuilder.build.Goals as goal
 
 pub of_checked-requires : goal.of_checked-requires

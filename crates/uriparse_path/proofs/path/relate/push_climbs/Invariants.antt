@@ -3,4 +3,4 @@ use Rattle.uriparse_path.specs.Relate.{climbs}
 use Rattle.uriparse_path.proofs.path.relate.push_climbs.Given as goal
 
 abbrev pub invariant-loop-directory : goal.invariant-loop-directory
-invariant-loop-directory l = l.list.items ≡ l.fn.list.items ++ climbs (take l.directory-index l.directories)
+invariant-loop-directory l = l.list.items ≡ l.fn.list.items ++ climbs (take l._directory-index l.directories)

@@ -1,6 +1,6 @@
 use Rattle.std.proofs.Common.{◌≡◌, Ok, rules}
 use Rattle.uriparse_reference.specs.Reading.{reading}
-use Rattle.uriparse_scheme.proofs.CutLemmas.{is_scheme_text}
+use Rattle.uriparse_scheme.proofs.lemmas.schemes.CutLemmas.{is_scheme_text}
 use Rattle.uriparse_reference.proofs.lemmas.reading.ReadingLemmas.{found}
 use Rattle.uriparse_reference.proofs.lemmas.reading.SpellingLemmas.{valid}
 use Rattle.uriparse_reference.proofs.uri_reference.URIReference.of_pieces.Goals.{in-Some, in-None}

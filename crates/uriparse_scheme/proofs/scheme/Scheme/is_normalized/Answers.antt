@@ -1,5 +1,5 @@
 use Rattle.std.proofs.Common.{refl}
-use Rattle.uriparse_scheme.proofs.NormalLemmas.{registered_is_normal}
+use Rattle.uriparse_scheme.proofs.lemmas.schemes.NormalLemmas.{registered_is_normal}
 use Rattle.uriparse_scheme.proofs.scheme.Scheme.is_normalized.Goals as goal
 
 pub returns-in-Registered : goal.returns-in-Registered

@@ -2,7 +2,7 @@ use Rattle.std.proofs.Common.{◌≡◌, None, rules}
 use Rattle.std.specs.Str.{str_to_ascii_lowercase}
 use Rattle.uriparse_scheme.specs.Registered.{registered_named}
 use Rattle.uriparse_scheme.specs.Scheme.{fault}
-use Rattle.uriparse_scheme.proofs.SchemeLemmas.{unregistered_from}
+use Rattle.uriparse_scheme.proofs.lemmas.schemes.SchemeLemmas.{unregistered_from}
 use Rattle.uriparse_scheme.proofs.scheme.Scheme.try_from_bytes.Goals as goal
 
 pub of_checked-requires : goal.of_checked-requires

@@ -1,7 +1,7 @@
-use Rattle.std.proofs.Common.{◌≡◌, Some, sym, subst}
+use Rattle.std.proofs.Common.{◌≡◌, sym, subst}
 use Rattle.std.specs.Prelude.{IfSome}
 use Rattle.uriparse_scheme.specs.Registered.{name_of}
-use Rattle.uriparse_scheme.proofs.CutLemmas.{known_named}
+use Rattle.uriparse_scheme.proofs.lemmas.schemes.CutLemmas.{known_named}
 use Rattle.uriparse_scheme.proofs.scheme.cut.scheme_if.Goals as goal
 
 pub returns-in-Some : goal.returns-in-Some

@@ -1,7 +1,7 @@
 use Rattle.std.proofs.Common.{◌≡◌, None, Some, sym, ◌∙◌, rules}
 use Rattle.uriparse_text.specs.Cuts.{from_first}
 use Rattle.uriparse_scheme.specs.Cuts.{after_colon, ends_scheme}
-use Rattle.uriparse_scheme.proofs.CutLemmas.{cut_there, uncut_there, uncut_nowhere}
+use Rattle.uriparse_scheme.proofs.lemmas.schemes.CutLemmas.{cut_there, uncut_there, uncut_nowhere}
 use Rattle.uriparse_scheme.proofs.scheme.cut.split_any_scheme.Goals as goal
 
 pub returns-in_default : goal.returns-in_default

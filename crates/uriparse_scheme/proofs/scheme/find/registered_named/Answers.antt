@@ -1,7 +1,7 @@
 use Rattle.std.proofs.Common.{sym, ap, ◌∙◌}
 use Rattle.std.specs.Str.{str_to_ascii_lowercase}
 use Rattle.uriparse_scheme.specs.Registered.{registered_named}
-use Rattle.uriparse_scheme.proofs.TableLemmas.{named-name}
+use Rattle.uriparse_scheme.proofs.lemmas.table.TableLemmas.{named-name}
 use Rattle.uriparse_scheme.proofs.scheme.find.registered_named.Goals as goal
 
 pub returns-in-Some : goal.returns-in-Some

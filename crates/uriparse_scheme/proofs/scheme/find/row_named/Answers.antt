@@ -11,7 +11,7 @@ use Rattle.uriparse_scheme.specs.declared.scheme.registered.RegisteredScheme.{Re
 use Rattle.uriparse_scheme.specs.declared.scheme.registered.RegisteredScheme.TheVariants.{AAA}
 use Rattle.uriparse_scheme.specs.SchemeTable.{variants}
 use Rattle.uriparse_scheme.specs.Registered.{name_of}
-use Rattle.uriparse_scheme.proofs.SortedLemmas.{names_sorted, searched}
+use Rattle.uriparse_scheme.proofs.lemmas.table.SortedLemmas.{names_sorted, searched}
 use Rattle.uriparse_scheme.proofs.scheme.find.row_named.Goals as goal
 
 pub returns : goal.returns

@@ -1,4 +1,4 @@
-use Rattle.uriparse_scheme.proofs.GrammarLemmas.{same_from_lowered}
+use Rattle.uriparse_scheme.proofs.lemmas.schemes.GrammarLemmas.{same_from_lowered}
 use Rattle.uriparse_scheme.proofs.scheme.spelling.same_lowered.Goals as goal
 
 pub returns : goal.returns

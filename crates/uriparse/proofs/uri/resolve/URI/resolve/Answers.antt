@@ -6,7 +6,7 @@ use Rattle.uriparse_reference.specs.Reference.{Parts, Valid}
 use Rattle.uriparse_reference.specs.Normal.{normal}
 use Rattle.uriparse_reference.specs.Target.{target}
 use Rattle.uriparse_reference.proofs.lemmas.resolving.EqualTargetLemmas.{same_targets}
-use Rattle.uriparse.proofs.ResolveLemmas.{Answers, refusal_told, commutes_answered}
+use Rattle.uriparse.proofs.lemmas.ResolveLemmas.{Answers, refusal_told, commutes_answered}
 use Rattle.uriparse.proofs.uri.resolve.URI.resolve.Goals as goal
 
 pub returns-in-Err-clause-answer : goal.returns-in-Err-clause-answer

@@ -1,5 +1,3 @@
-use Rattle.std.proofs.Common.{subst}
-use Rattle.uriparse_authority.specs.Host.{Valid}
 use Rattle.uriparse_authority.proofs.lemmas.hosts.HostLemmas.{feeds_ipv4, feeds_ipv6, feeds_future}
 use Rattle.uriparse_authority.proofs.authority.host.HostHash.hash.Goals as goal
 
@@ -17,4 +15,4 @@ returns-in-IPv6Address-clause-key g c =
 pub returns-in-IPvFuture-clause-key : goal.returns-in-IPvFuture-clause-key
 returns-in-IPvFuture-clause-key g c =
     feeds_future g.H.Hasher.write c.args.state.now c.write_u8-in-IPvFuture.new.self c.hash-in-IPvFuture.new.state c.args.self.now c.in-IPvFuture.address
-    c.in-IPvFuture.is (subst Valid c.in-IPvFuture.is c.assert_valid.ensures) c.write_u8-in-IPvFuture.ensures c.hash-in-IPvFuture.ensures
+    c.in-IPvFuture.is c.hash-in-IPvFuture.ensures.valid c.write_u8-in-IPvFuture.ensures c.hash-in-IPvFuture.ensures.fed

@@ -9,7 +9,7 @@ use Rattle.uriparse_path.proofs.path.normal.Path.put_canonical.Goals as goal
 
 pub invariant_of-self : goal.invariant_of-self
 invariant_of-self c =
-    let each : list_all is_segment c.self.inside.segments.items ≡ true = ap (list_all is_segment) (sym c.deref.ensures.value) ∙ c.each_is_segment.ensures in
+    let each : list_all is_segment c.self.inside.segments.items ≡ true = ap (λ p. list_all is_segment p.segments) c.self.view_is ∙ c.requires.listed.each in
     let is = c.self.invariant in
     subst (λ l. IsKept counts l (flag c.self.inside.known) c.of_canonical-counts.result) (sym c.put_copies.ensures)
     (kept_by _ (flag c.self.inside.known) _ (counted-canonical c.self.inside.segments.items (counted_kept _ _ _ is))

@@ -1,10 +1,8 @@
-use Rattle.std.proofs.Common.{◌≡◌, true, length, ◌+◌, ◌-◌, ◌<◌, take, drop, ap, sym, subst, ◌∙◌, arith, rules}
-use Rattle.std.specs.List.{list_all}
+use Rattle.std.proofs.Common.{◌≡◌, true, length, ◌+◌, ◌-◌, ◌<◌, take, drop, Some, false, refl, sym, subst, arith, rules}
 use Rattle.std.proofs.lemmas.List.{take_rest}
-use Rattle.uriparse_path.specs.Segment.{is_segment}
-use Rattle.uriparse_path.specs.Relate.{may_lead}
+use Rattle.uriparse_path.specs.Relate.{may_lead, leading}
 use Rattle.uriparse_path.proofs.lemmas.reading.ReadingLemmas.{limit_is}
-use Rattle.uriparse_path.proofs.lemmas.merge.LeadingPathLemmas.{no_room, led_path, led_listed}
+use Rattle.uriparse_path.proofs.lemmas.merge.LeadingPathLemmas.{no_room, led_path, listed_leading}
 use Rattle.uriparse_path.proofs.path.relate.Path.leading.Goals as goal
 
 pub returns-then-directories-left-ge-MAX_SEGMENTS : goal.returns-then-directories-left-ge-MAX_SEGMENTS
@@ -26,10 +24,14 @@ of-requires-clause-listed c =
     let front = c.directory-directories.result.now in
     let own = c.segments-segments.result.now in
     let n = c.shared_len-shared.result in
-    let each : list_all is_segment c.in_ok-list.list.items ≡ true = ap (list_all is_segment) (sym c.deref.ensures.value) ∙ c.each_is_segment.ensures in
-    led_listed c.in_ok-list.list.items (take (length front - n) (drop n front)) (take (length own - n) (drop n own)) (length front) each
-    c.in_ok-list.ensures (omega arith)
-    (subst (λ m. length front + (length (take (length front - n) (drop n front)) + length (take (length own - n) (drop n own))) < m) limit_is (omega arith))
+    let may : may_lead c.args.base.now c.args.target.now ≡ true = search rules in
+    let list = c.in_ok-list.list.items in
+    let is_leading : Some (record { absolute = false; segments = list }) ≡ leading c.args.base.now c.args.target.now =
+    led_path c.args.base.now c.args.target.now c.segments.result.now front own n c.segments.ensures.value c.directory-directories.ensures
+    c.segments-segments.ensures.value c.shared_len-shared.ensures.apart (record { absolute = false; segments = list }) list (take (length front - n) (drop n front))
+    (take (length own - n) (drop n own)) may (rw (sym (take_rest front n), sym (take_rest own n)) (omega arith)) (take_rest front n) (take_rest own n)
+    c.in_ok-list.ensures refl in
+    listed_leading c.args.base.now c.args.target.now (record { absolute = false; segments = list }) c.segments-segments.ensures.listed (sym is_leading)
 
 pub returns : goal.returns
 returns c =

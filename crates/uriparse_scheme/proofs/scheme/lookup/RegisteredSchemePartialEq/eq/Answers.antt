@@ -1,7 +1,7 @@
 use Rattle.std.proofs.Common.{ap, ◌∙◌}
 use Rattle.std.specs.Prelude.{bytes_eq}
 use Rattle.uriparse_scheme.specs.Registered.{name_of}
-use Rattle.uriparse_scheme.proofs.TableLemmas.{same_from_names}
+use Rattle.uriparse_scheme.proofs.lemmas.table.TableLemmas.{same_from_names}
 use Rattle.uriparse_scheme.proofs.scheme.lookup.RegisteredSchemePartialEq.eq.Goals as goal
 
 pub returns : goal.returns

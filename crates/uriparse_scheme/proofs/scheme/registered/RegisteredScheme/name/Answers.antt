@@ -1,6 +1,6 @@
 use Rattle.std.proofs.Common.{ap}
 use Rattle.uriparse_scheme.specs.SchemeTable.{Row}
-use Rattle.uriparse_scheme.proofs.TableLemmas.{name_is_scheme}
+use Rattle.uriparse_scheme.proofs.lemmas.table.TableLemmas.{name_is_scheme}
 use Rattle.uriparse_scheme.proofs.scheme.registered.RegisteredScheme.name.Goals as goal
 
 pub returns-clause-value : goal.returns-clause-value

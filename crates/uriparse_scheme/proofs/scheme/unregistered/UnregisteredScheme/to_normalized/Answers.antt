@@ -1,8 +1,8 @@
 use Rattle.std.proofs.Common.{◌≡◌, IsUtf8, string_bytes, sym, subst, rules}
 use Rattle.uriparse_text.specs.Canonical.{canonical_lowered}
 use Rattle.uriparse_scheme.specs.Grammar.{IsUnregistered}
-use Rattle.uriparse_scheme.proofs.GrammarLemmas.{IsUtf8-scheme}
-use Rattle.uriparse_scheme.proofs.NormalLemmas.{unregistered-canonical_lowered}
+use Rattle.uriparse_scheme.proofs.lemmas.schemes.GrammarLemmas.{IsUtf8-scheme}
+use Rattle.uriparse_scheme.proofs.lemmas.schemes.NormalLemmas.{unregistered-canonical_lowered}
 use Rattle.uriparse_scheme.proofs.scheme.unregistered.UnregisteredScheme.to_normalized.Goals as goal
 
 pub from_utf8_unchecked-requires : goal.from_utf8_unchecked-requires

@@ -10,8 +10,8 @@ use Rattle.uriparse_scheme.specs.declared.scheme.Scheme.TheVariants.{Registered,
 use Rattle.uriparse_scheme.specs.Registered.{registered_named}
 use Rattle.uriparse_scheme.specs.Scheme.{is_scheme, IsUnregistered, Valid, text, canonical_text}
 use Rattle.uriparse_scheme.specs.Normal.{canonical_scheme}
-use Rattle.uriparse_scheme.proofs.GrammarLemmas.{well_formed-scheme, canonical_low_of_scheme, is_scheme-canonical_lowered}
-use Rattle.uriparse_scheme.proofs.TableLemmas.{canonical_name}
+use Rattle.uriparse_scheme.proofs.lemmas.schemes.GrammarLemmas.{well_formed-scheme, canonical_low_of_scheme, is_scheme-canonical_lowered}
+use Rattle.uriparse_scheme.proofs.lemmas.table.TableLemmas.{canonical_name}
 
 pub text-canonical : (s : Scheme) → text (canonical_scheme s) ≡ canonical_text s
 text-canonical (Registered s) = sym (canonical_name s)

@@ -19,8 +19,8 @@ use Rattle.uriparse_scheme.specs.declared.scheme.microsoft.MicrosoftScheme.TheVa
 use Rattle.uriparse_scheme.specs.SchemeTable.{row_of, variants}
 use Rattle.uriparse_scheme.specs.Registered.{names, registered_named, name_of}
 use Rattle.uriparse_scheme.specs.Grammar.{is_scheme}
-use Rattle.uriparse_scheme.proofs.GrammarLemmas.{canonical_low_of_scheme}
-use Rattle.uriparse_scheme.proofs.SortedLemmas.{names_sorted, sorted_at}
+use Rattle.uriparse_scheme.proofs.lemmas.schemes.GrammarLemmas.{canonical_low_of_scheme}
+use Rattle.uriparse_scheme.proofs.lemmas.table.SortedLemmas.{names_sorted, sorted_at}
 
 -- ---- row by row: the first clause splits the rest into one case for each row
 

@@ -7,9 +7,9 @@ use Rattle.std.specs.List.{list_all}
 use Rattle.std.proofs.lemmas.Bool.{false≢true, eqb-true}
 use Rattle.std.proofs.lemmas.Bool.Decides.{nat_tests}
 use Rattle.std.proofs.lemmas.List.Folds.{list_all-append}
-use Rattle.uriparse_text.specs.Bytes.{slash, colon, question_mark, number_sign}
+use Rattle.uriparse_text.specs.Bytes.{slash, colon}
 use Rattle.uriparse_text.specs.Cuts.{lacks, none_pass, before, after, front, rest, up_to, from_first}
-use Rattle.uriparse_text.proofs.lemmas.readings.CutLemmas.{weaker, up_to-none, from_first-head, lacks_by, lacks-append, lacks-right, cut-whole, up_to-append}
+use Rattle.uriparse_text.proofs.lemmas.readings.CutLemmas.{weaker, up_to-none, from_first-head, lacks_by, lacks-right, cut-whole, up_to-append}
 use Rattle.uriparse_text.proofs.lemmas.readings.CutLemmas.{before_of, after_of}
 use Rattle.uriparse_scheme.specs.declared.scheme.registered.RegisteredScheme.{RegisteredScheme}
 use Rattle.uriparse_scheme.specs.declared.scheme.Scheme.TheVariants.{Registered}
@@ -17,8 +17,8 @@ use Rattle.uriparse_scheme.specs.Registered.{name_of}
 use Rattle.uriparse_scheme.specs.Grammar.{is_scheme, is_scheme_byte}
 use Rattle.uriparse_scheme.specs.Scheme.{named, registered_or}
 use Rattle.uriparse_scheme.specs.Cuts.{if_scheme, if_some, scheme_text, ends_scheme, ends_segment, unless_scheme, after_colon, after_scheme, has_colon_segment}
-use Rattle.uriparse_scheme.proofs.GrammarLemmas.{scheme_bytes}
-use Rattle.uriparse_scheme.proofs.TableLemmas.{name_is_scheme, named-name}
+use Rattle.uriparse_scheme.proofs.lemmas.schemes.GrammarLemmas.{scheme_bytes}
+use Rattle.uriparse_scheme.proofs.lemmas.table.TableLemmas.{name_is_scheme, named-name}
 
 pub scheme_colon : (s : List ℕ) → is_scheme s ≡ true → lacks colon s ≡ true
 scheme_colon s h = lacks_by is_scheme_byte colon s refl (scheme_bytes s h)

@@ -41,8 +41,8 @@ use Rattle.uriparse_scheme.specs.Registered.{registered_named, name_of}
 use Rattle.uriparse_scheme.specs.Grammar.{is_scheme_byte, is_scheme, IsUnregistered}
 use Rattle.uriparse_scheme.specs.Scheme.{Valid, registered_or, named, text, canonical_text, Spells, fault, reading, BeginsWithNoLetter, HasStrayByte}
 use Rattle.uriparse_text.specs.Canonical.{canonical_lowered}
-use Rattle.uriparse_scheme.proofs.GrammarLemmas.{canonical_low_of_scheme}
-use Rattle.uriparse_scheme.proofs.TableLemmas.{name_is_scheme, named-name, named_iff, canonical_name}
+use Rattle.uriparse_scheme.proofs.lemmas.schemes.GrammarLemmas.{canonical_low_of_scheme}
+use Rattle.uriparse_scheme.proofs.lemmas.table.TableLemmas.{name_is_scheme, named-name, named_iff, canonical_name}
 
 -- ---- no fault
 

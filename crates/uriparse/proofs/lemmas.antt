@@ -1,0 +1,3 @@
+pub mod KindLemmas
+pub mod BuilderLemmas
+pub mod ResolveLemmas

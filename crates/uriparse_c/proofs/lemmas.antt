@@ -1,0 +1,4 @@
+pub mod CodeLemmas
+pub mod ParseLemmas
+pub mod PlaceLemmas
+pub mod TextLemmas

@@ -1,0 +1,2 @@
+pub mod schemes
+pub mod table

@@ -1,0 +1,4 @@
+pub mod GrammarLemmas
+pub mod SchemeLemmas
+pub mod NormalLemmas
+pub mod CutLemmas

@@ -1,0 +1,2 @@
+pub mod SortedLemmas
+pub mod TableLemmas
