@@ -12,6 +12,7 @@ mod equal;
 mod failure;
 mod get;
 mod help;
+pub mod internal;
 mod json;
 mod lines;
 mod normalize;

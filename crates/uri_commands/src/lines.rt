@@ -146,7 +146,7 @@ fn drop_newline(line: &mut Vec<u8>)
 
 /// Reads the next line into the buffer, without its newline, and returns whether there was one. The
 /// last line may have no newline.
-fn read_line<I: BufRead>(input: &mut I, line: &mut Vec<u8>) -> io::Result<bool>
+pub fn read_line<I: BufRead>(input: &mut I, line: &mut Vec<u8>) -> io::Result<bool>
     ensures line { OnOk result (IfSome (I.remaining input.old) (λ bytes. line.new.items ≡ first_piece newline bytes)) }
     ensures rest { OnOk result (DropsThrough (I.remaining input.old) (I.remaining input.new) newline) }
     ensures end { IfOk result (λ is_line. is_line ≡ false → IsAtEnd (I.remaining input.old)) }

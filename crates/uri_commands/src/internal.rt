@@ -1,0 +1,3 @@
+//! What the gate's crates use besides the commands.
+
+pub use crate::lines::read_line;
