@@ -1,18 +1,20 @@
 /* URIs and URI references of RFC 3986: read, compare, hash, normalize and resolve them. The code behind these calls is
- * proved: it is safe, it ends, and it computes what this header says. README.md says what is proved and what isn't.
+ * proved: it is safe, it terminates, and it computes what this header says. README.md says what is proved and what
+ * isn't.
  *
- * Texts are bytes with a length in bytes, and need no zero byte at their end. A zero byte in a text is rejected as any
- * other byte that no URI has. An empty text may be NULL with length 0: the calls below allow it, and `out` too may be
- * NULL if `room` is 0. Each other pointer is valid and aligned for its type, each text readable for its whole length,
- * and `out` writable for `room` bytes. A length is at most PTRDIFF_MAX.
+ * Texts are bytes with a length in bytes, and need no zero byte at their end. A zero byte in a text is rejected like
+ * any other byte that no URI has. An empty text may be NULL with length 0: the calls below allow it, and `out` too may
+ * be NULL if `room` is 0. Each other pointer is valid and aligned for its type, each text readable for its whole
+ * length, and `out` writable for `room` bytes. A length is at most PTRDIFF_MAX.
  *
  * A text isn't written and isn't kept: after the call nothing points into it. What a call writes to (`out`, `needed`,
  * `parts`, `equal`, `hash`) overlaps no other argument. It need not be initialized, and no other thread uses it during
- * the call. On an error nothing is written but 0 to `*needed`.
+ * the call. On an error nothing is written except `*needed`, which becomes 0, or with URIPARSE_NO_ROOM the length of
+ * the text.
  *
- * There is no state between calls, so calls may run at once in any threads. `uriparse_parse` and `uriparse_is_uri` do
- * not allocate, and may be called in a signal handler. The other calls allocate by `malloc` and free what they
- * allocated before they return; a call that finds no memory returns URIPARSE_OUT_OF_MEMORY. The caller frees nothing.
+ * There is no state between calls, so calls may run concurrently in any threads. `uriparse_parse` and `uriparse_is_uri`
+ * do not allocate, and may be called in a signal handler. The other calls allocate with `malloc` and free what they
+ * allocated before they return; if memory runs out, they return URIPARSE_OUT_OF_MEMORY. The caller frees nothing.
  *
  * Limits: a path has at most 1,000,000 segments, a port is at most 65535. Texts are as long as memory allows. */
 #ifndef URIPARSE_H
@@ -30,8 +32,8 @@ extern "C" {
 
 /* What a call returns. The error of a text is its first one: of the authority (user name, password, host, port), then
  * of the path, the colon rule, the query, the fragment; and within each of these the leftmost one. `code & 0xf0` names
- * the component, and `code & URIPARSE_IN_BASE` says that it is the base which `uriparse_resolve` rejects. Later
- * versions may add codes. */
+ * the component, and `code & URIPARSE_IN_BASE` is set if `uriparse_resolve` rejects the base. Later versions may add
+ * codes. */
 enum uriparse_code {
   URIPARSE_OK = 0,
   URIPARSE_OUT_OF_MEMORY = 1,     /* `malloc` returned NULL */
@@ -105,15 +107,15 @@ uint32_t uriparse_parse(const uint8_t *text, size_t len, struct uriparse_parts *
  * The caller ensures: `text` is readable for `len` bytes. */
 bool uriparse_is_uri(const uint8_t *text, size_t len);
 
-/* Writes to `*equal` whether two references are equal: whether their hosts, if they have any, are of one kind, and their
- * texts differ at most by case in schemes and hosts and by percent-encoding ("%7e" and "~"). Dot segments count:
- * normalize first if they shouldn't. Of two faulty texts the left one is rejected.
+/* Writes to `*equal` whether two references are equal: whether their hosts, if they have any, are of one kind, and
+ * their texts differ at most by case in schemes and hosts and by percent-encoding ("%7e" and "~"). Dot segments count:
+ * normalize first if they shouldn't. If both texts are faulty, the error is the left one's.
  *
  * The caller ensures: each text is readable for its length; `equal` is writable. */
 uint32_t uriparse_equal(const uint8_t *left, size_t left_len, const uint8_t *right, size_t right_len, bool *equal);
 
 /* Writes to `*hash` a hash of a reference: equal references have equal hashes, on every machine and in every run. It is
- * SipHash-1-3 with both keys 0; the key isn't secret, so it doesn't keep a table from texts chosen to collide.
+ * SipHash-1-3 with both keys 0; the key isn't secret, so it doesn't protect a hash table from texts chosen to collide.
  *
  * The caller ensures: `text` is readable for `len` bytes; `hash` is writable. */
 uint32_t uriparse_hash(const uint8_t *text, size_t len, uint64_t *hash);
@@ -126,8 +128,9 @@ uint32_t uriparse_hash(const uint8_t *text, size_t len, uint64_t *hash);
 uint32_t uriparse_normalize(const uint8_t *text, size_t len, uint8_t *out, size_t room, size_t *needed);
 
 /* Resolves a reference against a base (section 5.2.2, strict), and writes the text of the target to `out` as
- * `uriparse_normalize` does. The base has a scheme; its fragment doesn't matter. Of two faulty texts the base is
- * rejected. Returns URIPARSE_TOO_MANY_SEGMENTS if the merged paths have more segments than a path may have.
+ * `uriparse_normalize` does. A base without a scheme is rejected; a base's fragment is ignored. If both texts are
+ * faulty, the error is the base's. Returns URIPARSE_TOO_MANY_SEGMENTS if the merged paths have more segments than a
+ * path may have.
  *
  * The caller ensures: each text is readable for its length; `out` is writable for `room` bytes; `needed` is writable. */
 uint32_t uriparse_resolve(const uint8_t *base, size_t base_len, const uint8_t *text, size_t len, uint8_t *out,
@@ -145,8 +148,8 @@ static inline uint8_t *uriparse_room(void *out) {
   return out ? (uint8_t *)out : &none;
 }
 
-/* The functions themselves take no NULL. By these macros each call takes NULL with length 0, and a text of any type of
- * bytes, such as `const char *`. */
+/* The functions themselves accept no NULL. With these macros each call accepts NULL with length 0, and a text of any
+ * byte type, such as `const char *`. */
 #define uriparse_parse(text, len, parts) (uriparse_parse)(uriparse_text(text), len, parts)
 #define uriparse_is_uri(text, len) (uriparse_is_uri)(uriparse_text(text), len)
 #define uriparse_equal(left, left_len, right, right_len, equal)                                                        \

@@ -7,8 +7,8 @@ use std::io;
 use std::io::Write;
 use uriparse::{Fragment, Password, Query, Segment, Username};
 
-/// Prints the bytes that the text of a query stands for, unchanged, and a newline. Each component
-/// that `encode` makes can be decoded so, since its text is that of a query too.
+/// Decodes the text of a query, and prints the bytes unchanged and then a newline. Each text that
+/// `encode` prints can be decoded in this way, since it is the text of a query too.
 pub fn decode<O: Write>(alloc: Global, text: &[u8], out: &mut O) -> Result<(), Failure> {
     let query = Query::try_from_bytes(text)?;
     let bytes = query.decode(alloc)?;
@@ -21,7 +21,7 @@ fn print_bytes<O: Write>(bytes: &[u8], out: &mut O) -> io::Result<()> {
     out.write_all(b"\n")
 }
 
-/// Prints the component of this kind that stands for the bytes.
+/// Encodes the bytes as a component of this kind, and prints it.
 pub fn encode<O: Write>(
     alloc: Global,
     kind: &str,

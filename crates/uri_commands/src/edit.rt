@@ -114,7 +114,7 @@ fn edit_text<'w, O: Write>(
     print_changed(alloc, &mut reference, changes, out)
 }
 
-/// Makes the edits, and prints what they make of the reference.
+/// Makes the edits, and prints the result.
 fn print_changed<'w, O: Write>(
     alloc: Global,
     reference: &mut URIReference<'w>,

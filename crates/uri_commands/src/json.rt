@@ -17,8 +17,8 @@ use std::io;
 use std::io::Write;
 use uriparse::{Host, Segment, URIReference};
 
-/// A writer of what stands between the quotes of a JSON string: it writes a `\` before each `"` and
-/// each `\`. A reference is ASCII text without control characters, and JSON escapes nothing else.
+/// Writes text between the quotes of a JSON string, with a `\` before each `"` and each `\`. A
+/// reference is ASCII text without control characters, and JSON escapes nothing else.
 #[derive(Drop)]
 struct Escaping<'o, O> {
     out: &'o mut O,

@@ -1,7 +1,7 @@
 //! The commands of the program `uri`, by their words: each reads texts as URIs or their parts, and
 //! prints what they hold.
 //!
-//! They are a library, so that the tests of the program need no second proof of them.
+//! They are a library, so the tests of the program need no second proof of them.
 #![tactic(auto)]
 
 ghost use Rattle.std.specs.Prelude.{◌≡◌, ◌≤◌, IfOk};
@@ -44,7 +44,7 @@ use std::io;
 use std::io::{Read, Write};
 use tail::tail;
 
-/// Runs the command of these words, which follow the program's name, with an empty input, as
+/// Runs the command in `words`, which follow the program's name, with an empty input, as
 /// [`run_with_input`] does.
 pub fn run<O: Write, E: Write>(alloc: Global, words: &[&str], out: &mut O, err: &mut E) -> u8
     ensures { result ≤ 3 }
@@ -52,12 +52,12 @@ pub fn run<O: Write, E: Write>(alloc: Global, words: &[&str], out: &mut O, err: 
     run_with_input(alloc, words, &mut io::empty(), out, err)
 }
 
-/// Runs the command of these words, which follow the program's name, and returns the exit status:
+/// Runs the command in `words`, which follow the program's name, and returns the exit status:
 ///
 /// - 0 on success;
 /// - 1 if a text is rejected, memory runs out, or a read or a write fails: `err` gets a line that says
 ///   why, or one for each rejected line of the input;
-/// - 2 if no command has these words: `err` gets a line on the usage;
+/// - 2 on a usage error: `err` gets a line on the usage;
 /// - 3 if `get` finds no such part, or `--quiet equal` two references that differ. Nothing is written.
 ///
 /// With `--quiet` nothing is written about rejected texts. Only `--lines` reads the input. Without it

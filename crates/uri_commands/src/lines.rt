@@ -112,7 +112,7 @@ fn run_task<O: Write>(
     }
 }
 
-/// What a line came to, the worst last.
+/// The outcome of a line, the worst last.
 #[derive(Clone, Copy, PartialEq, Eq, PartialOrd, Ord)]
 enum Outcome {
     Done,
@@ -165,8 +165,8 @@ fn report<E: Write>(number: u64, failure: &Failure, line: &[u8], err: &mut E) ->
     err.write_all(b"\n")
 }
 
-/// Does the task for a line, and reports a rejection unless the task is quiet. A failure of memory
-/// or of a write is returned.
+/// Does the task for a line, and reports a rejection unless the task is quiet. Fails if memory runs
+/// out or a write fails.
 fn do_line<O: Write, E: Write>(
     alloc: Global,
     task: &Task<'_>,

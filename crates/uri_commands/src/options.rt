@@ -1,6 +1,6 @@
 //! The options that precede a command.
 
-/// What the options before a command ask for.
+/// The options before a command.
 #[derive(Clone, Copy)]
 pub struct Options {
     /// `--lines`: the texts are the lines of the standard input.
@@ -13,7 +13,7 @@ pub struct Options {
 
 /// Splits the words into the options and the words of the command.
 ///
-/// Options come in any order, and first: a word that follows the command is a text.
+/// Options precede the command, in any order. A word that follows the command is not an option.
 pub fn split_options<'w, 't>(words: &'w [&'t str]) -> (Options, &'w [&'t str]) {
     let mut options = Options {
         reads_lines: false,

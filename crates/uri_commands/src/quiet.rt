@@ -4,8 +4,8 @@ use crate::failure::Failure;
 use std::alloc::Global;
 use uriparse::URIReference;
 
-/// Runs a command that prints nothing. The status reports `Failure::Different` if two references
-/// differ, and any other failure if a text is rejected.
+/// Runs a command that prints nothing. Fails with `Failure::Different` if two references differ,
+/// and with another failure if a text is rejected.
 pub fn quiet(alloc: Global, words: &[&str]) -> Result<(), Failure> {
     match words {
         ["parse", text] => check(text.as_bytes()),

@@ -17,7 +17,7 @@ use uriparse_reference::uri_reference::URIReferenceBuilder;
 use uriparse_text::fragment::Fragment;
 use uriparse_text::query::Query;
 
-/// The components of a URI or a relative reference that were given so far. Users name it
+/// Builds a URI or a relative reference component by component. Users name it
 /// [`URIBuilder`](crate::uri::URIBuilder) or
 /// [`RelativeReferenceBuilder`](crate::relative_reference::RelativeReferenceBuilder).
 ///
@@ -43,7 +43,7 @@ impl<'b, K: ReferenceKind> Model for BuilderOf<'b, K> {
 impl<'b, K: ReferenceKind> BuilderOf<'b, K> {
     ghost use Rattle.uriparse_reference.specs.Builder.{authority_read, fragment_read, nothing, path_read, query_read};
 
-    /// The builder of this kind around one that is known to fit.
+    /// Wraps a builder that is known to fit this kind.
     pub(crate) fn of_checked(builder: URIReferenceBuilder<'b>) -> BuilderOf<'b, K>
         requires { HoldsKind K.has_scheme builder }
         ensures { result ≡ builder.entry }
@@ -125,8 +125,10 @@ impl<'b, K: ReferenceKind> BuilderOf<'b, K> {
         told::<K, _>(self.builder.try_authority(authority))
     }
 
-    /// Reads and sets the path. A faulty text is rejected with the kind's error `Path`, whatever
-    /// memory there is. Allocates the list of segments. After an error the builder is unchanged.
+    /// Reads and sets the path. A faulty text is rejected with the kind's error `Path`, even if
+    /// memory has run out. Allocates only the list of segments; if memory runs out, the error is
+    /// the kind's `Path` of [`OutOfMemory`](uriparse_path::path::PathError::OutOfMemory). After an
+    /// error the builder is unchanged.
     pub fn try_path(&mut self, alloc: Global, path: &'b [u8]) -> Result<(), K::Error>
         ensures settles { SettlesUnless (K.told (errors.Path OutOfMemory)) self.old self.new result (told_of K.told (path_read self.old path.now)) }
         ensures always { IsErr (paths.reading path.now) → Settles self.old self.new result (told_of K.told (path_read self.old path.now)) }

@@ -8,13 +8,13 @@ ghost use Rattle.uriparse.specs.Kinds.{IsOfKind, told_of};
 ghost use Rattle.uriparse.specs.RelativeReference as relative;
 ghost use Rattle.uriparse.specs.Uri as uri;
 
-/// The components of a URI make it again, passed to `from_parts` or held by a builder.
+/// The components of a URI build it again, passed to `from_parts` or held by a builder.
 pub fn one_uri()
     ensures parts { (p : Parts) → Valid p → IsOfKind true p → told_of uri.told (of_parts p) ≡ Ok p }
     ensures built { (p : Parts) → Valid p → IsOfKind true p → uri.uri_built (held p) ≡ Ok p }
 {}
 
-/// The components of a relative reference make it again, passed to `from_parts` or held by a
+/// The components of a relative reference build it again, passed to `from_parts` or held by a
 /// builder.
 pub fn one_relative_reference()
     ensures parts { (p : Parts) → Valid p → IsOfKind false p → told_of relative.told (of_parts p) ≡ Ok p }

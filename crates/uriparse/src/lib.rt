@@ -4,9 +4,9 @@
 //! `RegisteredScheme`, `MicrosoftScheme`, `UnregisteredSchemeError`, `parse_port` and
 //! `MAX_SEGMENTS` are only in their modules.
 //!
-//! Some types are names for a more general one, which has their calls: [`Query`], [`Fragment`],
-//! [`Username`] and [`Password`] are each a [`Text`], [`URI`] and [`RelativeReference`] are each a
-//! [`ReferenceOf`], and their builders a [`BuilderOf`].
+//! Some types are aliases of a more general one, whose docs list their calls: [`Query`],
+//! [`Fragment`], [`Username`] and [`Password`] are each a [`Text`], [`URI`] and
+//! [`RelativeReference`] are each a [`ReferenceOf`], and their builders a [`BuilderOf`].
 #![tactic(auto)]
 
 mod builder_of;

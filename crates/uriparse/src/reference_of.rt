@@ -53,7 +53,7 @@ impl<'r, K: ReferenceKind> ReferenceOf<'r, K> {
     ghost use Rattle.uriparse_reference.specs.Reference.{Parts, Spells, Valid};
     ghost use Rattle.uriparse_reference.specs.declared.uri_reference.error.URIReferenceError.{URIReferenceError};
 
-    /// The reference of this kind around one that is known to be of it.
+    /// Wraps a reference that is known to be of this kind.
     pub(crate) fn of_checked(reference: URIReference<'r>) -> ReferenceOf<'r, K>
         requires { IsOfKind K.has_scheme reference }
         ensures { result ≡ reference.entry }
@@ -64,8 +64,7 @@ impl<'r, K: ReferenceKind> ReferenceOf<'r, K> {
         }
     }
 
-    /// The same result for a reference that is known to be of this kind, its error mapped to the
-    /// kind's.
+    /// Wraps a reference that is known to be of this kind, or maps the error to the kind's.
     pub(crate) fn told_checked(
         answer: Result<URIReference<'r>, URIReferenceError>,
     ) -> Result<ReferenceOf<'r, K>, K::Error>
@@ -81,30 +80,32 @@ impl<'r, K: ReferenceKind> ReferenceOf<'r, K> {
     /// Reads a reference of this kind, whose components borrow the bytes. Allocates only the list
     /// of segments.
     ///
-    /// The text's first fault is that of [`URIReference::try_from_bytes`], mapped to the kind's
-    /// error, and is returned whatever memory there is; for a URI the colon rule's is
+    /// A faulty text fails as in [`URIReference::try_from_bytes`], with the error mapped to the
+    /// kind's, even if memory has run out. For a URI, the error of the colon rule is mapped to
     /// [`NotURI`](crate::uri::URIError::NotURI). A faultless text of the other kind is rejected
     /// with [`NotURI`](crate::uri::URIError::NotURI) or
     /// [`NotRelativeReference`](crate::relative_reference::RelativeReferenceError::NotRelativeReference).
-    /// If memory runs out, that is the error, possibly also for a faultless text of the other kind.
+    /// If memory runs out, the error is the kind's `Path` of
+    /// [`OutOfMemory`](uriparse_path::path::PathError::OutOfMemory), possibly also for a faultless
+    /// text of the other kind.
     pub fn try_from_bytes(alloc: Global, bytes: &'r [u8]) -> Result<ReferenceOf<'r, K>, K::Error>
-        // What is read is what the grammar spells, and is of the kind.
+        // The text spells the result, which is of the kind.
         ensures found { IfOk result (λ u. Spells bytes.now u) }
         ensures kind { IfOk result (λ u. IsOfKind K.has_scheme u) }
 
-        // What the grammar spells is read if it is of the kind, unless memory runs out.
+        // A text that spells a reference of the kind is accepted, unless memory runs out.
         ensures only { (p : Parts) → Spells bytes.now p → IsOfKind K.has_scheme p → IsUnless (K.told (errors.Path OutOfMemory)) result (Ok p) }
 
         // An error is the text's fault, or that it is of the other kind, or out of memory.
         ensures fault { IfErr result (λ e. (fault_of K.has_scheme K.told K.other bytes.now ≡ Some e) ⊎ (e ≡ K.told (errors.Path OutOfMemory))) }
 
-        // A fault is returned whatever memory there is.
+        // A fault is returned even if memory has run out.
         ensures always { (e : URIReferenceError) → fault bytes.now ≡ Some e → result ≡ Err (K.told e) }
     {
         Self::read(alloc, bytes)
     }
 
-    /// The same for a `str`.
+    /// Like [`try_from_bytes`](ReferenceOf::try_from_bytes), for a `str`.
     pub fn try_from_str(alloc: Global, text: &'r str) -> Result<ReferenceOf<'r, K>, K::Error>
         ensures found { IfOk result (λ u. Spells text.now u) }
         ensures kind { IfOk result (λ u. IsOfKind K.has_scheme u) }
@@ -116,8 +117,8 @@ impl<'r, K: ReferenceKind> ReferenceOf<'r, K> {
     }
 
     /// Checks whether [`try_from_bytes`](ReferenceOf::try_from_bytes) accepts a text: returns the
-    /// text's fault, mapped to the kind's error, or that it is of the other kind. Does not
-    /// allocate, so it never runs out of memory.
+    /// text's fault, mapped to the kind's error, or the error for a text of the other kind. Does
+    /// not allocate, so it never runs out of memory.
     pub fn check(bytes: &[u8]) -> Result<(), K::Error>
         ensures { result ≡ unless_fault (fault_of K.has_scheme K.told K.other bytes.now) tt }
     {
@@ -138,7 +139,7 @@ impl<'r, K: ReferenceKind> ReferenceOf<'r, K> {
         }
     }
 
-    /// Reads by the reader of references.
+    /// Reads a reference, and checks its kind.
     fn read(alloc: Global, bytes: &'r [u8]) -> Result<ReferenceOf<'r, K>, K::Error>
         ensures answer { IsUnless (K.told (errors.Path OutOfMemory)) result (reading_of K.has_scheme K.told K.other bytes.now) }
         ensures always { (e : URIReferenceError) → fault bytes.now ≡ Some e → result ≡ Err (K.told e) }
@@ -167,7 +168,7 @@ impl<'r, K: ReferenceKind> ReferenceOf<'r, K> {
         }
     }
 
-    /// The reference that it is. Does not allocate.
+    /// This value as a [`URIReference`]. Does not allocate.
     pub fn as_uri_reference(&self) -> &URIReference<'r>
         ensures value { result.now ≡ self.now }
         ensures kind { IsOfKind K.has_scheme self.now }

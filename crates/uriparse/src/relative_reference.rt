@@ -67,8 +67,8 @@ impl ReferenceKind for WithoutScheme {
 /// ```
 pub type RelativeReference<'r> = ReferenceOf<'r, WithoutScheme>;
 
-/// The components of a relative reference that were given so far. Only the path is required. The
-/// calls that it shares with the builder of URIs are those of [`BuilderOf`].
+/// Builds a relative reference component by component. Only the path is required. The calls that it
+/// shares with the builder of URIs are those of [`BuilderOf`].
 ///
 /// ```
 /// let mut builder = RelativeReference::builder();
@@ -81,7 +81,7 @@ impl<'r> RelativeReference<'r> {
     ghost use Rattle.uriparse_reference.specs.Reference.{Valid};
 
     /// The relative reference of these components: RFC 3986, sections 3.3 and 4.2. With an
-    /// authority the path is made absolute, else it is the one that its text spells. Does not
+    /// authority the path is made absolute, else it becomes the one that its text spells. Does not
     /// allocate.
     ///
     /// Without an authority, fails with
@@ -135,7 +135,8 @@ impl<'r> RelativeReference<'r> {
         self.reference.is_absolute_path_reference()
     }
 
-    /// Whether it has no authority and a relative path, as the empty one is. RFC 3986, section 4.2.
+    /// Whether it has no authority and a relative path, such as the empty one. RFC 3986, section
+    /// 4.2.
     pub fn is_relative_path_reference(&self) -> bool
         ensures { result ≡ kinds.is_relative_path_reference self.now }
     {

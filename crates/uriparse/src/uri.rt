@@ -70,8 +70,8 @@ impl ReferenceKind for WithScheme {
 /// ```
 pub type URI<'u> = ReferenceOf<'u, WithScheme>;
 
-/// The components of a URI that were given so far. A path and a scheme are required. The calls that
-/// it shares with the builder of relative references are those of [`BuilderOf`].
+/// Builds a URI component by component. A path and a scheme are required. The calls that it shares
+/// with the builder of relative references are those of [`BuilderOf`].
 ///
 /// ```
 /// let mut builder = URI::builder();
@@ -86,7 +86,7 @@ impl<'u> URI<'u> {
     ghost use Rattle.uriparse_reference.specs.Reference.{Valid};
 
     /// The URI of these components: RFC 3986, sections 3 and 3.3. With an authority the path is
-    /// made absolute, else it is the one that its text spells. Does not allocate.
+    /// made absolute, else it becomes the one that its text spells. Does not allocate.
     ///
     /// Fails with [`AbsolutePathStartsWithTwoSlashes`](URIError::AbsolutePathStartsWithTwoSlashes)
     /// if there is no authority and the path's text begins with two slashes.
@@ -156,7 +156,8 @@ impl<'u> URI<'u> {
         told::<WithScheme, _>(self.reference.set_scheme(Some(scheme)))
     }
 
-    /// Sets the scheme to what the closure returns for it. Always succeeds.
+    /// Sets the scheme to what the closure returns for it. Always succeeds. Does not allocate,
+    /// unless the closure does.
     pub fn map_scheme<F>(self, make: F) -> Result<URI<'u>, URIError>
     where
         F: FnOnce(Scheme<'u>) -> Scheme<'u>,

@@ -44,10 +44,11 @@ use username::empty_username;
 /// and an optional port. RFC 3986, section 3.2.
 ///
 /// A password comes only with a user name, which may be empty; a port is at most 65535, and an
-/// empty one counts as none. The components borrow the text that they were read from, or own their
-/// texts. Its readers do not allocate; [`AuthorityError`] says what they reject. Its setters and
-/// maps always succeed; if memory runs out in [`normalize`](Authority::normalize), it is unchanged.
-/// Two authorities are equal if their hosts are of one kind and their canonical spellings agree.
+/// empty one counts as absent. The components borrow the text that they were read from, or own
+/// their texts. Its readers do not allocate; [`AuthorityError`] says what they reject. Its setters
+/// and maps always succeed; if memory runs out in [`normalize`](Authority::normalize), it is
+/// unchanged. Two authorities are equal if their hosts are of one kind and their canonical
+/// spellings agree.
 ///
 /// ```
 /// let authority = Authority::try_from_str("user:@EXAMPLE.com:0080")?;
@@ -92,15 +93,15 @@ impl<'a> Authority<'a> {
         read_whole(bytes)
     }
 
-    /// The same for a `str`.
+    /// Like [`try_from_bytes`](Authority::try_from_bytes), for a `str`.
     pub fn try_from_str(text: &'a str) -> Result<Authority<'a>, AuthorityError>
         ensures { result ≡ spec.whole_reading text.now }
     {
         Authority::try_from_bytes(text.as_bytes())
     }
 
-    /// The authority of these components. Always succeeds: a password without a user name brings an
-    /// empty one. Does not allocate.
+    /// The authority with these components. Always succeeds: a password without a user name gets an
+    /// empty user name. Does not allocate.
     pub fn from_parts(
         username: Option<Username<'a>>,
         password: Option<Password<'a>>,
@@ -212,7 +213,7 @@ impl<'a> Authority<'a> {
     }
 
     /// An upper bound on the number of bytes of the authority's text: those of its components, two
-    /// colons, an `@` and the five digits of a port; or the largest number.
+    /// colons, an `@` and the five digits of a port; or `usize::MAX`.
     pub(crate) fn most_bytes(&self) -> usize
         ensures { length (spec.print self.now) ≤ result ⊎ result ≡ usize.MAX }
     {

@@ -7,7 +7,7 @@ pub use crate::authority::found::FoundAuthority;
 pub use crate::authority::normal::{CanonicalCopies, canonical_copies, put_copies};
 pub use crate::authority::read::{find_authority, split_port, split_userinfo};
 
-/// An upper bound on the number of bytes of the authority's text, or the largest number.
+/// An upper bound on the number of bytes of the authority's text, or `usize::MAX`.
 pub fn most_authority_bytes(authority: &Authority<'_>) -> usize
     ensures { length (print authority.now) ≤ result ⊎ result ≡ usize.MAX }
 {

@@ -152,7 +152,7 @@ pub fn uri_code(error: URIError) -> u32
     }
 }
 
-/// The code of a base's error. Lack of memory is no fault of the base.
+/// The code of a base's error. Out of memory is not an error of the base.
 pub fn base_code(error: URIError) -> u32
     ensures { result ≡ spec.base_code (spec.uri_code error) }
 {

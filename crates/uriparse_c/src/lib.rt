@@ -35,7 +35,7 @@ use uriparse_reference::internal::find_pieces;
 /// Reads a reference, and says where its components are. Does not allocate.
 #[unsafe(no_mangle)]
 pub extern "C" fn uriparse_parse(text: &[u8], out: &mut UriParts) -> u32
-    // Of a text that the grammar spells, each span is the component's.
+    // If the text spells a reference, each span is that of the component.
     ensures parsed { (p : Parts) (s : Spells text.now p) → (result ≡ spec.accepted) × ArePlaces s.scheme_text s.authority_text s.path_text p.query p.fragment out.new × (out.new.host_kind ≡ host_number p.authority) × (out.new.port_number ≡ port_number p.authority) }
 
     // Any other text is rejected with its fault, and nothing is written.
@@ -61,10 +61,10 @@ pub extern "C" fn uriparse_is_uri(text: &[u8]) -> bool
     }
 }
 
-/// Whether two texts are equal references, as the library compares them.
+/// Writes whether two texts are equal references, as the library compares them.
 #[unsafe(no_mangle)]
 pub extern "C" fn uriparse_equal(alloc: Global, left: &[u8], right: &[u8], equal: &mut u8) -> u32
-    // Of two references the library's test is written, or memory runs out.
+    // For two references the result of the comparison is written, or memory runs out.
     ensures compared { (p q : Parts) → Spells left.now p → Spells right.now q → ((result ≡ spec.accepted) × (equal.new ≡ spec.truth (bytes_eq (key p) (key q)))) ⊎ ((result ≡ spec.out_of_memory) × (equal.new ≡ equal.old)) }
 
     // A faulty text is rejected, the left one first, and nothing is written.
@@ -83,7 +83,7 @@ pub extern "C" fn uriparse_equal(alloc: Global, left: &[u8], right: &[u8], equal
 /// Hashes a reference. Equal references have equal hashes.
 #[unsafe(no_mangle)]
 pub extern "C" fn uriparse_hash(alloc: Global, text: &[u8], hash: &mut u64) -> u32
-    // The hash is a number of the key that references are compared by, or memory runs out.
+    // The hash is that of the key by which references are compared, or memory runs out.
     ensures hashed { (p : Parts) → Spells text.now p → ((result ≡ spec.accepted) × (hash.new ≡ hash_of (key p))) ⊎ ((result ≡ spec.out_of_memory) × (hash.new ≡ hash.old)) }
 
     // A faulty text is rejected, and nothing is written.

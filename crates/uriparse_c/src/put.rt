@@ -16,7 +16,7 @@ pub fn put(text: &[u8], out: &mut [u8], needed: &mut usize) -> u32
     ACCEPTED
 }
 
-/// Returns an error's code: there is nothing to put.
+/// Returns an error's code, and sets `needed` to 0.
 pub fn refuse(code: u32, needed: &mut usize) -> u32
     ensures code { result ≡ code }
     ensures needed { needed.new ≡ 0 }

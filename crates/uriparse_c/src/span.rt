@@ -12,7 +12,7 @@ ghost use Rattle.uriparse_c.specs.Spans.{span};
 pub struct UriSpan {
     pub begin: usize,
     pub end: usize,
-    /// 1, or 0 if there is none.
+    /// 1 if the component is present, else 0.
     pub present: u8,
 }
 
@@ -22,7 +22,7 @@ const ABSENT: UriSpan = UriSpan {
     present: 0,
 };
 
-/// The span of a component that begins there, if there is one.
+/// The span of a component that begins at `begin`, if it is present.
 pub fn place(begin: usize, component: Option<&[u8]>) -> UriSpan
     requires { begin + length (unwrap_or (option_copied component) []) < 2 ^ 64 }
     ensures { result ≡ span begin (option_copied component.entry) }
@@ -37,7 +37,7 @@ pub fn place(begin: usize, component: Option<&[u8]>) -> UriSpan
     }
 }
 
-/// The span of a component whose delimiter, of one byte, begins there, if there is one.
+/// The span of a component whose delimiter, of one byte, is at `at`, if it is present.
 pub fn place_behind(at: usize, component: Option<&[u8]>) -> UriSpan
     requires { at + length (behind colon (option_copied component)) < 2 ^ 64 }
     ensures { result ≡ span (at + 1) (option_copied component.entry) }

@@ -54,8 +54,7 @@ pub fn into_absolute(path: Path<'_>) -> Path<'_>
 
 /// Returns the relative path that leads from the base's path to the target's, if there is one: a
 /// `..` for each directory of the base that the target is not in, then the target's segments after
-/// the shared directories. It starts with `.` if its first segment would otherwise be read as a
-/// slash, as no path or as a scheme.
+/// the shared directories. A leading `.` precedes a first segment that is empty or has a colon.
 ///
 /// There is one if both paths are absolute, or if neither is and the target is in the base's first
 /// directory or the base is in none. Neither may have a dot segment, except as the base's last one,
@@ -99,8 +98,8 @@ pub fn most_path_bytes(path: &Path<'_>) -> usize
     path.most_bytes()
 }
 
-/// Makes it the path that its text spells. Changes only a relative path whose first segment is
-/// empty and has others after it. Does not allocate.
+/// Replaces the path by the one that its text spells. Changes only a relative path whose first
+/// segment is empty and has others after it. Does not allocate.
 pub fn respell(path: &mut Path<'_>)
     ensures { path.new ≡ spelled (text path.old) }
 {
@@ -126,7 +125,7 @@ pub fn lacks_colon_segment(path: &Path<'_>) -> bool
 /// reference's. All borrow their texts. The result is absolute if the base's path is.
 ///
 /// Returns [`ExceededMaximumLength`](PathError::ExceededMaximumLength) if there would be more than
-/// [`MAX_SEGMENTS`](crate::path::MAX_SEGMENTS) segments, whatever memory there is. Otherwise
+/// [`MAX_SEGMENTS`](crate::path::MAX_SEGMENTS) segments, even if memory has run out. Otherwise
 /// allocates the list once, and returns [`OutOfMemory`](PathError::OutOfMemory) if that fails.
 pub fn merged_path<'p>(
     alloc: Global,

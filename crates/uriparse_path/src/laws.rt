@@ -52,9 +52,9 @@ pub fn reading_back()
     ensures listed { (p : PathParts) → IsListed p.segments → IsListed (respelled p).segments }
 {}
 
-/// The steps that remove dot segments leave no choice, and lead from each text to exactly one text.
-/// From a path's text they lead to the text of its replayed segments. A text without dot segments
-/// is unchanged.
+/// The steps that remove dot segments are deterministic, and lead from each text to exactly one
+/// text. From a path's text they lead to the text of its replayed segments. A text without dot
+/// segments is unchanged.
 pub fn one_text_without_dots()
     ensures step { (i o j p k q : List ℕ) → Step i o j p → Step i o k q → (j ≡ k) × (p ≡ q) }
     ensures text { (t u : List ℕ) → Undots t u ↔ (u ≡ undot t) }
@@ -63,8 +63,8 @@ pub fn one_text_without_dots()
     ensures root { (out ss : List (List ℕ)) → rooted_after true out ss ≡ true }
 {}
 
-/// Canonical spelling may come before or after the removal of dot segments, with the same result.
-/// Nor does it change a normal form.
+/// Canonical spelling and the removal of dot segments yield the same text in either order. A path
+/// and the path in canonical spelling have the same normal form.
 pub fn spelling_before_or_after()
     ensures dots { (t : List ℕ) → IsPath t → undot (canonical t) ≡ canonical (undot t) }
     ensures normal { (p : PathParts) (r : Bool) → IsListed p.segments → pnormal (canonical_path p) r ≡ pnormal p r }

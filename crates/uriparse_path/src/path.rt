@@ -152,7 +152,7 @@ impl<'p> Path<'p> {
         Ok(counted_path(alloc, count, escaped, bytes)?)
     }
 
-    /// The same for a `str`.
+    /// Like [`try_from_bytes`](Path::try_from_bytes), for a `str`.
     pub fn try_from_str(alloc: Global, text: &'p str) -> Result<Path<'p>, PathError>
         ensures answer { IsUnless PathError.OutOfMemory result (reading text.now) }
         ensures always { IsErr (reading text.now) → result ≡ reading text.now }
@@ -226,7 +226,7 @@ impl<'p> Path<'p> {
         self.is_rooted() || !has_first_colon(self.segments())
     }
 
-    /// Makes it the path that its text spells. Does not allocate.
+    /// Replaces the path by the one that its text spells. Does not allocate.
     pub(crate) fn respell(&mut self)
         ensures { self.new ≡ spelled (text self.old) }
     {
@@ -282,7 +282,7 @@ impl<'p> Path<'p> {
         }
     }
 
-    /// The same for a `str`.
+    /// Like [`eq_bytes`](Path::eq_bytes), for a `str`.
     pub fn eq_str(&self, other: &str) -> bool
         ensures { IsTrue result ↔ SpellsAlike case.Kept other.now (text self.now) }
     {
@@ -320,8 +320,8 @@ impl<'p> Hash for Path<'p> {
     }
 }
 
-/// What follows the piece before the text's first slash, if that piece spells the segment. If the
-/// text begins with the segment's own bytes, no slash is searched for.
+/// If the text before the first slash spells the segment, returns the rest of the text. If the text
+/// begins with the segment's own bytes, no slash is searched for.
 #[inline(always)]
 fn strip_piece<'t>(text: &'t [u8], segment: &[u8]) -> Option<&'t [u8]>
     requires { is_segment segment.now ≡ true }

@@ -47,9 +47,9 @@ use read::find_pieces;
 /// The components borrow the text that was read, or own their texts. Reading allocates only for the
 /// list of the path's segments; a copy that owns its texts and a normal form allocate for texts
 /// too. Each value is valid, and its printed text reads back as an equal value, unless its host is
-/// a name that spells an IPv4 address, which no host that was read is. Two references are equal if
-/// the canonical spellings of their texts agree and their hosts, if any, are of one kind. Dot
-/// segments count.
+/// a name that spells an IPv4 address, which reading never returns. Two references are equal if the
+/// canonical spellings of their texts agree and their hosts, if any, are of one kind. Dot segments
+/// count.
 ///
 /// ```
 /// let reference = URIReference::try_from_str(alloc, "//h/%7Ea?q#f")?;
@@ -84,8 +84,8 @@ impl<'r> URIReference<'r> {
     /// list of segments.
     ///
     /// Returns the first fault, in the order authority, path, colon rule, query, fragment. By the
-    /// colon rule (section 4.2), without a scheme and an authority no colon precedes the path's
-    /// first slash; else the error is
+    /// colon rule (section 4.2), a reference with neither a scheme nor an authority has no colon
+    /// before the path's first slash; else the error is
     /// [`SchemelessPathStartsWithColonSegment`](URIReferenceError::SchemelessPathStartsWithColonSegment).
     /// Each other fault is in the variant of its component. If there is no fault but memory runs
     /// out, the error is [`Path`](URIReferenceError::Path) with
@@ -94,10 +94,10 @@ impl<'r> URIReference<'r> {
         alloc: Global,
         bytes: &'r [u8],
     ) -> Result<URIReference<'r>, URIReferenceError>
-        // What is read is spelled by the text.
+        // The text spells the result.
         ensures found { IfOk result (λ r. Spells bytes.now r) }
 
-        // What the text spells is read, unless memory runs out.
+        // A text that spells a reference is accepted, unless memory runs out.
         ensures only { (p : Parts) → Spells bytes.now p → IsUnless (errors.Path OutOfMemory) result (Ok p) }
 
         // An error is the text's fault, or memory ran out.

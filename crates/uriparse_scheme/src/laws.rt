@@ -39,7 +39,8 @@ pub fn one_fault()
     ensures later { (t : List ℕ) → (fault t ≡ Some InvalidCharacter) ↔ HasStrayByte t }
 {}
 
-/// An unregistered scheme is read from a scheme whose text, in any case, is no name in the table.
+/// A text is read as an unregistered scheme exactly if it is a scheme and, in any case, not a name
+/// in the table.
 pub fn one_unregistered_reading()
     ensures { (t : List ℕ) → (unregistered.reading t ≡ Ok t) ↔ IsUnregistered t }
 {}

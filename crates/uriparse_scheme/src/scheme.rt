@@ -37,11 +37,11 @@ pub use unregistered::UnregisteredScheme;
 
 /// The scheme of a URI or reference, without its `:`: RFC 3986, section 3.1.
 ///
-/// Its text is a letter, followed by letters, digits, `+`, `-` and `.`. A registered scheme is read
-/// in any case, needs no memory and prints in lower case; each has a constant. Any other scheme
-/// keeps its spelling, and borrows it from the text that was read, or owns it. Reading does not
-/// allocate; [`SchemeError`] lists what it rejects. Two schemes are equal if their texts differ
-/// only in the case of letters, and equal schemes have equal hashes: section 6.2.2.1.
+/// Its text is a letter, followed by letters, digits, `+`, `-` and `.`. A registered scheme is
+/// recognized in any case, is held by value and prints in lower case; each has a constant. Any
+/// other scheme keeps its spelling, and borrows it from the text that was read, or owns it. Reading
+/// does not allocate; [`SchemeError`] lists what it rejects. Two schemes are equal if their texts
+/// differ only in the case of letters, and equal schemes have equal hashes: section 6.2.2.1.
 ///
 /// ```
 /// let scheme = Scheme::try_from_str("HTTP")?;

@@ -12,7 +12,7 @@ use std::fmt;
 
 /// An IPv4 or an IPv6 address.
 ///
-/// Equal addresses are of one kind: `1.2.3.4` is not `::ffff:1.2.3.4`.
+/// Addresses of different kinds are never equal: `1.2.3.4` is not `::ffff:1.2.3.4`.
 ///
 /// ```
 /// let loopback = IpAddr::V4(Ipv4Addr::new(127, 0, 0, 1));

@@ -12,7 +12,7 @@ pub enum FragmentError {
     /// A byte that is not allowed in a fragment.
     #[error("invalid fragment character")]
     InvalidCharacter,
-    /// A `%` that two hexadecimal digits don't follow.
+    /// A `%` without two hexadecimal digits after it.
     #[error("invalid fragment percent encoding")]
     InvalidPercentEncoding,
 }
@@ -53,8 +53,8 @@ impl TextKind for FragmentKind {
 /// empty. RFC 3986, section 3.5.
 ///
 /// It borrows the text that it was read from, or owns its text. Its readers do not allocate. They
-/// reject the leftmost fault: [`InvalidPercentEncoding`](FragmentError::InvalidPercentEncoding) for
-/// a `%` that two hexadecimal digits don't follow, else
+/// report the leftmost fault: [`InvalidPercentEncoding`](FragmentError::InvalidPercentEncoding) for
+/// a `%` without two hexadecimal digits after it, else
 /// [`InvalidCharacter`](FragmentError::InvalidCharacter). Two fragments are equal if their
 /// canonical spellings are. The calls are those of [`Text`].
 ///

@@ -37,8 +37,8 @@ pub fn one_canonical_spelling()
     ensures class { (class : Class) (case : Case) (text : List ℕ) → IsIn class text → IsIn class (canonical_in case text) }
 {}
 
-/// What a hasher is fed of bytes: blocks of sixty-four as long as there are that many, and then the
-/// remaining bytes.
+/// What a hasher is fed for a list of bytes: blocks of 64, and then the remaining bytes, which may
+/// be none.
 pub fn one_list_of_writes()
     ensures { (blocks : List (List ℕ)) (last : List ℕ) → list_all (λ b. length b == 64) blocks ≡ true → length last < 64 → fed_bytes (flat_map (λ b. b) blocks ++ last) ≡ blocks ++ last ∷ [] }
 {}
@@ -75,14 +75,15 @@ pub fn printed_spells()
     ensures form { (a : List ℕ) → IsPrintedIpv6 a (ipv6_text a) }
 {}
 
-/// Addresses that are printed alike are equal, and of one kind.
+/// Addresses with the same printed text are equal, and of one kind.
 pub fn one_printed_text()
     ensures ipv4 { (a b : List ℕ) → IsOctets a → IsOctets b → ipv4_text a ≡ ipv4_text b → a ≡ b }
     ensures ipv6 { (a b : List ℕ) → IsSegments a → IsSegments b → ipv6_text a ≡ ipv6_text b → a ≡ b }
     ensures kinds { (a b : List ℕ) → IsOctets a → IsSegments b → ¬ (ipv4_text a ≡ ipv6_text b) }
 {}
 
-/// The printed text of an address is its own canonical spelling, and so it is between brackets.
+/// The printed text of an address is its own canonical spelling. So is that of an IPv6 address in
+/// brackets.
 pub fn printed_is_canonical()
     ensures ipv4 { (case : Case) (a : List ℕ) → IsOctets a → canonical_in case (ipv4_text a) ≡ ipv4_text a }
     ensures ipv6 { (case : Case) (a : List ℕ) → IsSegments a → canonical_in case (ipv6_text a) ≡ ipv6_text a }

@@ -12,7 +12,7 @@ pub enum QueryError {
     /// A byte that is not allowed in a query.
     #[error("invalid query character")]
     InvalidCharacter,
-    /// A `%` that two hexadecimal digits don't follow.
+    /// A `%` without two hexadecimal digits after it.
     #[error("invalid query percent encoding")]
     InvalidPercentEncoding,
 }
@@ -53,8 +53,8 @@ impl TextKind for QueryKind {
 /// empty. RFC 3986, section 3.4.
 ///
 /// It borrows the text that it was read from, or owns its text. Its readers do not allocate. They
-/// reject the leftmost fault: [`InvalidPercentEncoding`](QueryError::InvalidPercentEncoding) for a
-/// `%` that two hexadecimal digits don't follow, else
+/// report the leftmost fault: [`InvalidPercentEncoding`](QueryError::InvalidPercentEncoding) for a
+/// `%` without two hexadecimal digits after it, else
 /// [`InvalidCharacter`](QueryError::InvalidCharacter). Two queries are equal if their canonical
 /// spellings are. The calls are those of [`Text`].
 ///

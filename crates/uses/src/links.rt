@@ -10,8 +10,8 @@ use uriparse::{PathError, URI, URIError, URIReference};
 /// 5.2.2. The targets borrow the texts of the base and the links.
 ///
 /// Fails with the index of the first link that has no target, since its path and the base's
-/// together have too many segments. Each target allocates its path; if memory runs out, the error
-/// is that of the link in hand.
+/// together have too many segments. Each target allocates its path; if memory runs out, the index
+/// is that of the current link.
 ///
 /// ```
 /// let base = URI::try_from_str(alloc, "http://a/b/c")?;

@@ -26,8 +26,9 @@ impl<T: Drop> From<AllocFailed<T>> for RegistryError {
     }
 }
 
-/// Identifiers in the order in which they were registered. No two of them are equal: neither
-/// percent-encoding nor the case of letters, where it doesn't count, tells them apart.
+/// Identifiers in the order in which they were registered. No two of them are equal; identifiers
+/// are equal if they differ only by percent-encoding, or by the case of letters where it doesn't
+/// count.
 ///
 /// ```
 /// let mut registry = Registry::new(alloc);
@@ -81,8 +82,8 @@ impl<'r> Registry<'r> {
 
     /// Registers the identifier after the others.
     ///
-    /// Fails with [`Taken`](RegistryError::Taken) if an equal one is registered, whatever memory
-    /// there is, or with [`Memory`](RegistryError::Memory) if memory runs out. After an error the
+    /// Fails with [`Taken`](RegistryError::Taken) if an equal one is registered, even if memory has
+    /// run out, or with [`Memory`](RegistryError::Memory) if memory runs out. After an error the
     /// registry is unchanged, and the identifier is dropped.
     pub fn insert(&mut self, identifier: URI<'r>) -> Result<(), RegistryError>
         ensures added { OnOk result (self.new ≡ self.old ++ identifier.entry ∷ []) }

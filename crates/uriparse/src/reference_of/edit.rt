@@ -13,19 +13,20 @@ use uriparse_text::fragment::Fragment;
 use uriparse_text::query::Query;
 
 impl<'r, K: ReferenceKind> ReferenceOf<'r, K> {
-    /// Sets or removes the authority. With one, the path is made absolute. Without one, a path
-    /// whose text begins with two slashes is rejected, and the value is unchanged. Does not
-    /// allocate.
+    /// Sets the authority and makes the path absolute, or removes the authority. If the path's text
+    /// begins with two slashes, removing it fails with the kind's error
+    /// `AbsolutePathStartsWithTwoSlashes`, and the value is unchanged. Does not allocate.
     pub fn set_authority(&mut self, authority: Option<Authority<'r>>) -> Result<(), K::Error>
         ensures { Settles self.old self.new result (told_of K.told (edited self.old (edits.Authority authority.entry))) }
     {
         told::<K, _>(self.reference.set_authority(authority))
     }
 
-    /// Sets the path: with an authority it is made absolute, else it is the one that its text
-    /// spells. Without an authority, a path whose text begins with two slashes is rejected, and
-    /// without a scheme as well, one with a colon before any slash; the value is then unchanged.
-    /// Does not allocate.
+    /// Sets the path. With an authority it is made absolute, else it becomes the one that its text
+    /// spells. Without an authority, fails with the kind's error `AbsolutePathStartsWithTwoSlashes`
+    /// if the path's text begins with two slashes; without a scheme too, with
+    /// `SchemelessPathStartsWithColonSegment` if it has a colon before any slash. The value is then
+    /// unchanged. Does not allocate.
     pub fn set_path(&mut self, path: Path<'r>) -> Result<(), K::Error>
         ensures { Settles self.old self.new result (told_of K.told (edited self.old (edits.Path path.entry))) }
     {

@@ -29,7 +29,7 @@ impl<'r, K: ReferenceKind> ReferenceOf<'r, K> {
         ensures takes_no_memory { print (normal self.old) ≡ print self.old → IsOk result }
         ensures canonical_takes_no_memory { canonical_texts self.old ≡ self.old → IsOk result }
 
-        // References that are the same have one normal form.
+        // Equal references have one normal form.
         ensures equal { OnOk result ((q : Parts) → Valid q → Same self.old q → self.new ≡ normal q) }
     {
         self.reference.normalize(alloc)

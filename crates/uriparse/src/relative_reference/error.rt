@@ -22,7 +22,7 @@ pub enum RelativeReferenceError {
     /// A builder has no path. Reading never returns this.
     #[error("missing path")]
     MissingPath,
-    /// It has a scheme.
+    /// The text or the reference has a scheme.
     #[error("not relative reference")]
     NotRelativeReference,
     /// The authority's fault.

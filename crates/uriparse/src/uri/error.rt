@@ -22,7 +22,7 @@ pub enum URIError {
     /// A builder has no scheme. Reading never returns this.
     #[error("missing scheme")]
     MissingScheme,
-    /// It has no scheme.
+    /// The text or the reference has no scheme.
     #[error("not URI")]
     NotURI,
     /// The authority's fault.
@@ -82,7 +82,8 @@ impl From<SchemeError> for URIError {
     }
 }
 
-/// The error of a reference as that of a URI, or `Err` for the colon rule's, which no URI breaks.
+/// The error of a reference as that of a URI, or `Err` for `SchemelessPathStartsWithColonSegment`,
+/// which no URI has.
 impl TryFrom<URIReferenceError> for URIError {
     type Error = ();
 

@@ -10,18 +10,18 @@ use uriparse_reference::internal::relativize;
 use uriparse_reference::uri_reference::URIReference;
 
 impl<'u> URI<'u> {
-    /// The reference that leads from this URI to another one: [`resolve`](URI::resolve) returns for
-    /// it what it returns for that URI itself, so the same URI if its path has no dot segments. It
-    /// borrows the URI's texts.
+    /// The reference that leads from this URI to `uri`: resolved against this URI, it yields what
+    /// `uri` itself yields, which is `uri` again if its path has no dot segments. It borrows the
+    /// texts of `uri`.
     ///
-    /// It omits the components that both have in one spelling. If scheme and authority are the
+    /// It omits the components that both have in the same spelling. If scheme and authority are the
     /// same, the path is relative: `..` for each directory of this URI's path that the other is not
     /// in, then the segments after those that it is in; a leading `.` precedes a first segment that
     /// is empty or has a colon. If the paths are the same too, there is no path, unless a query
     /// must be dropped. No relative path leads there if the paths have dot segments, or only one is
     /// absolute, or both are relative and `..` would climb out of the first directory, or they are
-    /// too long. Then the whole path is given; and if that cannot stand alone, or the authorities
-    /// differ, the authority or the scheme too.
+    /// too long. Then the reference has the whole path; and if that cannot stand alone, or the
+    /// authorities differ, the authority or the scheme too.
     ///
     /// Allocates the list of segments once; running out of memory is the only error.
     ///

@@ -22,9 +22,9 @@ impl<'u> URI<'u> {
     ///
     /// Fails with [`Path`](URIError::Path) of
     /// [`ExceededMaximumLength`](uriparse_path::path::PathError::ExceededMaximumLength) if paths
-    /// are merged and together have more segments than a path may have, whatever memory there is.
-    /// Else allocates the list of segments once; if memory runs out, that is
-    /// [`OutOfMemory`](uriparse_path::path::PathError::OutOfMemory).
+    /// are merged and together have more segments than a path may have, even if memory has run out.
+    /// Else allocates the list of segments once; if memory runs out, the error is
+    /// [`Path`](URIError::Path) of [`OutOfMemory`](uriparse_path::path::PathError::OutOfMemory).
     ///
     /// ```
     /// let base = URI::try_from_str(alloc, "http://a/b/c/d;p?q")?;
@@ -39,12 +39,11 @@ impl<'u> URI<'u> {
         // Section 5.2.2's target.
         ensures answer { MatchOption (target self.now reference.now) (result ≡ Err (errors.Path paths.ExceededMaximumLength)) (λ t. IsUnless (errors.Path paths.OutOfMemory) result (Ok t)) }
 
-        // References that are the same have the same target against bases that are, or both have
-        // none.
+        // Equal references have equal targets against equal bases, or both have none.
         ensures equal { (c q : Parts) → Valid c → Valid q → Same self.now c → Same reference.now q → AreSame (target self.now reference.now) (target c q) }
 
-        // The normal forms of both have a target with the same normal form, unless paths merge that
-        // don't merge alike.
+        // The normal forms of both have a target with the same normal form, unless paths are merged
+        // that do not merge alike.
         ensures commutes { IfOk result (λ t. (is_merged reference.now ≡ true → MergesAlike self.now reference.now) → (u : Parts) × (target (normal self.now) (normal reference.now) ≡ Some u) × (normal t ≡ normal u)) }
     {
         match resolve(alloc, &self.reference, reference) {

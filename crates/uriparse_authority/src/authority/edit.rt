@@ -29,7 +29,7 @@ impl<'a> Authority<'a> {
         Ok(())
     }
 
-    /// Sets the password. Always succeeds. A password brings an empty user name if there is none;
+    /// Sets the password. Always succeeds. A password without a user name gets an empty user name;
     /// nothing else changes. Does not allocate.
     pub fn set_password(&mut self, password: Option<Password<'a>>) -> Result<(), AuthorityError>
         ensures answer { result ≡ Ok tt }
@@ -76,8 +76,8 @@ impl<'a> Authority<'a> {
         self.set_username(make(old))
     }
 
-    /// Sets the password to what the closure returns for it. Always succeeds. A password brings an
-    /// empty user name if there is none; nothing else changes. Does not allocate, unless the
+    /// Sets the password to what the closure returns for it. Always succeeds. A password without a
+    /// user name gets an empty user name; nothing else changes. Does not allocate, unless the
     /// closure does.
     pub fn map_password<F>(&mut self, make: F) -> Result<(), AuthorityError>
     where

@@ -16,19 +16,19 @@ pub enum HostError {
     /// ([`IPvFuture`](super::IPvFuture)) with it.
     #[error("host address mechanism not supported")]
     AddressMechanismNotSupported,
-    /// A byte that is not allowed in a name, or a broken escape. Of an authority read by itself: a
-    /// byte that follows its IPv4 address or name.
+    /// A byte that is not allowed in a name, or a broken escape. In an authority read by itself,
+    /// also a byte that follows its IPv4 address or name.
     #[error("invalid host IPv4 or registered name character")]
     InvalidIPv4OrRegisteredNameCharacter,
-    /// A byte between brackets that no IPv6 address has. Of an authority read by itself: a byte
-    /// that follows its IPv6 address.
+    /// A byte between brackets that no IPv6 address has. In an authority read by itself, also a
+    /// byte that follows its IPv6 address.
     #[error("invalid host IPv6 character")]
     InvalidIPv6Character,
     /// Bytes of an IPv6 address between brackets, but not one of its forms.
     #[error("invalid host IPv6 format")]
     InvalidIPv6Format,
-    /// A byte that no address of a later version has. Of an authority read by itself: a byte that
-    /// follows such an address.
+    /// A byte that no address of a later version has. In an authority read by itself, also a byte
+    /// that follows such an address.
     #[error("invalid host IPvFuture character")]
     InvalidIPvFutureCharacter,
     /// Bytes of an address of a later version, but not its form: `v`, hexadecimal digits, a dot,
@@ -46,7 +46,7 @@ pub enum UsernameError {
     /// Another byte that is not allowed in a user name.
     #[error("invalid username character")]
     InvalidCharacter,
-    /// A `%` that two hexadecimal digits don't follow.
+    /// A `%` without two hexadecimal digits after it.
     #[error("invalid username percent encoding")]
     InvalidPercentEncoding,
 }
@@ -57,7 +57,7 @@ pub enum PasswordError {
     /// A byte that is not allowed in a password.
     #[error("invalid password character")]
     InvalidCharacter,
-    /// A `%` that two hexadecimal digits don't follow.
+    /// A `%` without two hexadecimal digits after it.
     #[error("invalid password percent encoding")]
     InvalidPercentEncoding,
 }
@@ -65,8 +65,8 @@ pub enum PasswordError {
 /// Why a text is not a port: its leftmost fault.
 #[derive(Clone, Debug, Drop, PartialEq, Eq, Hash, Error)]
 pub enum PortError {
-    /// A byte that is not a decimal digit. Of an authority read by itself: a byte that follows its
-    /// port.
+    /// A byte that is not a decimal digit. In an authority read by itself, also a byte that follows
+    /// its port.
     #[error("invalid port character")]
     InvalidCharacter,
     /// The digit with which the number exceeds 65535.

@@ -10,7 +10,7 @@ use super::username::UsernameKind;
 use std::marker::Model;
 use uriparse_text::internal::Found;
 
-/// The components of an authority, borrowed from its bytes. Seen as the parts that they stand for.
+/// The components of an authority, borrowed from its bytes. Contracts see it as the authority.
 #[derive(Drop)]
 pub struct FoundAuthority<'a> {
     username: Found<'a, UsernameKind>,

@@ -173,7 +173,7 @@ impl<'host> IPvFuture<'host> {
         }
     }
 
-    /// The same for a `str`.
+    /// Like [`try_from_bytes`](IPvFuture::try_from_bytes), for a `str`.
     pub fn try_from_str(text: &'host str) -> Result<IPvFuture<'host>, HostError>
         ensures { result ≡ spec.reading text.now }
     {
@@ -266,7 +266,7 @@ impl<'host> IPvFuture<'host> {
         bytes.eq_ignore_ascii_case(self.as_bytes())
     }
 
-    /// The same for a `str`.
+    /// Like [`eq_bytes`](IPvFuture::eq_bytes), for a `str`.
     pub fn eq_str(&self, text: &str) -> bool
         ensures { IsTrue result ↔ (str_to_ascii_lowercase text.now ≡ str_to_ascii_lowercase self.now) }
     {

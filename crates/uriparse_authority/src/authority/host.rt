@@ -64,7 +64,7 @@ impl<'h> Host<'h> {
         }
     }
 
-    /// The same for a `str`.
+    /// Like [`try_from_bytes`](Host::try_from_bytes), for a `str`.
     pub fn try_from_str(text: &'h str) -> Result<Host<'h>, HostError>
         ensures { result ≡ spec.reading text.now }
     {

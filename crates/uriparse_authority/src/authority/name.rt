@@ -53,7 +53,7 @@ impl TextKind for NameKind {
 /// 3986, section 3.2.2. No reader accepts the text of an IPv4 address as a name.
 ///
 /// It borrows the text that it was read from, or owns its text. Its readers do not allocate. They
-/// reject a text with other bytes or a broken escape, and that of an IPv4 address, all with
+/// reject a text with other bytes or a broken escape, and the text of an IPv4 address, with
 /// [`RegisteredNameError`]. Two names are equal if their canonical spellings are, in which letters
 /// are lower case.
 ///
@@ -77,8 +77,8 @@ impl<'n> Model for RegisteredName<'n> {
 impl<'n> RegisteredName<'n> {
     /// Reads a name, which borrows the bytes. Does not allocate.
     ///
-    /// Rejects a byte that is not allowed in a name, a `%` that two hexadecimal digits don't
-    /// follow, and a text that spells an IPv4 address.
+    /// Rejects a byte that is not allowed in a name, a `%` without two hexadecimal digits after it,
+    /// and a text that spells an IPv4 address.
     pub fn try_from_bytes(bytes: &'n [u8]) -> Result<RegisteredName<'n>, RegisteredNameError>
         ensures { result ≡ spec.reading bytes.now }
     {
@@ -108,7 +108,7 @@ impl<'n> RegisteredName<'n> {
         })
     }
 
-    /// The same for a `str`.
+    /// Like [`try_from_bytes`](RegisteredName::try_from_bytes), for a `str`.
     pub fn try_from_str(text: &'n str) -> Result<RegisteredName<'n>, RegisteredNameError>
         ensures { result ≡ spec.reading text.now }
     {
@@ -132,8 +132,8 @@ impl<'n> RegisteredName<'n> {
         self.text.as_bytes()
     }
 
-    /// The bytes that the name stands for: the byte that its digits write for each escape, and each
-    /// other byte itself. Letters keep their case. Reserves capacity once.
+    /// Decodes the name: each escape becomes its byte, and each other byte stays. Letters keep
+    /// their case. Reserves capacity once.
     ///
     /// No call encodes bytes as a name, since the text could be that of an IPv4 address.
     pub fn decode(&self, alloc: Global) -> Result<Vec<u8>, AllocError>
@@ -196,15 +196,15 @@ impl<'n> RegisteredName<'n> {
         self.text.normalize(alloc)
     }
 
-    /// Whether the bytes are tokens whose canonical spelling is this name's. Bytes with a broken
-    /// escape are equal to no name.
+    /// Whether the bytes have the same canonical spelling as this name. Bytes with a broken escape
+    /// equal no name. Does not allocate.
     pub fn eq_bytes(&self, bytes: &[u8]) -> bool
         ensures { IsTrue result ↔ SpellsAlike case.Lowered bytes.now self.now }
     {
         self.text.eq_bytes(bytes)
     }
 
-    /// The same for a `str`.
+    /// Like [`eq_bytes`](RegisteredName::eq_bytes), for a `str`.
     pub fn eq_str(&self, text: &str) -> bool
         ensures { IsTrue result ↔ SpellsAlike case.Lowered text.now self.now }
     {

@@ -45,8 +45,8 @@ impl TextKind for PasswordKind {
 /// password is what follows its first `:`.
 ///
 /// It borrows the text that it was read from, or owns its text. Its readers do not allocate. They
-/// reject the leftmost fault: [`InvalidPercentEncoding`](PasswordError::InvalidPercentEncoding) for
-/// a `%` that two hexadecimal digits don't follow, else
+/// report the leftmost fault: [`InvalidPercentEncoding`](PasswordError::InvalidPercentEncoding) for
+/// a `%` without two hexadecimal digits after it, else
 /// [`InvalidCharacter`](PasswordError::InvalidCharacter). Two passwords are equal if their
 /// canonical spellings are. The calls are those of [`Text`].
 ///

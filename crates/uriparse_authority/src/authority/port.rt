@@ -4,15 +4,15 @@ ghost use Rattle.uriparse_authority.specs.Port as port;
 
 use super::error::PortError;
 
-/// Reads a port, without the `:` before it: decimal digits that write a number of at most 65535.
-/// The empty text is no port, and leading zeros are allowed. Does not allocate.
+/// Reads a port, without the `:` before it: a decimal number of at most 65535, which may have
+/// leading zeros. Returns `None` for the empty text. Does not allocate.
 ///
-/// Rejects the leftmost fault: [`InvalidCharacter`](PortError::InvalidCharacter) for a byte that is
+/// Reports the leftmost fault: [`InvalidCharacter`](PortError::InvalidCharacter) for a byte that is
 /// not a decimal digit, or [`Overflow`](PortError::Overflow) for the digit with which the number
 /// exceeds 65535, whichever comes first.
 ///
-/// RFC 3986, section 3.2.3, sets no largest port; 65535 is the largest that 16 bits hold, as TCP's
-/// and UDP's ports do.
+/// RFC 3986, section 3.2.3, sets no maximum; 65535 is that of TCP and UDP, whose ports have 16
+/// bits.
 ///
 /// ```
 /// assert!(parse_port(b"00000080") == Ok(Some(80)) && parse_port(b"") == Ok(None));

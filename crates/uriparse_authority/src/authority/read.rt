@@ -20,7 +20,8 @@ use uriparse_text::internal::{
     split_settled, without_mark,
 };
 
-/// The user information, if an `@` follows it, and what follows the `@`; else none, and the text.
+/// The user information, which is the text before the first `@`, and what follows the `@`; without
+/// an `@`, `None` and the whole text.
 pub fn split_userinfo(text: &[u8]) -> (Option<&[u8]>, &[u8])
     ensures userinfo { option_copied result.0 ≡ authority.userinfo_text text.now }
     ensures host_and_port { result.1.now ≡ authority.host_and_port_text text.now }
@@ -67,7 +68,7 @@ pub fn split_port(text: &[u8]) -> (&[u8], Option<&[u8]>)
     (text, None)
 }
 
-/// Finds the host that a text of the class of names stands for, canonical if so marked.
+/// Finds the host that a text of the class of names spells, canonical if so marked.
 #[inline(always)]
 fn find_name_host(bytes: &[u8], canonical: bool) -> FoundHost<'_>
     requires { IsKept class.Name case.Lowered canonical bytes.now }

@@ -47,8 +47,8 @@ impl TextKind for UsernameKind {
 /// the user name, and a [`Password`](super::Password) follows that colon.
 ///
 /// It borrows the text that it was read from, or owns its text. Its readers do not allocate. They
-/// reject the leftmost fault: [`InvalidPercentEncoding`](UsernameError::InvalidPercentEncoding) for
-/// a `%` that two hexadecimal digits don't follow, [`ContainsColon`](UsernameError::ContainsColon)
+/// report the leftmost fault: [`InvalidPercentEncoding`](UsernameError::InvalidPercentEncoding) for
+/// a `%` without two hexadecimal digits after it, [`ContainsColon`](UsernameError::ContainsColon)
 /// for a `:`, else [`InvalidCharacter`](UsernameError::InvalidCharacter). Two user names are equal
 /// if their canonical spellings are. The calls are those of [`Text`].
 ///

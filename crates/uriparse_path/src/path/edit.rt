@@ -78,8 +78,8 @@ fn new_or_old(is_new: bool, new: Counts, old: Counts) -> Counts
 }
 
 impl<'p> Path<'p> {
-    /// Appends the segment. One that is not empty replaces the only segment if that is empty: so
-    /// pushing `a` on the empty path makes `a`, not `/a`.
+    /// Appends the segment. A nonempty one replaces an empty segment that is the only one, so
+    /// pushing `a` onto the empty path yields `a`, not `/a`.
     ///
     /// Returns [`ExceededMaximumLength`](PathError::ExceededMaximumLength) if the path has
     /// [`MAX_SEGMENTS`] already, else [`OutOfMemory`](PathError::OutOfMemory) if the list cannot

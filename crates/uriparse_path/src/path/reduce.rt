@@ -38,7 +38,7 @@ fn ends_in_name(segments: &[Segment<'_>]) -> bool
 }
 
 /// Appends the segment at `at` to those that are left so far, the first `kept` of the list, or
-/// makes the deletion that it brings. Returns how many are left then.
+/// makes the deletion that it causes. Returns how many are left.
 fn put_segment(segments: &mut Vec<Segment<'_>>, kept: usize, at: usize) -> usize
     requires order { kept ≤ at }
     requires within { at < vec_len segments.old }
@@ -60,8 +60,8 @@ fn put_segment(segments: &mut Vec<Segment<'_>>, kept: usize, at: usize) -> usize
     kept + 1
 }
 
-/// Deletes all that can be deleted in one pass; what is left is at the start of the list. Returns
-/// how many segments are left.
+/// Makes all deletions in one pass; what is left is at the start of the list. Returns how many
+/// segments are left.
 fn reduce(segments: &mut Vec<Segment<'_>>) -> usize
     ensures left { take result segments.new.items ≡ relative.reduced segments.old.items }
     ensures within { result ≤ vec_len segments.new }

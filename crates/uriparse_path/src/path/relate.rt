@@ -48,7 +48,7 @@ fn push_climbs(list: &mut Vec<Segment<'_>>, directories: &[Segment<'_>]) -> Resu
     Ok(())
 }
 
-/// Whether the first segment would be read as a slash, as no path or as a scheme.
+/// Whether the first segment is empty or has a colon.
 fn begins_taken(segments: &[Segment<'_>]) -> bool
     ensures { result ≡ is_first spec.is_taken segments.now }
 {

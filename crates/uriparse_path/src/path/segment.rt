@@ -114,7 +114,7 @@ impl<'s> Segment<'s> {
         })
     }
 
-    /// The same for a `str`.
+    /// Like [`try_from_bytes`](Segment::try_from_bytes), for a `str`.
     pub fn try_from_str(text: &'s str) -> Result<Segment<'s>, PathError>
         ensures { result ≡ spec.reading text.now }
     {
@@ -213,10 +213,10 @@ impl<'s> Segment<'s> {
         self.text.decode(alloc)
     }
 
-    /// Encodes the bytes as a segment: a byte that a segment may have stays, and another one is
+    /// Encodes the bytes as a segment: a byte that a segment may have stays, and any other is
     /// percent-encoded with upper-case digits, so `/` becomes `%2F`. The result is in canonical
-    /// spelling, and [`decode`](Segment::decode) yields the bytes again. Allocates once. Dots stay:
-    /// the bytes `..` make a dot segment.
+    /// spelling, and [`decode`](Segment::decode) yields the bytes again. Allocates once. Dots stay,
+    /// so the bytes `..` become a dot segment.
     pub fn encode(alloc: Global, bytes: &[u8]) -> Result<Segment<'static>, AllocError>
         ensures text { IfOk result (λ s. s ≡ encoded class.Segment bytes.now) }
         ensures back { IfOk result (λ s. decoded s ≡ bytes.now) }
@@ -320,7 +320,7 @@ impl<'s> Segment<'s> {
         self.text.eq_bytes(bytes)
     }
 
-    /// The same for a `str`.
+    /// Like [`eq_bytes`](Segment::eq_bytes), for a `str`.
     pub fn eq_str(&self, text: &str) -> bool
         ensures { IsTrue result ↔ SpellsAlike case.Kept text.now self.now }
     {

@@ -16,7 +16,7 @@ pub(super) fn has_dot_segment(segments: &[Segment<'_>]) -> bool
     segments.iter().any(|segment| segment.is_dot_segment())
 }
 
-/// Whether the first segment is empty and others follow it, so that their text begins with a slash.
+/// Whether the first segment is empty and others follow it. Then their text begins with a slash.
 pub(super) fn hides_root(segments: &[Segment<'_>]) -> bool
     ensures { result ≡ path.hides_root segments.now }
 {
@@ -54,7 +54,7 @@ pub(super) fn needs_guard(had_colon: bool, segments: &[Segment<'_>]) -> bool
     hides_root(segments) || (has_first_colon(segments) && !had_colon)
 }
 
-/// Whether a pushed segment replaces the only one: that one is empty, and it is not.
+/// Whether a pushed segment replaces the only one: that one is empty, and the pushed one is not.
 pub(super) fn takes_the_place(segments: &[Segment<'_>], segment: &Segment<'_>) -> bool
     ensures empty { result ≡ true → segments.now ≡ [] ∷ [] }
     ensures with { edits.with_last segments.now segment.now ≡ (if result then segment.now ∷ [] else segments.now ++ segment.now ∷ []) }

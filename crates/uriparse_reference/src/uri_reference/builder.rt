@@ -1,4 +1,4 @@
-//! Building a reference part by part.
+//! Building a reference component by component.
 ghost use Rattle.std.specs.Prelude.{◌≡◌, IsErr, None, Some};
 ghost use Rattle.std.specs.Option.{option_copied};
 ghost use Rattle.uriparse_text.specs.Readings.{if_present, of_piece};
@@ -187,8 +187,10 @@ impl<'b> URIReferenceBuilder<'b> {
     }
 
     /// Reads and sets the path. Rejects a text that is not a path with
-    /// [`Path`](URIReferenceError::Path), even if memory has run out; only the list of segments
-    /// allocates. After an error the builder is unchanged.
+    /// [`Path`](URIReferenceError::Path), even if memory has run out. Allocates only the list of
+    /// segments; if memory runs out, the error is [`Path`](URIReferenceError::Path) of
+    /// [`OutOfMemory`](uriparse_path::path::PathError::OutOfMemory). After an error the builder is
+    /// unchanged.
     pub fn try_path(&mut self, alloc: Global, path: &'b [u8]) -> Result<(), URIReferenceError>
         ensures settles { SettlesUnless (errors.Path OutOfMemory) self.old self.new result (path_read self.old path.now) }
         ensures always { IsErr (paths.reading path.now) → Settles self.old self.new result (path_read self.old path.now) }
@@ -221,8 +223,8 @@ impl<'b> URIReferenceBuilder<'b> {
 
     /// Builds the reference. Does not allocate.
     ///
-    /// Rejects a builder without a path with [`MissingPath`](URIReferenceError::MissingPath), and
-    /// then what [`from_parts`](URIReference::from_parts) rejects. An error consumes the builder.
+    /// Fails with [`MissingPath`](URIReferenceError::MissingPath) if there is no path, else as
+    /// [`from_parts`](URIReference::from_parts) does. An error consumes the builder.
     pub fn build(self) -> Result<URIReference<'b>, URIReferenceError>
         ensures { result ≡ built self.entry }
     {

@@ -1,4 +1,4 @@
-//! Copies of a reference. The list of segments allocates.
+//! Copies of a reference. They allocate the list of segments.
 ghost use Rattle.std.specs.Prelude.{◌≡◌, IfOk, option_copied};
 
 use super::URIReference;

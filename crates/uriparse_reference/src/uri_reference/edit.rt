@@ -42,7 +42,7 @@ pub enum Edit<'e> {
     Normalize,
 }
 
-/// Why a path may not follow a scheme or none, and an authority or none.
+/// Why the path is not allowed, given whether there is a scheme and an authority.
 fn place_refusal(
     has_scheme: bool,
     has_authority: bool,
@@ -84,13 +84,13 @@ impl<'r> URIReference<'r> {
     ghost use Rattle.uriparse_reference.specs.declared.uri_reference.edit.Edit.TheVariants as edits;
 
     /// Builds a reference from its components: RFC 3986, sections 3.3 and 4.2. With an authority
-    /// the path is made absolute, else it is the one that its text spells. Does not allocate.
+    /// the path is made absolute, else it becomes the one that its text spells. Does not allocate.
     ///
-    /// Without an authority, rejects a path whose text starts with `//` with
-    /// [`AbsolutePathStartsWithTwoSlashes`](URIReferenceError::AbsolutePathStartsWithTwoSlashes).
-    /// Without a scheme and an authority, then rejects a path whose text has a colon before any
-    /// slash with
-    /// [`SchemelessPathStartsWithColonSegment`](URIReferenceError::SchemelessPathStartsWithColonSegment).
+    /// Without an authority, fails with
+    /// [`AbsolutePathStartsWithTwoSlashes`](URIReferenceError::AbsolutePathStartsWithTwoSlashes) if
+    /// the path's text starts with `//`; without a scheme too, with
+    /// [`SchemelessPathStartsWithColonSegment`](URIReferenceError::SchemelessPathStartsWithColonSegment)
+    /// if it has a colon before any slash.
     pub fn from_parts(
         scheme: Option<Scheme<'r>>,
         authority: Option<Authority<'r>>,
@@ -114,7 +114,7 @@ impl<'r> URIReference<'r> {
         }
     }
 
-    /// The scheme, the authority, the path, the query and the fragment.
+    /// The scheme, the authority, the path, the query and the fragment. Does not allocate.
     pub fn into_parts(
         self,
     ) -> (
@@ -140,9 +140,10 @@ impl<'r> URIReference<'r> {
         )
     }
 
-    /// Sets or removes the scheme. Without a scheme and an authority, rejects a path whose text has
-    /// a colon before any slash, as [`from_parts`](URIReference::from_parts) does, and leaves the
-    /// reference unchanged. Does not allocate.
+    /// Sets or removes the scheme. With neither a scheme nor an authority, fails with
+    /// [`SchemelessPathStartsWithColonSegment`](URIReferenceError::SchemelessPathStartsWithColonSegment)
+    /// if the path's text has a colon before any slash; the reference is then unchanged. Does not
+    /// allocate.
     pub fn set_scheme(&mut self, scheme: Option<Scheme<'r>>) -> Result<(), URIReferenceError>
         ensures { Settles self.old self.new result (edited self.old (edits.Scheme scheme.entry)) }
     {
@@ -176,9 +177,9 @@ impl<'r> URIReference<'r> {
         }
     }
 
-    /// Sets the authority and makes the path absolute, or removes the authority. Without one,
-    /// rejects what [`from_parts`](URIReference::from_parts) does, and leaves the reference
-    /// unchanged. Does not allocate.
+    /// Sets the authority and makes the path absolute, or removes the authority. Removing it may
+    /// fail as [`from_parts`](URIReference::from_parts) does; the reference is then unchanged. Does
+    /// not allocate.
     pub fn set_authority(
         &mut self,
         authority: Option<Authority<'r>>,
@@ -194,9 +195,9 @@ impl<'r> URIReference<'r> {
         }
     }
 
-    /// Sets the path: made absolute with an authority, else the one that its text spells. Rejects
-    /// what [`from_parts`](URIReference::from_parts) does, and leaves the reference unchanged. Does
-    /// not allocate.
+    /// Sets the path. With an authority it is made absolute, else it becomes the one that its text
+    /// spells. Fails as [`from_parts`](URIReference::from_parts) does; the reference is then
+    /// unchanged. Does not allocate.
     pub fn set_path(&mut self, path: Path<'r>) -> Result<(), URIReferenceError>
         ensures { Settles self.old self.new result (edited self.old (edits.Path path.entry)) }
     {

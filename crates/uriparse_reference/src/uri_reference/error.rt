@@ -15,7 +15,7 @@ pub enum URIReferenceError {
     /// Without an authority the path would start with `//`. Reading never returns this.
     #[error("absolute path URI reference starts with two slashes")]
     AbsolutePathStartsWithTwoSlashes,
-    /// Without a scheme and an authority, the first segment of a relative path has a colon.
+    /// With neither a scheme nor an authority, the first segment of a relative path has a colon.
     #[error("schemeless path URI reference starts with colon segment")]
     SchemelessPathStartsWithColonSegment,
     /// A builder has no path. Reading never returns this.

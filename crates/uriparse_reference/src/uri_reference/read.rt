@@ -63,8 +63,9 @@ fn find_front(text: &[u8]) -> Result<(Option<FoundAuthority<'_>>, &[u8]), URIRef
     }
 }
 
-/// Rejects a path that may not follow a scheme or none, and an authority or none. The flag says,
-/// without both, whether the path's first segment has a colon: no byte is read for it.
+/// Rejects a path that is not allowed, given whether there is a scheme and an authority. With
+/// neither, `has_colon_segment` says whether the path's first segment has a colon, so no byte is
+/// read for it.
 fn check_path(
     has_scheme: bool,
     has_authority: bool,
@@ -177,7 +178,7 @@ pub fn find_pieces(text: &[u8]) -> Result<Pieces<'_>, URIReferenceError>
     })
 }
 
-/// The path that a text stands for, absolute with an authority. Reserves capacity for `count`
+/// The path that a text spells, made absolute with an authority. Reserves capacity for `count`
 /// segments. `escaped` is 0 only if the text has no percent-encoded octet.
 fn make_path(
     alloc: Global,

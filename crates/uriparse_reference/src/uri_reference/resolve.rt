@@ -28,7 +28,8 @@ fn is_empty(path: &Path<'_>) -> bool
     }
 }
 
-/// Copies the path, which borrows the segments, and removes its dot segments as section 5.2.4 does.
+/// Copies the path, borrowing the texts of its segments, and removes the dot segments as section
+/// 5.2.4 does.
 fn path_without_dots<'r>(
     alloc: Global,
     path: &'r Path<'_>,
@@ -57,7 +58,7 @@ fn merged_without_dots<'r>(
     Ok(merged)
 }
 
-/// Copies the path, which borrows the segments.
+/// Copies the path, borrowing the texts of its segments.
 fn same_path<'r>(alloc: Global, path: &'r Path<'_>) -> Result<Path<'r>, PathError>
     ensures { MatchResult result (λ p. p ≡ path.now) (λ e. e ≡ paths.OutOfMemory) }
 {

@@ -59,7 +59,7 @@ fn after_colon(rest: &[u8]) -> Option<&[u8]>
 /// Cuts a text at its scheme.
 ///
 /// Most texts begin with `https:` or `http:`. Only this function treats the two as special: it
-/// recognizes them by their bytes, so that neither their colon is searched for nor their name.
+/// recognizes them by their bytes, and searches neither for their colon nor for their name.
 #[inline(always)]
 pub fn split_scheme(text: &[u8]) -> SchemeCut<'_>
     ensures scheme { if_some result.scheme.now ≡ scheme_text text.now }

@@ -3,7 +3,7 @@
 /// A registered scheme whose name begins with `ms-`.
 ///
 /// It is a separate enum within [`RegisteredScheme`](super::RegisteredScheme) because an enum has
-/// at most 256 variants. It is `Copy` and needs no memory.
+/// at most 256 variants. It is `Copy` and does not allocate.
 #[derive(Clone, Copy)]
 pub enum MicrosoftScheme {
     /// `ms-access`

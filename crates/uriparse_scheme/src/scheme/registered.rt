@@ -4,8 +4,8 @@ use super::microsoft::MicrosoftScheme;
 
 /// A scheme in this library's table. RFC 3986, section 3.1, refers to a registry of schemes.
 ///
-/// It is `Copy` and needs no memory. [`Scheme`](super::Scheme) has a constant for each of them. Two
-/// are equal if they have the same name.
+/// It is `Copy` and does not allocate. [`Scheme`](super::Scheme) has a constant for each of them.
+/// Two are equal if they have the same name.
 #[derive(Clone, Copy)]
 pub enum RegisteredScheme {
     /// `aaa`

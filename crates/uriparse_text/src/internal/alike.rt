@@ -132,7 +132,7 @@ fn split_code(case: Case, text: &[u8]) -> Option<(u16, &[u8])>
     }
 }
 
-/// The byte that an escape stands for, if one begins with this byte and goes on with these.
+/// The byte that an escape represents, if `b` and the bytes `after` it begin with an escape.
 #[inline(always)]
 fn escaped_byte(b: u8, after: &[u8]) -> Option<u8>
     ensures { result ≡ (if tokens.is_escape b after.now then Some (spec.escaped_byte (slice_index after.now 0) (slice_index after.now 1)) else None) }

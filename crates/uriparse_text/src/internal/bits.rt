@@ -53,7 +53,8 @@ pub(super) fn shifted_down(m: u64, by: usize) -> u64
     m >> by
 }
 
-/// The bits of 8 to 16 things, from those of the first eight and then those of the last eight.
+/// The mask of `len` items, 8 to 16, from the bits of the first eight and then those of the last
+/// eight.
 #[inline(always)]
 pub(super) fn joined_ends(m: u64, len: usize) -> u64
     requires least { 8 ≤ len }
@@ -65,7 +66,7 @@ pub(super) fn joined_ends(m: u64, len: usize) -> u64
     (m >> (24 - len)) * 256 + m % 256
 }
 
-/// The mask without the bits at which the second has its bit too, and the third its next two.
+/// The mask without each bit that `first` has too, if `later` has the next two.
 #[inline(always)]
 pub(super) fn without_triples(m: u64, first: u64, later: u64) -> u64
     ensures no_more { (k : ℕ) → bit_at result k ≡ 1 → bit_at m k ≡ 1 }

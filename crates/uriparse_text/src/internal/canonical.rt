@@ -67,8 +67,8 @@ fn feed_bytes<H: Hasher>(bytes: &[u8], state: &mut H)
     state.write(last);
 }
 
-/// Appends a byte to those that wait for the hasher, which is fed them when they fill the block.
-/// Returns how many wait then.
+/// Appends a byte to the `len` bytes that wait in the block, and feeds the hasher the block once it
+/// is full. Returns how many bytes wait then.
 #[inline]
 fn hold<H: Hasher>(b: u8, block: &mut [u8; BLOCK], len: usize, state: &mut H) -> usize
     requires { len < 64 }
@@ -159,8 +159,8 @@ pub fn is_canonical(case: Case, text: &[u8]) -> bool
     begins_canonical(case, rest)
 }
 
-/// The same for a text that may begin with a token that isn't canonical. It is walked up to the
-/// first such token, in a call of its own, so that the test before it stays small when inlined.
+/// The same for a text that may begin with a token that isn't canonical. Walks it up to the first
+/// such token. A separate call keeps the inlined test before it small.
 #[inline(never)]
 fn begins_canonical(case: Case, text: &[u8]) -> bool
     ensures { IsTrue result ↔ (spec.canonical_in case text.now ≡ text.now) }

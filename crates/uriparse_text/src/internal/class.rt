@@ -8,7 +8,7 @@ use super::bits::{lowest, without_lowest, without_triples};
 use super::scan::{Is, IsHex, Outside, marks_of_run, marks_of_short};
 use super::token::is_escape;
 
-/// Which bytes stand for themselves in a component. Escapes are allowed in each.
+/// Which bytes a component may have unescaped. Escapes are allowed in each class.
 #[derive(Clone, Copy, Debug, PartialEq, Eq)]
 pub enum Class {
     /// A registered name or a user name: unreserved bytes and sub-delimiters.
@@ -31,22 +31,22 @@ const QUERY: u8 = 8;
 
 const UNRESERVED: u8 = 16;
 
-// The flags of a byte that is in no class,
+// The flags of a byte that is in no class.
 const X: u8 = 0;
 
-// of `/` and `?`,
+// The flags of `/` and `?`.
 const Q: u8 = QUERY;
 
-// of `@`,
+// The flags of `@`.
 const S: u8 = SEGMENT + Q;
 
-// of `:`,
+// The flags of `:`.
 const P: u8 = USER_INFO + S;
 
-// of a sub-delimiter,
+// The flags of a sub-delimiter.
 const D: u8 = NAME + P;
 
-// and of an unreserved byte.
+// The flags of an unreserved byte.
 const U: u8 = UNRESERVED + D;
 
 #[rattlefmt::skip]
@@ -78,7 +78,7 @@ pub fn is_unreserved(b: u8) -> bool
 }
 
 impl Class {
-    /// Whether the byte stands for itself in texts of this class.
+    /// Whether texts of this class may have the byte unescaped.
     #[inline]
     pub fn has(self, b: u8) -> bool
         ensures { result ≡ is_plain self b }

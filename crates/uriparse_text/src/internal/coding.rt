@@ -1,4 +1,4 @@
-//! The bytes that a text stands for, and texts that stand for bytes: RFC 3986, section 2.
+//! Decoding texts to bytes, and encoding bytes as texts: RFC 3986, section 2.
 ghost use Rattle.std.specs.Prelude.{◌≡◌, ◌++◌, ◌<◌, IfOk, OnOk, true};
 ghost use Rattle.uriparse_text.specs.Alike.{upper_digit_of};
 ghost use Rattle.uriparse_text.specs.Coding.{are_bytes, decoded, encoded, token_for, value_of};
@@ -11,7 +11,7 @@ use super::token::{Token, split_token};
 use std::alloc::{AllocError, Global};
 
 impl Token {
-    /// The byte that the token stands for.
+    /// The byte that the token represents.
     #[inline]
     fn value(self) -> u8
         requires { has_digits self ≡ true }
@@ -23,7 +23,7 @@ impl Token {
         }
     }
 
-    /// The token that stands for a byte: the byte itself if the class has it, else an escape.
+    /// The token that represents a byte: the byte itself if the class has it, else an escape.
     #[inline]
     fn writing(class: Class, b: u8) -> Token
         ensures { result ≡ token_for class b }
@@ -36,7 +36,7 @@ impl Token {
     }
 }
 
-/// The bytes that the text's tokens stand for. Walks the text once and reserves capacity once.
+/// The bytes that the text's tokens represent. Walks the text once and reserves capacity once.
 pub fn decoded_bytes(alloc: Global, text: &[u8]) -> Result<Vec<u8>, AllocError>
     ensures { IfOk result (λ v. v.items ≡ decoded text.now) }
 {
@@ -49,7 +49,7 @@ pub fn decoded_bytes(alloc: Global, text: &[u8]) -> Result<Vec<u8>, AllocError>
     Ok(bytes)
 }
 
-/// The text that stands for the bytes. Walks them once and reserves capacity once: three bytes for
+/// The text that represents the bytes. Walks them once and reserves capacity once: three bytes for
 /// each, as an escape needs.
 pub(super) fn encoded_bytes(
     alloc: Global,

@@ -23,7 +23,7 @@ pub fn split_at_mark(text: &[u8], mark: u8) -> (&[u8], &[u8])
     text.split_at(place)
 }
 
-/// What follows the delimiter that a rest begins with, if it does.
+/// What follows the delimiter that the rest begins with, or `None` if the rest is empty.
 #[inline]
 pub fn without_mark(rest: &[u8]) -> Option<&[u8]>
     ensures { option_copied result ≡ part rest.now }

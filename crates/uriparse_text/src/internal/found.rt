@@ -1,5 +1,5 @@
-//! What a reader found in a text, before a component is built of it: plain words that need no drop,
-//! so that a reader may still reject what follows.
+//! What a reader found in a text, before a component is built from it: plain words that need no
+//! drop, so a reader can still reject what follows.
 ghost use Rattle.std.specs.Prelude.{◌≡◌, MatchResult, None, Ok, Err, Some};
 ghost use Rattle.std.specs.Option.{option_copied};
 ghost use Rattle.uriparse_text.specs.Cuts.{after, before};
@@ -11,7 +11,8 @@ use super::settled::{check_bytes, fault_behind, settled_len};
 use super::text::{Text, TextKind, kept_text};
 use std::marker::{Model, PhantomData};
 
-/// The bytes of an optional text of this kind, known to be in its class. Seen as these bytes.
+/// The bytes of an optional text of this kind, known to be in its class. Contracts see it as these
+/// bytes, if present.
 #[derive(Drop)]
 pub struct Found<'t, K: TextKind> {
     // 0 if there is no text, and 2 if it is canonical: a word, since a narrow tag would be moved

@@ -9,15 +9,15 @@ use std::fmt::InlineText;
 /// Capacity for a short text: more than the 39 bytes that an address has at most.
 const ROOM: usize = 48;
 
-/// Whether a text ends in the dots that a truncated one ends in.
+/// Whether a text ends in three dots, as a truncated one does.
 fn ends_in_dots(text: &str) -> bool
     ensures { EndsInDots 48 text.now → IsTrue result }
 {
     text.as_bytes().ends_with(b"...")
 }
 
-/// Writes what `{}` writes of a value that has at most 48 bytes and doesn't end in dots, such as an
-/// address or a port. The formatter's options have no effect. Does not allocate.
+/// Writes what `{}` writes for a value whose text has at most 48 bytes and doesn't end in three
+/// dots, such as an address or a port. The formatter's options have no effect. Does not allocate.
 pub fn write_short<W: fmt::Write, D: fmt::Display + Drop>(
     value: D,
     f: &mut fmt::Formatter<W>,

@@ -69,7 +69,7 @@ impl ByteTest for IsAny {
     }
 }
 
-/// The byte does not stand for itself in this class.
+/// The byte is not in this class.
 #[derive(Clone, Copy, Debug)]
 pub struct Outside(pub Class);
 

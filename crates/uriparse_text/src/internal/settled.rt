@@ -11,7 +11,7 @@ use super::run::MayChange;
 use super::scan::{ByteTest, Outside, first, first_by_one};
 use std::simd::prelude::*;
 
-/// The byte isn't of the class, or another one stands for it in a canonical spelling.
+/// The byte isn't of the class, or changes in a canonical spelling.
 #[derive(Clone, Copy, Debug)]
 struct Unsettled(Class, Case);
 

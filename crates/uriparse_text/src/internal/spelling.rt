@@ -4,12 +4,12 @@ ghost use Rattle.uriparse_text.specs.Spelling as spec;
 
 use std::alloc::{AllocError, Global};
 
-/// Text that is borrowed or owned, and known to be canonical or not. It is no larger than text that
-/// does not keep the latter.
+/// Text that is borrowed or owned, and known to be canonical or not. Keeping the latter takes no
+/// extra space.
 #[derive(Drop)]
 pub enum Spelling<'t> {
-    /// Borrowed text, with 1 if it is known to be canonical. What reading finds is a word and not
-    /// the variant, so that the variant is known where a component is built and moved.
+    /// Borrowed text, with 1 if it is known to be canonical. That is a word and not a variant, so
+    /// the variant is known where a component is built and moved.
     Borrowed(&'t str, usize),
     /// Owned text, whose spelling is unknown.
     Owned(String),

@@ -60,10 +60,10 @@ fn text_in(class: Class, bytes: &[u8]) -> &str
 /// A text of one kind, whose tokens are all in the kind's class: a query, a fragment, a user name,
 /// a password, a segment or a registered name. RFC 3986, section 2.
 ///
-/// It borrows the bytes that it was read from, which cannot end before it, or owns its text.
-/// Contracts see it as its bytes. Two texts of a kind are equal if their canonical spellings are,
-/// in which an escaped unreserved byte stands for itself and other escapes have upper-case digits
-/// (sections 6.2.2.1 and 6.2.2.2); equal texts feed a hasher the same bytes.
+/// It borrows the bytes that it was read from, which outlive it, or owns its text. Contracts see it
+/// as its bytes. Two texts of a kind are equal if their canonical spellings are. In these no
+/// unreserved byte is escaped, other escapes have upper-case digits, and a registered name has
+/// lower-case letters (sections 6.2.2.1 and 6.2.2.2). Equal texts feed a hasher the same bytes.
 #[derive(Drop)]
 pub struct Text<'t, K: TextKind> {
     text: Spelling<'t>,
@@ -120,8 +120,8 @@ impl<'t, K: TextKind> Text<'t, K> {
     /// Reads a text of this kind, which borrows the bytes. Does not allocate, and walks the bytes
     /// once.
     ///
-    /// Rejects the leftmost fault with the kind's error: a `%` that two hexadecimal digits don't
-    /// follow, or a byte that is not in the class.
+    /// Fails with the kind's error for the leftmost fault: a `%` without two hexadecimal digits
+    /// after it, or a byte that is not in the class.
     pub fn try_from_bytes(bytes: &'t [u8]) -> Result<Text<'t, K>, K::Error>
         ensures { result ≡ reading_in K.class K.error_of bytes.now }
     {
@@ -131,7 +131,7 @@ impl<'t, K: TextKind> Text<'t, K> {
         }
     }
 
-    /// The same for a `str`.
+    /// Like [`try_from_bytes`](Text::try_from_bytes), for a `str`.
     pub fn try_from_str(text: &'t str) -> Result<Text<'t, K>, K::Error>
         ensures { result ≡ reading_in K.class K.error_of text.now }
     {
@@ -183,11 +183,11 @@ impl<'t, K: TextKind> Text<'t, K> {
         String::from_str(alloc, self.as_str())
     }
 
-    /// The bytes that the text stands for: the byte that its digits write for each escape, and each
-    /// other byte itself. Reserves capacity once.
+    /// Decodes the text: each escape becomes its byte, and each other byte stays. Reserves capacity
+    /// once.
     ///
-    /// Equal texts stand for the same bytes, if letters keep their case; so do texts that aren't
-    /// equal, as `%2F` and `/` in a query.
+    /// Equal texts decode to the same bytes, if the kind keeps the case of letters. Texts that
+    /// aren't equal may do so too, such as `%2F` and `/` in a query.
     pub fn decode(&self, alloc: Global) -> Result<Vec<u8>, AllocError>
         ensures bytes { IfOk result (λ v. v.items ≡ decoded self.now) }
         ensures alike { (other : List ℕ) → IsIn K.class other → canonical_in Kept other ≡ canonical_in Kept self.now → decoded other ≡ decoded self.now }
@@ -195,8 +195,8 @@ impl<'t, K: TextKind> Text<'t, K> {
         decoded_bytes(alloc, self.as_bytes())
     }
 
-    /// The text of this kind that stands for these bytes: a byte of the class is itself, any other
-    /// an escape with upper-case digits, as `/` in a segment. The result is canonical, and
+    /// Encodes the bytes as a text of this kind: a byte of the class stays, and any other becomes
+    /// an escape with upper-case digits, such as `#` in a query. The result is canonical, and
     /// [`decode`](Text::decode) returns the bytes again. Reserves capacity once.
     ///
     /// The kind must keep the case of letters, so registered names are not encoded.
@@ -245,15 +245,15 @@ impl<'t, K: TextKind> Text<'t, K> {
         Ok(())
     }
 
-    /// Whether the bytes are tokens whose canonical spelling is this text's. Bytes with a broken
-    /// escape equal no text. Does not allocate.
+    /// Whether the bytes have the same canonical spelling as this text. Bytes with a broken escape
+    /// equal no text. Does not allocate.
     pub fn eq_bytes(&self, bytes: &[u8]) -> bool
         ensures { IsTrue result ↔ SpellsAlike K.case bytes.now self.now }
     {
         same_spelling(K::case(), bytes, self.as_bytes())
     }
 
-    /// The same for a `str`.
+    /// Like [`eq_bytes`](Text::eq_bytes), for a `str`.
     pub fn eq_str(&self, text: &str) -> bool
         ensures { IsTrue result ↔ SpellsAlike K.case text.now self.now }
     {

@@ -9,7 +9,7 @@ pub enum Token {
     Escape(u8, u8),
 }
 
-/// Whether an escape begins with this byte and goes on with these.
+/// Whether `b` and the bytes `after` it begin with an escape.
 #[inline]
 pub fn is_escape(b: u8, after: &[u8]) -> bool
     ensures { result ≡ spec.is_escape b after.now }
@@ -23,7 +23,8 @@ pub fn is_escape(b: u8, after: &[u8]) -> bool
     }
 }
 
-/// The first token and what follows it. A `%` that two digits don't follow is a byte by itself.
+/// The first token and what follows it. A `%` without two hexadecimal digits after it is a byte by
+/// itself.
 #[inline]
 pub fn split_token(text: &[u8]) -> Option<(Token, &[u8])>
     ensures cut { MatchOption result (text.now ≡ []) (λ x. spec.tokens text.now ≡ x.0 ∷ spec.tokens x.1.now) }

@@ -12,8 +12,8 @@ use super::Host;
 use std::marker::Model;
 use uriparse_text::address::{Ipv4Addr, Ipv6Addr};
 
-/// The bytes of a name or of an address of a later version, or an IPv4 or IPv6 address. Seen as the
-/// host that it is.
+/// The bytes of a name or of an address of a later version, or an IPv4 or IPv6 address. Contracts
+/// see it as the host.
 #[derive(Drop)]
 pub(in crate::authority) struct FoundHost<'h> {
     // 0 a name, 4, 6 and 7 an address: a word, since a narrow tag would be moved with its padding.
