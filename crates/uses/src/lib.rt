@@ -5,7 +5,6 @@
 //! serve as examples: copy what fits.
 #![tactic(auto)]
 
-pub mod first_steps;
 pub mod links;
 pub mod proxy;
 pub mod redirects;
