@@ -75,7 +75,7 @@ static void starve(int which, const char *text) {
   wrong += held != 0 || (which < 2 && wanted != 0);
   for (long n = 1; n <= wanted; n++) {
     start(&to, n);
-    before = to;
+    memcpy(&before, &to, sizeof to);
     uint32_t failed = call(which, text, &to);
     starved += failed == URIPARSE_OUT_OF_MEMORY;
     wrong += failed != URIPARSE_OUT_OF_MEMORY || memcmp(&to, &before, sizeof to) != 0 || held != 0;

@@ -49,15 +49,15 @@ static void normalizes(const char *text, const char *expected) {
 static void rejects(const char *text, uint32_t expected) {
   struct uriparse_parts parts, before;
   memset(&parts, 0x5a, sizeof parts);
-  before = parts;
+  memcpy(&before, &parts, sizeof parts);
   uint32_t code = uriparse_parse(text, strlen(text), &parts);
   check(code == expected, "code of", text);
   check(memcmp(&parts, &before, sizeof parts) == 0, "parts unchanged", text);
   uint8_t out[4] = {1, 2, 3, 4};
   size_t needed = 7;
   check(uriparse_normalize(text, strlen(text), out, 4, &needed) == expected && needed == 0 && out[0] == 1, "normalize rejects", text);
-  check(uriparse_resolve(text, strlen(text), "x", 1, out, 4, &needed) == (expected | URIPARSE_IN_BASE) || expected == URIPARSE_COLON_IN_SEGMENT,
-        "base rejected", text);
+  uint32_t of_base = expected == URIPARSE_COLON_IN_SEGMENT ? URIPARSE_NO_SCHEME : expected;
+  check(uriparse_resolve(text, strlen(text), "x", 1, out, 4, &needed) == (of_base | URIPARSE_IN_BASE), "base rejected", text);
   check(uriparse_resolve("s:", 2, text, strlen(text), out, 4, &needed) == expected && needed == 0, "reference rejected", text);
 }
 
@@ -99,7 +99,7 @@ static void hashes(const char *left, const char *right, bool alike) {
             && (one == other) == alike, "hash", right);
 }
 
-/* Every code of the header has a text of its own, and no other has one. */
+/* As many codes have a text as the header names. */
 static void texts(void) {
   int named = 0;
   for (uint32_t code = 0; code < 0x100; code++) {

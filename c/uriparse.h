@@ -13,8 +13,10 @@
  * the text.
  *
  * There is no state between calls, so calls may run concurrently in any threads. `uriparse_parse` and `uriparse_is_uri`
- * do not allocate, and may be called in a signal handler. The other calls allocate with `malloc` and free what they
- * allocated before they return; if memory runs out, they return URIPARSE_OUT_OF_MEMORY. The caller frees nothing.
+ * do not allocate, and may be called in a signal handler. The other calls may not be called there, nor in the forked
+ * child of a process with threads. They allocate with `malloc` and `realloc`, which together with `free` are one
+ * allocator that aligns a block to each power of two up to 16 that divides its size, and free what they allocated
+ * before they return; if memory runs out, they return URIPARSE_OUT_OF_MEMORY. The caller frees nothing.
  *
  * Limits: a path has at most 1,000,000 segments, a port is at most 65535. Texts are as long as memory allows. */
 #ifndef URIPARSE_H
@@ -32,15 +34,15 @@ extern "C" {
 
 /* What a call returns. The error of a text is its first one: of the authority (user name, password, host, port), then
  * of the path, the colon rule, the query, the fragment; and within each of these the leftmost one. `code & 0xf0` names
- * the component, and `code & URIPARSE_IN_BASE` is set if `uriparse_resolve` rejects the base. Later versions may add
- * codes. */
+ * the component, unless it is 0, and `code & URIPARSE_IN_BASE` is set if `uriparse_resolve` rejects the base. Later
+ * versions may add codes. */
 enum uriparse_code {
   URIPARSE_OK = 0,
-  URIPARSE_OUT_OF_MEMORY = 1,     /* `malloc` returned NULL */
+  URIPARSE_OUT_OF_MEMORY = 1,     /* `malloc` or `realloc` returned NULL */
   URIPARSE_NO_ROOM = 2,           /* `room` is too small: `*needed` bytes are enough */
-  URIPARSE_NO_SCHEME = 3,         /* of a base alone: it has no scheme */
-  URIPARSE_COLON_IN_SEGMENT = 4,  /* without a scheme, a colon precedes the first slash: "1:2" */
-  URIPARSE_TOO_MANY_SEGMENTS = 5, /* a path has more than 1,000,000 segments, or would have, resolved */
+  URIPARSE_NO_SCHEME = 3,         /* of a base alone: it has no scheme, and no error but code 4 */
+  URIPARSE_COLON_IN_SEGMENT = 4,  /* without a scheme, a colon precedes the path's first slash: "1:2" */
+  URIPARSE_TOO_MANY_SEGMENTS = 5, /* a path, or the one merged of both, has more than 1,000,000 segments */
 
   URIPARSE_USERNAME_BYTE = 0x11,   /* a byte that no user name has */
   URIPARSE_USERNAME_ESCAPE = 0x12, /* a '%' that two hexadecimal digits don't follow */
@@ -108,8 +110,9 @@ uint32_t uriparse_parse(const uint8_t *text, size_t len, struct uriparse_parts *
 bool uriparse_is_uri(const uint8_t *text, size_t len);
 
 /* Writes to `*equal` whether two references are equal: whether their hosts, if they have any, are of one kind, and
- * their texts differ at most by case in schemes and hosts and by percent-encoding ("%7e" and "~"). Dot segments count:
- * normalize first if they shouldn't. If both texts are faulty, the error is the left one's.
+ * their texts, in the form that calls write (see `uriparse_normalize`), differ at most by case in schemes, hosts and
+ * hexadecimal digits and by percent-encoding of unreserved characters ("%7e" and "~", but not "%2F" and "/"). Dot
+ * segments count: normalize first if they shouldn't. If both texts are faulty, the error is the left one's.
  *
  * The caller ensures: each text is readable for its length; `equal` is writable. */
 uint32_t uriparse_equal(const uint8_t *left, size_t left_len, const uint8_t *right, size_t right_len, bool *equal);
@@ -123,6 +126,9 @@ uint32_t uriparse_hash(const uint8_t *text, size_t len, uint64_t *hash);
 /* Writes to `out` the text of a reference's normal form (section 6.2.2: case, percent-encoding, dot segments), and to
  * `*needed` its length. If `room` is less, returns URIPARSE_NO_ROOM, and `out` is unchanged. No zero byte follows the
  * text; what follows it in `out` is unchanged.
+ *
+ * In each text that is written, also by `uriparse_resolve`, a registered scheme is in lower case, a port has no leading
+ * zeros, an empty port is left out, an IPv6 address has its shortest form, and an empty path after an authority is "/".
  *
  * The caller ensures: `text` is readable for `len` bytes; `out` is writable for `room` bytes; `needed` is writable. */
 uint32_t uriparse_normalize(const uint8_t *text, size_t len, uint8_t *out, size_t room, size_t *needed);

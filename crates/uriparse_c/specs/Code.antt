@@ -1,4 +1,4 @@
--- The codes that a caller in C gets: 0, or one for each error. The header has a name for each.
+-- The codes that a caller in C gets: 0, or one for each error. The header has a name for each that a call returns.
 use Rattle.std.specs.Prelude.{ℕ, Bool, true, false, ◌+◌, ◌==◌, if◌then◌else◌}
 use Rattle.uriparse_text.specs.declared.query.QueryError.{QueryError}
 use Rattle.uriparse_text.specs.declared.query.QueryError.TheVariants as queries
@@ -98,7 +98,7 @@ scheme_code schemes.Empty = 0x80
 scheme_code schemes.InvalidCharacter = 0x81
 scheme_code schemes.StartsWithNonAlphabetic = 0x82
 
--- Reading never returns 6, 7, or the code of a scheme's error.
+-- Reading a reference never returns 6, 7, 0x10, 0x30, or the code of a scheme's error.
 abbrev pub code_of : URIReferenceError → ℕ
 code_of references.AbsolutePathStartsWithTwoSlashes = 6
 code_of references.SchemelessPathStartsWithColonSegment = 4

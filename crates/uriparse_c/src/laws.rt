@@ -9,7 +9,7 @@ ghost use Rattle.uriparse_c.specs.Code as spec;
 ghost use Rattle.uriparse_c.specs.Hash.{hash_of};
 
 /// Codes and errors match one to one: errors with the same code are equal, also those of a base. No
-/// error has the code of success, or of a buffer that is too small.
+/// error of a reference has the code of success, or of a buffer that is too small.
 pub fn one_code()
     ensures one { (e f : URIReferenceError) → spec.code_of e ≡ spec.code_of f → e ≡ f }
     ensures one_uri { (e f : URIError) → spec.uri_code e ≡ spec.uri_code f → e ≡ f }
