@@ -1,6 +1,6 @@
 -- What the results of reading and resolving mean for a redirect.
 use Rattle.std.proofs.Common.{◌≡◌, ℕ, List, Option, Some, None, Ok, Err, inl, inr, refl, sym, ap, subst, ◌∙◌}
-use Rattle.std.specs.Prelude.{◌⊎◌, Result, IfOk, MatchOption}
+use Rattle.std.specs.Prelude.{◌⊎◌, Result, IfErr, IfOk, MatchOption}
 use Rattle.uriparse.specs.Readings.{IsUnless}
 use Rattle.uriparse.specs.PathError.TheVariants.{ExceededMaximumLength, OutOfMemory}
 use Rattle.uriparse.specs.Authority.{AuthorityParts}
@@ -12,7 +12,7 @@ use Rattle.uriparse.specs.declared.uri.error.URIError.{URIError}
 use Rattle.uriparse.specs.declared.uri.error.URIError.TheVariants as uris
 use Rattle.uses.specs.declared.redirects.RedirectError.{RedirectError}
 use Rattle.uses.specs.declared.redirects.RedirectError.TheVariants as errors
-use Rattle.uses.specs.Redirects.{GoesTo, IsAt, IsWant, IsUnlessWant, Follows}
+use Rattle.uses.specs.Redirects.{GoesTo, IsAt, IsWant, IsUnlessWant, Follows, Refuses}
 
 -- what resolving returns
 abbrev pub Resolves : Option Parts → Result Parts URIError → Type 0
@@ -44,6 +44,16 @@ pub followed : (request r : Parts) (location : List ℕ) (a : AuthorityParts) (a
     → Follows (target request r) a answer → IfOk answer (λ t. GoesTo request location t × IsAt a t)
 followed request r location a (Ok t) s h = ((r, s, h.0), h.1)
 followed request r location a (Err e) s h = tt
+
+-- why a Location that was read is not followed
+pub refused : (request r : Parts) (location : List ℕ) (a : AuthorityParts) (answer : Result Parts RedirectError) → Spells location r
+    → Follows (target request r) a answer → IfErr answer (λ e. Refuses request location a e)
+refused request r location a (Ok t) s h = tt
+refused request r location a (Err errors.Memory) s h = tt
+refused request r location a (Err errors.Elsewhere) s h = (h.0, (r, s, h.1), h.2)
+refused request r location a (Err (errors.Target e)) s (inl h) = inl (r, s, h)
+refused request r location a (Err (errors.Target e)) s (inr h) = inr h
+refused request r location a (Err (errors.Location e)) s h = absurd h
 
 -- an allowed target is returned
 allowed_at : (o : Option Parts) (t : Parts) (a : AuthorityParts) (answer : Result Parts RedirectError) → o ≡ Some t → IsAt a t → Follows o a answer

@@ -4,6 +4,7 @@ use Rattle.std.specs.Option.{IsSomeAnd}
 use Rattle.uriparse.specs.PathError.TheVariants.{OutOfMemory}
 use Rattle.uriparse.specs.Authority as authority
 use Rattle.uriparse.specs.URIReferenceError.TheVariants as references
+use Rattle.uriparse.specs.Reading.{fault}
 use Rattle.uriparse.specs.Reference.{Parts, Spells}
 use Rattle.uriparse.specs.Target.{target}
 use Rattle.uriparse.specs.declared.uri.error.URIError.TheVariants as uris
@@ -17,6 +18,13 @@ GoesTo request location t = (r : Parts) × Spells location r × (target request 
 -- It has an authority that equals the allowed one: they have one canonical text, and hosts of one kind.
 abbrev pub IsAt : authority.AuthorityParts → Parts → Type 0
 IsAt allowed t = IsSomeAnd t.authority (λ a. authority.key a ≡ authority.key allowed)
+
+-- Why a redirect is rejected: the Location is faulty, or has no target, or the target is not at the allowed authority; or memory ran out.
+abbrev pub Refuses : Parts → List ℕ → authority.AuthorityParts → RedirectError → Type 0
+Refuses request location allowed (errors.Location e) = (fault location ≡ Some e) ⊎ (e ≡ references.Path OutOfMemory)
+Refuses request location allowed (errors.Target e) = ((r : Parts) × Spells location r × (target request r ≡ None)) ⊎ (e ≡ uris.Path OutOfMemory)
+Refuses request location allowed errors.Elsewhere = (t : Parts) × GoesTo request location t × (IsAt allowed t → ⊥)
+Refuses request location allowed errors.Memory = ⊤
 
 -- memory was wanted
 abbrev pub IsWant : RedirectError → Type 0

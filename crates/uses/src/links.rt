@@ -67,8 +67,8 @@ fn put_last<'l>(targets: &mut Vec<URI<'l>>, target: URI<'l>) -> Result<(), PathE
 }
 
 /// Relative links for the absolute ones of a page, in order: each resolves against the page's base
-/// to what the absolute link resolves to, and leaves out what it has in common with the base. The
-/// links borrow the texts of the absolute ones.
+/// to what the absolute link resolves to, as the contract states, and leaves out what it has in
+/// common with the base. The links borrow the texts of the absolute ones.
 ///
 /// Reserves capacity for the links once, and each link allocates its path. Fails only if memory
 /// runs out.

@@ -1,8 +1,8 @@
 //! A redirect checker: whether a response's `Location` stays at an allowed authority.
-ghost use Rattle.std.specs.Prelude.{◌≡◌, ◌↔◌, IsTrue, IfOk, MatchResult, Err, Some};
+ghost use Rattle.std.specs.Prelude.{◌≡◌, ◌↔◌, IsTrue, IfErr, IfOk, MatchResult, Some};
 ghost use Rattle.uriparse.specs.Reference.{Parts};
 ghost use Rattle.uriparse.specs.Target.{target};
-ghost use Rattle.uses.specs.declared.redirects.RedirectError.TheVariants.{Elsewhere, Memory};
+ghost use Rattle.uses.specs.declared.redirects.RedirectError.TheVariants.{Memory};
 ghost use Rattle.uses.specs.Redirects.{GoesTo, IsAt};
 ghost use Rattle.uses.specs.Redirects as spec;
 
@@ -52,8 +52,8 @@ pub fn follow(
     // What is allowed is followed, unless memory runs out.
     ensures only { (t : Parts) → GoesTo request.now location.now t → IsAt allowed.now t → spec.IsUnlessWant result t }
 
-    // What is rejected as elsewhere goes to another authority, or to none.
-    ensures elsewhere { result ≡ Err Elsewhere → (t : Parts) × GoesTo request.now location.now t × (IsAt allowed.now t → ⊥) }
+    // Each error has its own reason.
+    ensures refused { IfErr result (λ e. spec.Refuses request.now location.now allowed.now e) }
 {
     match URIReference::try_from_str(alloc, location) {
         Ok(reference) => follow_to(alloc, request, &reference, allowed),

@@ -27,8 +27,8 @@ impl<T: Drop> From<AllocFailed<T>> for RegistryError {
 }
 
 /// Identifiers in the order in which they were registered. No two of them are equal; identifiers
-/// are equal if they differ only by percent-encoding, or by the case of letters where it doesn't
-/// count.
+/// are equal if they differ only by percent-encoding of unreserved characters, or by the case of
+/// letters where it doesn't count.
 ///
 /// ```
 /// let mut registry = Registry::new(alloc);

@@ -6,8 +6,8 @@ use uriparse::URI;
 
 /// The index of the first schema that is known by this URI without its fragment, which names a
 /// place in the schema: `#/definitions/a` and the like. A URI that differs only by
-/// percent-encoding, such as `%7E` for `~`, or by the case of letters where case doesn't count, is
-/// found too.
+/// percent-encoding of unreserved characters, such as `%7E` for `~`, or by the case of letters where
+/// case doesn't count, is found too.
 ///
 /// The schemas are identified by their URIs, which have no fragments. Does not allocate.
 ///
