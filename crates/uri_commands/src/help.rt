@@ -30,7 +30,8 @@ uri --quiet parse TEXT, uri --quiet equal A B
                       nothing but the status
 uri --lines parse, uri --lines normalize, uri --lines resolve BASE,
 uri --lines get PART, uri --lines equal
-                      the same for each line of the standard input
+                      the same for each line of the standard input;
+                      parse prints JSON objects
 uri --version         the version
 ";
 

@@ -60,8 +60,9 @@ pub fn run<O: Write, E: Write>(alloc: Global, words: &[&str], out: &mut O, err: 
 /// - 2 on a usage error: `err` gets a line on the usage;
 /// - 3 if `get` finds no such part, or `--quiet equal` two references that differ. Nothing is written.
 ///
-/// With `--quiet` nothing is written about rejected texts. Only `--lines` reads the input. Without it
-/// nothing is written to `out` before all texts of the command are read.
+/// With `--quiet` nothing is written about rejected texts nor, without `--lines`, about a lack of
+/// memory. Only `--lines` reads the input. Without it nothing is written to `out` before all texts of
+/// the command are read.
 pub fn run_with_input<I: Read, O: Write, E: Write>(
     alloc: Global,
     words: &[&str],

@@ -85,10 +85,11 @@ uri --quiet equal A B
 uri --lines equal
 uri --lines --quiet equal
 
-Prints `equal` if the two references differ at most by case and by escapes that
-stand for the same, else `different`. Dot segments count: normalize first. With
---quiet the status alone reports the result. With --lines a line has the two
-texts, separated by a tab.
+Prints `equal` if the two references are printed alike, but for escapes of
+unreserved characters and the case of scheme, host and escapes; else prints
+`different`. A host name differs from every address. Dot segments count:
+normalize first. With --quiet the status alone reports the result. With --lines
+a line has the two texts, separated by a tab.
 
 Exit status: 0 on success, 1 if a text is no reference, 2 on a usage error,
 3 with --quiet if two references differ.
@@ -107,7 +108,7 @@ Prints the target of the reference against the base, a URI: RFC 3986, section
 5.2.
 
 Exit status: 0 on success, 1 if the base is no URI, a text is no reference or
-the target's path is too long, 2 on a usage error.
+the merged path is too long, 2 on a usage error.
 
 Example:
     uri resolve 'http://a/b/c/d;p?q' '../g#s'
@@ -185,7 +186,8 @@ Prints the commands, or more on one of them or on one of the options --json,
 --quiet and --lines. Options come before the command, in any order: a word
 after the command is a text.
 
-Exit status: 0 on success, 2 on a usage error.
+Exit status: 0 on success, 2 on a usage error. Every command ends with 1 if
+memory runs out, a read or a write fails, or an argument is not UTF-8.
 
 Example:
     uri parse --help
@@ -230,7 +232,7 @@ uri --lines --quiet parse
 uri --lines --quiet equal
 
 Prints nothing about texts; the status alone reports the result. With --lines,
-a read that fails is still reported.
+a read that fails and a lack of memory are still reported.
 
 Exit status: 0 on success, 1 if a text is no reference, 2 on a usage error,
 3 if two references differ.
