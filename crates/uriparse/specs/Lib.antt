@@ -4,32 +4,64 @@ pub mod Uri
 pub mod RelativeReference
 -- texts: RFC 3986, section 2
 pub use Rattle.uriparse_text.specs.Bytes
+pub use Rattle.uriparse_text.specs.Classes
+pub use Rattle.uriparse_text.specs.Tokens
+pub use Rattle.uriparse_text.specs.Cuts as TextCuts
+pub use Rattle.uriparse_text.specs.Faults as TextFaults
 pub use Rattle.uriparse_text.specs.Readings
 pub use Rattle.uriparse_text.specs.Canonical
 pub use Rattle.uriparse_text.specs.Coding
 pub use Rattle.uriparse_text.specs.Query
 pub use Rattle.uriparse_text.specs.Fragment
+pub use Rattle.uriparse_text.specs.declared.internal.class.Class
+pub use Rattle.uriparse_text.specs.declared.internal.canonical.Case
+pub use Rattle.uriparse_text.specs.declared.query.QueryError
+pub use Rattle.uriparse_text.specs.declared.fragment.FragmentError
 -- schemes: section 3.1
+pub use Rattle.uriparse_scheme.specs.SchemeTable
+pub use Rattle.uriparse_scheme.specs.Registered
+pub use Rattle.uriparse_scheme.specs.Grammar as SchemeGrammar
 pub use Rattle.uriparse_scheme.specs.Scheme
+pub use Rattle.uriparse_scheme.specs.Unregistered
+pub use Rattle.uriparse_scheme.specs.Normal as SchemeNormal
 pub use Rattle.uriparse_scheme.specs.declared.scheme.Scheme as SchemeValue
+pub use Rattle.uriparse_scheme.specs.declared.scheme.registered.RegisteredScheme
+pub use Rattle.uriparse_scheme.specs.declared.scheme.microsoft.MicrosoftScheme
+pub use Rattle.uriparse_scheme.specs.declared.scheme.status.SchemeStatus
+pub use Rattle.uriparse_scheme.specs.declared.scheme.error.SchemeError
+pub use Rattle.uriparse_scheme.specs.declared.scheme.error.UnregisteredSchemeError
 -- authorities: section 3.2
+pub use Rattle.uriparse_text.specs.Address
+pub use Rattle.uriparse_text.specs.IpAddr
 pub use Rattle.uriparse_authority.specs.Authority
-pub use Rattle.uriparse_authority.specs.declared.authority.host.Host as HostValue
-pub use Rattle.uriparse_authority.specs.Name
 pub use Rattle.uriparse_authority.specs.Username
 pub use Rattle.uriparse_authority.specs.Password
+pub use Rattle.uriparse_authority.specs.Host
+pub use Rattle.uriparse_authority.specs.Name
+pub use Rattle.uriparse_authority.specs.Future
 pub use Rattle.uriparse_authority.specs.Port
+pub use Rattle.uriparse_authority.specs.Normal as AuthorityNormal
+pub use Rattle.uriparse_authority.specs.declared.authority.host.Host as HostValue
+pub use Rattle.uriparse_authority.specs.declared.authority.error.AuthorityError
+pub use Rattle.uriparse_authority.specs.declared.authority.error.UsernameError
+pub use Rattle.uriparse_authority.specs.declared.authority.error.PasswordError
+pub use Rattle.uriparse_authority.specs.declared.authority.error.HostError
+pub use Rattle.uriparse_authority.specs.declared.authority.error.PortError
 -- paths: section 3.3
 pub use Rattle.uriparse_path.specs.Segment
 pub use Rattle.uriparse_path.specs.Path
+pub use Rattle.uriparse_path.specs.Faults as PathFaults
 pub use Rattle.uriparse_path.specs.Dots
 pub use Rattle.uriparse_path.specs.Relative
 pub use Rattle.uriparse_path.specs.Edits as PathEdits
+pub use Rattle.uriparse_path.specs.Lends as PathLends
 pub use Rattle.uriparse_path.specs.Normal as PathNormal
+pub use Rattle.uriparse_path.specs.Merge as PathMerge
 pub use Rattle.uriparse_path.specs.Relate as PathRelate
 pub use Rattle.uriparse_path.specs.declared.path.error.PathError
 -- references: sections 4 and 5
 pub use Rattle.uriparse_reference.specs.Reference
+pub use Rattle.uriparse_reference.specs.Kinds as ReferenceKinds
 pub use Rattle.uriparse_reference.specs.Cuts
 pub use Rattle.uriparse_reference.specs.Reading
 pub use Rattle.uriparse_reference.specs.Edits
@@ -38,4 +70,5 @@ pub use Rattle.uriparse_reference.specs.Key
 pub use Rattle.uriparse_reference.specs.Normal
 pub use Rattle.uriparse_reference.specs.Target
 pub use Rattle.uriparse_reference.specs.Relate
+pub use Rattle.uriparse_reference.specs.declared.uri_reference.edit.Edit
 pub use Rattle.uriparse_reference.specs.declared.uri_reference.error.URIReferenceError

@@ -186,6 +186,6 @@ impl<'b, K: ReferenceKind> Eq for BuilderOf<'b, K> {
 
 impl<'b, K: ReferenceKind> fmt::Debug for BuilderOf<'b, K> {
     fn fmt<W: fmt::Write>(&self, f: &mut fmt::Formatter<W>) -> fmt::Result {
-        f.debug_tuple(K::name()).field(&self.builder).finish()
+        f.debug_tuple("BuilderOf").field(&self.builder).finish()
     }
 }

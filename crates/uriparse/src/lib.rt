@@ -1,12 +1,13 @@
 //! URIs, relative references and URI references: RFC 3986.
 //!
 //! Each component has a module, with its types and its errors. The main ones are re-exported here;
-//! `RegisteredScheme`, `MicrosoftScheme`, `UnregisteredSchemeError`, `parse_port` and
-//! `MAX_SEGMENTS` are only in their modules.
+//! `RegisteredScheme`, `MicrosoftScheme`, `UnregisteredSchemeError`, `parse_port`, `MAX_SEGMENTS`
+//! and the kinds of texts, references and paths are only in their modules.
 //!
 //! Some types are aliases of a more general one, whose docs list their calls: [`Query`],
-//! [`Fragment`], [`Username`] and [`Password`] are each a [`Text`], [`URI`] and
-//! [`RelativeReference`] are each a [`ReferenceOf`], and their builders a [`BuilderOf`].
+//! [`Fragment`], [`Username`] and [`Password`] are each a [`Text`], [`Path`] is a [`PathOf`],
+//! [`URI`] and [`RelativeReference`] are each a [`ReferenceOf`], and their builders a
+//! [`BuilderOf`].
 #![tactic(auto)]
 
 mod builder_of;
@@ -26,7 +27,7 @@ pub use uriparse_authority::authority::{
     PasswordError, PortError, RegisteredName, RegisteredNameError, Username, UsernameError,
 };
 pub use uriparse_path::path;
-pub use uriparse_path::path::{Path, PathError, Segment};
+pub use uriparse_path::path::{Path, PathError, PathOf, Segment};
 pub use uriparse_reference::uri_reference;
 pub use uriparse_reference::uri_reference::{
     Edit, URIReference, URIReferenceBuilder, URIReferenceError,

@@ -37,7 +37,8 @@ pub enum URIError {
     /// The fragment's fault.
     #[error(transparent)]
     Fragment(FragmentError),
-    /// Reading never returns this: a text that does not begin with a scheme has none.
+    /// The scheme's fault, from a builder. Reading never returns this: a text that does not begin
+    /// with a scheme has none.
     #[error(transparent)]
     Scheme(SchemeError),
 }

@@ -14,7 +14,8 @@ impl<'u> URI<'u> {
     /// `uri` itself yields, which is `uri` again if its path has no dot segments. It borrows the
     /// texts of `uri`.
     ///
-    /// It omits the components that both have in the same spelling. If scheme and authority are the
+    /// It omits what both have in the same spelling, from the front: the scheme, then the authority,
+    /// then directories; and the query if all before it is the same. If scheme and authority are the
     /// same, the path is relative: `..` for each directory of this URI's path that the other is not
     /// in, then the segments after those that it is in; a leading `.` precedes a first segment that
     /// is empty or has a colon. If the paths are the same too, there is no path, unless a query

@@ -21,10 +21,11 @@ impl<'u> URI<'u> {
     /// fragment is the reference's.
     ///
     /// Fails with [`Path`](URIError::Path) of
-    /// [`ExceededMaximumLength`](uriparse_path::path::PathError::ExceededMaximumLength) if paths
-    /// are merged and together have more segments than a path may have, even if memory has run out.
-    /// Else allocates the list of segments once; if memory runs out, the error is
-    /// [`Path`](URIError::Path) of [`OutOfMemory`](uriparse_path::path::PathError::OutOfMemory).
+    /// [`ExceededMaximumLength`](uriparse_path::path::PathError::ExceededMaximumLength) if the
+    /// merged path, that is the base's without its last segment and then the reference's, has more
+    /// segments than a path may have, even if memory has run out. Else allocates the list of
+    /// segments once; if memory runs out, the error is [`Path`](URIError::Path) of
+    /// [`OutOfMemory`](uriparse_path::path::PathError::OutOfMemory).
     ///
     /// ```
     /// let base = URI::try_from_str(alloc, "http://a/b/c/d;p?q")?;
