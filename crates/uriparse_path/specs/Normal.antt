@@ -17,7 +17,8 @@ canonical_path p = record { absolute = p.absolute; segments = map canonical p.se
 abbrev pub stays_relative : PathParts → Bool → Bool
 stays_relative p as_reference = as_reference && not (is_rooted (text p))
 
--- The normal form of a path. One that may be that of a reference without a scheme can stay relative. From any other path the dot segments are removed; one that has none keeps its list.
+-- The normal form of a path. One that may be that of a reference without a scheme can stay relative. From any other path the dot segments
+-- are removed; one that has none keeps its list.
 abbrev pub pnormal : PathParts → Bool → PathParts
 pnormal p as_reference =
     if stays_relative p as_reference then record { absolute = false; segments = relative_normal p.segments }

@@ -320,8 +320,8 @@ impl<'p> Hash for Path<'p> {
     }
 }
 
-/// If the text before the first slash spells the segment, returns the rest of the text. If the text
-/// begins with the segment's own bytes, no slash is searched for.
+/// If the text before the first slash spells the segment, returns the rest of the text. If that is
+/// the segment's own bytes, no slash is searched for.
 #[inline(always)]
 fn strip_piece<'t>(text: &'t [u8], segment: &[u8]) -> Option<&'t [u8]>
     requires { is_segment segment.now ≡ true }

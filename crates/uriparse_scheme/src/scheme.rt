@@ -66,12 +66,9 @@ impl<'s> Scheme<'s> {
     pub fn try_from_bytes(bytes: &'s [u8]) -> Result<Scheme<'s>, SchemeError>
         ensures { result ≡ spec.reading bytes.now }
     {
-        if let Some(error) = fault_of(bytes) {
-            return Err(error);
-        }
-        match registered_named(bytes) {
-            Some(scheme) => Ok(Scheme::Registered(scheme)),
-            None => Ok(Scheme::Unregistered(UnregisteredScheme::of_checked(bytes))),
+        match fault_of(bytes) {
+            Some(error) => Err(error),
+            None => Ok(Scheme::of_checked(bytes)),
         }
     }
 

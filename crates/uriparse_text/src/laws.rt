@@ -98,7 +98,7 @@ pub fn examples_of_addresses()
     ensures leading_zero { ipv4_reading (codes "01.2.3.4") ≡ None }
     ensures three_octets { ipv4_reading (codes "1.2.3") ≡ None }
     ensures ipv6 { ipv6_reading (codes "1::2:1.2.3.4") ≡ Some (1 ∷ 0 ∷ 0 ∷ 0 ∷ 0 ∷ 2 ∷ 258 ∷ 772 ∷ []) }
-    ensures no_group { ipv6_reading (codes "1:2:3:4:5:6:7::") ≡ Some (1 ∷ 2 ∷ 3 ∷ 4 ∷ 5 ∷ 6 ∷ 7 ∷ 0 ∷ []) }
+    ensures one_group_left_out { ipv6_reading (codes "1:2:3:4:5:6:7::") ≡ Some (1 ∷ 2 ∷ 3 ∷ 4 ∷ 5 ∷ 6 ∷ 7 ∷ 0 ∷ []) }
     ensures all_groups_left_out { ipv6_reading (codes "::") ≡ Some (0 ∷ 0 ∷ 0 ∷ 0 ∷ 0 ∷ 0 ∷ 0 ∷ 0 ∷ []) }
     ensures two_gaps { ipv6_reading (codes "1::2::3") ≡ None }
     ensures nine_groups { ipv6_reading (codes "1:2:3:4:5:6:7:8::") ≡ None }

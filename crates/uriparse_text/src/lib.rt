@@ -1,6 +1,6 @@
 //! What the components of a URI share: tokens, classes and canonical spelling (RFC 3986, sections 2
-//! and 6.2.2), the addresses that a host may be (3.2.2), and the two components without a grammar
-//! of their own: query and fragment (3.4, 3.5).
+//! and 6.2.2), the addresses that a host may be (3.2.2), and the two components that are no more
+//! than a text of one class: query and fragment (3.4, 3.5).
 #![tactic(auto)]
 
 pub mod address;

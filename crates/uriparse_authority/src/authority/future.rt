@@ -89,7 +89,7 @@ fn is_version(bytes: &[u8]) -> bool
 }
 
 /// Whether there is a text and it isn't empty.
-fn is_address(text: Option<&[u8]>) -> bool
+fn has_address(text: Option<&[u8]>) -> bool
     ensures { result ≡ spec.has_address (option_copied text.entry) }
 {
     match text {
@@ -103,7 +103,7 @@ fn has_version(text: &[u8]) -> bool
     ensures { result ≡ spec.is_some_of is_hex (before dot text.now) && spec.has_address (after dot text.now) }
 {
     let (version, rest) = split_at_mark(text, b'.');
-    is_version(version) && is_address(without_mark(rest))
+    is_version(version) && has_address(without_mark(rest))
 }
 
 /// Whether the text begins with `v`, a version and a dot, and goes on.

@@ -99,7 +99,7 @@ impl<'n> RegisteredName<'n> {
         }
     }
 
-    /// Reads a name of bytes that are known to spell no address.
+    /// Reads a text of the class of names, also that of an address.
     fn of_class(bytes: &'n [u8]) -> Result<RegisteredName<'n>, RegisteredNameError>
         ensures { result ≡ reading_in class.Name spec.error_of bytes.now }
     {

@@ -127,9 +127,9 @@ impl<'p> Path<'p> {
     fn take_dots(&mut self, has_authority: bool)
         requires shown { has_authority ≡ false → path.hides_root self.old.segments ≡ false }
         requires dots { spec.has_dot_segment self.old.segments ≡ true }
+        requires listed { path.IsListed self.old.segments }
         ensures { self.new ≡ shield_unless has_authority (spec.without_dots self.old) }
     {
-        self.segments();
         let all_canonical = self.is_known_canonical();
         let (rooted, kept) = replay(self.absolute != 0, &mut self.segments);
         let (absolute, kept) = root_first(rooted, &mut self.segments, kept);

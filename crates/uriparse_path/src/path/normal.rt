@@ -270,9 +270,10 @@ impl<'p> Path<'p> {
     ///
     /// With `as_reference` the path may be that of a reference without a scheme. If so and its text
     /// does not begin with a slash, each `.` is removed, and each `..` together with the segment
-    /// before it. If a dot segment was last, an empty segment is last then, unless nothing or a
-    /// `..` is left. So `a/b/..` becomes `a/`, and `../.` becomes `..`. A leading `.` is added if
-    /// the first segment would otherwise be read as a scheme or a root.
+    /// before it, if there is one that is no `..`. If a dot segment was last, an empty segment is
+    /// last then, unless nothing is left or a `..` is last. So `a/b/..` becomes `a/`, and `../.`
+    /// becomes `..`. A leading `.` is added if the text would otherwise begin with a slash, or if
+    /// its first segment has a colon and the old first one had none.
     ///
     /// Dot segments of other paths are removed as by
     /// [`remove_dot_segments`](Path::remove_dot_segments). A second call changes nothing.

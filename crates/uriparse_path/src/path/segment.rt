@@ -132,33 +132,25 @@ impl<'s> Segment<'s> {
         }
     }
 
-    /// The segment of checked bytes.
-    pub(super) fn of_checked(bytes: &'s [u8]) -> Segment<'s>
-        requires { spec.IsSegment bytes.now }
-        ensures { result ≡ bytes.now }
-    {
-        Segment::of_kept(bytes, false)
-    }
-
     /// The empty segment.
     pub fn empty() -> Segment<'static>
         ensures { result ≡ [] }
     {
-        Segment::of_checked(b"")
+        Segment::of_kept(b"", true)
     }
 
     /// The segment `.`.
     pub(super) fn single_dot() -> Segment<'static>
         ensures { result ≡ dot ∷ [] }
     {
-        Segment::of_checked(b".")
+        Segment::of_kept(b".", true)
     }
 
     /// The segment `..`.
     pub(super) fn double_dot() -> Segment<'static>
         ensures { result ≡ dot ∷ dot ∷ [] }
     {
-        Segment::of_checked(b"..")
+        Segment::of_kept(b"..", true)
     }
 
     /// The text.

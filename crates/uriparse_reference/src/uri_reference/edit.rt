@@ -320,8 +320,8 @@ impl<'r> URIReference<'r> {
     {
         let mut reference = self;
         let old = reference.query.take();
-        let answer = reference.set_query(make(old));
-        answer.and(Ok(reference))
+        reference.query = make(old);
+        Ok(reference)
     }
 
     /// Sets the fragment that the closure returns. Never fails. Only the closure may allocate.
@@ -333,7 +333,7 @@ impl<'r> URIReference<'r> {
     {
         let mut reference = self;
         let old = reference.fragment.take();
-        let answer = reference.set_fragment(make(old));
-        answer.and(Ok(reference))
+        reference.fragment = make(old);
+        Ok(reference)
     }
 }

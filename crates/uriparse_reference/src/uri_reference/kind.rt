@@ -71,7 +71,7 @@ impl<'r> URIReference<'r> {
         self.scheme.is_none() && self.authority.is_none() && self.path.is_relative()
     }
 
-    /// Whether it is an absolute URI, which a base should be: it has a scheme and no fragment. RFC
+    /// Whether it is an absolute URI, as a base must be: it has a scheme and no fragment. RFC
     /// 3986, sections 4.3 and 5.1.
     pub fn can_be_a_base(&self) -> bool
         ensures { result ≡ kinds.can_be_a_base self.now }

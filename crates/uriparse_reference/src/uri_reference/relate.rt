@@ -89,10 +89,9 @@ fn network<'r>(alloc: Global, target: &'r URIReference<'_>) -> Result<URIReferen
     ensures { IfOk result (λ r. r ≡ spec.network target.now) }
 {
     let mut copy = target.to_borrowed(alloc)?;
-    if target.authority().is_none() {
-        return Ok(copy);
+    if copy.authority.is_some() {
+        copy.scheme = None;
     }
-    let _ok = copy.set_scheme(None);
     Ok(copy)
 }
 

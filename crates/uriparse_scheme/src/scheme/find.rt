@@ -81,8 +81,7 @@ fn frequent(text: &[u8]) -> Option<RegisteredScheme> {
 }
 
 /// The registered scheme with this name, in any case. Compares the one frequent scheme that it may
-/// be, and else searches the table. `https` and `http` need no test of their own here:
-/// `split_scheme` recognizes them in the text of a reference.
+/// be, and else searches the table.
 pub(super) fn registered_named(text: &[u8]) -> Option<RegisteredScheme>
     ensures { result ≡ spec.registered_named (str_to_ascii_lowercase text.now) }
 {

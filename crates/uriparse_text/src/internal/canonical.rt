@@ -18,7 +18,7 @@ const BLOCK: usize = 64;
 pub enum Case {
     /// They keep their case.
     Kept,
-    /// They become lower case, as in schemes and registered names.
+    /// They become lower case, as in schemes and in hosts that are texts.
     Lowered,
 }
 

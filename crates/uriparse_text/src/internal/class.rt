@@ -13,7 +13,7 @@ use super::token::is_escape;
 pub enum Class {
     /// A registered name or a user name: unreserved bytes and sub-delimiters.
     Name,
-    /// A password: those of a name, and `:`.
+    /// A password or an address of a later version: those of a name, and `:`.
     UserInfo,
     /// A segment of a path: those of a password, and `@`.
     Segment,
@@ -93,23 +93,8 @@ impl Class {
     }
 }
 
-/// The byte of the leftmost fault: the first byte at which no token of the class begins.
-///
-/// It is `%` if an escape is broken. Walks the text once, sixteen bytes at a time, and does not
-/// allocate.
-#[inline]
-pub fn fault_of(class: Class, text: &[u8]) -> Option<u8>
-    ensures { result ≡ fault class text.now }
-{
-    let place = fault_place(class, text);
-    if place < text.len() {
-        Some(text[place])
-    } else {
-        None
-    }
-}
-
-/// The place of that byte, or the length.
+/// The place of the leftmost fault, the first byte at which no token of the class begins, or the
+/// length. It is a `%` if an escape is broken. Walks the text once, sixteen bytes at a time.
 #[inline]
 pub(super) fn fault_place(class: Class, text: &[u8]) -> usize
     ensures { IsFaultPlace class text.now result }

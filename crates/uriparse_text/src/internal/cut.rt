@@ -1,17 +1,9 @@
 //! Cuts of a text at delimiters.
-ghost use Rattle.std.specs.Prelude.{◌≡◌, ◌==◌, position};
+ghost use Rattle.std.specs.Prelude.{◌≡◌, ◌==◌};
 ghost use Rattle.std.specs.Option.{option_copied};
 ghost use Rattle.uriparse_text.specs.Cuts.{up_to, from_first, part};
 
 use super::scan::{Is, first};
-
-#[inline]
-fn place(text: &[u8], mark: u8) -> Option<usize>
-    ensures { result ≡ position (λ b. b == mark) text.now }
-{
-    let found = first(&Is(mark), text);
-    (found < text.len()).then_some(found)
-}
 
 /// The text before the first such delimiter, and the rest, which begins with it.
 #[inline]
@@ -19,8 +11,7 @@ pub fn split_at_mark(text: &[u8], mark: u8) -> (&[u8], &[u8])
     ensures front { result.0.now ≡ up_to (λ b. b == mark) text.now }
     ensures rest { result.1.now ≡ from_first (λ b. b == mark) text.now }
 {
-    let place = place(text, mark).unwrap_or(text.len());
-    text.split_at(place)
+    text.split_at(first(&Is(mark), text))
 }
 
 /// What follows the delimiter that the rest begins with, or `None` if the rest is empty.

@@ -15,8 +15,8 @@ use std::marker::{Model, PhantomData};
 /// bytes, if present.
 #[derive(Drop)]
 pub struct Found<'t, K: TextKind> {
-    // 0 if there is no text, and 2 if it is canonical: a word, since a narrow tag would be moved
-    // with its padding.
+    // 0 if there is no text, 2 if it is canonical, and 1 if it may not be: a word, since a narrow
+    // tag would be moved with its padding.
     present: usize,
     bytes: &'t [u8],
     kind: PhantomData<K>,

@@ -17,7 +17,8 @@ fn ends_in_dots(text: &str) -> bool
 }
 
 /// Writes what `{}` writes for a value whose text has at most 48 bytes and doesn't end in three
-/// dots, such as an address or a port. The formatter's options have no effect. Does not allocate.
+/// dots, such as an address or a port; else fails. The formatter's options have no effect. Does not
+/// allocate.
 pub fn write_short<W: fmt::Write, D: fmt::Display + Drop>(
     value: D,
     f: &mut fmt::Formatter<W>,

@@ -37,7 +37,7 @@ impl ByteTest for MayChange {
     }
 }
 
-/// The longest prefix whose bytes do not change in the canonical spelling, and the rest.
+/// The bytes before the first `%` or letter that changes in the canonical spelling, and the rest.
 #[inline(always)]
 pub(super) fn split_run(case: Case, text: &[u8]) -> (&[u8], &[u8])
     ensures whole { text.now ≡ result.0.now ++ result.1.now }

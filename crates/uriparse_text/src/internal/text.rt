@@ -58,11 +58,11 @@ fn text_in(class: Class, bytes: &[u8]) -> &str
 }
 
 /// A text of one kind, whose tokens are all in the kind's class: a query, a fragment, a user name,
-/// a password, a segment or a registered name. RFC 3986, section 2.
+/// a password, a segment, a registered name or an address of a later version. RFC 3986, section 2.
 ///
 /// It borrows the bytes that it was read from, which outlive it, or owns its text. Contracts see it
 /// as its bytes. Two texts of a kind are equal if their canonical spellings are. In these no
-/// unreserved byte is escaped, other escapes have upper-case digits, and a registered name has
+/// unreserved byte is escaped, other escapes have upper-case digits, and the last two have
 /// lower-case letters (sections 6.2.2.1 and 6.2.2.2). Equal texts feed a hasher the same bytes.
 #[derive(Drop)]
 pub struct Text<'t, K: TextKind> {

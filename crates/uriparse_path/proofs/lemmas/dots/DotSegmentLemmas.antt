@@ -52,7 +52,7 @@ pub canonical-dot : canonical (dot ∷ []) ≡ dot ∷ []
 unfolding canonical_in tokens
 canonical-dot = refl
 
-canonical-dots : canonical (dot ∷ dot ∷ []) ≡ dot ∷ dot ∷ []
+pub canonical-dots : canonical (dot ∷ dot ∷ []) ≡ dot ∷ dot ∷ []
 unfolding canonical_in tokens
 canonical-dots = refl
 

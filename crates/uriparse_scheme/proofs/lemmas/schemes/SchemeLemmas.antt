@@ -101,10 +101,6 @@ reads t s = (
 
 -- ---- unregistered schemes
 
--- no fault, and no name in the table
-pub unregistered_from : (t : List ℕ) → fault t ≡ None → registered_named (str_to_ascii_lowercase t) ≡ None → IsUnregistered t
-unregistered_from t none lacks = record { scheme = (no_fault t).0 none; nameless = lacks }
-
 refused : (v w : Bool) (t : List ℕ) → (cond {A = Result (List ℕ) UnregisteredSchemeError} (v && w) (Ok t) (Err (record {})) ≡ Ok t) ↔ ((v ≡ true) × (w ≡ true))
 refused true true t = (λ _. (refl, refl), λ _. refl)
 refused true false t = (λ h. cc, λ h. cc)

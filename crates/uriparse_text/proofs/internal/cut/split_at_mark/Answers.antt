@@ -1,13 +1,9 @@
 use Rattle.std.specs.Prelude.{◌==◌}
-use Rattle.uriparse_text.proofs.lemmas.readings.CutLemmas.{place_or_length, take_place, drop_place}
+use Rattle.uriparse_text.proofs.lemmas.readings.CutLemmas.{take_place, drop_place}
 use Rattle.uriparse_text.proofs.internal.cut.split_at_mark.Goals as goal
 
 pub returns-clause-front : goal.returns-clause-front
-returns-clause-front c =
-    rw (c.split_at.ensures.front, c.unwrap_or-place.ensures, c.place.ensures, place_or_length (λ b. b == c.args.mark) c.args.text.now)
-    (take_place (λ b. b == c.args.mark) c.args.text.now)
+returns-clause-front c = rw (c.split_at.ensures.front, c.first.ensures.place) (take_place (λ b. b == c.args.mark) c.args.text.now)
 
 pub returns-clause-rest : goal.returns-clause-rest
-returns-clause-rest c =
-    rw (c.split_at.ensures.back, c.unwrap_or-place.ensures, c.place.ensures, place_or_length (λ b. b == c.args.mark) c.args.text.now)
-    (drop_place (λ b. b == c.args.mark) c.args.text.now)
+returns-clause-rest c = rw (c.split_at.ensures.back, c.first.ensures.place) (drop_place (λ b. b == c.args.mark) c.args.text.now)

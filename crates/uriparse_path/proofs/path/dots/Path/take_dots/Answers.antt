@@ -17,7 +17,7 @@ pass : (c : After-needs_shield-shielded)
     → Pass c.args.has_authority (old c) c.replay-rooted.result.0 c.replay-rooted.result.1 c.replay-rooted.new.segments.items
     c.root_first-absolute.result.0 c.root_first-absolute.result.1 c.root_first-absolute.new.segments.items c.needs_shield-shielded.result
 pass c = record {
-  listed = subst (λ q. IsListed q.segments) (sym c.self.view_is) c.segments.ensures.listed;
+  listed = subst (λ q. IsListed q.segments) (sym c.self.view_is) c.requires.listed;
   dots = ap (λ q. has_dot_segment q.segments) c.self.view_is ∙ c.requires.dots;
   shown = λ h. ap (λ q. hides_root q.segments) c.self.view_is ∙ c.requires.shown h;
   segments = c.replay-rooted.ensures.segments;
