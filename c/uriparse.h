@@ -128,7 +128,8 @@ uint32_t uriparse_hash(const uint8_t *text, size_t len, uint64_t *hash);
  * text; what follows it in `out` is unchanged.
  *
  * In each text that is written, also by `uriparse_resolve`, a registered scheme is in lower case, a port has no leading
- * zeros, an empty port is left out, an IPv6 address has its shortest form, and an empty path after an authority is "/".
+ * zeros, an empty port is left out, an IPv6 address is as RFC 5952 writes it, and an empty path after an authority is
+ * "/".
  *
  * The caller ensures: `text` is readable for `len` bytes; `out` is writable for `room` bytes; `needed` is writable. */
 uint32_t uriparse_normalize(const uint8_t *text, size_t len, uint8_t *out, size_t room, size_t *needed);
