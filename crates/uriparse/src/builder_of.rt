@@ -126,8 +126,8 @@ impl<'b, K: ReferenceKind> BuilderOf<'b, K> {
     }
 
     /// Reads and sets the path. A faulty text is rejected with the kind's error `Path`, even if
-    /// memory has run out. Allocates only the list of segments; if memory runs out, the error is
-    /// the kind's `Path` of [`OutOfMemory`](uriparse_path::path::PathError::OutOfMemory). After an
+    /// memory has run out. Allocates only the list of segments, if there is more than one; if memory
+    /// runs out, the error is the kind's `Path` of [`OutOfMemory`](uriparse_path::path::PathError::OutOfMemory). After an
     /// error the builder is unchanged.
     pub fn try_path(&mut self, alloc: Global, path: &'b [u8]) -> Result<(), K::Error>
         ensures settles { SettlesUnless (K.told (errors.Path OutOfMemory)) self.old self.new result (told_of K.told (path_read self.old path.now)) }

@@ -78,7 +78,7 @@ impl<'r, K: ReferenceKind> ReferenceOf<'r, K> {
     }
 
     /// Reads a reference of this kind, whose components borrow the bytes. Allocates only the list
-    /// of segments.
+    /// of segments, if there is more than one.
     ///
     /// A faulty text fails as in [`URIReference::try_from_bytes`], with the error mapped to the
     /// kind's, even if memory has run out. For a URI, the error of the colon rule is mapped to
@@ -192,7 +192,8 @@ impl<'r, K: ReferenceKind> ReferenceOf<'r, K> {
         BuilderOf::of_checked(self.reference.into_builder())
     }
 
-    /// The same value, borrowed from this one. Allocates the list of segments.
+    /// The same value, borrowed from this one. Allocates the list of segments, if there is more than
+    /// one.
     pub fn to_borrowed(&self, alloc: Global) -> Result<ReferenceOf<'_, K>, AllocError>
         ensures { IfOk result (λ u. u ≡ self.now) }
     {
@@ -202,8 +203,8 @@ impl<'r, K: ReferenceKind> ReferenceOf<'r, K> {
         })
     }
 
-    /// The same value, owned. Allocates the list of segments and each borrowed text; if memory runs
-    /// out, the value is dropped.
+    /// The same value, owned. Allocates each borrowed text, and the list of segments if there is
+    /// more than one; if memory runs out, the value is dropped.
     pub fn into_owned(self, alloc: Global) -> Result<ReferenceOf<'static, K>, AllocError>
         ensures { IfOk result (λ u. u ≡ self.entry) }
     {

@@ -57,7 +57,7 @@ impl ReferenceKind for WithoutScheme {
 ///
 /// Its components borrow the text that it was read from, or own their texts. Two of them are equal
 /// if their hosts, if present, are of one kind and the canonical spellings of their texts agree.
-/// Reading allocates only the list of the path's segments; an owned copy and a normal form allocate
+/// Reading allocates only the list of the path's segments, if there is more than one; an owned copy and a normal form allocate
 /// texts too. A setter that fails changes nothing. [`RelativeReferenceError`] says what is
 /// rejected. The calls that it shares with URIs are those of [`ReferenceOf`].
 ///

@@ -9,3 +9,5 @@ pub mod Merge
 pub mod Relate
 pub mod Lends
 pub mod Counts
+pub mod List
+pub mod ListLends

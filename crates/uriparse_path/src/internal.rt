@@ -70,11 +70,11 @@ pub fn leading_path<'p>(
     Path::leading(alloc, base, target)
 }
 
-/// The empty path. Allocates its list of one segment.
-pub fn empty_path(alloc: Global) -> Result<Path<'static>, AllocError>
-    ensures { IfOk result (λ p. p ≡ no_path) }
+/// The empty path. Does not allocate.
+pub fn empty_path() -> Path<'static>
+    ensures { result ≡ no_path }
 {
-    Path::empty(alloc)
+    Path::empty()
 }
 
 /// Whether the path has a dot segment.

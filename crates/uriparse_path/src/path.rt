@@ -1,5 +1,5 @@
 //! A path: RFC 3986, section 3.3.
-ghost use Rattle.std.specs.Prelude.{◌≡◌, ◌≤◌, ◌⊎◌, ◌↔◌, ◌∷◌, ◌++◌, fold, length, IsTrue, IfOk, IfSome, IsSome, IsErr, Some, true, not, bytes_eq, string_bytes};
+ghost use Rattle.std.specs.Prelude.{◌≡◌, ◌≤◌, ◌⊎◌, ◌↔◌, ◌∷◌, ◌++◌, fold, length, IsTrue, IfOk, Ok, IfSome, IsSome, IsErr, Some, true, not, bytes_eq, string_bytes};
 ghost use Rattle.std.proofs.Common.{rules};
 ghost use Rattle.std.specs.Ordering.{on};
 ghost use Rattle.std.specs.Cmp.Rules.{comparing, hashing};
@@ -10,7 +10,7 @@ ghost use Rattle.uriparse_text.specs.Bytes.{colon, slash};
 ghost use Rattle.uriparse_text.specs.Cuts.{from_first, lacks, up_to};
 ghost use Rattle.uriparse_text.specs.Canonical.{canonical, SpellsAlike};
 ghost use Rattle.uriparse_text.specs.Readings.{IsUnless};
-ghost use Rattle.uriparse_path.specs.Path.{IsListed, fed, fed_piece, flag, has_two_slashes, is_rooted, is_slash, made_absolute, spelled, text};
+ghost use Rattle.uriparse_path.specs.Path.{IsListed, PathParts, fed, fed_piece, flag, has_two_slashes, is_rooted, is_slash, made_absolute, spelled, text};
 ghost use Rattle.uriparse_path.specs.Segment.{is_segment};
 ghost use Rattle.uriparse_path.specs.Faults.{reading};
 ghost use Rattle.uriparse_path.specs.Normal.{is_canonical};
@@ -29,6 +29,7 @@ pub mod counts;
 mod dots;
 mod edit;
 mod error;
+mod list;
 mod merge;
 pub(crate) mod normal;
 pub(crate) mod read;
@@ -39,6 +40,7 @@ mod segments;
 
 use counts::{Counts, Dotted};
 pub use error::PathError;
+use list::SegmentList;
 use read::{count_segments, counted_path, split_root};
 pub use segment::Segment;
 use segment::each_is_segment;
@@ -50,7 +52,7 @@ pub const MAX_SEGMENTS: usize = 1_000_000;
 /// A path over segments of any type that can be counted. Users name it [`Path`].
 #[derive(Drop)]
 pub struct PathOf<S: Dotted> {
-    segments: Vec<S>,
+    segments: SegmentList<S>,
     // 0 or 1 each: words, since a `bool` would be moved with its padding.
     absolute: u32,
     known: u32,
@@ -62,9 +64,9 @@ pub struct PathOf<S: Dotted> {
 /// them. RFC 3986, section 3.3.
 ///
 /// Its text is `/` if it is absolute, then the segments joined by `/`. So the empty path has one
-/// empty segment. The segments borrow the text that was read, or own their texts. Their list is
-/// allocated; calls without `alloc` do not allocate. On an error an edit leaves the path unchanged.
-/// Two paths are equal if the canonical spellings of their texts are.
+/// empty segment. The segments borrow the text that was read, or own their texts. A list of more
+/// than one is allocated; calls without `alloc` do not allocate. On an error an edit leaves the
+/// path unchanged. Two paths are equal if the canonical spellings of their texts are.
 ///
 /// ```
 /// let path = Path::try_from_str(alloc, "/a/%7Eb")?;
@@ -86,9 +88,9 @@ impl<S: Dotted> Model for PathOf<S> {
 
     ghost Value = { PartsOf S };
 
-    ghost view = { λ p. record { absolute = flag p.absolute; segments = p.segments.items } };
+    ghost view = { λ p. record { absolute = flag p.absolute; segments = p.segments } };
 
-    ghost invariant = { λ p. IsKept S.counts p.segments.items (flag p.known) p.counts };
+    ghost invariant = { λ p. IsKept S.counts p.segments (flag p.known) p.counts };
 }
 
 impl<'p> Path<'p> {
@@ -97,13 +99,13 @@ impl<'p> Path<'p> {
     #[inline(always)]
     pub(crate) fn of(
         absolute: bool,
-        segments: Vec<Segment<'p>>,
+        segments: SegmentList<Segment<'p>>,
         counts: Counts,
         known: bool,
     ) -> Path<'p>
-        requires listed { IsListed segments.items }
-        requires counted { known ≡ true → counts ≡ spec.counts segments.items }
-        ensures { result ≡ record { absolute = absolute; segments = segments.entry.items } }
+        requires listed { IsListed segments }
+        requires counted { known ≡ true → counts ≡ spec.counts segments }
+        ensures { result ≡ record { absolute = absolute; segments = segments.entry } }
     {
         Path {
             segments,
@@ -140,12 +142,15 @@ impl<'p> Path<'p> {
     /// [`InvalidPercentEncoding`](PathError::InvalidPercentEncoding) at a `%` without two
     /// hexadecimal digits after it, [`ExceededMaximumLength`](PathError::ExceededMaximumLength) at
     /// the slash that would start one segment more than [`MAX_SEGMENTS`], else
-    /// [`InvalidCharacter`](PathError::InvalidCharacter). For a text without fault the list of
-    /// segments is allocated once; if that fails, the error is
+    /// [`InvalidCharacter`](PathError::InvalidCharacter). For a text without fault that has more
+    /// than one segment, their list is allocated once; if that fails, the error is
     /// [`OutOfMemory`](PathError::OutOfMemory).
     pub fn try_from_bytes(alloc: Global, bytes: &'p [u8]) -> Result<Path<'p>, PathError>
         ensures answer { IsUnless PathError.OutOfMemory result (reading bytes.now) }
         ensures always { IsErr (reading bytes.now) → result ≡ reading bytes.now }
+
+        // A path of one segment takes no memory.
+        ensures takes_no_memory { (p : PathParts) → reading bytes.now ≡ Ok p → length p.segments ≡ 1 → result ≡ Ok p }
     {
         let (_, rest) = split_root(bytes);
         let (count, _, escaped) = count_segments(MAX_SEGMENTS, false, rest)?;
@@ -156,6 +161,7 @@ impl<'p> Path<'p> {
     pub fn try_from_str(alloc: Global, text: &'p str) -> Result<Path<'p>, PathError>
         ensures answer { IsUnless PathError.OutOfMemory result (reading text.now) }
         ensures always { IsErr (reading text.now) → result ≡ reading text.now }
+        ensures takes_no_memory { (p : PathParts) → reading text.now ≡ Ok p → length p.segments ≡ 1 → result ≡ Ok p }
     {
         Path::try_from_bytes(alloc, text.as_bytes())
     }
@@ -165,8 +171,9 @@ impl<'p> Path<'p> {
         ensures value { result.now ≡ self.now.segments }
         ensures listed { IsListed self.now.segments }
     {
-        each_is_segment(&self.segments);
-        self.segments.as_slice()
+        let segments = self.segments.as_slice();
+        each_is_segment(segments);
+        segments
     }
 
     /// Whether the path is absolute: a slash precedes its first segment. The text of a relative
@@ -196,7 +203,7 @@ impl<'p> Path<'p> {
         ensures { length (text self.now) ≤ result ⊎ result ≡ usize.MAX }
     {
         let mut len = 0usize;
-        for segment in &self.segments {
+        for segment in self.segments.as_slice() {
             len = len.saturating_add(1).saturating_add(segment.as_str().len());
         }
         len
@@ -236,7 +243,7 @@ impl<'p> Path<'p> {
         if self.is_absolute() {
             return;
         }
-        let _ = self.segments.remove(0);
+        self.segments.remove_first();
         self.known = 0;
         self.absolute = 1;
     }
@@ -411,7 +418,7 @@ impl<'p> fmt::Debug for Path<'p> {
     fn fmt<W: fmt::Write>(&self, f: &mut fmt::Formatter<W>) -> fmt::Result {
         f.debug_struct("Path")
             .field("absolute", &self.is_absolute())
-            .field("segments", &self.segments)
+            .field("segments", &self.segments.as_slice())
             .finish()
     }
 }

@@ -20,6 +20,7 @@ use std::marker::Model;
 use uriparse_authority::authority::{Authority, Host, Password, Username};
 use uriparse_path::internal::most_path_bytes;
 use uriparse_path::path::Path;
+use uriparse_scheme::internal::scheme_if;
 use uriparse_scheme::scheme::Scheme;
 use uriparse_text::fragment::Fragment;
 use uriparse_text::internal::len_of;
@@ -40,13 +41,13 @@ pub use builder::URIReferenceBuilder;
 pub use edit::Edit;
 pub use error::URIReferenceError;
 use print::{len_of_scheme, most_of_authority, write_authority, write_behind, write_scheme};
-use read::find_pieces;
+use read::{find_pieces, make_path};
 
 /// A URI reference by its five components: a URI or a relative reference. RFC 3986, section 4.1.
 ///
 /// The components borrow the text that was read, or own their texts. Reading allocates only for the
-/// list of the path's segments; a copy that owns its texts and a normal form allocate for texts
-/// too. Each value is valid, and its printed text reads back as an equal value, unless its host is
+/// list of the path's segments, if there is more than one; a copy that owns its texts and a normal
+/// form allocate for texts too. Each value is valid, and its printed text reads back as an equal value, unless its host is
 /// a name that spells an IPv4 address, which reading never returns. Two references are equal if the
 /// canonical spellings of their texts agree and their hosts, if any, are of one kind. Dot segments
 /// count.
@@ -81,7 +82,7 @@ impl<'r> URIReference<'r> {
     ghost use Rattle.uriparse_reference.specs.declared.uri_reference.error.URIReferenceError.{URIReferenceError};
 
     /// Reads a reference, which borrows the bytes: RFC 3986, section 4.1. Allocates only for the
-    /// list of segments.
+    /// list of the path's segments, if there is more than one.
     ///
     /// Returns the first fault, in the order authority, path, colon rule, query, fragment. By the
     /// colon rule (section 4.2), a reference with neither a scheme nor an authority has no colon
@@ -105,8 +106,26 @@ impl<'r> URIReference<'r> {
 
         // A fault is returned even if memory has run out.
         ensures always { (e : URIReferenceError) → fault bytes.now ≡ Some e → result ≡ Err e }
+
+        // A path of one segment takes no memory.
+        ensures takes_no_memory { (p : Parts) → Spells bytes.now p → length p.path.segments ≡ 1 → result ≡ Ok p }
     {
-        Self::read(alloc, bytes)
+        // The components are moved once, to their places: each function between would move them
+        // all again.
+        let pieces = find_pieces(bytes)?;
+        let tail = &pieces.tail;
+        let has_authority = pieces.authority.is_some();
+        let path = make_path(alloc, has_authority, tail.count, tail.escaped, tail.path)?;
+        Ok(URIReference {
+            scheme: scheme_if(pieces.scheme, pieces.known),
+            authority: match &pieces.authority {
+                Some(found) => Some(found.to_authority()),
+                None => None,
+            },
+            path,
+            query: tail.query.to_text(),
+            fragment: tail.fragment.to_text(),
+        })
     }
 
     /// Like [`try_from_bytes`](URIReference::try_from_bytes), for a `str`.
@@ -115,8 +134,9 @@ impl<'r> URIReference<'r> {
         ensures only { (p : Parts) → Spells text.now p → IsUnless (errors.Path OutOfMemory) result (Ok p) }
         ensures fault { IfErr result (λ e. (fault text.now ≡ Some e) ⊎ (e ≡ errors.Path OutOfMemory)) }
         ensures always { (e : URIReferenceError) → fault text.now ≡ Some e → result ≡ Err e }
+        ensures takes_no_memory { (p : Parts) → Spells text.now p → length p.path.segments ≡ 1 → result ≡ Ok p }
     {
-        Self::read(alloc, text.as_bytes())
+        URIReference::try_from_bytes(alloc, text.as_bytes())
     }
 
     /// Checks that a text is a reference, as [`try_from_bytes`](URIReference::try_from_bytes) reads

@@ -1,6 +1,7 @@
-//! Copies of a path. They allocate the list of segments.
+//! Copies of a path. They allocate the list of several segments.
 ghost use Rattle.std.specs.Prelude.{◌≡◌, IfOk};
 
+use super::list::{Kept, SegmentList};
 use super::segments::push_borrowed;
 use super::{Path, Segment};
 use std::alloc::{AllocError, Global};
@@ -31,26 +32,53 @@ fn owned_segments(
     Ok(owned)
 }
 
+/// The same list, borrowing the texts of its segments. Allocates only for more than one.
+fn borrowed_list<'s>(
+    alloc: Global,
+    list: &'s SegmentList<Segment<'_>>,
+) -> Result<SegmentList<Segment<'s>>, AllocError>
+    ensures { IfOk result (λ l. l ≡ list.now) }
+{
+    match &list.kept {
+        Kept::One(only) => Ok(SegmentList::one(only.as_borrowed())),
+        Kept::Many(segments) => Ok(SegmentList::several(borrowed_segments(alloc, segments)?)),
+    }
+}
+
+/// The same list, owning the texts of its segments.
+fn owned_list(
+    alloc: Global,
+    list: SegmentList<Segment<'_>>,
+) -> Result<SegmentList<Segment<'static>>, AllocError>
+    ensures { IfOk result (λ l. l ≡ list.entry) }
+{
+    match list.kept {
+        Kept::One(only) => Ok(SegmentList::one(only.into_owned(alloc)?)),
+        Kept::Many(segments) => Ok(SegmentList::several(owned_segments(alloc, segments)?)),
+    }
+}
+
 impl<'p> Path<'p> {
-    /// The same path, with segments that borrow the texts of this one's. Allocates the list once.
+    /// The same path, with segments that borrow the texts of this one's. Allocates the list once,
+    /// if there is more than one segment.
     pub fn to_borrowed(&self, alloc: Global) -> Result<Path<'_>, AllocError>
         ensures { IfOk result (λ p. p ≡ self.now) }
     {
         Ok(Path {
-            segments: borrowed_segments(alloc, &self.segments)?,
+            segments: borrowed_list(alloc, &self.segments)?,
             absolute: self.absolute,
             known: self.known,
             counts: self.counts,
         })
     }
 
-    /// The same path, with segments that own their texts. Allocates the list and a copy of each
-    /// borrowed text. On an error the path is lost.
+    /// The same path, with segments that own their texts. Allocates a copy of each borrowed text,
+    /// and the list if there is more than one segment. On an error the path is lost.
     pub fn into_owned(self, alloc: Global) -> Result<Path<'static>, AllocError>
         ensures { IfOk result (λ p. p ≡ self.entry) }
     {
         Ok(Path {
-            segments: owned_segments(alloc, self.segments)?,
+            segments: owned_list(alloc, self.segments)?,
             absolute: self.absolute,
             known: self.known,
             counts: self.counts,

@@ -1,5 +1,6 @@
 //! Counts of segments, for dot removal and normal forms.
 ghost use Rattle.std.specs.Prelude.{ℕ, List};
+ghost use Rattle.std.specs.Mem.{FitsInMemory};
 ghost use Rattle.uriparse_path.specs.declared.path.counts.Counts.{Counts};
 
 /// How many segments of a list are `.`, are `..`, are `..` before any other, and are not canonical.
@@ -14,4 +15,7 @@ pub struct Counts {
 /// An element of a list whose segments can be counted.
 pub trait Dotted {
     ghost counts: { List Self → Counts };
+
+    // An element is no larger than memory, so a reference to one can be a slice.
+    ghost fits: { FitsInMemory Self.row };
 }

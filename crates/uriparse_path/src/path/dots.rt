@@ -1,10 +1,11 @@
 //! Removal of dot segments: RFC 3986, section 5.2.4.
-ghost use Rattle.std.specs.Prelude.{◌≡◌, ◌+◌, ◌<◌, ◌≤◌, ◌&&◌, ◌||◌, [], not, true, false, take, drop, vec_len};
+ghost use Rattle.std.specs.Prelude.{◌≡◌, ◌+◌, ◌<◌, ◌≤◌, ◌&&◌, ◌||◌, [], length, not, true, false, take, drop};
 ghost use Rattle.uriparse_path.specs.Path as path;
 ghost use Rattle.uriparse_path.specs.Dots as spec;
 ghost use Rattle.uriparse_path.specs.Edits.{shield_unless};
 
 use super::counts::Counts;
+use super::list::SegmentList;
 use super::segment::Segment;
 use super::segments::{begins_twice, guard, has_dot_segment, hides_root};
 use super::{Path, word_of};
@@ -12,17 +13,17 @@ use super::{Path, word_of};
 /// Replays the segment at `at` on the output so far, which is the first `kept` of the list. Returns
 /// whether a slash precedes the output then, and how long it is.
 fn replay_segment(
-    segments: &mut Vec<Segment<'_>>,
+    segments: &mut [Segment<'_>],
     rooted: bool,
     kept: usize,
     at: usize,
 ) -> (bool, usize)
     requires order { kept ≤ at }
-    requires within { at < vec_len segments.old }
+    requires within { at < length segments.old }
     ensures order { result.1 ≤ at + 1 }
-    ensures len { vec_len segments.new ≡ vec_len segments.old }
-    ensures segments { spec.replay (take result.1 segments.new.items) (drop (at + 1) segments.new.items) ≡ spec.replay (take kept segments.old.items) (drop at segments.old.items) }
-    ensures root { spec.rooted_after result.0 (take result.1 segments.new.items) (drop (at + 1) segments.new.items) ≡ spec.rooted_after rooted (take kept segments.old.items) (drop at segments.old.items) }
+    ensures len { length segments.new ≡ length segments.old }
+    ensures segments { spec.replay (take result.1 segments.new) (drop (at + 1) segments.new) ≡ spec.replay (take kept segments.old) (drop at segments.old) }
+    ensures root { spec.rooted_after result.0 (take result.1 segments.new) (drop (at + 1) segments.new) ≡ spec.rooted_after rooted (take kept segments.old) (drop at segments.old) }
 {
     let is_last = at + 1 == segments.len();
     if segments[at].is_single_dot_segment() {
@@ -47,11 +48,11 @@ fn replay_segment(
 
 /// Removes the dot segments in one pass; what is left is at the start of the list. Returns whether
 /// a slash precedes it, and how many segments are left.
-fn replay(absolute: bool, segments: &mut Vec<Segment<'_>>) -> (bool, usize)
-    ensures segments { take result.1 segments.new.items ≡ spec.replay [] segments.old.items }
-    ensures root { result.0 ≡ spec.rooted_after absolute [] segments.old.items }
-    ensures within { result.1 ≤ vec_len segments.new }
-    ensures len { vec_len segments.new ≡ vec_len segments.old }
+fn replay(absolute: bool, segments: &mut [Segment<'_>]) -> (bool, usize)
+    ensures segments { take result.1 segments.new ≡ spec.replay [] segments.old }
+    ensures root { result.0 ≡ spec.rooted_after absolute [] segments.old }
+    ensures within { result.1 ≤ length segments.new }
+    ensures len { length segments.new ≡ length segments.old }
 {
     let mut rooted = absolute;
     let mut kept = 0;
@@ -61,24 +62,34 @@ fn replay(absolute: bool, segments: &mut Vec<Segment<'_>>) -> (bool, usize)
     (rooted, kept)
 }
 
+/// The same for a list.
+fn replay_list(absolute: bool, segments: &mut SegmentList<Segment<'_>>) -> (bool, usize)
+    ensures segments { take result.1 segments.new ≡ spec.replay [] segments.old }
+    ensures root { result.0 ≡ spec.rooted_after absolute [] segments.old }
+    ensures within { result.1 ≤ length segments.new }
+    ensures len { length segments.new ≡ length segments.old }
+{
+    replay(absolute, segments.as_mut_slice())
+}
+
 /// Makes the first `kept` of the list the segments of the path that their text spells: without a
 /// slash before it, an empty first segment that others follow is removed. Returns whether a slash
 /// precedes the segments then, and how many are left.
-fn root_first(rooted: bool, segments: &mut Vec<Segment<'_>>, kept: usize) -> (bool, usize)
-    requires within { kept ≤ vec_len segments.old }
-    ensures path { record { absolute = result.0; segments = take result.1 segments.new.items } ≡ path.respelled (record { absolute = rooted; segments = take kept segments.old.items }) }
-    ensures within { result.1 ≤ vec_len segments.new }
-    ensures spare { vec_len segments.new + kept ≡ vec_len segments.old + result.1 }
-    ensures no_longer { vec_len segments.new ≤ vec_len segments.old }
+fn root_first(rooted: bool, segments: &mut SegmentList<Segment<'_>>, kept: usize) -> (bool, usize)
+    requires within { kept ≤ length segments.old }
+    ensures path { record { absolute = result.0; segments = take result.1 segments.new } ≡ path.respelled (record { absolute = rooted; segments = take kept segments.old }) }
+    ensures within { result.1 ≤ length segments.new }
+    ensures spare { length segments.new + kept ≡ length segments.old + result.1 }
+    ensures no_longer { length segments.new ≤ length segments.old }
 {
     if rooted {
         return (true, kept);
     }
-    let hides = hides_root(&segments[..kept]);
+    let hides = hides_root(&segments.as_slice()[..kept]);
     if !hides {
         return (false, kept);
     }
-    let _ = segments.remove(0);
+    segments.remove_first();
     (true, kept - 1)
 }
 
@@ -131,9 +142,9 @@ impl<'p> Path<'p> {
         ensures { self.new ≡ shield_unless has_authority (spec.without_dots self.old) }
     {
         let all_canonical = self.is_known_canonical();
-        let (rooted, kept) = replay(self.absolute != 0, &mut self.segments);
+        let (rooted, kept) = replay_list(self.absolute != 0, &mut self.segments);
         let (absolute, kept) = root_first(rooted, &mut self.segments, kept);
-        let shielded = needs_shield(has_authority, absolute, &self.segments[..kept]);
+        let shielded = needs_shield(has_authority, absolute, &self.segments.as_slice()[..kept]);
         guard(&mut self.segments, shielded, kept);
         self.counts = Counts::without_dots(shielded);
         self.known = word_of(all_canonical);

@@ -1,5 +1,5 @@
 //! Edits of a path by segments: RFC 3986, section 3.3.
-ghost use Rattle.std.specs.Prelude.{◌≡◌, ◌<◌, ◌∷◌, ◌++◌, [], IfErr, OnOk, OnErr, MatchResult, if◌then◌else◌, length, vec_len, true};
+ghost use Rattle.std.specs.Prelude.{◌≡◌, ◌<◌, ◌∷◌, ◌++◌, [], IfErr, OnOk, OnErr, MatchResult, if◌then◌else◌, length, true};
 ghost use Rattle.std.specs.Borrow.{sem};
 ghost use Rattle.uriparse_text.specs.Readings.{SettlesUnless};
 ghost use Rattle.uriparse_path.specs.declared.path.error.PathError.TheVariants as errors;
@@ -11,33 +11,39 @@ ghost use Rattle.uriparse_path.specs.Dots.{all_but_last};
 ghost use Rattle.uriparse_path.specs.Relative.{filled};
 
 use super::counts::{Counts, Dotted};
+use super::list::SegmentList;
 use super::segments::takes_the_place;
 use super::{MAX_SEGMENTS, Path, PathError, PathOf, Segment, word_of};
 use std::alloc::{AllocError, Global};
 
 /// Appends the segment, or replaces the only, empty one by it.
-fn put_last<'p>(segments: &mut Vec<Segment<'p>>, segment: Segment<'p>) -> Result<(), PathError>
-    requires { 0 < vec_len segments.old }
-    ensures { MatchResult result (λ _. segments.new.items ≡ spec.with_last segments.old.items segment.entry) (λ e. (e ≡ errors.OutOfMemory) × (segments.new.items ≡ segments.old.items)) }
+fn put_last<'p>(
+    alloc: Global,
+    segments: &mut SegmentList<Segment<'p>>,
+    segment: Segment<'p>,
+) -> Result<(), PathError>
+    requires { 0 < length segments.old }
+    ensures { MatchResult result (λ _. segments.new ≡ spec.with_last segments.old segment.entry) (λ e. (e ≡ errors.OutOfMemory) × (segments.new ≡ segments.old)) }
 {
-    if takes_the_place(segments, &segment) {
-        segments[0] = segment;
+    if takes_the_place(segments.as_slice(), &segment) {
+        segments.put(0, segment);
         return Ok(());
     }
-    segments.push(segment)?;
+    segments.push(alloc, segment)?;
     Ok(())
 }
 
 /// Removes the last segment. The only one is replaced by an empty one.
-fn take_last(segments: &mut Vec<Segment<'_>>)
-    requires { 0 < vec_len segments.old }
-    ensures { segments.new.items ≡ filled (all_but_last segments.old.items) }
+fn take_last(segments: &mut SegmentList<Segment<'_>>)
+    requires { 0 < length segments.old }
+    ensures { segments.new ≡ filled (all_but_last segments.old) }
 {
-    if segments.len() == 1 {
-        segments[0] = Segment::empty();
+    let len = segments.len();
+    if len == 1 {
+        segments.put(0, Segment::empty());
         return;
     }
-    let _ = segments.pop();
+    segments.truncate(len - 1);
 }
 
 /// The counts after a push, if they were known.
@@ -84,15 +90,20 @@ impl<'p> Path<'p> {
     /// Returns [`ExceededMaximumLength`](PathError::ExceededMaximumLength) if the path has
     /// [`MAX_SEGMENTS`] already, else [`OutOfMemory`](PathError::OutOfMemory) if the list cannot
     /// grow. The list grows by doubling. On an error the path is unchanged.
-    pub fn push(&mut self, _alloc: Global, segment: Segment<'p>) -> Result<(), PathError>
+    pub fn push(&mut self, alloc: Global, segment: Segment<'p>) -> Result<(), PathError>
         ensures answer { SettlesUnless errors.OutOfMemory self.old self.new result (spec.pushing self.old (Ok segment.entry)) }
         ensures always { IfErr (spec.pushing self.old (Ok segment.entry)) (λ e. result ≡ Err e) }
     {
         if self.segments.len() >= MAX_SEGMENTS {
             return Err(PathError::ExceededMaximumLength);
         }
-        let counts = pushed_counts(self.known != 0, self.counts, &self.segments, &segment);
-        let result = put_last(&mut self.segments, segment);
+        let counts = pushed_counts(
+            self.known != 0,
+            self.counts,
+            self.segments.as_slice(),
+            &segment,
+        );
+        let result = put_last(alloc, &mut self.segments, segment);
         self.counts = new_or_old(result.is_ok(), counts, self.counts);
         result
     }
@@ -118,7 +129,7 @@ impl<'p> Path<'p> {
     pub fn pop(&mut self)
         ensures { self.new ≡ spec.popped self.old }
     {
-        let counts = popped_counts(self.known != 0, self.counts, &self.segments);
+        let counts = popped_counts(self.known != 0, self.counts, self.segments.as_slice());
         take_last(&mut self.segments);
         self.counts = counts;
     }
@@ -129,7 +140,7 @@ impl<'p> Path<'p> {
         ensures { self.new ≡ spec.cleared self.old }
     {
         self.segments.truncate(1);
-        self.segments[0] = Segment::empty();
+        self.segments.put(0, Segment::empty());
         self.counts = Counts::none();
         self.known = 1;
     }

@@ -8,6 +8,7 @@ ghost use Rattle.uriparse_path.specs.Merge.{merging};
 ghost use Rattle.uriparse_path.specs.Counts as tally;
 
 use super::counts::Counts;
+use super::list::SegmentList;
 use super::segments::{directory, push_borrowed};
 use super::{MAX_SEGMENTS, Path, PathError, Segment};
 use std::alloc::{AllocError, Global};
@@ -61,6 +62,7 @@ impl<'p> Path<'p> {
         }
         let segments = joined(alloc, front, back)?;
         let (counts, is_known) = merged_counts(base, reference);
+        let segments = SegmentList::several(segments);
         Ok(Path::of(base.is_absolute(), segments, counts, is_known))
     }
 }

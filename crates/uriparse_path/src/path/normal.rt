@@ -1,5 +1,5 @@
 //! Normal forms of paths: RFC 3986, sections 4.2 and 6.2.2.
-ghost use Rattle.std.specs.Prelude.{◌≡◌, ◌↔◌, ◌<◌, ◌||◌, true, false, not, IfOk, IsOk, IsTrue, OnOk, OnErr, filter, map, slice_set, vec_len};
+ghost use Rattle.std.specs.Prelude.{◌≡◌, ◌↔◌, ◌<◌, ◌||◌, true, false, not, IfOk, IsOk, IsTrue, OnOk, OnErr, filter, length, map, slice_set};
 ghost use Rattle.std.specs.List.{list_all};
 ghost use Rattle.uriparse_text.specs.Canonical.{canonical};
 ghost use Rattle.uriparse_path.specs.Path.{IsListed, hides_root, text};
@@ -9,6 +9,7 @@ ghost use Rattle.uriparse_path.specs.Counts as tally;
 
 use super::Path;
 use super::counts::Counts;
+use super::list::SegmentList;
 use super::reduce::make_relative;
 use super::segment::Segment;
 use super::segments::{has_dot_segment, hides_root, needs_guard};
@@ -117,18 +118,18 @@ fn canonical_copies(
 }
 
 /// Replaces the segment at `at`.
-fn put<'s>(segments: &mut Vec<Segment<'s>>, at: usize, segment: Segment<'s>)
-    requires { at < vec_len segments.old }
-    ensures items { segments.new.items ≡ slice_set segments.old.items at segment.entry }
-    ensures len { vec_len segments.new ≡ vec_len segments.old }
+fn put<'s>(segments: &mut [Segment<'s>], at: usize, segment: Segment<'s>)
+    requires { at < length segments.old }
+    ensures items { segments.new ≡ slice_set segments.old at segment.entry }
+    ensures len { length segments.new ≡ length segments.old }
 {
     segments[at] = segment;
 }
 
 /// Replaces the segments that are not canonical by these copies, from the last one to the first.
-fn put_copies<'s>(segments: &mut Vec<Segment<'s>>, copies: Vec<Segment<'s>>)
-    requires { copies.items ≡ map canonical (filter (λ s. not (spec.is_canonical s)) segments.old.items) }
-    ensures { segments.new.items ≡ map canonical segments.old.items }
+fn put_copies<'s>(segments: &mut [Segment<'s>], copies: Vec<Segment<'s>>)
+    requires { copies.items ≡ map canonical (filter (λ s. not (spec.is_canonical s)) segments.old) }
+    ensures { segments.new ≡ map canonical segments.old }
 {
     let mut copies = copies;
     let mut at = segments.len();
@@ -143,6 +144,14 @@ fn put_copies<'s>(segments: &mut Vec<Segment<'s>>, copies: Vec<Segment<'s>>)
             }
         }
     }
+}
+
+/// The same for a list.
+fn put_copies_in<'s>(list: &mut SegmentList<Segment<'s>>, copies: Vec<Segment<'s>>)
+    requires { copies.items ≡ map canonical (filter (λ s. not (spec.is_canonical s)) list.old) }
+    ensures { list.new ≡ map canonical list.old }
+{
+    put_copies(list.as_mut_slice(), copies);
 }
 
 impl<'p> Path<'p> {
@@ -220,7 +229,7 @@ impl<'p> Path<'p> {
         if self.known != 0 {
             return;
         }
-        self.counts = Counts::of(&self.segments);
+        self.counts = Counts::of(self.segments.as_slice());
         self.known = 1;
     }
 
@@ -231,7 +240,7 @@ impl<'p> Path<'p> {
         ensures { self.new ≡ spec.canonical_path self.old }
     {
         let counts = self.counts.of_canonical();
-        put_copies(&mut self.segments, copies);
+        put_copies_in(&mut self.segments, copies);
         self.counts = counts;
     }
 
@@ -261,7 +270,7 @@ impl<'p> Path<'p> {
         ensures { self.new ≡ record { absolute = false; segments = relative.ended self.old.segments (relative.reduced self.old.segments) } }
     {
         make_relative(&mut self.segments);
-        self.counts = Counts::of(&self.segments);
+        self.counts = Counts::of(self.segments.as_slice());
         self.known = 1;
     }
 

@@ -1,6 +1,6 @@
 //! Reading of paths: one pass finds the leftmost fault and counts the segments, another one cuts
 //! the text.
-ghost use Rattle.std.specs.Prelude.{◌≡◌, ◌<◌, ◌≤◌, ◌&&◌, IfOk, MatchResult, None, Some, true, false, length, take, ◌||◌};
+ghost use Rattle.std.specs.Prelude.{◌≡◌, ◌<◌, ◌≤◌, ◌&&◌, [], IfOk, IsOk, MatchResult, None, Some, true, false, length, take, ◌||◌};
 ghost use Rattle.std.specs.List.{list_all, list_any, slice_split};
 ghost use Rattle.uriparse_text.specs.Readings.{unless_fault};
 ghost use Rattle.uriparse_path.specs.Segment as segment;
@@ -12,6 +12,7 @@ ghost use Rattle.uriparse_path.specs.Counts as tally;
 
 use super::counts::Counts;
 use super::error::PathError;
+use super::list::SegmentList;
 use super::segment::{Segment, fault_at};
 use super::{MAX_SEGMENTS, Path};
 use std::alloc::{AllocError, Global};
@@ -167,6 +168,29 @@ fn split_segments<'p>(
     Ok((segments, dotted))
 }
 
+/// The segments of the text, which has `count`, and whether one of them begins with a dot. Does not
+/// allocate for one segment.
+#[inline(always)]
+fn read_segments<'p>(
+    alloc: Global,
+    count: usize,
+    escaped: usize,
+    text: &'p [u8],
+) -> Result<(SegmentList<Segment<'p>>, bool), AllocError>
+    requires count { count ≡ length (slice_split is_slash text.now) }
+    requires segments { list_all segment.is_segment (slice_split is_slash text.now) ≡ true }
+    requires escaped { escaped ≡ 0 → lacks percent text.now ≡ true }
+    ensures segments { IfOk result (λ v. (v.0 ≡ slice_split is_slash text.now) × (v.1 ≡ list_any tally.begins_with_dot (slice_split is_slash text.now))) }
+    ensures takes_no_memory { count ≡ 1 → IsOk result }
+{
+    if count == 1 {
+        let only = SegmentList::one(Segment::of_kept(text, escaped == 0));
+        return Ok((only, is_dotted(false, text)));
+    }
+    let (segments, dotted) = split_segments(alloc, count, escaped, text)?;
+    Ok((SegmentList::several(segments), dotted))
+}
+
 /// The path that a text begins with, which has no fault, and what follows it.
 #[derive(Clone, Copy)]
 pub struct PathFront<'t> {
@@ -181,12 +205,32 @@ pub struct PathFront<'t> {
     pub behind: &'t [u8],
 }
 
+/// Whether the path ends before the text's first byte, or the text is empty.
+#[inline(always)]
+fn ends_at_once(text: &[u8]) -> bool
+    ensures { result ≡ true → up_to ends_path text.now ≡ [] }
+{
+    match text {
+        [] => true,
+        [b, ..] => matches!(b, b'?' | b'#'),
+    }
+}
+
 /// The path that a text begins with, up to the first `?` or `#`, or its leftmost fault. Reads it
 /// once. Does not allocate.
 pub fn split_path(text: &[u8]) -> Result<PathFront<'_>, PathError>
     ensures { MatchResult result (λ r. (fault (up_to ends_path text.now) ≡ None) × (r.text.now ≡ up_to ends_path text.now) × (r.behind.now ≡ from_first ends_path text.now) × (r.count ≡ length (pieces (up_to ends_path text.now))) × (r.escaped ≡ 0 → lacks percent r.text.now ≡ true)) (λ e. fault (up_to ends_path text.now) ≡ Some e) }
 {
     let (_, rest) = split_root(text);
+    if ends_at_once(rest) {
+        let (text, _) = text.split_at(text.len() - rest.len());
+        return Ok(PathFront {
+            text,
+            count: 1,
+            escaped: 0,
+            behind: rest,
+        });
+    }
     let (count, len, escaped) = count_segments(MAX_SEGMENTS, true, rest)?;
     let (_, behind) = rest.split_at(len);
     let (text, _) = text.split_at(text.len() - behind.len());
@@ -207,9 +251,8 @@ fn is_plain(escaped: usize, dotted: bool) -> bool
     escaped == 0 && !dotted
 }
 
-/// The path that a checked text spells. Reserves capacity for `count` segments and grows if that is
-/// too few. Returns `AllocError` if memory runs out. `escaped` is 0 only if the text has no
-/// percent-encoded octet.
+/// The path that a checked text spells, which has `count` segments. Allocates only for more than
+/// one. `escaped` is 0 only if the text has no percent-encoded octet.
 #[inline(always)]
 pub fn counted_path(
     alloc: Global,
@@ -218,11 +261,13 @@ pub fn counted_path(
     text: &[u8],
 ) -> Result<Path<'_>, AllocError>
     requires path { IsPath text.now }
+    requires count { count ≡ length (pieces text.now) }
     requires escaped { escaped ≡ 0 → lacks percent text.now ≡ true }
-    ensures { IfOk result (λ p. p ≡ spelled text.now) }
+    ensures path { IfOk result (λ p. p ≡ spelled text.now) }
+    ensures takes_no_memory { count ≡ 1 → IsOk result }
 {
     let (absolute, rest) = split_root(text);
-    let (segments, dotted) = split_segments(alloc, count, escaped, rest)?;
+    let (segments, dotted) = read_segments(alloc, count, escaped, rest)?;
     let plain = is_plain(escaped, dotted);
     Ok(Path::of(absolute, segments, Counts::none(), plain))
 }

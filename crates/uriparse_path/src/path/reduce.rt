@@ -1,9 +1,11 @@
 //! The relative normal form of a list of segments: RFC 3986, sections 4.2 and 6.2.2.
-ghost use Rattle.std.specs.Prelude.{◌≡◌, ◌+◌, ◌<◌, ◌≤◌, false, not, length, take, drop, reverse, vec_len};
+ghost use Rattle.std.specs.Prelude.{◌≡◌, ◌+◌, ◌<◌, ◌≤◌, ◌∷◌, [], false, if◌then◌else◌, not, length, take, drop, reverse};
+ghost use Rattle.uriparse_text.specs.Bytes.{dot};
 ghost use Rattle.uriparse_path.specs.Path as path;
 ghost use Rattle.uriparse_path.specs.Dots as dots;
 ghost use Rattle.uriparse_path.specs.Relative as relative;
 
+use super::list::SegmentList;
 use super::segment::Segment;
 use super::segments::{guard, has_first_colon, needs_guard};
 
@@ -39,12 +41,12 @@ fn ends_in_name(segments: &[Segment<'_>]) -> bool
 
 /// Appends the segment at `at` to those that are left so far, the first `kept` of the list, or
 /// makes the deletion that it causes. Returns how many are left.
-fn put_segment(segments: &mut Vec<Segment<'_>>, kept: usize, at: usize) -> usize
+fn put_segment(segments: &mut [Segment<'_>], kept: usize, at: usize) -> usize
     requires order { kept ≤ at }
-    requires within { at < vec_len segments.old }
+    requires within { at < length segments.old }
     ensures order { result ≤ at + 1 }
-    ensures len { vec_len segments.new ≡ vec_len segments.old }
-    ensures put { relative.put_all (reverse (take result segments.new.items)) (drop (at + 1) segments.new.items) ≡ relative.put_all (reverse (take kept segments.old.items)) (drop at segments.old.items) }
+    ensures len { length segments.new ≡ length segments.old }
+    ensures put { relative.put_all (reverse (take result segments.new)) (drop (at + 1) segments.new) ≡ relative.put_all (reverse (take kept segments.old)) (drop at segments.old) }
 {
     if segments[at].is_single_dot_segment() {
         return kept;
@@ -62,10 +64,10 @@ fn put_segment(segments: &mut Vec<Segment<'_>>, kept: usize, at: usize) -> usize
 
 /// Makes all deletions in one pass; what is left is at the start of the list. Returns how many
 /// segments are left.
-fn reduce(segments: &mut Vec<Segment<'_>>) -> usize
-    ensures left { take result segments.new.items ≡ relative.reduced segments.old.items }
-    ensures within { result ≤ vec_len segments.new }
-    ensures len { vec_len segments.new ≡ vec_len segments.old }
+fn reduce(segments: &mut [Segment<'_>]) -> usize
+    ensures left { take result segments.new ≡ relative.reduced segments.old }
+    ensures within { result ≤ length segments.new }
+    ensures len { length segments.new ≡ length segments.old }
 {
     let mut kept = 0;
     for at in 0..segments.len() {
@@ -76,12 +78,12 @@ fn reduce(segments: &mut Vec<Segment<'_>>) -> usize
 
 /// Appends an empty segment to the first `kept` of the list if the old ones ended in a dot segment,
 /// unless none is left or they end in `..`. Returns how many there are then.
-fn close(segments: &mut Vec<Segment<'_>>, ended_in_dots: bool, kept: usize) -> usize
-    requires within { kept ≤ vec_len segments.old }
-    requires room { length (relative.closed ended_in_dots (take kept segments.old.items)) ≤ vec_len segments.old }
-    ensures closed { take result segments.new.items ≡ relative.closed ended_in_dots (take kept segments.old.items) }
-    ensures within { result ≤ vec_len segments.new }
-    ensures len { vec_len segments.new ≡ vec_len segments.old }
+fn close(segments: &mut [Segment<'_>], ended_in_dots: bool, kept: usize) -> usize
+    requires within { kept ≤ length segments.old }
+    requires room { length (relative.closed ended_in_dots (take kept segments.old)) ≤ length segments.old }
+    ensures closed { take result segments.new ≡ relative.closed ended_in_dots (take kept segments.old) }
+    ensures within { result ≤ length segments.new }
+    ensures len { length segments.new ≡ length segments.old }
 {
     if kept == 0 || !ended_in_dots {
         return kept;
@@ -94,16 +96,31 @@ fn close(segments: &mut Vec<Segment<'_>>, ended_in_dots: bool, kept: usize) -> u
     kept + 1
 }
 
-/// Brings the segments of a relative path into their normal form, except for their spelling.
-pub(super) fn make_relative(segments: &mut Vec<Segment<'_>>)
-    requires some { 0 < vec_len segments.old }
-    requires shown { path.hides_root segments.old.items ≡ false }
-    ensures { segments.new.items ≡ relative.ended segments.old.items (relative.reduced segments.old.items) }
+/// Brings the segments of a relative path into their normal form, except for their spelling and a
+/// leading `.`. What is left is at the start of the list. Returns whether that `.` is needed, and
+/// how many segments are left.
+fn shape(segments: &mut [Segment<'_>]) -> (bool, usize)
+    requires some { 0 < length segments.old }
+    requires shown { path.hides_root segments.old ≡ false }
+    ensures shaped { relative.filled (if result.0 then (dot ∷ []) ∷ take result.1 segments.new else take result.1 segments.new) ≡ relative.ended segments.old (relative.reduced segments.old) }
+    ensures within { result.1 ≤ length segments.new }
+    ensures len { length segments.new ≡ length segments.old }
+    ensures room { length (relative.ended segments.old (relative.reduced segments.old)) ≤ length segments.old }
 {
     let ended_in_dots = ends_in_dots(segments);
     let had_colon = has_first_colon(segments);
     let left = reduce(segments);
     let kept = close(segments, ended_in_dots, left);
     let guarded = needs_guard(had_colon, &segments[..kept]);
-    guard(segments, guarded, kept);
+    (guarded, kept)
+}
+
+/// Brings the segments of a relative path into their normal form, except for their spelling.
+pub(super) fn make_relative(list: &mut SegmentList<Segment<'_>>)
+    requires some { 0 < length list.old }
+    requires shown { path.hides_root list.old ≡ false }
+    ensures { list.new ≡ relative.ended list.old (relative.reduced list.old) }
+{
+    let (guarded, kept) = shape(list.as_mut_slice());
+    guard(list, guarded, kept);
 }

@@ -7,6 +7,7 @@ ghost use Rattle.uriparse_path.specs.Relate as spec;
 ghost use Rattle.uriparse_path.specs.Relative.{is_first};
 
 use super::counts::Counts;
+use super::list::SegmentList;
 use super::segments::{directory, has_dot_segment, push_borrowed};
 use super::{MAX_SEGMENTS, Path, Segment};
 use std::alloc::{AllocError, Global};
@@ -130,13 +131,12 @@ impl<'p> Path<'p> {
         self.is_absolute() == other.is_absolute() && are_same(self.segments(), other.segments())
     }
 
-    /// The empty path. Allocates its list.
-    pub(crate) fn empty(alloc: Global) -> Result<Path<'static>, AllocError>
-        ensures { IfOk result (λ p. p ≡ spec.no_path) }
+    /// The empty path. Does not allocate.
+    pub(crate) fn empty() -> Path<'static>
+        ensures { result ≡ spec.no_path }
     {
-        let mut list = Vec::with_capacity(alloc, 1)?;
-        list.push(Segment::empty())?;
-        Ok(Path::of(false, list, Counts::none(), false))
+        let list = SegmentList::one(Segment::empty());
+        Path::of(false, list, Counts::none(), false)
     }
 
     /// Whether both are absolute, or neither is and no `..` has to leave the base's first
@@ -180,6 +180,7 @@ impl<'p> Path<'p> {
             return Ok(None);
         }
         let list = led(alloc, left, rest)?;
-        Ok(Some(Path::of(false, list, Counts::none(), false)))
+        let segments = SegmentList::several(list);
+        Ok(Some(Path::of(false, segments, Counts::none(), false)))
     }
 }

@@ -98,6 +98,8 @@ impl<'s> Dotted for Segment<'s> {
     ghost use Rattle.uriparse_path.specs.Counts.{counts as segment_counts};
 
     ghost counts = { segment_counts };
+
+    ghost fits = { Prim.search rules };
 }
 
 impl<'s> Segment<'s> {

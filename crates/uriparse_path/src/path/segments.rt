@@ -1,11 +1,12 @@
 //! Lists of segments: what dot removal, normal forms, merging and edits share.
-ghost use Rattle.std.specs.Prelude.{◌≡◌, ◌<◌, ◌≤◌, ◌∷◌, ◌++◌, ◌&&◌, ◌||◌, [], true, not, if◌then◌else◌, OnOk, length, take, drop, vec_len};
+ghost use Rattle.std.specs.Prelude.{◌≡◌, ◌<◌, ◌≤◌, ◌∷◌, ◌++◌, ◌&&◌, ◌||◌, [], true, not, if◌then◌else◌, OnOk, length, take, drop};
 ghost use Rattle.uriparse_text.specs.Bytes.{dot};
 ghost use Rattle.uriparse_path.specs.Path as path;
 ghost use Rattle.uriparse_path.specs.Dots as dots;
 ghost use Rattle.uriparse_path.specs.Edits as edits;
 ghost use Rattle.uriparse_path.specs.Relative as relative;
 
+use super::list::SegmentList;
 use super::segment::Segment;
 use std::alloc::AllocError;
 
@@ -88,19 +89,19 @@ pub(super) fn push_borrowed<'p>(
 
 /// Keeps the first `kept` of the list, with a leading `.` if needed, or one empty segment if none
 /// is left.
-pub(super) fn guard(segments: &mut Vec<Segment<'_>>, needs_guard: bool, kept: usize)
-    requires within { kept ≤ vec_len segments.old }
-    requires room { length (relative.filled (if needs_guard then (dot ∷ []) ∷ take kept segments.old.items else take kept segments.old.items)) ≤ vec_len segments.old }
-    ensures { segments.new.items ≡ relative.filled (if needs_guard then (dot ∷ []) ∷ take kept segments.old.items else take kept segments.old.items) }
+pub(super) fn guard(segments: &mut SegmentList<Segment<'_>>, needs_guard: bool, kept: usize)
+    requires within { kept ≤ length segments.old }
+    requires room { length (relative.filled (if needs_guard then (dot ∷ []) ∷ take kept segments.old else take kept segments.old)) ≤ length segments.old }
+    ensures { segments.new ≡ relative.filled (if needs_guard then (dot ∷ []) ∷ take kept segments.old else take kept segments.old) }
 {
     if needs_guard {
-        segments[kept] = Segment::single_dot();
+        segments.put(kept, Segment::single_dot());
         segments.truncate(kept + 1);
-        segments.rotate_right(1);
+        segments.rotate_right();
         return;
     }
     if kept == 0 {
-        segments[0] = Segment::empty();
+        segments.put(0, Segment::empty());
         segments.truncate(1);
         return;
     }

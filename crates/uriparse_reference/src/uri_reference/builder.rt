@@ -188,7 +188,7 @@ impl<'b> URIReferenceBuilder<'b> {
 
     /// Reads and sets the path. Rejects a text that is not a path with
     /// [`Path`](URIReferenceError::Path), even if memory has run out. Allocates only the list of
-    /// segments; if memory runs out, the error is [`Path`](URIReferenceError::Path) of
+    /// segments, if there is more than one; if memory runs out, the error is [`Path`](URIReferenceError::Path) of
     /// [`OutOfMemory`](uriparse_path::path::PathError::OutOfMemory). After an error the builder is
     /// unchanged.
     pub fn try_path(&mut self, alloc: Global, path: &'b [u8]) -> Result<(), URIReferenceError>

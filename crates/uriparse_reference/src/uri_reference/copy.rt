@@ -1,4 +1,4 @@
-//! Copies of a reference. They allocate the list of segments.
+//! Copies of a reference. They allocate the list of segments, if there is more than one.
 ghost use Rattle.std.specs.Prelude.{◌≡◌, IfOk, option_copied};
 
 use super::URIReference;
@@ -91,7 +91,7 @@ fn owned_tail(
 
 impl<'r> URIReference<'r> {
     /// The same reference, borrowing the texts of this one. Allocates once, for the list of
-    /// segments.
+    /// segments, if there is more than one.
     pub fn to_borrowed(&self, alloc: Global) -> Result<URIReference<'_>, AllocError>
         ensures { IfOk result (λ r. r ≡ self.now) }
     {
@@ -105,8 +105,8 @@ impl<'r> URIReference<'r> {
         })
     }
 
-    /// The same reference, owning its texts. Allocates for the list of segments and each borrowed
-    /// text. If memory runs out, the reference is lost.
+    /// The same reference, owning its texts. Allocates for each borrowed text, and for the list of
+    /// segments if there is more than one. If memory runs out, the reference is lost.
     pub fn into_owned(self, alloc: Global) -> Result<URIReference<'static>, AllocError>
         ensures { IfOk result (λ r. r ≡ self.entry) }
     {

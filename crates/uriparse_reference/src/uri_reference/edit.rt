@@ -76,6 +76,13 @@ fn place(has_authority: bool, path: Path<'_>) -> Path<'_>
     path
 }
 
+/// Puts a path in the place of another one.
+fn put_path<'r>(held: &mut Path<'r>, path: Path<'r>)
+    ensures { held.new ≡ path.entry }
+{
+    let _old = mem::replace(held, path);
+}
+
 impl<'r> URIReference<'r> {
     ghost use Rattle.uriparse_reference.specs.Reference.{Valid};
     ghost use Rattle.uriparse_text.specs.Readings.{Settles};
@@ -205,7 +212,7 @@ impl<'r> URIReference<'r> {
         match place_refusal(self.scheme.is_some(), has_authority, &path) {
             Some(error) => Err(error),
             None => {
-                let _old = mem::replace(&mut self.path, place(has_authority, path));
+                put_path(&mut self.path, place(has_authority, path));
                 Ok(())
             }
         }

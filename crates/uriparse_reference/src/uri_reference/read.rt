@@ -1,12 +1,13 @@
 //! Cutting the text of a reference into its components, and reading these: RFC 3986, sections 3 and
 //! 4.
-ghost use Rattle.std.specs.Prelude.{◌≡◌, not, drop, IfSome, is_some, true, false, Ok, Err, MatchOption, MatchResult};
+ghost use Rattle.std.specs.Prelude.{◌≡◌, not, drop, length, IfSome, IsOk, is_some, true, false, Ok, Err, MatchOption, MatchResult};
 ghost use Rattle.std.specs.Option.{option_copied};
 ghost use Rattle.uriparse_text.specs.Readings.{if_present, of_piece, unless_fault};
 ghost use Rattle.uriparse_text.specs.Bytes.{percent};
 ghost use Rattle.uriparse_text.specs.Query as query;
 ghost use Rattle.uriparse_authority.specs.Authority as authority;
 ghost use Rattle.uriparse_text.specs.Cuts.{lacks, up_to};
+ghost use Rattle.uriparse_path.specs.Path as path;
 ghost use Rattle.uriparse_path.specs.Path.{IsPath, has_two_slashes};
 ghost use Rattle.uriparse_path.specs.Faults.{ends_path};
 ghost use Rattle.uriparse_scheme.specs.Registered.{name_of};
@@ -14,16 +15,15 @@ ghost use Rattle.uriparse_scheme.specs.Cuts.{if_some, scheme_text};
 ghost use Rattle.uriparse_reference.specs.Cuts.{cut_authority, tail_fragment, tail_query, without_authority};
 ghost use Rattle.uriparse_path.specs.declared.path.error.PathError.TheVariants.{OutOfMemory};
 ghost use Rattle.uriparse_reference.specs.declared.uri_reference.error.URIReferenceError.TheVariants as errors;
-ghost use Rattle.uriparse_reference.specs.Reading.{IsAnswer, behind_reading, parts_of, reading, text_tail};
+ghost use Rattle.uriparse_reference.specs.Reading.{behind_reading, parts_of, reading, text_tail};
 ghost use Rattle.uriparse_reference.specs.Reference.{is_noscheme, path_of, path_refusal};
 
-use super::URIReference;
 use super::error::URIReferenceError;
 use std::alloc::Global;
 use uriparse_authority::internal::{FoundAuthority, find_authority};
 use uriparse_path::internal::{counted_path, into_absolute, split_path};
 use uriparse_path::path::{Path, PathError};
-use uriparse_scheme::internal::{scheme_if, split_scheme};
+use uriparse_scheme::internal::split_scheme;
 use uriparse_scheme::scheme::RegisteredScheme;
 use uriparse_text::fragment::FragmentKind;
 use uriparse_text::internal::{Found, find_text_before, find_text_if, no_text};
@@ -127,7 +127,7 @@ fn find_tail(
     text: &[u8],
 ) -> Result<FoundTail<'_>, URIReferenceError>
     requires { has_scheme ≡ false → has_authority ≡ false → is_noscheme (up_to ends_path text.now) ≡ not has_colon_segment }
-    ensures { MatchResult result (λ t. IsPath t.path.now × (t.escaped ≡ 0 → lacks percent t.path.now ≡ true) × (text_tail has_scheme has_authority text.now ≡ Ok (path_of has_authority t.path.now, t.query, t.fragment))) (λ e. text_tail has_scheme has_authority text.now ≡ Err e) }
+    ensures { MatchResult result (λ t. IsPath t.path.now × (t.count ≡ length (path.pieces t.path.now)) × (t.escaped ≡ 0 → lacks percent t.path.now ≡ true) × (text_tail has_scheme has_authority text.now ≡ Ok (path_of has_authority t.path.now, t.query, t.fragment))) (λ e. text_tail has_scheme has_authority text.now ≡ Err e) }
 {
     let front = split_path(text)?;
     check_path(has_scheme, has_authority, has_colon_segment, front.text)?;
@@ -164,7 +164,7 @@ impl<'t> Pieces<'t> {
 #[inline(always)]
 #[tactic(auto, unfolding(crate::specs::Reading::reading))]
 pub fn find_pieces(text: &[u8]) -> Result<Pieces<'_>, URIReferenceError>
-    ensures { MatchResult result (λ p. (if_some p.scheme.now ≡ scheme_text text.now) × IsPath p.tail.path.now × (p.tail.escaped ≡ 0 → lacks percent p.tail.path.now ≡ true) × (reading text.now ≡ Ok (parts_of text.now p.authority p.tail.path.now p.tail.query p.tail.fragment)) × IfSome p.known (λ s. p.scheme.now ≡ name_of s)) (λ e. reading text.now ≡ Err e) }
+    ensures { MatchResult result (λ p. (if_some p.scheme.now ≡ scheme_text text.now) × IsPath p.tail.path.now × (p.tail.count ≡ length (path.pieces p.tail.path.now)) × (p.tail.escaped ≡ 0 → lacks percent p.tail.path.now ≡ true) × (reading text.now ≡ Ok (parts_of text.now p.authority p.tail.path.now p.tail.query p.tail.fragment)) × IfSome p.known (λ s. p.scheme.now ≡ name_of s)) (λ e. reading text.now ≡ Err e) }
 {
     let cut = split_scheme(text);
     let (authority, rest) = find_front(cut.rest)?;
@@ -178,9 +178,9 @@ pub fn find_pieces(text: &[u8]) -> Result<Pieces<'_>, URIReferenceError>
     })
 }
 
-/// The path that a text spells, made absolute with an authority. Reserves capacity for `count`
-/// segments. `escaped` is 0 only if the text has no percent-encoded octet.
-fn make_path(
+/// The path that a text spells, which has `count` segments, made absolute with an authority.
+/// Allocates only for more than one. `escaped` is 0 only if the text has no percent-encoded octet.
+pub(super) fn make_path(
     alloc: Global,
     has_authority: bool,
     count: usize,
@@ -188,8 +188,10 @@ fn make_path(
     text: &[u8],
 ) -> Result<Path<'_>, URIReferenceError>
     requires path { IsPath text.now }
+    requires count { count ≡ length (path.pieces text.now) }
     requires escaped { escaped ≡ 0 → lacks percent text.now ≡ true }
-    ensures { MatchResult result (λ p. p ≡ path_of has_authority text.now) (λ e. e ≡ errors.Path OutOfMemory) }
+    ensures path { MatchResult result (λ p. p ≡ path_of has_authority text.now) (λ e. e ≡ errors.Path OutOfMemory) }
+    ensures takes_no_memory { count ≡ 1 → IsOk result }
 {
     match counted_path(alloc, count, escaped, text) {
         Ok(path) => Ok(if has_authority {
@@ -198,57 +200,5 @@ fn make_path(
             path
         }),
         Err(_) => Err(URIReferenceError::Path(PathError::OutOfMemory)),
-    }
-}
-
-impl<'r> URIReference<'r> {
-    /// The reference of the components that were found in the text. Allocates for the list of
-    /// segments, before anything else.
-    #[inline(always)]
-    fn of_pieces(
-        alloc: Global,
-        text: &'r [u8],
-        pieces: &Pieces<'r>,
-    ) -> Result<URIReference<'r>, URIReferenceError>
-        requires scheme { if_some pieces.now.scheme.now ≡ scheme_text text.now }
-        requires known { IfSome pieces.now.known (λ s. pieces.now.scheme.now ≡ name_of s) }
-        requires path { IsPath pieces.now.tail.path.now }
-        requires escaped { pieces.now.tail.escaped ≡ 0 → lacks percent pieces.now.tail.path.now ≡ true }
-        requires found { reading text.now ≡ Ok (parts_of text.now pieces.now.authority pieces.now.tail.path.now pieces.now.tail.query pieces.now.tail.fragment) }
-        ensures { MatchResult result (λ r. reading text.now ≡ Ok r) (λ e. e ≡ errors.Path OutOfMemory) }
-    {
-        let tail = &pieces.tail;
-        let path = make_path(
-            alloc,
-            pieces.authority.is_some(),
-            tail.count,
-            tail.escaped,
-            tail.path,
-        )?;
-        let authority = match &pieces.authority {
-            Some(found) => Some(found.to_authority()),
-            None => None,
-        };
-        Ok(URIReference {
-            scheme: scheme_if(pieces.scheme, pieces.known),
-            authority,
-            path,
-            query: tail.query.to_text(),
-            fragment: tail.fragment.to_text(),
-        })
-    }
-
-    /// Finds the components of the text, and then builds the reference: a fault is returned even if
-    /// memory has run out.
-    pub(super) fn read(
-        alloc: Global,
-        bytes: &'r [u8],
-    ) -> Result<URIReference<'r>, URIReferenceError>
-        ensures { IsAnswer bytes.now result }
-    {
-        match find_pieces(bytes) {
-            Ok(pieces) => Self::of_pieces(alloc, bytes, &pieces),
-            Err(error) => Err(error),
-        }
     }
 }

@@ -117,20 +117,17 @@ fn query_left<'r>(base: &URIReference<'_>, target: &'r URIReference<'_>) -> Opti
 
 /// The reference that leads from a base to a target with the same path: a query, if it differs, and
 /// a fragment. It borrows their texts.
-fn in_place<'r>(
-    alloc: Global,
-    base: &URIReference<'_>,
-    target: &'r URIReference<'_>,
-) -> Result<URIReference<'r>, AllocError>
-    ensures { IfOk result (λ r. (r ≡ record { scheme = None; authority = None; path = no_path; query = r.query; fragment = target.now.fragment }) × spec.IsQueryLeft base.now target.now r.query) }
+fn in_place<'r>(base: &URIReference<'_>, target: &'r URIReference<'_>) -> URIReference<'r>
+    ensures left { result ≡ record { scheme = None; authority = None; path = no_path; query = result.query; fragment = target.now.fragment } }
+    ensures query { spec.IsQueryLeft base.now target.now result.query }
 {
-    Ok(URIReference {
+    URIReference {
         scheme: None,
         authority: None,
-        path: empty_path(alloc)?,
+        path: empty_path(),
         query: query_left(base, target),
         fragment: borrowed_text(target.fragment.as_ref()),
-    })
+    }
 }
 
 /// Whether the path is absolute, and its text does not start with `//`.
@@ -197,7 +194,7 @@ pub fn relativize<'r>(
         return network(alloc, target);
     }
     if is_in_place(base, target) {
-        return in_place(alloc, base, target);
+        return Ok(in_place(base, target));
     }
     match inner_path(alloc, base_path, target_path)? {
         Some(path) => Ok(behind_path(base, target, path)),

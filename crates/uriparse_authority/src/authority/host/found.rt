@@ -1,10 +1,12 @@
 //! A host that a reader found: plain words that need no drop.
-ghost use Rattle.std.specs.Prelude.{◌≡◌};
+ghost use Rattle.std.specs.Prelude.{◌≡◌, ◌==◌, false};
 ghost use Rattle.uriparse_authority.specs.declared.authority.host.Host.TheVariants as hosts;
 ghost use Rattle.uriparse_text.specs.declared.internal.class.Class.TheVariants as class;
 ghost use Rattle.uriparse_text.specs.declared.internal.canonical.Case.TheVariants as case;
 ghost use Rattle.uriparse_text.specs.Spelling.{IsKept};
 ghost use Rattle.uriparse_authority.specs.Future.{IsFuture};
+ghost use Rattle.uriparse_authority.specs.Found.{found_host};
+ghost use Rattle.uriparse_authority.specs.Host.{Valid};
 
 use super::super::future::IPvFuture;
 use super::super::name::RegisteredName;
@@ -105,23 +107,24 @@ impl<'h> FoundHost<'h> {
         if self.kind == 0 {
             Host::RegisteredName(RegisteredName::of_kept(self.text, self.canonical == 1))
         } else {
-            self.to_any_host()
+            address_host(self.kind, self.text, self.ipv4, self.ipv6)
         }
     }
+}
 
-    /// The same, in a call of its own: most hosts are names.
-    #[inline(never)]
-    fn to_any_host(&self) -> Host<'h>
-        ensures { result ≡ self.now }
-    {
-        if self.kind == 0 {
-            Host::RegisteredName(RegisteredName::of_kept(self.text, self.canonical == 1))
-        } else if self.kind == 4 {
-            Host::IPv4Address(self.ipv4)
-        } else if self.kind == 7 {
-            Host::IPvFuture(IPvFuture::of_checked(self.text))
-        } else {
-            Host::IPv6Address(self.ipv6)
-        }
+/// The host that is an address of this kind, in a call of its own: most hosts are names. It takes
+/// words and no reference, which would keep all that a reader found in memory.
+#[inline(never)]
+fn address_host(kind: usize, text: &[u8], ipv4: Ipv4Addr, ipv6: Ipv6Addr) -> Host<'_>
+    requires address { (kind == 0) ≡ false }
+    requires valid { Valid (found_host kind text.now ipv4 ipv6) }
+    ensures { result ≡ found_host kind text.now ipv4 ipv6 }
+{
+    if kind == 4 {
+        Host::IPv4Address(ipv4)
+    } else if kind == 7 {
+        Host::IPvFuture(IPvFuture::of_checked(text))
+    } else {
+        Host::IPv6Address(ipv6)
     }
 }

@@ -1,5 +1,5 @@
 -- Paths after edits.
-use Rattle.std.proofs.Common.{◌≡◌, ℕ, zero, suc, ◌+◌, ◌<◌, ◌≤◌, Bool, cond, List, [], ◌∷◌, ◌++◌, length, take, Result, Ok, Err, IfErr, MatchResult, inl, inr}
+use Rattle.std.proofs.Common.{◌≡◌, ℕ, zero, suc, ◌+◌, ◌<◌, ◌≤◌, Bool, cond, List, [], ◌∷◌, ◌++◌, length, slice_set, take, Result, Ok, Err, IfErr, MatchResult, inl, inr}
 use Rattle.std.proofs.Common.{refl, sym, ap, subst, ◌∙◌, arith}
 use Rattle.std.proofs.lemmas.Bool.{lt-ltb, le-ltb}
 use Rattle.uriparse_text.specs.Readings.{◌>>=◌, Settles, SettlesUnless}
@@ -101,3 +101,18 @@ refused_answer p e result h k = inl (subst (λ r. Settles p p r (pushing p (Err 
 pub refused_fault : (p : PathParts) (e : PathError) (result : Result (Unit {0}) PathError) → length p.segments < max_segments → result ≡ Err e
     → IfErr (pushing p (Err e)) (λ x. result ≡ Err x)
 refused_fault p e result h k = subst (λ r. IfErr r (λ x. result ≡ Err x)) (sym (pushing_room p (Err e) h)) k
+
+-- the only segment replaced
+pub set_only : (ss : List (List ℕ)) → length ss ≡ 1 → slice_set ss 0 [] ≡ [] ∷ []
+set_only [] h = absurd (omega (arith, h))
+set_only (s ∷ []) h = refl
+set_only (s ∷ r ∷ ss) h = absurd (omega (arith, h))
+
+-- the first segment alone, replaced
+pub set_first : (ss : List (List ℕ)) → 0 < length ss → slice_set (take 1 ss) 0 [] ≡ [] ∷ []
+set_first [] h = absurd (omega (arith, h))
+set_first (s ∷ ss) h = refl
+
+pub first_set : (ss : List (List ℕ)) → 0 < length ss → take 1 (slice_set ss 0 []) ≡ [] ∷ []
+first_set [] h = absurd (omega (arith, h))
+first_set (s ∷ ss) h = refl

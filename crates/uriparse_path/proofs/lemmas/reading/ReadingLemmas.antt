@@ -140,6 +140,13 @@ front_counts t n h = by_fault (fault_within MAX_SEGMENTS (slice_split is_slash f
     by_fault (Some x) k = cc
 
 -- the length of a text without fault
+pub counted_pieces : (t : List ℕ) (n : ℕ × ℕ) → answer MAX_SEGMENTS (unrooted t) ≡ Ok n → n.0 ≡ length (pieces t)
+counted_pieces t n h = by_fault (fault_within MAX_SEGMENTS (pieces t)) h
+  where
+    by_fault : (f : Option PathError) → unless_fault {A = ℕ × ℕ} f (length (pieces t), length (unrooted t)) ≡ Ok n → n.0 ≡ length (pieces t)
+    by_fault None k = ap (λ m. m.0) (sym (ok_is {A = ℕ × ℕ} (length (pieces t), length (unrooted t)) n k))
+    by_fault (Some x) k = cc
+
 pub counted_len : (t : List ℕ) (n : ℕ × ℕ) → answer MAX_SEGMENTS t ≡ Ok n → n.1 ≡ length t
 counted_len t n h = by_fault (fault_within MAX_SEGMENTS (slice_split is_slash t)) h
   where

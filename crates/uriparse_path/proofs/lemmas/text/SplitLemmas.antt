@@ -64,3 +64,12 @@ joined-pieces t = join_with_byte-slice_split slash t
 pub joined-behind : (s : List ℕ) (ss : List (List ℕ)) → join_with_byte slash (s ∷ ss) ≡ s ++ flat_map (λ r. slash ∷ r) ss
 joined-behind s [] = sym (append-nil s)
 joined-behind s (r ∷ ss) = ap (λ x. s ++ slash ∷ x) (joined-behind r ss)
+
+-- a text with one piece is that piece
+pub one_piece : (t : List ℕ) → length (slice_split is_slash t) ≡ 1 → slice_split is_slash t ≡ t ∷ []
+one_piece t h = only (slice_split is_slash t) h ∙ ap (λ s. s ∷ []) (joined-pieces t)
+  where
+    only : (ps : List (List ℕ)) → length ps ≡ 1 → ps ≡ join_with_byte slash ps ∷ []
+    only [] h = absurd (omega (arith, h))
+    only (s ∷ []) h = refl
+    only (s ∷ r ∷ ps) h = absurd (omega (arith, h))

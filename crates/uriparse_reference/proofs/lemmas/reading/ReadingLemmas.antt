@@ -13,7 +13,7 @@ use Rattle.uriparse_text.specs.Query as query
 use Rattle.uriparse_text.specs.Fragment as fragment
 use Rattle.uriparse_text.proofs.lemmas.readings.CutLemmas.{from_first-head, cut-whole, before_after, front_rest}
 use Rattle.uriparse_text.proofs.lemmas.readings.ReadingLemmas.{texts_again, texts_found, present_again, present_found, piece_found, bind_ok, none_or}
-use Rattle.uriparse_path.specs.Path.{PathParts, IsPath, is_slash, is_rooted, has_two_slashes}
+use Rattle.uriparse_path.specs.Path.{PathParts, IsPath, is_slash, is_rooted, has_two_slashes, pieces}
 use Rattle.uriparse_path.specs.Faults as path_faults
 use Rattle.uriparse_path.specs.Faults.{ends_path}
 use Rattle.uriparse_path.proofs.lemmas.reading.ReadingLemmas.{reading-path, path_read}
@@ -315,3 +315,8 @@ answered t r (inl h) = (by_answer r h, (λ p s. inl (h ∙ again t p s)), by_fau
 answered t r (inr h) =
     let want = h.1 in
     (rw want tt, (λ p s. inr want), rw want (inr refl), (λ e k. let no : None ≡ Some e = sym h.0 ∙ k in absurd (cc)))
+
+-- the segments of a path are the pieces of its text, also where it is made absolute
+pub path_segments : (has_authority : Bool) (h : List ℕ) → (path_of has_authority h).segments ≡ pieces h
+path_segments true h = refl
+path_segments false h = refl

@@ -9,10 +9,10 @@ use Rattle.uriparse_path.proofs.path.Path.most_bytes.Goals as goal
 pub returns : goal.returns
 returns c =
     let m : ℕ = 18446744073709551615 in
-    let p : PathParts = record { absolute = flag c.self.inside.absolute; segments = c.self.inside.segments.items } in
-    let ss : List (List ℕ) = c.deref-segment-items.result.now in
+    let p : PathParts = record { absolute = flag c.self.inside.absolute; segments = c.self.inside.segments } in
+    let ss : List (List ℕ) = c.as_slice-segment-items.result.now in
     let read : length (text p) ≤ length (flat_map (λ s. slash ∷ s) ss) =
-    subst (λ l. length (text p) ≤ length (flat_map (λ s. slash ∷ s) l)) (sym c.deref-segment-items.ensures.value) (length-text p c.self.invariant.some) in
+    subst (λ l. length (text p) ≤ length (flat_map (λ s. slash ∷ s) l)) (sym c.as_slice-segment-items.ensures) (length-text p c.self.invariant.some) in
     let shown : length (text c.args.self.now) ≤ length (flat_map (λ s. slash ∷ s) ss) =
     subst (λ q. length (text q) ≤ length (flat_map (λ s. slash ∷ s) ss)) c.self.view_is read in
     most_of m (length (text c.args.self.now)) (length (flat_map (λ s. slash ∷ s) ss)) c.loop-segment.len shown

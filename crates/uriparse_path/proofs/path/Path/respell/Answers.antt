@@ -17,6 +17,6 @@ pub returns : goal.returns
 returns c =
     let hidden : hides_root c.args.self.now.segments ≡ true = ap hides_root (sym c.segments.ensures.value) ∙ sym c.hides_root.ensures
     ∙ c.if-not-hides_root.false in
-    ap (λ l. record { absolute = true; segments = l }) (c.remove.ensures.items ∙ ap (λ q. drop 1 q.segments) c.self.view_is)
+    ap (λ l. record { absolute = true; segments = l }) (c.remove_first.ensures ∙ ap (λ q. drop 1 q.segments) c.self.view_is)
     ∙ sym (spelled-text c.args.self.now c.segments.ensures.listed
     ∙ respelled_hidden c.args.self.now hidden (sym c.is_absolute.ensures ∙ c.if-is_absolute.false))

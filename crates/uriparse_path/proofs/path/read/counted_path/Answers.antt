@@ -10,4 +10,4 @@ of-requires-clause-counted c h =
     let told = c.is_plain-plain.ensures h in
     let rest = c.split_root-absolute.result.1.now in
     let free = ap (lacks percent) c.split_root-absolute.ensures.rest ∙ unrooted_lacks c.args.text.now (c.requires.escaped told.0) in
-    c.none.ensures ∙ plain_counts rest free (sym c.in_ok-segments.ensures.1 ∙ told.1) ∙ ap counts (sym c.in_ok-segments.ensures.0)
+    c.none.ensures ∙ plain_counts rest free (sym c.in_ok-segments.ensures.segments.1 ∙ told.1) ∙ ap counts (sym c.in_ok-segments.ensures.segments.0)

@@ -8,23 +8,22 @@ use Rattle.uriparse_path.proofs.path.reduce.put_segment.Goals as goal
 
 pub returns-then-is_pair-clause-put : goal.returns-then-is_pair-clause-put
 returns-then-is_pair-clause-put c =
-    pair_put c.args.segments.now.items c.args.kept c.args.at c.index-2.result.now c.requires.order (omega arith) c.index-2.ensures
-    (sym c.is_double_dot_segment-climbs.ensures ∙ c.if-climbs.true)
-    (sym (c.ends_in_name-is_pair.ensures ∙ ap (λ l. is_last (λ s. not (is_dot_segment s)) (take c.args.kept l)) c.deref.ensures.value) ∙ c.if-is_pair.true)
+    pair_put c.args.segments.now c.args.kept c.args.at c.index-segments-at-2.result c.requires.order (omega arith) c.index-segments-at-2.is
+    (ap is_double_dot c.index-segments-at-2.is ∙ sym c.is_double_dot_segment-climbs.ensures ∙ c.if-climbs.true)
+    (sym c.ends_in_name-is_pair.ensures ∙ c.if-is_pair.true)
 
 pub returns-clause-put : goal.returns-clause-put
 returns-clause-put c =
-    let apart : (is_double_dot c.index-2.result.now && is_last (λ s. not (is_dot_segment s)) (take c.args.kept c.args.segments.now.items)) ≡ false =
+    let apart : (is_double_dot c.index-segments-at-2.result && is_last (λ s. not (is_dot_segment s)) (take c.args.kept c.args.segments.now)) ≡ false =
     elim c.if-climbs.branch [
-      | then-climbs+else-is_pair w ↦ ap (λ v. v && is_last (λ s. not (is_dot_segment s)) (take c.args.kept c.args.segments.now.items))
-          (sym c.is_double_dot_segment-climbs.ensures ∙ w.if-climbs.true)
-          ∙ sym (w.ends_in_name-is_pair.ensures ∙ ap (λ l. is_last (λ s. not (is_dot_segment s)) (take c.args.kept l)) w.deref.ensures.value)
-          ∙ w.if-is_pair.false
-      | else-climbs w ↦ ap (λ v. v && is_last (λ s. not (is_dot_segment s)) (take c.args.kept c.args.segments.now.items))
-          (sym c.is_double_dot_segment-climbs.ensures ∙ w.if-climbs.false)
+      | then-climbs+else-is_pair w ↦ ap (λ v. v && is_last (λ s. not (is_dot_segment s)) (take c.args.kept c.args.segments.now))
+          (ap is_double_dot c.index-segments-at-2.is ∙ sym c.is_double_dot_segment-climbs.ensures ∙ w.if-climbs.true)
+          ∙ sym w.ends_in_name-is_pair.ensures ∙ w.if-is_pair.false
+      | else-climbs w ↦ ap (λ v. v && is_last (λ s. not (is_dot_segment s)) (take c.args.kept c.args.segments.now))
+          (ap is_double_dot c.index-segments-at-2.is ∙ sym c.is_double_dot_segment-climbs.ensures ∙ w.if-climbs.false)
     ] in
-    rw c.swap.ensures.items (other_put c.args.segments.now.items c.args.kept c.args.at c.index-2.result.now c.requires.order (omega arith) c.index-2.ensures
-    (sym (c.is_single_dot_segment.ensures
-    ∙ ap is_single_dot (same_read c.args.segments.now.items c.args.at c.index.result.now c.index-2.result.now (omega arith) c.index.ensures
-    c.index-2.ensures)) ∙ c.if-is_single_dot_segment.false)
+    rw c.swap.ensures.after (other_put c.args.segments.now c.args.kept c.args.at c.index-segments-at-2.result c.requires.order (omega arith) c.index-segments-at-2.is
+    (sym (c.is_single_dot_segment.ensures ∙ ap is_single_dot (sym c.index-segments-at.is)
+    ∙ ap is_single_dot (same_read c.args.segments.now c.args.at c.index-segments-at.result c.index-segments-at-2.result (omega arith) c.index-segments-at.is
+    c.index-segments-at-2.is)) ∙ c.if-is_single_dot_segment.false)
     apart)

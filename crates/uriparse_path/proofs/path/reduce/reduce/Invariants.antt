@@ -1,4 +1,4 @@
-use Rattle.std.proofs.Common.{◌≡◌, ◌≤◌, [], take, drop, vec_len}
+use Rattle.std.proofs.Common.{◌≡◌, ◌≤◌, [], take, drop, length}
 use Rattle.std.specs.Prelude.{reverse}
 use Rattle.uriparse_path.specs.Relative as relative
 use Rattle.uriparse_path.proofs.path.reduce.reduce.Given as goal
@@ -6,6 +6,6 @@ use Rattle.uriparse_path.proofs.path.reduce.reduce.Given as goal
 abbrev pub invariant-loop-at : goal.invariant-loop-at
 invariant-loop-at l = record {
   order : l.kept ≤ l.at;
-  long : vec_len l.segments ≡ vec_len l.initial.segments;
-  put : relative.put_all (reverse (take l.kept l.segments.items)) (drop l.at l.segments.items) ≡ relative.put_all [] l.fn.segments.items;
+  long : length l.segments ≡ length l.initial.segments;
+  put : relative.put_all (reverse (take l.kept l.segments)) (drop l.at l.segments) ≡ relative.put_all [] l.fn.segments;
 }

@@ -1,7 +1,59 @@
-use Rattle.uriparse_reference.proofs.lemmas.reading.ReadingLemmas.{answered}
+use Rattle.std.proofs.Common.{◌≡◌, Ok, Err, inl, inr, length, sym, ap, ◌∙◌, rules}
+use Rattle.std.proofs.lemmas.Bool.{false≢true}
+use Rattle.std.specs.Prelude.{is_some}
+use Rattle.uriparse_text.specs.Readings.{fault_in}
+use Rattle.uriparse_scheme.proofs.lemmas.schemes.CutLemmas.{is_scheme_text}
+use Rattle.uriparse_reference.specs.Reading.{parts_of, reading}
+use Rattle.uriparse_reference.proofs.lemmas.reading.ReadingLemmas.{again, answered, found, path_segments}
+use Rattle.uriparse_reference.proofs.lemmas.reading.SpellingLemmas.{valid}
+use Rattle.uriparse_reference.proofs.uri_reference.URIReference.try_from_bytes.Goals.{in-Some, in-None, After-to_text-2}
 use Rattle.uriparse_reference.proofs.uri_reference.URIReference.try_from_bytes.Goals as goal
+
+pub scheme_if-requires-clause-text : goal.scheme_if-requires-clause-text
+scheme_if-requires-clause-text c = is_scheme_text c.args.bytes.now c.in_ok-pieces.pieces.scheme.now c.in_ok-pieces.ensures.0
+
+read : (c : After-to_text-2)
+    → reading c.args.bytes.now ≡ Ok (record { scheme = c.scheme_if.result; authority = c.match-pieces.result; path = c.in_ok-path.path; query = c.to_text.result; fragment = c.to_text-2.result })
+read c =
+    let told = c.in_ok-pieces.ensures in
+    let a : c.match-pieces.result ≡ c.in_ok-pieces.pieces.authority = elim c.match-pieces.branch [
+      | in-Some w ↦ search rules
+      | in-None w ↦ search rules
+    ] in
+    rw (c.scheme_if.ensures, told.0, a, c.in_ok-path.ensures.path, c.to_text.ensures, c.to_text-2.ensures, c.is_some-has_authority.ensures) told.4
+
+pub invariant_of-result : goal.invariant_of-result
+invariant_of-result c = let t = c.args.bytes.now in valid t _ (found t _ (read c))
 
 pub returns : goal.returns
 returns c =
-    let all = answered c.args.bytes.now c.read.result c.read.ensures in
-    record { found = all.0; only = all.1; fault = all.2; always = all.3 }
+    let t = c.args.bytes.now in
+    let all = answered t (Ok _) (inl (sym (read c))) in
+    record { found = all.0; only = all.1; fault = all.2; always = all.3; takes_no_memory = λ p s one. sym (read c) ∙ again t p s }
+
+pub returns-in_err-pieces : goal.returns-in_err-pieces
+returns-in_err-pieces c =
+    let t = c.args.bytes.now in
+    let is : c.from_residual.result ≡ Err c.in_err-pieces.field-0.0 = search rules in
+    let right : c.from_residual.result ≡ reading t = is ∙ sym c.in_err-pieces.ensures in
+    let all = answered t c.from_residual.result (inl right) in
+    record { found = all.0; only = all.1; fault = all.2; always = all.3; takes_no_memory = λ p s one. right ∙ again t p s }
+
+pub returns-in_err-path : goal.returns-in_err-path
+returns-in_err-path c =
+    let t = c.args.bytes.now in
+    let told = c.in_ok-pieces.ensures in
+    let found = c.in_ok-pieces.pieces in
+    let is : c.from_residual-in_err-path.result ≡ Err c.in_err-path.field-0.0 = search rules in
+    let all = answered t c.from_residual-in_err-path.result (inr (ap fault_in told.4, is ∙ ap Err c.in_err-path.ensures.path)) in record {
+      found = all.0;
+      only = all.1;
+      fault = all.2;
+      always = all.3;
+      takes_no_memory = λ p s one.
+          let same : parts_of t found.authority found.tail.path.now found.tail.query found.tail.fragment ≡ p =
+          let read : reading t ≡ Ok p = again t p s in let whole = told.4 in cc in
+          let count : found.tail.count ≡ 1 =
+          told.2 ∙ ap length (sym (path_segments (is_some found.authority) found.tail.path.now)) ∙ ap (λ q. length q.path.segments) same ∙ one in
+          absurd (false≢true (c.in_err-path.ensures.takes_no_memory count));
+    }

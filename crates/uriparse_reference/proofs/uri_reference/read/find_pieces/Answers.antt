@@ -58,7 +58,8 @@ returns c =
       c.split_scheme-cut.ensures.scheme,
       is.0,
       is.1,
-      told (goal.at.returns c).After-find_tail _ is.2
+      is.2,
+      told (goal.at.returns c).After-find_tail _ is.3
           ∙ ap Ok (in_place (option_map named (scheme_text c.args.text.now)) c.in_ok-authority.authority c.is_some.result
           c.is_some.ensures
           c.in_ok-tail.tail.path.now c.in_ok-tail.tail.query c.in_ok-tail.tail.fragment),

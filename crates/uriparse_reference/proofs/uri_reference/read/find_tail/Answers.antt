@@ -1,5 +1,6 @@
-use Rattle.std.proofs.Common.{◌≡◌, Some, Ok, Err, ap, ◌∙◌, rules}
+use Rattle.std.proofs.Common.{◌≡◌, Some, Ok, Err, length, sym, ap, ◌∙◌, rules}
 use Rattle.uriparse_text.specs.Cuts.{up_to}
+use Rattle.uriparse_path.specs.Path.{pieces}
 use Rattle.uriparse_path.specs.Faults as paths
 use Rattle.uriparse_path.specs.Faults.{ends_path}
 use Rattle.uriparse_path.proofs.lemmas.reading.ReadingLemmas.{no_fault_iff}
@@ -46,6 +47,7 @@ returns c =
     let read : Ok (c.in_ok-query.query, c.in_ok-query.fragment) ≡ behind_reading (tail_query front.behind.now) (tail_fragment front.behind.now) =
     c.in_ok-query.ensures in (
       (no_fault_iff front.text.now).0 (ap paths.fault cut.1 ∙ cut.0),
+      cut.3 ∙ ap (λ t. length (pieces t)) (sym cut.1),
       cut.4,
       accepted_tail c.args.has_scheme c.args.has_authority c.args.text.now front.text.now front.behind.now cut.0 cut.1 cut.2
           (is_placed (path_refusal c.args.has_scheme c.args.has_authority front.text.now) c.in_ok-check_path.ensures) (c.in_ok-query.query, c.in_ok-query.fragment) read,

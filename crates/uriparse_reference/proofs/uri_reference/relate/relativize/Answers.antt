@@ -1,6 +1,6 @@
 use Rattle.std.proofs.Common.{◌≡◌, Some, None, sym, subst, rules}
-use Rattle.uriparse_reference.specs.Relate.{IsInPlace, IsQueryLeft, Relates, inner, network}
-use Rattle.uriparse_reference.proofs.lemmas.resolving.RelativizeLemmas.{whole_leads, network_leads, place_leads, placed_there, inner_leads, ok_more}
+use Rattle.uriparse_reference.specs.Relate.{IsInPlace, Relates, inner, network}
+use Rattle.uriparse_reference.proofs.lemmas.resolving.RelativizeLemmas.{whole_leads, network_leads, place_leads, inner_leads, ok_more}
 use Rattle.uriparse_reference.proofs.uri_reference.relate.relativize.Goals as goal
 
 pub returns-then-not-has_same_scheme-clause-relates : goal.returns-then-not-has_same_scheme-clause-relates
@@ -26,8 +26,8 @@ returns-then-is_in_place-clause-relates c =
     let schemes : b.scheme ≡ t.scheme = search rules in
     let authorities : b.authority ≡ t.authority = search rules in
     let place : IsInPlace b t = search rules in
-    ok_more (λ r. (r ≡ placed_there t r.query) × IsQueryLeft b t r.query) (Relates b t) c.in_place.result
-    (λ r h. place_leads b t r c.path-base_path.ensures.valid c.path-target_path.ensures.valid c.requires schemes authorities place h.0 h.1) c.in_place.ensures
+    place_leads b t c.in_place.result c.path-base_path.ensures.valid c.path-target_path.ensures.valid c.requires schemes authorities place
+    c.in_place.ensures.left c.in_place.ensures.query
 
 pub returns-in-Some-clause-relates : goal.returns-in-Some-clause-relates
 returns-in-Some-clause-relates c =

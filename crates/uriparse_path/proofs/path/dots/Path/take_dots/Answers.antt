@@ -11,26 +11,26 @@ use Rattle.uriparse_path.proofs.path.dots.Path.take_dots.Goals.{After-needs_shie
 use Rattle.uriparse_path.proofs.path.dots.Path.take_dots.Goals as goal
 
 abbrev old : After-needs_shield-shielded → PathParts
-old c = record { absolute = flag c.self.inside.absolute; segments = c.self.inside.segments.items }
+old c = record { absolute = flag c.self.inside.absolute; segments = c.self.inside.segments }
 
 pass : (c : After-needs_shield-shielded)
-    → Pass c.args.has_authority (old c) c.replay-rooted.result.0 c.replay-rooted.result.1 c.replay-rooted.new.segments.items
-    c.root_first-absolute.result.0 c.root_first-absolute.result.1 c.root_first-absolute.new.segments.items c.needs_shield-shielded.result
+    → Pass c.args.has_authority (old c) c.replay_list-rooted.result.0 c.replay_list-rooted.result.1 c.replay_list-rooted.new.segments
+    c.root_first-absolute.result.0 c.root_first-absolute.result.1 c.root_first-absolute.new.segments c.needs_shield-shielded.result
 pass c = record {
   listed = subst (λ q. IsListed q.segments) (sym c.self.view_is) c.requires.listed;
   dots = ap (λ q. has_dot_segment q.segments) c.self.view_is ∙ c.requires.dots;
   shown = λ h. ap (λ q. hides_root q.segments) c.self.view_is ∙ c.requires.shown h;
-  segments = c.replay-rooted.ensures.segments;
-  root = c.replay-rooted.ensures.root;
-  within = omega (arith, c.replay-rooted.ensures.within);
-  len = omega (arith, c.replay-rooted.ensures.len);
+  segments = c.replay_list-rooted.ensures.segments;
+  root = c.replay_list-rooted.ensures.root;
+  within = omega (arith, c.replay_list-rooted.ensures.within);
+  len = omega (arith, c.replay_list-rooted.ensures.len);
   path = c.root_first-absolute.ensures.path;
   inside = omega (arith, c.root_first-absolute.ensures.within);
   spare = omega (arith, c.root_first-absolute.ensures.spare);
   no_longer = omega (arith, c.root_first-absolute.ensures.no_longer);
   need = c.needs_shield-shielded.ensures
       ∙ ap (λ l. not c.args.has_authority && twice (record { absolute = c.root_first-absolute.result.0; segments = take c.root_first-absolute.result.1 l }))
-      c.deref.ensures.value;
+      c.as_slice.ensures;
 }
 
 pub guard-requires-clause-room : goal.guard-requires-clause-room
@@ -47,7 +47,7 @@ invariant_of-self c =
 
 pub returns : goal.returns
 returns c =
-    ap (λ v. record { absolute = v; segments = c.guard.new.segments.items }) c.word_of-self-inside-2.ensures
+    ap (λ v. record { absolute = v; segments = c.guard.new.segments }) c.word_of-self-inside-2.ensures
     ∙ ap (λ l. record { absolute = c.root_first-absolute.result.0; segments = l }) c.guard.ensures
     ∙ passed (pass (goal.at.returns c).After-needs_shield-shielded)
     ∙ ap (λ q. shield_unless c.args.has_authority (without_dots q)) c.self.view_is

@@ -12,19 +12,19 @@ use Rattle.uriparse_path.proofs.path.edit.Path.push_bytes.Goals as goal
 pub returns-then-len-ge-MAX_SEGMENTS-clause-answer :
     goal.returns-then-len-ge-MAX_SEGMENTS-clause-answer
 returns-then-len-ge-MAX_SEGMENTS-clause-answer c =
-    let at : 1000000 ≤ length c.self.inside.segments.items = omega arith in
+    let at : 1000000 ≤ length c.self.inside.segments = omega arith in
     full_answer c.args.self.now (segment.reading c.args.bytes.now)
-    (subst (λ p. max_segments ≤ length p.segments) c.self.view_is (subst (λ n. n ≤ length c.self.inside.segments.items) limit_is at))
+    (subst (λ p. max_segments ≤ length p.segments) c.self.view_is (subst (λ n. n ≤ length c.self.inside.segments) limit_is at))
 
 pub returns-then-len-ge-MAX_SEGMENTS-clause-always :
     goal.returns-then-len-ge-MAX_SEGMENTS-clause-always
 returns-then-len-ge-MAX_SEGMENTS-clause-always c =
-    let at : 1000000 ≤ length c.self.inside.segments.items = omega arith in
+    let at : 1000000 ≤ length c.self.inside.segments = omega arith in
     full_fault c.args.self.now (segment.reading c.args.bytes.now)
-    (subst (λ p. max_segments ≤ length p.segments) c.self.view_is (subst (λ n. n ≤ length c.self.inside.segments.items) limit_is at))
+    (subst (λ p. max_segments ≤ length p.segments) c.self.view_is (subst (λ n. n ≤ length c.self.inside.segments) limit_is at))
 
 room : (c : After-from_residual) → length c.args.self.now.segments < max_segments
-room c = subst (λ p. length p.segments < max_segments) c.self.view_is (subst (λ n. length c.self.inside.segments.items < n) limit_is (omega arith))
+room c = subst (λ p. length p.segments < max_segments) c.self.view_is (subst (λ n. length c.self.inside.segments < n) limit_is (omega arith))
 
 read : (c : After-from_residual) → segment.reading c.args.bytes.now ≡ Err c.in_err-try_from_bytes.field-0.0
 read c = sym c.try_from_bytes.ensures ∙ c.in_err-try_from_bytes.was

@@ -4,4 +4,4 @@ use Rattle.uriparse_path.proofs.path.normal.Path.count_canonical.Goals as goal
 
 pub of-self-inside-requires-clause-short : goal.of-self-inside-requires-clause-short
 of-self-inside-requires-clause-short c =
-    subst (λ l. length l ≤ 4294967295) (sym c.deref.ensures.value) (fits c.self.inside.segments.items c.self.invariant.short)
+    subst (λ l. length l ≤ 4294967295) (sym c.as_slice.ensures) (fits c.self.inside.segments c.self.invariant.short)

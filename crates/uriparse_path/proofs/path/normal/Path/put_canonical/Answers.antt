@@ -9,8 +9,8 @@ use Rattle.uriparse_path.proofs.path.normal.Path.put_canonical.Goals as goal
 
 pub invariant_of-self : goal.invariant_of-self
 invariant_of-self c =
-    let each : list_all is_segment c.self.inside.segments.items ≡ true = ap (λ p. list_all is_segment p.segments) c.self.view_is ∙ c.requires.listed.each in
+    let each : list_all is_segment c.self.inside.segments ≡ true = ap (λ p. list_all is_segment p.segments) c.self.view_is ∙ c.requires.listed.each in
     let is = c.self.invariant in
-    subst (λ l. IsKept counts l (flag c.self.inside.known) c.of_canonical-counts.result) (sym c.put_copies.ensures)
-    (kept_by _ (flag c.self.inside.known) _ (counted-canonical c.self.inside.segments.items (counted_kept _ _ _ is))
-    (λ h. c.of_canonical-counts.ensures c.self.inside.segments.items (is.right h) each))
+    subst (λ l. IsKept counts l (flag c.self.inside.known) c.of_canonical-counts.result) (sym c.put_copies_in.ensures)
+    (kept_by _ (flag c.self.inside.known) _ (counted-canonical c.self.inside.segments (counted_kept _ _ _ is))
+    (λ h. c.of_canonical-counts.ensures c.self.inside.segments (is.right h) each))
