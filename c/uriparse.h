@@ -12,9 +12,9 @@
  * the call. On an error nothing is written except `*needed`, which becomes 0, or with URIPARSE_NO_ROOM the length of
  * the text.
  *
- * There is no state between calls, so calls may run concurrently in any threads. `uriparse_parse` and `uriparse_is_uri`
- * do not allocate, and may be called in a signal handler. The other calls may not be called there, nor in the forked
- * child of a process with threads. They allocate with `malloc` and `realloc`, which together with `free` are one
+ * There is no state between calls, so calls may run concurrently in any threads. `uriparse_parse`, `uriparse_is_uri`,
+ * `uriparse_equal` and `uriparse_hash` do not allocate, and may be called in a signal handler. The other calls may not
+ * be called there, nor in the forked child of a process with threads. They allocate with `malloc` and `realloc`, which together with `free` are one
  * allocator that aligns a block to each power of two up to 16 that divides its size, and free what they allocated
  * before they return; if memory runs out, they return URIPARSE_OUT_OF_MEMORY. The caller frees nothing.
  *
@@ -112,13 +112,15 @@ bool uriparse_is_uri(const uint8_t *text, size_t len);
 /* Writes to `*equal` whether two references are equal: whether their hosts, if they have any, are of one kind, and
  * their texts, in the form that calls write (see `uriparse_normalize`), differ at most by case in schemes, hosts and
  * hexadecimal digits and by percent-encoding of unreserved characters ("%7e" and "~", but not "%2F" and "/"). Dot
- * segments count: normalize first if they shouldn't. If both texts are faulty, the error is the left one's.
+ * segments count: normalize first if they shouldn't. If both texts are faulty, the error is the left one's. Does not
+ * allocate.
  *
  * The caller ensures: each text is readable for its length; `equal` is writable. */
 uint32_t uriparse_equal(const uint8_t *left, size_t left_len, const uint8_t *right, size_t right_len, bool *equal);
 
 /* Writes to `*hash` a hash of a reference: equal references have equal hashes, on every machine and in every run. It is
  * SipHash-1-3 with both keys 0; the key isn't secret, so it doesn't protect a hash table from texts chosen to collide.
+ * Does not allocate.
  *
  * The caller ensures: `text` is readable for `len` bytes; `hash` is writable. */
 uint32_t uriparse_hash(const uint8_t *text, size_t len, uint64_t *hash);

@@ -1,7 +1,7 @@
 //! The tests. What holds a path is read while memory is ample, and lives until it is ample again,
 //! so that nothing returns memory to the heap in between.
 
-use crate::{authorities, builders, components, paths, references, schemes, wholes};
+use crate::{authorities, builders, components, paths, references, schemes, views, wholes};
 use std::alloc::{AllocError, Global};
 use std::test::Fail;
 use test_scarce::holds_without_memory;
@@ -97,6 +97,13 @@ fn reference_calls(alloc: Global) -> Test {
     let other = reference(alloc)?;
     holds_without_memory(alloc, || {
         references::reference_holds(&edited, &other) && references::reference_is_edited(&mut edited)
+    })
+}
+
+/// The calls of views of references.
+fn view_calls(alloc: Global) -> Test {
+    holds_without_memory(alloc, || {
+        views::views_hold(REFERENCE, "S://u:p@H:08/%61?q#f")
     })
 }
 
@@ -226,6 +233,12 @@ fn calls_on_components_do_not_allocate(rt: HostRuntime) -> Result<(), Fail> {
 fn calls_on_paths_do_not_allocate(rt: HostRuntime) -> Result<(), Fail> {
     assert!(rt; path_calls(rt.alloc())?);
     assert!(rt; normal_path_calls(rt.alloc())?);
+    Ok(())
+}
+
+#[test]
+fn calls_on_views_do_not_allocate(rt: HostRuntime) -> Result<(), Fail> {
+    assert!(rt; view_calls(rt.alloc())?);
     Ok(())
 }
 

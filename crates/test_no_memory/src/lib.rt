@@ -21,4 +21,6 @@ mod references;
 #[cfg(test)]
 mod schemes;
 #[cfg(test)]
+mod views;
+#[cfg(test)]
 mod wholes;

@@ -7,23 +7,25 @@
 //! it.
 #![tactic(auto)]
 
-ghost use Rattle.std.specs.Prelude.{◌≡◌, ◌↔◌, Err, IfOk, IsTrue, MatchResult, None, Ok, OnErr, OnOk, Some, length};
+ghost use Rattle.std.specs.Prelude.{◌≡◌, ◌↔◌, Err, IfOk, IsTrue, MatchResult, None, Ok, OnErr, OnOk, Some, bytes_eq, length};
 ghost use Rattle.uriparse_text.specs.Readings.{IsUnless, Settles};
 ghost use Rattle.uriparse_path.specs.Dots as dots;
+ghost use Rattle.uriparse_path.specs.Path.{text};
 ghost use Rattle.uriparse_path.specs.declared.path.error.PathError.TheVariants.{OutOfMemory};
 ghost use Rattle.uriparse_scheme.specs.Scheme as schemes;
 ghost use Rattle.uriparse_reference.specs.Edits.{Run, edited};
 ghost use Rattle.uriparse_reference.specs.declared.uri_reference.edit.Edit.TheVariants as edits;
 ghost use Rattle.uriparse_reference.specs.declared.uri_reference.error.URIReferenceError.{URIReferenceError};
 ghost use Rattle.uriparse_reference.specs.declared.uri_reference.error.URIReferenceError.TheVariants as errors;
+ghost use Rattle.uriparse_reference.specs.Key.{key};
 ghost use Rattle.uriparse_reference.specs.Normal.{normal};
-ghost use Rattle.uriparse_reference.specs.Reading.{fault};
+ghost use Rattle.uriparse_reference.specs.Reading.{fault, reading};
 ghost use Rattle.uriparse_reference.specs.Reference.{Parts, Spells, print};
 
 use std::alloc::{AllocError, Global};
 use uriparse_authority::authority::Authority;
 use uriparse_path::path::{Path, Segment};
-use uriparse_reference::uri_reference::{Edit, URIReference, URIReferenceError};
+use uriparse_reference::uri_reference::{Edit, ReferenceView, URIReference, URIReferenceError};
 use uriparse_scheme::scheme::{Scheme, SchemeError};
 use uriparse_text::query::Query;
 
@@ -106,4 +108,25 @@ pub fn is_double_dot(segment: &Segment<'_>) -> bool
     ensures { result ≡ dots.is_double_dot segment.now }
 {
     segment.is_double_dot_segment()
+}
+
+/// Views a reference in its text: exactly what the grammar spells, or the fault.
+pub fn view(bytes: &[u8]) -> Result<ReferenceView<'_>, URIReferenceError>
+    ensures { result ≡ reading bytes.now }
+{
+    ReferenceView::try_from_bytes(bytes)
+}
+
+/// The text of a view's path.
+pub fn path_of_view<'t>(view: &ReferenceView<'t>) -> &'t str
+    ensures { result.now ≡ text view.now.path }
+{
+    view.path()
+}
+
+/// Whether two views are equal.
+pub fn are_equal_views(left: &ReferenceView<'_>, right: &ReferenceView<'_>) -> bool
+    ensures { result ≡ bytes_eq (key left.now) (key right.now) }
+{
+    left == right
 }

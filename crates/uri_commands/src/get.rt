@@ -2,11 +2,10 @@
 
 use crate::failure::Failure;
 use crate::print::print_line;
-use std::alloc::Global;
 use std::fmt::Display;
 use std::io;
 use std::io::Write;
-use uriparse::URIReference;
+use uriparse::ReferenceView;
 
 /// A component of a reference that can be printed alone.
 #[derive(Clone, Copy)]
@@ -41,20 +40,15 @@ pub fn read_part(name: &str) -> Result<Part, Failure> {
 }
 
 /// Prints the component of this name, or fails with `Failure::Absent` if the reference has none.
-/// The name is checked before the text is read.
-pub fn get<O: Write>(alloc: Global, name: &str, text: &[u8], out: &mut O) -> Result<(), Failure> {
+/// The name is checked before the text is read. Does not allocate.
+pub fn get<O: Write>(name: &str, text: &[u8], out: &mut O) -> Result<(), Failure> {
     let part = read_part(name)?;
-    get_part(alloc, part, text, out)
+    get_part(part, text, out)
 }
 
 /// Reads the text, and prints the component, or fails with `Failure::Absent`.
-pub fn get_part<O: Write>(
-    alloc: Global,
-    part: Part,
-    text: &[u8],
-    out: &mut O,
-) -> Result<(), Failure> {
-    let reference = URIReference::try_from_bytes(alloc, text)?;
+pub fn get_part<O: Write>(part: Part, text: &[u8], out: &mut O) -> Result<(), Failure> {
+    let reference = ReferenceView::try_from_bytes(text)?;
     match print_part_of(&reference, part, out) {
         Ok(true) => Ok(()),
         Ok(false) => Err(Failure::Absent),
@@ -64,20 +58,20 @@ pub fn get_part<O: Write>(
 
 /// Prints the component, and returns whether it is present.
 fn print_part_of<O: Write>(
-    reference: &URIReference<'_>,
+    reference: &ReferenceView<'_>,
     part: Part,
     out: &mut O,
 ) -> io::Result<bool> {
     match part {
-        Part::Scheme => print_present(reference.scheme(), out),
-        Part::Authority => print_present(reference.authority(), out),
-        Part::Username => print_present(reference.username(), out),
-        Part::Password => print_present(reference.password(), out),
-        Part::Host => print_present(reference.host(), out),
+        Part::Scheme => print_present(reference.scheme().as_ref(), out),
+        Part::Authority => print_present(reference.authority().as_ref(), out),
+        Part::Username => print_present(reference.username().as_ref(), out),
+        Part::Password => print_present(reference.password().as_ref(), out),
+        Part::Host => print_present(reference.host().as_ref(), out),
         Part::Port => print_present(reference.port().as_ref(), out),
-        Part::Path => print_present(Some(reference.path()), out),
-        Part::Query => print_present(reference.query(), out),
-        Part::Fragment => print_present(reference.fragment(), out),
+        Part::Path => print_present(Some(&reference.path()), out),
+        Part::Query => print_present(reference.query().as_ref(), out),
+        Part::Fragment => print_present(reference.fragment().as_ref(), out),
         Part::Origin => print_origin(reference, out),
     }
 }
@@ -95,7 +89,7 @@ fn print_present<T: Display, O: Write>(value: Option<&T>, out: &mut O) -> io::Re
 
 /// Prints scheme, host and port if scheme and host are present, and returns whether they are. The
 /// port is that of the text: one that the scheme implies is neither added nor removed.
-fn print_origin<O: Write>(reference: &URIReference<'_>, out: &mut O) -> io::Result<bool> {
+fn print_origin<O: Write>(reference: &ReferenceView<'_>, out: &mut O) -> io::Result<bool> {
     let (Some(scheme), Some(host)) = (reference.scheme(), reference.host()) else {
         return Ok(false);
     };

@@ -122,7 +122,7 @@ fn command<O: Write>(
 ) -> Result<(), Failure> {
     match (options.is_quiet, options.is_json, words) {
         (false, false, _) => plain_command(alloc, words, out),
-        (true, false, _) => quiet(alloc, words),
+        (true, false, _) => quiet(words),
         (false, true, ["parse", text]) => parse_json(alloc, text.as_bytes(), out),
         _ => Err(Failure::Usage),
     }
@@ -144,11 +144,11 @@ fn plain_command<O: Write>(alloc: Global, words: &[&str], out: &mut O) -> Result
 /// Runs a command whose texts are read as bytes.
 fn byte_command<O: Write>(alloc: Global, words: &[&str], out: &mut O) -> Result<(), Failure> {
     match words {
-        ["get", part, text] => get(alloc, part, text.as_bytes(), out),
+        ["get", part, text] => get(part, text.as_bytes(), out),
         ["normalize", text] => normalize(alloc, text.as_bytes(), out),
         ["decode", text] => decode(alloc, text.as_bytes(), out),
         ["encode", kind, text] => encode(alloc, kind, text.as_bytes(), out),
-        ["equal", a, b] => equal(alloc, a.as_bytes(), b.as_bytes(), out),
+        ["equal", a, b] => equal(a.as_bytes(), b.as_bytes(), out),
         ["resolve", base, text] => resolve(alloc, base.as_bytes(), text.as_bytes(), out),
         ["relativize", base, text] => relativize(alloc, base.as_bytes(), text.as_bytes(), out),
         _ => Err(Failure::Usage),

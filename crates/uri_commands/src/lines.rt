@@ -70,25 +70,20 @@ fn split_pair(line: &[u8]) -> Result<(&[u8], &[u8]), Failure> {
 }
 
 /// Compares the line's two references, and prints the result.
-fn equal_pair<O: Write>(alloc: Global, line: &[u8], out: &mut O) -> Result<(), Failure> {
+fn equal_pair<O: Write>(line: &[u8], out: &mut O) -> Result<(), Failure> {
     let (left, right) = split_pair(line)?;
-    equal(alloc, left, right, out)
+    equal(left, right, out)
 }
 
 /// Compares the line's two references.
-fn check_pair(alloc: Global, line: &[u8]) -> Result<(), Failure> {
+fn check_pair(line: &[u8]) -> Result<(), Failure> {
     let (left, right) = split_pair(line)?;
-    check_equal(alloc, left, right)
+    check_equal(left, right)
 }
 
 /// Prints the part of the reference, or an empty line if it is absent.
-fn get_or_empty<O: Write>(
-    alloc: Global,
-    part: Part,
-    line: &[u8],
-    out: &mut O,
-) -> Result<(), Failure> {
-    match get_part(alloc, part, line, out) {
+fn get_or_empty<O: Write>(part: Part, line: &[u8], out: &mut O) -> Result<(), Failure> {
+    match get_part(part, line, out) {
         Err(Failure::Absent) => out.write_all(b"\n").map_err(Failure::Io),
         result => result,
     }
@@ -105,10 +100,10 @@ fn run_task<O: Write>(
         Task::Parse => parse_json(alloc, line, out),
         Task::Normalize => normalize(alloc, line, out),
         Task::Resolve(base) => resolve_against(alloc, base, line, out),
-        Task::Get(part) => get_or_empty(alloc, *part, line, out),
-        Task::Equal => equal_pair(alloc, line, out),
+        Task::Get(part) => get_or_empty(*part, line, out),
+        Task::Equal => equal_pair(line, out),
         Task::Check => check(line),
-        Task::CheckEqual => check_pair(alloc, line),
+        Task::CheckEqual => check_pair(line),
     }
 }
 

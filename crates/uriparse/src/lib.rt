@@ -27,10 +27,10 @@ pub use uriparse_authority::authority::{
     PasswordError, PortError, RegisteredName, RegisteredNameError, Username, UsernameError,
 };
 pub use uriparse_path::path;
-pub use uriparse_path::path::{Path, PathError, PathOf, Segment};
+pub use uriparse_path::path::{Path, PathError, PathOf, Segment, Segments};
 pub use uriparse_reference::uri_reference;
 pub use uriparse_reference::uri_reference::{
-    Edit, URIReference, URIReferenceBuilder, URIReferenceError,
+    Edit, ReferenceView, URIReference, URIReferenceBuilder, URIReferenceError,
 };
 pub use uriparse_scheme::scheme;
 pub use uriparse_scheme::scheme::{Scheme, SchemeError, SchemeStatus, UnregisteredScheme};

@@ -61,17 +61,17 @@ pub extern "C" fn uriparse_is_uri(text: &[u8]) -> bool
     }
 }
 
-/// Writes whether two texts are equal references, as the library compares them.
+/// Writes whether two texts are equal references, as the library compares them. Does not allocate.
 #[unsafe(no_mangle)]
-pub extern "C" fn uriparse_equal(alloc: Global, left: &[u8], right: &[u8], equal: &mut u8) -> u32
-    // For two references the result of the comparison is written, or memory runs out.
-    ensures compared { (p q : Parts) → Spells left.now p → Spells right.now q → ((result ≡ spec.accepted) × (equal.new ≡ spec.truth (bytes_eq (key p) (key q)))) ⊎ ((result ≡ spec.out_of_memory) × (equal.new ≡ equal.old)) }
+pub extern "C" fn uriparse_equal(left: &[u8], right: &[u8], equal: &mut u8) -> u32
+    // For two references the result of the comparison is written.
+    ensures compared { (p q : Parts) → Spells left.now p → Spells right.now q → (result ≡ spec.accepted) × (equal.new ≡ spec.truth (bytes_eq (key p) (key q))) }
 
     // A faulty text is rejected, the left one first, and nothing is written.
     ensures left { (e : URIReferenceError) → fault left.now ≡ Some e → (result ≡ spec.code_of e) × (equal.new ≡ equal.old) }
-    ensures right { (p : Parts) (e : URIReferenceError) → Spells left.now p → fault right.now ≡ Some e → ((result ≡ spec.code_of e) ⊎ (result ≡ spec.out_of_memory)) × (equal.new ≡ equal.old) }
+    ensures right { (p : Parts) (e : URIReferenceError) → Spells left.now p → fault right.now ≡ Some e → (result ≡ spec.code_of e) × (equal.new ≡ equal.old) }
 {
-    match equal_texts(alloc, left, right) {
+    match equal_texts(left, right) {
         Ok(answer) => {
             *equal = truth_of(answer);
             ACCEPTED
@@ -80,16 +80,16 @@ pub extern "C" fn uriparse_equal(alloc: Global, left: &[u8], right: &[u8], equal
     }
 }
 
-/// Hashes a reference. Equal references have equal hashes.
+/// Hashes a reference. Equal references have equal hashes. Does not allocate.
 #[unsafe(no_mangle)]
-pub extern "C" fn uriparse_hash(alloc: Global, text: &[u8], hash: &mut u64) -> u32
-    // The hash is that of the key by which references are compared, or memory runs out.
-    ensures hashed { (p : Parts) → Spells text.now p → ((result ≡ spec.accepted) × (hash.new ≡ hash_of (key p))) ⊎ ((result ≡ spec.out_of_memory) × (hash.new ≡ hash.old)) }
+pub extern "C" fn uriparse_hash(text: &[u8], hash: &mut u64) -> u32
+    // The hash is that of the key by which references are compared.
+    ensures hashed { (p : Parts) → Spells text.now p → (result ≡ spec.accepted) × (hash.new ≡ hash_of (key p)) }
 
     // A faulty text is rejected, and nothing is written.
     ensures refused { (e : URIReferenceError) → fault text.now ≡ Some e → (result ≡ spec.code_of e) × (hash.new ≡ hash.old) }
 {
-    match hashed(alloc, text) {
+    match hashed(text) {
         Ok(number) => {
             *hash = number;
             ACCEPTED

@@ -1,5 +1,5 @@
 //! The texts and numbers that are computed for a caller.
-ghost use Rattle.std.specs.Prelude.{◌≡◌, MatchResult, MatchOption, Err, Some, None, bytes_eq, is_some, true, false};
+ghost use Rattle.std.specs.Prelude.{◌≡◌, MatchResult, MatchOption, Ok, Err, Some, None, bytes_eq, is_some, true, false};
 ghost use Rattle.uriparse_reference.specs.Key.{key};
 ghost use Rattle.uriparse_reference.specs.declared.uri_reference.error.URIReferenceError.{URIReferenceError};
 ghost use Rattle.uriparse_reference.specs.Normal.{normal};
@@ -14,7 +14,7 @@ ghost use Rattle.uriparse_c.specs.Texts.{IsRefusal, IsText};
 use crate::code::{OUT_OF_MEMORY, base_code, code_of, uri_code};
 use std::alloc::Global;
 use std::hash::{DefaultHasher, Hash, Hasher};
-use uriparse::{URI, URIReference};
+use uriparse::{ReferenceView, URI, URIReference};
 
 /// The text of a reference.
 fn text_of(alloc: Global, reference: &URIReference<'_>) -> Result<String, u32>
@@ -123,32 +123,43 @@ pub fn resolved(alloc: Global, base: &[u8], reference: &[u8]) -> Result<String, 
     }
 }
 
+/// Views a reference in its text, or returns the code of its error. Does not allocate.
+fn view(text: &[u8]) -> Result<ReferenceView<'_>, u32>
+    ensures found { (p : Parts) → Spells text.now p → result ≡ Ok p }
+    ensures fault { (e : URIReferenceError) → fault text.now ≡ Some e → result ≡ Err (spec.code_of e) }
+{
+    match ReferenceView::try_from_bytes(text) {
+        Ok(view) => Ok(view),
+        Err(error) => Err(code_of(error)),
+    }
+}
+
 /// Whether a reference equals the one that a text spells, or the code of the text's error.
-fn equal_to(alloc: Global, left: &URIReference<'_>, right: &[u8]) -> Result<bool, u32>
-    ensures compared { (q : Parts) → Spells right.now q → MatchResult result (λ b. b ≡ bytes_eq (key left.now) (key q)) (λ e. e ≡ spec.out_of_memory) }
+fn equal_to(left: &ReferenceView<'_>, right: &[u8]) -> Result<bool, u32>
+    ensures compared { (q : Parts) → Spells right.now q → result ≡ Ok (bytes_eq (key left.now) (key q)) }
     ensures fault { (e : URIReferenceError) → fault right.now ≡ Some e → result ≡ Err (spec.code_of e) }
 {
-    match read(alloc, right) {
+    match view(right) {
         Ok(right) => Ok(left == &right),
         Err(code) => Err(code),
     }
 }
 
 /// Whether two texts spell equal references, or the code of the first text's error, if it has one,
-/// or else of the second's.
-pub fn equal_texts(alloc: Global, left: &[u8], right: &[u8]) -> Result<bool, u32>
-    ensures compared { (p q : Parts) → Spells left.now p → Spells right.now q → MatchResult result (λ b. b ≡ bytes_eq (key p) (key q)) (λ e. e ≡ spec.out_of_memory) }
+/// or else of the second's. Does not allocate.
+pub fn equal_texts(left: &[u8], right: &[u8]) -> Result<bool, u32>
+    ensures compared { (p q : Parts) → Spells left.now p → Spells right.now q → result ≡ Ok (bytes_eq (key p) (key q)) }
     ensures left { (e : URIReferenceError) → fault left.now ≡ Some e → result ≡ Err (spec.code_of e) }
-    ensures right { (p : Parts) (e : URIReferenceError) → Spells left.now p → fault right.now ≡ Some e → IsRefusal (spec.code_of e) result }
+    ensures right { (p : Parts) (e : URIReferenceError) → Spells left.now p → fault right.now ≡ Some e → result ≡ Err (spec.code_of e) }
 {
-    match read(alloc, left) {
-        Ok(left) => equal_to(alloc, &left, right),
+    match view(left) {
+        Ok(left) => equal_to(&left, right),
         Err(code) => Err(code),
     }
 }
 
 /// The hash of a reference, by std's hasher with its fixed key.
-fn hash_of_reference(reference: &URIReference<'_>) -> u64
+fn hash_of_reference(reference: &ReferenceView<'_>) -> u64
     ensures { result ≡ hash_of (key reference.now) }
 {
     let mut state = DefaultHasher::new();
@@ -156,12 +167,13 @@ fn hash_of_reference(reference: &URIReference<'_>) -> u64
     state.finish()
 }
 
-/// The hash of the reference that a text spells, or the code of the text's error.
-pub fn hashed(alloc: Global, text: &[u8]) -> Result<u64, u32>
-    ensures hashed { (p : Parts) → Spells text.now p → MatchResult result (λ n. n ≡ hash_of (key p)) (λ e. e ≡ spec.out_of_memory) }
+/// The hash of the reference that a text spells, or the code of the text's error. Does not
+/// allocate.
+pub fn hashed(text: &[u8]) -> Result<u64, u32>
+    ensures hashed { (p : Parts) → Spells text.now p → result ≡ Ok (hash_of (key p)) }
     ensures fault { (e : URIReferenceError) → fault text.now ≡ Some e → result ≡ Err (spec.code_of e) }
 {
-    match read(alloc, text) {
+    match view(text) {
         Ok(reference) => Ok(hash_of_reference(&reference)),
         Err(code) => Err(code),
     }

@@ -1,5 +1,6 @@
 pub mod Segment
 pub mod Path
+pub mod Text
 pub mod Faults
 pub mod Dots
 pub mod Relative

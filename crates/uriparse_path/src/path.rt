@@ -37,6 +37,7 @@ mod reduce;
 mod relate;
 mod segment;
 mod segments;
+pub(crate) mod text;
 
 use counts::{Counts, Dotted};
 pub use error::PathError;
@@ -45,6 +46,7 @@ use read::{count_segments, counted_path, split_root};
 pub use segment::Segment;
 use segment::each_is_segment;
 use segments::{begins_twice, has_first_colon, hides_root};
+pub use text::Segments;
 
 /// The maximum number of segments of a path.
 pub const MAX_SEGMENTS: usize = 1_000_000;

@@ -5,6 +5,7 @@ pub mod Edits
 pub mod Builder
 pub mod Key
 pub mod Reading
+pub mod View
 pub mod Normal
 pub mod Target
 pub mod Relate

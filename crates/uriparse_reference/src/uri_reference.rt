@@ -36,12 +36,14 @@ mod print;
 pub(crate) mod read;
 pub(crate) mod relate;
 pub(crate) mod resolve;
+mod view;
 
 pub use builder::URIReferenceBuilder;
 pub use edit::Edit;
 pub use error::URIReferenceError;
 use print::{len_of_scheme, most_of_authority, write_authority, write_behind, write_scheme};
 use read::{find_pieces, make_path};
+pub use view::ReferenceView;
 
 /// A URI reference by its five components: a URI or a relative reference. RFC 3986, section 4.1.
 ///

@@ -1,4 +1,5 @@
 pub mod Equal
+pub mod Hosts
 pub mod Links
 pub mod Proxy
 pub mod Redirects

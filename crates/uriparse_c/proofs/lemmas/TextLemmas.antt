@@ -102,17 +102,15 @@ pub refusal_again : {A B : Type 0} (why c : ℕ) → IsRefusal {A = A} why (Err 
 refusal_again why c (inl h) = inl (ap Err (err_is c why h))
 refusal_again why c (inr h) = inr (ap Err (err_is c out_of_memory h))
 
-pub refusal_code : {A : Type 0} (why c : ℕ) → IsRefusal {A = A} why (Err c) → (c ≡ why) ⊎ (c ≡ out_of_memory)
-refusal_code why c (inl h) = inl (err_is c why h)
-refusal_code why c (inr h) = inr (err_is c out_of_memory h)
-
 -- two references that are read are compared as those that are spelled
 pub compared_same : (f : Parts → Parts → Bool) (x y p q : Parts) (b : Bool) → x ≡ p → y ≡ q → b ≡ f x y → b ≡ f p q
 compared_same f x y p q b e g h = h ∙ ap (λ u. f u y) e ∙ ap (f p) g
 
-pub equal_along : (x p : Parts) (g : Parts → Parts → Bool) (q : Parts) (made : Result Bool ℕ) → x ≡ p
-    → MatchResult made (λ b. b ≡ g x q) (λ e. e ≡ out_of_memory) → MatchResult made (λ b. b ≡ g p q) (λ e. e ≡ out_of_memory)
-equal_along x p g q made e h = subst (λ u. MatchResult made (λ b. b ≡ g u q) (λ e. e ≡ out_of_memory)) e h
-
 pub no_error : {A : Type 0} (x : A) (c : ℕ) → ◌≡◌ {A = Result A ℕ} (Ok x) (Err c) → ⊥
 no_error x c h = absurd (cc)
+
+pub no_ok : {A E : Type 0} (e : E) (x : A) → ◌≡◌ {A = Result A E} (Err e) (Ok x) → ⊥
+no_ok e x h = absurd (cc)
+
+pub ok_is : {A E : Type 0} (x y : A) → ◌≡◌ {A = Result A E} (Ok x) (Ok y) → x ≡ y
+ok_is x y h = cc

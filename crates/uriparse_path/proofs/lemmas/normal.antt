@@ -6,3 +6,4 @@ pub mod NormalFormLemmas
 pub mod SpellingCommutesLemmas
 pub mod CanonicalCopyLemmas
 pub mod ShieldLemmas
+pub mod TextNormalLemmas

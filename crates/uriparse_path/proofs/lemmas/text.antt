@@ -4,3 +4,4 @@ pub mod BeginningLemmas
 pub mod CanonicalTextLemmas
 pub mod SpelledAlikeLemmas
 pub mod HashLemmas
+pub mod TextWalkLemmas

@@ -6,3 +6,5 @@ pub mod FaultSourceLemmas
 pub mod SpellingLemmas
 pub mod PrintedLemmas
 pub mod LengthLemmas
+pub mod ViewLemmas
+pub mod AsciiLemmas

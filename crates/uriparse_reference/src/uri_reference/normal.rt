@@ -25,7 +25,7 @@ use uriparse_text::internal::{canonical_copy, is_canonical_part, put_copy};
 use uriparse_text::query::Query;
 
 /// Whether the scheme, if present, is in canonical spelling.
-fn is_canonical_scheme(scheme: &Option<Scheme<'_>>) -> bool
+pub(super) fn is_canonical_scheme(scheme: &Option<Scheme<'_>>) -> bool
     ensures { result ≡ option_eq bytes_eq (option_map schemes.canonical_text scheme.now) (option_map schemes.text scheme.now) }
 {
     match scheme {
@@ -35,7 +35,7 @@ fn is_canonical_scheme(scheme: &Option<Scheme<'_>>) -> bool
 }
 
 /// Whether the authority, if present, is in canonical spelling.
-fn is_canonical_authority(authority: &Option<Authority<'_>>) -> bool
+pub(super) fn is_canonical_authority(authority: &Option<Authority<'_>>) -> bool
     ensures { result ≡ option_eq bytes_eq (option_map authorities.canonical_text authority.now) (option_map authorities.print authority.now) }
 {
     match authority {

@@ -12,7 +12,7 @@ ghost use Rattle.uriparse_path.specs.Path.{IsPath, has_two_slashes};
 ghost use Rattle.uriparse_path.specs.Faults.{ends_path};
 ghost use Rattle.uriparse_scheme.specs.Registered.{name_of};
 ghost use Rattle.uriparse_scheme.specs.Cuts.{if_some, scheme_text};
-ghost use Rattle.uriparse_reference.specs.Cuts.{cut_authority, tail_fragment, tail_query, without_authority};
+ghost use Rattle.uriparse_reference.specs.Cuts.{cut_authority, path_text, tail_fragment, tail_query, without_authority};
 ghost use Rattle.uriparse_path.specs.declared.path.error.PathError.TheVariants.{OutOfMemory};
 ghost use Rattle.uriparse_reference.specs.declared.uri_reference.error.URIReferenceError.TheVariants as errors;
 ghost use Rattle.uriparse_reference.specs.Reading.{behind_reading, parts_of, reading, text_tail};
@@ -127,7 +127,7 @@ fn find_tail(
     text: &[u8],
 ) -> Result<FoundTail<'_>, URIReferenceError>
     requires { has_scheme ≡ false → has_authority ≡ false → is_noscheme (up_to ends_path text.now) ≡ not has_colon_segment }
-    ensures { MatchResult result (λ t. IsPath t.path.now × (t.count ≡ length (path.pieces t.path.now)) × (t.escaped ≡ 0 → lacks percent t.path.now ≡ true) × (text_tail has_scheme has_authority text.now ≡ Ok (path_of has_authority t.path.now, t.query, t.fragment))) (λ e. text_tail has_scheme has_authority text.now ≡ Err e) }
+    ensures { MatchResult result (λ t. IsPath t.path.now × (t.count ≡ length (path.pieces t.path.now)) × (t.escaped ≡ 0 → lacks percent t.path.now ≡ true) × (text_tail has_scheme has_authority text.now ≡ Ok (path_of has_authority t.path.now, t.query, t.fragment)) × (t.path.now ≡ up_to ends_path text.now)) (λ e. text_tail has_scheme has_authority text.now ≡ Err e) }
 {
     let front = split_path(text)?;
     check_path(has_scheme, has_authority, has_colon_segment, front.text)?;
@@ -164,7 +164,7 @@ impl<'t> Pieces<'t> {
 #[inline(always)]
 #[tactic(auto, unfolding(crate::specs::Reading::reading))]
 pub fn find_pieces(text: &[u8]) -> Result<Pieces<'_>, URIReferenceError>
-    ensures { MatchResult result (λ p. (if_some p.scheme.now ≡ scheme_text text.now) × IsPath p.tail.path.now × (p.tail.count ≡ length (path.pieces p.tail.path.now)) × (p.tail.escaped ≡ 0 → lacks percent p.tail.path.now ≡ true) × (reading text.now ≡ Ok (parts_of text.now p.authority p.tail.path.now p.tail.query p.tail.fragment)) × IfSome p.known (λ s. p.scheme.now ≡ name_of s)) (λ e. reading text.now ≡ Err e) }
+    ensures { MatchResult result (λ p. (if_some p.scheme.now ≡ scheme_text text.now) × IsPath p.tail.path.now × (p.tail.count ≡ length (path.pieces p.tail.path.now)) × (p.tail.escaped ≡ 0 → lacks percent p.tail.path.now ≡ true) × (reading text.now ≡ Ok (parts_of text.now p.authority p.tail.path.now p.tail.query p.tail.fragment)) × IfSome p.known (λ s. p.scheme.now ≡ name_of s) × (p.tail.path.now ≡ path_text text.now)) (λ e. reading text.now ≡ Err e) }
 {
     let cut = split_scheme(text);
     let (authority, rest) = find_front(cut.rest)?;

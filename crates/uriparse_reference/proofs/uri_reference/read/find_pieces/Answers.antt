@@ -64,4 +64,5 @@ returns c =
           c.is_some.ensures
           c.in_ok-tail.tail.path.now c.in_ok-tail.tail.query c.in_ok-tail.tail.fragment),
       c.split_scheme-cut.ensures.known,
+      is.4 ∙ ap (up_to ends_path) (c.in_ok-authority.ensures.1 ∙ ap without_authority c.split_scheme-cut.ensures.rest),
     )

@@ -51,4 +51,5 @@ returns c =
       cut.4,
       accepted_tail c.args.has_scheme c.args.has_authority c.args.text.now front.text.now front.behind.now cut.0 cut.1 cut.2
           (is_placed (path_refusal c.args.has_scheme c.args.has_authority front.text.now) c.in_ok-check_path.ensures) (c.in_ok-query.query, c.in_ok-query.fragment) read,
+      cut.1,
     )

@@ -1,0 +1,58 @@
+-- What a view of a reference keeps of its text.
+use Rattle.std.proofs.Common.{◌≡◌, ℕ, Bool, true, false, cond, List, [], ◌∷◌, Option, Some, None, Ok, length, refl, sym, ap, ◌∙◌, ◌&&◌, arith}
+use Rattle.std.specs.Prelude.{◌==◌, IfOk, IfSome, Result, Err, is_some}
+use Rattle.std.proofs.lemmas.Bool.Decides.{nat_tests}
+use Rattle.uriparse_text.specs.Bytes.{slash}
+use Rattle.uriparse_path.specs.Path.{pieces, text}
+use Rattle.uriparse_path.proofs.lemmas.text.PathTextLemmas.{text-spelled}
+use Rattle.uriparse_authority.specs.Authority.{AuthorityParts}
+use Rattle.uriparse_scheme.specs.declared.scheme.registered.RegisteredScheme.{RegisteredScheme}
+use Rattle.uriparse_reference.specs.declared.uri_reference.error.URIReferenceError.{URIReferenceError}
+use Rattle.uriparse_reference.specs.Cuts.{path_text}
+use Rattle.uriparse_reference.specs.Reading.{reading, parts_of}
+use Rattle.uriparse_reference.specs.Reference.{Parts, Spells, Valid, is_abempty, path_of}
+use Rattle.uriparse_reference.specs.View.{AreFound}
+use Rattle.uriparse_reference.proofs.lemmas.reading.CutLemmas.{cut_again}
+use Rattle.uriparse_reference.proofs.lemmas.reading.ReadingLemmas.{found, spelled_pieces}
+use Rattle.uriparse_reference.proofs.lemmas.reading.SpellingLemmas.{authority_valid, valid}
+
+-- the text spells the components that were found in it, and they are valid
+pub found_spelled : (t s : List ℕ) (k : Option RegisteredScheme) (a : Option AuthorityParts) (h : List ℕ) (m n : ℕ) (q f : Option (List ℕ))
+    → AreFound t s k a h m n q f → Spells t (parts_of t a h q f)
+found_spelled t s k a h m n q f are = found t (parts_of t a h q f) are.is_read
+
+pub found_valid : (t s : List ℕ) (k : Option RegisteredScheme) (a : Option AuthorityParts) (h : List ℕ) (m n : ℕ) (q f : Option (List ℕ))
+    → AreFound t s k a h m n q f → Valid (parts_of t a h q f)
+found_valid t s k a h m n q f are = valid t (parts_of t a h q f) (found_spelled t s k a h m n q f are)
+
+-- the text spells what is read
+pub read_spelled : (t : List ℕ) (r : Result Parts URIReferenceError) → r ≡ reading t → IfOk r (λ p. Spells t p)
+read_spelled t (Ok p) e = found t p (sym e)
+read_spelled t (Err x) e = tt
+
+-- after an authority the path's text is empty or begins with a slash
+abempty_spelled : (t : List ℕ) (p : Parts) → Spells t p → is_some p.authority ≡ true → is_abempty (path_text t) ≡ true
+abempty_spelled t p s there =
+    let cut = cut_again t s.scheme_text s.authority_text s.path_text p.query p.fragment (spelled_pieces t p s) s.whole in
+    ap is_abempty cut.path ∙ held s.authority_text ((authority_valid s.authority_text p.authority s.is_authority).1 ∙ there) s.abempty
+  where
+    held : {Q : Type 0} (o : Option (List ℕ)) → is_some o ≡ true → IfSome o (λ _. Q) → Q
+    held None e h = absurd (cc)
+    held (Some x) e h = h
+
+not_empty : (b : ℕ) (t : List ℕ) → (length (b ∷ t) == 0) ≡ false
+not_empty b t = grind (arith, nat_tests)
+
+-- so the text of the path is its own, or a slash if that is empty
+pub text-path_of : (w : Bool) (h : List ℕ) → (w ≡ true → is_abempty h ≡ true) → text (path_of w h) ≡ cond ((length h == 0) && w) (slash ∷ []) h
+text-path_of false [] e = refl
+text-path_of true [] e = refl
+text-path_of false (b ∷ t) e = text-spelled (b ∷ t) ∙ ap (λ v. cond (v && false) (slash ∷ []) (b ∷ t)) (sym (not_empty b t))
+text-path_of true (b ∷ t) e =
+    ap (λ v. text (record { absolute = v; segments = pieces (b ∷ t) })) (sym (e refl)) ∙ text-spelled (b ∷ t)
+    ∙ ap (λ v. cond (v && true) (slash ∷ []) (b ∷ t)) (sym (not_empty b t))
+
+pub found_path : (t s : List ℕ) (k : Option RegisteredScheme) (a : Option AuthorityParts) (h : List ℕ) (m n : ℕ) (q f : Option (List ℕ))
+    → AreFound t s k a h m n q f → text (path_of (is_some a) h) ≡ cond ((length h == 0) && is_some a) (slash ∷ []) h
+found_path t s k a h m n q f are =
+    text-path_of (is_some a) h (λ there. ap is_abempty are.is_cut ∙ abempty_spelled t (parts_of t a h q f) (found_spelled t s k a h m n q f are) there)

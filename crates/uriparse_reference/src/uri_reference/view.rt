@@ -1,0 +1,317 @@
+//! A URI reference in its text, read without memory: RFC 3986, section 4.1.
+ghost use Rattle.std.specs.Prelude.{◌≡◌, IfErr, IfOk, IsOk, Ok, Some, is_some, length};
+ghost use Rattle.std.specs.Str.{IsUtf8};
+ghost use Rattle.uriparse_path.specs.Path.{IsPath, text};
+ghost use Rattle.uriparse_reference.specs.Reading.{fault, reading};
+ghost use Rattle.uriparse_reference.specs.Reference.{host_of, password_of, port_of, username_of};
+ghost use Rattle.uriparse_reference.specs.Kinds as kinds;
+
+use super::URIReference;
+use super::error::URIReferenceError;
+use super::read::{Pieces, find_pieces, make_path};
+use std::alloc::{AllocError, Global};
+use std::marker::Model;
+use std::{fmt, str};
+use uriparse_authority::authority::{Authority, Host, Password, Username};
+use uriparse_path::internal::segments_of;
+use uriparse_path::path::Segments;
+use uriparse_scheme::internal::scheme_if;
+use uriparse_scheme::scheme::Scheme;
+use uriparse_text::fragment::Fragment;
+use uriparse_text::query::Query;
+
+mod compare;
+mod normal;
+
+/// A URI reference in its text: a URI or a relative reference, whose components are found and
+/// checked but not copied. RFC 3986, section 4.1.
+///
+/// It borrows the text, and no call but [`to_reference`](ReferenceView::to_reference) allocates. So
+/// it suits a caller who reads many references and asks each for a component or two. What its calls
+/// return borrows the text too, not the view. Contracts see it as the components of a
+/// [`URIReference`]; two views are equal, and feed a hasher, as the references are that they build.
+///
+/// ```
+/// let view = ReferenceView::try_from_str("https://user@example.com:80/a/b?q")?;
+/// assert!(view.port() == Some(80) && view.path() == "/a/b" && view.has_query());
+/// assert!(view == ReferenceView::try_from_str("HTTPS://user@EXAMPLE.com:0080/a/%62?q")?);
+/// ```
+#[derive(Drop)]
+pub struct ReferenceView<'t> {
+    text: &'t [u8],
+    pieces: Pieces<'t>,
+}
+
+/// Bytes that are UTF-8, as a `str`.
+fn str_of(bytes: &[u8]) -> &str
+    requires { IsUtf8 bytes.now }
+    ensures { result.now ≡ bytes.now }
+{
+    unsafe { str::from_utf8_unchecked(bytes) }
+}
+
+impl<'t> Model for ReferenceView<'t> {
+    ghost use Rattle.uriparse_reference.specs.Reference.{Parts};
+    ghost use Rattle.uriparse_reference.specs.Reading.{parts_of};
+    ghost use Rattle.uriparse_reference.specs.View.{AreFound};
+
+    ghost Value = { Parts };
+
+    ghost view = { λ v. parts_of v.text.now v.pieces.authority v.pieces.tail.path.now v.pieces.tail.query v.pieces.tail.fragment };
+
+    ghost invariant = { λ v. AreFound v.text.now v.pieces.scheme.now v.pieces.known v.pieces.authority v.pieces.tail.path.now v.pieces.tail.count v.pieces.tail.escaped v.pieces.tail.query v.pieces.tail.fragment };
+}
+
+impl<'t> ReferenceView<'t> {
+    ghost use Rattle.uriparse_reference.specs.Reference.{Parts, Spells, Valid};
+    ghost use Rattle.uriparse_reference.specs.declared.uri_reference.error.URIReferenceError.{URIReferenceError};
+
+    /// Finds the components of the text, or its fault.
+    fn read(bytes: &'t [u8]) -> Result<ReferenceView<'t>, URIReferenceError>
+        ensures { result ≡ reading bytes.now }
+    {
+        match find_pieces(bytes) {
+            Ok(pieces) => Ok(ReferenceView {
+                text: bytes,
+                pieces,
+            }),
+            Err(error) => Err(error),
+        }
+    }
+
+    /// Reads a reference, which borrows the bytes: RFC 3986, section 4.1. Does not allocate.
+    ///
+    /// Returns the fault that [`URIReference::try_from_bytes`] returns.
+    pub fn try_from_bytes(bytes: &'t [u8]) -> Result<ReferenceView<'t>, URIReferenceError>
+        // The text spells the result.
+        ensures found { IfOk result (λ v. Spells bytes.now v) }
+
+        // A text that spells a reference is accepted.
+        ensures only { (p : Parts) → Spells bytes.now p → result ≡ Ok p }
+
+        // Any other is rejected with its fault.
+        ensures fault { IfErr result (λ e. fault bytes.now ≡ Some e) }
+        ensures reads { result ≡ reading bytes.now }
+    {
+        Self::read(bytes)
+    }
+
+    /// Like [`try_from_bytes`](ReferenceView::try_from_bytes), for a `str`.
+    pub fn try_from_str(text: &'t str) -> Result<ReferenceView<'t>, URIReferenceError>
+        ensures found { IfOk result (λ v. Spells text.now v) }
+        ensures only { (p : Parts) → Spells text.now p → result ≡ Ok p }
+        ensures fault { IfErr result (λ e. fault text.now ≡ Some e) }
+        ensures reads { result ≡ reading text.now }
+    {
+        Self::read(text.as_bytes())
+    }
+
+    /// The reference, whose components borrow the text. Allocates only for the list of the path's
+    /// segments, if there is more than one; no byte is checked again.
+    pub fn to_reference(&self, alloc: Global) -> Result<URIReference<'t>, AllocError>
+        ensures reference { IfOk result (λ r. r ≡ self.now) }
+
+        // A path of one segment takes no memory.
+        ensures takes_no_memory { length self.now.path.segments ≡ 1 → IsOk result }
+    {
+        // The components are moved once, as in `URIReference::try_from_bytes`.
+        let tail = &self.pieces.tail;
+        let has_authority = self.pieces.authority.is_some();
+        match make_path(alloc, has_authority, tail.count, tail.escaped, tail.path) {
+            Ok(path) => Ok(URIReference {
+                scheme: scheme_if(self.pieces.scheme, self.pieces.known),
+                authority: match &self.pieces.authority {
+                    Some(found) => Some(found.to_authority()),
+                    None => None,
+                },
+                path,
+                query: tail.query.to_text(),
+                fragment: tail.fragment.to_text(),
+            }),
+            Err(_) => Err(AllocError),
+        }
+    }
+
+    /// The whole text, as it was read.
+    pub fn as_str(&self) -> &'t str
+        ensures { Spells result.now self.now }
+    {
+        str_of(self.text)
+    }
+
+    /// The scheme, if there is one.
+    pub fn scheme(&self) -> Option<Scheme<'t>>
+        ensures { result ≡ self.now.scheme }
+    {
+        scheme_if(self.pieces.scheme, self.pieces.known)
+    }
+
+    /// The authority, if there is one.
+    #[inline]
+    pub fn authority(&self) -> Option<Authority<'t>>
+        ensures { result ≡ self.now.authority }
+    {
+        match &self.pieces.authority {
+            Some(found) => Some(found.to_authority()),
+            None => None,
+        }
+    }
+
+    /// The user name, if there is one.
+    pub fn username(&self) -> Option<Username<'t>>
+        ensures { result ≡ username_of self.now }
+    {
+        let (username, _, _, _) = self.authority()?.into_parts();
+        username
+    }
+
+    /// The password, if there is one.
+    pub fn password(&self) -> Option<Password<'t>>
+        ensures { result ≡ password_of self.now }
+    {
+        let (_, password, _, _) = self.authority()?.into_parts();
+        password
+    }
+
+    /// The host, if there is an authority.
+    pub fn host(&self) -> Option<Host<'t>>
+        ensures { result ≡ host_of self.now }
+    {
+        let (_, _, host, _) = self.authority()?.into_parts();
+        Some(host)
+    }
+
+    /// The port, if there is one.
+    pub fn port(&self) -> Option<u16>
+        ensures { result ≡ port_of self.now }
+    {
+        self.authority()?.port()
+    }
+
+    /// The path's text, which is `/` if it is empty after an authority.
+    pub fn path(&self) -> &'t str
+        ensures text { result.now ≡ text self.now.path }
+        ensures valid { IsPath result.now }
+    {
+        str_of(self.path_bytes())
+    }
+
+    /// The bytes of the path's text.
+    #[inline]
+    fn path_bytes(&self) -> &'t [u8]
+        ensures text { result.now ≡ text self.now.path }
+        ensures path { IsPath result.now }
+        ensures valid { Valid self.now }
+    {
+        let path = self.pieces.tail.path;
+        if path.is_empty() && self.has_authority() {
+            b"/"
+        } else {
+            path
+        }
+    }
+
+    /// The segments of the path in order.
+    pub fn segments(&self) -> Segments<'t>
+        ensures { result ≡ self.now.path.segments }
+    {
+        segments_of(self.pieces.tail.path)
+    }
+
+    /// The query, if there is one.
+    pub fn query(&self) -> Option<Query<'t>>
+        ensures { result ≡ self.now.query }
+    {
+        self.pieces.tail.query.to_text()
+    }
+
+    /// The fragment, if there is one.
+    pub fn fragment(&self) -> Option<Fragment<'t>>
+        ensures { result ≡ self.now.fragment }
+    {
+        self.pieces.tail.fragment.to_text()
+    }
+
+    /// Whether there is a scheme.
+    pub fn has_scheme(&self) -> bool
+        ensures { result ≡ is_some self.now.scheme }
+    {
+        self.pieces.has_scheme()
+    }
+
+    /// Whether there is an authority.
+    pub fn has_authority(&self) -> bool
+        ensures { result ≡ is_some self.now.authority }
+    {
+        self.pieces.authority.is_some()
+    }
+
+    /// Whether there is a user name.
+    pub fn has_username(&self) -> bool
+        ensures { result ≡ is_some (username_of self.now) }
+    {
+        self.username().is_some()
+    }
+
+    /// Whether there is a password.
+    pub fn has_password(&self) -> bool
+        ensures { result ≡ is_some (password_of self.now) }
+    {
+        self.password().is_some()
+    }
+
+    /// Whether there is a port.
+    pub fn has_port(&self) -> bool
+        ensures { result ≡ is_some (port_of self.now) }
+    {
+        self.port().is_some()
+    }
+
+    /// Whether there is a query, which may be empty.
+    pub fn has_query(&self) -> bool
+        ensures { result ≡ is_some self.now.query }
+    {
+        self.query().is_some()
+    }
+
+    /// Whether there is a fragment, which may be empty.
+    pub fn has_fragment(&self) -> bool
+        ensures { result ≡ is_some self.now.fragment }
+    {
+        self.fragment().is_some()
+    }
+
+    /// Whether it is a URI: it has a scheme. RFC 3986, section 3.
+    pub fn is_uri(&self) -> bool
+        ensures { result ≡ kinds.is_uri self.now }
+    {
+        self.has_scheme()
+    }
+
+    /// Whether it is a relative reference: it has no scheme. RFC 3986, section 4.2.
+    pub fn is_relative_reference(&self) -> bool
+        ensures { result ≡ kinds.is_relative_reference self.now }
+    {
+        !self.has_scheme()
+    }
+
+    /// Whether it is an absolute URI, as a base must be: it has a scheme and no fragment. RFC
+    /// 3986, sections 4.3 and 5.1.
+    pub fn can_be_a_base(&self) -> bool
+        ensures { result ≡ kinds.can_be_a_base self.now }
+    {
+        self.has_scheme() && !self.has_fragment()
+    }
+}
+
+impl<'t> fmt::Debug for ReferenceView<'t> {
+    fn fmt<W: fmt::Write>(&self, f: &mut fmt::Formatter<W>) -> fmt::Result {
+        f.debug_struct("ReferenceView")
+            .field("scheme", &self.scheme())
+            .field("authority", &self.authority())
+            .field("path", &self.path())
+            .field("query", &self.query())
+            .field("fragment", &self.fragment())
+            .finish()
+    }
+}

@@ -1,0 +1,78 @@
+//! Whether a reference is in normal form, in its text: RFC 3986, section 6.2.2.
+ghost use Rattle.std.specs.Prelude.{◌≡◌, ◌↔◌, IsTrue, bytes_eq};
+ghost use Rattle.std.specs.Option.{option_eq, option_map};
+ghost use Rattle.uriparse_text.specs.Canonical.{canonical};
+ghost use Rattle.uriparse_authority.specs.Authority as authorities;
+ghost use Rattle.uriparse_scheme.specs.Scheme as schemes;
+ghost use Rattle.uriparse_path.specs.Normal.{is_normal_at};
+ghost use Rattle.uriparse_reference.specs.Reference.{authority_part, print, scheme_part};
+ghost use Rattle.uriparse_reference.specs.Normal.{is_normal, normal};
+ghost use Rattle.uriparse_reference.specs.Normal.{place as place_of};
+
+use super::super::normal::{is_canonical_authority, is_canonical_scheme};
+use super::ReferenceView;
+use uriparse_path::internal::{Place, is_normal_path_text};
+use uriparse_text::internal::is_canonical_part;
+
+impl<'t> ReferenceView<'t> {
+    /// Whether the scheme, if present, is in canonical spelling.
+    fn has_canonical_scheme(&self) -> bool
+        ensures { result ≡ option_eq bytes_eq (option_map schemes.canonical_text self.now.scheme) (scheme_part self.now) }
+    {
+        is_canonical_scheme(&self.scheme())
+    }
+
+    /// Whether the authority, if present, is in canonical spelling.
+    fn has_canonical_authority(&self) -> bool
+        ensures { result ≡ option_eq bytes_eq (option_map authorities.canonical_text self.now.authority) (authority_part self.now) }
+    {
+        is_canonical_authority(&self.authority())
+    }
+
+    /// Whether the query, if present, is in canonical spelling.
+    fn has_canonical_query(&self) -> bool
+        ensures { result ≡ option_eq bytes_eq (option_map canonical self.now.query) self.now.query }
+    {
+        is_canonical_part(&self.query())
+    }
+
+    /// Whether the fragment, if present, is in canonical spelling.
+    fn has_canonical_fragment(&self) -> bool
+        ensures { result ≡ option_eq bytes_eq (option_map canonical self.now.fragment) self.now.fragment }
+    {
+        is_canonical_part(&self.fragment())
+    }
+
+    /// Whether the path has the text of its normal form at this place.
+    fn has_normal_path(&self, place: Place) -> bool
+        ensures { result ≡ is_normal_at place self.now.path }
+    {
+        is_normal_path_text(self.path_bytes(), place)
+    }
+
+    /// Whether each component has the text of its normal form, with the path at this place.
+    fn is_normal(&self, place: Place) -> bool
+        requires { place ≡ place_of self.now }
+        ensures { result ≡ is_normal self.now }
+    {
+        self.has_canonical_scheme()
+            && self.has_canonical_authority()
+            && self.has_normal_path(place)
+            && self.has_canonical_query()
+            && self.has_canonical_fragment()
+    }
+
+    /// Whether the reference is in normal form, as
+    /// [`URIReference::is_normalized`](crate::uri_reference::URIReference::is_normalized) tells:
+    /// the text that it prints is that of its normal form. What reading itself changes does not
+    /// count, such as the case of a registered scheme. Does not allocate.
+    pub fn is_normalized(&self) -> bool
+        ensures text { IsTrue result ↔ (print (normal self.now) ≡ print self.now) }
+        ensures form { IsTrue result → normal self.now ≡ self.now }
+    {
+        self.is_normal(Place {
+            has_scheme: self.pieces.has_scheme(),
+            has_authority: self.pieces.authority.is_some(),
+        })
+    }
+}
