@@ -1,6 +1,6 @@
 //! Bytes written as components, and the bytes that components stand for.
 
-use std::alloc::Global;
+use std::alloc::{AllocError, Global};
 use std::fmt::Display;
 use std::str;
 use test_rows::answer::{Answer, printed, said, words};
@@ -83,9 +83,58 @@ fn text_bytes<K: TextKind, E: Display + Drop>(
     }
 }
 
+/// Adds a pair, in parentheses and with a colon before its value.
+fn add_pair(told: &mut String, name: &str, value: Option<&str>) -> Result<(), AllocError> {
+    told.push_str("(")?;
+    told.push_str(name)?;
+    if let Some(value) = value {
+        told.push_str(":")?;
+        told.push_str(value)?;
+    }
+    told.push_str(")")
+}
+
+/// The pairs of a query.
+fn pairs(alloc: Global, query: &Query<'_>) -> Answer {
+    let mut told = String::new(alloc);
+    for (name, value) in query.pairs() {
+        match value {
+            Some(value) => add_pair(&mut told, name.as_str(), Some(value.as_str()))?,
+            None => add_pair(&mut told, name.as_str(), None)?,
+        }
+    }
+    Ok(told)
+}
+
+/// The pairs of the query of this text, or the error.
+fn pairs_of(alloc: Global, text: &str) -> Answer {
+    match Query::try_from_str(text) {
+        Ok(query) => pairs(alloc, &query),
+        Err(why) => printed(alloc, why),
+    }
+}
+
+/// The query of a pair of these texts, and of the name alone.
+fn written_pairs(alloc: Global, name: &str, value: &str) -> Answer {
+    let (name, value) = (name.as_bytes(), value.as_bytes());
+    let query = Query::from_pairs(alloc, &[(name, Some(value)), (name, None)])?;
+    query.to_string(alloc)
+}
+
+/// The bytes of a form's text, or the error.
+fn form_bytes(alloc: Global, text: &str) -> Answer {
+    match Query::try_from_str(text) {
+        Ok(query) => {
+            let bytes = query.decode_form(alloc)?;
+            shown(alloc, &bytes)
+        }
+        Err(why) => printed(alloc, why),
+    }
+}
+
 /// The answer to a question about these bytes or this text.
 pub fn answer(alloc: Global, asked: &str) -> Answer {
-    let (command, text, _) = words(asked);
+    let (command, text, other) = words(asked);
     match command {
         "encode-segment" => segment(alloc, text),
         "encode-query" => written(alloc, &Query::encode(alloc, text.as_bytes())?, text),
@@ -97,12 +146,23 @@ pub fn answer(alloc: Global, asked: &str) -> Answer {
         "decode-query" => text_bytes(alloc, Query::try_from_str(text)),
         "decode-fragment" => text_bytes(alloc, Fragment::try_from_str(text)),
         "decode-username" => text_bytes(alloc, Username::try_from_str(text)),
+        "pairs" => pairs_of(alloc, text),
+        "from-pairs" => written_pairs(alloc, text, other),
+        "decode-form" => form_bytes(alloc, text),
         "decode-password" => text_bytes(alloc, Password::try_from_str(text)),
         _ => said(alloc, "no such command"),
     }
 }
 
 pub const ROWS: &str = "\
+pairs '' -> ()
+pairs a=1&b=%26=&c&=&&d -> (a:1)(b:%26=)(c)(:)()(d)
+pairs & -> ()()
+pairs #a -> invalid query character
+from-pairs '' '' -> =&
+from-pairs 'a b&=+#%é' c/d? -> a%20b%26%3D%2B%23%25%C3%A9=c/d?&a%20b%26%3D%2B%23%25%C3%A9
+decode-form a+b%2Bc%20d -> a b+c d
+decode-form a%2 -> invalid query percent encoding
 encode-segment '' -> ''
 encode-query '' -> ''
 encode-segment a/b -> a%2Fb

@@ -19,6 +19,16 @@ fn another_query_is_read() -> bool {
     }
 }
 
+/// Whether a query yields its pairs.
+fn pairs_are_yielded() -> bool {
+    match Query::try_from_str("a=1&b") {
+        Ok(query) => query
+            .pairs()
+            .all(|(name, value)| value.is_some() == name.eq_str("a")),
+        Err(_) => false,
+    }
+}
+
 fn queries_are_rejected() -> bool {
     matches!(Query::try_from_str("#"), Err(QueryError::InvalidCharacter))
         && matches!(
@@ -90,6 +100,7 @@ pub fn tails(alloc: Global) -> bool {
     query_is_read(alloc, "a~?")
         && fragment_is_read(alloc, "a~/")
         && another_query_is_read()
+        && pairs_are_yielded()
         && queries_are_rejected()
         && fragments_are_rejected()
 }

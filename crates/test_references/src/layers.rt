@@ -1,7 +1,7 @@
 //! The rows of each layer, with ample memory and with memory running out.
 
 use crate::{
-    kinds, limits, normal_forms, reference_edits, references, relatives, resolutions, uris,
+    escapes, kinds, limits, normal_forms, reference_edits, references, relatives, resolutions, uris,
 };
 use std::alloc::Global;
 use std::test::Fail;
@@ -15,6 +15,7 @@ enum Part {
     NormalForms,
     Resolutions,
     Kinds,
+    Escapes,
     Uris,
     Relatives,
     Limits,
@@ -28,6 +29,7 @@ impl Layer for Part {
             Part::NormalForms => normal_forms::ROWS,
             Part::Resolutions => resolutions::ROWS,
             Part::Kinds => kinds::ROWS,
+            Part::Escapes => escapes::ROWS,
             Part::Uris => uris::ROWS,
             Part::Relatives => relatives::ROWS,
             Part::Limits => limits::ROWS,
@@ -40,6 +42,7 @@ impl Layer for Part {
                 references::answer(alloc, asked)
             }
             Part::Resolutions => resolutions::answer(alloc, asked),
+            Part::Escapes => escapes::answer(alloc, asked),
             Part::Uris => uris::answer(alloc, asked),
             Part::Relatives => relatives::answer(alloc, asked),
             Part::Limits => limits::answer(alloc, asked),
@@ -47,13 +50,14 @@ impl Layer for Part {
     }
 }
 
-static PARTS: [Part; 8] = [
+static PARTS: [Part; 9] = [
     Part::Limits,
     Part::References,
     Part::ReferenceEdits,
     Part::NormalForms,
     Part::Resolutions,
     Part::Kinds,
+    Part::Escapes,
     Part::Uris,
     Part::Relatives,
 ];

@@ -3,6 +3,8 @@
 #![tactic(auto)]
 
 #[cfg(test)]
+mod escapes;
+#[cfg(test)]
 mod kinds;
 #[cfg(test)]
 mod layers;

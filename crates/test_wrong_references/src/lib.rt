@@ -7,7 +7,7 @@
 //! it.
 #![tactic(auto)]
 
-ghost use Rattle.std.specs.Prelude.{◌≡◌, ◌↔◌, Err, IfOk, IsTrue, MatchResult, None, Ok, OnErr, OnOk, Some, bytes_eq, length};
+ghost use Rattle.std.specs.Prelude.{◌≡◌, ◌↔◌, Err, IfOk, IsTrue, MatchResult, None, Ok, OnErr, OnOk, Some, bytes_eq, length, string_bytes};
 ghost use Rattle.uriparse_text.specs.Readings.{IsUnless, Settles};
 ghost use Rattle.uriparse_path.specs.Dots as dots;
 ghost use Rattle.uriparse_path.specs.Path.{text};
@@ -17,6 +17,7 @@ ghost use Rattle.uriparse_reference.specs.Edits.{Run, edited};
 ghost use Rattle.uriparse_reference.specs.declared.uri_reference.edit.Edit.TheVariants as edits;
 ghost use Rattle.uriparse_reference.specs.declared.uri_reference.error.URIReferenceError.{URIReferenceError};
 ghost use Rattle.uriparse_reference.specs.declared.uri_reference.error.URIReferenceError.TheVariants as errors;
+ghost use Rattle.uriparse_reference.specs.Escaped.{escaped};
 ghost use Rattle.uriparse_reference.specs.Key.{key};
 ghost use Rattle.uriparse_reference.specs.Normal.{normal};
 ghost use Rattle.uriparse_reference.specs.Reading.{fault, reading};
@@ -25,7 +26,9 @@ ghost use Rattle.uriparse_reference.specs.Reference.{Parts, Spells, print};
 use std::alloc::{AllocError, Global};
 use uriparse_authority::authority::Authority;
 use uriparse_path::path::{Path, Segment};
-use uriparse_reference::uri_reference::{Edit, ReferenceView, URIReference, URIReferenceError};
+use uriparse_reference::uri_reference::{
+    Edit, ReferenceView, URIReference, URIReferenceError, escape_invalid,
+};
 use uriparse_scheme::scheme::{Scheme, SchemeError};
 use uriparse_text::query::Query;
 
@@ -44,6 +47,14 @@ pub fn read(alloc: Global, bytes: &[u8]) -> Result<URIReference<'_>, URIReferenc
     ensures fault { (e : URIReferenceError) → fault bytes.now ≡ Some e → result ≡ Err e }
 {
     URIReference::try_from_bytes(alloc, bytes)
+}
+
+/// The text of a reference, made of any text.
+pub fn escape(alloc: Global, text: &[u8]) -> Result<String, AllocError>
+    ensures text { IfOk result (λ s. string_bytes s ≡ escaped text.now) }
+    ensures kept { fault text.now ≡ None → IfOk result (λ s. string_bytes s ≡ text.now) }
+{
+    escape_invalid(alloc, text)
 }
 
 /// Sets a reference's authority, or removes it.

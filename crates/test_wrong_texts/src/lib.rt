@@ -2,19 +2,20 @@
 //! bodies, as those of `test_wrong_references`.
 #![tactic(auto)]
 
-ghost use Rattle.std.specs.Prelude.{◌≡◌, ◌↔◌, IfOk, IsTrue, Some, bytes_eq, fold};
+ghost use Rattle.std.specs.Prelude.{◌≡◌, ◌↔◌, IfOk, IsTrue, Some, bytes_eq, fold, map};
 ghost use Rattle.std.specs.Fmt.{DisplaysOnOk};
 ghost use Rattle.uriparse_text.specs.declared.internal.canonical.Case.TheVariants as case;
 ghost use Rattle.uriparse_text.specs.Address.{ipv4_reading, ipv6_text};
 ghost use Rattle.uriparse_text.specs.Canonical.{SpellsAlike, canonical, fed_text};
 ghost use Rattle.uriparse_text.specs.Coding.{decoded, encoded};
+ghost use Rattle.uriparse_text.specs.Pairs as pairs;
 ghost use Rattle.uriparse_text.specs.declared.internal.class.Class.TheVariants as class;
 
 use std::alloc::{AllocError, Global};
 use std::fmt;
 use std::hash::{Hash, Hasher};
 use uriparse_text::address::{Ipv4Addr, Ipv6Addr};
-use uriparse_text::query::Query;
+use uriparse_text::query::{Pairs, Query};
 
 /// Whether a query is its own canonical spelling.
 pub fn is_normalized(query: &Query<'_>) -> bool
@@ -64,6 +65,23 @@ pub fn encode(alloc: Global, bytes: &[u8]) -> Result<Query<'static>, AllocError>
     ensures back { IfOk result (λ q. decoded q ≡ bytes.now) }
 {
     Query::encode(alloc, bytes)
+}
+
+/// The query of these pairs.
+pub fn write_pairs(
+    alloc: Global,
+    given: &[(&[u8], Option<&[u8]>)],
+) -> Result<Query<'static>, AllocError>
+    ensures text { IfOk result (λ q. q ≡ pairs.joined_pairs (map pairs.encoded_pair (map pairs.given given.now))) }
+{
+    Query::from_pairs(alloc, given)
+}
+
+/// The pairs of a query that are left.
+pub fn read_pairs<'q>(query: &'q Query<'_>) -> Pairs<'q>
+    ensures { result ≡ pairs.pairs query.now }
+{
+    query.pairs()
 }
 
 /// The bytes that a query stands for.

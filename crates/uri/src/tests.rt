@@ -1,6 +1,7 @@
 //! The commands' output and statuses.
 
 mod lines;
+mod links;
 mod options;
 mod pages;
 
@@ -25,6 +26,9 @@ uri relativize BASE URI
 uri decode TEXT       the bytes that a query or a segment stands for
 uri encode KIND TEXT  the text as a segment, query, fragment, username or
                       password
+uri escape TEXT       any text as a reference, with escapes for what it
+                      can't have
+uri pairs TEXT        the pairs of the reference's query, a line each
 uri edit TEXT EDIT..  the reference with all edits made, from the left;
                       an edit is scheme V, authority V, path V, query V,
                       fragment V, drop-scheme, drop-authority, drop-query,
@@ -35,7 +39,7 @@ uri --json parse TEXT the reference as a JSON object
 uri --quiet parse TEXT, uri --quiet equal A B
                       nothing but the status
 uri --lines parse, uri --lines normalize, uri --lines resolve BASE,
-uri --lines get PART, uri --lines equal
+uri --lines get PART, uri --lines equal, uri --lines escape
                       the same for each line of the standard input;
                       parse prints JSON objects
 uri --version         the version

@@ -9,6 +9,7 @@ ghost use Rattle.std.specs.Prelude.{◌≡◌, ◌≤◌, IfOk};
 mod coding;
 mod edit;
 mod equal;
+mod escape;
 mod failure;
 mod get;
 mod help;
@@ -18,6 +19,7 @@ mod lines;
 mod normalize;
 mod options;
 mod pages;
+mod pairs;
 mod parse;
 mod print;
 mod quiet;
@@ -28,6 +30,7 @@ mod tail;
 use coding::{decode, encode};
 use edit::edit;
 use equal::equal;
+use escape::escape;
 use failure::Failure;
 use get::get;
 use help::{help, help_on, version};
@@ -35,6 +38,7 @@ use json::parse_json;
 use lines::lines;
 use normalize::normalize;
 use options::{Options, split_options};
+use pairs::pairs;
 use parse::parse;
 use quiet::quiet;
 use relativize::relativize;
@@ -58,7 +62,8 @@ pub fn run<O: Write, E: Write>(alloc: Global, words: &[&str], out: &mut O, err: 
 /// - 1 if a text is rejected, memory runs out, or a read or a write fails: `err` gets a line that says
 ///   why, or one for each rejected line of the input;
 /// - 2 on a usage error: `err` gets a line on the usage;
-/// - 3 if `get` finds no such part, or `--quiet equal` two references that differ. Nothing is written.
+/// - 3 if `get` finds no such part, `pairs` no query, or `--quiet equal` two references that differ.
+///   Nothing is written.
 ///
 /// With `--quiet` nothing is written about rejected texts nor, without `--lines`, about a lack of
 /// memory. Only `--lines` reads the input. Without it nothing is written to `out` before all texts of
@@ -145,7 +150,9 @@ fn plain_command<O: Write>(alloc: Global, words: &[&str], out: &mut O) -> Result
 fn byte_command<O: Write>(alloc: Global, words: &[&str], out: &mut O) -> Result<(), Failure> {
     match words {
         ["get", part, text] => get(part, text.as_bytes(), out),
+        ["pairs", text] => pairs(alloc, text.as_bytes(), out),
         ["normalize", text] => normalize(alloc, text.as_bytes(), out),
+        ["escape", text] => escape(alloc, text.as_bytes(), out),
         ["decode", text] => decode(alloc, text.as_bytes(), out),
         ["encode", kind, text] => encode(alloc, kind, text.as_bytes(), out),
         ["equal", a, b] => equal(a.as_bytes(), b.as_bytes(), out),

@@ -6,6 +6,7 @@ ghost use Rattle.std.specs.Io.KnownBytes.{IsAtEnd};
 ghost use Rattle.uri_commands.specs.Lines.{newline};
 
 use crate::equal::equal;
+use crate::escape::escape;
 use crate::failure::Failure;
 use crate::get::{Part, get_part, read_part};
 use crate::json::parse_json;
@@ -28,6 +29,8 @@ enum Task<'w> {
     Parse,
     /// Print the reference's normal form.
     Normalize,
+    /// Print the text with escapes for what a reference can't have.
+    Escape,
     /// Print the target of the reference against this base.
     Resolve(URI<'w>),
     /// Print this part of the reference, or an empty line if it is absent.
@@ -55,6 +58,7 @@ fn read_task<'w>(alloc: Global, options: Options, words: &[&'w str]) -> Result<T
         (true, false, ["equal"]) => Ok(Task::CheckEqual),
         (false, false, ["equal"]) => Ok(Task::Equal),
         (false, false, ["normalize"]) => Ok(Task::Normalize),
+        (false, false, ["escape"]) => Ok(Task::Escape),
         (false, false, ["get", part]) => Ok(Task::Get(read_part(part)?)),
         (false, false, ["resolve", base]) => { Ok(Task::Resolve(URI::try_from_str(alloc, base)?)) }
         _ => Err(Failure::Usage),
@@ -99,6 +103,7 @@ fn run_task<O: Write>(
     match task {
         Task::Parse => parse_json(alloc, line, out),
         Task::Normalize => normalize(alloc, line, out),
+        Task::Escape => escape(alloc, line, out),
         Task::Resolve(base) => resolve_against(alloc, base, line, out),
         Task::Get(part) => get_or_empty(*part, line, out),
         Task::Equal => equal_pair(line, out),

@@ -161,6 +161,45 @@ prints
     a%2Fb%20c
 ";
 
+const ESCAPE: &str = "\
+uri escape TEXT
+uri --lines escape
+
+Prints any text as that of a reference: each byte that a reference can't have
+where it stands becomes an escape, such as a space, a letter with an accent, or
+a bracket outside of an authority. The rest stays, escapes too; a `%` without
+two hexadecimal digits after it becomes %25. A reference stays as it is.
+An authority keeps its `:`, `@`, `[` and `]`, so a text with an invalid host or
+port is still rejected by the other commands. Lines are bytes of any encoding: a
+carriage return becomes %0D.
+
+Exit status: 0 on success, 2 on a usage error.
+
+Example:
+    uri escape 'http://h/a b?q=100%#[x]'
+prints
+    http://h/a%20b?q=100%25#%5Bx%5D
+";
+
+const PAIRS: &str = "\
+uri pairs TEXT
+
+Prints the pairs of the reference's query, the pieces between its `&`, on a line
+each: NAME=VALUE, or NAME if the piece has no `=`. They are printed as they
+stand, so no line has a second newline, and `uri decode` gets the bytes of one.
+The first `=` ends the name.
+
+Exit status: 0 on success, 1 if the text is no reference, 2 on a usage error,
+3 if the reference has no query; nothing is printed then.
+
+Example:
+    uri pairs 'http://h/?a=1&b=x%26y&c'
+prints
+    a=1
+    b=x%26y
+    c
+";
+
 const EDIT: &str = "\
 uri edit TEXT EDIT..
 
@@ -249,6 +288,7 @@ uri --lines normalize
 uri --lines resolve BASE
 uri --lines get PART
 uri --lines equal
+uri --lines escape
 uri --lines --quiet parse
 uri --lines --quiet equal
 
@@ -283,6 +323,8 @@ pub fn page(name: &str) -> Option<&'static str> {
         "relativize" => Some(RELATIVIZE),
         "decode" => Some(DECODE),
         "encode" => Some(ENCODE),
+        "escape" => Some(ESCAPE),
+        "pairs" => Some(PAIRS),
         "edit" => Some(EDIT),
         "help" => Some(HELP),
         "--json" => Some(JSON),

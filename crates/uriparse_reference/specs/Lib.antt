@@ -6,6 +6,7 @@ pub mod Builder
 pub mod Key
 pub mod Reading
 pub mod View
+pub mod Escaped
 pub mod Normal
 pub mod Target
 pub mod Relate

@@ -1,7 +1,9 @@
 //! Laws about the definitions in `specs/`. The functions have no body: the contract is the law.
+ghost use Rattle.std.specs.Option.{option_map};
 ghost use Rattle.std.specs.Prelude.{◌≡◌, ◌↔◌, ◌⊎◌, ◌<◌, ◌≤◌, ◌∷◌, ◌++◌, ℕ, List, [], Option, None, Some, Ok, IfSome, is_some, length, true, false, codes};
 ghost use Rattle.uriparse_text.specs.Bytes.{slash, question_mark, number_sign};
 ghost use Rattle.uriparse_text.specs.Cuts.{lacks, none_pass};
+ghost use Rattle.uriparse_text.specs.Tokens.{is_well_formed};
 ghost use Rattle.uriparse_path.specs.Path.{max_segments, pieces, spelled, text};
 ghost use Rattle.uriparse_path.specs.Merge.{merged};
 ghost use Rattle.uriparse_path.specs.Dots.{LacksSlash};
@@ -11,6 +13,7 @@ ghost use Rattle.uriparse_scheme.specs.declared.scheme.error.SchemeError.{Scheme
 ghost use Rattle.uriparse_path.specs.declared.path.error.PathError.TheVariants.{OutOfMemory};
 ghost use Rattle.uriparse_reference.specs.Reference.{Parts, Spells, Valid, ReadsBack, HidesAddress, OneHidesAddress, Same, joined, print, kind};
 ghost use Rattle.uriparse_reference.specs.Cuts.{scheme_text, authority_text, path_text, query_text, fragment_text};
+ghost use Rattle.uriparse_reference.specs.Escaped.{escaped, escaped_authority, escaped_component, escaped_path, fault_left};
 ghost use Rattle.uriparse_reference.specs.Edits.{IsWant, Run, edited, of_parts, replaced};
 ghost use Rattle.uriparse_reference.specs.Builder.{built, held};
 ghost use Rattle.uriparse_reference.specs.Examples.{are_equal, hold, is_normalised, normal_form_rows, normalised, normalised_first, normal_rows, relative_form_rows, abnormal_rows, resolved, resolved_first, rfc_base};
@@ -50,6 +53,22 @@ pub fn one_cut()
     ensures authority { (t : List ℕ) → IfSome (authority_text t) (λ a. none_pass ends_authority a ≡ true) }
     ensures path { (t : List ℕ) → (lacks question_mark (path_text t) ≡ true) × (lacks number_sign (path_text t) ≡ true) }
     ensures query { (t : List ℕ) → IfSome (query_text t) (λ q. lacks number_sign q ≡ true) }
+{}
+
+/// The components of a text with escapes are those of the text that was escaped, each with escapes.
+/// The text of a reference stays, escaping again changes nothing, and each `%` begins an escape. A
+/// fault that is left is the authority's, that of too many segments, or that of the colon rule.
+pub fn one_escaping()
+    ensures scheme { (t : List ℕ) → scheme_text (escaped t) ≡ scheme_text t }
+    ensures authority { (t : List ℕ) → authority_text (escaped t) ≡ option_map escaped_authority (authority_text t) }
+    ensures path { (t : List ℕ) → path_text (escaped t) ≡ escaped_path (path_text t) }
+    ensures query { (t : List ℕ) → query_text (escaped t) ≡ option_map escaped_component (query_text t) }
+    ensures fragment { (t : List ℕ) → fragment_text (escaped t) ≡ option_map escaped_component (fragment_text t) }
+    ensures kept { (t : List ℕ) → fault t ≡ None → escaped t ≡ t }
+    ensures twice { (t : List ℕ) → escaped (escaped t) ≡ escaped t }
+    ensures formed { (t : List ℕ) → is_well_formed (escaped t) ≡ true }
+    ensures left { (t : List ℕ) → fault (escaped t) ≡ fault_left t }
+    ensures never { (t : List ℕ) → fault_left t ≡ Some errors.AbsolutePathStartsWithTwoSlashes → ⊥ }
 {}
 
 /// What a text spells reads back: its own printed text spells it. The same holds for each valid
@@ -188,4 +207,22 @@ pub fn commutation_examples()
     ensures double_dot_again { normalised_first (codes "http://a/b/..") (codes "g") ≡ Some (codes "http://a/g") }
     ensures empty { resolved_first (codes "http://a/b/c") (codes ".") ≡ Some (codes "http://a/b/") }
     ensures empty_again { normalised_first (codes "http://a/b/c") (codes ".") ≡ Some (codes "http://a/b/c") }
+{}
+
+/// Texts as people write them, and the references that are made of them. The last three are the
+/// example of RFC 3987, section 3.1, in UTF-8, a text that is rejected for its host, and one that
+/// is rejected by the colon rule.
+pub fn escaping_examples()
+    ensures empty { escaped [] ≡ [] }
+    ensures space { escaped (codes "a b") ≡ codes "a%20b" }
+    ensures sign { escaped (codes "100%") ≡ codes "100%25" }
+    ensures broken { escaped (codes "%zz%4") ≡ codes "%25zz%254" }
+    ensures escape { escaped (codes "a%2fb") ≡ codes "a%2fb" }
+    ensures brackets { escaped (codes "[x]") ≡ codes "%5Bx%5D" }
+    ensures address { escaped (codes "http://[::1]/[x]") ≡ codes "http://[::1]/%5Bx%5D" }
+    ensures number_sign { escaped (codes "?#?#") ≡ codes "?#?%23" }
+    ensures others { escaped (codes "/<>^`{|}") ≡ codes "/%3C%3E%5E%60%7B%7C%7D" }
+    ensures iri { escaped (codes "http://r" ++ 195 ∷ 169 ∷ codes "sum" ++ 195 ∷ 169 ∷ codes ".example.org") ≡ codes "http://r%C3%A9sum%C3%A9.example.org" }
+    ensures host { escaped (codes "//a[b c]:x y/") ≡ codes "//a[b%20c]:x%20y/" }
+    ensures colon { escaped (codes "a b:c") ≡ codes "a%20b:c" }
 {}

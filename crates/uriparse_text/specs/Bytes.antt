@@ -4,6 +4,10 @@ use Rattle.std.specs.List.{list_any}
 use Rattle.std.specs.Int.{is_in_range}
 use Rattle.std.specs.Char.{is_digit}
 
+-- a space
+abbrev pub space : ℕ
+space = 32
+
 -- `#`
 abbrev pub number_sign : ℕ
 number_sign = 35
@@ -11,6 +15,14 @@ number_sign = 35
 -- `%`
 abbrev pub percent : ℕ
 percent = 37
+
+-- `&`
+abbrev pub ampersand : ℕ
+ampersand = 38
+
+-- `+`
+abbrev pub plus_sign : ℕ
+plus_sign = 43
 
 -- `.`
 abbrev pub dot : ℕ
@@ -23,6 +35,10 @@ slash = 47
 -- `:`
 abbrev pub colon : ℕ
 colon = 58
+
+-- `=`
+abbrev pub equals_sign : ℕ
+equals_sign = 61
 
 -- `?`
 abbrev pub question_mark : ℕ

@@ -14,3 +14,4 @@ pub mod Alike
 pub mod Found
 pub mod Spelling
 pub mod Coding
+pub mod Pairs

@@ -1,17 +1,19 @@
 //! Laws of the definitions that contracts cite. Each function does nothing: its contract is the
 //! law.
-ghost use Rattle.std.specs.Prelude.{◌≡◌, ◌==◌, ◌↔◌, ◌<◌, ◌∷◌, ◌++◌, ℕ, List, [], Some, None, true, false, flat_map, length, codes};
+ghost use Rattle.std.specs.Prelude.{◌≡◌, ◌==◌, ◌↔◌, ◌<◌, ◌∷◌, ◌++◌, ℕ, List, [], Some, None, true, false, flat_map, length, map, not, codes};
 ghost use Rattle.std.specs.List.{list_all};
 ghost use Rattle.uriparse_text.specs.declared.internal.token.Token.{Token};
 ghost use Rattle.uriparse_text.specs.declared.internal.class.Class.{Class};
 ghost use Rattle.uriparse_text.specs.declared.internal.class.Class.TheVariants as class;
 ghost use Rattle.uriparse_text.specs.declared.internal.canonical.Case.{Case};
 ghost use Rattle.uriparse_text.specs.declared.internal.canonical.Case.TheVariants as case;
-ghost use Rattle.uriparse_text.specs.Bytes.{left_bracket, right_bracket};
+ghost use Rattle.uriparse_text.specs.Bytes.{is_among, left_bracket, right_bracket};
 ghost use Rattle.uriparse_text.specs.Tokens.{is_well_formed, spell, IsConcatenation};
 ghost use Rattle.uriparse_text.specs.Faults.{fault, IsIn, IsOfClass, HasFaultAt};
 ghost use Rattle.uriparse_text.specs.Canonical.{canonical_token, canonical_in, fed_bytes};
+ghost use Rattle.uriparse_text.specs.Coding.{are_bytes, decoded, escaped_in, form_decoded};
 ghost use Rattle.uriparse_text.specs.Cuts.{lacks};
+ghost use Rattle.uriparse_text.specs.Pairs.{Pair, are_pair_bytes, decoded_pair, encoded_pair, joined_pairs, pairs};
 ghost use Rattle.uriparse_text.specs.Address.{IsOctets, IsSegments, SpellsIpv4, SpellsIpv6, ipv4_text, ipv6_text, ipv4_reading, ipv6_reading, IsPrintedIpv6, is_ipv4_byte, is_ipv6_byte};
 
 /// A text has no fault exactly if it is a concatenation of tokens of the class; else its fault is
@@ -88,6 +90,35 @@ pub fn printed_is_canonical()
     ensures ipv4 { (case : Case) (a : List ℕ) → IsOctets a → canonical_in case (ipv4_text a) ≡ ipv4_text a }
     ensures ipv6 { (case : Case) (a : List ℕ) → IsSegments a → canonical_in case (ipv6_text a) ≡ ipv6_text a }
     ensures bracketed { (case : Case) (a : List ℕ) → IsSegments a → canonical_in case (left_bracket ∷ ipv6_text a ++ right_bracket ∷ []) ≡ left_bracket ∷ ipv6_text a ++ right_bracket ∷ [] }
+{}
+
+/// Any text becomes one of the class once the bytes that may not stand there are escaped, if the
+/// class alone says which may. A text of the class stays, each text represents the same bytes as
+/// before, and escaping again changes nothing.
+pub fn one_escaping()
+    ensures class { (class : Class) (more text : List ℕ) → list_all (λ b. not (is_among more b)) text ≡ true → IsIn class (escaped_in class more text) }
+    ensures kept { (class : Class) (more text : List ℕ) → IsIn class text → escaped_in class more text ≡ text }
+    ensures bytes { (class : Class) (more text : List ℕ) → are_bytes text ≡ true → decoded (escaped_in class more text) ≡ decoded text }
+    ensures twice { (class : Class) (more text : List ℕ) → escaped_in class more (escaped_in class more text) ≡ escaped_in class more text }
+{}
+
+/// The pieces of a query, joined, are the query again. The pairs of a query that was made of pairs
+/// are these, each escaped and, decoded, as they were.
+pub fn one_list_of_pairs()
+    ensures joined { (q : List ℕ) → joined_pairs (pairs q) ≡ q }
+    ensures encoded { (ps : List Pair) → 0 < length ps → pairs (joined_pairs (map encoded_pair ps)) ≡ map encoded_pair ps }
+    ensures decoded { (ps : List Pair) → 0 < length ps → list_all are_pair_bytes ps ≡ true → map decoded_pair (pairs (joined_pairs (map encoded_pair ps))) ≡ ps }
+{}
+
+/// Queries and their pairs.
+#[tactic(auto, unfolding(crate::specs::Coding::decoded, crate::specs::Tokens::tokens, crate::specs::Classes::is_plain, crate::specs::Bytes::is_unreserved, crate::specs::Bytes::is_sub_delim))]
+pub fn examples_of_pairs()
+    ensures three { pairs (codes "a=1&b=%26=&c") ≡ (codes "a", Some (codes "1")) ∷ (codes "b", Some (codes "%26=")) ∷ (codes "c", None) ∷ [] }
+    ensures empty { pairs [] ≡ ([], None) ∷ [] }
+    ensures empties { pairs (codes "&=") ≡ ([], None) ∷ ([], Some []) ∷ [] }
+    ensures made { joined_pairs (map encoded_pair ((codes "a b", Some (codes "&=+#%")) ∷ (codes "c", None) ∷ [])) ≡ codes "a%20b=%26%3D%2B%23%25&c" }
+    ensures plus { decoded (codes "a+b%2Bc%20d") ≡ codes "a+b+c d" }
+    ensures form { form_decoded (codes "a+b%2Bc%20d") ≡ codes "a b+c d" }
 {}
 
 /// Texts of addresses, and what they are read as.

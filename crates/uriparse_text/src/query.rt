@@ -6,6 +6,10 @@ ghost use Rattle.uriparse_text.specs.Query as spec;
 use crate::internal::{Case, Class, Text, TextKind};
 use thiserror::Error;
 
+mod pairs;
+
+pub use pairs::Pairs;
+
 /// Why a text is not a query: its leftmost fault.
 #[derive(Clone, Debug, Drop, PartialEq, Eq, Hash, Error)]
 pub enum QueryError {
@@ -56,7 +60,9 @@ impl TextKind for QueryKind {
 /// report the leftmost fault: [`InvalidPercentEncoding`](QueryError::InvalidPercentEncoding) for a
 /// `%` without two hexadecimal digits after it, else
 /// [`InvalidCharacter`](QueryError::InvalidCharacter). Two queries are equal if their canonical
-/// spellings are. The calls are those of [`Text`].
+/// spellings are. The calls are those of [`Text`], and
+/// [`pairs`](Query::pairs), [`from_pairs`](Query::from_pairs) and
+/// [`decode_form`](Query::decode_form).
 ///
 /// ```
 /// let query = Query::try_from_str("k=%7e")?;

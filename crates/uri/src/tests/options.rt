@@ -279,7 +279,7 @@ static ROWS: [(&str, &str, &str, &str, u8); 87] = [
 ];
 
 /// Whether these words end as the row says.
-fn ends(alloc: Global, row: &(&str, &str, &str, &str, u8), words: &[&str]) -> bool {
+pub(super) fn ends(alloc: Global, row: &(&str, &str, &str, &str, u8), words: &[&str]) -> bool {
     let (_, input, printed, said, status) = row;
     let (ends_with, out, err) = ended(alloc, words, input.as_bytes());
     ends_with == *status

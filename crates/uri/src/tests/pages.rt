@@ -6,7 +6,7 @@ use std::str;
 use std::test::Fail;
 
 /// Each command and option that has a page.
-static NAMES: [&str; 14] = [
+static NAMES: [&str; 16] = [
     "parse",
     "tail",
     "get",
@@ -16,6 +16,8 @@ static NAMES: [&str; 14] = [
     "relativize",
     "decode",
     "encode",
+    "escape",
+    "pairs",
     "edit",
     "help",
     "--json",

@@ -8,3 +8,7 @@ pub mod PrintedLemmas
 pub mod LengthLemmas
 pub mod ViewLemmas
 pub mod AsciiLemmas
+pub mod EscapedPathLemmas
+pub mod EscapedAuthorityLemmas
+pub mod EscapedTokenLemmas
+pub mod EscapedLemmas

@@ -40,7 +40,7 @@ fn is_there(scheme: &[u8]) -> bool
 }
 
 /// What follows two leading slashes.
-fn behind_two_slashes(text: &[u8]) -> Option<&[u8]>
+pub(super) fn behind_two_slashes(text: &[u8]) -> Option<&[u8]>
     ensures { MatchOption result (has_two_slashes text.now ≡ false) (λ r. (has_two_slashes text.now ≡ true) × (r.now ≡ drop 2 text.now)) }
 {
     match text {

@@ -2,3 +2,4 @@ pub mod CutLemmas
 pub mod OptionLemmas
 pub mod ReadingLemmas
 pub mod SaturatingLemmas
+pub mod PairLemmas

@@ -1,3 +1,4 @@
 pub mod TokenLemmas
 pub mod UnescapedLemmas
 pub mod CodingLemmas
+pub mod EscapingLemmas

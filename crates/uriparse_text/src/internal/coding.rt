@@ -1,13 +1,16 @@
-//! Decoding texts to bytes, and encoding bytes as texts: RFC 3986, section 2.
-ghost use Rattle.std.specs.Prelude.{◌≡◌, ◌++◌, ◌<◌, IfOk, OnOk, true};
+//! Decoding texts to bytes, encoding bytes as texts, and escaping what a text may not have: RFC
+//! 3986, section 2.
+ghost use Rattle.std.specs.Prelude.{◌≡◌, ◌++◌, ◌∷◌, ◌<◌, ◌||◌, [], IfOk, OnOk, if◌then◌else◌, true};
 ghost use Rattle.uriparse_text.specs.Alike.{upper_digit_of};
-ghost use Rattle.uriparse_text.specs.Coding.{are_bytes, decoded, encoded, token_for, value_of};
-ghost use Rattle.uriparse_text.specs.Tokens.{has_digits};
+ghost use Rattle.uriparse_text.specs.Coding.{are_bytes, decoded, encoded, encoded_without, escape_of, escaped_in, form_decoded, form_value_of, may_stand, token_for, token_without, value_of};
+ghost use Rattle.uriparse_text.specs.Tokens.{has_digits, is_escape as begins_escape, spell};
 
-use super::canonical::push_token;
+use super::canonical::{Case, push_token};
 use super::class::Class;
 use super::digit::{hex_value, upper_digit};
-use super::token::{Token, split_token};
+use super::scan::{Outside, next_marks};
+use super::settled::split_settled;
+use super::token::{Token, is_escape, split_token};
 use std::alloc::{AllocError, Global};
 
 impl Token {
@@ -32,6 +35,44 @@ impl Token {
             Token::Byte(b)
         } else {
             Token::Escape(upper_digit(b / 16), upper_digit(b % 16))
+        }
+    }
+
+    /// The byte that the token represents in the text of a form: a `+` is a space.
+    #[inline]
+    fn form_value(self) -> u8
+        requires { has_digits self ≡ true }
+        ensures { result ≡ form_value_of self }
+    {
+        match self {
+            Token::Byte(b'+') => b' ',
+            _ => self.value(),
+        }
+    }
+
+    /// The token that represents a byte: the byte itself if the class has it and it is none of
+    /// `without`, else an escape.
+    #[inline]
+    fn writing_without(class: Class, without: &[u8], b: u8) -> Token
+        ensures { result ≡ token_without class without.now b }
+    {
+        if class.has(b) && !without.contains(&b) {
+            Token::Byte(b)
+        } else {
+            Token::Escape(upper_digit(b / 16), upper_digit(b % 16))
+        }
+    }
+
+    /// The token that stands for a byte of any text: the byte itself if it may stand there or
+    /// begins an escape, else its escape.
+    #[inline]
+    fn standing(class: Class, more: &[u8], b: u8, after: &[u8]) -> Token
+        ensures { spell result ≡ (if may_stand class more.now b || begins_escape b after.now then b ∷ [] else spell (escape_of b)) }
+    {
+        if more.contains(&b) || is_escape(b, after) {
+            Token::Byte(b)
+        } else {
+            Token::writing(class, b)
         }
     }
 }
@@ -64,4 +105,67 @@ pub(super) fn encoded_bytes(
         push_token(&mut text, Token::writing(class, b))?;
     }
     Ok(text)
+}
+
+/// Like [`decoded_bytes`], for the text of a form: a `+` is a space.
+pub fn form_decoded_bytes(alloc: Global, text: &[u8]) -> Result<Vec<u8>, AllocError>
+    ensures { IfOk result (λ v. v.items ≡ form_decoded text.now) }
+{
+    let mut bytes = Vec::with_capacity(alloc, text.len())?;
+    let mut rest = text;
+    'tokens: while let Some((token, after)) = split_token(rest) {
+        bytes.push(token.form_value())?;
+        rest = after;
+    }
+    Ok(bytes)
+}
+
+/// Appends the text that represents the bytes. A byte of the class stays unless it is one of
+/// `without`; any other becomes an escape. Walks them once.
+pub fn push_encoded(
+    text: &mut Vec<u8>,
+    class: Class,
+    without: &[u8],
+    bytes: &[u8],
+) -> Result<(), AllocError>
+    ensures text { OnOk result (text.new.items ≡ text.old.items ++ encoded_without class without.now bytes.now) }
+    ensures bytes { OnOk result (are_bytes bytes.now ≡ true) }
+{
+    for &b in bytes {
+        push_token(text, Token::writing_without(class, without, b))?;
+    }
+    Ok(())
+}
+
+/// Appends the text with an escape for each byte that is neither in the class nor one of `more`,
+/// and begins no escape. Walks the text once. Runs of bytes of the class are copied whole.
+pub fn push_escaped(
+    escaped: &mut Vec<u8>,
+    class: Class,
+    more: &[u8],
+    text: &[u8],
+) -> Result<(), AllocError>
+    ensures { OnOk result (escaped.new.items ≡ escaped.old.items ++ escaped_in class more.now text.now) }
+{
+    let mut rest = text;
+    'bytes: while let Some((&b, after)) = rest.split_first() {
+        push_token(escaped, Token::standing(class, more, b, after))?;
+        let (run, later) = split_settled(class, Case::Kept, after);
+        escaped.extend_from_slice(run)?;
+        rest = later;
+    }
+    Ok(())
+}
+
+/// The number of bytes that the text has with an escape for each byte outside the class, or
+/// `usize::MAX`: never less than `push_escaped` appends.
+pub fn most_escaped_bytes(class: Class, text: &[u8]) -> usize {
+    let mut most = text.len();
+    let mut at = 0;
+    'runs: while at < text.len() {
+        let (marks, len) = next_marks(&Outside(class), text, at);
+        most = most.saturating_add(2 * marks.count_ones() as usize);
+        at += len;
+    }
+    most
 }

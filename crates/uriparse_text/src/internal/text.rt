@@ -102,6 +102,17 @@ pub fn checked_text<K: TextKind>(bytes: &[u8]) -> Text<'_, K>
     kept_text(bytes, false)
 }
 
+/// The text of these bytes, which are in the kind's class. Takes them and does not allocate.
+pub fn made_text<K: TextKind>(bytes: Vec<u8>) -> Text<'static, K>
+    requires { IsIn K.class bytes.items }
+    ensures { result ≡ bytes.items }
+{
+    Text {
+        text: Spelling::owned(unsafe { String::from_utf8_unchecked(bytes) }, false),
+        kind: PhantomData,
+    }
+}
+
 /// The canonical spelling of this text, owned. Allocates.
 pub fn normalized_text<K: TextKind>(
     alloc: Global,

@@ -130,7 +130,7 @@ two_slashes_front p (b ∷ c ∷ u) h = by_first (p b) h
     by_first false i = by_second (p c) i
 
 -- a text without an authority has no path that begins with two slashes
-no_slashes : (t : List ℕ) → is_some (authority_text t) ≡ false → has_two_slashes (path_text t) ≡ true → ⊥
+pub no_slashes : (t : List ℕ) → is_some (authority_text t) ≡ false → has_two_slashes (path_text t) ≡ true → ⊥
 no_slashes t none two = by_slashes (has_two_slashes (after_scheme t)) refl none two
   where
     by_slashes : (v : Bool) → has_two_slashes (after_scheme t) ≡ v → is_some (cond v (Some (up_to ends_authority (drop 2 (after_scheme t)))) None) ≡ false

@@ -33,14 +33,14 @@ unreserved_plain UserInfo b h = rw h refl
 unreserved_plain Segment b h = rw h refl
 unreserved_plain Query b h = rw h refl
 
-plain_ascii : (class : Class) (b : ℕ) → is_plain class b ≡ true → b < 128
+pub plain_ascii : (class : Class) (b : ℕ) → is_plain class b ≡ true → b < 128
 unfolding is_plain is_unreserved is_sub_delim
 plain_ascii Name b h = grind (arith, nat_tests)
 plain_ascii UserInfo b h = grind (arith, nat_tests)
 plain_ascii Segment b h = grind (arith, nat_tests)
 plain_ascii Query b h = grind (arith, nat_tests)
 
-hex_ascii : (b : ℕ) → is_hex b ≡ true → b < 128
+pub hex_ascii : (b : ℕ) → is_hex b ≡ true → b < 128
 hex_ascii b h = grind (arith, nat_tests)
 
 lowered_unreserved : (b : ℕ) → 65 ≤ b → b < 91 → is_unreserved (b + 32) ≡ true

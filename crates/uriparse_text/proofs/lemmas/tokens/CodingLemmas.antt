@@ -21,7 +21,7 @@ use Rattle.uriparse_text.specs.Tokens.{tokens, spell, is_token, has_digits, is_w
 use Rattle.uriparse_text.specs.Faults.{allows, IsIn}
 use Rattle.uriparse_text.specs.Canonical.{canonical_token, canonical_in, escaped_byte}
 use Rattle.uriparse_text.specs.Alike.{upper_digit_of}
-use Rattle.uriparse_text.specs.Coding.{value_of, decoded, token_for, encoded, are_bytes}
+use Rattle.uriparse_text.specs.Coding.{value_of, decoded, token_for, encoded, are_bytes, form_value_of, form_decoded, token_without, encoded_without}
 use Rattle.uriparse_text.proofs.lemmas.tokens.TokenLemmas.{tokens-nil, tokens_of_concatenation, digits-tokens}
 use Rattle.uriparse_text.proofs.lemmas.canonical.CanonicalLemmas.{by_escaped, upper_value, tokens-canonical_in}
 use Rattle.uriparse_text.proofs.lemmas.classes.ClassLemmas.{is_token-allows, unreserved_plain, well_formed-in_class}
@@ -72,7 +72,7 @@ canonical-token_for class b small =
 
 -- ---- all bytes
 
-small_byte : (b : ℕ) → is_in_range 0 255 b ≡ true → b < 256
+pub small_byte : (b : ℕ) → is_in_range 0 255 b ≡ true → b < 256
 small_byte b h = grind (arith, nat_tests)
 
 each_allowed : (class : Class) (bytes : List ℕ) → are_bytes bytes ≡ true → list_all (allows class) (map (token_for class) bytes) ≡ true
@@ -152,7 +152,7 @@ pub decoded-nil : (text : List ℕ) → text ≡ [] → decoded text ≡ []
 unfolding decoded
 decoded-nil text e = ap (λ t. map value_of (tokens t)) e ∙ ap (map value_of) tokens-nil
 
-decoded-cons : (rest after : List ℕ) (t : Token) → tokens rest ≡ t ∷ tokens after → decoded rest ≡ value_of t ∷ decoded after
+pub decoded-cons : (rest after : List ℕ) (t : Token) → tokens rest ≡ t ∷ tokens after → decoded rest ≡ value_of t ∷ decoded after
 unfolding decoded
 decoded-cons rest after t e = ap (map value_of) e
 
@@ -184,6 +184,39 @@ pub written_more : (class : Class) (bytes done new : List ℕ) (i b : ℕ) → i
 written_more class bytes done new i b h e small is f = (
   f ∙ ap (λ u. u ++ spell (token_for class b)) is.0 ∙ sym (encoded_push class (take i bytes) b)
       ∙ ap (encoded class) (ap (λ x. take i bytes ++ x ∷ []) e ∙ sym (take-suc bytes i 0 h) ∙ ap (λ n. take n bytes) next),
+  list_all_more (is_in_range 0 255) bytes i 0 h ∙ and_from _ _ is.1 (ap (is_in_range 0 255) (sym e) ∙ range_byte b small),
+)
+  where
+    next : suc i ≡ i + 1
+    next = omega arith
+
+-- ---- the same for texts of forms, and for bytes of which some more are escaped
+
+pub form_decoded-nil : (text : List ℕ) → text ≡ [] → form_decoded text ≡ []
+form_decoded-nil text e = ap (λ t. map form_value_of (tokens t)) e ∙ ap (map form_value_of) tokens-nil
+
+-- a token more
+pub form_decoded_more : (done rest after : List ℕ) (t : Token) (whole : List ℕ) → tokens rest ≡ t ∷ tokens after → done ++ form_decoded rest ≡ whole
+    → (done ++ form_value_of t ∷ []) ++ form_decoded after ≡ whole
+form_decoded_more done rest after t whole e h =
+    append_assoc done (form_value_of t ∷ []) (form_decoded after) ∙ ap (λ u. done ++ u) (sym (ap (map form_value_of) e)) ∙ h
+
+encoded_without_push : (class : Class) (without bytes : List ℕ) (b : ℕ)
+    → encoded_without class without (bytes ++ b ∷ []) ≡ encoded_without class without bytes ++ spell (token_without class without b)
+encoded_without_push class without bytes b =
+    ap (flat_map spell) (map-append (token_without class without) bytes (b ∷ []))
+    ∙ flat_map-append spell (map (token_without class without) bytes) (token_without class without b ∷ [])
+    ∙ ap (λ u. flat_map spell (map (token_without class without) bytes) ++ u) (append-nil (spell (token_without class without b)))
+
+-- the byte at a place more, after a first text
+pub written_without : (class : Class) (without first bytes done new : List ℕ) (i b : ℕ) → i < length bytes → b ≡ get_or bytes i 0 → b < 256
+    → (done ≡ first ++ encoded_without class without (take i bytes)) × (are_bytes (take i bytes) ≡ true) → new ≡ done ++ spell (token_without class without b)
+    → (new ≡ first ++ encoded_without class without (take (i + 1) bytes)) × (are_bytes (take (i + 1) bytes) ≡ true)
+written_without class without first bytes done new i b h e small is f = (
+  f ∙ ap (λ u. u ++ spell (token_without class without b)) is.0
+      ∙ append_assoc first (encoded_without class without (take i bytes)) (spell (token_without class without b))
+      ∙ ap (λ u. first ++ u) (sym (encoded_without_push class without (take i bytes) b)
+      ∙ ap (encoded_without class without) (ap (λ x. take i bytes ++ x ∷ []) e ∙ sym (take-suc bytes i 0 h) ∙ ap (λ n. take n bytes) next)),
   list_all_more (is_in_range 0 255) bytes i 0 h ∙ and_from _ _ is.1 (ap (is_in_range 0 255) (sym e) ∙ range_byte b small),
 )
   where

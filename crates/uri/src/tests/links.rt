@@ -1,0 +1,39 @@
+//! The output and the statuses of `escape` and `pairs`.
+
+use super::USAGE;
+use super::options::ends;
+use std::test::Fail;
+
+// (the words separated by bars, the input, the output, the messages on standard error, the status)
+static ROWS: [(&str, &str, &str, &str, u8); 14] = [
+    (
+        "escape|http://[::1]/a b?100%&é#[x]%2f",
+        "",
+        "http://[::1]/a%20b?100%25&%C3%A9#%5Bx%5D%2f\n",
+        "",
+        0,
+    ),
+    ("escape|", "", "\n", "", 0),
+    ("escape|http://a b:x/", "", "http://a%20b:x/\n", "", 0),
+    ("escape", "", "", USAGE, 2),
+    ("escape|a|b", "", "", USAGE, 2),
+    ("--quiet|escape|a", "", "", USAGE, 2),
+    ("--lines|escape", "a b\n\n%\r\n", "a%20b\n\n%25%0D\n", "", 0),
+    ("--lines|escape|a", "", "", USAGE, 2),
+    ("pairs|/?a=1&b=%26=&&c#d", "", "a=1\nb=%26=\n\nc\n", "", 0),
+    ("pairs|?", "", "\n", "", 0),
+    ("pairs|/", "", "", "", 3),
+    ("pairs|/ ?a", "", "", "invalid path character\n", 1),
+    ("pairs", "", "", USAGE, 2),
+    ("--lines|pairs", "", "", USAGE, 2),
+];
+
+#[test]
+fn links_end_as_their_rows_tell(rt: HostRuntime) -> Result<(), Fail> {
+    for row in &ROWS {
+        let (line, input, ..) = row;
+        let words: Vec<&str> = line.split('|').collect(rt.alloc())?;
+        assert!(rt; ends(rt.alloc(), row, &words), "{line} on {input}");
+    }
+    Ok(())
+}

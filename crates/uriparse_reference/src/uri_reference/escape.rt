@@ -1,0 +1,150 @@
+//! Escaping what the text of a reference may not have: RFC 3986, section 2.1, and RFC 3987, section
+//! 3.1.
+ghost use Rattle.std.specs.Prelude.{◌≡◌, ◌++◌, ◌≤◌, IfOk, None, OnOk, length, string_bytes, true};
+ghost use Rattle.std.specs.List.{position_or_len};
+ghost use Rattle.std.specs.Option.{option_copied, option_map};
+ghost use Rattle.uriparse_text.specs.Bytes.{colon, question_mark};
+ghost use Rattle.uriparse_text.specs.Cuts.{ahead, behind, from_first, lacks, up_to};
+ghost use Rattle.uriparse_text.specs.Tokens.{is_well_formed};
+ghost use Rattle.uriparse_authority.specs.Authority as authority;
+ghost use Rattle.uriparse_scheme.specs.Cuts.{if_some};
+ghost use Rattle.uriparse_reference.specs.Cuts.{cut_authority, without_authority};
+ghost use Rattle.uriparse_reference.specs.Escaped as spec;
+ghost use Rattle.uriparse_reference.specs.Reading.{fault};
+ghost use Rattle.uriparse_reference.specs.Reference.{behind_slashes};
+
+use super::read::behind_two_slashes;
+use std::alloc::{AllocError, Global};
+use uriparse_scheme::internal::split_scheme;
+use uriparse_text::internal::{
+    Class, IsAny, first, most_escaped_bytes, push_escaped, split_at_mark, without_mark,
+};
+
+/// Where the first `/`, `?` or `#` is, which ends an authority, or the length.
+fn end_of_authority(text: &[u8]) -> usize
+    ensures place { result ≡ position_or_len authority.ends_authority text.now }
+    ensures within { result ≤ length text.now }
+{
+    first(&IsAny(b'/', b'?', b'#'), text)
+}
+
+/// The text up to that byte, and the rest.
+fn split_at_end(text: &[u8]) -> (&[u8], &[u8])
+    ensures front { result.0.now ≡ up_to authority.ends_authority text.now }
+    ensures rest { result.1.now ≡ from_first authority.ends_authority text.now }
+{
+    text.split_at(end_of_authority(text))
+}
+
+/// The authority that follows two leading slashes, and the rest; or none, and the whole text.
+fn split_authority(text: &[u8]) -> (Option<&[u8]>, &[u8])
+    ensures authority { option_copied result.0 ≡ cut_authority text.now }
+    ensures rest { result.1.now ≡ without_authority text.now }
+{
+    match behind_two_slashes(text) {
+        Some(behind) => {
+            let (authority, rest) = split_at_end(behind);
+            (Some(authority), rest)
+        }
+        None => (None, text),
+    }
+}
+
+/// Appends the scheme and its colon, if it is present: its text is not empty.
+fn push_scheme(escaped: &mut Vec<u8>, scheme: &[u8]) -> Result<(), AllocError>
+    ensures { OnOk result (escaped.new.items ≡ escaped.old.items ++ ahead colon (if_some scheme.now)) }
+{
+    if !scheme.is_empty() {
+        escaped.extend_from_slice(scheme)?;
+        escaped.push(b':')?;
+    }
+    Ok(())
+}
+
+/// Appends two slashes and the escaped authority, if it is present.
+fn push_authority(escaped: &mut Vec<u8>, authority: Option<&[u8]>) -> Result<(), AllocError>
+    ensures { OnOk result (escaped.new.items ≡ escaped.old.items ++ behind_slashes (option_map spec.escaped_authority (option_copied authority.entry))) }
+{
+    if let Some(authority) = authority {
+        escaped.extend_from_slice(b"//")?;
+        push_escaped(escaped, Class::UserInfo, b"@[]", authority)?;
+    }
+    Ok(())
+}
+
+/// Appends the escaped path. It has no `?`, so each byte of a query may stand in it, and its slashes
+/// end no run.
+fn push_path(escaped: &mut Vec<u8>, path: &[u8]) -> Result<(), AllocError>
+    requires { lacks question_mark path.now ≡ true }
+    ensures { OnOk result (escaped.new.items ≡ escaped.old.items ++ spec.escaped_path path.now) }
+{
+    push_escaped(escaped, Class::Query, b"", path)
+}
+
+/// Appends a delimiter and the escaped component that follows it, if it is present.
+fn push_behind(escaped: &mut Vec<u8>, mark: u8, component: Option<&[u8]>) -> Result<(), AllocError>
+    ensures { OnOk result (escaped.new.items ≡ escaped.old.items ++ behind mark (option_map spec.escaped_component (option_copied component.entry))) }
+{
+    if let Some(component) = component {
+        escaped.push(mark)?;
+        push_escaped(escaped, Class::Query, b"", component)?;
+    }
+    Ok(())
+}
+
+/// Appends the text with its components escaped.
+fn push_components(escaped: &mut Vec<u8>, text: &[u8]) -> Result<(), AllocError>
+    ensures { OnOk result (escaped.new.items ≡ escaped.old.items ++ spec.escaped text.now) }
+{
+    let cut = split_scheme(text);
+    let (authority, rest) = split_authority(cut.rest);
+    let (front, fragment) = split_at_mark(rest, b'#');
+    let (path, query) = split_at_mark(front, b'?');
+    push_scheme(escaped, cut.scheme)?;
+    push_authority(escaped, authority)?;
+    push_path(escaped, path)?;
+    push_behind(escaped, b'?', without_mark(query))?;
+    push_behind(escaped, b'#', without_mark(fragment))
+}
+
+/// The text of a reference, made of any text: each byte that RFC 3986 does not allow where it
+/// stands becomes a percent-encoded octet with upper-case digits, and all else stays byte for byte.
+/// So a text without a fault stays as it is, an IRI in UTF-8 becomes its URI (RFC 3987, section
+/// 3.1), and a second call changes nothing. Reserves capacity once.
+///
+/// The text is cut at its delimiters like any reference's. Spaces, `"`, `<`, `>`, `\`, `^`, `` ` ``,
+/// `{`, `|`, `}`, control characters and bytes above 127 are escaped everywhere, `[` and `]` outside
+/// of an authority, and `#` in a fragment. A `%` without two hexadecimal digits after it becomes
+/// `%25`; one with them is a percent-encoded octet already. To write data that may have a `%` of its
+/// own, use `encode` of the component. Fails only if memory runs out.
+///
+/// The result is a reference, unless its authority is invalid, its path has more than
+/// [`MAX_SEGMENTS`](uriparse_path::path::MAX_SEGMENTS) segments, or it has neither scheme nor
+/// authority and a colon precedes the first slash of its path. An authority keeps its delimiters
+/// `:`, `@`, `[` and `]`, since an escape in place of one would make another host of it.
+///
+/// ```
+/// let text = escape_invalid(alloc, "http://h/a b?q=100%&r=ü#[x]".as_bytes())?;
+/// assert_eq!(text.as_str(), "http://h/a%20b?q=100%25&r=%C3%BC#%5Bx%5D");
+/// ```
+pub fn escape_invalid(alloc: Global, text: &[u8]) -> Result<String, AllocError>
+    // The result is the text with its components escaped.
+    ensures text { IfOk result (λ s. string_bytes s ≡ spec.escaped text.now) }
+
+    // The text of a reference is returned unchanged.
+    ensures kept { fault text.now ≡ None → IfOk result (λ s. string_bytes s ≡ text.now) }
+
+    // A second call changes nothing.
+    ensures again { IfOk result (λ s. spec.escaped (string_bytes s) ≡ string_bytes s) }
+
+    // Each `%` of the result begins an escape.
+    ensures formed { IfOk result (λ s. is_well_formed (string_bytes s) ≡ true) }
+
+    // The fault of the result, if it has one.
+    ensures left { IfOk result (λ s. fault (string_bytes s) ≡ spec.fault_left text.now) }
+{
+    let most = most_escaped_bytes(Class::Query, text);
+    let mut escaped = Vec::with_capacity(alloc, most)?;
+    push_components(&mut escaped, text)?;
+    Ok(unsafe { String::from_utf8_unchecked(escaped) })
+}

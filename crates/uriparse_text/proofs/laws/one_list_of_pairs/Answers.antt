@@ -1,0 +1,5 @@
+use Rattle.uriparse_text.proofs.lemmas.readings.PairLemmas.{joined-pairs, pairs-joined, written_back}
+use Rattle.uriparse_text.proofs.laws.one_list_of_pairs.Goals as goal
+
+pub returns : goal.returns
+returns c = record { joined = joined-pairs; encoded = pairs-joined; decoded = written_back }

@@ -1,0 +1,62 @@
+-- The pairs of a query: RFC 3986, section 3.4.
+use Rattle.std.specs.Prelude.{ℕ, Bool, ◌==◌, ◌&&◌, List, [], ◌++◌, map, codes, Option, Some, None, unwrap_or}
+use Rattle.std.specs.Borrow.{Bor}
+use Rattle.std.specs.Option.{option_map, option_copied}
+use Rattle.std.specs.List.{slice_split, join_with_byte}
+use Rattle.uriparse_text.specs.declared.internal.class.Class.TheVariants.{Query}
+use Rattle.uriparse_text.specs.Bytes.{ampersand, equals_sign}
+use Rattle.uriparse_text.specs.Cuts.{behind, before, after}
+use Rattle.uriparse_text.specs.Coding.{are_bytes, decoded, encoded_without}
+
+-- a name, and a value if there is one
+abbrev pub Pair : Type 0
+Pair = List ℕ × Option (List ℕ)
+
+-- ---- from a query to its pairs
+
+abbrev pub is_ampersand : ℕ → Bool
+is_ampersand b = b == ampersand
+
+-- The first "=" of a piece ends the name, and the value follows it.
+abbrev pub pair_of : List ℕ → Pair
+pair_of piece = (before equals_sign piece, after equals_sign piece)
+
+-- the pairs of the pieces between the "&"
+abbrev pub pairs : List ℕ → List Pair
+pairs q = map pair_of (slice_split is_ampersand q)
+
+-- the same of what is left of a query, if anything is
+abbrev pub pairs_left : Option (List ℕ) → List Pair
+pairs_left None = []
+pairs_left (Some q) = pairs q
+
+-- ---- from pairs to a query
+
+-- name [ "=" value ]
+abbrev pub piece_of : Pair → List ℕ
+piece_of p = p.0 ++ behind equals_sign p.1
+
+-- the pieces, with a "&" between each two
+abbrev pub joined_pairs : List Pair → List ℕ
+joined_pairs ps = join_with_byte ampersand (map piece_of ps)
+
+-- ---- what the texts stand for
+
+-- the bytes that the name and the value stand for
+abbrev pub decoded_pair : Pair → Pair
+decoded_pair p = (decoded p.0, option_map decoded p.1)
+
+-- The text that stands for the bytes of a name or a value. A "+" is escaped, since forms read it as a space.
+abbrev pub encoded_in_pair : List ℕ → List ℕ
+encoded_in_pair bytes = encoded_without Query (codes "&=+") bytes
+
+abbrev pub encoded_pair : Pair → Pair
+encoded_pair p = (encoded_in_pair p.0, option_map encoded_in_pair p.1)
+
+-- each is a byte: a word of private functions' clauses alone
+abbrev pub are_pair_bytes : Pair → Bool
+are_pair_bytes p = are_bytes p.0 && are_bytes (unwrap_or p.1 [])
+
+-- the bytes of a pair that is given by its slices
+abbrev pub given : Bor (List ℕ) × Option (Bor (List ℕ)) → Pair
+given p = (p.0.now, option_copied p.1)
