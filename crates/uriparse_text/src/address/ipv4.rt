@@ -16,9 +16,11 @@ use std::{fmt, net};
 /// assert!(address == Some(Ipv4Addr::new(127, 0, 0, 1)));
 /// assert!(Ipv4Addr::parse_bytes(b"127.0.0.01").is_none());
 /// ```
-#[derive(Clone, Copy, Debug, PartialEq, Eq, Hash)]
+#[derive(Clone, Copy, PartialEq, Eq, Hash)]
 pub struct Ipv4Addr {
     octets: [u8; 4],
+    // Takes no room. It aligns the address to a word, so that what holds it is moved by words.
+    words: [u64; 0],
 }
 
 impl Model for Ipv4Addr {
@@ -26,9 +28,9 @@ impl Model for Ipv4Addr {
 
     ghost view = { λ a. a.octets };
 
-    ghost invariant = { λ a. IsOctets a.octets };
+    ghost invariant = { λ a. IsOctets a.octets × (a.words ≡ []) };
 
-    ghost inverse = { λ octets. record { octets = octets } };
+    ghost inverse = { λ octets. record { octets = octets; words = [] } };
 }
 
 /// Whether the text begins with a byte that no address has, as most names do.
@@ -48,6 +50,7 @@ impl Ipv4Addr {
     {
         Ipv4Addr {
             octets: [a, b, c, d],
+            words: [],
         }
     }
 
@@ -71,6 +74,7 @@ impl Ipv4Addr {
         match net::Ipv4Addr::parse_ascii(bytes) {
             Ok(address) => Some(Ipv4Addr {
                 octets: address.octets(),
+                words: [],
             }),
             Err(_) => None,
         }
@@ -85,5 +89,13 @@ impl fmt::Display for Ipv4Addr {
 
     fn fmt<W: fmt::Write>(&self, f: &mut fmt::Formatter<W>) -> fmt::Result {
         write_short(net::Ipv4Addr::from_octets(self.octets), f)
+    }
+}
+
+impl fmt::Debug for Ipv4Addr {
+    fn fmt<W: fmt::Write>(&self, f: &mut fmt::Formatter<W>) -> fmt::Result {
+        f.debug_struct("Ipv4Addr")
+            .field("octets", &self.octets)
+            .finish()
     }
 }

@@ -21,9 +21,11 @@ use std::{fmt, net};
 /// assert!(address == Some(Ipv6Addr::new(0x2001, 0xdb8, 0, 0, 0, 0, 0, 1)));
 /// assert!(Ipv6Addr::parse_bytes(b"[::1]").is_none());
 /// ```
-#[derive(Clone, Copy, Debug, PartialEq, Eq, Hash)]
+#[derive(Clone, Copy, PartialEq, Eq, Hash)]
 pub struct Ipv6Addr {
     segments: [u16; 8],
+    // Takes no room. It aligns the address to a word, so that what holds it is moved by words.
+    words: [u64; 0],
 }
 
 impl Model for Ipv6Addr {
@@ -31,9 +33,9 @@ impl Model for Ipv6Addr {
 
     ghost view = { λ a. a.segments };
 
-    ghost invariant = { λ a. IsSegments a.segments };
+    ghost invariant = { λ a. IsSegments a.segments × (a.words ≡ []) };
 
-    ghost inverse = { λ segments. record { segments = segments } };
+    ghost inverse = { λ segments. record { segments = segments; words = [] } };
 }
 
 impl Ipv6Addr {
@@ -48,7 +50,10 @@ impl Ipv6Addr {
     fn of(segments: [u16; 8]) -> Ipv6Addr
         ensures { result ≡ segments }
     {
-        Ipv6Addr { segments }
+        Ipv6Addr {
+            segments,
+            words: [],
+        }
     }
 
     /// The eight segments, in the order of the text.
@@ -81,5 +86,13 @@ impl fmt::Display for Ipv6Addr {
 
     fn fmt<W: fmt::Write>(&self, f: &mut fmt::Formatter<W>) -> fmt::Result {
         write_short(net::Ipv6Addr::from_segments(self.segments), f)
+    }
+}
+
+impl fmt::Debug for Ipv6Addr {
+    fn fmt<W: fmt::Write>(&self, f: &mut fmt::Formatter<W>) -> fmt::Result {
+        f.debug_struct("Ipv6Addr")
+            .field("segments", &self.segments)
+            .finish()
     }
 }
