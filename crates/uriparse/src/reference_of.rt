@@ -1,5 +1,5 @@
 //! A reference of one kind: what URIs and relative references share.
-ghost use Rattle.std.specs.Prelude.{◌≡◌, ◌⊎◌, if◌then◌else◌, IfOk, IfErr, Ok, Err, Some, bytes_eq, fold, is_some, string_bytes};
+ghost use Rattle.std.specs.Prelude.{◌≡◌, ◌⊎◌, if◌then◌else◌, false, IfOk, IfErr, Ok, Err, Some, bytes_eq, fold, is_some, length, string_bytes};
 ghost use Rattle.std.specs.Bool.{beq};
 ghost use Rattle.std.proofs.Common.{rules};
 ghost use Rattle.std.specs.Ordering.{on};
@@ -8,7 +8,6 @@ ghost use Rattle.uriparse_text.specs.Readings.{IsUnless, unless_fault};
 ghost use Rattle.uriparse_path.specs.declared.path.error.PathError.TheVariants.{OutOfMemory};
 ghost use Rattle.uriparse_reference.specs.declared.uri_reference.error.URIReferenceError.TheVariants as errors;
 ghost use Rattle.uriparse_reference.specs.Key.{fed, fed_key, key};
-ghost use Rattle.uriparse_reference.specs.Reading.{fault};
 ghost use Rattle.uriparse_reference.specs.Reference.{print};
 ghost use Rattle.uriparse.specs.Kinds.{IsOfKind, fault_of, of_kind, reading_of, told_of};
 
@@ -18,8 +17,9 @@ use std::alloc::{AllocError, Global};
 use std::fmt;
 use std::hash::{Hash, Hasher};
 use std::marker::{Model, PhantomData};
+use uriparse_path::path::PathError;
 use uriparse_reference::internal::find_pieces;
-use uriparse_reference::uri_reference::{URIReference, URIReferenceError};
+use uriparse_reference::uri_reference::{ReferenceView, URIReference, URIReferenceError};
 
 mod access;
 mod edit;
@@ -51,7 +51,6 @@ impl<'r, K: ReferenceKind> Model for ReferenceOf<'r, K> {
 impl<'r, K: ReferenceKind> ReferenceOf<'r, K> {
     ghost use Rattle.uriparse_reference.specs.Builder.{held, nothing};
     ghost use Rattle.uriparse_reference.specs.Reference.{Parts, Spells, Valid};
-    ghost use Rattle.uriparse_reference.specs.declared.uri_reference.error.URIReferenceError.{URIReferenceError};
 
     /// Wraps a reference that is known to be of this kind.
     pub(crate) fn of_checked(reference: URIReference<'r>) -> ReferenceOf<'r, K>
@@ -81,13 +80,13 @@ impl<'r, K: ReferenceKind> ReferenceOf<'r, K> {
     /// of segments, if there is more than one.
     ///
     /// A faulty text fails as in [`URIReference::try_from_bytes`], with the error mapped to the
-    /// kind's, even if memory has run out. For a URI, the error of the colon rule is mapped to
+    /// kind's. For a URI, the error of the colon rule is mapped to
     /// [`NotURI`](crate::uri::URIError::NotURI). A faultless text of the other kind is rejected
     /// with [`NotURI`](crate::uri::URIError::NotURI) or
     /// [`NotRelativeReference`](crate::relative_reference::RelativeReferenceError::NotRelativeReference).
-    /// If memory runs out, the error is the kind's `Path` of
-    /// [`OutOfMemory`](uriparse_path::path::PathError::OutOfMemory), possibly also for a faultless
-    /// text of the other kind.
+    /// Both are returned even if memory has run out. If there is no such error but memory runs out,
+    /// the error is the kind's `Path` of
+    /// [`OutOfMemory`](uriparse_path::path::PathError::OutOfMemory).
     pub fn try_from_bytes(alloc: Global, bytes: &'r [u8]) -> Result<ReferenceOf<'r, K>, K::Error>
         // The text spells the result, which is of the kind.
         ensures found { IfOk result (λ u. Spells bytes.now u) }
@@ -99,8 +98,11 @@ impl<'r, K: ReferenceKind> ReferenceOf<'r, K> {
         // An error is the text's fault, or that it is of the other kind, or out of memory.
         ensures fault { IfErr result (λ e. (fault_of K.has_scheme K.told K.other bytes.now ≡ Some e) ⊎ (e ≡ K.told (errors.Path OutOfMemory))) }
 
-        // A fault is returned even if memory has run out.
-        ensures always { (e : URIReferenceError) → fault bytes.now ≡ Some e → result ≡ Err (K.told e) }
+        // A fault, or that it is of the other kind, is returned even if memory has run out.
+        ensures always { (e : K.Error) → fault_of K.has_scheme K.told K.other bytes.now ≡ Some e → result ≡ Err e }
+
+        // A path of one segment takes no memory.
+        ensures takes_no_memory { (p : Parts) → Spells bytes.now p → IsOfKind K.has_scheme p → length p.path.segments ≡ 1 → result ≡ Ok p }
     {
         Self::read(alloc, bytes)
     }
@@ -111,7 +113,8 @@ impl<'r, K: ReferenceKind> ReferenceOf<'r, K> {
         ensures kind { IfOk result (λ u. IsOfKind K.has_scheme u) }
         ensures only { (p : Parts) → Spells text.now p → IsOfKind K.has_scheme p → IsUnless (K.told (errors.Path OutOfMemory)) result (Ok p) }
         ensures fault { IfErr result (λ e. (fault_of K.has_scheme K.told K.other text.now ≡ Some e) ⊎ (e ≡ K.told (errors.Path OutOfMemory))) }
-        ensures always { (e : URIReferenceError) → fault text.now ≡ Some e → result ≡ Err (K.told e) }
+        ensures always { (e : K.Error) → fault_of K.has_scheme K.told K.other text.now ≡ Some e → result ≡ Err e }
+        ensures takes_no_memory { (p : Parts) → Spells text.now p → IsOfKind K.has_scheme p → length p.path.segments ≡ 1 → result ≡ Ok p }
     {
         Self::read(alloc, text.as_bytes())
     }
@@ -139,14 +142,30 @@ impl<'r, K: ReferenceKind> ReferenceOf<'r, K> {
         }
     }
 
-    /// Reads a reference, and checks its kind.
+    /// Finds the components of a text, checks the kind, and builds the value.
     fn read(alloc: Global, bytes: &'r [u8]) -> Result<ReferenceOf<'r, K>, K::Error>
         ensures answer { IsUnless (K.told (errors.Path OutOfMemory)) result (reading_of K.has_scheme K.told K.other bytes.now) }
-        ensures always { (e : URIReferenceError) → fault bytes.now ≡ Some e → result ≡ Err (K.told e) }
+        ensures always { (e : K.Error) → fault_of K.has_scheme K.told K.other bytes.now ≡ Some e → result ≡ Err e }
+        ensures takes_no_memory { (p : Parts) → Spells bytes.now p → IsOfKind K.has_scheme p → length p.path.segments ≡ 1 → result ≡ Ok p }
     {
-        match URIReference::try_from_bytes(alloc, bytes) {
-            Ok(reference) => ReferenceOf::of(reference),
+        match ReferenceView::try_from_bytes(bytes) {
+            Ok(view) => ReferenceOf::of_view(alloc, &view),
             Err(error) => Err(K::told(error)),
+        }
+    }
+
+    /// The reference that a view found, if it is of this kind.
+    fn of_view(alloc: Global, view: &ReferenceView<'r>) -> Result<ReferenceOf<'r, K>, K::Error>
+        ensures answer { IsUnless (K.told (errors.Path OutOfMemory)) result (of_kind K.has_scheme K.other view.now) }
+        ensures other { beq (is_some view.now.scheme) K.has_scheme ≡ false → result ≡ Err K.other }
+        ensures takes_no_memory { length view.now.path.segments ≡ 1 → result ≡ of_kind K.has_scheme K.other view.now }
+    {
+        if view.has_scheme() != K::has_scheme() {
+            return Err(K::other());
+        }
+        match view.to_reference(alloc) {
+            Ok(reference) => Ok(ReferenceOf::of_checked(reference)),
+            Err(AllocError) => Err(K::told(URIReferenceError::Path(PathError::OutOfMemory))),
         }
     }
 

@@ -43,9 +43,7 @@ impl ReferenceKind for WithoutScheme {
     }
 
     fn told(error: URIReferenceError) -> RelativeReferenceError {
-        RelativeReferenceError::try_from(error).unwrap_or(
-            RelativeReferenceError::NotRelativeReference,
-        )
+        RelativeReferenceError::from(error)
     }
 
     fn other() -> RelativeReferenceError {

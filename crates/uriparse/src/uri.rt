@@ -47,7 +47,7 @@ impl ReferenceKind for WithScheme {
     }
 
     fn told(error: URIReferenceError) -> URIError {
-        URIError::try_from(error).unwrap_or(URIError::NotURI)
+        URIError::from(error)
     }
 
     fn other() -> URIError {

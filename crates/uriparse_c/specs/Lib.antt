@@ -1,6 +1,0 @@
-pub mod Code
-pub mod Hash
-pub mod Put
-pub mod Places
-pub mod Spans
-pub mod Texts

@@ -13,23 +13,16 @@ ghost use Rattle.uriparse_reference.specs.Reading.{fault};
 ghost use Rattle.uriparse_reference.specs.Reference.{Parts, Spells, print};
 ghost use Rattle.uriparse_reference.specs.Target.{target};
 ghost use Rattle.uriparse.specs.Uri.{told};
-ghost use Rattle.uriparse_c.specs.Code as spec;
-ghost use Rattle.uriparse_c.specs.Hash.{hash_of};
-ghost use Rattle.uriparse_c.specs.Places.{ArePlaces, host_number, port_number};
-ghost use Rattle.uriparse_c.specs.Put.{IsRefused, IsRefusedOrWant, IsWritten};
+ghost use Rattle.uriparse_ffi.specs.Code as spec;
+ghost use Rattle.uriparse_ffi.specs.Hash.{hash_of};
+ghost use Rattle.uriparse_ffi.specs.Places.{ArePlaces, host_number, port_number};
+ghost use Rattle.uriparse_ffi.specs.Put.{IsRefused, IsRefusedOrWant, IsWritten};
 
-mod code;
-pub mod laws;
-mod places;
-mod put;
-mod span;
-mod texts;
-
-use code::{ACCEPTED, code_of, truth_of};
-use places::{UriParts, places};
-use put::answer;
 use std::alloc::Global;
-use texts::{equal_texts, hashed, normalized, resolved};
+use uriparse_ffi::code::{ACCEPTED, code_of, truth_of};
+use uriparse_ffi::places::{UriParts, places};
+use uriparse_ffi::put::answer;
+use uriparse_ffi::texts::{equal_texts, hashed, normalized, resolved};
 use uriparse_reference::internal::find_pieces;
 
 /// Reads a reference, and says where its components are. Does not allocate.
@@ -131,7 +124,7 @@ pub extern "C" fn uriparse_resolve(
     ensures too_long { (b r : Parts) → Spells base.now b → is_some b.scheme ≡ true → Spells reference.now r → target b r ≡ None → IsRefusedOrWant spec.too_many_segments out.old out.new needed.new result }
 
     // A base without a scheme is rejected, and so is a faulty text, the base first.
-    ensures relative { (b : Parts) → Spells base.now b → is_some b.scheme ≡ false → IsRefusedOrWant (spec.base_code spec.no_scheme) out.old out.new needed.new result }
+    ensures relative { (b : Parts) → Spells base.now b → is_some b.scheme ≡ false → IsRefused (spec.base_code spec.no_scheme) out.old out.new needed.new result }
     ensures base { (e : URIReferenceError) → fault base.now ≡ Some e → IsRefused (spec.base_code (spec.uri_code (told e))) out.old out.new needed.new result }
     ensures reference { (b : Parts) (e : URIReferenceError) → Spells base.now b → is_some b.scheme ≡ true → fault reference.now ≡ Some e → IsRefusedOrWant (spec.code_of e) out.old out.new needed.new result }
 {

@@ -1,3 +1,4 @@
+pub mod LinkLemmas
 pub mod ListLemmas
 pub mod ProxyLemmas
 pub mod RedirectLemmas

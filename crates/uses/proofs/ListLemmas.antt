@@ -26,11 +26,3 @@ images_more f xs ys zs i x lt is h (y, e, k) =
     let next : i + 1 ≡ suc i = omega arith in
     ap (λ j. map f (take j xs)) next ∙ ap (map f) (take-suc xs i x lt) ∙ map-append f (take i xs) (get_or xs i x ∷ []) ∙ ap (λ l. l ++ f (get_or xs i x) ∷ []) h
     ∙ ap (λ o. map Some ys ++ o ∷ []) (ap f (sym is) ∙ e) ∙ sym (map-append Some ys (y ∷ [])) ∙ ap (map Some) (sym k)
-
--- one more has the image of the one in its place, and is the list's last
-pub images_alike : {X Y : Type 0} (f : X → Y) (xs ys zs : List X) (i : ℕ) (x y : X) → i < length xs → x ≡ get_or xs i x
-    → map f ys ≡ map f (take i xs) → f y ≡ f x → zs ≡ ys ++ y ∷ [] → map f zs ≡ map f (take (i + 1) xs)
-images_alike f xs ys zs i x y lt is h e k =
-    let next : i + 1 ≡ suc i = omega arith in
-    ap (map f) k ∙ map-append f ys (y ∷ []) ∙ ap (λ l. l ++ f y ∷ []) h ∙ ap (λ v. map f (take i xs) ++ v ∷ []) (e ∙ ap f is)
-    ∙ sym (map-append f (take i xs) (get_or xs i x ∷ [])) ∙ ap (map f) (sym (take-suc xs i x lt)) ∙ ap (λ j. map f (take j xs)) (sym next)

@@ -4,6 +4,7 @@ use Rattle.std.specs.List.{list_all}
 use Rattle.std.specs.Option.{IsSomeAnd}
 use Rattle.uriparse.specs.PathError.TheVariants.{ExceededMaximumLength, OutOfMemory}
 use Rattle.uriparse.specs.Reference.{Parts}
+use Rattle.uriparse.specs.Relate.{LeavesOut}
 use Rattle.uriparse.specs.Target.{target}
 use Rattle.uriparse.specs.declared.uri.error.URIError.{URIError}
 use Rattle.uriparse.specs.declared.uri.error.URIError.TheVariants.{Path}
@@ -29,6 +30,17 @@ pub record IsRefused (base : Parts) (links : List Parts) (index : ℕ) (error : 
 abbrev pub Gains : Parts → Parts → List Parts → List Parts → Type 0
 Gains base link old new = (t : Parts) × (target base link ≡ Some t) × (new ≡ old ++ t ∷ [])
 
--- each of these links has the target of the URI in its place
-abbrev pub MeanTheSame : Parts → List Parts → List Parts → Type 0
-MeanTheSame base uris links = map (target base) links ≡ map (target base) uris
+-- the link leads from the base to the URI: it has the same target, and leaves out what both have in common
+abbrev pub LinksTo : Parts → Parts → Parts → Type 0
+LinksTo base uri link = (target base link ≡ target base uri) × LeavesOut base uri link
+
+-- the links lead to the URIs in their places
+abbrev pub AreLinks : Parts → List Parts → List Parts → Type 0
+AreLinks base [] [] = Unit {0}
+AreLinks base [] (l ∷ ls) = ⊥
+AreLinks base (u ∷ us) [] = ⊥
+AreLinks base (u ∷ us) (l ∷ ls) = LinksTo base u l × AreLinks base us ls
+
+-- a link to the URI follows the others
+abbrev pub GainsLink : Parts → Parts → List Parts → List Parts → Type 0
+GainsLink base uri old new = (l : Parts) × LinksTo base uri l × (new ≡ old ++ l ∷ [])

@@ -1,7 +1,7 @@
 //! A link rewriter: the targets of a page's links, and relative links in place of absolute ones.
 ghost use Rattle.std.specs.Prelude.{◌≡◌, ◌++◌, ◌∷◌, [], IfOk, IfErr, MatchResult, OnOk};
 ghost use Rattle.uriparse.specs.PathError.TheVariants.{OutOfMemory};
-ghost use Rattle.uses.specs.Links.{AreTargets, Gains, IsRefusal, IsRefused, MeanTheSame};
+ghost use Rattle.uses.specs.Links.{AreLinks, AreTargets, Gains, GainsLink, IsRefusal, IsRefused};
 
 use std::alloc::{AllocError, Global};
 use uriparse::{PathError, URI, URIError, URIReference};
@@ -67,8 +67,8 @@ fn put_last<'l>(targets: &mut Vec<URI<'l>>, target: URI<'l>) -> Result<(), PathE
 }
 
 /// Relative links for the absolute ones of a page, in order: each resolves against the page's base
-/// to what the absolute link resolves to, as the contract states, and leaves out what it has in
-/// common with the base. The links borrow the texts of the absolute ones.
+/// to what the absolute link resolves to, and leaves out what it has in common with the base, as
+/// [`URI::relativize`] does. The links borrow the texts of the absolute ones.
 ///
 /// Reserves capacity for the links once, and each link allocates its path. Fails only if memory
 /// runs out.
@@ -87,12 +87,25 @@ pub fn make_relative<'l>(
     base: &URI<'_>,
     uris: &'l [URI<'_>],
 ) -> Result<Vec<URIReference<'l>>, AllocError>
-    ensures { IfOk result (λ links. MeanTheSame base.now uris.now links.items) }
+    ensures { IfOk result (λ links. AreLinks base.now uris.now links.items) }
 {
     let mut links = Vec::with_capacity(alloc, uris.len())?;
     for uri in uris {
-        let link = base.relativize(alloc, uri)?;
-        links.push(link)?;
+        push_link(alloc, base, uri, &mut links)?;
     }
     Ok(links)
+}
+
+/// Appends the link that leads from the base to the URI.
+fn push_link<'l>(
+    alloc: Global,
+    base: &URI<'_>,
+    uri: &'l URI<'_>,
+    links: &mut Vec<URIReference<'l>>,
+) -> Result<(), AllocError>
+    ensures { OnOk result (GainsLink base.now uri.now links.old.items links.new.items) }
+{
+    let link = base.relativize(alloc, uri)?;
+    links.push(link)?;
+    Ok(())
 }

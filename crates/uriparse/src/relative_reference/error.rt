@@ -1,7 +1,9 @@
 //! Why a relative reference is rejected.
 ghost use Rattle.std.specs.Prelude.{◌≡◌};
+ghost use Rattle.uriparse_path.specs.declared.path.error.PathError.TheVariants.{OutOfMemory};
 ghost use Rattle.uriparse.specs.declared.relative_reference.error.RelativeReferenceError.TheVariants as errors;
 
+use std::alloc::{AllocError, AllocFailed};
 use thiserror::Error;
 use uriparse_authority::authority::AuthorityError;
 use uriparse_path::path::PathError;
@@ -97,5 +99,34 @@ impl TryFrom<URIReferenceError> for RelativeReferenceError {
             URIReferenceError::Fragment(error) => Ok(RelativeReferenceError::Fragment(error)),
             URIReferenceError::Scheme(_) => Err(()),
         }
+    }
+}
+
+/// The error of a reference as that of a relative reference: a fault of a scheme, which
+/// no relative reference has, is mapped to
+/// [`NotRelativeReference`](RelativeReferenceError::NotRelativeReference).
+impl From<URIReferenceError> for RelativeReferenceError {
+    ghost use Rattle.uriparse.specs.RelativeReference.{told};
+
+    ghost from_gives = { λ x e. e ≡ told x };
+
+    fn from(error: URIReferenceError) -> RelativeReferenceError {
+        RelativeReferenceError::try_from(error).unwrap_or(RelativeReferenceError::NotRelativeReference)
+    }
+}
+
+impl From<AllocError> for RelativeReferenceError {
+    ghost from_gives = { λ _ e. e ≡ errors.Path OutOfMemory };
+
+    fn from(_error: AllocError) -> RelativeReferenceError {
+        RelativeReferenceError::Path(PathError::OutOfMemory)
+    }
+}
+
+impl<T: Drop> From<AllocFailed<T>> for RelativeReferenceError {
+    ghost from_gives = { λ _ e. e ≡ errors.Path OutOfMemory };
+
+    fn from(_error: AllocFailed<T>) -> RelativeReferenceError {
+        RelativeReferenceError::Path(PathError::OutOfMemory)
     }
 }

@@ -1,7 +1,9 @@
 //! Why a URI is rejected.
 ghost use Rattle.std.specs.Prelude.{◌≡◌};
+ghost use Rattle.uriparse_path.specs.declared.path.error.PathError.TheVariants.{OutOfMemory};
 ghost use Rattle.uriparse.specs.declared.uri.error.URIError.TheVariants as errors;
 
+use std::alloc::{AllocError, AllocFailed};
 use thiserror::Error;
 use uriparse_authority::authority::AuthorityError;
 use uriparse_path::path::PathError;
@@ -107,5 +109,33 @@ impl TryFrom<URIReferenceError> for URIError {
             URIReferenceError::Fragment(error) => Ok(URIError::Fragment(error)),
             URIReferenceError::Scheme(error) => Ok(URIError::Scheme(error)),
         }
+    }
+}
+
+/// The error of a reference as that of a URI: `SchemelessPathStartsWithColonSegment`, which no
+/// URI has, is mapped to [`NotURI`](URIError::NotURI).
+impl From<URIReferenceError> for URIError {
+    ghost use Rattle.uriparse.specs.Uri.{told};
+
+    ghost from_gives = { λ x e. e ≡ told x };
+
+    fn from(error: URIReferenceError) -> URIError {
+        URIError::try_from(error).unwrap_or(URIError::NotURI)
+    }
+}
+
+impl From<AllocError> for URIError {
+    ghost from_gives = { λ _ e. e ≡ errors.Path OutOfMemory };
+
+    fn from(_error: AllocError) -> URIError {
+        URIError::Path(PathError::OutOfMemory)
+    }
+}
+
+impl<T: Drop> From<AllocFailed<T>> for URIError {
+    ghost from_gives = { λ _ e. e ≡ errors.Path OutOfMemory };
+
+    fn from(_error: AllocFailed<T>) -> URIError {
+        URIError::Path(PathError::OutOfMemory)
     }
 }

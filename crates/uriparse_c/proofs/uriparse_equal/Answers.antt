@@ -1,7 +1,7 @@
 use Rattle.std.proofs.Common.{refl, ap, ◌∙◌}
-use Rattle.uriparse_c.specs.Code.{truth}
-use Rattle.uriparse_c.specs.Code as spec
-use Rattle.uriparse_c.proofs.lemmas.TextLemmas.{no_error, no_ok, ok_is, err_is}
+use Rattle.uriparse_ffi.specs.Code.{truth}
+use Rattle.uriparse_ffi.specs.Code as spec
+use Rattle.uriparse_ffi.proofs.lemmas.TextLemmas.{no_error, no_ok, ok_is, err_is}
 use Rattle.uriparse_c.proofs.uriparse_equal.Goals as goal
 
 pub returns-in-Ok-clause-compared : goal.returns-in-Ok-clause-compared

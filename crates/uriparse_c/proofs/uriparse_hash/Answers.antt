@@ -1,6 +1,6 @@
 use Rattle.std.proofs.Common.{refl}
-use Rattle.uriparse_c.specs.Code as spec
-use Rattle.uriparse_c.proofs.lemmas.TextLemmas.{no_error, no_ok, ok_is, err_is}
+use Rattle.uriparse_ffi.specs.Code as spec
+use Rattle.uriparse_ffi.proofs.lemmas.TextLemmas.{no_error, no_ok, ok_is, err_is}
 use Rattle.uriparse_c.proofs.uriparse_hash.Goals as goal
 
 pub returns-in-Ok-clause-hashed : goal.returns-in-Ok-clause-hashed

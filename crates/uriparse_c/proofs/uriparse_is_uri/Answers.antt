@@ -1,6 +1,6 @@
 use Rattle.std.proofs.Common.{ap, ◌∙◌}
 use Rattle.std.specs.Prelude.{is_some}
-use Rattle.uriparse_c.proofs.lemmas.ParseLemmas.{is_uri, is_no_uri}
+use Rattle.uriparse_ffi.proofs.lemmas.ParseLemmas.{is_uri, is_no_uri}
 use Rattle.uriparse_c.proofs.uriparse_is_uri.Goals as goal
 
 pub returns-in-Ok : goal.returns-in-Ok

@@ -1,7 +1,7 @@
 use Rattle.uriparse_reference.specs.Normal.{normal}
 use Rattle.uriparse_reference.specs.Reference.{print}
-use Rattle.uriparse_c.specs.Code as spec
-use Rattle.uriparse_c.proofs.lemmas.TextLemmas.{written, refused}
+use Rattle.uriparse_ffi.specs.Code as spec
+use Rattle.uriparse_ffi.proofs.lemmas.TextLemmas.{written, refused}
 use Rattle.uriparse_c.proofs.uriparse_normalize.Goals as goal
 
 pub returns-clause-written : goal.returns-clause-written

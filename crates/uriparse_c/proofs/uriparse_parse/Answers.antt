@@ -1,9 +1,9 @@
 use Rattle.std.proofs.Common.{ap, sym, ◌∙◌, refl}
 use Rattle.uriparse_text.specs.Readings.{fault_in}
 use Rattle.uriparse_reference.specs.Reference.{Parts}
-use Rattle.uriparse_c.specs.Code as spec
-use Rattle.uriparse_c.specs.Places.{host_number, port_number}
-use Rattle.uriparse_c.proofs.lemmas.ParseLemmas.{query_of, fragment_of, places_of, read_one, no_fault, no_fault_read, one_fault}
+use Rattle.uriparse_ffi.specs.Code as spec
+use Rattle.uriparse_ffi.specs.Places.{host_number, port_number}
+use Rattle.uriparse_ffi.proofs.lemmas.ParseLemmas.{query_of, fragment_of, places_of, read_one, no_fault, no_fault_read, one_fault}
 use Rattle.uriparse_c.proofs.uriparse_parse.Goals as goal
 
 pub places-requires-clause-query : goal.places-requires-clause-query

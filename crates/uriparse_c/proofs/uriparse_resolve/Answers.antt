@@ -1,7 +1,7 @@
 use Rattle.uriparse_reference.specs.Reference.{print}
 use Rattle.uriparse.specs.Uri.{told}
-use Rattle.uriparse_c.specs.Code as spec
-use Rattle.uriparse_c.proofs.lemmas.TextLemmas.{written, refused, refused_or_want}
+use Rattle.uriparse_ffi.specs.Code as spec
+use Rattle.uriparse_ffi.proofs.lemmas.TextLemmas.{written, refused, refused_or_want}
 use Rattle.uriparse_c.proofs.uriparse_resolve.Goals as goal
 
 pub returns-clause-written : goal.returns-clause-written
@@ -16,7 +16,7 @@ returns-clause-too_long c b r s k s' h =
 
 pub returns-clause-relative : goal.returns-clause-relative
 returns-clause-relative c b s k =
-    refused_or_want c.resolved.result (spec.base_code spec.no_scheme) c.args.out.now c.answer.new.out c.answer.new.needed c.answer.result
+    refused c.resolved.result (spec.base_code spec.no_scheme) c.args.out.now c.answer.new.out c.answer.new.needed c.answer.result
     (c.resolved.ensures.relative b s k) c.answer.ensures.err
 
 pub returns-clause-base : goal.returns-clause-base

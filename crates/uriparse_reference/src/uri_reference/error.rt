@@ -1,7 +1,9 @@
 //! Why a text is not a reference.
 ghost use Rattle.std.specs.Prelude.{◌≡◌};
+ghost use Rattle.uriparse_path.specs.declared.path.error.PathError.TheVariants.{OutOfMemory};
 ghost use Rattle.uriparse_reference.specs.declared.uri_reference.error.URIReferenceError.TheVariants as errors;
 
+use std::alloc::{AllocError, AllocFailed};
 use thiserror::Error;
 use uriparse_authority::authority::AuthorityError;
 use uriparse_path::path::PathError;
@@ -75,5 +77,21 @@ impl From<SchemeError> for URIReferenceError {
 
     fn from(error: SchemeError) -> URIReferenceError {
         URIReferenceError::Scheme(error)
+    }
+}
+
+impl From<AllocError> for URIReferenceError {
+    ghost from_gives = { λ _ e. e ≡ errors.Path OutOfMemory };
+
+    fn from(_error: AllocError) -> URIReferenceError {
+        URIReferenceError::Path(PathError::OutOfMemory)
+    }
+}
+
+impl<T: Drop> From<AllocFailed<T>> for URIReferenceError {
+    ghost from_gives = { λ _ e. e ≡ errors.Path OutOfMemory };
+
+    fn from(_error: AllocFailed<T>) -> URIReferenceError {
+        URIReferenceError::Path(PathError::OutOfMemory)
     }
 }

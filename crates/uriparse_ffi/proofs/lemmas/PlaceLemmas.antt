@@ -1,0 +1,66 @@
+-- How long the components of a text are together.
+use Rattle.std.proofs.Common.{◌≡◌, ℕ, ◌+◌, ◌≤◌, List, [], ◌∷◌, ◌++◌, length, drop, Option, Some, None, refl, sym, ap, ◌∙◌, arith}
+use Rattle.std.specs.Prelude.{unwrap_or}
+use Rattle.std.proofs.lemmas.List.{length-append}
+use Rattle.uriparse_text.specs.Bytes.{colon, at_sign, question_mark, number_sign}
+use Rattle.uriparse_text.specs.Cuts.{ahead, behind, before, after}
+use Rattle.uriparse_text.proofs.lemmas.readings.CutLemmas.{before_after, front_rest}
+use Rattle.uriparse_authority.specs.Authority.{cut_host, cut_port, userinfo_text, host_and_port_text}
+use Rattle.uriparse_authority.proofs.lemmas.authorities.AuthorityLemmas.{right_is}
+use Rattle.uriparse_reference.specs.Reference.{behind_slashes}
+use Rattle.uriparse_reference.specs.Cuts.{scheme_text, authority_text, path_text, query_text, fragment_text, after_scheme}
+use Rattle.uriparse_reference.proofs.lemmas.reading.ReadingLemmas.{scheme_whole, whole_is}
+use Rattle.uriparse_ffi.specs.Spans.{span}
+use Rattle.uriparse_ffi.specs.declared.span.UriSpan.{UriSpan}
+
+pub host_port_size : (t : List ℕ) → length (cut_host t) + length (behind colon (cut_port t)) ≡ length t
+host_port_size t = sym (length-append (cut_host t) (behind colon (cut_port t))) ∙ ap length (right_is t)
+
+pub user_size : (i : List ℕ) → length (before colon i) + length (behind colon (after colon i)) ≡ length i
+user_size i = sym (length-append (before colon i) (behind colon (after colon i))) ∙ ap length (before_after colon i)
+
+pub userinfo_size : (a : List ℕ) → length (ahead at_sign (userinfo_text a)) + length (host_and_port_text a) ≡ length a
+userinfo_size a = sym (length-append (ahead at_sign (userinfo_text a)) (host_and_port_text a)) ∙ ap length (front_rest at_sign a)
+
+pub ahead_size : (mark : ℕ) (o : Option (List ℕ)) → length (unwrap_or o []) ≤ length (ahead mark o)
+ahead_size mark None = omega arith
+ahead_size mark (Some t) = let whole = length-append t (mark ∷ []) in omega arith
+
+-- a delimiter is one byte, whichever it is, before the component or after it
+pub behind_size : (m n : ℕ) (o : Option (List ℕ)) → length (behind m o) ≡ length (behind n o)
+behind_size m n None = refl
+behind_size m n (Some t) = refl
+
+pub ahead_behind : (o : Option (List ℕ)) → length (behind colon o) ≡ length (ahead colon o)
+ahead_behind None = refl
+ahead_behind (Some t) = let whole = length-append t (colon ∷ []) in omega arith
+
+pub slashes_size : (o : Option (List ℕ)) → length (unwrap_or o []) ≤ length (behind_slashes o)
+slashes_size None = omega arith
+slashes_size (Some t) = omega arith
+
+pub sizes : (t : List ℕ) → length t ≡ length (ahead colon (scheme_text t)) + (length (behind_slashes (authority_text t)) + (length (path_text t)
+    + (length (behind question_mark (query_text t)) + length (behind number_sign (fragment_text t)))))
+sizes t =
+    let s = ahead colon (scheme_text t) in
+    let a = behind_slashes (authority_text t) in
+    let h = path_text t in
+    let q = behind question_mark (query_text t) in
+    let f = behind number_sign (fragment_text t) in
+    ap length (whole_is t) ∙ length-append s (a ++ (h ++ (q ++ f)))
+    ∙ ap (λ n. length s + n) (length-append a (h ++ (q ++ f))
+    ∙ ap (λ n. length a + n) (length-append h (q ++ f) ∙ ap (λ n. length h + n) (length-append q f)))
+
+drop_front : (s u : List ℕ) → drop (length s) (s ++ u) ≡ u
+drop_front [] u = refl
+drop_front (b ∷ s) u = drop_front s u
+
+pub scheme_dropped : (t : List ℕ) → drop (length (ahead colon (scheme_text t))) t ≡ after_scheme t
+scheme_dropped t =
+    ap (drop (length (ahead colon (scheme_text t)))) (sym (scheme_whole t)) ∙ drop_front (ahead colon (scheme_text t)) (after_scheme t)
+
+abbrev span_from : ℕ → ℕ → UriSpan
+span_from x y = record { begin = x; end = y; present = 1 }
+
+pub span_is : (b n e : ℕ) (h : List ℕ) → b ≡ n → e ≡ n + length h → ◌≡◌ {A = UriSpan} (record { begin = b; end = e; present = 1 }) (span n (Some h))
+span_is b n e h f g = ap (λ x. span_from x e) f ∙ ap (span_from n) g

@@ -1,0 +1,6 @@
+pub mod Code
+pub mod Hash
+pub mod Put
+pub mod Places
+pub mod Spans
+pub mod Texts

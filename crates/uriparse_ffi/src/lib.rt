@@ -1,0 +1,12 @@
+//! What the library for C returns and writes: codes, places of components, and texts in a buffer.
+//!
+//! `uriparse_c` exports it. It has no `extern` function, so the gate can prove it as any library. In
+//! the clauses `p` is what a text spells by the grammar, and `fault` is why it spells nothing.
+#![tactic(auto)]
+
+pub mod code;
+pub mod laws;
+pub mod places;
+pub mod put;
+pub mod span;
+pub mod texts;

@@ -1,0 +1,282 @@
+//! Where the components of a reference begin and end in its text.
+ghost use Rattle.std.specs.Prelude.{◌≡◌, ◌+◌, ◌<◌, ◌≤◌, ◌^◌, [], MatchOption, Some, drop, false, length, true, unwrap_or};
+ghost use Rattle.std.specs.List.{position_or_len};
+ghost use Rattle.std.specs.Option.{option_copied};
+ghost use Rattle.uriparse_text.specs.Cuts.{up_to};
+ghost use Rattle.uriparse_path.specs.Path.{has_two_slashes};
+ghost use Rattle.uriparse_authority.specs.Authority as authority;
+ghost use Rattle.uriparse_authority.specs.Host.{kind, kind_code};
+ghost use Rattle.uriparse_reference.specs.Cuts.{authority_text, cut_authority, fragment_text, if_some, path_text, query_text, scheme_text};
+ghost use Rattle.uriparse_ffi.specs.Places.{AreInAuthority, ArePlaces, host_number, port_number};
+ghost use Rattle.uriparse_ffi.specs.Spans.{span};
+
+use crate::span::{UriSpan, authority_len, delimited_len, place, place_behind};
+use uriparse::{Authority, Fragment, Host, Query};
+use uriparse_authority::internal::{FoundAuthority, split_port, split_userinfo};
+use uriparse_reference::internal::Pieces;
+use uriparse_text::internal::{IsAny, first, split_at_mark, without_mark};
+
+/// Where the components of an authority begin and end.
+#[derive(Clone, Copy)]
+pub struct InAuthority {
+    pub username: UriSpan,
+    pub password: UriSpan,
+    pub host: UriSpan,
+    pub port: UriSpan,
+}
+
+/// Where the components of a reference begin and end, the kind of its host and the number of its
+/// port.
+#[repr(C)]
+#[derive(Clone, Copy)]
+pub struct UriParts {
+    pub scheme: UriSpan,
+    pub authority: UriSpan,
+    pub username: UriSpan,
+    pub password: UriSpan,
+    pub host: UriSpan,
+    pub port: UriSpan,
+    pub path: UriSpan,
+    pub query: UriSpan,
+    pub fragment: UriSpan,
+    pub host_kind: u32,
+    pub port_number: u32,
+}
+
+/// The spans of a host and a port, in a text that begins there.
+fn host_places(at: usize, text: &[u8]) -> (UriSpan, UriSpan)
+    requires { at + length text.now < 2 ^ 64 }
+    ensures host { result.0 ≡ span at (Some (authority.cut_host text.now)) }
+    ensures port { result.1 ≡ span (result.0.end + 1) (authority.cut_port text.now) }
+{
+    let (host, port) = split_port(text);
+    let host = place(at, Some(host));
+    (host, place_behind(host.end, port))
+}
+
+/// The spans of a user name and a password, in user information that begins there.
+fn user_places(at: usize, text: Option<&[u8]>) -> (UriSpan, UriSpan)
+    requires { at + length (unwrap_or (option_copied text) []) < 2 ^ 64 }
+    ensures username { result.0 ≡ span at (authority.username_in (option_copied text.entry)) }
+    ensures password { result.1 ≡ span (result.0.end + 1) (authority.password_in (option_copied text.entry)) }
+{
+    let Some(text) = text else {
+        return (place(0, None), place(0, None));
+    };
+    let (username, rest) = split_at_mark(text, b':');
+    let username = place(at, Some(username));
+    (username, place_behind(username.end, without_mark(rest)))
+}
+
+/// The spans of the components of an authority that begins there.
+fn authority_places(at: usize, text: &[u8]) -> InAuthority
+    requires { at + length text.now < 2 ^ 64 }
+    ensures { AreInAuthority at (Some text.now) result }
+{
+    let (userinfo, rest) = split_userinfo(text);
+    let (username, password) = user_places(at, userinfo);
+    let (host, port) = host_places(at + (text.len() - rest.len()), rest);
+    InAuthority {
+        username,
+        password,
+        host,
+        port,
+    }
+}
+
+/// The same, if there is an authority.
+fn places_in(at: usize, text: Option<&[u8]>) -> InAuthority
+    requires { at + length (unwrap_or (option_copied text) []) < 2 ^ 64 }
+    ensures { AreInAuthority at (option_copied text.entry) result }
+{
+    match text {
+        Some(text) => authority_places(at, text),
+        None => {
+            let absent = place(0, None);
+            InAuthority {
+                username: absent,
+                password: absent,
+                host: absent,
+                port: absent,
+            }
+        }
+    }
+}
+
+/// Where the first `/`, `?` or `#` is, which ends an authority, or the length.
+fn end_of_authority(text: &[u8]) -> usize
+    ensures place { result ≡ position_or_len authority.ends_authority text.now }
+    ensures within { result ≤ length text.now }
+{
+    first(&IsAny(b'/', b'?', b'#'), text)
+}
+
+/// The text up to that byte.
+fn up_to_end(text: &[u8]) -> &[u8]
+    ensures { result.now ≡ up_to authority.ends_authority text.now }
+{
+    let (front, _) = text.split_at(end_of_authority(text));
+    front
+}
+
+/// What follows the two slashes that a text begins with, if it does.
+fn behind_two_slashes(text: &[u8]) -> Option<&[u8]>
+    ensures { MatchOption result (has_two_slashes text.now ≡ false) (λ r. (has_two_slashes text.now ≡ true) × (r.now ≡ drop 2 text.now)) }
+{
+    match text {
+        [b'/', b'/', behind @ ..] => Some(behind),
+        _ => None,
+    }
+}
+
+/// The authority of a text that follows a scheme, if there is one.
+fn authority_of(text: &[u8]) -> Option<&[u8]>
+    ensures { option_copied result ≡ cut_authority text.now }
+{
+    match behind_two_slashes(text) {
+        Some(behind) => Some(up_to_end(behind)),
+        None => None,
+    }
+}
+
+/// The scheme, if the text of it isn't empty.
+fn scheme_of(text: &[u8]) -> Option<&[u8]>
+    ensures { option_copied result ≡ if_some text.now }
+{
+    match text {
+        [] => None,
+        _ => Some(text),
+    }
+}
+
+/// The text of a query, if there is one.
+fn query_bytes<'q>(query: &'q Option<Query<'_>>) -> Option<&'q [u8]>
+    ensures { option_copied result ≡ query.now }
+{
+    match query {
+        Some(query) => Some(query.as_bytes()),
+        None => None,
+    }
+}
+
+/// The text of a fragment, if there is one.
+fn fragment_bytes<'f>(fragment: &'f Option<Fragment<'_>>) -> Option<&'f [u8]>
+    ensures { option_copied result ≡ fragment.now }
+{
+    match fragment {
+        Some(fragment) => Some(fragment.as_bytes()),
+        None => None,
+    }
+}
+
+/// The authority that was found, if there is one.
+fn authority_if<'a>(found: &Option<FoundAuthority<'a>>) -> Option<Authority<'a>>
+    ensures { result ≡ found.now }
+{
+    match found {
+        Some(found) => Some(found.to_authority()),
+        None => None,
+    }
+}
+
+fn kind_of(host: &Host<'_>) -> u32
+    ensures { result ≡ kind_code (kind host.now) }
+{
+    match host {
+        Host::IPv4Address(_) => 4,
+        Host::IPv6Address(_) => 6,
+        Host::IPvFuture(_) => 7,
+        Host::RegisteredName(_) => 1,
+    }
+}
+
+/// A number for the kind of the host, or 0 if there is no authority.
+fn host_kind_of(authority: &Option<Authority<'_>>) -> u32
+    ensures { result ≡ host_number authority.now }
+{
+    match authority {
+        Some(authority) => kind_of(authority.host()),
+        None => 0,
+    }
+}
+
+fn number_of(port: Option<u16>) -> u32
+    ensures { result ≡ unwrap_or port 0 }
+{
+    match port {
+        Some(port) => u32::from(port),
+        None => 0,
+    }
+}
+
+/// The number of the port, or 0 if there is none.
+fn port_of(authority: &Option<Authority<'_>>) -> u32
+    ensures { result ≡ port_number authority.now }
+{
+    match authority {
+        Some(authority) => number_of(authority.port()),
+        None => 0,
+    }
+}
+
+/// The spans of a text's components, of which the scheme, the query and the fragment are known.
+fn spans(
+    text: &[u8],
+    scheme: Option<&[u8]>,
+    query: Option<&[u8]>,
+    fragment: Option<&[u8]>,
+) -> UriParts
+    requires scheme { option_copied scheme ≡ scheme_text text.now }
+    requires query { option_copied query ≡ query_text text.now }
+    requires fragment { option_copied fragment ≡ fragment_text text.now }
+    ensures { ArePlaces (scheme_text text.now) (authority_text text.now) (path_text text.now) (query_text text.now) (fragment_text text.now) result }
+{
+    let begin = delimited_len(scheme);
+    let (_, rest) = text.split_at(begin);
+    let authority = authority_of(rest);
+    let inner = places_in(begin + 2, authority);
+    let query_len = delimited_len(query);
+    let path_end = text.len() - delimited_len(fragment) - query_len;
+    UriParts {
+        scheme: place(0, scheme),
+        authority: place(begin + 2, authority),
+        username: inner.username,
+        password: inner.password,
+        host: inner.host,
+        port: inner.port,
+        path: UriSpan {
+            begin: begin + authority_len(authority),
+            end: path_end,
+            present: 1,
+        },
+        query: place_behind(path_end, query),
+        fragment: place_behind(path_end + query_len, fragment),
+        host_kind: 0,
+        port_number: 0,
+    }
+}
+
+/// Where the components of a reference begin and end, by what was found in its text.
+pub fn places(text: &[u8], pieces: &Pieces<'_>) -> UriParts
+    requires scheme { if_some pieces.now.scheme.now ≡ scheme_text text.now }
+    requires query { pieces.now.tail.query ≡ query_text text.now }
+    requires fragment { pieces.now.tail.fragment ≡ fragment_text text.now }
+    ensures places { ArePlaces (scheme_text text.now) (authority_text text.now) (path_text text.now) (query_text text.now) (fragment_text text.now) result }
+    ensures kind { result.host_kind ≡ host_number pieces.now.authority }
+    ensures port { result.port_number ≡ port_number pieces.now.authority }
+{
+    let query = pieces.tail.query.to_text();
+    let fragment = pieces.tail.fragment.to_text();
+    let found = spans(
+        text,
+        scheme_of(pieces.scheme),
+        query_bytes(&query),
+        fragment_bytes(&fragment),
+    );
+    let authority = authority_if(&pieces.authority);
+    UriParts {
+        host_kind: host_kind_of(&authority),
+        port_number: port_of(&authority),
+        ..found
+    }
+}
