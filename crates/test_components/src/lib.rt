@@ -11,10 +11,6 @@ mod component;
 #[cfg(test)]
 mod components;
 #[cfg(test)]
-mod constants;
-#[cfg(test)]
-mod hashing;
-#[cfg(test)]
 mod hosts;
 #[cfg(test)]
 mod layers;
@@ -26,8 +22,6 @@ mod memory;
 mod path_edits;
 #[cfg(test)]
 mod paths;
-#[cfg(test)]
-mod scheme_rows;
 #[cfg(test)]
 mod schemes;
 #[cfg(test)]
