@@ -2,23 +2,25 @@
 //! bodies, as those of `test_wrong_references`.
 #![tactic(auto)]
 
-ghost use Rattle.std.specs.Prelude.{◌≡◌, Err, IsOk, MatchOption, Ok, OnOk, Some, true};
+ghost use Rattle.std.specs.Prelude.{◌≡◌, Err, IsOk, MatchOption, Ok, OnOk, Some, is_some, length, true};
 ghost use Rattle.uriparse_text.specs.Readings.{IsUnless};
 ghost use Rattle.uriparse_path.specs.declared.path.error.PathError.TheVariants as paths;
 ghost use Rattle.uriparse_reference.specs.Normal.{canonical_texts, normal};
-ghost use Rattle.uriparse_reference.specs.Reading.{fault};
+ghost use Rattle.uriparse_reference.specs.Reference.{Parts, Spells};
 ghost use Rattle.uriparse_reference.specs.Target.{target};
-ghost use Rattle.uriparse_reference.specs.declared.uri_reference.error.URIReferenceError.{URIReferenceError};
-ghost use Rattle.uriparse.specs.Kinds.{of_kind};
+ghost use Rattle.uriparse.specs.Kinds.{fault_of, of_kind};
 ghost use Rattle.uriparse.specs.Uri.{told};
+ghost use Rattle.uriparse.specs.declared.uri.error.URIError.{URIError};
 ghost use Rattle.uriparse.specs.declared.uri.error.URIError.TheVariants as errors;
 
 use std::alloc::{AllocError, Global};
 use uriparse::{Query, URI, URIBuilder, URIError, URIReference};
 
-/// Reads a URI. A text's fault is returned whatever memory there is.
+/// Reads a URI. A fault, or that there is no scheme, is returned whatever memory there is, and a path
+/// of one segment takes none.
 pub fn read(alloc: Global, bytes: &[u8]) -> Result<URI<'_>, URIError>
-    ensures { (e : URIReferenceError) → fault bytes.now ≡ Some e → result ≡ Err (told e) }
+    ensures always { (e : URIError) → fault_of true told errors.NotURI bytes.now ≡ Some e → result ≡ Err e }
+    ensures takes_no_memory { (p : Parts) → Spells bytes.now p → is_some p.scheme ≡ true → length p.path.segments ≡ 1 → result ≡ Ok p }
 {
     URI::try_from_bytes(alloc, bytes)
 }
