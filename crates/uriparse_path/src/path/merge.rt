@@ -1,5 +1,5 @@
 //! A reference's path merged with a base's: RFC 3986, section 5.2.3.
-ghost use Rattle.std.specs.Prelude.{◌≡◌, ◌+◌, ◌<◌, ◌≤◌, ◌++◌, Err, IfErr, IfOk, OnOk, length, true};
+ghost use Rattle.std.specs.Prelude.{◌≡◌, ◌+◌, ◌<◌, ◌≤◌, ◌++◌, Err, IfErr, IfOk, IsOk, OnOk, length, true};
 ghost use Rattle.uriparse_text.specs.Readings.{IsUnless};
 ghost use Rattle.uriparse_path.specs.declared.path.error.PathError.TheVariants as errors;
 ghost use Rattle.uriparse_path.specs.Path.{max_segments};
@@ -13,19 +13,23 @@ use super::segments::{directory, push_borrowed};
 use super::{MAX_SEGMENTS, Path, PathError, Segment};
 use std::alloc::{AllocError, Global};
 
-/// Both lists, one after the other. Allocates once.
+/// Both lists, one after the other. Allocates once, and not for a single segment.
 fn joined<'p>(
     alloc: Global,
     front: &'p [Segment<'_>],
     back: &'p [Segment<'_>],
-) -> Result<Vec<Segment<'p>>, AllocError>
+) -> Result<SegmentList<Segment<'p>>, AllocError>
     requires { length front.now + length back.now ≤ max_segments }
-    ensures { IfOk result (λ v. v.items ≡ front.now ++ back.now) }
+    ensures list { IfOk result (λ l. l ≡ front.now ++ back.now) }
+    ensures takes_no_memory { length front.now ≡ 0 → length back.now ≡ 1 → IsOk result }
 {
+    if front.is_empty() && back.len() == 1 {
+        return Ok(SegmentList::one(back[0].as_borrowed()));
+    }
     let mut segments = Vec::with_capacity(alloc, front.len() + back.len())?;
     push_borrowed(&mut segments, front)?;
     push_borrowed(&mut segments, back)?;
-    Ok(segments)
+    Ok(SegmentList::several(segments))
 }
 
 /// The counts of the merged segments, and whether they are known.
@@ -62,7 +66,6 @@ impl<'p> Path<'p> {
         }
         let segments = joined(alloc, front, back)?;
         let (counts, is_known) = merged_counts(base, reference);
-        let segments = SegmentList::several(segments);
         Ok(Path::of(base.is_absolute(), segments, counts, is_known))
     }
 }

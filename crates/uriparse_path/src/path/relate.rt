@@ -77,20 +77,24 @@ fn push_dot(list: &mut Vec<Segment<'_>>, needed: bool) -> Result<(), AllocError>
 }
 
 /// A `..` for each directory, then the segments, with a leading `.` if it is needed. Borrows the
-/// texts of the segments. Allocates the list once.
+/// texts of the segments. Allocates the list once, and not for a single segment.
 fn led<'p>(
     alloc: Global,
     directories: &[Segment<'_>],
     segments: &'p [Segment<'_>],
-) -> Result<Vec<Segment<'p>>, AllocError>
+) -> Result<SegmentList<Segment<'p>>, AllocError>
     requires { length directories.now + length segments.now < max_segments }
-    ensures { IfOk result (λ v. v.items ≡ spec.fronted (spec.climbs directories.now ++ segments.now)) }
+    ensures { IfOk result (λ l. l ≡ spec.fronted (spec.climbs directories.now ++ segments.now)) }
 {
+    let needs_dot = needs_dot(directories, segments);
+    if directories.is_empty() && segments.len() == 1 && !needs_dot {
+        return Ok(SegmentList::one(segments[0].as_borrowed()));
+    }
     let mut list = Vec::with_capacity(alloc, directories.len() + segments.len() + 1)?;
-    push_dot(&mut list, needs_dot(directories, segments))?;
+    push_dot(&mut list, needs_dot)?;
     push_climbs(&mut list, directories)?;
     push_borrowed(&mut list, segments)?;
-    Ok(list)
+    Ok(SegmentList::several(list))
 }
 
 /// Whether there are no directories, or the first one is also the first of the others.
@@ -179,8 +183,7 @@ impl<'p> Path<'p> {
         if directories.len() + (left.len() + rest.len()) >= MAX_SEGMENTS {
             return Ok(None);
         }
-        let list = led(alloc, left, rest)?;
-        let segments = SegmentList::several(list);
+        let segments = led(alloc, left, rest)?;
         Ok(Some(Path::of(false, segments, Counts::none(), false)))
     }
 }

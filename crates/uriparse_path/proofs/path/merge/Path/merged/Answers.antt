@@ -1,5 +1,4 @@
 use Rattle.std.proofs.Common.{◌≡◌, ◌+◌, ◌≤◌, length, inl, sym, subst, arith, IfErr, Err}
-use Rattle.uriparse_path.specs.Path.{IsListed}
 use Rattle.uriparse_path.proofs.lemmas.reading.ReadingLemmas.{limit_is}
 use Rattle.uriparse_path.proofs.lemmas.merge.MergedPathLemmas.{too_long, short_enough, listed_list}
 use Rattle.uriparse_path.proofs.path.merge.Path.merged.Goals as goal
@@ -21,7 +20,6 @@ returns-in_err-segments-clause-always c =
 
 pub of-requires-clause-listed : goal.of-requires-clause-listed
 of-requires-clause-listed c =
-    subst IsListed (sym c.several-segments.ensures)
-    (listed_list c.args.base.now c.args.reference.now c.segments.result.now c.directory-front.result.now c.segments-back.result.now c.segments.ensures.value
+    listed_list c.args.base.now c.args.reference.now c.segments.result.now c.directory-front.result.now c.segments-back.result.now c.segments.ensures.value
     c.directory-front.ensures c.segments-back.ensures.value c.segments.ensures.listed c.segments-back.ensures.listed (omega arith)
-    c.in_ok-segments.segments.items c.in_ok-segments.ensures)
+    c.in_ok-segments.segments c.in_ok-segments.ensures.list
