@@ -1,22 +1,29 @@
 /* URIs and URI references of RFC 3986: read, compare, hash, normalize and resolve them. The code behind these calls is
- * proved: it is safe, it terminates, and it computes what this header says. README.md says what is proved and what
- * isn't.
+ * proved: it is safe, it terminates, and it computes what this header says of results, codes and what is written. Only
+ * tested is what the header says of memory: which calls allocate, that all is freed, and that URIPARSE_OUT_OF_MEMORY is
+ * returned only if an allocation fails. Neither proved nor tested is what it says of threads and signal handlers, which
+ * follows from this. README.md says more.
+ *
+ * The library is for Linux on x86-64 processors of level x86-64-v2 or later, those with SSE4.2 and POPCNT. It doesn't
+ * check the processor.
  *
  * Texts are bytes with a length in bytes, and need no zero byte at their end. A zero byte in a text is rejected like
  * any other byte that no URI has. An empty text may be NULL with length 0: the calls below allow it, and `out` too may
  * be NULL if `room` is 0. Each other pointer is valid and aligned for its type, each text readable for its whole
  * length, and `out` writable for `room` bytes. A length is at most PTRDIFF_MAX.
  *
- * A text isn't written and isn't kept: after the call nothing points into it. What a call writes to (`out`, `needed`,
- * `parts`, `equal`, `hash`) overlaps no other argument. It need not be initialized, and no other thread uses it during
- * the call. On an error nothing is written except `*needed`, which becomes 0, or with URIPARSE_NO_ROOM the length of
- * the text.
+ * A text isn't written and isn't kept: after the call nothing points into it. Its bytes are initialized, and nothing
+ * changes them during the call, be it another thread, a signal handler or another process that shares the memory: a
+ * call reads a text more than once. What a call writes to (`out`, `needed`, `parts`, `equal`, `hash`) overlaps no other
+ * argument. It need not be initialized, and nothing else uses it during the call. On an error nothing is written except
+ * `*needed`, which becomes 0, or with URIPARSE_NO_ROOM the length of the text.
  *
  * There is no state between calls, so calls may run concurrently in any threads. `uriparse_parse`, `uriparse_is_uri`,
  * `uriparse_equal` and `uriparse_hash` do not allocate, and may be called in a signal handler. The other calls may not
- * be called there, nor in the forked child of a process with threads. They allocate with `malloc` and `realloc`, which together with `free` are one
- * allocator that aligns a block to each power of two up to 16 that divides its size, and free what they allocated
- * before they return; if memory runs out, they return URIPARSE_OUT_OF_MEMORY. The caller frees nothing.
+ * be called there, nor in the forked child of a process with threads. They allocate with `malloc` and `realloc`, which
+ * together with `free` are one allocator that aligns a block to each power of two up to 16 that divides its size, and
+ * is safe in threads if calls run concurrently. They free what they allocated before they return; if memory runs out,
+ * they return URIPARSE_OUT_OF_MEMORY. The caller frees nothing.
  *
  * Limits: a path has at most 1,000,000 segments, a port is at most 65535. Texts are as long as memory allows. */
 #ifndef URIPARSE_H

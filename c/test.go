@@ -1,0 +1,89 @@
+// The calls from Go, by cgo. Panics if an answer is wrong.
+package main
+
+// #include <uriparse.h>
+import "C"
+
+import (
+	"fmt"
+	"unsafe"
+)
+
+// A text's pointer and length. The pointer of an empty text isn't null.
+func pointer(text string) (*C.uint8_t, C.size_t) {
+	bytes := append([]byte(text), 0)
+	return (*C.uint8_t)(unsafe.Pointer(&bytes[0])), C.size_t(len(text))
+}
+
+func piece(text string, span C.struct_uriparse_span) string {
+	if !span.present {
+		return "absent"
+	}
+	return text[span.begin:span.end]
+}
+
+func normalize(text string) string {
+	begin, length := pointer(text)
+	out := make([]byte, len(text)+16)
+	var needed C.size_t
+	room := (*C.uint8_t)(unsafe.Pointer(&out[0]))
+	if C.uriparse_normalize(begin, length, room, C.size_t(len(out)), &needed) != C.URIPARSE_OK {
+		return "rejected"
+	}
+	return string(out[:needed])
+}
+
+func resolve(base, text string) string {
+	baseBegin, baseLength := pointer(base)
+	begin, length := pointer(text)
+	out := make([]byte, len(base)+len(text)+16)
+	var needed C.size_t
+	room := (*C.uint8_t)(unsafe.Pointer(&out[0]))
+	if C.uriparse_resolve(baseBegin, baseLength, begin, length, room, C.size_t(len(out)), &needed) != C.URIPARSE_OK {
+		return "rejected"
+	}
+	return string(out[:needed])
+}
+
+func isURI(text string) bool {
+	begin, length := pointer(text)
+	return bool(C.uriparse_is_uri(begin, length))
+}
+
+func hash(text string) uint64 {
+	begin, length := pointer(text)
+	var hash C.uint64_t
+	check(C.uriparse_hash(begin, length, &hash) == C.URIPARSE_OK, "hash of "+text)
+	return uint64(hash)
+}
+
+func equal(left, right string) bool {
+	leftBegin, leftLength := pointer(left)
+	rightBegin, rightLength := pointer(right)
+	var equal C.bool
+	check(C.uriparse_equal(leftBegin, leftLength, rightBegin, rightLength, &equal) == C.URIPARSE_OK, "equal to "+left)
+	return bool(equal)
+}
+
+func check(holds bool, what string) {
+	if !holds {
+		panic(what)
+	}
+}
+
+func main() {
+	text := "http://user@example.com:80/a?q"
+	begin, length := pointer(text)
+	var parts C.struct_uriparse_parts
+	check(C.uriparse_parse(begin, length, &parts) == C.URIPARSE_OK, "parse")
+	check(piece(text, parts.host) == "example.com" && piece(text, parts.fragment) == "absent", "host and fragment")
+	check(parts.host_kind == C.URIPARSE_HOST_NAME && parts.port_number == 80, "kind and port")
+	begin, length = pointer("/%")
+	check(C.uriparse_parse(begin, length, &parts) == C.URIPARSE_PATH_ESCAPE, "code")
+	check(isURI("a:b") && !isURI("a") && !isURI(""), "is_uri")
+	check(equal("a%7e", "a~") && !equal("a", "b"), "equal")
+	check(hash("a%7e") == hash("a~"), "hash")
+	check(normalize("HTTP://H/%7e/../x") == "http://h/x" && normalize("%") == "rejected", "normalize")
+	check(resolve("http://a/b/c", "../g#s") == "http://a/g#s" && resolve("/a", "b") == "rejected", "resolve")
+	fmt.Println("ok")
+}
