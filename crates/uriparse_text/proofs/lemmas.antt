@@ -4,3 +4,4 @@ pub mod canonical
 pub mod scans
 pub mod addresses
 pub mod readings
+pub mod printing

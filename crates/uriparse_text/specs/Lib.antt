@@ -15,3 +15,4 @@ pub mod Found
 pub mod Spelling
 pub mod Coding
 pub mod Pairs
+pub mod Printing

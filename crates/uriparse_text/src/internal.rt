@@ -25,7 +25,7 @@ pub use coding::{form_decoded_bytes, most_escaped_bytes, push_encoded, push_esca
 pub use copy::{borrowed_text, canonical_copy, is_canonical_part, owned_text, put_copy};
 pub use cut::{split_at_mark, without_mark};
 pub use found::{Found, find_text_before, find_text_if, no_text};
-pub use print::write_short;
+pub use print::write_plain;
 pub use scan::{ByteTest, Is, IsAny, Outside, first, next_marks, next_marks_by_two};
 pub use settled::{check_bytes, split_settled};
 pub use text::{Text, TextKind, checked_text, kept_text, len_of, made_text, normalized_text};

@@ -8,7 +8,7 @@ ghost use Rattle.uriparse_authority.specs.Port as ports;
 
 use super::{Password, Username};
 use std::fmt;
-use uriparse_text::internal::write_short;
+use uriparse_text::internal::write_plain;
 
 /// Writes a colon and the password, if there is one.
 fn write_password<W: fmt::Write>(
@@ -49,7 +49,7 @@ pub(super) fn write_port<W: fmt::Write>(port: Option<u16>, f: &mut fmt::Formatte
 {
     if let Some(port) = port {
         f.write_str(":")?;
-        write_short(port, f)?;
+        write_plain(port, f)?;
     }
     Ok(())
 }

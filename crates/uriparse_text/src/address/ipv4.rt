@@ -2,7 +2,7 @@
 ghost use Rattle.std.specs.Prelude.{◌≡◌, ℕ, List, [], ◌∷◌, Some, IfSome, IsTrue};
 ghost use Rattle.uriparse_text.specs.Address.{IsOctets, SpellsIpv4, ipv4_text, ipv4_reading};
 
-use crate::internal::write_short;
+use crate::internal::write_plain;
 use std::marker::Model;
 use std::{fmt, net};
 
@@ -88,7 +88,7 @@ impl fmt::Display for Ipv4Addr {
     ghost styled_output = { λ a _. Some (ipv4_text a) };
 
     fn fmt<W: fmt::Write>(&self, f: &mut fmt::Formatter<W>) -> fmt::Result {
-        write_short(net::Ipv4Addr::from_octets(self.octets), f)
+        write_plain(net::Ipv4Addr::from_octets(self.octets), f)
     }
 }
 

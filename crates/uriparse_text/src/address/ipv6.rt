@@ -2,7 +2,7 @@
 ghost use Rattle.std.specs.Prelude.{◌≡◌, ℕ, List, [], ◌∷◌, Some, IfSome};
 ghost use Rattle.uriparse_text.specs.Address.{IsSegments, SpellsIpv6, ipv6_text, ipv6_reading};
 
-use crate::internal::write_short;
+use crate::internal::write_plain;
 use std::marker::Model;
 use std::{fmt, net};
 
@@ -85,7 +85,7 @@ impl fmt::Display for Ipv6Addr {
     ghost styled_output = { λ a _. Some (ipv6_text a) };
 
     fn fmt<W: fmt::Write>(&self, f: &mut fmt::Formatter<W>) -> fmt::Result {
-        write_short(net::Ipv6Addr::from_segments(self.segments), f)
+        write_plain(net::Ipv6Addr::from_segments(self.segments), f)
     }
 }
 

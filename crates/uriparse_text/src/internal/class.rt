@@ -94,7 +94,8 @@ impl Class {
 }
 
 /// The place of the leftmost fault, the first byte at which no token of the class begins, or the
-/// length. It is a `%` if an escape is broken. Walks the text once, sixteen bytes at a time.
+/// length. The byte there is a `%` if an escape is broken. Walks the text once, sixteen bytes at a
+/// time.
 #[inline]
 pub(super) fn fault_place(class: Class, text: &[u8]) -> usize
     ensures { IsFaultPlace class text.now result }

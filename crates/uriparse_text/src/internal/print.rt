@@ -1,35 +1,41 @@
-//! Printing a short value, whatever options the formatter has.
-ghost use Rattle.std.specs.Prelude.{IsTrue, ◌↔◌};
-ghost use Rattle.std.specs.Fmt.{DisplaysOnOk, DisplaysStyledOnOk, formatter_spec};
-ghost use Rattle.std.specs.Fmt.Cut.{EndsInDots};
+//! Printing a value, whatever options the formatter has.
+ghost use Rattle.std.specs.Prelude.{◌≡◌};
+ghost use Rattle.std.specs.Fmt.{DisplaysOnOk, DisplaysStyledOnOk};
+ghost use Rattle.uriparse_text.specs.Printing.{WritesStyled};
 
 use std::fmt;
-use std::fmt::InlineText;
+use std::fmt::Write;
 
-/// Capacity for a short text: more than the 39 bytes that an address has at most.
-const ROOM: usize = 48;
-
-/// Whether a text ends in three dots, as a truncated one does.
-fn ends_in_dots(text: &str) -> bool
-    ensures { EndsInDots 48 text.now → IsTrue result }
-{
-    text.as_bytes().ends_with(b"...")
+/// A formatter as a writer: what it writes doesn't change the formatter's options.
+struct Kept<'f, W> {
+    f: &'f mut fmt::Formatter<W>,
 }
 
-/// Writes what `{}` writes for a value whose text has at most 48 bytes and doesn't end in three
-/// dots, such as an address or a port; else fails. The formatter's options have no effect. Does not
-/// allocate.
-pub fn write_short<W: fmt::Write, D: fmt::Display + Drop>(
+impl<'f, W> Drop for Kept<'f, W> {
+    fn drop(self)
+        ensures { self.exit.0.now ≡ self.entry.f.now }
+    {
+        let Self { f: _ } = self;
+    }
+}
+
+impl<W: fmt::Write> fmt::Write for Kept<'_, W> {
+    ghost write_str_gives = { WritesStyled W.write_str_gives };
+
+    fn write_str(&mut self, s: &str) -> fmt::Result {
+        self.f.write_str(s)
+    }
+}
+
+/// Writes what `{}` writes for the value. The formatter's options have no effect. Fails only if the
+/// value's Display or the writer does. Does not allocate.
+pub fn write_plain<W: fmt::Write, D: fmt::Display + Drop>(
     value: D,
     f: &mut fmt::Formatter<W>,
 ) -> fmt::Result
     ensures writes { DisplaysOnOk W.write_str_gives f.old result (D.output value) f.new }
     ensures styled { DisplaysStyledOnOk W.write_str_gives f.old result (D.output value) f.new }
 {
-    let text = InlineText::<ROOM>::of(value);
-    let text = text.as_str();
-    if ends_in_dots(text) {
-        return Err(fmt::Error);
-    }
-    f.write_str(text)
+    let mut kept = Kept { f };
+    kept.write(value)
 }

@@ -6,8 +6,8 @@ use Rattle.uriparse_text.specs.Cuts.{behind}
 use Rattle.uriparse_authority.specs.Port as port
 use Rattle.uriparse_authority.proofs.authority.print.write_port.Goals as goal
 
-pub returns-in_ok-write_short-clause-styled : goal.returns-in_ok-write_short-clause-styled
-returns-in_ok-write_short-clause-styled g c flush ok =
+pub returns-in_ok-write_plain-clause-styled : goal.returns-in_ok-write_plain-clause-styled
+returns-in_ok-write_plain-clause-styled g c flush ok =
     let first = c.in_ok-write_str.ensures.styled flush refl in
-    let second = c.in_ok-write_short.ensures.styled first.flush refl in
+    let second = c.in_ok-write_plain.ensures.styled first.flush refl in
     has_written_styled_of_eq _ _ _ _ _ (sym (ap (λ o. behind colon (option_map port.text o)) c.in-Some.is)) (has_written_styled_append _ _ _ _ _ _ first second)
