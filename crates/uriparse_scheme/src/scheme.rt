@@ -7,6 +7,7 @@ ghost use Rattle.std.specs.Cmp.Rules.{comparing, hashing};
 ghost use Rattle.uriparse_text.specs.Canonical.{fed_text};
 ghost use Rattle.uriparse_scheme.specs.Scheme as spec;
 ghost use Rattle.uriparse_scheme.specs.Normal.{canonical_scheme};
+ghost use Rattle.uriparse_scheme.specs.declared.scheme.status.SchemeStatus.TheVariants.{Unregistered};
 
 use std::alloc::{AllocError, Global};
 use std::fmt;
@@ -132,9 +133,10 @@ impl<'s> Scheme<'s> {
     }
 
     /// The same scheme, owning its text. Copies borrowed text, which allocates; if memory runs out,
-    /// the scheme is lost.
+    /// the scheme is lost. A registered scheme is never lost: it has no text to copy.
     pub fn into_owned(self, alloc: Global) -> Result<Scheme<'static>, AllocError>
-        ensures { IfOk result (λ s. s ≡ self.entry) }
+        // As two clauses this takes more memory than the prover has.
+        ensures { IfOk result (λ s. s ≡ self.entry) × ((spec.status self.entry ≡ Unregistered → ⊥) → IsOk result) }
     {
         match self {
             Scheme::Registered(scheme) => Ok(Scheme::Registered(scheme)),

@@ -112,9 +112,10 @@ impl<'h> Host<'h> {
     }
 
     /// The same host, owned. Borrowed text is copied, which allocates; if memory runs out, the host
-    /// is dropped.
+    /// is dropped. An IPv4 or IPv6 address is never dropped: it has no text to copy.
     pub fn into_owned(self, alloc: Global) -> Result<Host<'static>, AllocError>
-        ensures { IfOk result (λ h. h ≡ self.entry) }
+        ensures value { IfOk result (λ h. h ≡ self.entry) }
+        ensures takes_no_memory { (a : IpAddr) → self.entry ≡ spec.host_at a → IsOk result }
     {
         match self {
             Host::IPv4Address(address) => Ok(Host::IPv4Address(address)),
