@@ -6,3 +6,4 @@ pub mod NormalLemmas
 pub mod PrintedLemmas
 pub mod PieceLemmas
 pub mod LengthLemmas
+pub mod FaultLemmas
