@@ -38,14 +38,16 @@ pub fn one_reading()
 /// Which fault is returned. What is between brackets is read as an address; a port's fault is a
 /// byte that is not a digit, or the digit with which the number exceeds the largest, whichever
 /// comes first. The fault of an authority is returned whatever follows the byte that ends it; after
-/// a faultless authority that byte decides. Two errors are never an authority's fault: each kind of
-/// address is supported, and the user name ends before its first colon.
+/// a faultless authority that byte decides. Two errors are never an authority's fault, and the first
+/// is never a host's: each kind of address is supported, and the user name ends before its first
+/// colon.
 pub fn first_fault()
     ensures brackets { (t inner : List ℕ) → (host.in_brackets t ≡ Some inner) ↔ (t ≡ host.bracketed inner) }
     ensures other { (t : List ℕ) → (port.fault t ≡ Some InvalidCharacter) ↔ port.HasOther t }
     ensures passes { (t : List ℕ) → (port.fault t ≡ Some Overflow) ↔ port.Passes t }
     ensures front { (a : List ℕ) (b : ℕ) (u : List ℕ) (e : AuthorityError) → none_pass ends_authority a ≡ true → ends_authority b ≡ true → fault a ≡ Some e → whole_reading (a ++ b ∷ u) ≡ Err e }
     ensures rest { (a : List ℕ) (b : ℕ) (u : List ℕ) (p : AuthorityParts) → Spells a p → ends_authority b ≡ true → whole_reading (a ++ b ∷ u) ≡ Err (rest_error p.port (kind p)) }
+    ensures unsupported_host { (t : List ℕ) → host.reading t ≡ Err host_errors.AddressMechanismNotSupported → ⊥ }
     ensures unsupported { (a : List ℕ) → fault a ≡ Some (errors.Host host_errors.AddressMechanismNotSupported) → ⊥ }
     ensures colon { (a : List ℕ) → fault a ≡ Some (errors.Username username_errors.ContainsColon) → ⊥ }
 {}

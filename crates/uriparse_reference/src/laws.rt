@@ -8,6 +8,9 @@ ghost use Rattle.uriparse_path.specs.Path.{max_segments, pieces, spelled, text};
 ghost use Rattle.uriparse_path.specs.Merge.{merged};
 ghost use Rattle.uriparse_path.specs.Dots.{LacksSlash};
 ghost use Rattle.uriparse_authority.specs.Authority.{ends_authority};
+ghost use Rattle.uriparse_authority.specs.declared.authority.error.AuthorityError.TheVariants as authority_errors;
+ghost use Rattle.uriparse_authority.specs.declared.authority.error.HostError.TheVariants.{AddressMechanismNotSupported};
+ghost use Rattle.uriparse_authority.specs.declared.authority.error.UsernameError.TheVariants.{ContainsColon};
 ghost use Rattle.uriparse_scheme.specs.Scheme.{is_scheme};
 ghost use Rattle.uriparse_scheme.specs.declared.scheme.error.SchemeError.{SchemeError};
 ghost use Rattle.uriparse_path.specs.declared.path.error.PathError.TheVariants.{OutOfMemory};
@@ -36,12 +39,15 @@ pub fn one_reading()
 
 /// The fault of a text never concerns the scheme, a missing path or a path with two leading
 /// slashes: a text without a scheme begins with its authority or path, each text has a path, and
-/// two slashes begin an authority. It is never `OutOfMemory` either.
+/// two slashes begin an authority. It is never `OutOfMemory` either, nor one of the two errors that
+/// no authority has.
 pub fn faults_of_reading()
     ensures slashes { (t : List ℕ) → fault t ≡ Some errors.AbsolutePathStartsWithTwoSlashes → ⊥ }
     ensures missing { (t : List ℕ) → fault t ≡ Some errors.MissingPath → ⊥ }
     ensures scheme { (t : List ℕ) (e : SchemeError) → fault t ≡ Some (errors.Scheme e) → ⊥ }
     ensures memory { (t : List ℕ) → fault t ≡ Some (errors.Path OutOfMemory) → ⊥ }
+    ensures unsupported { (t : List ℕ) → fault t ≡ Some (errors.Authority (authority_errors.Host AddressMechanismNotSupported)) → ⊥ }
+    ensures colon { (t : List ℕ) → fault t ≡ Some (errors.Authority (authority_errors.Username ContainsColon)) → ⊥ }
 {}
 
 /// Every text is the concatenation of its components: a scheme before a `:`, if it is one; after

@@ -62,6 +62,9 @@ host_known t k = by_brackets (host.in_brackets t) k
         literal_known (begins_future inner) (list_all is_ipv6_byte inner) (future.reading inner) (ipv6_reading inner)
         (future_known (list_all is_future_byte inner) (has_form inner) inner) i
 
+pub host_supported : (t : List ℕ) → host.reading t ≡ Err host_errors.AddressMechanismNotSupported → ⊥
+host_supported t k = host_known t (ap fault_in k)
+
 -- ---- a user name ends before its first colon
 
 username_plain : (o : Option (List ℕ)) → IfSome o (λ t. lacks colon t ≡ true) → fault_in (if_present username.reading o) ≡ Some username_errors.ContainsColon → ⊥

@@ -6,7 +6,7 @@ use Rattle.std.specs.Option.{option_map}
 use Rattle.uriparse_text.specs.declared.fragment.FragmentError.{FragmentError}
 use Rattle.uriparse_text.specs.declared.query.QueryError.{QueryError}
 use Rattle.uriparse_text.specs.Cuts.{up_to, from_first}
-use Rattle.uriparse_text.specs.Readings.{◌>>=◌, fault_in, if_present, of_piece, unless_fault}
+use Rattle.uriparse_text.specs.Readings.{◌>>=◌, fault_in, if_present, of_piece, some_of, unless_fault}
 use Rattle.uriparse_text.specs.Query as query
 use Rattle.uriparse_text.specs.Fragment as fragment
 use Rattle.uriparse_path.specs.declared.path.error.PathError.{PathError}
@@ -17,7 +17,11 @@ use Rattle.uriparse_path.specs.Faults.{ends_path}
 use Rattle.uriparse_path.proofs.lemmas.reading.LengthFaultLemmas.{never_memory}
 use Rattle.uriparse_authority.specs.declared.authority.error.AuthorityError.{AuthorityError}
 use Rattle.uriparse_authority.specs.Authority as authority
-use Rattle.uriparse_authority.specs.Authority.{ends_authority}
+use Rattle.uriparse_authority.specs.Authority.{AuthorityParts, ends_authority}
+use Rattle.uriparse_authority.specs.declared.authority.error.AuthorityError.TheVariants as authority_errors
+use Rattle.uriparse_authority.specs.declared.authority.error.HostError.TheVariants as host_errors
+use Rattle.uriparse_authority.specs.declared.authority.error.UsernameError.TheVariants as username_errors
+use Rattle.uriparse_authority.proofs.lemmas.authorities.FaultLemmas as never
 use Rattle.uriparse_scheme.specs.declared.scheme.error.SchemeError.{SchemeError}
 use Rattle.uriparse_scheme.specs.Scheme as scheme
 use Rattle.uriparse_reference.specs.declared.uri_reference.error.URIReferenceError.{URIReferenceError}
@@ -28,7 +32,7 @@ use Rattle.uriparse_reference.specs.Reading.{fault, path_reading, reading}
 
 -- the fault of a text is that of one of its components, or that its path may not follow the scheme and the authority
 pub data Source (t : List ℕ) (e : URIReferenceError) : Type 0 where
-  of_authority : (x : AuthorityError) → errors.Authority x ≡ e → Source t e
+  of_authority : (a : List ℕ) (x : AuthorityError) → authority.fault a ≡ Some x → errors.Authority x ≡ e → Source t e
   of_path : (x : PathError) → paths.fault (path_text t) ≡ Some x → errors.Path x ≡ e → Source t e
   of_place : path_refusal (is_some (scheme_text t)) (is_some (authority_text t)) (path_text t) ≡ Some e → Source t e
   of_query : (x : QueryError) → errors.Query x ≡ e → Source t e
@@ -37,6 +41,16 @@ pub data Source (t : List ℕ) (e : URIReferenceError) : Type 0 where
 piece_told : {A E : Type 0} (told : E → URIReferenceError) (r : Result A E) (e : URIReferenceError) → fault_in (of_piece told r) ≡ Some e → (x : E) × (told x ≡ e)
 piece_told told (Ok a) e h = absurd (cc)
 piece_told told (Err x) e h = (x, cc)
+
+authority_told : (o : Option (List ℕ)) (e : URIReferenceError) → fault_in (of_piece errors.Authority (if_present authority.reading o)) ≡ Some e
+    → (a : List ℕ) × (x : AuthorityError) × (authority.fault a ≡ Some x) × (errors.Authority x ≡ e)
+authority_told None e h = absurd (cc)
+authority_told (Some a) e h = by_reading (authority.reading a) refl h
+  where
+    by_reading : (r : Result AuthorityParts AuthorityError) → authority.reading a ≡ r → fault_in (of_piece errors.Authority (some_of r)) ≡ Some e
+        → (a : List ℕ) × (x : AuthorityError) × (authority.fault a ≡ Some x) × (errors.Authority x ≡ e)
+    by_reading (Ok p) f k = absurd (cc)
+    by_reading (Err x) f k = (a, x, ap fault_in f, cc)
 
 -- the fault of four results in sequence is that of one of them
 by_results : {A B C D E : Type 0} (a : Result A URIReferenceError) (b : Result B URIReferenceError) (c : Result C URIReferenceError)
@@ -76,7 +90,7 @@ source t e h =
         ⊎ ((fault_in (of_piece errors.Query (if_present query.reading (query_text t))) ≡ Some e)
         ⊎ (fault_in (of_piece errors.Fragment (if_present fragment.reading (fragment_text t))) ≡ Some e)))
         → Source t e
-    told (inl k) = let x = piece_told errors.Authority _ e k in of_authority x.0 x.1
+    told (inl k) = let x = authority_told (authority_text t) e k in of_authority x.0 x.1 x.2 x.3
     told (inr (inl k)) = by_path (path_told (is_some (scheme_text t)) (is_some (authority_text t)) (path_text t) e k)
       where
         by_path : ((x : PathError) × (paths.fault (path_text t) ≡ Some x) × (errors.Path x ≡ e))
@@ -148,7 +162,7 @@ never_slashes t h = by_source (source t errors.AbsolutePathStartsWithTwoSlashes 
     by_place (inr k) = no_slashes t k.0 k.1
 
     by_source : Source t errors.AbsolutePathStartsWithTwoSlashes → ⊥
-    by_source (of_authority x k) = cc
+    by_source (of_authority a x f k) = cc
     by_source (of_path x f k) = cc
     by_source (of_place k) = by_place (place_told (is_some (scheme_text t)) (is_some (authority_text t)) (path_text t) _ k)
     by_source (of_query x k) = cc
@@ -170,7 +184,7 @@ pub never_missing : (t : List ℕ) → fault t ≡ Some errors.MissingPath → �
 never_missing t h = by_source (source t errors.MissingPath h)
   where
     by_source : Source t errors.MissingPath → ⊥
-    by_source (of_authority x k) = cc
+    by_source (of_authority a x f k) = cc
     by_source (of_path x f k) = cc
     by_source (of_place k) = by_place t errors.MissingPath (λ i. cc, λ i. cc) k
     by_source (of_query x k) = cc
@@ -180,7 +194,7 @@ pub never_scheme : (t : List ℕ) (e : SchemeError) → fault t ≡ Some (errors
 never_scheme t e h = by_source (source t (errors.Scheme e) h)
   where
     by_source : Source t (errors.Scheme e) → ⊥
-    by_source (of_authority x k) = cc
+    by_source (of_authority a x f k) = cc
     by_source (of_path x f k) = cc
     by_source (of_place k) = by_place t (errors.Scheme e) (λ i. cc, λ i. cc) k
     by_source (of_query x k) = cc
@@ -190,8 +204,25 @@ pub never_want : (t : List ℕ) → fault t ≡ Some (errors.Path OutOfMemory) �
 never_want t h = by_source (source t (errors.Path OutOfMemory) h)
   where
     by_source : Source t (errors.Path OutOfMemory) → ⊥
-    by_source (of_authority x k) = cc
+    by_source (of_authority a x f k) = cc
     by_source (of_path x f k) = let same : x ≡ OutOfMemory = cc in never_memory (path_text t) (f ∙ ap Some same)
     by_source (of_place k) = by_place t (errors.Path OutOfMemory) (λ i. cc, λ i. cc) k
     by_source (of_query x k) = cc
     by_source (of_fragment x k) = cc
+
+-- an error that is never an authority's fault
+never_authority : (t : List ℕ) (y : AuthorityError) → ((a : List ℕ) → authority.fault a ≡ Some y → ⊥) → fault t ≡ Some (errors.Authority y) → ⊥
+never_authority t y none h = by_source (source t (errors.Authority y) h)
+  where
+    by_source : Source t (errors.Authority y) → ⊥
+    by_source (of_authority a x f k) = let same : x ≡ y = cc in none a (f ∙ ap Some same)
+    by_source (of_path x f k) = cc
+    by_source (of_place k) = by_place t (errors.Authority y) (λ i. cc, λ i. cc) k
+    by_source (of_query x k) = cc
+    by_source (of_fragment x k) = cc
+
+pub never_unsupported : (t : List ℕ) → fault t ≡ Some (errors.Authority (authority_errors.Host host_errors.AddressMechanismNotSupported)) → ⊥
+never_unsupported t = never_authority t _ never.never_unsupported
+
+pub never_colon : (t : List ℕ) → fault t ≡ Some (errors.Authority (authority_errors.Username username_errors.ContainsColon)) → ⊥
+never_colon t = never_authority t _ never.never_colon
