@@ -33,11 +33,7 @@ resolved (Some u) t (inr h) = absurd (cc)
 
 -- what is rejected after the target, if there is one
 pub untargeted : (o : Option Parts) (a : AuthorityParts) (e : URIError) → Resolves o (Err e) → Follows o a (Err (errors.Target e))
-untargeted o a e h = of_both (unresolved o e h)
-  where
-    of_both : ((o ≡ None) × (e ≡ uris.Path ExceededMaximumLength)) ⊎ (e ≡ uris.Path OutOfMemory) → Follows o a (Err (errors.Target e))
-    of_both (inl k) = inl k.0
-    of_both (inr k) = inr k
+untargeted o a e h = unresolved o e h
 
 -- what is followed is where the Location leads to
 pub followed : (request r : Parts) (location : List ℕ) (a : AuthorityParts) (answer : Result Parts RedirectError) → Spells location r
@@ -51,7 +47,7 @@ pub refused : (request r : Parts) (location : List ℕ) (a : AuthorityParts) (an
 refused request r location a (Ok t) s h = tt
 refused request r location a (Err errors.Memory) s h = tt
 refused request r location a (Err errors.Elsewhere) s h = (h.0, (r, s, h.1), h.2)
-refused request r location a (Err (errors.Target e)) s (inl h) = inl (r, s, h)
+refused request r location a (Err (errors.Target e)) s (inl h) = inl (r, s, h.0, h.1)
 refused request r location a (Err (errors.Target e)) s (inr h) = inr h
 refused request r location a (Err (errors.Location e)) s h = absurd h
 
@@ -63,7 +59,7 @@ allowed_at o t a (Err errors.Memory) is at h = inl refl
 allowed_at o t a (Err errors.Elsewhere) is at h =
     let same : t ≡ h.0 = cc in
     absurd (h.2 (subst (IsAt a) same at))
-allowed_at o t a (Err (errors.Target e)) is at (inl h) = absurd (cc)
+allowed_at o t a (Err (errors.Target e)) is at (inl h) = let none : o ≡ None = h.0 in absurd (cc)
 allowed_at o t a (Err (errors.Target e)) is at (inr h) = inr (inr (ap errors.Target h))
 allowed_at o t a (Err (errors.Location e)) is at h = absurd h
 

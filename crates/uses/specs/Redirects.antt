@@ -1,7 +1,7 @@
 -- Where a redirect leads to, and whether that is allowed.
 use Rattle.std.specs.Prelude.{◌≡◌, ◌⊎◌, ⊤, ℕ, List, Option, Some, None, Result, Ok, Err}
 use Rattle.std.specs.Option.{IsSomeAnd}
-use Rattle.uriparse.specs.PathError.TheVariants.{OutOfMemory}
+use Rattle.uriparse.specs.PathError.TheVariants.{ExceededMaximumLength, OutOfMemory}
 use Rattle.uriparse.specs.Authority as authority
 use Rattle.uriparse.specs.URIReferenceError.TheVariants as references
 use Rattle.uriparse.specs.Reading.{fault}
@@ -22,7 +22,8 @@ IsAt allowed t = IsSomeAnd t.authority (λ a. authority.key a ≡ authority.key 
 -- Why a redirect is rejected: the Location is faulty, or has no target, or the target is not at the allowed authority; or memory ran out.
 abbrev pub Refuses : Parts → List ℕ → authority.AuthorityParts → RedirectError → Type 0
 Refuses request location allowed (errors.Location e) = (fault location ≡ Some e) ⊎ (e ≡ references.Path OutOfMemory)
-Refuses request location allowed (errors.Target e) = ((r : Parts) × Spells location r × (target request r ≡ None)) ⊎ (e ≡ uris.Path OutOfMemory)
+Refuses request location allowed (errors.Target e) =
+    ((r : Parts) × Spells location r × (target request r ≡ None) × (e ≡ uris.Path ExceededMaximumLength)) ⊎ (e ≡ uris.Path OutOfMemory)
 Refuses request location allowed errors.Elsewhere = (t : Parts) × GoesTo request location t × (IsAt allowed t → ⊥)
 Refuses request location allowed errors.Memory = ⊤
 
@@ -40,5 +41,5 @@ abbrev pub Follows : Option Parts → authority.AuthorityParts → Result Parts 
 Follows o allowed (Ok t) = (o ≡ Some t) × IsAt allowed t
 Follows o allowed (Err errors.Memory) = ⊤
 Follows o allowed (Err errors.Elsewhere) = (t : Parts) × (o ≡ Some t) × (IsAt allowed t → ⊥)
-Follows o allowed (Err (errors.Target e)) = (o ≡ None) ⊎ (e ≡ uris.Path OutOfMemory)
+Follows o allowed (Err (errors.Target e)) = ((o ≡ None) × (e ≡ uris.Path ExceededMaximumLength)) ⊎ (e ≡ uris.Path OutOfMemory)
 Follows o allowed (Err (errors.Location e)) = ⊥
