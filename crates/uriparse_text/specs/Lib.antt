@@ -16,3 +16,4 @@ pub mod Spelling
 pub mod Coding
 pub mod Pairs
 pub mod Printing
+pub mod Ends

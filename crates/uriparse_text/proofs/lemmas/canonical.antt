@@ -3,3 +3,4 @@ pub mod CanonicalLemmas
 pub mod RunLemmas
 pub mod SettledLemmas
 pub mod ComparisonLemmas
+pub mod SpellingLengthLemmas
