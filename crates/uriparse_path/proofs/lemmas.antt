@@ -4,3 +4,4 @@ pub mod dots
 pub mod normal
 pub mod merge
 pub mod list
+pub mod left

@@ -12,3 +12,4 @@ pub mod Lends
 pub mod Counts
 pub mod List
 pub mod ListLends
+pub mod Left

@@ -14,6 +14,7 @@ ghost use Rattle.uriparse_path.specs.Normal.{is_canonical, is_normal_at, normal_
 
 pub use crate::path::normal::Place;
 pub use crate::path::read::{PathFront, counted_path, split_path};
+pub use crate::path::text::into::{put_merged, put_normal_path, put_undotted};
 pub use crate::path::text::normal::is_normal_path_text;
 pub use crate::path::text::{are_path_texts_alike, feed_path_text, segments_of};
 use crate::path::{Path, PathError};

@@ -11,6 +11,8 @@ use std::hash::Hasher;
 use std::marker::Model;
 use uriparse_text::internal::{Case, same_spelling, split_at_mark, without_mark};
 
+mod ending;
+pub(crate) mod into;
 pub(crate) mod normal;
 
 /// The segments of a path's text, in order; each borrows the text. Does not allocate.

@@ -67,7 +67,7 @@ replay-append out (s ∷ a) b h = replay_more out s (a ++ b) (some_behind a b h)
 
 -- ---- a deletion does not change the directory
 
-reverse_push : (s : List ℕ) (stack : List (List ℕ)) → reverse (s ∷ stack) ≡ reverse stack ++ s ∷ []
+pub reverse_push : (s : List ℕ) (stack : List (List ℕ)) → reverse (s ∷ stack) ≡ reverse stack ++ s ∷ []
 reverse_push s stack = reverse-append (s ∷ []) stack
 
 walk_reverse : (out : List (List ℕ)) (s : List ℕ) (stack : List (List ℕ)) → walk out (reverse (s ∷ stack)) ≡ step (walk out (reverse stack)) s
@@ -98,7 +98,7 @@ walk_reduced out r = walk_put_all out [] r
 
 -- ---- the last segment
 
-replay_dot : (out : List (List ℕ)) (s : List ℕ) → is_dot_segment s ≡ true → replay out (s ∷ []) ≡ step out s ++ [] ∷ []
+pub replay_dot : (out : List (List ℕ)) (s : List ℕ) → is_dot_segment s ≡ true → replay out (s ∷ []) ≡ step out s ++ [] ∷ []
 replay_dot out s h = by_kind (is_single_dot s) (is_double_dot s) h
   where
     by_kind : (v w : Bool) → (v || w) ≡ true
@@ -217,7 +217,7 @@ no_dots_step out s h = by_kind (is_single_dot s) refl (is_double_dot s) refl
     by_kind false e true f = no_dots_cut out h
     by_kind false e false f = no_dots_push out s h (no_dot s e f)
 
-no_dots_walk : (out ss : List (List ℕ)) → has_dot_segment out ≡ false → has_dot_segment (walk out ss) ≡ false
+pub no_dots_walk : (out ss : List (List ℕ)) → has_dot_segment out ≡ false → has_dot_segment (walk out ss) ≡ false
 no_dots_walk out [] h = h
 no_dots_walk out (s ∷ ss) h = no_dots_walk (step out s) ss (no_dots_step out s h)
 

@@ -108,7 +108,7 @@ reduced_climbs l = climbs_of (reduced l) ((leads_iff l (reduced l)).1 refl).1
 
 -- ---- canonical spelling changes no test
 
-canonical_same : (s : List ℕ) → is_canonical s ≡ true → canonical s ≡ s
+pub canonical_same : (s : List ℕ) → is_canonical s ≡ true → canonical s ≡ s
 canonical_same s h = (bytes_eq-Decides (canonical s) s).0 h
 
 pub all_canonical_same : (l : List (List ℕ)) → list_all is_canonical l ≡ true → map canonical l ≡ l
@@ -143,7 +143,7 @@ hides-canonical ((b ∷ s) ∷ l) = by_text (canonical (b ∷ s)) refl (map cano
     by_text [] e k = let no : b ∷ s ≡ [] = canonical-empty (b ∷ s) e in cc
     by_text (c ∷ u) e k = refl
 
-first_colon-canonical : (l : List (List ℕ)) → is_first has_colon (map canonical l) ≡ is_first has_colon l
+pub first_colon-canonical : (l : List (List ℕ)) → is_first has_colon (map canonical l) ≡ is_first has_colon l
 first_colon-canonical [] = refl
 first_colon-canonical (s ∷ l) = has_colon-canonical s
 

@@ -76,7 +76,7 @@ closed_not : (m : List (List ℕ)) → closed false m ≡ m
 closed_not [] = refl
 closed_not (s ∷ m) = refl
 
-closed_double : (ended : Bool) (m : List (List ℕ)) → is_last is_double_dot m ≡ true → closed ended m ≡ m
+pub closed_double : (ended : Bool) (m : List (List ℕ)) → is_last is_double_dot m ≡ true → closed ended m ≡ m
 closed_double ended [] h = refl
 closed_double true (s ∷ m) h = rw h refl
 closed_double false (s ∷ m) h = refl
@@ -85,7 +85,7 @@ never_own : (v : Bool) → (v && not v) ≡ false
 never_own true = refl
 never_own false = refl
 
-put_away : (t : List ℕ) (stack : List (List ℕ)) (y : List ℕ) → is_double_dot y ≡ true → is_dot_segment t ≡ false → put (t ∷ stack) y ≡ stack
+pub put_away : (t : List ℕ) (stack : List (List ℕ)) (y : List ℕ) → is_double_dot y ≡ true → is_dot_segment t ≡ false → put (t ∷ stack) y ≡ stack
 put_away t stack y d f = rw (not_both y d, d, f) refl
 
 -- a list and its last segment

@@ -37,7 +37,7 @@ one-canonical (s ∷ r ∷ l) = refl
 push-canonical : (out : List (List ℕ)) (s : List ℕ) → map canonical (out ++ s ∷ []) ≡ map canonical out ++ canonical s ∷ []
 push-canonical out s = map-append canonical out (s ∷ [])
 
-push_empty-canonical : (out : List (List ℕ)) → map canonical (out ++ [] ∷ []) ≡ map canonical out ++ [] ∷ []
+pub push_empty-canonical : (out : List (List ℕ)) → map canonical (out ++ [] ∷ []) ≡ map canonical out ++ [] ∷ []
 push_empty-canonical out = push-canonical out [] ∙ ap (λ u. map canonical out ++ u ∷ []) canonical-nil
 
 pub replay-canonical : (out l : List (List ℕ)) → list_all is_segment l ≡ true → replay (map canonical out) (map canonical l) ≡ map canonical (replay out l)

@@ -23,7 +23,7 @@ use Rattle.uriparse_path.proofs.lemmas.text.PathTextLemmas.{pieces-segments, spe
 
 -- ---- a slash separates the pieces before it from those after it
 
-split-append : (s t : List ℕ) → slice_split is_slash (s ++ slash ∷ t) ≡ slice_split is_slash s ++ slice_split is_slash t
+pub split-append : (s t : List ℕ) → slice_split is_slash (s ++ slash ∷ t) ≡ slice_split is_slash s ++ slice_split is_slash t
 split-append [] t = refl
 split-append (b ∷ s) t = by_test (is_slash b) refl (split-append s t)
   where

@@ -1,5 +1,5 @@
 -- The canonical spelling of a path's text is that of a path, segment by segment.
-use Rattle.std.proofs.Common.{◌≡◌, ℕ, Bool, true, false, ◌&&◌, cond, List, [], ◌∷◌, ◌++◌, suc, length, map, flat_map, drop, get_or, refl, sym, ap, subst, ◌∙◌, arith}
+use Rattle.std.proofs.Common.{◌≡◌, ℕ, Bool, true, false, ◌&&◌, cond, List, [], ◌∷◌, ◌++◌, suc, length, map, flat_map, drop, get_or, refl, sym, ap, subst, ◌∙◌, arith, append_assoc}
 use Rattle.std.specs.List.{list_all}
 use Rattle.std.proofs.lemmas.Bool.{and_parts, and_from}
 use Rattle.std.proofs.lemmas.Bool.Decides.{nat_tests}
@@ -92,6 +92,17 @@ not_slash b h = grind (arith, nat_tests)
 rooted-token : (t : Token) (u v : List ℕ) → is_rooted (spell (canonical_token Kept t) ++ u) ≡ is_rooted (spell t ++ v)
 rooted-token (Byte b) u v = refl
 rooted-token (Escape high low) u v = by_escaped Kept high low (λ t. is_rooted (spell t ++ u) ≡ false) (λ e. not_slash (escaped_byte high low) e) (λ e. refl)
+
+-- how a text begins whose first byte is spelled canonically
+pub rooted-front : (b : ℕ) (s u : List ℕ) → is_rooted (canonical (b ∷ s) ++ u) ≡ is_slash b
+rooted-front b s u = ap (λ x. is_rooted (x ++ u)) (sym (spell-canonical_token Kept (b ∷ s))) ∙ by_tokens (tokens (b ∷ s)) (spell-tokens (b ∷ s))
+  where
+    by_tokens : (ts : List Token) → flat_map spell ts ≡ b ∷ s → is_rooted (flat_map spell (map (canonical_token Kept) ts) ++ u) ≡ is_slash b
+    by_tokens [] e = absurd (cc)
+    by_tokens (t ∷ ts) e =
+        ap is_rooted (append_assoc (spell (canonical_token Kept t)) (flat_map spell (map (canonical_token Kept) ts)) u)
+        ∙ rooted-token t (flat_map spell (map (canonical_token Kept) ts) ++ u) (flat_map spell ts)
+        ∙ ap is_rooted e
 
 rooted-tokens : (ts : List Token) → is_rooted (flat_map spell (map (canonical_token Kept) ts)) ≡ is_rooted (flat_map spell ts)
 rooted-tokens [] = refl

@@ -13,7 +13,7 @@ use crate::path::read::split_root;
 use uriparse_text::internal::split_at_mark;
 
 /// Whether the bytes have a colon.
-fn has_colon(bytes: &[u8]) -> bool
+pub(super) fn has_colon(bytes: &[u8]) -> bool
     ensures { result ≡ relative.has_colon bytes.now }
 {
     bytes.contains(&b':')

@@ -1,0 +1,5 @@
+pub mod EndingLemmas
+pub mod LeftLemmas
+pub mod UndottedLemmas
+pub mod RelativeLeftLemmas
+pub mod NormalTextLemmas

@@ -1,0 +1,139 @@
+-- The text of what dot segments leave, put together from its end in a buffer.
+use Rattle.std.proofs.Common.{◌≡◌, ◌≢◌, ℕ, ◌+◌, ◌<◌, ◌≤◌, Bool, true, false, not, cond, List, [], ◌∷◌, ◌++◌, length, map, get_or, take, drop, All, Option, Some, None, refl, sym, ap, ◌∙◌, subst, arith, append-nil, append_assoc, length-drop, ◌&&◌, ◌||◌}
+use Rattle.std.specs.Prelude.{◌==◌}
+use Rattle.std.specs.Option.{option_copied}
+use Rattle.std.specs.List.{list_all, slice_split, join_with_byte}
+use Rattle.std.proofs.lemmas.Bool.{and_parts, and_from, not-true, false≢true, ne_eqb}
+use Rattle.std.proofs.lemmas.Bool.Decides.{nat_tests}
+use Rattle.std.proofs.lemmas.List.{take-append-drop, drop_more, get_or-drop}
+use Rattle.std.proofs.lemmas.List.Folds.{list_all-append}
+use Rattle.std.proofs.lemmas.List.Elements.{All-head, All-tail, All-from_get_or}
+use Rattle.uriparse_text.specs.declared.internal.canonical.Case.TheVariants.{Kept}
+use Rattle.uriparse_text.specs.declared.internal.ends.Form.{Form}
+use Rattle.uriparse_text.specs.declared.internal.ends.Form.TheVariants.{AsIs, Canonical}
+use Rattle.uriparse_text.specs.Bytes.{slash}
+use Rattle.uriparse_text.specs.Canonical.{canonical}
+use Rattle.uriparse_text.specs.Ends.{EndsWith, Puts, formed}
+use Rattle.uriparse_path.specs.declared.path.text.ending.Placed.{Placed}
+use Rattle.uriparse_path.specs.declared.path.text.ending.Ending.{Ending}
+use Rattle.uriparse_path.specs.Segment.{is_segment}
+use Rattle.uriparse_path.specs.Path.{is_rooted, unrooted, has_two_slashes, is_slash, root}
+use Rattle.uriparse_path.specs.Dots.{LacksSlash}
+use Rattle.uriparse_path.specs.Text.{pieces_left}
+use Rattle.uriparse_path.specs.Left.{Left, back, backs, with_end, kept_text, is_more, IsPlaced, IsEnding}
+use Rattle.uriparse_path.proofs.lemmas.reading.LengthFaultLemmas.{split-append}
+use Rattle.uriparse_path.proofs.lemmas.text.SplitLemmas.{pieces-piece}
+use Rattle.uriparse_path.proofs.lemmas.text.CanonicalTextLemmas.{canonical-nil, rooted-front}
+
+-- ---- a segment before a text
+
+some_bytes : (b : ℕ) (s : List ℕ) → (length (b ∷ s) == 0) ≡ false
+some_bytes b s = grind (arith, nat_tests)
+
+-- an empty segment changes nothing, any other one hides what follows it
+rooted-formed : (form : Form) (s u : List ℕ) → LacksSlash s → is_rooted (formed form Kept s ++ u) ≡ ((length s == 0) && is_rooted u)
+rooted-formed AsIs [] u h = refl
+rooted-formed AsIs (b ∷ s) u h = not-true (is_slash b) (and_parts _ _ h).0 ∙ sym (ap (λ v. v && is_rooted u) (some_bytes b s))
+rooted-formed Canonical [] u h = ap (λ x. is_rooted (x ++ u)) canonical-nil
+rooted-formed Canonical (b ∷ s) u h =
+    rooted-front b s u ∙ not-true (is_slash b) (and_parts _ _ h).0 ∙ sym (ap (λ v. v && is_rooted u) (some_bytes b s))
+
+no_slash : (t : List ℕ) → is_rooted t ≡ false → has_two_slashes t ≡ false
+no_slash t e = ap (λ v. v && is_rooted (unrooted t)) e
+
+twice-formed : (form : Form) (s u : List ℕ) → LacksSlash s → has_two_slashes (formed form Kept s ++ u) ≡ ((length s == 0) && has_two_slashes u)
+twice-formed AsIs [] u h = refl
+twice-formed Canonical [] u h = ap (λ x. has_two_slashes (x ++ u)) canonical-nil
+twice-formed form (b ∷ s) u h =
+    no_slash (formed form Kept (b ∷ s) ++ u) (rooted-formed form (b ∷ s) u h ∙ ap (λ v. v && is_rooted u) (some_bytes b s))
+    ∙ sym (ap (λ v. v && has_two_slashes u) (some_bytes b s))
+
+pub placed_segment : (form : Form) (s u t old new : List ℕ) (p q : Placed) (len : ℕ) → LacksSlash s → IsPlaced p old u t
+    → q.rooted ≡ ((length s == 0) && p.rooted) → q.twice ≡ ((length s == 0) && p.twice) → Puts (formed form Kept s) old p.len new q.len
+    → IsPlaced q new (formed form Kept s ++ u) t
+placed_segment form s u t old new p q len h is e f puts = record {
+  rooted = e ∙ ap (λ v. (length s == 0) && v) is.rooted ∙ sym (rooted-formed form s u h);
+  twice = f ∙ ap (λ v. (length s == 0) && v) is.twice ∙ sym (twice-formed form s u h);
+  ends = subst (EndsWith new q.len) (sym (append_assoc (formed form Kept s) u t)) (puts (u ++ t) is.ends);
+}
+
+-- ---- the text of kept segments
+
+pub kept_none : (form : Form) (ended : Bool) → kept_text form ended [] ≡ []
+kept_none AsIs true = refl
+kept_none AsIs false = refl
+kept_none Canonical true = canonical-nil
+kept_none Canonical false = refl
+
+pub none_left : (form : Form) (ended : Bool) (buffer t : List ℕ) (p : Placed) (len : ℕ) → p ≡ record { rooted = false; twice = false; len = len } → EndsWith buffer len t
+    → IsPlaced p buffer (kept_text form ended []) t
+none_left form ended buffer t p len e ends =
+    subst (λ q. IsPlaced q buffer (kept_text form ended []) t) (sym e)
+    (subst (λ u. IsPlaced (record { rooted = false; twice = false; len = len }) buffer u t) (sym (kept_none form ended))
+    (record { rooted = refl; twice = refl; ends = ends }))
+
+-- a kept segment more
+pub kept_more : (form : Form) (ended : Bool) (s : List ℕ) (kept : List (List ℕ))
+    → kept_text form ended (s ∷ kept) ≡ formed form Kept s ++ (root (is_more kept || ended) ++ kept_text form ended kept)
+kept_more form true s [] = refl
+kept_more form true s (k ∷ kept) = refl
+kept_more form false s [] = sym (append-nil (formed form Kept s))
+kept_more form false s (k ∷ kept) = refl
+
+-- ---- cutting off the last segment
+
+-- the byte is no slash
+abbrev pub IsOther : ℕ → Type 0
+IsOther b = b ≢ slash
+
+pub none_slash : (t : List ℕ) → All IsOther t → LacksSlash t
+none_slash [] h = refl
+none_slash (b ∷ t) h = and_from _ _ (ap not (ne_eqb b slash (All-head IsOther b t h))) (none_slash t (All-tail IsOther b t h))
+
+-- the segments before the last slash, and the one after it
+pub cut_last : (t : List ℕ) (at : ℕ) → at < length t → get_or t at 0 ≡ slash → ((k : ℕ) → at + 1 ≤ k → k < length t → get_or t k 0 ≢ slash)
+    → slice_split is_slash t ≡ slice_split is_slash (take at t) ++ drop (at + 1) t ∷ []
+cut_last t at inside here after =
+    ap (slice_split is_slash) (sym (take-append-drop at t) ∙ ap (λ l. take at t ++ l) (drop_more t at 0 inside ∙ ap (λ b. b ∷ drop (at + 1) t) here))
+    ∙ split-append (take at t) (drop (at + 1) t)
+    ∙ ap (λ l. slice_split is_slash (take at t) ++ l) (pieces-piece (drop (at + 1) t) (none_slash (drop (at + 1) t) others))
+  where
+    others : All IsOther (drop (at + 1) t)
+    others =
+        All-from_get_or IsOther (drop (at + 1) t) 0 (λ k inside. subst IsOther (sym (get_or-drop (at + 1) t k 0)) (after (at + 1 + k) (omega arith)
+        (omega (arith, length-drop (at + 1) t))))
+
+-- the last of the segments is one, and so are those before it
+pub parts_each : (front : List (List ℕ)) (s : List ℕ) (all : List (List ℕ)) → all ≡ front ++ s ∷ [] → list_all is_segment all ≡ true
+    → (list_all is_segment front ≡ true) × (is_segment s ≡ true)
+parts_each front s all e h =
+    let both = and_parts (list_all is_segment front) (list_all is_segment (s ∷ []))
+    (sym (list_all-append is_segment front (s ∷ [])) ∙ ap (list_all is_segment) (sym e) ∙ h) in
+    (both.0, (and_parts (is_segment s) true both.1).0)
+
+-- ---- the walk
+
+pub record Walked (form : Form) (ended : Bool) (all : List (List ℕ)) (rest : List (List ℕ)) (first now : Ending) (old out : List ℕ) : Type 0 where
+  pub done : List (List ℕ)
+  pub cut : all ≡ rest ++ done
+  pub few : now.climbs ≤ first.climbs + length done
+  pub room : length out ≡ length old
+  pub each : list_all is_segment rest ≡ true
+  pub is : (l : Left) (t : List ℕ) → IsEnding form ended l first old t → IsEnding form ended (backs done l) now out t
+
+pub walked_more : (form : Form) (ended : Bool) (all rest front : List (List ℕ)) (s : List ℕ) (first now next : Ending) (old out new : List ℕ)
+    → Walked form ended all rest first now old out → rest ≡ front ++ s ∷ [] → next.climbs ≤ now.climbs + 1 → length new ≡ length out
+    → ((l : Left) (t : List ℕ) → IsEnding form ended l now out t → IsEnding form ended (back s l) next new t)
+    → Walked form ended all front first next old new
+walked_more form ended all rest front s first now next old out new w e few room step = record {
+  done = s ∷ w.done;
+  cut = w.cut ∙ ap (λ u. u ++ w.done) e ∙ append_assoc front (s ∷ []) w.done;
+  few = let before = w.few in omega arith;
+  room = room ∙ w.room;
+  each = (parts_each front s rest e w.each).0;
+  is = λ l t h. step (backs w.done l) t (w.is l t h);
+}
+
+pub backs-append : (a b : List (List ℕ)) (l : Left) → backs (a ++ b) l ≡ backs a (backs b l)
+backs-append [] b l = refl
+backs-append (s ∷ a) b l = ap (back s) (backs-append a b l)

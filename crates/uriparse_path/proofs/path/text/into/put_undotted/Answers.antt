@@ -1,0 +1,39 @@
+use Rattle.std.proofs.Common.{◌≡◌, ◌++◌, ◌||◌, ◌∙◌, ◌+◌, ◌≤◌, length, sym, ap, subst, arith}
+use Rattle.std.specs.List.{slice_split}
+use Rattle.uriparse_text.specs.Ends.{EndsWith, formed}
+use Rattle.uriparse_text.specs.declared.internal.canonical.Case.TheVariants.{Kept}
+use Rattle.uriparse_path.specs.Path.{is_rooted, is_slash, max_segments, pieces, root, spelled, text}
+use Rattle.uriparse_path.specs.Dots.{is_dot_segment, undot}
+use Rattle.uriparse_path.specs.Edits.{shield_unless}
+use Rattle.uriparse_path.specs.Relative.{is_last}
+use Rattle.uriparse_path.specs.Left.{kept_text, left_of, nothing}
+use Rattle.uriparse_path.proofs.lemmas.left.UndottedLemmas.{undotted_text}
+use Rattle.uriparse_path.proofs.path.text.into.put_undotted.Goals as goal
+
+pub walk-ending-requires-clause-few : goal.walk-ending-requires-clause-few
+unfolding max_segments
+walk-ending-requires-clause-few c =
+    let short = c.requires.short in
+    let rest : length (slice_split is_slash c.split_root-rooted.result.1.now) ≡ length (pieces c.args.text.now) =
+    ap (λ u. length (slice_split is_slash u)) c.split_root-rooted.ensures.rest in
+    let none = c.none.ensures.climbs in
+    omega arith
+
+pub returns-clause-puts : goal.returns-clause-puts
+returns-clause-puts c = λ t h.
+    let form = c.args.form in
+    let u = c.args.text.now in
+    let ended = c.ends_in_dots.result in
+    let rest = c.split_root-rooted.result.1.now in
+    let end = c.put_front.ensures.puts form ended (left_of (slice_split is_slash rest)) t
+    (c.walk-ending.ensures.is nothing t (c.none.ensures.is form ended c.args.out.now t h)) in
+    let same : root (c.split_root-rooted.result.0 || (left_of (slice_split is_slash rest)).removed) ++ kept_text form ended (left_of (slice_split is_slash rest)).kept
+    ≡ formed form Kept (undot u) =
+    ap (λ v. root (c.split_root-rooted.result.0 || (left_of (slice_split is_slash rest)).removed) ++ kept_text form v (left_of (slice_split is_slash rest)).kept)
+    c.ends_in_dots.ensures
+    ∙ ap (λ x. root (c.split_root-rooted.result.0 || (left_of (slice_split is_slash x)).removed)
+    ++ kept_text form (is_last is_dot_segment (slice_split is_slash x)) (left_of (slice_split is_slash x)).kept) c.split_root-rooted.ensures.rest
+    ∙ ap (λ v. root (v || (left_of (pieces u)).removed) ++ kept_text form (is_last is_dot_segment (pieces u)) (left_of (pieces u)).kept)
+    c.split_root-rooted.ensures.root
+    ∙ undotted_text form u c.requires in
+    subst (λ x. EndsWith c.put_front.new.out c.put_front.result (text (shield_unless c.args.has_authority (spelled x)) ++ t)) same end

@@ -1,0 +1,142 @@
+//! The text of a path's normal form, and of a path without dot segments, put together from its end
+//! in the last bytes of a buffer: RFC 3986, sections 5.2.3, 5.2.4 and 6.2.2.
+ghost use Rattle.std.specs.Prelude.{◌≡◌, ℕ, Bool, ◌<◌, ◌≤◌, ◌++◌, ◌||◌, List, length, false, true};
+ghost use Rattle.std.specs.List.{join_with_byte, slice_split};
+ghost use Rattle.uriparse_text.specs.declared.internal.canonical.Case.TheVariants as case;
+ghost use Rattle.uriparse_text.specs.declared.internal.ends.Form.{Form};
+ghost use Rattle.uriparse_text.specs.declared.internal.ends.Form.TheVariants.{Canonical};
+ghost use Rattle.uriparse_text.specs.Bytes.{slash};
+ghost use Rattle.uriparse_text.specs.Ends.{EndsWith, Puts, formed};
+ghost use Rattle.uriparse_path.specs.Path as path;
+ghost use Rattle.uriparse_path.specs.Path.{IsPath, is_rooted, is_slash, max_segments, root, spelled};
+ghost use Rattle.uriparse_path.specs.Dots.{replayed, undot};
+ghost use Rattle.uriparse_path.specs.Edits.{shield_unless};
+ghost use Rattle.uriparse_path.specs.Merge.{merged};
+ghost use Rattle.uriparse_path.specs.Relative.{relative_normal};
+ghost use Rattle.uriparse_path.specs.Normal.{normal_at};
+ghost use Rattle.uriparse_path.specs.Left as spec;
+
+use super::ending::{Ending, ends_in_dots};
+use super::normal::has_colon;
+use crate::path::normal::Place;
+use crate::path::read::split_root;
+use uriparse_text::internal::{Form, put, split_at_mark};
+
+/// The front of a path from which dot segments are removed: its root, and `/.` if it would begin
+/// with two slashes without an authority.
+fn put_front(ending: Ending, rooted: bool, has_authority: bool, out: &mut [u8]) -> usize
+    ensures room { length out.new ≡ length out.old }
+    ensures puts { (form : Form) (ended : Bool) (l : spec.Left) (t : List ℕ) → spec.IsEnding form ended l ending out.old t → EndsWith out.new result (path.text (shield_unless has_authority (spelled (root (rooted || l.removed) ++ spec.kept_text form ended l.kept))) ++ t) }
+{
+    let text = ending.text.put_root(rooted || ending.removed, out);
+    if !has_authority && text.twice {
+        return put(b"/.", out, text.len);
+    }
+    text.len
+}
+
+/// Puts the text without its dot segments. Without an authority, a text that would start with `//`
+/// gets a leading `/.`.
+pub fn put_undotted(
+    form: Form,
+    has_authority: bool,
+    text: &[u8],
+    out: &mut [u8],
+    len: usize,
+) -> usize
+    requires { IsPath text.now }
+    ensures room { length out.new ≡ length out.old }
+    ensures puts { Puts (path.text (shield_unless has_authority (spelled (formed form case.Kept (undot text.now))))) out.old len out.new result }
+{
+    let (rooted, rest) = split_root(text);
+    let ending = Ending::none(len).walk(form, ends_in_dots(rest), rest, out);
+    put_front(ending, rooted, has_authority, out)
+}
+
+/// Puts the merged paths without their dot segments: the base's up to its last slash, then the
+/// reference's.
+pub fn put_merged(
+    has_authority: bool,
+    base: &[u8],
+    reference: &[u8],
+    out: &mut [u8],
+    len: usize,
+) -> usize
+    requires base { IsPath base.now }
+    requires reference { IsPath reference.now }
+    requires relative { is_rooted reference.now ≡ false }
+    requires short { length (merged (spelled base.now) (spelled reference.now)).segments ≤ max_segments }
+    ensures room { length out.new ≡ length out.old }
+    ensures puts { Puts (path.text (shield_unless has_authority (spelled (path.text (replayed (merged (spelled base.now) (spelled reference.now))))))) out.old len out.new result }
+{
+    let (rooted, rest) = split_root(base);
+    let ended = ends_in_dots(reference);
+    let ending = Ending::none(len).walk(Form::AsIs, ended, reference, out);
+    let ending = ending.walk_directory(Form::AsIs, ended, rest, out);
+    put_front(ending, rooted, has_authority, out)
+}
+
+/// Puts this many `../`.
+fn put_ups(count: usize, out: &mut [u8], len: usize) -> usize
+    ensures room { length out.new ≡ length out.old }
+    ensures puts { (t : List ℕ) → EndsWith out.old len t → EndsWith out.new result (spec.ups count t) }
+{
+    let mut total = len;
+    for _ in 0..count {
+        total = put(b"../", out, total);
+    }
+    total
+}
+
+/// Puts this many `..`, with slashes between them, and with one at the end if a text follows.
+fn put_climbs(climbs: usize, more: bool, out: &mut [u8], len: usize) -> usize
+    requires { 0 < climbs }
+    ensures room { length out.new ≡ length out.old }
+    ensures puts { (t : List ℕ) → EndsWith out.old len t → EndsWith out.new result (spec.climbed climbs more t) }
+{
+    if more {
+        return put_ups(climbs, out, len);
+    }
+    let len = put(b"..", out, len);
+    put_ups(climbs - 1, out, len)
+}
+
+/// The front of a path that stays relative: the `..` that are left, or `./` if it is needed.
+fn put_relative_front(ending: Ending, had_colon: bool, out: &mut [u8]) -> usize
+    ensures room { length out.new ≡ length out.old }
+    ensures puts { (ended : Bool) (l : spec.Left) (t : List ℕ) → spec.IsEnding Canonical ended l ending out.old t → EndsWith out.new result (spec.relative_text had_colon ended l ++ t) }
+{
+    if ending.climbs > 0 {
+        return put_climbs(ending.climbs, ending.kept, out, ending.text.len);
+    }
+    if ending.text.rooted || (ending.colon && !had_colon) {
+        return put(b"./", out, ending.text.len);
+    }
+    ending.text.len
+}
+
+/// Puts the relative normal form of a text that begins with no slash.
+fn put_relative(text: &[u8], out: &mut [u8], len: usize) -> usize
+    requires path { IsPath text.now }
+    requires relative { is_rooted text.now ≡ false }
+    ensures room { length out.new ≡ length out.old }
+    ensures puts { Puts (join_with_byte slash (relative_normal (slice_split is_slash text.now))) out.old len out.new result }
+{
+    let (first, _) = split_at_mark(text, b'/');
+    let ending = Ending::none(len).walk(Form::Canonical, ends_in_dots(text), text, out);
+    put_relative_front(ending, has_colon(first), out)
+}
+
+/// Puts the normal form of a path's text at this place in a reference.
+pub fn put_normal_path(text: &[u8], place: Place, out: &mut [u8], len: usize) -> usize
+    requires { IsPath text.now }
+    ensures room { length out.new ≡ length out.old }
+    ensures puts { Puts (path.text (normal_at place (spelled text.now))) out.old len out.new result }
+{
+    let (rooted, _) = split_root(text);
+    if place.has_scheme || rooted {
+        put_undotted(Form::Canonical, place.has_authority, text, out, len)
+    } else {
+        put_relative(text, out, len)
+    }
+}
