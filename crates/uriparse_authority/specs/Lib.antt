@@ -7,3 +7,4 @@ pub mod Host
 pub mod Authority
 pub mod Normal
 pub mod Found
+pub mod Ends

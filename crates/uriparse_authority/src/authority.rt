@@ -17,6 +17,7 @@ mod error;
 pub(crate) mod found;
 mod future;
 mod host;
+mod into;
 mod name;
 pub(crate) mod normal;
 mod password;

@@ -1,15 +1,27 @@
 //! What the crates above build on. Users do not need it.
 ghost use Rattle.std.specs.Prelude.{◌≡◌, ◌≤◌, ◌⊎◌, length};
+ghost use Rattle.uriparse_text.specs.Ends.{Puts};
 ghost use Rattle.uriparse_authority.specs.Authority.{print};
+ghost use Rattle.uriparse_authority.specs.Ends.{formed_authority};
 
 use crate::authority::Authority;
 pub use crate::authority::found::FoundAuthority;
 pub use crate::authority::normal::{CanonicalCopies, canonical_copies, put_copies};
 pub use crate::authority::read::{find_authority, split_port, split_userinfo};
+use uriparse_text::internal::Form;
 
 /// An upper bound on the number of bytes of the authority's text, or `usize::MAX`.
 pub fn most_authority_bytes(authority: &Authority<'_>) -> usize
     ensures { length (print authority.now) ≤ result ⊎ result ≡ usize.MAX }
 {
     authority.most_bytes()
+}
+
+/// Puts the text of the authority, without its `//`, before the `len` bytes at the end of the
+/// buffer. Returns the length of both. If there is no room, only the length is counted.
+pub fn put_authority(authority: &Authority<'_>, form: Form, out: &mut [u8], len: usize) -> usize
+    ensures room { length out.new ≡ length out.old }
+    ensures puts { Puts (print (formed_authority form authority.now)) out.old len out.new result }
+{
+    authority.put(form, out, len)
 }

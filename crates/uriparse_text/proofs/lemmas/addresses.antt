@@ -6,3 +6,4 @@ pub mod ReadingLemmas
 pub mod ByteLemmas
 pub mod RangeLemmas
 pub mod CanonicalLemmas
+pub mod PutLemmas

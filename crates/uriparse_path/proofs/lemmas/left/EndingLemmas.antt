@@ -1,9 +1,8 @@
 -- The text of what dot segments leave, put together from its end in a buffer.
-use Rattle.std.proofs.Common.{◌≡◌, ◌≢◌, ℕ, ◌+◌, ◌<◌, ◌≤◌, Bool, true, false, not, cond, List, [], ◌∷◌, ◌++◌, length, map, get_or, take, drop, All, Option, Some, None, refl, sym, ap, ◌∙◌, subst, arith, append-nil, append_assoc, length-drop, ◌&&◌, ◌||◌}
+use Rattle.std.proofs.Common.{◌≡◌, ◌≢◌, ℕ, ◌+◌, ◌<◌, ◌≤◌, Bool, true, false, not, List, [], ◌∷◌, ◌++◌, length, get_or, take, drop, All, refl, sym, ap, ◌∙◌, subst, arith, append-nil, append_assoc, length-drop, ◌&&◌, ◌||◌}
 use Rattle.std.specs.Prelude.{◌==◌}
-use Rattle.std.specs.Option.{option_copied}
-use Rattle.std.specs.List.{list_all, slice_split, join_with_byte}
-use Rattle.std.proofs.lemmas.Bool.{and_parts, and_from, not-true, false≢true, ne_eqb}
+use Rattle.std.specs.List.{list_all, slice_split}
+use Rattle.std.proofs.lemmas.Bool.{and_parts, and_from, not-true, ne_eqb}
 use Rattle.std.proofs.lemmas.Bool.Decides.{nat_tests}
 use Rattle.std.proofs.lemmas.List.{take-append-drop, drop_more, get_or-drop}
 use Rattle.std.proofs.lemmas.List.Folds.{list_all-append}
@@ -12,15 +11,13 @@ use Rattle.uriparse_text.specs.declared.internal.canonical.Case.TheVariants.{Kep
 use Rattle.uriparse_text.specs.declared.internal.ends.Form.{Form}
 use Rattle.uriparse_text.specs.declared.internal.ends.Form.TheVariants.{AsIs, Canonical}
 use Rattle.uriparse_text.specs.Bytes.{slash}
-use Rattle.uriparse_text.specs.Canonical.{canonical}
 use Rattle.uriparse_text.specs.Ends.{EndsWith, Puts, formed}
 use Rattle.uriparse_path.specs.declared.path.text.ending.Placed.{Placed}
 use Rattle.uriparse_path.specs.declared.path.text.ending.Ending.{Ending}
 use Rattle.uriparse_path.specs.Segment.{is_segment}
 use Rattle.uriparse_path.specs.Path.{is_rooted, unrooted, has_two_slashes, is_slash, root}
 use Rattle.uriparse_path.specs.Dots.{LacksSlash}
-use Rattle.uriparse_path.specs.Text.{pieces_left}
-use Rattle.uriparse_path.specs.Left.{Left, back, backs, with_end, kept_text, is_more, IsPlaced, IsEnding}
+use Rattle.uriparse_path.specs.Left.{Left, back, backs, kept_text, is_more, IsPlaced, IsEnding}
 use Rattle.uriparse_path.proofs.lemmas.reading.LengthFaultLemmas.{split-append}
 use Rattle.uriparse_path.proofs.lemmas.text.SplitLemmas.{pieces-piece}
 use Rattle.uriparse_path.proofs.lemmas.text.CanonicalTextLemmas.{canonical-nil, rooted-front}

@@ -1,10 +1,10 @@
 -- What is left of a path's segments is what dot removal keeps of them.
-use Rattle.std.proofs.Common.{◌≡◌, ℕ, zero, suc, ◌<◌, ◌≤◌, Bool, true, false, not, cond, List, [], ◌∷◌, ◌++◌, length, refl, sym, ap, ◌∙◌, subst, arith, append-nil, append_assoc, length-append, ◌&&◌, ◌||◌}
+use Rattle.std.proofs.Common.{◌≡◌, ℕ, zero, suc, ◌<◌, Bool, true, false, not, cond, List, [], ◌∷◌, ◌++◌, length, refl, sym, ap, ◌∙◌, arith, append-nil, append_assoc, ◌||◌}
 use Rattle.uriparse_path.specs.Dots.{is_single_dot, is_double_dot, is_dot_segment, all_but_last, replay, is_one, rooted_after}
 use Rattle.uriparse_path.specs.Relative.{is_last}
-use Rattle.uriparse_path.specs.Left.{Left, nothing, reached, back, backs, left_of, with_end, is_more}
+use Rattle.uriparse_path.specs.Left.{Left, reached, left_of, with_end, is_more}
 use Rattle.uriparse_path.proofs.lemmas.merge.MergedNormalFormLemmas.{step, walk, walk-append, all_but_last_push, replay-append, replay_dot}
-use Rattle.uriparse_path.proofs.lemmas.normal.RelativeLengthLemmas.{last_push, Pushed, pushed}
+use Rattle.uriparse_path.proofs.lemmas.normal.RelativeLengthLemmas.{last_push, pushed}
 
 -- without this many segments at the end
 abbrev pub cuts : ℕ → List (List ℕ) → List (List ℕ)

@@ -1,14 +1,14 @@
 -- The text of a path's normal form at a place in a reference.
-use Rattle.std.proofs.Common.{◌≡◌, ℕ, Bool, true, false, not, cond, List, [], ◌∷◌, ◌++◌, refl, sym, ap, ◌∙◌, subst, ◌&&◌}
+use Rattle.std.proofs.Common.{◌≡◌, ℕ, Bool, true, false, not, List, refl, sym, ap, ◌∙◌, ◌&&◌}
 use Rattle.std.specs.List.{slice_split, join_with_byte}
 use Rattle.uriparse_text.specs.Bytes.{slash}
 use Rattle.uriparse_text.specs.Canonical.{canonical}
 use Rattle.uriparse_path.specs.declared.path.normal.Place.{Place}
-use Rattle.uriparse_path.specs.Path.{IsPath, text, is_rooted, is_slash, unrooted, pieces, spelled, respelled}
+use Rattle.uriparse_path.specs.Path.{IsPath, text, is_rooted, is_slash, spelled, respelled}
 use Rattle.uriparse_path.specs.Dots.{undot}
 use Rattle.uriparse_path.specs.Edits.{shield_unless}
 use Rattle.uriparse_path.specs.Relative.{relative_normal}
-use Rattle.uriparse_path.specs.Normal.{stays_relative, pnormal, normal_at}
+use Rattle.uriparse_path.specs.Normal.{stays_relative, normal_at}
 use Rattle.uriparse_path.proofs.lemmas.text.PathTextLemmas.{text-spelled, spelled-text}
 use Rattle.uriparse_path.proofs.lemmas.left.UndottedLemmas.{pieces_relative}
 use Rattle.uriparse_path.proofs.lemmas.normal.NormalFormLemmas.{pnormal_relative, spelled_canonical_undot}

@@ -1,6 +1,6 @@
 -- The text without dot segments is that of what is left of its segments.
-use Rattle.std.proofs.Common.{◌≡◌, ℕ, ◌+◌, ◌<◌, ◌≤◌, Bool, true, false, not, cond, List, [], ◌∷◌, ◌++◌, length, map, refl, sym, ap, ◌∙◌, subst, arith, append_assoc, ◌&&◌, ◌||◌}
-use Rattle.std.specs.List.{list_all, slice_split, join_with_byte}
+use Rattle.std.proofs.Common.{◌≡◌, ℕ, ◌≤◌, Bool, true, false, not, cond, List, [], ◌∷◌, ◌++◌, length, map, refl, sym, ap, ◌∙◌, subst, ◌&&◌, ◌||◌}
+use Rattle.std.specs.List.{slice_split, join_with_byte}
 use Rattle.std.proofs.lemmas.Bool.{and_parts}
 use Rattle.uriparse_text.specs.declared.internal.canonical.Case.TheVariants.{Kept}
 use Rattle.uriparse_text.specs.declared.internal.ends.Form.{Form}
@@ -9,11 +9,11 @@ use Rattle.uriparse_text.specs.Bytes.{dot, slash}
 use Rattle.uriparse_text.specs.Canonical.{canonical}
 use Rattle.uriparse_text.specs.Ends.{EndsWith, formed}
 use Rattle.uriparse_path.specs.Path.{PathParts, IsListed, IsPath, root, text, is_rooted, unrooted, has_two_slashes, is_slash, max_segments, pieces, spelled}
-use Rattle.uriparse_path.specs.Dots.{is_dot_segment, all_but_last, replay, rooted_after, replayed, undot}
+use Rattle.uriparse_path.specs.Dots.{is_dot_segment, all_but_last, rooted_after, replayed, undot}
 use Rattle.uriparse_path.specs.Edits.{dotted, shield_unless}
 use Rattle.uriparse_path.specs.Relative.{is_last}
 use Rattle.uriparse_path.specs.Merge.{merged}
-use Rattle.uriparse_path.specs.Left.{nothing, backs, left_of, with_end, kept_text}
+use Rattle.uriparse_path.specs.Left.{nothing, backs, left_of, kept_text}
 use Rattle.uriparse_path.proofs.lemmas.text.PathTextLemmas.{text-spelled, root-unrooted, spelled-relative}
 use Rattle.uriparse_path.proofs.lemmas.text.SplitLemmas.{joined-pieces, cut}
 use Rattle.uriparse_path.proofs.lemmas.text.CanonicalTextLemmas.{canonical-text}

@@ -189,10 +189,7 @@ pub(super) fn split_last(text: &[u8]) -> (Option<&[u8]>, Segment<'_>)
     ensures cut { slice_split is_slash text.now ≡ pieces_left (option_copied result.0) ++ result.1 ∷ [] }
 {
     match text.iter().rposition(|&b| b == b'/') {
-        Some(at) => (
-            Some(&text[..at]),
-            Segment::of_kept(&text[at + 1..], false),
-        ),
+        Some(at) => (Some(&text[..at]), Segment::of_kept(&text[at + 1..], false)),
         None => (None, Segment::of_kept(text, false)),
     }
 }

@@ -1,5 +1,5 @@
-use Rattle.std.proofs.Common.{◌≡◌, ◌++◌, ◌∷◌, [], ◌∙◌, ◌+◌, ◌-◌, length, take, drop, true, sym, ap, subst, rules}
-use Rattle.std.specs.List.{list_all, slice_split}
+use Rattle.std.proofs.Common.{◌≡◌, ◌++◌, ◌∷◌, [], ◌∙◌, ◌+◌, take, drop, true, sym, ap, subst, rules}
+use Rattle.std.specs.List.{slice_split}
 use Rattle.std.proofs.lemmas.Bool.{false≢true}
 use Rattle.std.proofs.lemmas.List.{take_rest}
 use Rattle.uriparse_path.specs.Path.{is_slash}
@@ -22,7 +22,7 @@ of_kept-requires c =
     let at = c.in-Some.at in
     record {
       inside = subst (λ s. is_segment s ≡ true) (sym (take_rest t (at + 1)))
-      (parts_each (slice_split is_slash (take at t)) (drop (at + 1) t) (slice_split is_slash t) (cut-some (goal.at.of_kept-requires c).In-Some) c.requires).1;
+          (parts_each (slice_split is_slash (take at t)) (drop (at + 1) t) (slice_split is_slash t) (cut-some (goal.at.of_kept-requires c).In-Some) c.requires).1;
       canonical = λ h. absurd (false≢true h);
     }
 
@@ -38,7 +38,7 @@ returns-in-Some c =
     let at = c.in-Some.at in
     record {
       cut = cut-some (goal.at.returns-in-Some c).In-Some
-      ∙ ap (λ s. slice_split is_slash (take at t) ++ s ∷ []) (sym (c.of_kept.ensures ∙ take_rest t (at + 1)));
+          ∙ ap (λ s. slice_split is_slash (take at t) ++ s ∷ []) (sym (c.of_kept.ensures ∙ take_rest t (at + 1)));
     }
 
 pub returns-in-None : goal.returns-in-None

@@ -1,12 +1,11 @@
-use Rattle.std.proofs.Common.{◌≡◌, ◌++◌, ◌||◌, ◌∙◌, ◌+◌, ◌≤◌, length, sym, ap, subst, arith}
+use Rattle.std.proofs.Common.{◌≡◌, ◌++◌, ◌||◌, ◌∙◌, length, ap, subst, arith}
 use Rattle.std.specs.List.{slice_split}
 use Rattle.uriparse_text.specs.Ends.{EndsWith}
 use Rattle.uriparse_text.specs.declared.internal.ends.Form.TheVariants.{AsIs}
 use Rattle.uriparse_path.specs.Path.{is_rooted, is_slash, max_segments, pieces, root, spelled, text}
-use Rattle.uriparse_path.specs.Dots.{all_but_last, is_dot_segment, replayed}
+use Rattle.uriparse_path.specs.Dots.{all_but_last, replayed}
 use Rattle.uriparse_path.specs.Edits.{shield_unless}
 use Rattle.uriparse_path.specs.Merge.{merged}
-use Rattle.uriparse_path.specs.Relative.{is_last}
 use Rattle.uriparse_path.specs.Left.{backs, kept_text, left_of, nothing}
 use Rattle.uriparse_path.proofs.lemmas.left.UndottedLemmas.{merged_left, merged_text, pieces_relative}
 use Rattle.uriparse_path.proofs.path.text.into.put_merged.Goals as goal

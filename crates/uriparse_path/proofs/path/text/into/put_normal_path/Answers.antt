@@ -1,6 +1,5 @@
-use Rattle.std.proofs.Common.{◌≡◌, ◌++◌, ◌&&◌, not, true, false, ◌∙◌, sym, ap, subst, rules}
+use Rattle.std.proofs.Common.{◌≡◌, ◌++◌, ◌&&◌, not, false, ◌∙◌, sym, ap, subst, rules}
 use Rattle.uriparse_text.specs.Ends.{EndsWith}
-use Rattle.uriparse_path.specs.Path.{is_rooted}
 use Rattle.uriparse_path.proofs.lemmas.left.NormalTextLemmas.{normal_stays, normal_moves}
 use Rattle.uriparse_path.proofs.path.text.into.put_normal_path.Goals as goal
 

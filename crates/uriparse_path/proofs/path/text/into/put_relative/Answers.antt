@@ -1,11 +1,9 @@
-use Rattle.std.proofs.Common.{◌≡◌, ◌++◌, ◌∙◌, ◌+◌, ◌≤◌, length, sym, ap, subst, arith}
-use Rattle.std.specs.List.{join_with_byte, slice_split}
-use Rattle.uriparse_text.specs.Bytes.{slash}
+use Rattle.std.proofs.Common.{◌≡◌, ◌++◌, ◌∙◌, length, sym, ap, subst, arith}
+use Rattle.std.specs.List.{slice_split}
 use Rattle.uriparse_text.specs.Ends.{EndsWith}
 use Rattle.uriparse_text.specs.declared.internal.ends.Form.TheVariants.{Canonical}
 use Rattle.uriparse_path.specs.Path.{is_slash, max_segments, pieces}
-use Rattle.uriparse_path.specs.Dots.{is_dot_segment}
-use Rattle.uriparse_path.specs.Relative.{has_colon, is_first, is_last, relative_normal}
+use Rattle.uriparse_path.specs.Relative.{has_colon, is_first}
 use Rattle.uriparse_path.specs.Left.{left_of, nothing, relative_text}
 use Rattle.uriparse_path.proofs.lemmas.text.TextWalkLemmas.{pieces_of_path}
 use Rattle.uriparse_path.proofs.lemmas.normal.TextNormalLemmas.{first_colon-pieces}

@@ -1,4 +1,4 @@
-use Rattle.std.proofs.Common.{◌≡◌, ◌++◌, ◌||◌, ◌&&◌, not, true, false, ◌<◌, zero, ◌∙◌, List, ℕ, Bool, refl, sym, ap, subst, arith, rules}
+use Rattle.std.proofs.Common.{◌≡◌, ◌++◌, ◌||◌, ◌&&◌, not, true, false, ◌<◌, ◌∙◌, sym, ap, subst, arith, rules}
 use Rattle.uriparse_text.specs.declared.internal.ends.Form.TheVariants.{Canonical}
 use Rattle.uriparse_text.specs.Ends.{EndsWith}
 use Rattle.uriparse_path.specs.Path.{is_rooted}

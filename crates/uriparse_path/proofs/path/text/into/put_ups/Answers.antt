@@ -1,4 +1,4 @@
-use Rattle.std.proofs.Common.{◌≡◌, ◌∙◌, refl, sym, ap, subst, add-one, arith}
+use Rattle.std.proofs.Common.{◌≡◌, ◌∙◌, sym, subst, add-one, arith}
 use Rattle.uriparse_text.specs.Ends.{EndsWith}
 use Rattle.uriparse_path.specs.Left.{ups}
 use Rattle.uriparse_path.proofs.path.text.into.put_ups.Goals as goal
@@ -7,7 +7,7 @@ pub loop-preserved : goal.loop-preserved
 loop-preserved c = record {
   room = c.put-total.ensures.room ∙ c.loop.invariant.room;
   puts = λ t h. subst (λ n. EndsWith c.put-total.new.out c.put-total.result (ups n t)) (sym (add-one c.loop.counter))
-  (c.put-total.ensures.puts (ups c.loop.counter t) (c.loop.invariant.puts t h));
+      (c.put-total.ensures.puts (ups c.loop.counter t) (c.loop.invariant.puts t h));
 }
 
 pub returns-clause-puts : goal.returns-clause-puts

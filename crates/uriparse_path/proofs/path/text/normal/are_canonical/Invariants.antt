@@ -1,4 +1,4 @@
-use Rattle.std.proofs.Common.{◌≡◌, cond, false, not}
+use Rattle.std.proofs.Common.{◌≡◌}
 use Rattle.std.specs.List.{list_all}
 use Rattle.uriparse_path.specs.Normal.{is_canonical}
 use Rattle.uriparse_path.proofs.path.text.normal.are_canonical.Given as goal

@@ -1,5 +1,4 @@
-use Rattle.std.proofs.Common.{◌≡◌, cond, false, not}
-use Rattle.std.specs.List.{list_all}
+use Rattle.std.proofs.Common.{◌≡◌, false}
 use Rattle.uriparse_path.specs.Normal.{are_normal}
 use Rattle.uriparse_path.proofs.path.text.normal.are_settled.Given as goal
 

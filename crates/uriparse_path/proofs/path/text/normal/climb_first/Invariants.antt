@@ -1,5 +1,4 @@
-use Rattle.std.proofs.Common.{◌≡◌, cond, false, not}
-use Rattle.std.specs.List.{list_all}
+use Rattle.std.proofs.Common.{◌≡◌, cond, not}
 use Rattle.uriparse_path.specs.Dots.{has_dot_segment}
 use Rattle.uriparse_path.specs.Normal.{climbs_first}
 use Rattle.uriparse_path.proofs.path.text.normal.climb_first.Given as goal

@@ -19,6 +19,6 @@ returns-clause-is c = λ l t is.
       kept = refl;
       colon = c.has_colon.ensures;
       placed = subst (λ u. IsPlaced c.put_segment.result c.put_segment.new.out u t)
-      (ap (λ v. formed form Kept s ++ (root v ++ text)) more ∙ sym (kept_more form c.args.ended s l.kept))
-      (c.put_segment.ensures.placed (root c.if-self.put_root ++ text) t (c.put_root-text.ensures.placed text t is.placed));
+          (ap (λ v. formed form Kept s ++ (root v ++ text)) more ∙ sym (kept_more form c.args.ended s l.kept))
+          (c.put_segment.ensures.placed (root c.if-self.put_root ++ text) t (c.put_root-text.ensures.placed text t is.placed));
     }

@@ -1,9 +1,8 @@
-use Rattle.std.proofs.Common.{◌≡◌, ◌++◌, ◌∷◌, [], ◌+◌, ◌<◌, ◌≤◌, ◌∙◌, List, ℕ, length, refl, sym, ap, subst, arith, append-nil, length-append}
+use Rattle.std.proofs.Common.{◌≡◌, ◌++◌, ◌∷◌, [], ◌∙◌, refl, sym, ap, arith, append-nil}
 use Rattle.std.specs.List.{slice_split}
 use Rattle.std.specs.Option.{option_copied}
 use Rattle.uriparse_path.specs.Path.{is_slash}
 use Rattle.uriparse_path.specs.Text.{pieces_left}
-use Rattle.uriparse_path.specs.Left.{Left, IsEnding, backs}
 use Rattle.uriparse_path.proofs.lemmas.left.EndingLemmas.{Walked, walked_more}
 use Rattle.uriparse_path.proofs.path.text.ending.Ending.walk.Goals.{After-step-ending}
 use Rattle.uriparse_path.proofs.path.text.ending.Ending.walk.Goals as goal

@@ -1,4 +1,4 @@
-use Rattle.std.proofs.Common.{◌≡◌, ◌++◌, ◌&&◌, ◌∙◌, length, sym, ap, subst, rules}
+use Rattle.std.proofs.Common.{◌≡◌, ◌&&◌, ◌∙◌, length, ap, subst, rules}
 use Rattle.std.specs.Prelude.{◌==◌}
 use Rattle.uriparse_text.specs.declared.internal.canonical.Case.TheVariants.{Kept}
 use Rattle.uriparse_text.specs.Ends.{Puts, formed}
