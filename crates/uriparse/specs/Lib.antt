@@ -65,6 +65,7 @@ pub use Rattle.uriparse_reference.specs.Kinds as ReferenceKinds
 pub use Rattle.uriparse_reference.specs.Cuts
 pub use Rattle.uriparse_reference.specs.Reading
 pub use Rattle.uriparse_reference.specs.Escaped
+pub use Rattle.uriparse_reference.specs.Into
 pub use Rattle.uriparse_reference.specs.Edits
 pub use Rattle.uriparse_reference.specs.Builder
 pub use Rattle.uriparse_reference.specs.Key

@@ -30,7 +30,8 @@ pub use uriparse_path::path;
 pub use uriparse_path::path::{Path, PathError, PathOf, Segment, Segments};
 pub use uriparse_reference::uri_reference;
 pub use uriparse_reference::uri_reference::{
-    Edit, ReferenceView, URIReference, URIReferenceBuilder, URIReferenceError, escape_invalid,
+    BufferError, Edit, ReferenceView, URIReference, URIReferenceBuilder, URIReferenceError,
+    escape_invalid,
 };
 pub use uriparse_scheme::scheme;
 pub use uriparse_scheme::scheme::{Scheme, SchemeError, SchemeStatus, UnregisteredScheme};

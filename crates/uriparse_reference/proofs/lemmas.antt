@@ -3,3 +3,4 @@ pub mod equality
 pub mod edits
 pub mod normalizing
 pub mod resolving
+pub mod writing

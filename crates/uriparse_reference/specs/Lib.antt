@@ -11,3 +11,4 @@ pub mod Normal
 pub mod Target
 pub mod Relate
 pub mod Examples
+pub mod Into

@@ -7,3 +7,4 @@ pub mod PrintedLemmas
 pub mod PieceLemmas
 pub mod LengthLemmas
 pub mod FaultLemmas
+pub mod EndLemmas

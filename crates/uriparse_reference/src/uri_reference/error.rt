@@ -1,4 +1,4 @@
-//! Why a text is not a reference.
+//! Why a text is not a reference, or is not written to a buffer.
 ghost use Rattle.std.specs.Prelude.{◌≡◌};
 ghost use Rattle.uriparse_path.specs.declared.path.error.PathError.TheVariants.{OutOfMemory};
 ghost use Rattle.uriparse_reference.specs.declared.uri_reference.error.URIReferenceError.TheVariants as errors;
@@ -38,6 +38,21 @@ pub enum URIReferenceError {
     /// The scheme is not valid. Reading never returns this: a text without a valid scheme has none.
     #[error(transparent)]
     Scheme(SchemeError),
+}
+
+/// Why a text is not written to a buffer, which is then unchanged.
+#[derive(Clone, Copy, Debug, PartialEq, Eq, Hash, Error)]
+pub enum BufferError {
+    /// The buffer is too small for the text, whose length in bytes this is, or `usize::MAX` if it
+    /// is longer.
+    #[error("buffer too small for {0} bytes")]
+    TooSmall(usize),
+    /// The base of a target has no scheme.
+    #[error("base without a scheme")]
+    RelativeBase,
+    /// The merged paths of a target have more segments than a path may have.
+    #[error("merged path with too many segments")]
+    TooManySegments,
 }
 
 impl From<AuthorityError> for URIReferenceError {

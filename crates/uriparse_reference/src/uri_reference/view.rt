@@ -21,6 +21,7 @@ use uriparse_text::fragment::Fragment;
 use uriparse_text::query::Query;
 
 mod compare;
+mod into;
 mod normal;
 
 /// A URI reference in its text: a URI or a relative reference, whose components are found and

@@ -1,0 +1,33 @@
+-- The text of a reference in a buffer of the caller: RFC 3986, sections 5.2.2, 5.3 and 6.2.2.
+use Rattle.std.specs.Prelude.{◌≡◌, ℕ, ◌<◌, ◌^◌, ◌-◌, List, ◌++◌, length, drop, min, Option, Some, None, Result, Ok, Err}
+use Rattle.uriparse_text.specs.declared.internal.ends.Form.{Form}
+use Rattle.uriparse_text.specs.declared.internal.ends.Form.TheVariants.{AsIs, Canonical}
+use Rattle.uriparse_text.specs.Bytes.{question_mark, number_sign}
+use Rattle.uriparse_text.specs.Cuts.{behind}
+use Rattle.uriparse_path.specs.Path as path
+use Rattle.uriparse_scheme.specs.declared.scheme.Scheme.{Scheme}
+use Rattle.uriparse_scheme.specs.Normal.{canonical_scheme}
+use Rattle.uriparse_reference.specs.declared.uri_reference.error.BufferError.{BufferError}
+use Rattle.uriparse_reference.specs.declared.uri_reference.error.BufferError.TheVariants as errors
+use Rattle.uriparse_reference.specs.Reference.{Parts}
+
+-- the largest length
+abbrev pub most : ℕ
+most = 2 ^ 64 - 1
+
+-- The buffer begins with the text, whose length is returned, and what follows it is unchanged. If there is no room for the text, the buffer is
+-- unchanged, and the error has the text's length, or the largest one.
+abbrev pub Writes : List ℕ → Result ℕ BufferError → List ℕ → List ℕ → Type 0
+Writes t (Ok n) old new = (n ≡ length t) × (new ≡ t ++ drop (length t) old)
+Writes t (Err e) old new = (e ≡ errors.TooSmall (min (length t) most)) × ((length old < length t) × (new ≡ old))
+
+-- ---- words of private functions' clauses alone
+
+-- the scheme as it is, or in canonical spelling
+abbrev pub formed_scheme : Form → Scheme → Scheme
+formed_scheme AsIs s = s
+formed_scheme Canonical s = canonical_scheme s
+
+-- path [ "?" query ] [ "#" fragment ]
+abbrev pub tail_text : path.PathParts → Option (List ℕ) → Option (List ℕ) → List ℕ
+tail_text p query fragment = path.text p ++ (behind question_mark query ++ behind number_sign fragment)

@@ -1,0 +1,129 @@
+//! The text of a reference's normal form in a buffer of the caller: RFC 3986, section 6.2.2.
+ghost use Rattle.std.specs.Prelude.{◌≡◌, ◌++◌, length};
+ghost use Rattle.std.specs.Option.{option_map};
+ghost use Rattle.uriparse_text.specs.declared.internal.canonical.Case.TheVariants as case;
+ghost use Rattle.uriparse_text.specs.Bytes.{colon, number_sign, question_mark};
+ghost use Rattle.uriparse_text.specs.Cuts.{ahead, behind};
+ghost use Rattle.uriparse_text.specs.Ends.{EndsWith, Puts, formed};
+ghost use Rattle.uriparse_scheme.specs.Scheme as schemes;
+ghost use Rattle.uriparse_authority.specs.Authority as authorities;
+ghost use Rattle.uriparse_authority.specs.Ends.{formed_authority};
+ghost use Rattle.uriparse_reference.specs.Reference.{behind_slashes, print};
+ghost use Rattle.uriparse_reference.specs.Normal.{normal};
+ghost use Rattle.uriparse_reference.specs.Into as spec;
+
+use super::super::error::BufferError;
+use super::ReferenceView;
+use uriparse_authority::authority::Authority;
+use uriparse_authority::internal as authority;
+use uriparse_path::internal::{Place, put_normal_path};
+use uriparse_scheme::scheme::Scheme;
+use uriparse_text::fragment::Fragment;
+use uriparse_text::internal::{Case, Form, put, put_behind, put_formed};
+use uriparse_text::query::Query;
+
+/// Puts the query and the fragment, each with its delimiter, if present, at the end of the buffer.
+/// Returns their length. If there is no room, only the length is counted.
+pub(super) fn put_end(
+    form: Form,
+    query: &Option<Query<'_>>,
+    fragment: &Option<Fragment<'_>>,
+    out: &mut [u8],
+) -> usize
+    ensures room { length out.new ≡ length out.old }
+    ensures ends { EndsWith out.new result (behind question_mark (option_map (formed form case.Kept) query.now) ++ behind number_sign (option_map (formed form case.Kept) fragment.now)) }
+{
+    let len = put_behind(form, b'#', fragment, out, 0);
+    put_behind(form, b'?', query, out, len)
+}
+
+/// Puts two slashes and the authority, if there is one.
+fn put_authority(
+    form: Form,
+    authority: &Option<Authority<'_>>,
+    out: &mut [u8],
+    len: usize,
+) -> usize
+    ensures room { length out.new ≡ length out.old }
+    ensures puts { Puts (behind_slashes (option_map authorities.print (option_map (formed_authority form) authority.now))) out.old len out.new result }
+{
+    match authority {
+        Some(authority) => {
+            let len = authority::put_authority(authority, form, out, len);
+            put(b"//", out, len)
+        }
+        None => len,
+    }
+}
+
+/// Puts the scheme and a colon, if there is one.
+fn put_scheme(form: Form, scheme: &Option<Scheme<'_>>, out: &mut [u8], len: usize) -> usize
+    ensures room { length out.new ≡ length out.old }
+    ensures puts { Puts (ahead colon (option_map schemes.text (option_map (spec.formed_scheme form) scheme.now))) out.old len out.new result }
+{
+    match scheme {
+        Some(scheme) => {
+            let len = put(b":", out, len);
+            put_formed(form, Case::Lowered, scheme.as_str().as_bytes(), out, len)
+        }
+        None => len,
+    }
+}
+
+/// Puts the scheme and the authority, each with its delimiter, if present.
+pub(super) fn put_front(
+    form: Form,
+    scheme: &Option<Scheme<'_>>,
+    authority: &Option<Authority<'_>>,
+    out: &mut [u8],
+    len: usize,
+) -> usize
+    ensures room { length out.new ≡ length out.old }
+    ensures puts { Puts (ahead colon (option_map schemes.text (option_map (spec.formed_scheme form) scheme.now)) ++ behind_slashes (option_map authorities.print (option_map (formed_authority form) authority.now))) out.old len out.new result }
+{
+    let len = put_authority(form, authority, out, len);
+    put_scheme(form, scheme, out, len)
+}
+
+impl<'t> ReferenceView<'t> {
+    /// Puts the text of the normal form at the end of the buffer. Returns its length. If there is
+    /// no room, only the length is counted.
+    fn put_normal(&self, out: &mut [u8]) -> usize
+        ensures room { length out.new ≡ length out.old }
+        ensures ends { EndsWith out.new result (print (normal self.now)) }
+    {
+        let place = Place {
+            has_scheme: self.has_scheme(),
+            has_authority: self.has_authority(),
+        };
+        let len = put_end(Form::Canonical, &self.query(), &self.fragment(), out);
+        let len = put_normal_path(self.path_bytes(), place, out, len);
+        put_front(Form::Canonical, &self.scheme(), &self.authority(), out, len)
+    }
+
+    /// Writes the text of the normal form to the start of the buffer and returns its length in
+    /// bytes; what follows it in the buffer is unchanged. The text is that of
+    /// [`URIReference::normalize`](crate::uri_reference::URIReference::normalize). RFC 3986,
+    /// section 6.2.2.
+    ///
+    /// If the buffer is too small, it is unchanged, and the error is
+    /// [`TooSmall`](BufferError::TooSmall) with the length needed; so a call with an empty buffer
+    /// returns the length. Does not allocate.
+    ///
+    /// ```
+    /// let view = ReferenceView::try_from_str("HTTP://Example.com/a/./b/../%7e")?;
+    /// let mut buffer = [0; 64];
+    /// let len = view.normalize_into(&mut buffer)?;
+    /// assert!(&buffer[..len] == b"http://example.com/a/~".as_slice());
+    /// assert!(view.normalize_into(&mut buffer[..4]) == Err(BufferError::TooSmall(22)));
+    /// ```
+    pub fn normalize_into(&self, out: &mut [u8]) -> Result<usize, BufferError>
+        ensures { spec.Writes (print (normal self.now)) result out.old out.new }
+    {
+        let needed = self.put_normal(&mut []);
+        if needed > out.len() {
+            return Err(BufferError::TooSmall(needed));
+        }
+        Ok(self.put_normal(&mut out[..needed]))
+    }
+}
