@@ -1,5 +1,5 @@
 -- The text of a reference in a buffer of the caller: RFC 3986, sections 5.2.2, 5.3 and 6.2.2.
-use Rattle.std.specs.Prelude.{◌≡◌, ℕ, ◌<◌, ◌^◌, ◌-◌, List, ◌++◌, length, drop, min, Option, Some, None, Result, Ok, Err}
+use Rattle.std.specs.Prelude.{◌≡◌, ℕ, ◌<◌, ◌^◌, ◌-◌, List, [], ◌++◌, length, drop, min, Option, Some, None, Result, Ok, Err}
 use Rattle.uriparse_text.specs.declared.internal.ends.Form.{Form}
 use Rattle.uriparse_text.specs.declared.internal.ends.Form.TheVariants.{AsIs, Canonical}
 use Rattle.uriparse_text.specs.Bytes.{question_mark, number_sign}
@@ -9,7 +9,7 @@ use Rattle.uriparse_scheme.specs.declared.scheme.Scheme.{Scheme}
 use Rattle.uriparse_scheme.specs.Normal.{canonical_scheme}
 use Rattle.uriparse_reference.specs.declared.uri_reference.error.BufferError.{BufferError}
 use Rattle.uriparse_reference.specs.declared.uri_reference.error.BufferError.TheVariants as errors
-use Rattle.uriparse_reference.specs.Reference.{Parts}
+use Rattle.uriparse_reference.specs.Reference.{Parts, print}
 
 -- the largest length
 abbrev pub most : ℕ
@@ -31,3 +31,12 @@ formed_scheme Canonical s = canonical_scheme s
 -- path [ "?" query ] [ "#" fragment ]
 abbrev pub tail_text : path.PathParts → Option (List ℕ) → Option (List ℕ) → List ℕ
 tail_text p query fragment = path.text p ++ (behind question_mark query ++ behind number_sign fragment)
+
+-- that of a target, if there is one, and its text
+abbrev pub tail_if : Option Parts → List ℕ
+tail_if None = []
+tail_if (Some t) = tail_text t.path t.query t.fragment
+
+abbrev pub print_if : Option Parts → List ℕ
+print_if None = []
+print_if (Some t) = print t

@@ -23,6 +23,7 @@ use uriparse_text::query::Query;
 mod compare;
 mod into;
 mod normal;
+mod target;
 
 /// A URI reference in its text: a URI or a relative reference, whose components are found and
 /// checked but not copied. RFC 3986, section 4.1.

@@ -38,12 +38,7 @@ pub(super) fn put_end(
 }
 
 /// Puts two slashes and the authority, if there is one.
-fn put_authority(
-    form: Form,
-    authority: &Option<Authority<'_>>,
-    out: &mut [u8],
-    len: usize,
-) -> usize
+fn put_authority(form: Form, authority: &Option<Authority<'_>>, out: &mut [u8], len: usize) -> usize
     ensures room { length out.new ≡ length out.old }
     ensures puts { Puts (behind_slashes (option_map authorities.print (option_map (formed_authority form) authority.now))) out.old len out.new result }
 {

@@ -1,0 +1,7 @@
+use Rattle.std.proofs.Common.{◌≡◌, ◌∙◌, length, ap, subst}
+use Rattle.uriparse_reference.specs.Reference.{Parts, Valid}
+use Rattle.uriparse_reference.proofs.lemmas.reading.ViewLemmas.{found_valid}
+use Rattle.uriparse_reference.proofs.uri_reference.view.ReferenceView.segment_count.Goals as goal
+
+pub returns-clause-valid : goal.returns-clause-valid
+returns-clause-valid c = subst Valid c.self.view_is (found_valid _ _ _ _ _ _ _ _ _ c.self.invariant)

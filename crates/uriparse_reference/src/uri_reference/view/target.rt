@@ -1,0 +1,204 @@
+//! The text of the target of a reference in a buffer of the caller: RFC 3986, section 5.2.
+ghost use Rattle.std.specs.Prelude.{◌≡◌, ◌≤◌, ◌&&◌, Err, MatchOption, false, is_some, length, nat_lt, true};
+ghost use Rattle.std.specs.Option.{option_or};
+ghost use Rattle.uriparse_text.specs.Ends.{EndsWith};
+ghost use Rattle.uriparse_path.specs.Edits.{shield_unless};
+ghost use Rattle.uriparse_path.specs.Path.{is_rooted, max_segments, pieces, text};
+ghost use Rattle.uriparse_reference.specs.declared.uri_reference.error.BufferError.TheVariants as errors;
+ghost use Rattle.uriparse_reference.specs.Reference.{Valid, print};
+ghost use Rattle.uriparse_reference.specs.Target.{dots_removed, is_empty, is_merged, merge, target};
+ghost use Rattle.uriparse_reference.specs.Into as spec;
+
+use super::super::error::BufferError;
+use super::ReferenceView;
+use super::into::{put_end, put_front};
+use uriparse_path::internal::{put_merged, put_undotted};
+use uriparse_path::path::MAX_SEGMENTS;
+use uriparse_text::internal::{Form, put};
+
+impl<'t> ReferenceView<'t> {
+    /// The number of segments of the path.
+    fn segment_count(&self) -> usize
+        ensures count { result ≡ length self.now.path.segments }
+        ensures valid { Valid self.now }
+    {
+        self.pieces.tail.count
+    }
+
+    /// Whether the path's text is empty.
+    fn has_empty_path(&self) -> bool
+        ensures { result ≡ is_empty (text self.now.path) }
+    {
+        self.path_bytes().is_empty()
+    }
+
+    /// Whether the path's text begins with a slash.
+    fn has_rooted_path(&self) -> bool
+        ensures { result ≡ is_rooted (text self.now.path) }
+    {
+        matches!(self.path_bytes(), [b'/', ..])
+    }
+
+    /// Whether the target's path is that of merged paths.
+    fn is_merged(&self) -> bool
+        ensures { result ≡ is_merged self.now }
+    {
+        !self.has_scheme()
+            && !self.has_authority()
+            && !self.has_empty_path()
+            && !self.has_rooted_path()
+    }
+
+    /// Whether the merged paths of this base and a reference have more segments than a path may
+    /// have.
+    fn merges_too_long(&self, reference: &ReferenceView<'_>) -> bool
+        requires { is_merged reference.now ≡ true }
+        ensures { result ≡ nat_lt max_segments (length (pieces (merge self.now reference.now))) }
+    {
+        self.segment_count() - 1 + reference.segment_count() > MAX_SEGMENTS
+    }
+
+    /// Whether the merged paths of this base and a reference, if they are merged, have too many
+    /// segments: then there is no target.
+    fn lacks_target(&self, reference: &ReferenceView<'_>) -> bool
+        ensures { result ≡ (is_merged reference.now && nat_lt max_segments (length (pieces (merge self.now reference.now)))) }
+    {
+        reference.is_merged() && self.merges_too_long(reference)
+    }
+
+    /// Puts the path without its dot segments, the query and the fragment at the end of the buffer.
+    fn put_own_tail(&self, has_authority: bool, out: &mut [u8]) -> usize
+        ensures room { length out.new ≡ length out.old }
+        ensures ends { EndsWith out.new result (spec.tail_text (shield_unless has_authority (dots_removed (text self.now.path))) self.now.query self.now.fragment) }
+    {
+        let len = put_end(Form::AsIs, &self.query(), &self.fragment(), out);
+        put_undotted(Form::AsIs, has_authority, self.path_bytes(), out, len)
+    }
+
+    /// Puts the path of this base as it is, the query of the reference or else of the base, and the
+    /// fragment of the reference.
+    fn put_same_tail(&self, reference: &ReferenceView<'_>, out: &mut [u8]) -> usize
+        ensures room { length out.new ≡ length out.old }
+        ensures valid { Valid self.now }
+        ensures ends { EndsWith out.new result (spec.tail_text self.now.path (option_or reference.now.query self.now.query) reference.now.fragment) }
+    {
+        let query = reference.query().or(self.query());
+        let len = put_end(Form::AsIs, &query, &reference.fragment(), out);
+        put(self.path_bytes(), out, len)
+    }
+
+    /// Puts the merged paths without their dot segments, and the query and the fragment of the
+    /// reference.
+    fn put_merged_tail(&self, reference: &ReferenceView<'_>, out: &mut [u8]) -> usize
+        requires merged { is_merged reference.now ≡ true }
+        requires short { length (pieces (merge self.now reference.now)) ≤ max_segments }
+        ensures room { length out.new ≡ length out.old }
+        ensures ends { EndsWith out.new result (spec.tail_text (shield_unless (is_some self.now.authority) (dots_removed (merge self.now reference.now))) reference.now.query reference.now.fragment) }
+    {
+        let len = put_end(Form::AsIs, &reference.query(), &reference.fragment(), out);
+        let has_authority = self.has_authority();
+        put_merged(
+            has_authority,
+            self.path_bytes(),
+            reference.path_bytes(),
+            out,
+            len,
+        )
+    }
+
+    /// Puts the path, the query and the fragment of the target of a reference that has neither a
+    /// scheme nor an authority.
+    fn put_inherited_tail(&self, reference: &ReferenceView<'_>, out: &mut [u8]) -> usize
+        requires scheme { is_some reference.now.scheme ≡ false }
+        requires authority { is_some reference.now.authority ≡ false }
+        requires short { is_merged reference.now ≡ true → length (pieces (merge self.now reference.now)) ≤ max_segments }
+        ensures room { length out.new ≡ length out.old }
+        ensures ends { EndsWith out.new result (spec.tail_if (target self.now reference.now)) }
+    {
+        if reference.has_empty_path() {
+            return self.put_same_tail(reference, out);
+        }
+        if reference.has_rooted_path() {
+            return reference.put_own_tail(self.has_authority(), out);
+        }
+        self.put_merged_tail(reference, out)
+    }
+
+    /// Puts the text of the target at the end of the buffer. Returns its length. If there is no
+    /// room, only the length is counted.
+    fn put_target(&self, reference: &ReferenceView<'_>, out: &mut [u8]) -> usize
+        requires { is_merged reference.now ≡ true → length (pieces (merge self.now reference.now)) ≤ max_segments }
+        ensures room { length out.new ≡ length out.old }
+        ensures ends { EndsWith out.new result (spec.print_if (target self.now reference.now)) }
+    {
+        if reference.has_scheme() {
+            let len = reference.put_own_tail(reference.has_authority(), out);
+            return put_front(
+                Form::AsIs,
+                &reference.scheme(),
+                &reference.authority(),
+                out,
+                len,
+            );
+        }
+        if reference.has_authority() {
+            let len = reference.put_own_tail(true, out);
+            return put_front(Form::AsIs, &self.scheme(), &reference.authority(), out, len);
+        }
+        let len = self.put_inherited_tail(reference, out);
+        put_front(Form::AsIs, &self.scheme(), &self.authority(), out, len)
+    }
+
+    /// Writes the text of the target to the start of the buffer.
+    fn write_target(
+        &self,
+        reference: &ReferenceView<'_>,
+        out: &mut [u8],
+    ) -> Result<usize, BufferError>
+        requires { is_merged reference.now ≡ true → length (pieces (merge self.now reference.now)) ≤ max_segments }
+        ensures { spec.Writes (spec.print_if (target self.now reference.now)) result out.old out.new }
+    {
+        let needed = self.put_target(reference, &mut []);
+        if needed > out.len() {
+            return Err(BufferError::TooSmall(needed));
+        }
+        Ok(self.put_target(reference, &mut out[..needed]))
+    }
+
+    /// Resolves a reference against this base, writes the text of the target to the start of the
+    /// buffer and returns its length in bytes; what follows it in the buffer is unchanged. Nothing
+    /// is normalized, but dot segments are removed. RFC 3986, section 5.2.
+    ///
+    /// On an error the buffer is unchanged. The error is
+    /// [`RelativeBase`](BufferError::RelativeBase) if this base has no scheme, else
+    /// [`TooManySegments`](BufferError::TooManySegments) if the merged paths have more segments
+    /// than a path may have, else [`TooSmall`](BufferError::TooSmall) with the length needed if the
+    /// buffer is too small; so a call with an empty buffer returns the length. Does not allocate.
+    ///
+    /// ```
+    /// let base = ReferenceView::try_from_str("http://a/b/c/d;p?q")?;
+    /// let reference = ReferenceView::try_from_str("../g?y")?;
+    /// let mut buffer = [0; 64];
+    /// let len = base.resolve_into(&reference, &mut buffer)?;
+    /// assert!(&buffer[..len] == b"http://a/b/g?y");
+    /// ```
+    pub fn resolve_into(
+        &self,
+        reference: &ReferenceView<'_>,
+        out: &mut [u8],
+    ) -> Result<usize, BufferError>
+        // A base without a scheme is rejected.
+        ensures base { is_some self.now.scheme ≡ false → (result ≡ Err errors.RelativeBase) × (out.new ≡ out.old) }
+
+        // Else the target's text is written, if there is a target.
+        ensures target { is_some self.now.scheme ≡ true → MatchOption (target self.now reference.now) ((result ≡ Err errors.TooManySegments) × (out.new ≡ out.old)) (λ t. spec.Writes (print t) result out.old out.new) }
+    {
+        if !self.has_scheme() {
+            return Err(BufferError::RelativeBase);
+        }
+        if self.lacks_target(reference) {
+            return Err(BufferError::TooManySegments);
+        }
+        self.write_target(reference, out)
+    }
+}
