@@ -7,7 +7,7 @@
 //! it.
 #![tactic(auto)]
 
-ghost use Rattle.std.specs.Prelude.{◌≡◌, ◌↔◌, Err, IfOk, IsTrue, MatchResult, None, Ok, OnErr, OnOk, Some, bytes_eq, length, string_bytes};
+ghost use Rattle.std.specs.Prelude.{◌≡◌, ◌↔◌, Err, IfOk, IsTrue, MatchOption, MatchResult, None, Ok, OnErr, OnOk, Some, bytes_eq, is_some, length, string_bytes, true};
 ghost use Rattle.uriparse_text.specs.Readings.{IsUnless, Settles};
 ghost use Rattle.uriparse_path.specs.Dots as dots;
 ghost use Rattle.uriparse_path.specs.Path.{text};
@@ -17,17 +17,20 @@ ghost use Rattle.uriparse_reference.specs.Edits.{Run, edited};
 ghost use Rattle.uriparse_reference.specs.declared.uri_reference.edit.Edit.TheVariants as edits;
 ghost use Rattle.uriparse_reference.specs.declared.uri_reference.error.URIReferenceError.{URIReferenceError};
 ghost use Rattle.uriparse_reference.specs.declared.uri_reference.error.URIReferenceError.TheVariants as errors;
+ghost use Rattle.uriparse_reference.specs.declared.uri_reference.error.BufferError.TheVariants as buffers;
 ghost use Rattle.uriparse_reference.specs.Escaped.{escaped};
+ghost use Rattle.uriparse_reference.specs.Into.{Writes};
 ghost use Rattle.uriparse_reference.specs.Key.{key};
 ghost use Rattle.uriparse_reference.specs.Normal.{normal};
 ghost use Rattle.uriparse_reference.specs.Reading.{fault, reading};
 ghost use Rattle.uriparse_reference.specs.Reference.{Parts, Spells, print};
+ghost use Rattle.uriparse_reference.specs.Target.{target};
 
 use std::alloc::{AllocError, Global};
 use uriparse_authority::authority::Authority;
 use uriparse_path::path::{Path, Segment};
 use uriparse_reference::uri_reference::{
-    Edit, ReferenceView, URIReference, URIReferenceError, escape_invalid,
+    BufferError, Edit, ReferenceView, URIReference, URIReferenceError, escape_invalid,
 };
 use uriparse_scheme::scheme::{Scheme, SchemeError};
 use uriparse_text::query::Query;
@@ -140,4 +143,22 @@ pub fn are_equal_views(left: &ReferenceView<'_>, right: &ReferenceView<'_>) -> b
     ensures { result ≡ bytes_eq (key left.now) (key right.now) }
 {
     left == right
+}
+
+/// Writes the text of the normal form to a buffer.
+pub fn normalize_into(view: &ReferenceView<'_>, out: &mut [u8]) -> Result<usize, BufferError>
+    ensures { Writes (print (normal view.now)) result out.old out.new }
+{
+    view.normalize_into(out)
+}
+
+/// Writes the text of the target to a buffer, if the base has a scheme.
+pub fn resolve_into(
+    base: &ReferenceView<'_>,
+    reference: &ReferenceView<'_>,
+    out: &mut [u8],
+) -> Result<usize, BufferError>
+    ensures { is_some base.now.scheme ≡ true → MatchOption (target base.now reference.now) ((result ≡ Err buffers.TooManySegments) × (out.new ≡ out.old)) (λ t. Writes (print t) result out.old out.new) }
+{
+    base.resolve_into(reference, out)
 }

@@ -1,5 +1,5 @@
 -- A reference that is put together from its end in a buffer.
-use Rattle.std.proofs.Common.{◌≡◌, ℕ, ◌+◌, ◌-◌, ◌^◌, ◌<◌, ◌≤◌, min, Bool, true, false, not, cond, List, [], ◌∷◌, ◌++◌, length, drop, Option, Some, None, refl, sym, ap, ◌∙◌, subst, arith, append_assoc, append-nil}
+use Rattle.std.proofs.Common.{◌≡◌, ℕ, not, List, [], ◌∷◌, ◌++◌, Option, Some, None, refl, sym, ap, ◌∙◌, arith, append_assoc}
 use Rattle.std.specs.Prelude.{is_some, is_none}
 use Rattle.std.proofs.Math.ListN.{drop_of_length-le}
 use Rattle.std.specs.Option.{option_map}
@@ -9,7 +9,7 @@ use Rattle.uriparse_text.specs.declared.internal.ends.Form.TheVariants.{AsIs, Ca
 use Rattle.uriparse_text.specs.Bytes.{colon, question_mark, number_sign}
 use Rattle.uriparse_text.specs.Cuts.{ahead, behind}
 use Rattle.uriparse_text.specs.Ends.{EndsWith, formed}
-use Rattle.uriparse_path.specs.Path.{PathParts, IsListed, spelled, text}
+use Rattle.uriparse_path.specs.Path.{PathParts, spelled, text}
 use Rattle.uriparse_path.proofs.lemmas.text.PathTextLemmas.{spelled-text}
 use Rattle.uriparse_path.specs.Edits.{shield_unless}
 use Rattle.uriparse_path.specs.Normal.{normal_at, pnormal}

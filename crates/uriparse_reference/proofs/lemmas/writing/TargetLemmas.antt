@@ -1,5 +1,5 @@
 -- The target of a reference that is put together from its end in a buffer.
-use Rattle.std.proofs.Common.{◌≡◌, ℕ, ◌+◌, ◌-◌, ◌<◌, ◌≤◌, Bool, true, false, not, cond, List, [], ◌∷◌, ◌++◌, length, Option, Some, None, Result, refl, sym, ap, ◌∙◌, subst, arith, ◌&&◌, length-append, append_assoc}
+use Rattle.std.proofs.Common.{◌≡◌, ℕ, ◌+◌, ◌<◌, ◌≤◌, Bool, true, false, not, cond, List, [], ◌∷◌, ◌++◌, length, Option, Some, None, Result, refl, sym, ap, ◌∙◌, subst, arith, ◌&&◌, length-append, append_assoc}
 use Rattle.std.specs.Prelude.{MatchOption, is_some, nat_le, nat_lt}
 use Rattle.std.specs.Option.{option_map, option_or}
 use Rattle.std.proofs.lemmas.Bool.{false≢true, and_parts, not-true, le-leb}
@@ -8,8 +8,8 @@ use Rattle.uriparse_text.specs.declared.internal.canonical.Case.TheVariants.{Kep
 use Rattle.uriparse_text.specs.declared.internal.ends.Form.TheVariants.{AsIs}
 use Rattle.uriparse_text.specs.Bytes.{colon, question_mark, number_sign}
 use Rattle.uriparse_text.specs.Cuts.{ahead, behind}
-use Rattle.uriparse_text.specs.Ends.{EndsWith, formed}
-use Rattle.uriparse_path.specs.Path.{PathParts, IsListed, IsPath, has_two_slashes, is_rooted, max_segments, pieces, spelled, text}
+use Rattle.uriparse_text.specs.Ends.{formed}
+use Rattle.uriparse_path.specs.Path.{PathParts, has_two_slashes, is_rooted, max_segments, pieces, spelled, text}
 use Rattle.uriparse_path.specs.Dots.{all_but_last, replayed, undot}
 use Rattle.uriparse_path.specs.Edits.{dotted, shield, shield_unless}
 use Rattle.uriparse_path.specs.Merge.{merged}

@@ -180,7 +180,7 @@ impl<'t> ReferenceView<'t> {
     /// let reference = ReferenceView::try_from_str("../g?y")?;
     /// let mut buffer = [0; 64];
     /// let len = base.resolve_into(&reference, &mut buffer)?;
-    /// assert!(&buffer[..len] == b"http://a/b/g?y");
+    /// assert!(&buffer[..len] == b"http://a/b/g?y".as_slice());
     /// ```
     pub fn resolve_into(
         &self,

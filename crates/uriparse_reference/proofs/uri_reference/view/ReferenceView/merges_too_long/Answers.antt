@@ -1,4 +1,4 @@
-use Rattle.std.proofs.Common.{◌≡◌, ◌+◌, ◌-◌, ◌<◌, ◌≤◌, ap, length, nat_lt, arith}
+use Rattle.std.proofs.Common.{◌≡◌, ◌+◌, ◌-◌, ap, length, nat_lt, arith}
 use Rattle.uriparse_path.specs.Path.{max_segments, pieces}
 use Rattle.uriparse_reference.specs.Target.{merge}
 use Rattle.uriparse_reference.proofs.lemmas.writing.TargetLemmas.{merged_length}

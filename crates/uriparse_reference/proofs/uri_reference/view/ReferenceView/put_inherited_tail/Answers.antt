@@ -1,4 +1,4 @@
-use Rattle.std.proofs.Common.{◌≡◌, ◌∙◌, refl, sym, subst}
+use Rattle.std.proofs.Common.{◌∙◌, refl, sym, subst}
 use Rattle.std.specs.Prelude.{is_some}
 use Rattle.uriparse_text.specs.Ends.{EndsWith}
 use Rattle.uriparse_path.specs.Path.{is_rooted, text}

@@ -1,11 +1,10 @@
-use Rattle.std.proofs.Common.{◌≡◌, ◌++◌, ◌≤◌, ◌∙◌, refl, sym, ap, length, subst}
+use Rattle.std.proofs.Common.{◌≤◌, ◌∙◌, sym, ap, length, subst}
 use Rattle.std.specs.Prelude.{is_some}
 use Rattle.uriparse_text.specs.Ends.{EndsWith}
 use Rattle.uriparse_path.specs.Dots.{replayed}
 use Rattle.uriparse_path.specs.Edits.{shield_unless}
 use Rattle.uriparse_path.specs.Merge.{merged}
 use Rattle.uriparse_path.specs.Path.{is_rooted, max_segments, spelled, text}
-use Rattle.uriparse_reference.specs.Target.{dots_removed, merge}
 use Rattle.uriparse_reference.proofs.lemmas.writing.TargetLemmas.{merged_relative, merged_short, merged_undot, same_tail}
 use Rattle.uriparse_reference.proofs.uri_reference.view.ReferenceView.put_merged_tail.Goals as goal
 

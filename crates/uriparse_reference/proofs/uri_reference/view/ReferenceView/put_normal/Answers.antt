@@ -1,4 +1,4 @@
-use Rattle.std.proofs.Common.{◌∙◌, ap, refl, subst}
+use Rattle.std.proofs.Common.{◌∙◌, ap, subst}
 use Rattle.uriparse_text.specs.Ends.{EndsWith}
 use Rattle.uriparse_text.specs.declared.internal.ends.Form.TheVariants.{Canonical}
 use Rattle.uriparse_path.specs.Normal.{normal_at}

@@ -1,4 +1,4 @@
-use Rattle.std.proofs.Common.{◌≡◌, ◌∙◌, sym, subst}
+use Rattle.std.proofs.Common.{◌∙◌, sym, subst}
 use Rattle.uriparse_text.specs.Ends.{EndsWith}
 use Rattle.uriparse_reference.proofs.lemmas.writing.TargetLemmas.{authority_target, inherited_target, scheme_target}
 use Rattle.uriparse_reference.proofs.uri_reference.view.ReferenceView.put_target.Goals as goal

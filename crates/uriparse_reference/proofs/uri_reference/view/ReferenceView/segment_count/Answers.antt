@@ -1,5 +1,5 @@
-use Rattle.std.proofs.Common.{◌≡◌, ◌∙◌, length, ap, subst}
-use Rattle.uriparse_reference.specs.Reference.{Parts, Valid}
+use Rattle.std.proofs.Common.{subst}
+use Rattle.uriparse_reference.specs.Reference.{Valid}
 use Rattle.uriparse_reference.proofs.lemmas.reading.ViewLemmas.{found_valid}
 use Rattle.uriparse_reference.proofs.uri_reference.view.ReferenceView.segment_count.Goals as goal
 
