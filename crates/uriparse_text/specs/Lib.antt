@@ -12,6 +12,7 @@ pub mod Address
 pub mod IpAddr
 pub mod Alike
 pub mod Found
+pub mod Escapes
 pub mod Spelling
 pub mod Coding
 pub mod Pairs

@@ -10,6 +10,7 @@ mod cut;
 mod digit;
 mod ends;
 mod found;
+mod pairs;
 mod print;
 mod printed;
 mod run;

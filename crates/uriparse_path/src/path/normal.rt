@@ -1,8 +1,9 @@
 //! Normal forms of paths: RFC 3986, sections 4.2 and 6.2.2.
-ghost use Rattle.std.specs.Prelude.{◌≡◌, ◌↔◌, ◌<◌, ◌||◌, true, false, not, IfOk, IsOk, IsTrue, OnOk, OnErr, filter, length, map, slice_set};
+ghost use Rattle.std.specs.Prelude.{◌≡◌, ◌↔◌, ◌<◌, ◌||◌, ◌&&◌, true, false, not, IfOk, IsOk, IsTrue, OnOk, OnErr, filter, length, map, slice_set};
 ghost use Rattle.std.specs.List.{list_all};
 ghost use Rattle.uriparse_text.specs.Canonical.{canonical};
 ghost use Rattle.uriparse_path.specs.Path.{IsListed, hides_root, text};
+ghost use Rattle.uriparse_path.specs.Dots.{is_dot_segment};
 ghost use Rattle.uriparse_path.specs.Relative as relative;
 ghost use Rattle.uriparse_path.specs.Normal as spec;
 ghost use Rattle.uriparse_path.specs.Counts as tally;
@@ -12,7 +13,7 @@ use super::counts::Counts;
 use super::list::SegmentList;
 use super::reduce::make_relative;
 use super::segment::Segment;
-use super::segments::{has_dot_segment, hides_root, needs_guard};
+use super::segments::{hides_root, needs_guard};
 use std::alloc::{AllocError, Global};
 
 /// What precedes a path in a reference.
@@ -50,7 +51,8 @@ fn climbs_first(segments: &[Segment<'_>]) -> bool
     true
 }
 
-/// Whether a `.` comes first and is needed there.
+/// Whether a `.` comes first and is needed there. A call of its own, since few paths need it.
+#[inline(never)]
 fn is_guarded(segments: &[Segment<'_>]) -> bool
     ensures { result ≡ spec.is_guarded segments.now }
 {
@@ -71,21 +73,28 @@ fn all_canonical(segments: &[Segment<'_>]) -> bool
     segments.iter().all(|segment| segment.is_normalized())
 }
 
-/// Whether the segments are in normal form, for a path that stays relative or for another.
+/// Whether each segment is canonical and none is a dot segment. Stops at the first that is not so.
+fn are_settled(segments: &[Segment<'_>]) -> bool
+    ensures { result ≡ list_all (λ s. spec.is_canonical s && not (is_dot_segment s)) segments.now }
+{
+    segments.iter().all(|segment| segment.is_normalized() && !segment.is_dot_segment())
+}
+
+/// Whether the segments are in normal form, for a path that stays relative or for another. A call
+/// of its own, since few paths need it.
+#[inline(never)]
 fn is_normal(stays_relative: bool, segments: &[Segment<'_>]) -> bool
     ensures { result ≡ spec.are_normal stays_relative segments.now }
 {
-    if !all_canonical(segments) {
-        return false;
-    }
     if stays_relative {
-        climbs_first(segments) || is_guarded(segments)
+        all_canonical(segments) && (climbs_first(segments) || is_guarded(segments))
     } else {
-        !has_dot_segment(segments)
+        are_settled(segments)
     }
 }
 
 /// The same, from the counts of the segments.
+#[inline]
 fn is_counted_normal(stays_relative: bool, counts: Counts, segments: &[Segment<'_>]) -> bool
     requires { counts ≡ tally.counts segments.now }
     ensures { result ≡ spec.are_normal stays_relative segments.now }
@@ -174,6 +183,7 @@ impl<'p> Path<'p> {
     }
 
     /// Whether the segments are in normal form, for a path that stays relative or for another.
+    #[inline]
     fn is_normal(&self, stays_relative: bool) -> bool
         ensures answer { result ≡ spec.are_normal stays_relative self.now.segments }
         ensures listed { IsListed self.now.segments }
@@ -198,7 +208,8 @@ impl<'p> Path<'p> {
     }
 
     /// Whether the path is absolute and normal except for a leading `.`, which is needed without an
-    /// authority.
+    /// authority. A call of its own, since few paths need it.
+    #[inline(never)]
     fn is_shielded(&self) -> bool
         ensures { result ≡ spec.is_shielded self.now.absolute self.now.segments }
     {
@@ -214,6 +225,7 @@ impl<'p> Path<'p> {
     }
 
     /// Whether the path has the text of its normal form at this place.
+    #[inline]
     pub(crate) fn is_normal_at(&self, place: Place) -> bool
         ensures { result ≡ spec.is_normal_at place self.now }
     {

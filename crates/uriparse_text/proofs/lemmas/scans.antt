@@ -1,4 +1,5 @@
 pub mod BitLemmas
 pub mod LaneLemmas
+pub mod PairLemmas
 pub mod MarkLemmas
 pub mod ScanLemmas

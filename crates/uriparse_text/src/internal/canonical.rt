@@ -5,6 +5,7 @@ ghost use Rattle.uriparse_text.specs.Canonical as spec;
 
 use super::class::is_unreserved;
 use super::digit::hex_value;
+use super::pairs::is_canonical_escape;
 use super::run::split_run;
 use super::token::{Token, split_token};
 use std::alloc::{AllocError, Global};
@@ -51,6 +52,18 @@ impl Token {
                     Token::Escape(high.to_ascii_uppercase(), low.to_ascii_uppercase())
                 }
             }
+        }
+    }
+
+    /// Whether the token is its own canonical form.
+    #[inline]
+    fn is_canonical(self, case: Case) -> bool
+        requires { has_digits self ≡ true }
+        ensures { IsTrue result ↔ (spec.canonical_token case self ≡ self) }
+    {
+        match self {
+            Token::Byte(b) => case.of(b) == b,
+            Token::Escape(high, low) => is_canonical_escape(high, low),
         }
     }
 }
@@ -167,7 +180,7 @@ fn begins_canonical(case: Case, text: &[u8]) -> bool
 {
     let mut rest = text;
     'tokens: while let Some((token, after)) = split_token(rest) {
-        if token.canonical(case) != token {
+        if !token.is_canonical(case) {
             return false;
         }
         let (_, later) = split_run(case, after);
@@ -181,7 +194,7 @@ pub(super) fn push_token(bytes: &mut Vec<u8>, token: Token) -> Result<(), AllocE
     ensures { OnOk result (bytes.new.items ≡ bytes.old.items ++ spell token) }
 {
     match token {
-        Token::Byte(b) => bytes.extend_from_slice(&[b]),
+        Token::Byte(b) => Ok(bytes.push(b)?),
         Token::Escape(high, low) => bytes.extend_from_slice(&[b'%', high, low]),
     }
 }

@@ -11,7 +11,7 @@ use Rattle.uriparse_path.specs.Path.{PathParts, IsListed, text, is_slash, is_roo
 use Rattle.uriparse_path.specs.Dots.{is_single_dot, is_double_dot, is_dot_segment, has_dot_segment, all_but_last, replay, rooted_after, replayed, undot}
 use Rattle.uriparse_path.specs.Dots.{without_dots}
 use Rattle.uriparse_path.specs.Relative.{is_first, has_colon, relative_normal}
-use Rattle.uriparse_path.specs.Normal.{canonical_path, stays_relative, pnormal, is_canonical, climbs_first, is_guarded, is_normal}
+use Rattle.uriparse_path.specs.Normal.{canonical_path, stays_relative, pnormal, is_canonical, climbs_first, is_guarded, is_normal, are_normal}
 use Rattle.uriparse_path.proofs.lemmas.text.PathTextLemmas.{text-spelled, spelled-text, listed-respelled, pieces-segments, lacks_slash, rooted-relative}
 use Rattle.uriparse_path.proofs.lemmas.text.CanonicalTextLemmas.{canonical-nil, canonical-text, length-canonical, listed-canonical, is_rooted-canonical}
 use Rattle.uriparse_path.proofs.lemmas.dots.DotSegmentLemmas.{empty_no_dot, no_dot}
@@ -440,3 +440,16 @@ pnormal_rootless p is h =
 
 pub pnormal_colon : (p : PathParts) → is_rooted (text p) ≡ false → is_first has_colon p.segments ≡ false → is_first has_colon (pnormal p true).segments ≡ false
 pnormal_colon p h k = ap (λ q. is_first has_colon q.segments) (pnormal_relative p true (ap not h)) ∙ colon_relative p.segments k
+
+-- each segment of a path that doesn't stay relative is canonical and no dot segment
+pub settled_is : (ss : List (List ℕ)) → list_all (λ s. is_canonical s && not (is_dot_segment s)) ss ≡ are_normal false ss
+settled_is [] = refl
+settled_is (s ∷ ss) =
+    ap (λ v. (is_canonical s && not (is_dot_segment s)) && v) (settled_is ss)
+    ∙ by (is_canonical s) (is_dot_segment s) (list_all is_canonical ss) (has_dot_segment ss)
+  where
+    by : (u v w x : Bool) → ((u && not v) && (w && not x)) ≡ ((u && w) && not (v || x))
+    by true true true x = refl
+    by true true false x = refl
+    by true false w x = refl
+    by false v w x = refl
