@@ -16,5 +16,5 @@ pub links_more : (base : Parts) (us old new : List Parts) (i : ℕ) (u : Parts) 
 links_more base us old new i u lt is h (l, k, e) =
     let next : i + 1 ≡ suc i = omega arith in
     let front : take (i + 1) us ≡ take i us ++ u ∷ [] =
-        ap (λ j. take j us) next ∙ take-suc us i u lt ∙ ap (λ v. take i us ++ v ∷ []) (sym is) in
+    ap (λ j. take j us) next ∙ take-suc us i u lt ∙ ap (λ v. take i us ++ v ∷ []) (sym is) in
     subst (λ xs. AreLinks base xs new) (sym front) (subst (λ ys. AreLinks base (take i us ++ u ∷ []) ys) (sym e) (links_append base (take i us) old u l h k))

@@ -111,7 +111,9 @@ impl From<URIReferenceError> for RelativeReferenceError {
     ghost from_gives = { λ x e. e ≡ told x };
 
     fn from(error: URIReferenceError) -> RelativeReferenceError {
-        RelativeReferenceError::try_from(error).unwrap_or(RelativeReferenceError::NotRelativeReference)
+        RelativeReferenceError::try_from(error).unwrap_or(
+            RelativeReferenceError::NotRelativeReference,
+        )
     }
 }
 

@@ -1,6 +1,6 @@
 -- What is returned where a text spells a reference.
-use Rattle.std.proofs.Common.{◌≡◌, ◌⊎◌, ℕ, Bool, List, true, false, Option, Some, None, Ok, Err, inl, inr, refl, sym, ap, subst, ◌∙◌}
-use Rattle.std.specs.Prelude.{Result, MatchResult, MatchOption, IfOk, IfErr, is_some, string_bytes}
+use Rattle.std.proofs.Common.{◌≡◌, ℕ, Bool, List, true, false, Option, Some, None, Ok, Err, inl, inr, refl, sym, ap, subst, ◌∙◌}
+use Rattle.std.specs.Prelude.{Result, MatchOption, IfOk, IfErr, is_some, string_bytes}
 use Rattle.std.specs.declared.string.String.{String}
 use Rattle.uriparse_text.specs.Readings.{◌>>=◌, IsUnless, fault_in}
 use Rattle.uriparse_path.specs.declared.path.error.PathError.TheVariants as paths

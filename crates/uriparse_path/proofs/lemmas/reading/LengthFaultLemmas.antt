@@ -15,7 +15,7 @@ use Rattle.uriparse_path.specs.declared.path.error.PathError.{PathError}
 use Rattle.uriparse_path.specs.declared.path.error.PathError.TheVariants.{ExceededMaximumLength, InvalidCharacter, InvalidPercentEncoding, OutOfMemory}
 use Rattle.uriparse_path.specs.Segment as segment
 use Rattle.uriparse_path.specs.Path as path
-use Rattle.uriparse_path.specs.Path.{max_segments, is_slash, is_rooted, root, unrooted, pieces}
+use Rattle.uriparse_path.specs.Path.{max_segments, is_slash, is_rooted, root, pieces}
 use Rattle.uriparse_path.specs.Faults.{PassesLimit, fault, fault_within, first_fault, length_fault}
 use Rattle.uriparse_path.proofs.lemmas.text.SplitLemmas.{cut, pieces-byte, pieces-slash, some_pieces}
 use Rattle.uriparse_path.proofs.lemmas.reading.FaultLemmas.{all_segments, no_segment_fault, within_none}
