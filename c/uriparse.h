@@ -1,8 +1,7 @@
 /* URIs and URI references of RFC 3986: read, compare, hash, normalize and resolve them. The code behind these calls is
- * proved: it is safe, it terminates, and it computes what this header says of results, codes and what is written. Only
- * tested is what the header says of memory: which calls allocate, that all is freed, and that URIPARSE_OUT_OF_MEMORY is
- * returned only if an allocation fails. Neither proved nor tested is what it says of threads and signal handlers, which
- * follows from this. README.md says more.
+ * proved: it is safe, it terminates, and it computes what this header says of results, codes and what is written. That no
+ * call allocates is only tested. Neither proved nor tested is what it says of threads and signal handlers, which follows
+ * from this. README.md says more.
  *
  * The library is for Linux on x86-64 processors of level x86-64-v2 or later, those with SSE4.2 and POPCNT. It doesn't
  * check the processor.
@@ -18,14 +17,10 @@
  * argument. It need not be initialized, and nothing else uses it during the call. On an error nothing is written except
  * `*needed`, which becomes 0, or with URIPARSE_NO_ROOM the length of the text.
  *
- * There is no state between calls, so calls may run concurrently in any threads. `uriparse_parse`, `uriparse_is_uri`,
- * `uriparse_equal` and `uriparse_hash` do not allocate, and may be called in a signal handler. The other calls may not
- * be called there, nor in the forked child of a process with threads. They allocate with `malloc` and `realloc`, which
- * together with `free` are one allocator that aligns a block to each power of two up to 16 that divides its size, and
- * is safe in threads if calls run concurrently. They free what they allocated before they return; if memory runs out,
- * they return URIPARSE_OUT_OF_MEMORY. The caller frees nothing.
+ * There is no state between calls, so calls may run concurrently in any threads. No call allocates, so each may be called
+ * in a signal handler, and in the forked child of a process with threads.
  *
- * Limits: a path has at most 1,000,000 segments, a port is at most 65535. Texts are as long as memory allows. */
+ * Limits: a path has at most 1,000,000 segments, a port is at most 65535. */
 #ifndef URIPARSE_H
 #define URIPARSE_H
 
@@ -45,7 +40,7 @@ extern "C" {
  * versions may add codes. */
 enum uriparse_code {
   URIPARSE_OK = 0,
-  URIPARSE_OUT_OF_MEMORY = 1,     /* `malloc` or `realloc` returned NULL */
+  URIPARSE_OUT_OF_MEMORY = 1,     /* reserved: earlier versions allocated */
   URIPARSE_NO_ROOM = 2,           /* `room` is too small: `*needed` bytes are enough */
   URIPARSE_NO_SCHEME = 3,         /* of a base alone: it has no scheme, and no error but code 4 */
   URIPARSE_COLON_IN_SEGMENT = 4,  /* without a scheme, a colon precedes the path's first slash: "1:2" */
@@ -134,7 +129,7 @@ uint32_t uriparse_hash(const uint8_t *text, size_t len, uint64_t *hash);
 
 /* Writes to `out` the text of a reference's normal form (section 6.2.2: case, percent-encoding, dot segments), and to
  * `*needed` its length. If `room` is less, returns URIPARSE_NO_ROOM, and `out` is unchanged. No zero byte follows the
- * text; what follows it in `out` is unchanged.
+ * text; what follows it in `out` is unchanged. Does not allocate.
  *
  * In each text that is written, also by `uriparse_resolve`, a registered scheme is in lower case, a port has no leading
  * zeros, an empty port is left out, an IPv6 address is as RFC 5952 writes it, and an empty path after an authority is
@@ -146,7 +141,7 @@ uint32_t uriparse_normalize(const uint8_t *text, size_t len, uint8_t *out, size_
 /* Resolves a reference against a base (section 5.2.2, strict), and writes the text of the target to `out` as
  * `uriparse_normalize` does. A base without a scheme is rejected; a base's fragment is ignored. If both texts are
  * faulty, the error is the base's. Returns URIPARSE_TOO_MANY_SEGMENTS if the merged paths have more segments than a
- * path may have.
+ * path may have. Does not allocate.
  *
  * The caller ensures: each text is readable for its length; `out` is writable for `room` bytes; `needed` is writable. */
 uint32_t uriparse_resolve(const uint8_t *base, size_t base_len, const uint8_t *text, size_t len, uint8_t *out,

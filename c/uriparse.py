@@ -9,7 +9,6 @@ _size = ctypes.c_size_t
 _text = (ctypes.c_char_p, _size)
 _out = (ctypes.c_char_p, _size, ctypes.POINTER(_size))
 
-OUT_OF_MEMORY = 1
 NO_ROOM = 2
 IN_BASE = 0x100
 
@@ -48,8 +47,6 @@ class URIError(ValueError):
 
 
 def _check(code):
-    if code == OUT_OF_MEMORY:
-        raise MemoryError
     if code:
         raise URIError(code)
 

@@ -1,7 +1,7 @@
 //! The library for callers in C, and in languages that call C.
 //!
-//! A `&[u8]` crosses as a pointer and a length, and a `Global` as nothing. `c/uriparse.h` declares
-//! the exports. Each restates the contract of the library's call that it makes. In the clauses `p`
+//! A `&[u8]` crosses as a pointer and a length. No call allocates. `c/uriparse.h` declares the
+//! exports. Each restates the contract of the library's call that it makes. In the clauses `p`
 //! is what a text spells by the grammar, and `fault` is why it spells nothing.
 #![tactic(auto)]
 
@@ -16,13 +16,11 @@ ghost use Rattle.uriparse.specs.Uri.{told};
 ghost use Rattle.uriparse_ffi.specs.Code as spec;
 ghost use Rattle.uriparse_ffi.specs.Hash.{hash_of};
 ghost use Rattle.uriparse_ffi.specs.Places.{ArePlaces, host_number, port_number};
-ghost use Rattle.uriparse_ffi.specs.Put.{IsRefused, IsRefusedOrWant, IsWritten};
+ghost use Rattle.uriparse_ffi.specs.Put.{IsPut, IsRefused};
 
-use std::alloc::Global;
 use uriparse_ffi::code::{ACCEPTED, code_of, truth_of};
 use uriparse_ffi::places::{UriParts, places};
-use uriparse_ffi::put::answer;
-use uriparse_ffi::texts::{equal_texts, hashed, normalized, resolved};
+use uriparse_ffi::texts::{equal_texts, hashed, write_normal, write_target};
 use uriparse_reference::internal::find_pieces;
 
 /// Reads a reference, and says where its components are. Does not allocate.
@@ -91,42 +89,37 @@ pub extern "C" fn uriparse_hash(text: &[u8], hash: &mut u64) -> u32
     }
 }
 
-/// Writes the text of the normal form of a reference to the buffer.
+/// Writes the text of the normal form of a reference to the buffer. Does not allocate.
 #[unsafe(no_mangle)]
-pub extern "C" fn uriparse_normalize(
-    alloc: Global,
-    text: &[u8],
-    out: &mut [u8],
-    needed: &mut usize,
-) -> u32
-    // The buffer holds the printed normal form, or it is too small, or memory runs out.
-    ensures written { (p : Parts) → Spells text.now p → IsWritten (print (normal p)) out.old out.new needed.new result }
+pub extern "C" fn uriparse_normalize(text: &[u8], out: &mut [u8], needed: &mut usize) -> u32
+    // The buffer holds the printed normal form, or it is too small.
+    ensures written { (p : Parts) → Spells text.now p → IsPut (print (normal p)) out.old out.new needed.new result }
 
     // A faulty text is rejected, and the buffer is kept.
     ensures refused { (e : URIReferenceError) → fault text.now ≡ Some e → IsRefused (spec.code_of e) out.old out.new needed.new result }
 {
-    answer(normalized(alloc, text), out, needed)
+    write_normal(text, out, needed)
 }
 
-/// Resolves a reference against a base, and writes the text of the target to the buffer.
+/// Resolves a reference against a base, and writes the text of the target to the buffer. Does not
+/// allocate.
 #[unsafe(no_mangle)]
 pub extern "C" fn uriparse_resolve(
-    alloc: Global,
     base: &[u8],
     reference: &[u8],
     out: &mut [u8],
     needed: &mut usize,
 ) -> u32
-    // The buffer holds the printed target of section 5.2.2, or it is too small, or memory runs out.
-    ensures written { (b r t : Parts) → Spells base.now b → is_some b.scheme ≡ true → Spells reference.now r → target b r ≡ Some t → IsWritten (print t) out.old out.new needed.new result }
+    // The buffer holds the printed target of section 5.2.2, or it is too small.
+    ensures written { (b r t : Parts) → Spells base.now b → is_some b.scheme ≡ true → Spells reference.now r → target b r ≡ Some t → IsPut (print t) out.old out.new needed.new result }
 
     // There is no target if the merged paths have too many segments.
-    ensures too_long { (b r : Parts) → Spells base.now b → is_some b.scheme ≡ true → Spells reference.now r → target b r ≡ None → IsRefusedOrWant spec.too_many_segments out.old out.new needed.new result }
+    ensures too_long { (b r : Parts) → Spells base.now b → is_some b.scheme ≡ true → Spells reference.now r → target b r ≡ None → IsRefused spec.too_many_segments out.old out.new needed.new result }
 
     // A base without a scheme is rejected, and so is a faulty text, the base first.
     ensures relative { (b : Parts) → Spells base.now b → is_some b.scheme ≡ false → IsRefused (spec.base_code spec.no_scheme) out.old out.new needed.new result }
     ensures base { (e : URIReferenceError) → fault base.now ≡ Some e → IsRefused (spec.base_code (spec.uri_code (told e))) out.old out.new needed.new result }
-    ensures reference { (b : Parts) (e : URIReferenceError) → Spells base.now b → is_some b.scheme ≡ true → fault reference.now ≡ Some e → IsRefusedOrWant (spec.code_of e) out.old out.new needed.new result }
+    ensures reference { (b : Parts) (e : URIReferenceError) → Spells base.now b → is_some b.scheme ≡ true → fault reference.now ≡ Some e → IsRefused (spec.code_of e) out.old out.new needed.new result }
 {
-    answer(resolved(alloc, base, reference), out, needed)
+    write_target(base, reference, out, needed)
 }

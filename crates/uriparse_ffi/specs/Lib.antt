@@ -3,4 +3,3 @@ pub mod Hash
 pub mod Put
 pub mod Places
 pub mod Spans
-pub mod Texts

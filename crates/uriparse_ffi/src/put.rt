@@ -1,20 +1,9 @@
-//! Texts for a caller's buffer.
-ghost use Rattle.std.specs.Prelude.{◌≡◌, IfOk, IfErr, string_bytes};
-ghost use Rattle.uriparse_ffi.specs.Put.{IsPut, IsRefused};
+//! What a call reports of a text in a caller's buffer.
+ghost use Rattle.std.specs.Prelude.{◌≡◌};
+ghost use Rattle.uriparse_ffi.specs.Put.{needed_for, written_code};
 
-use crate::code::{ACCEPTED, NO_ROOM};
-
-/// Copies a text to the front of the buffer, if it has room.
-pub fn put(text: &[u8], out: &mut [u8], needed: &mut usize) -> u32
-    ensures { IsPut text.now out.old out.new needed.new result }
-{
-    *needed = text.len();
-    if out.len() < text.len() {
-        return NO_ROOM;
-    }
-    out[..text.len()].copy_from_slice(text);
-    ACCEPTED
-}
+use crate::code::{ACCEPTED, IN_BASE, NO_ROOM, NO_SCHEME, TOO_MANY_SEGMENTS};
+use uriparse::BufferError;
 
 /// Returns an error's code, and sets `needed` to 0.
 pub fn refuse(code: u32, needed: &mut usize) -> u32
@@ -25,13 +14,22 @@ pub fn refuse(code: u32, needed: &mut usize) -> u32
     code
 }
 
-/// Copies a text to the front of the buffer, if it has room, or returns an error's code.
-pub fn answer(printed: Result<String, u32>, out: &mut [u8], needed: &mut usize) -> u32
-    ensures ok { IfOk printed (λ s. IsPut (string_bytes s) out.old out.new needed.new result) }
-    ensures err { IfErr printed (λ code. IsRefused code out.old out.new needed.new result) }
+/// Returns the code of a text that was written to a buffer, or was not, and sets `needed` to its
+/// length.
+pub fn answer(written: Result<usize, BufferError>, needed: &mut usize) -> u32
+    ensures code { result ≡ written_code written }
+    ensures needed { needed.new ≡ needed_for written }
 {
-    match printed {
-        Ok(text) => put(text.as_str().as_bytes(), out, needed),
-        Err(code) => refuse(code, needed),
+    match written {
+        Ok(len) => {
+            *needed = len;
+            ACCEPTED
+        }
+        Err(BufferError::TooSmall(len)) => {
+            *needed = len;
+            NO_ROOM
+        }
+        Err(BufferError::RelativeBase) => refuse(IN_BASE + NO_SCHEME, needed),
+        Err(BufferError::TooManySegments) => refuse(TOO_MANY_SEGMENTS, needed),
     }
 }
