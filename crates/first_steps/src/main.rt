@@ -24,7 +24,10 @@ fn print<O: Write>(alloc: Global, page: &str, link: &str, out: &mut O) -> io::Re
 
 fn follow(alloc: Global, page: &str, link: &str) -> Result<String, URIError> {
     let page = URI::try_from_str(alloc, page)?;
+    target(alloc, &page, link)
+}
+
+fn target(alloc: Global, page: &URI<'_>, link: &str) -> Result<String, URIError> {
     let link = URIReference::try_from_str(alloc, link)?;
-    let target = page.resolve(alloc, &link)?;
-    Ok(target.to_string(alloc)?)
+    Ok(page.resolve(alloc, &link)?.to_string(alloc)?)
 }
