@@ -12,21 +12,22 @@ const PLAIN: usize = 4096;
 
 const BUFFERED: usize = 212_992;
 
-// (the words with bars between them, the input, what is printed, the status, the memory)
+// (the words with bars between them, the input, what is printed, the status, the memory). Each row
+// needs some: a path of one segment would need none.
 static ROWS: [(&str, &str, &str, u8, usize); 13] = [
-    ("parse|s:a", "", "s:a\nscheme=s\npath=a\n", 0, PLAIN),
+    ("parse|s:a/b", "", "s:a/b\nscheme=s\npath=a/b\n", 0, PLAIN),
     ("normalize|A:%7e", "", "a:~\n", 0, PLAIN),
     ("resolve|s:/a/b|c", "", "s:/a/c\n", 0, PLAIN),
-    ("edit|s:a|query|q", "", "s:a?q\n", 0, PLAIN),
+    ("edit|s:a/b|query|q", "", "s:a/b?q\n", 0, PLAIN),
     ("relativize|s:/a/b|s:/a/c", "", "c\n", 0, PLAIN),
     ("decode|a%20b", "", "a b\n", 0, PLAIN),
     ("encode|segment|a/b", "", "a%2Fb\n", 0, PLAIN),
     (
-        "--json|parse|//h",
+        "--json|parse|//h/a/b",
         "",
-        "{\"text\":\"//h\",\"scheme\":null,\"username\":null,\"password\":null,\"host\":\"h\",\
-         \"host_kind\":\"name\",\"port\":null,\"path\":\"/\",\"query\":null,\"fragment\":null,\
-         \"segments\":[\"\"]}\n",
+        "{\"text\":\"//h/a/b\",\"scheme\":null,\"username\":null,\"password\":null,\"host\":\"h\",\
+         \"host_kind\":\"name\",\"port\":null,\"path\":\"/a/b\",\"query\":null,\"fragment\":null,\
+         \"segments\":[\"a\",\"b\"]}\n",
         0,
         PLAIN,
     ),
