@@ -5,7 +5,7 @@ use crate::texts::Test;
 use std::alloc::Global;
 use std::test::Fail;
 use test_rows::answer::{Answer, repeated};
-use test_rows::{Layer, wrong_row_of_all};
+use test_rows::{Layer, wrong_row};
 use uriparse::{
     Authority, Fragment, Host, IPvFuture, Password, Query, RegisteredName, Scheme, Segment,
     UnregisteredScheme, Username,
@@ -250,7 +250,7 @@ static COMPONENTS: [Component; 12] = [
 
 #[test]
 fn long_components_are_answered(rt: HostRuntime) -> Result<(), Fail> {
-    assert_eq!(rt; wrong_row_of_all(rt.alloc(), &COMPONENTS)?.as_str(), "");
+    assert_eq!(rt; wrong_row(rt.alloc(), &COMPONENTS)?.as_str(), "");
     Ok(())
 }
 

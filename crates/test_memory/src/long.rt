@@ -5,7 +5,7 @@ use crate::texts::{Sizes, Test, longer_text, path_text, reference_text, sizes_of
 use std::alloc::{AllocError, Global};
 use std::test::Fail;
 use test_rows::answer::{Answer, said};
-use test_rows::{Layer, wrong_row_of_all};
+use test_rows::{Layer, wrong_row};
 use uriparse::{Edit, Path, Segment, URI, URIReference};
 
 /// Whether a reference prints this text.
@@ -225,13 +225,13 @@ static PATHS: [Question; 3] = [Question::Builds, Question::Pushes, Question::Pus
 
 #[test]
 fn long_references_are_answered(rt: HostRuntime) -> Result<(), Fail> {
-    assert_eq!(rt; wrong_row_of_all(rt.alloc(), &WHOLE)?.as_str(), "");
+    assert_eq!(rt; wrong_row(rt.alloc(), &WHOLE)?.as_str(), "");
     Ok(())
 }
 
 #[test]
 fn long_paths_are_answered(rt: HostRuntime) -> Result<(), Fail> {
-    assert_eq!(rt; wrong_row_of_all(rt.alloc(), &PATHS)?.as_str(), "");
+    assert_eq!(rt; wrong_row(rt.alloc(), &PATHS)?.as_str(), "");
     Ok(())
 }
 

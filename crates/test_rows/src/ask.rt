@@ -1,4 +1,4 @@
-//! Each row asked with ample memory.
+//! Rows that are asked in turn.
 
 use crate::answer::{Answer, said};
 use std::alloc::Global;
@@ -13,7 +13,7 @@ pub trait Layer {
 }
 
 /// What a row asks, and the result that it expects.
-pub(super) fn split_row(row: &str) -> (&str, &str) {
+fn split_row(row: &str) -> (&str, &str) {
     match row.split_once(" -> ") {
         Some((asked, "''")) => (asked, ""),
         Some(asked_and_wanted) => asked_and_wanted,
@@ -21,25 +21,39 @@ pub(super) fn split_row(row: &str) -> (&str, &str) {
     }
 }
 
+/// What is wrong with a row, or nothing. `AllocError` if it ran out of memory.
+fn wrong<L: Layer>(alloc: Global, layer: &L, row: &str) -> Answer {
+    let (asked, wanted) = split_row(row);
+    let answer = layer.answer(alloc, asked)?;
+    match answer.as_str() == wanted {
+        true => said(alloc, ""),
+        false => format!(in alloc; "{asked} -> {answer}"),
+    }
+}
+
 /// What is wrong with the first row with a wrong result, or nothing.
-pub fn wrong_row<L: Layer>(alloc: Global, layer: &L) -> Answer {
-    for row in layer.rows().lines() {
-        let (asked, wanted) = split_row(row);
-        let said = layer.answer(alloc, asked)?;
-        if said.as_str() != wanted {
-            return format!(in alloc; "{asked} -> {said}");
+pub fn wrong_row<L: Layer>(alloc: Global, layers: &[L]) -> Answer {
+    for layer in layers {
+        for row in layer.rows().lines() {
+            let wrong = wrong(alloc, layer, row)?;
+            if !wrong.is_empty() {
+                return Ok(wrong);
+            }
         }
     }
     said(alloc, "")
 }
 
-/// The same of the first layer with a wrong row.
-pub fn wrong_row_of_all<L: Layer>(alloc: Global, layers: &[L]) -> Answer {
+/// The same of the row of this number, from which the rows before it are taken. `None` if there are
+/// fewer.
+pub fn wrong_row_at<L: Layer>(alloc: Global, layers: &[L], number: &mut usize) -> Option<Answer> {
     for layer in layers {
-        let wrong = wrong_row(alloc, layer)?;
-        if !wrong.is_empty() {
-            return Ok(wrong);
+        for row in layer.rows().lines() {
+            match number.checked_sub(1) {
+                Some(left) => *number = left,
+                None => return Some(wrong(alloc, layer, row)),
+            }
         }
     }
-    said(alloc, "")
+    None
 }

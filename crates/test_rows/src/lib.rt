@@ -9,8 +9,6 @@ pub mod answer;
 mod ask;
 pub mod authorities;
 pub mod same;
-mod starved;
 pub mod written;
 
-pub use ask::{Layer, wrong_row, wrong_row_of_all};
-pub use starved::{complaint, wrong_starved_row_of_all};
+pub use ask::{Layer, wrong_row, wrong_row_at};
