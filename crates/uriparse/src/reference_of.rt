@@ -233,6 +233,14 @@ impl<'r, K: ReferenceKind> ReferenceOf<'r, K> {
         })
     }
 
+    /// A copy that owns its texts, in one call. Allocates each text, and lists of segments if there
+    /// is more than one.
+    pub fn to_owned(&self, alloc: Global) -> Result<ReferenceOf<'static, K>, AllocError>
+        ensures { IfOk result (λ u. u ≡ self.now) }
+    {
+        self.to_borrowed(alloc)?.into_owned(alloc)
+    }
+
     /// A copy of the text. Allocates.
     pub fn to_string(&self, alloc: Global) -> Result<String, AllocError>
         ensures { IfOk result (λ s. string_bytes s ≡ print self.now) }

@@ -213,6 +213,13 @@ impl<'a> Authority<'a> {
         })
     }
 
+    /// A copy that owns its texts, in one call. Allocates.
+    pub fn to_owned(&self, alloc: Global) -> Result<Authority<'static>, AllocError>
+        ensures { IfOk result (λ a. a ≡ self.now) }
+    {
+        self.as_borrowed().into_owned(alloc)
+    }
+
     /// An upper bound on the number of bytes of the authority's text: those of its components, two
     /// colons, an `@` and the five digits of a port; or `usize::MAX`.
     pub(crate) fn most_bytes(&self) -> usize

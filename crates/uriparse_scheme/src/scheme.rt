@@ -144,6 +144,13 @@ impl<'s> Scheme<'s> {
         }
     }
 
+    /// A copy that owns its text, in one call. Allocates, but not for a registered scheme.
+    pub fn to_owned(&self, alloc: Global) -> Result<Scheme<'static>, AllocError>
+        ensures { IfOk result (λ s. s ≡ self.now) × ((spec.status self.now ≡ Unregistered → ⊥) → IsOk result) }
+    {
+        self.as_borrowed().into_owned(alloc)
+    }
+
     /// Copies the text into a new `String`. Allocates.
     pub fn to_string(&self, alloc: Global) -> Result<String, AllocError>
         ensures { IfOk result (λ s. string_bytes s ≡ spec.text self.now) }

@@ -225,6 +225,13 @@ impl<'host> IPvFuture<'host> {
         })
     }
 
+    /// A copy that owns its text, in one call. Allocates.
+    pub fn to_owned(&self, alloc: Global) -> Result<IPvFuture<'static>, AllocError>
+        ensures { IfOk result (λ f. f ≡ self.now) }
+    {
+        self.as_borrowed().into_owned(alloc)
+    }
+
     /// A copy of the text. Allocates.
     pub fn to_string(&self, alloc: Global) -> Result<String, AllocError>
         ensures { IfOk result (λ s. string_bytes s ≡ self.now) }

@@ -125,6 +125,14 @@ impl<'h> Host<'h> {
         }
     }
 
+    /// A copy that owns its text, in one call. Allocates, but not for an IPv4 or IPv6 address.
+    pub fn to_owned(&self, alloc: Global) -> Result<Host<'static>, AllocError>
+        ensures value { IfOk result (λ h. h ≡ self.now) }
+        ensures takes_no_memory { (a : IpAddr) → self.now ≡ spec.host_at a → IsOk result }
+    {
+        self.as_borrowed().into_owned(alloc)
+    }
+
     /// Whether the host's text is its canonical spelling: RFC 3986, section 6.2.2. That of an IPv4
     /// or IPv6 address always is. Does not allocate.
     pub fn is_normalized(&self) -> bool

@@ -84,4 +84,12 @@ impl<'p> Path<'p> {
             counts: self.counts,
         })
     }
+
+    /// A copy that owns its texts, in one call. Allocates each text, and lists of segments if there
+    /// is more than one.
+    pub fn to_owned(&self, alloc: Global) -> Result<Path<'static>, AllocError>
+        ensures { IfOk result (λ p. p ≡ self.now) }
+    {
+        self.to_borrowed(alloc)?.into_owned(alloc)
+    }
 }

@@ -191,6 +191,13 @@ impl<'s> Segment<'s> {
         })
     }
 
+    /// A copy that owns its text, in one call. Allocates.
+    pub fn to_owned(&self, alloc: Global) -> Result<Segment<'static>, AllocError>
+        ensures { IfOk result (λ s. s ≡ self.now) }
+    {
+        self.as_borrowed().into_owned(alloc)
+    }
+
     /// A copy of the text. Allocates.
     pub fn to_string(&self, alloc: Global) -> Result<String, AllocError>
         ensures { IfOk result (λ s. string_bytes s ≡ self.now) }

@@ -120,4 +120,12 @@ impl<'r> URIReference<'r> {
             fragment,
         })
     }
+
+    /// A copy that owns its texts, in one call. Allocates each text, and lists of segments if there
+    /// is more than one.
+    pub fn to_owned(&self, alloc: Global) -> Result<URIReference<'static>, AllocError>
+        ensures { IfOk result (λ r. r ≡ self.now) }
+    {
+        self.to_borrowed(alloc)?.into_owned(alloc)
+    }
 }

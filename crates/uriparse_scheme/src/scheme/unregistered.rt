@@ -118,6 +118,13 @@ impl<'s> UnregisteredScheme<'s> {
         })
     }
 
+    /// A copy that owns its text, in one call. Allocates.
+    pub fn to_owned(&self, alloc: Global) -> Result<UnregisteredScheme<'static>, AllocError>
+        ensures { IfOk result (λ s. s ≡ self.now) }
+    {
+        self.as_borrowed().into_owned(alloc)
+    }
+
     /// Copies the text into a new `String`. Allocates.
     pub fn to_string(&self, alloc: Global) -> Result<String, AllocError>
         ensures { IfOk result (λ s. string_bytes s ≡ self.now) }

@@ -187,6 +187,13 @@ impl<'t, K: TextKind> Text<'t, K> {
         })
     }
 
+    /// A copy that owns its text, in one call. Allocates.
+    pub fn to_owned(&self, alloc: Global) -> Result<Text<'static, K>, AllocError>
+        ensures { IfOk result (λ t. t ≡ self.now) }
+    {
+        self.as_borrowed().into_owned(alloc)
+    }
+
     /// A copy of the text. Allocates.
     pub fn to_string(&self, alloc: Global) -> Result<String, AllocError>
         ensures { IfOk result (λ s. string_bytes s ≡ self.now) }
