@@ -218,6 +218,7 @@ fn ends_at_once(text: &[u8]) -> bool
 
 /// The path that a text begins with, up to the first `?` or `#`, or its leftmost fault. Reads it
 /// once. Does not allocate.
+#[inline(always)]
 pub fn split_path(text: &[u8]) -> Result<PathFront<'_>, PathError>
     ensures { MatchResult result (λ r. (fault (up_to ends_path text.now) ≡ None) × (r.text.now ≡ up_to ends_path text.now) × (r.behind.now ≡ from_first ends_path text.now) × (r.count ≡ length (pieces (up_to ends_path text.now))) × (r.escaped ≡ 0 → lacks percent r.text.now ≡ true)) (λ e. fault (up_to ends_path text.now) ≡ Some e) }
 {
