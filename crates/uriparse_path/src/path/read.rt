@@ -131,8 +131,8 @@ fn is_dotted(dotted: bool, piece: &[u8]) -> bool
     dotted || matches!(piece, [b'.', ..])
 }
 
-/// The segments of the text, which is cut at its slashes, and whether one of them begins with a
-/// dot. Reserves capacity for `count` segments. `escaped` is 0 only if the text has no
+/// The segments of the text, which is cut at its slashes and has `count`, and whether one of them
+/// begins with a dot. Allocates for all of them once. `escaped` is 0 only if the text has no
 /// percent-encoded octet: then each segment is canonical.
 #[inline(always)]
 fn split_segments<'p>(
@@ -141,6 +141,7 @@ fn split_segments<'p>(
     escaped: usize,
     text: &'p [u8],
 ) -> Result<(Vec<Segment<'p>>, bool), AllocError>
+    requires count { count ≡ length (slice_split is_slash text.now) }
     requires segments { list_all segment.is_segment (slice_split is_slash text.now) ≡ true }
     requires escaped { escaped ≡ 0 → lacks percent text.now ≡ true }
     ensures { IfOk result (λ v. (v.0.items ≡ slice_split is_slash text.now) × (v.1 ≡ list_any tally.begins_with_dot (slice_split is_slash text.now))) }
@@ -156,7 +157,7 @@ fn split_segments<'p>(
             let end = at + lowest(left);
             let piece = &text[start..end];
             dotted = is_dotted(dotted, piece);
-            segments.push(Segment::of_kept(piece, escaped == 0))?;
+            segments.push_reserved(Segment::of_kept(piece, escaped == 0));
             start = end + 1;
             left = without_lowest(left);
         }
@@ -164,7 +165,7 @@ fn split_segments<'p>(
     }
     let piece = &text[start..];
     let dotted = is_dotted(dotted, piece);
-    segments.push(Segment::of_kept(piece, escaped == 0))?;
+    segments.push_reserved(Segment::of_kept(piece, escaped == 0));
     Ok((segments, dotted))
 }
 
@@ -218,6 +219,7 @@ fn ends_at_once(text: &[u8]) -> bool
 
 /// The path that a text begins with, up to the first `?` or `#`, or its leftmost fault. Reads it
 /// once. Does not allocate.
+#[inline(always)]
 pub fn split_path(text: &[u8]) -> Result<PathFront<'_>, PathError>
     ensures { MatchResult result (λ r. (fault (up_to ends_path text.now) ≡ None) × (r.text.now ≡ up_to ends_path text.now) × (r.behind.now ≡ from_first ends_path text.now) × (r.count ≡ length (pieces (up_to ends_path text.now))) × (r.escaped ≡ 0 → lacks percent r.text.now ≡ true)) (λ e. fault (up_to ends_path text.now) ≡ Some e) }
 {

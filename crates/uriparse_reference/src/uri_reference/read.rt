@@ -84,6 +84,7 @@ fn check_path(
 }
 
 /// The query that follows a path, if present, and the text of the fragment that follows it.
+#[inline(always)]
 fn find_query(text: &[u8]) -> Result<(Found<'_, QueryKind>, Option<&[u8]>), QueryError>
     ensures { MatchResult result (λ r. (if_present query.reading (tail_query text.now) ≡ Ok r.0) × (option_copied r.1 ≡ tail_fragment text.now)) (λ e. if_present query.reading (tail_query text.now) ≡ Err e) }
 {
@@ -95,6 +96,7 @@ fn find_query(text: &[u8]) -> Result<(Found<'_, QueryKind>, Option<&[u8]>), Quer
 }
 
 /// Finds the query and the fragment that follow a path.
+#[inline(always)]
 fn find_behind(
     text: &[u8],
 ) -> Result<(Found<'_, QueryKind>, Found<'_, FragmentKind>), URIReferenceError>
@@ -120,6 +122,7 @@ pub struct FoundTail<'t> {
 
 /// Finds the path, the query and the fragment in what follows the scheme and the authority, if
 /// present. Does not allocate.
+#[inline(always)]
 fn find_tail(
     has_scheme: bool,
     has_authority: bool,
@@ -180,6 +183,7 @@ pub fn find_pieces(text: &[u8]) -> Result<Pieces<'_>, URIReferenceError>
 
 /// The path that a text spells, which has `count` segments, made absolute with an authority.
 /// Allocates only for more than one. `escaped` is 0 only if the text has no percent-encoded octet.
+#[inline(always)]
 pub(super) fn make_path(
     alloc: Global,
     has_authority: bool,

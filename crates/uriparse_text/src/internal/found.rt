@@ -76,7 +76,7 @@ impl<'t, K: TextKind> Found<'t, K> {
 /// Finds a text of this kind, if there is one. Does not allocate.
 ///
 /// Rejects the leftmost fault with the kind's error.
-#[inline]
+#[inline(always)]
 pub fn find_text_if<'t, K: TextKind>(text: Option<&'t [u8]>) -> Result<Found<'t, K>, K::Error>
     ensures { result ≡ if_present (reading_in K.class K.error_of) (option_copied text.entry) }
 {
@@ -94,7 +94,7 @@ pub fn find_text_if<'t, K: TextKind>(text: Option<&'t [u8]>) -> Result<Found<'t,
 /// up to the delimiter or the leftmost fault before it. Does not allocate.
 ///
 /// Rejects that fault with the kind's error; what follows the delimiter is not examined.
-#[inline]
+#[inline(always)]
 pub fn find_text_before<'t, K: TextKind>(
     bytes: &'t [u8],
     mark: u8,

@@ -34,7 +34,7 @@ impl ByteTest for Unsettled {
 }
 
 /// How many leading bytes are of the class and do not change.
-#[inline]
+#[inline(always)]
 pub(super) fn settled_len(class: Class, case: Case, text: &[u8]) -> usize
     ensures place { result ≡ position_or_len (λ b. not (spec.is_settled class case b)) text.now }
     ensures within { result ≤ length text.now }

@@ -1,9 +1,9 @@
-use Rattle.std.proofs.Common.{◌∷◌, ◌++◌, [], sym, ap, ◌∙◌}
+use Rattle.std.proofs.Common.{◌∷◌, ◌++◌, [], arith, length, length-append, sym, ap, ◌∙◌}
 use Rattle.std.proofs.lemmas.List.{take_rest}
 use Rattle.std.specs.List.{list_any}
 use Rattle.uriparse_path.specs.Segment.{is_segment}
 use Rattle.uriparse_path.specs.Counts.{begins_with_dot}
-use Rattle.uriparse_path.proofs.lemmas.reading.CuttingWalkLemmas.{piece_is_segment, lacks_piece, run_on, run_begins, run_ends, last_whole, last_is_segment}
+use Rattle.uriparse_path.proofs.lemmas.reading.CuttingWalkLemmas.{fewer_cut, last_fewer, piece_is_segment, lacks_piece, run_on, run_begins, run_ends, last_whole, last_is_segment}
 use Rattle.std.proofs.lemmas.Bool.{eqb-true}
 use Rattle.uriparse_path.proofs.lemmas.reading.NoEscapeLemmas.{any_push}
 use Rattle.uriparse_path.proofs.lemmas.list.SegmentCountLemmas.{unescaped_stays}
@@ -17,11 +17,24 @@ of_kept-requires c = record {
   canonical = λ e. unescaped_stays _ (lacks_piece c.args.text.now c.marks.start _ (c.requires.escaped (eqb-true c.args.escaped 0 e)));
 }
 
+pub push_reserved-requires : goal.push_reserved-requires
+push_reserved-requires c =
+    let fewer = fewer_cut c.args.text.now c.marks.segments.items c.marks.start c.runs.at c.next_marks-marks.result.1 c.marks.left c.marks.invariant.0
+    c.lowest.result c.lowest.ensures.set c.lowest.ensures.below in
+    let len = c.marks.invariant.2 in let room = c.marks.invariant.3 in let all = c.requires.count in omega (arith, fewer, len, room, all)
+
+pub push_reserved-requires-2 : goal.push_reserved-requires-2
+push_reserved-requires-2 c =
+    let fewer = last_fewer c.args.text.now c.runs.segments.items c.runs.start c.runs.at c.runs.invariant.0 c.runs-test.false in
+    let len = c.runs.invariant.2 in let room = c.runs.invariant.3 in let all = c.requires.count in omega (arith, fewer, len, room, all)
+
 pub marks-init : goal.marks-init
 marks-init c = (
   run_begins c.args.text.now c.runs.segments.items c.runs.start c.runs.at c.next_marks-marks.result.1 c.next_marks-marks.result.0
       c.runs.invariant.0 c.next_marks-marks.ensures.room c.next_marks-marks.ensures.marks,
   c.runs.invariant.1,
+  c.runs.invariant.2,
+  c.runs.invariant.3,
 )
 
 pub marks-preserved : goal.marks-preserved
@@ -29,19 +42,24 @@ marks-preserved c =
     let low = c.lowest.ensures in
     let next = c.without_lowest-left.ensures in
     let k = c.lowest.result in (
-      rw (c.in_ok-push.ensures.items, c.of_kept.ensures)
+      rw (c.push_reserved.ensures.items, c.of_kept.ensures)
           (run_on c.args.text.now c.marks.segments.items c.marks.start c.runs.at c.next_marks-marks.result.1 c.marks.left c.marks.invariant.0
           k low.set low.below c.without_lowest-left.result (λ j. next.kept k j (low.set, low.below)) next.no_more (next.cleared k (low.set, low.below))),
       c.is_dotted-dotted.ensures
           ∙ any_push begins_with_dot c.marks.segments.items _ c.marks.dotted c.marks.invariant.1
           ∙ ap (λ s. list_any begins_with_dot (c.marks.segments.items ++ s ∷ [])) (sym c.of_kept.ensures)
-          ∙ ap (list_any begins_with_dot) (sym c.in_ok-push.ensures.items),
+          ∙ ap (list_any begins_with_dot) (sym c.push_reserved.ensures.items),
+      (let items = ap length c.push_reserved.ensures.items in let len = c.push_reserved.ensures.len in let was = c.marks.invariant.2 in
+          let more = length-append c.marks.segments.items (c.of_kept.result ∷ []) in omega (arith, items, len, was, more)),
+      c.push_reserved.ensures.capacity ∙ c.marks.invariant.3,
     )
 
 pub runs-preserved : goal.runs-preserved
 runs-preserved c = (
   run_ends c.args.text.now c.marks.segments.items c.marks.start c.runs.at c.next_marks-marks.result.1 c.marks.left c.marks.invariant.0 c.marks-test.false,
   c.marks.invariant.1,
+  c.marks.invariant.2,
+  c.marks.invariant.3,
 )
 
 pub of_kept-requires-2 : goal.of_kept-requires-2
@@ -56,7 +74,7 @@ pub returns : goal.returns
 returns c =
     let whole = last_whole c.args.text.now c.runs.segments.items c.runs.start c.runs.at c.runs.invariant.0 c.runs-test.false in
     let rest = take_rest c.args.text.now c.runs.start in (
-      rw (c.in_ok-push-2.ensures.items, c.of_kept-2.ensures, rest) whole,
+      rw (c.push_reserved-2.ensures.items, c.of_kept-2.ensures, rest) whole,
       c.is_dotted-dotted-2.ensures
           ∙ any_push begins_with_dot c.runs.segments.items _ c.runs.dotted c.runs.invariant.1
           ∙ ap (λ s. list_any begins_with_dot (c.runs.segments.items ++ s ∷ [])) rest
