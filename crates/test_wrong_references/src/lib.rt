@@ -132,6 +132,13 @@ pub fn view(bytes: &[u8]) -> Result<ReferenceView<'_>, URIReferenceError>
     ReferenceView::try_from_bytes(bytes)
 }
 
+/// The text that was viewed.
+pub fn text_of_view<'t>(view: &ReferenceView<'t>) -> &'t str
+    ensures { result.now ≡ view.now.text }
+{
+    view.as_str()
+}
+
 /// The text of a view's path.
 pub fn path_of_view<'t>(view: &ReferenceView<'t>) -> &'t str
     ensures { result.now ≡ text view.now.parts.path }
