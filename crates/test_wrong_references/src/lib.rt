@@ -22,9 +22,10 @@ ghost use Rattle.uriparse_reference.specs.Escaped.{escaped};
 ghost use Rattle.uriparse_reference.specs.Into.{Writes};
 ghost use Rattle.uriparse_reference.specs.Key.{key};
 ghost use Rattle.uriparse_reference.specs.Normal.{normal};
-ghost use Rattle.uriparse_reference.specs.Reading.{fault, reading};
+ghost use Rattle.uriparse_reference.specs.Reading.{fault};
 ghost use Rattle.uriparse_reference.specs.Reference.{Parts, Spells, print};
 ghost use Rattle.uriparse_reference.specs.Target.{target};
+ghost use Rattle.uriparse_reference.specs.View.{viewed};
 
 use std::alloc::{AllocError, Global};
 use uriparse_authority::authority::Authority;
@@ -126,28 +127,35 @@ pub fn is_double_dot(segment: &Segment<'_>) -> bool
 
 /// Views a reference in its text: exactly what the grammar spells, or the fault.
 pub fn view(bytes: &[u8]) -> Result<ReferenceView<'_>, URIReferenceError>
-    ensures { result ≡ reading bytes.now }
+    ensures { result ≡ viewed bytes.now }
 {
     ReferenceView::try_from_bytes(bytes)
 }
 
+/// The text that was viewed.
+pub fn text_of_view<'t>(view: &ReferenceView<'t>) -> &'t str
+    ensures { result.now ≡ view.now.text }
+{
+    view.as_str()
+}
+
 /// The text of a view's path.
 pub fn path_of_view<'t>(view: &ReferenceView<'t>) -> &'t str
-    ensures { result.now ≡ text view.now.path }
+    ensures { result.now ≡ text view.now.parts.path }
 {
     view.path()
 }
 
 /// Whether two views are equal.
 pub fn are_equal_views(left: &ReferenceView<'_>, right: &ReferenceView<'_>) -> bool
-    ensures { result ≡ bytes_eq (key left.now) (key right.now) }
+    ensures { result ≡ bytes_eq (key left.now.parts) (key right.now.parts) }
 {
     left == right
 }
 
 /// Writes the text of the normal form to a buffer.
 pub fn normalize_into(view: &ReferenceView<'_>, out: &mut [u8]) -> Result<usize, BufferError>
-    ensures { Writes (print (normal view.now)) result out.old out.new }
+    ensures { Writes (print (normal view.now.parts)) result out.old out.new }
 {
     view.normalize_into(out)
 }
@@ -158,7 +166,7 @@ pub fn resolve_into(
     reference: &ReferenceView<'_>,
     out: &mut [u8],
 ) -> Result<usize, BufferError>
-    ensures { is_some base.now.scheme ≡ true → MatchOption (target base.now reference.now) ((result ≡ Err buffers.TooManySegments) × (out.new ≡ out.old)) (λ t. Writes (print t) result out.old out.new) }
+    ensures { is_some base.now.parts.scheme ≡ true → MatchOption (target base.now.parts reference.now.parts) ((result ≡ Err buffers.TooManySegments) × (out.new ≡ out.old)) (λ t. Writes (print t) result out.old out.new) }
 {
     base.resolve_into(reference, out)
 }

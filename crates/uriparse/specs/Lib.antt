@@ -64,6 +64,7 @@ pub use Rattle.uriparse_reference.specs.Reference
 pub use Rattle.uriparse_reference.specs.Kinds as ReferenceKinds
 pub use Rattle.uriparse_reference.specs.Cuts
 pub use Rattle.uriparse_reference.specs.Reading
+pub use Rattle.uriparse_reference.specs.View
 pub use Rattle.uriparse_reference.specs.Escaped
 pub use Rattle.uriparse_reference.specs.Into
 pub use Rattle.uriparse_reference.specs.Edits

@@ -156,9 +156,9 @@ impl<'r, K: ReferenceKind> ReferenceOf<'r, K> {
 
     /// The reference that a view found, if it is of this kind.
     fn of_view(alloc: Global, view: &ReferenceView<'r>) -> Result<ReferenceOf<'r, K>, K::Error>
-        ensures answer { IsUnless (K.told (errors.Path OutOfMemory)) result (of_kind K.has_scheme K.other view.now) }
-        ensures other { beq (is_some view.now.scheme) K.has_scheme ≡ false → result ≡ Err K.other }
-        ensures takes_no_memory { length view.now.path.segments ≡ 1 → result ≡ of_kind K.has_scheme K.other view.now }
+        ensures answer { IsUnless (K.told (errors.Path OutOfMemory)) result (of_kind K.has_scheme K.other view.now.parts) }
+        ensures other { beq (is_some view.now.parts.scheme) K.has_scheme ≡ false → result ≡ Err K.other }
+        ensures takes_no_memory { length view.now.parts.path.segments ≡ 1 → result ≡ of_kind K.has_scheme K.other view.now.parts }
     {
         if view.has_scheme() != K::has_scheme() {
             return Err(K::other());

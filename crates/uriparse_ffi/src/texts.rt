@@ -18,7 +18,7 @@ use uriparse::{ReferenceView, URIError};
 
 /// Views a reference in its text, or returns the code of its error.
 fn view(text: &[u8]) -> Result<ReferenceView<'_>, u32>
-    ensures found { (p : Parts) → Spells text.now p → result ≡ Ok p }
+    ensures found { (p : Parts) → Spells text.now p → result ≡ Ok (record { text = text.now; parts = p }) }
     ensures fault { (e : URIReferenceError) → fault text.now ≡ Some e → result ≡ Err (spec.code_of e) }
 {
     match ReferenceView::try_from_bytes(text) {
@@ -29,8 +29,8 @@ fn view(text: &[u8]) -> Result<ReferenceView<'_>, u32>
 
 /// Views a base in its text, or returns the code of its error.
 fn view_base(text: &[u8]) -> Result<ReferenceView<'_>, u32>
-    ensures found { (p : Parts) → Spells text.now p → is_some p.scheme ≡ true → result ≡ Ok p }
-    ensures kind { IfOk result (λ b. is_some b.scheme ≡ true) }
+    ensures found { (p : Parts) → Spells text.now p → is_some p.scheme ≡ true → result ≡ Ok (record { text = text.now; parts = p }) }
+    ensures kind { IfOk result (λ b. is_some b.parts.scheme ≡ true) }
     ensures relative { (p : Parts) → Spells text.now p → is_some p.scheme ≡ false → result ≡ Err (spec.base_code spec.no_scheme) }
     ensures fault { (e : URIReferenceError) → fault text.now ≡ Some e → result ≡ Err (spec.base_code (spec.uri_code (told e))) }
 {
@@ -66,9 +66,9 @@ fn write_target_of(
     out: &mut [u8],
     needed: &mut usize,
 ) -> u32
-    requires { is_some base.now.scheme ≡ true }
-    ensures written { (r t : Parts) → Spells reference.now r → target base.now r ≡ Some t → IsPut (print t) out.old out.new needed.new result }
-    ensures too_long { (r : Parts) → Spells reference.now r → target base.now r ≡ None → IsRefused spec.too_many_segments out.old out.new needed.new result }
+    requires { is_some base.now.parts.scheme ≡ true }
+    ensures written { (r t : Parts) → Spells reference.now r → target base.now.parts r ≡ Some t → IsPut (print t) out.old out.new needed.new result }
+    ensures too_long { (r : Parts) → Spells reference.now r → target base.now.parts r ≡ None → IsRefused spec.too_many_segments out.old out.new needed.new result }
     ensures refused { (e : URIReferenceError) → fault reference.now ≡ Some e → IsRefused (spec.code_of e) out.old out.new needed.new result }
 {
     match view(reference) {
@@ -93,7 +93,7 @@ pub fn write_target(base: &[u8], reference: &[u8], out: &mut [u8], needed: &mut 
 
 /// Whether a reference equals the one that a text spells, or the code of the text's error.
 fn equal_to(left: &ReferenceView<'_>, right: &[u8]) -> Result<bool, u32>
-    ensures compared { (q : Parts) → Spells right.now q → result ≡ Ok (bytes_eq (key left.now) (key q)) }
+    ensures compared { (q : Parts) → Spells right.now q → result ≡ Ok (bytes_eq (key left.now.parts) (key q)) }
     ensures fault { (e : URIReferenceError) → fault right.now ≡ Some e → result ≡ Err (spec.code_of e) }
 {
     match view(right) {
@@ -117,7 +117,7 @@ pub fn equal_texts(left: &[u8], right: &[u8]) -> Result<bool, u32>
 
 /// The hash of a reference, by std's hasher with its fixed key.
 fn hash_of_reference(reference: &ReferenceView<'_>) -> u64
-    ensures { result ≡ hash_of (key reference.now) }
+    ensures { result ≡ hash_of (key reference.now.parts) }
 {
     let mut state = DefaultHasher::new();
     reference.hash(&mut state);

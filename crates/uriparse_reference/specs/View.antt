@@ -1,13 +1,34 @@
--- What a view of a reference keeps of its text: a word of its invariant alone.
-use Rattle.std.specs.Prelude.{◌≡◌, ℕ, true, length, List, Option, IfSome, Ok}
+-- A reference in its text.
+use Rattle.std.specs.Prelude.{◌≡◌, ℕ, true, length, List, Option, IfSome, Result, Ok}
 use Rattle.uriparse_text.specs.Bytes.{percent}
 use Rattle.uriparse_text.specs.Cuts.{lacks}
+use Rattle.uriparse_text.specs.Readings.{◌>>=◌}
 use Rattle.uriparse_path.specs.Path.{IsPath, pieces}
 use Rattle.uriparse_authority.specs.Authority as authority
 use Rattle.uriparse_scheme.specs.declared.scheme.registered.RegisteredScheme.{RegisteredScheme}
 use Rattle.uriparse_scheme.specs.Registered.{name_of}
+use Rattle.uriparse_reference.specs.declared.uri_reference.error.URIReferenceError.{URIReferenceError}
 use Rattle.uriparse_reference.specs.Cuts.{scheme_text, path_text, if_some}
+use Rattle.uriparse_reference.specs.Key.{key}
 use Rattle.uriparse_reference.specs.Reading.{reading, parts_of}
+use Rattle.uriparse_reference.specs.Reference.{Parts}
+
+-- the text that was read, and the components that it spells
+pub record Viewed : Type 0 where
+  pub text : List ℕ
+  pub parts : Parts
+
+-- a text with its components, or the first fault
+abbrev pub viewed : List ℕ → Result Viewed URIReferenceError
+viewed t = do
+  parts ← reading t
+  Ok (record { text = t; parts = parts })
+
+-- Views are equal if their components are.
+abbrev pub view_key : Viewed → List ℕ
+view_key v = key v.parts
+
+-- ---- what a view keeps of its text: a word of its invariant alone
 
 -- These pieces were found in the text t: the texts of the scheme, if it is not empty, and of the path, and the other components. The scheme
 -- is known by its name, and the path has no percent-encoded octet, where so said. The path has count segments.

@@ -1,10 +1,10 @@
 //! A URI reference in its text, read without memory: RFC 3986, section 4.1.
 ghost use Rattle.std.specs.Prelude.{◌≡◌, IfErr, IfOk, IsOk, Ok, Some, is_some, length};
 ghost use Rattle.std.specs.Str.{IsUtf8};
-ghost use Rattle.uriparse_path.specs.Path.{IsPath, text};
-ghost use Rattle.uriparse_reference.specs.Reading.{fault, reading};
+ghost use Rattle.uriparse_path.specs.Path.{IsListed, IsPath, text};
+ghost use Rattle.uriparse_reference.specs.Reading.{fault};
 ghost use Rattle.uriparse_reference.specs.Reference.{host_of, password_of, port_of, username_of};
-ghost use Rattle.uriparse_reference.specs.Kinds as kinds;
+ghost use Rattle.uriparse_reference.specs.View.{viewed};
 
 use super::URIReference;
 use super::error::URIReferenceError;
@@ -22,6 +22,7 @@ use uriparse_text::query::Query;
 
 mod compare;
 mod into;
+mod kind;
 mod normal;
 mod target;
 
@@ -53,13 +54,12 @@ fn str_of(bytes: &[u8]) -> &str
 }
 
 impl<'t> Model for ReferenceView<'t> {
-    ghost use Rattle.uriparse_reference.specs.Reference.{Parts};
     ghost use Rattle.uriparse_reference.specs.Reading.{parts_of};
-    ghost use Rattle.uriparse_reference.specs.View.{AreFound};
+    ghost use Rattle.uriparse_reference.specs.View.{AreFound, Viewed};
 
-    ghost Value = { Parts };
+    ghost Value = { Viewed };
 
-    ghost view = { λ v. parts_of v.text.now v.pieces.authority v.pieces.tail.path.now v.pieces.tail.query v.pieces.tail.fragment };
+    ghost view = { λ v. record { text = v.text.now; parts = parts_of v.text.now v.pieces.authority v.pieces.tail.path.now v.pieces.tail.query v.pieces.tail.fragment } };
 
     ghost invariant = { λ v. AreFound v.text.now v.pieces.scheme.now v.pieces.known v.pieces.authority v.pieces.tail.path.now v.pieces.tail.count v.pieces.tail.escaped v.pieces.tail.query v.pieces.tail.fragment };
 }
@@ -70,7 +70,7 @@ impl<'t> ReferenceView<'t> {
 
     /// Finds the components of the text, or its fault.
     fn read(bytes: &'t [u8]) -> Result<ReferenceView<'t>, URIReferenceError>
-        ensures { result ≡ reading bytes.now }
+        ensures { result ≡ viewed bytes.now }
     {
         match find_pieces(bytes) {
             Ok(pieces) => Ok(ReferenceView {
@@ -85,25 +85,27 @@ impl<'t> ReferenceView<'t> {
     ///
     /// Returns the fault that [`URIReference::try_from_bytes`] returns.
     pub fn try_from_bytes(bytes: &'t [u8]) -> Result<ReferenceView<'t>, URIReferenceError>
-        // The text spells the result.
-        ensures found { IfOk result (λ v. Spells bytes.now v) }
+        // The result keeps the text, which spells its components.
+        ensures text { IfOk result (λ v. v.text ≡ bytes.now) }
+        ensures found { IfOk result (λ v. Spells bytes.now v.parts) }
 
         // A text that spells a reference is accepted.
-        ensures only { (p : Parts) → Spells bytes.now p → result ≡ Ok p }
+        ensures only { (p : Parts) → Spells bytes.now p → result ≡ Ok (record { text = bytes.now; parts = p }) }
 
         // Any other is rejected with its fault.
         ensures fault { IfErr result (λ e. fault bytes.now ≡ Some e) }
-        ensures reads { result ≡ reading bytes.now }
+        ensures reads { result ≡ viewed bytes.now }
     {
         Self::read(bytes)
     }
 
     /// Like [`try_from_bytes`](ReferenceView::try_from_bytes), for a `str`.
     pub fn try_from_str(text: &'t str) -> Result<ReferenceView<'t>, URIReferenceError>
-        ensures found { IfOk result (λ v. Spells text.now v) }
-        ensures only { (p : Parts) → Spells text.now p → result ≡ Ok p }
+        ensures text { IfOk result (λ v. v.text ≡ text.now) }
+        ensures found { IfOk result (λ v. Spells text.now v.parts) }
+        ensures only { (p : Parts) → Spells text.now p → result ≡ Ok (record { text = text.now; parts = p }) }
         ensures fault { IfErr result (λ e. fault text.now ≡ Some e) }
-        ensures reads { result ≡ reading text.now }
+        ensures reads { result ≡ viewed text.now }
     {
         Self::read(text.as_bytes())
     }
@@ -111,10 +113,10 @@ impl<'t> ReferenceView<'t> {
     /// The reference, whose components borrow the text. Allocates only for the list of the path's
     /// segments, if there is more than one; no byte is checked again.
     pub fn to_reference(&self, alloc: Global) -> Result<URIReference<'t>, AllocError>
-        ensures reference { IfOk result (λ r. r ≡ self.now) }
+        ensures reference { IfOk result (λ r. r ≡ self.now.parts) }
 
         // A path of one segment takes no memory.
-        ensures takes_no_memory { length self.now.path.segments ≡ 1 → IsOk result }
+        ensures takes_no_memory { length self.now.parts.path.segments ≡ 1 → IsOk result }
     {
         // The components are moved once, as in `URIReference::try_from_bytes`.
         let tail = &self.pieces.tail;
@@ -136,14 +138,15 @@ impl<'t> ReferenceView<'t> {
 
     /// The whole text, as it was read.
     pub fn as_str(&self) -> &'t str
-        ensures { Spells result.now self.now }
+        ensures text { result.now ≡ self.now.text }
+        ensures spelled { Spells self.now.text self.now.parts }
     {
         str_of(self.text)
     }
 
     /// The scheme, if there is one.
     pub fn scheme(&self) -> Option<Scheme<'t>>
-        ensures { result ≡ self.now.scheme }
+        ensures { result ≡ self.now.parts.scheme }
     {
         scheme_if(self.pieces.scheme, self.pieces.known)
     }
@@ -151,7 +154,7 @@ impl<'t> ReferenceView<'t> {
     /// The authority, if there is one.
     #[inline]
     pub fn authority(&self) -> Option<Authority<'t>>
-        ensures { result ≡ self.now.authority }
+        ensures { result ≡ self.now.parts.authority }
     {
         match &self.pieces.authority {
             Some(found) => Some(found.to_authority()),
@@ -161,7 +164,7 @@ impl<'t> ReferenceView<'t> {
 
     /// The user name, if there is one.
     pub fn username(&self) -> Option<Username<'t>>
-        ensures { result ≡ username_of self.now }
+        ensures { result ≡ username_of self.now.parts }
     {
         let (username, _, _, _) = self.authority()?.into_parts();
         username
@@ -169,7 +172,7 @@ impl<'t> ReferenceView<'t> {
 
     /// The password, if there is one.
     pub fn password(&self) -> Option<Password<'t>>
-        ensures { result ≡ password_of self.now }
+        ensures { result ≡ password_of self.now.parts }
     {
         let (_, password, _, _) = self.authority()?.into_parts();
         password
@@ -177,7 +180,7 @@ impl<'t> ReferenceView<'t> {
 
     /// The host, if there is an authority.
     pub fn host(&self) -> Option<Host<'t>>
-        ensures { result ≡ host_of self.now }
+        ensures { result ≡ host_of self.now.parts }
     {
         let (_, _, host, _) = self.authority()?.into_parts();
         Some(host)
@@ -185,14 +188,14 @@ impl<'t> ReferenceView<'t> {
 
     /// The port, if there is one.
     pub fn port(&self) -> Option<u16>
-        ensures { result ≡ port_of self.now }
+        ensures { result ≡ port_of self.now.parts }
     {
         self.authority()?.port()
     }
 
     /// The path's text, which is `/` if it is empty after an authority.
     pub fn path(&self) -> &'t str
-        ensures text { result.now ≡ text self.now.path }
+        ensures text { result.now ≡ text self.now.parts.path }
         ensures valid { IsPath result.now }
     {
         str_of(self.path_bytes())
@@ -201,9 +204,9 @@ impl<'t> ReferenceView<'t> {
     /// The bytes of the path's text.
     #[inline]
     fn path_bytes(&self) -> &'t [u8]
-        ensures text { result.now ≡ text self.now.path }
+        ensures text { result.now ≡ text self.now.parts.path }
         ensures path { IsPath result.now }
-        ensures valid { Valid self.now }
+        ensures valid { Valid self.now.parts }
     {
         let path = self.pieces.tail.path;
         if path.is_empty() && self.has_authority() {
@@ -215,94 +218,84 @@ impl<'t> ReferenceView<'t> {
 
     /// The segments of the path in order.
     pub fn segments(&self) -> Segments<'t>
-        ensures { result ≡ self.now.path.segments }
+        ensures value { result ≡ self.now.parts.path.segments }
+        ensures listed { IsListed self.now.parts.path.segments }
     {
         segments_of(self.pieces.tail.path)
     }
 
     /// The query, if there is one.
     pub fn query(&self) -> Option<Query<'t>>
-        ensures { result ≡ self.now.query }
+        ensures { result ≡ self.now.parts.query }
     {
         self.pieces.tail.query.to_text()
     }
 
     /// The fragment, if there is one.
     pub fn fragment(&self) -> Option<Fragment<'t>>
-        ensures { result ≡ self.now.fragment }
+        ensures { result ≡ self.now.parts.fragment }
     {
         self.pieces.tail.fragment.to_text()
     }
 
     /// Whether there is a scheme.
     pub fn has_scheme(&self) -> bool
-        ensures { result ≡ is_some self.now.scheme }
+        ensures { result ≡ is_some self.now.parts.scheme }
     {
         self.pieces.has_scheme()
     }
 
     /// Whether there is an authority.
     pub fn has_authority(&self) -> bool
-        ensures { result ≡ is_some self.now.authority }
+        ensures { result ≡ is_some self.now.parts.authority }
     {
         self.pieces.authority.is_some()
     }
 
     /// Whether there is a user name.
     pub fn has_username(&self) -> bool
-        ensures { result ≡ is_some (username_of self.now) }
+        ensures { result ≡ is_some (username_of self.now.parts) }
     {
         self.username().is_some()
     }
 
     /// Whether there is a password.
     pub fn has_password(&self) -> bool
-        ensures { result ≡ is_some (password_of self.now) }
+        ensures { result ≡ is_some (password_of self.now.parts) }
     {
         self.password().is_some()
     }
 
     /// Whether there is a port.
     pub fn has_port(&self) -> bool
-        ensures { result ≡ is_some (port_of self.now) }
+        ensures { result ≡ is_some (port_of self.now.parts) }
     {
         self.port().is_some()
     }
 
     /// Whether there is a query, which may be empty.
     pub fn has_query(&self) -> bool
-        ensures { result ≡ is_some self.now.query }
+        ensures { result ≡ is_some self.now.parts.query }
     {
         self.query().is_some()
     }
 
     /// Whether there is a fragment, which may be empty.
     pub fn has_fragment(&self) -> bool
-        ensures { result ≡ is_some self.now.fragment }
+        ensures { result ≡ is_some self.now.parts.fragment }
     {
         self.fragment().is_some()
     }
+}
 
-    /// Whether it is a URI: it has a scheme. RFC 3986, section 3.
-    pub fn is_uri(&self) -> bool
-        ensures { result ≡ kinds.is_uri self.now }
-    {
-        self.has_scheme()
-    }
+impl<'t> fmt::Display for ReferenceView<'t> {
+    ghost output = { λ v. Some v.text };
 
-    /// Whether it is a relative reference: it has no scheme. RFC 3986, section 4.2.
-    pub fn is_relative_reference(&self) -> bool
-        ensures { result ≡ kinds.is_relative_reference self.now }
-    {
-        !self.has_scheme()
-    }
+    // The formatter's options do not change the output.
+    ghost styled_output = { λ v _. Some v.text };
 
-    /// Whether it is an absolute URI, as a base must be: it has a scheme and no fragment. RFC
-    /// 3986, sections 4.3 and 5.1.
-    pub fn can_be_a_base(&self) -> bool
-        ensures { result ≡ kinds.can_be_a_base self.now }
-    {
-        self.has_scheme() && !self.has_fragment()
+    fn fmt<W: fmt::Write>(&self, f: &mut fmt::Formatter<W>) -> fmt::Result {
+        f.write_str(self.as_str())
     }
 }
 

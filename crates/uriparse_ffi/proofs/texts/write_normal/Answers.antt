@@ -2,6 +2,7 @@ use Rattle.std.proofs.Common.{◌≡◌, length, subst, rules}
 use Rattle.uriparse_reference.specs.Into.{Writes}
 use Rattle.uriparse_reference.specs.Normal.{normal}
 use Rattle.uriparse_reference.specs.Reference.{print}
+use Rattle.uriparse_reference.specs.View.{Viewed}
 use Rattle.uriparse_ffi.specs.Code as spec
 use Rattle.uriparse_ffi.proofs.lemmas.TextLemmas.{no_error, no_ok, ok_is, put_written}
 use Rattle.uriparse_ffi.proofs.texts.write_normal.Goals as goal
@@ -10,11 +11,11 @@ pub returns-in-Ok-clause-written : goal.returns-in-Ok-clause-written
 returns-in-Ok-clause-written c p s =
     let room : length c.normalize_into.new.out ≡ length c.args.out.now = search rules in
     put_written (print (normal p)) c.args.out.now c.normalize_into.new.out c.normalize_into.result c.answer.new.needed c.answer.result
-    (subst (λ q. Writes (print (normal q)) c.normalize_into.result c.args.out.now c.normalize_into.new.out)
-    (ok_is c.in-Ok.view p (c.in-Ok.ensures.found p s)) c.normalize_into.ensures) room c.answer.ensures.code c.answer.ensures.needed
+    (subst (λ (v : Viewed). Writes (print (normal v.parts)) c.normalize_into.result c.args.out.now c.normalize_into.new.out)
+    (ok_is c.in-Ok.view _ (c.in-Ok.ensures.found p s)) c.normalize_into.ensures) room c.answer.ensures.code c.answer.ensures.needed
 
 pub returns-in-Ok-clause-refused : goal.returns-in-Ok-clause-refused
 returns-in-Ok-clause-refused c e h = absurd (no_error c.in-Ok.view (spec.code_of e) (c.in-Ok.ensures.fault e h))
 
 pub returns-in-Err-clause-written : goal.returns-in-Err-clause-written
-returns-in-Err-clause-written c p s = absurd (no_ok c.in-Err.code p (c.in-Err.ensures.found p s))
+returns-in-Err-clause-written c p s = absurd (no_ok c.in-Err.code _ (c.in-Err.ensures.found p s))

@@ -14,7 +14,7 @@ use Rattle.uriparse_text.specs.declared.internal.canonical.Case.TheVariants.{Kep
 use Rattle.uriparse_text.specs.Bytes.{colon, is_hex, is_unreserved}
 use Rattle.uriparse_text.specs.Cuts.{lacks, up_to}
 use Rattle.uriparse_text.specs.Tokens.{tokens, spell, has_digits}
-use Rattle.uriparse_text.specs.Canonical.{canonical_token, escaped_byte, canonical}
+use Rattle.uriparse_text.specs.Canonical.{SpellsAlike, canonical_token, escaped_byte, canonical}
 use Rattle.uriparse_text.specs.Query.{IsQuery}
 use Rattle.uriparse_text.proofs.lemmas.readings.OptionLemmas.{same_option}
 use Rattle.uriparse_text.proofs.lemmas.tokens.TokenLemmas.{spell-tokens, digits-tokens}
@@ -23,6 +23,7 @@ use Rattle.uriparse_text.proofs.lemmas.classes.ClassLemmas.{IsIn-canonical_in}
 use Rattle.uriparse_path.specs.Path.{PathParts, IsPath, is_slash, is_rooted, has_two_slashes}
 use Rattle.uriparse_path.specs.Path as path
 use Rattle.uriparse_path.proofs.lemmas.text.CanonicalTextLemmas.{is_path-canonical, is_rooted-canonical, has_two_slashes-canonical}
+use Rattle.uriparse_path.proofs.lemmas.text.TextWalkLemmas.{formed_path}
 use Rattle.uriparse_authority.specs.Authority as authority
 use Rattle.uriparse_authority.specs.Authority.{AuthorityParts}
 use Rattle.uriparse_authority.specs.Host as host
@@ -259,3 +260,29 @@ from_key p q v w e =
 
 pub tested : (p q : Parts) → Valid p → Valid q → each_alike p q ≡ bytes_eq (key p) (key q)
 tested p q v w = same_from_decides (each_alike p q) (bytes_eq (key p) (key q)) (to_key p q, from_key p q v w) (bytes_eq-Decides (key p) (key q))
+
+-- ---- a path's text and a path
+
+pub path_compared : (t h : List ℕ) (r : Bool) → IsPath t → IsTrue r ↔ SpellsAlike Kept t h → r ≡ bytes_eq (canonical t) (canonical h)
+path_compared t h r is e =
+    same_from_decides r (bytes_eq (canonical t) (canonical h)) (
+      (λ x. (e.0 x).same),
+      (λ x. e.1 (record { formed = formed_path t is; same = x })),
+    ) (bytes_eq-Decides (canonical t) (canonical h))
+
+-- references have the same key exactly if they are the same
+pub key_compared : (p q : Parts) (r : Bool) → r ≡ bytes_eq (key p) (key q) → IsTrue r ↔ Same p q
+key_compared p q r e =
+    let same = same_key p q in
+    let decides = bytes_eq-Decides (key p) (key q) in (
+      (λ x. same.0 (decides.0 (sym e ∙ x))),
+      (λ s. e ∙ decides.1 (same.1 s)),
+    )
+
+-- the order of the two does not count
+pub keys_swapped : (p q : Parts) → bytes_eq (key p) (key q) ≡ bytes_eq (key q) (key p)
+keys_swapped p q =
+    same_from_decides (bytes_eq (key p) (key q)) (bytes_eq (key q) (key p)) (
+      (λ x. sym ((bytes_eq-Decides (key p) (key q)).0 x)),
+      (λ e. (bytes_eq-Decides (key p) (key q)).1 (sym e)),
+    ) (bytes_eq-Decides (key q) (key p))

@@ -1,19 +1,20 @@
 -- What a view of a reference keeps of its text.
-use Rattle.std.proofs.Common.{◌≡◌, ℕ, Bool, true, false, cond, List, [], ◌∷◌, Option, Some, None, Ok, length, refl, sym, ap, ◌∙◌, ◌&&◌, arith}
-use Rattle.std.specs.Prelude.{◌==◌, IfOk, IfSome, Result, Err, is_some}
+use Rattle.std.proofs.Common.{◌≡◌, ℕ, Bool, true, false, cond, List, [], ◌∷◌, Option, Some, None, Ok, length, refl, sym, ap, ◌∙◌, ◌&&◌, arith, subst}
+use Rattle.std.specs.Prelude.{◌==◌, IfErr, IfOk, IfSome, Result, Err, is_some}
 use Rattle.std.proofs.lemmas.Bool.Decides.{nat_tests}
 use Rattle.uriparse_text.specs.Bytes.{slash}
+use Rattle.uriparse_text.specs.Readings.{◌>>=◌, fault_in}
 use Rattle.uriparse_path.specs.Path.{pieces, text}
 use Rattle.uriparse_path.proofs.lemmas.text.PathTextLemmas.{text-spelled}
 use Rattle.uriparse_authority.specs.Authority.{AuthorityParts}
 use Rattle.uriparse_scheme.specs.declared.scheme.registered.RegisteredScheme.{RegisteredScheme}
 use Rattle.uriparse_reference.specs.declared.uri_reference.error.URIReferenceError.{URIReferenceError}
 use Rattle.uriparse_reference.specs.Cuts.{path_text}
-use Rattle.uriparse_reference.specs.Reading.{reading, parts_of}
+use Rattle.uriparse_reference.specs.Reading.{fault, reading, parts_of}
 use Rattle.uriparse_reference.specs.Reference.{Parts, Spells, Valid, is_abempty, path_of}
-use Rattle.uriparse_reference.specs.View.{AreFound}
+use Rattle.uriparse_reference.specs.View.{AreFound, Viewed, viewed}
 use Rattle.uriparse_reference.proofs.lemmas.reading.CutLemmas.{cut_again}
-use Rattle.uriparse_reference.proofs.lemmas.reading.ReadingLemmas.{found, spelled_pieces}
+use Rattle.uriparse_reference.proofs.lemmas.reading.ReadingLemmas.{again, found, spelled_pieces}
 use Rattle.uriparse_reference.proofs.lemmas.reading.SpellingLemmas.{authority_valid, valid}
 
 -- the text spells the components that were found in it, and they are valid
@@ -25,10 +26,42 @@ pub found_valid : (t s : List ℕ) (k : Option RegisteredScheme) (a : Option Aut
     → AreFound t s k a h m n q f → Valid (parts_of t a h q f)
 found_valid t s k a h m n q f are = valid t (parts_of t a h q f) (found_spelled t s k a h m n q f are)
 
--- the text spells what is read
-pub read_spelled : (t : List ℕ) (r : Result Parts URIReferenceError) → r ≡ reading t → IfOk r (λ p. Spells t p)
-read_spelled t (Ok p) e = found t p (sym e)
-read_spelled t (Err x) e = tt
+-- ---- what is viewed is the text with the components that are read
+
+abbrev with_text : List ℕ → Result Parts URIReferenceError → Result Viewed URIReferenceError
+with_text t r = do
+  parts ← r
+  Ok (record { text = t; parts = parts })
+
+pub viewed_read : (t : List ℕ) (p : Parts) → reading t ≡ Ok p → viewed t ≡ Ok (record { text = t; parts = p })
+viewed_read t p e = ap (with_text t) e
+
+pub viewed_fault : (t : List ℕ) (x : URIReferenceError) → reading t ≡ Err x → viewed t ≡ Err x
+viewed_fault t x e = ap (with_text t) e
+
+pub viewed_again : (t : List ℕ) (p : Parts) → Spells t p → viewed t ≡ Ok (record { text = t; parts = p })
+viewed_again t p s = viewed_read t p (again t p s)
+
+pub viewed_text : (t : List ℕ) (r : Result Viewed URIReferenceError) → r ≡ viewed t → IfOk r (λ v. v.text ≡ t)
+viewed_text t r e = subst (λ o. IfOk o (λ v. v.text ≡ t)) (sym e) (kept (reading t))
+  where
+    kept : (o : Result Parts URIReferenceError) → IfOk (with_text t o) (λ v. v.text ≡ t)
+    kept (Ok p) = refl
+    kept (Err x) = tt
+
+pub viewed_spelled : (t : List ℕ) (r : Result Viewed URIReferenceError) → r ≡ viewed t → IfOk r (λ v. Spells t v.parts)
+viewed_spelled t r e = subst (λ o. IfOk o (λ v. Spells t v.parts)) (sym e) (spelled (reading t) refl)
+  where
+    spelled : (o : Result Parts URIReferenceError) → reading t ≡ o → IfOk (with_text t o) (λ v. Spells t v.parts)
+    spelled (Ok p) is = found t p is
+    spelled (Err x) is = tt
+
+pub viewed_faulty : (t : List ℕ) (r : Result Viewed URIReferenceError) → r ≡ viewed t → IfErr r (λ x. fault t ≡ Some x)
+viewed_faulty t r e = subst (λ o. IfErr o (λ x. fault t ≡ Some x)) (sym e) (told (reading t) refl)
+  where
+    told : (o : Result Parts URIReferenceError) → reading t ≡ o → IfErr (with_text t o) (λ x. fault t ≡ Some x)
+    told (Ok p) is = tt
+    told (Err x) is = ap fault_in is
 
 -- after an authority the path's text is empty or begins with a slash
 abempty_spelled : (t : List ℕ) (p : Parts) → Spells t p → is_some p.authority ≡ true → is_abempty (path_text t) ≡ true

@@ -85,7 +85,7 @@ impl<'t> ReferenceView<'t> {
     /// no room, only the length is counted.
     fn put_normal(&self, out: &mut [u8]) -> usize
         ensures room { length out.new ≡ length out.old }
-        ensures ends { EndsWith out.new result (print (normal self.now)) }
+        ensures ends { EndsWith out.new result (print (normal self.now.parts)) }
     {
         let place = Place {
             has_scheme: self.has_scheme(),
@@ -113,7 +113,7 @@ impl<'t> ReferenceView<'t> {
     /// assert!(view.normalize_into(&mut buffer[..4]) == Err(BufferError::TooSmall(22)));
     /// ```
     pub fn normalize_into(&self, out: &mut [u8]) -> Result<usize, BufferError>
-        ensures { spec.Writes (print (normal self.now)) result out.old out.new }
+        ensures { spec.Writes (print (normal self.now.parts)) result out.old out.new }
     {
         let needed = self.put_normal(&mut []);
         if needed > out.len() {

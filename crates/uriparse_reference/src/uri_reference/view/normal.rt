@@ -17,43 +17,43 @@ use uriparse_text::internal::is_canonical_part;
 impl<'t> ReferenceView<'t> {
     /// Whether the scheme, if present, is in canonical spelling.
     fn has_canonical_scheme(&self) -> bool
-        ensures { result ≡ option_eq bytes_eq (option_map schemes.canonical_text self.now.scheme) (scheme_part self.now) }
+        ensures { result ≡ option_eq bytes_eq (option_map schemes.canonical_text self.now.parts.scheme) (scheme_part self.now.parts) }
     {
         is_canonical_scheme(&self.scheme())
     }
 
     /// Whether the authority, if present, is in canonical spelling.
     fn has_canonical_authority(&self) -> bool
-        ensures { result ≡ option_eq bytes_eq (option_map authorities.canonical_text self.now.authority) (authority_part self.now) }
+        ensures { result ≡ option_eq bytes_eq (option_map authorities.canonical_text self.now.parts.authority) (authority_part self.now.parts) }
     {
         is_canonical_authority(&self.authority())
     }
 
     /// Whether the query, if present, is in canonical spelling.
     fn has_canonical_query(&self) -> bool
-        ensures { result ≡ option_eq bytes_eq (option_map canonical self.now.query) self.now.query }
+        ensures { result ≡ option_eq bytes_eq (option_map canonical self.now.parts.query) self.now.parts.query }
     {
         is_canonical_part(&self.query())
     }
 
     /// Whether the fragment, if present, is in canonical spelling.
     fn has_canonical_fragment(&self) -> bool
-        ensures { result ≡ option_eq bytes_eq (option_map canonical self.now.fragment) self.now.fragment }
+        ensures { result ≡ option_eq bytes_eq (option_map canonical self.now.parts.fragment) self.now.parts.fragment }
     {
         is_canonical_part(&self.fragment())
     }
 
     /// Whether the path has the text of its normal form at this place.
     fn has_normal_path(&self, place: Place) -> bool
-        ensures { result ≡ is_normal_at place self.now.path }
+        ensures { result ≡ is_normal_at place self.now.parts.path }
     {
         is_normal_path_text(self.path_bytes(), place)
     }
 
     /// Whether each component has the text of its normal form, with the path at this place.
     fn is_normal(&self, place: Place) -> bool
-        requires { place ≡ place_of self.now }
-        ensures { result ≡ is_normal self.now }
+        requires { place ≡ place_of self.now.parts }
+        ensures { result ≡ is_normal self.now.parts }
     {
         self.has_canonical_scheme()
             && self.has_canonical_authority()
@@ -67,8 +67,8 @@ impl<'t> ReferenceView<'t> {
     /// the text that it prints is that of its normal form. What reading itself changes does not
     /// count, such as the case of a registered scheme. Does not allocate.
     pub fn is_normalized(&self) -> bool
-        ensures text { IsTrue result ↔ (print (normal self.now) ≡ print self.now) }
-        ensures form { IsTrue result → normal self.now ≡ self.now }
+        ensures text { IsTrue result ↔ (print (normal self.now.parts) ≡ print self.now.parts) }
+        ensures form { IsTrue result → normal self.now.parts ≡ self.now.parts }
     {
         self.is_normal(Place {
             has_scheme: self.pieces.has_scheme(),

@@ -19,29 +19,29 @@ use uriparse_text::internal::{Form, put};
 impl<'t> ReferenceView<'t> {
     /// The number of segments of the path.
     fn segment_count(&self) -> usize
-        ensures count { result ≡ length self.now.path.segments }
-        ensures valid { Valid self.now }
+        ensures count { result ≡ length self.now.parts.path.segments }
+        ensures valid { Valid self.now.parts }
     {
         self.pieces.tail.count
     }
 
     /// Whether the path's text is empty.
     fn has_empty_path(&self) -> bool
-        ensures { result ≡ is_empty (text self.now.path) }
+        ensures { result ≡ is_empty (text self.now.parts.path) }
     {
         self.path_bytes().is_empty()
     }
 
     /// Whether the path's text begins with a slash.
     fn has_rooted_path(&self) -> bool
-        ensures { result ≡ is_rooted (text self.now.path) }
+        ensures { result ≡ is_rooted (text self.now.parts.path) }
     {
         matches!(self.path_bytes(), [b'/', ..])
     }
 
     /// Whether the target's path is that of merged paths.
     fn is_merged(&self) -> bool
-        ensures { result ≡ is_merged self.now }
+        ensures { result ≡ is_merged self.now.parts }
     {
         !self.has_scheme()
             && !self.has_authority()
@@ -52,8 +52,8 @@ impl<'t> ReferenceView<'t> {
     /// Whether the merged paths of this base and a reference have more segments than a path may
     /// have.
     fn merges_too_long(&self, reference: &ReferenceView<'_>) -> bool
-        requires { is_merged reference.now ≡ true }
-        ensures { result ≡ nat_lt max_segments (length (pieces (merge self.now reference.now))) }
+        requires { is_merged reference.now.parts ≡ true }
+        ensures { result ≡ nat_lt max_segments (length (pieces (merge self.now.parts reference.now.parts))) }
     {
         self.segment_count() - 1 + reference.segment_count() > MAX_SEGMENTS
     }
@@ -61,7 +61,7 @@ impl<'t> ReferenceView<'t> {
     /// Whether the merged paths of this base and a reference, if they are merged, have too many
     /// segments: then there is no target.
     fn lacks_target(&self, reference: &ReferenceView<'_>) -> bool
-        ensures { result ≡ (is_merged reference.now && nat_lt max_segments (length (pieces (merge self.now reference.now)))) }
+        ensures { result ≡ (is_merged reference.now.parts && nat_lt max_segments (length (pieces (merge self.now.parts reference.now.parts)))) }
     {
         reference.is_merged() && self.merges_too_long(reference)
     }
@@ -69,7 +69,7 @@ impl<'t> ReferenceView<'t> {
     /// Puts the path without its dot segments, the query and the fragment at the end of the buffer.
     fn put_own_tail(&self, has_authority: bool, out: &mut [u8]) -> usize
         ensures room { length out.new ≡ length out.old }
-        ensures ends { EndsWith out.new result (spec.tail_text (shield_unless has_authority (dots_removed (text self.now.path))) self.now.query self.now.fragment) }
+        ensures ends { EndsWith out.new result (spec.tail_text (shield_unless has_authority (dots_removed (text self.now.parts.path))) self.now.parts.query self.now.parts.fragment) }
     {
         let len = put_end(Form::AsIs, &self.query(), &self.fragment(), out);
         put_undotted(Form::AsIs, has_authority, self.path_bytes(), out, len)
@@ -79,8 +79,8 @@ impl<'t> ReferenceView<'t> {
     /// fragment of the reference.
     fn put_same_tail(&self, reference: &ReferenceView<'_>, out: &mut [u8]) -> usize
         ensures room { length out.new ≡ length out.old }
-        ensures valid { Valid self.now }
-        ensures ends { EndsWith out.new result (spec.tail_text self.now.path (option_or reference.now.query self.now.query) reference.now.fragment) }
+        ensures valid { Valid self.now.parts }
+        ensures ends { EndsWith out.new result (spec.tail_text self.now.parts.path (option_or reference.now.parts.query self.now.parts.query) reference.now.parts.fragment) }
     {
         let query = reference.query().or(self.query());
         let len = put_end(Form::AsIs, &query, &reference.fragment(), out);
@@ -90,10 +90,10 @@ impl<'t> ReferenceView<'t> {
     /// Puts the merged paths without their dot segments, and the query and the fragment of the
     /// reference.
     fn put_merged_tail(&self, reference: &ReferenceView<'_>, out: &mut [u8]) -> usize
-        requires merged { is_merged reference.now ≡ true }
-        requires short { length (pieces (merge self.now reference.now)) ≤ max_segments }
+        requires merged { is_merged reference.now.parts ≡ true }
+        requires short { length (pieces (merge self.now.parts reference.now.parts)) ≤ max_segments }
         ensures room { length out.new ≡ length out.old }
-        ensures ends { EndsWith out.new result (spec.tail_text (shield_unless (is_some self.now.authority) (dots_removed (merge self.now reference.now))) reference.now.query reference.now.fragment) }
+        ensures ends { EndsWith out.new result (spec.tail_text (shield_unless (is_some self.now.parts.authority) (dots_removed (merge self.now.parts reference.now.parts))) reference.now.parts.query reference.now.parts.fragment) }
     {
         let len = put_end(Form::AsIs, &reference.query(), &reference.fragment(), out);
         let has_authority = self.has_authority();
@@ -109,11 +109,11 @@ impl<'t> ReferenceView<'t> {
     /// Puts the path, the query and the fragment of the target of a reference that has neither a
     /// scheme nor an authority.
     fn put_inherited_tail(&self, reference: &ReferenceView<'_>, out: &mut [u8]) -> usize
-        requires scheme { is_some reference.now.scheme ≡ false }
-        requires authority { is_some reference.now.authority ≡ false }
-        requires short { is_merged reference.now ≡ true → length (pieces (merge self.now reference.now)) ≤ max_segments }
+        requires scheme { is_some reference.now.parts.scheme ≡ false }
+        requires authority { is_some reference.now.parts.authority ≡ false }
+        requires short { is_merged reference.now.parts ≡ true → length (pieces (merge self.now.parts reference.now.parts)) ≤ max_segments }
         ensures room { length out.new ≡ length out.old }
-        ensures ends { EndsWith out.new result (spec.tail_if (target self.now reference.now)) }
+        ensures ends { EndsWith out.new result (spec.tail_if (target self.now.parts reference.now.parts)) }
     {
         if reference.has_empty_path() {
             return self.put_same_tail(reference, out);
@@ -127,9 +127,9 @@ impl<'t> ReferenceView<'t> {
     /// Puts the text of the target at the end of the buffer. Returns its length. If there is no
     /// room, only the length is counted.
     fn put_target(&self, reference: &ReferenceView<'_>, out: &mut [u8]) -> usize
-        requires { is_merged reference.now ≡ true → length (pieces (merge self.now reference.now)) ≤ max_segments }
+        requires { is_merged reference.now.parts ≡ true → length (pieces (merge self.now.parts reference.now.parts)) ≤ max_segments }
         ensures room { length out.new ≡ length out.old }
-        ensures ends { EndsWith out.new result (spec.print_if (target self.now reference.now)) }
+        ensures ends { EndsWith out.new result (spec.print_if (target self.now.parts reference.now.parts)) }
     {
         if reference.has_scheme() {
             let len = reference.put_own_tail(reference.has_authority(), out);
@@ -155,8 +155,8 @@ impl<'t> ReferenceView<'t> {
         reference: &ReferenceView<'_>,
         out: &mut [u8],
     ) -> Result<usize, BufferError>
-        requires { is_merged reference.now ≡ true → length (pieces (merge self.now reference.now)) ≤ max_segments }
-        ensures { spec.Writes (spec.print_if (target self.now reference.now)) result out.old out.new }
+        requires { is_merged reference.now.parts ≡ true → length (pieces (merge self.now.parts reference.now.parts)) ≤ max_segments }
+        ensures { spec.Writes (spec.print_if (target self.now.parts reference.now.parts)) result out.old out.new }
     {
         let needed = self.put_target(reference, &mut []);
         if needed > out.len() {
@@ -188,10 +188,10 @@ impl<'t> ReferenceView<'t> {
         out: &mut [u8],
     ) -> Result<usize, BufferError>
         // A base without a scheme is rejected.
-        ensures base { is_some self.now.scheme ≡ false → (result ≡ Err errors.RelativeBase) × (out.new ≡ out.old) }
+        ensures base { is_some self.now.parts.scheme ≡ false → (result ≡ Err errors.RelativeBase) × (out.new ≡ out.old) }
 
         // Else the target's text is written, if there is a target.
-        ensures target { is_some self.now.scheme ≡ true → MatchOption (target self.now reference.now) ((result ≡ Err errors.TooManySegments) × (out.new ≡ out.old)) (λ t. spec.Writes (print t) result out.old out.new) }
+        ensures target { is_some self.now.parts.scheme ≡ true → MatchOption (target self.now.parts reference.now.parts) ((result ≡ Err errors.TooManySegments) × (out.new ≡ out.old)) (λ t. spec.Writes (print t) result out.old out.new) }
     {
         if !self.has_scheme() {
             return Err(BufferError::RelativeBase);

@@ -6,6 +6,7 @@ use Rattle.std.proofs.lemmas.Slice.Eq.{bytes_eq-Decides}
 use Rattle.uriparse.specs.Host as host
 use Rattle.uriparse.specs.HostValue.{Host}
 use Rattle.uriparse.specs.Reference.{Parts, Spells, host_of}
+use Rattle.uriparse.specs.View.{Viewed}
 use Rattle.uses.specs.Hosts.{LeadsTo}
 use Rattle.uses.proofs.hosts.leads_to.Goals as goal
 
@@ -32,17 +33,17 @@ leads t h v g r s one there e =
 pub returns-in_default : goal.returns-in_default
 returns-in_default c = (
   (λ k. absurd (false≢true k)),
-  (λ w. absurd (no_ok c.in_default.field-0 w.0 (c.in_default.ensures.only w.0 w.1))),
+  (λ w. absurd (no_ok c.in_default.field-0 _ (c.in_default.ensures.only w.0 w.1))),
 )
 
 pub returns-in-Some : goal.returns-in-Some
 returns-in-Some c =
-    leads c.args.link.now c.args.host.now c.in-Ok.view c.in-Some.there c.eq.result c.in-Ok.ensures.found
-    (λ p s. ok_is c.in-Ok.view p (c.in-Ok.ensures.only p s)) (sym c.host.ensures ∙ c.in-Some.is) c.eq.ensures
+    leads c.args.link.now c.args.host.now c.in-Ok.view.parts c.in-Some.there c.eq.result c.in-Ok.ensures.found
+    (λ p s. ap (λ (v : Viewed). v.parts) (ok_is c.in-Ok.view _ (c.in-Ok.ensures.only p s))) (sym c.host.ensures ∙ c.in-Some.is) c.eq.ensures
 
 pub returns-in-None : goal.returns-in-None
 returns-in-None c = (
   (λ k. absurd (false≢true k)),
-  (λ w. absurd (has_host c.args.link.now c.args.host.now c.in-Ok.view None (λ p s. ok_is c.in-Ok.view p (c.in-Ok.ensures.only p s))
+  (λ w. absurd (has_host c.args.link.now c.args.host.now c.in-Ok.view.parts None (λ p s. ap (λ (v : Viewed). v.parts) (ok_is c.in-Ok.view _ (c.in-Ok.ensures.only p s)))
       (sym c.host.ensures ∙ c.in-None.is) w)),
 )

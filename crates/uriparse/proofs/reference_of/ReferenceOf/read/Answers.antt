@@ -11,12 +11,12 @@ use Rattle.uriparse.proofs.reference_of.ReferenceOf.read.Goals as goal
 pub returns-in-Ok-clause-answer : goal.returns-in-Ok-clause-answer
 returns-in-Ok-clause-answer g c =
     subst (λ r. IsUnless (g.K.ReferenceKind.told (errors.Path OutOfMemory)) c.of_view.result r)
-    (sym (read_of g.K.ReferenceKind.has_scheme g.K.ReferenceKind.told g.K.ReferenceKind.other c.args.bytes.now c.in-Ok.view c.in-Ok.ensures.found))
+    (sym (read_of g.K.ReferenceKind.has_scheme g.K.ReferenceKind.told g.K.ReferenceKind.other c.args.bytes.now c.in-Ok.view.parts c.in-Ok.ensures.found))
     c.of_view.ensures.answer
 
 pub returns-in-Ok-clause-takes_no_memory : goal.returns-in-Ok-clause-takes_no_memory
 returns-in-Ok-clause-takes_no_memory g c p s k n =
-    let one : c.in-Ok.view ≡ p = one_reading c.args.bytes.now c.in-Ok.view p c.in-Ok.ensures.found s in
+    let one : c.in-Ok.view.parts ≡ p = one_reading c.args.bytes.now c.in-Ok.view.parts p c.in-Ok.ensures.found s in
     c.of_view.ensures.takes_no_memory (subst (λ (q : Parts). length q.path.segments ≡ 1) (sym one) n)
     ∙ ap (of_kind g.K.ReferenceKind.has_scheme g.K.ReferenceKind.other) one ∙ of_its_kind g.K.ReferenceKind.has_scheme g.K.ReferenceKind.other p k
 

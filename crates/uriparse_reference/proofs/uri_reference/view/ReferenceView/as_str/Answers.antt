@@ -1,5 +1,6 @@
-use Rattle.std.proofs.Common.{sym, subst}
+use Rattle.std.proofs.Common.{ap, subst, ◌∙◌}
 use Rattle.uriparse_reference.specs.Reference.{Spells}
+use Rattle.uriparse_reference.specs.View.{Viewed}
 use Rattle.uriparse_reference.proofs.lemmas.reading.AsciiLemmas.{IsUtf8-spelled}
 use Rattle.uriparse_reference.proofs.lemmas.reading.ViewLemmas.{found_spelled}
 use Rattle.uriparse_reference.proofs.uri_reference.view.ReferenceView.as_str.Goals as goal
@@ -7,7 +8,8 @@ use Rattle.uriparse_reference.proofs.uri_reference.view.ReferenceView.as_str.Goa
 pub str_of-requires : goal.str_of-requires
 str_of-requires c = IsUtf8-spelled _ _ (found_spelled _ _ _ _ _ _ _ _ _ c.self.invariant)
 
-pub returns : goal.returns
-returns c =
-    subst (λ t. Spells t c.args.self.now) (sym c.str_of.ensures)
-    (subst (λ p. Spells c.self.inside.text.now p) c.self.view_is (found_spelled _ _ _ _ _ _ _ _ _ c.self.invariant))
+pub returns-clause-text : goal.returns-clause-text
+returns-clause-text c = c.str_of.ensures ∙ ap (λ (v : Viewed). v.text) c.self.view_is
+
+pub returns-clause-spelled : goal.returns-clause-spelled
+returns-clause-spelled c = subst (λ v. Spells v.text v.parts) c.self.view_is (found_spelled _ _ _ _ _ _ _ _ _ c.self.invariant)

@@ -7,9 +7,9 @@ use Rattle.uriparse_reference.proofs.uri_reference.view.ReferenceView.is_normali
 
 pub returns-clause-text : goal.returns-clause-text
 returns-clause-text c =
-    subst (λ v. (v ≡ true) ↔ (print (normal c.args.self.now) ≡ print c.args.self.now)) (sym c.is_normal.ensures)
-    (normal_exactly c.args.self.now (subst Valid c.self.view_is (found_valid _ _ _ _ _ _ _ _ _ c.self.invariant)))
+    subst (λ v. (v ≡ true) ↔ (print (normal c.args.self.now.parts) ≡ print c.args.self.now.parts)) (sym c.is_normal.ensures)
+    (normal_exactly c.args.self.now.parts (subst (λ v. Valid v.parts) c.self.view_is (found_valid _ _ _ _ _ _ _ _ _ c.self.invariant)))
 
 pub returns-clause-form : goal.returns-clause-form
 returns-clause-form c h =
-    kept_whole c.args.self.now (subst Valid c.self.view_is (found_valid _ _ _ _ _ _ _ _ _ c.self.invariant)) (sym c.is_normal.ensures ∙ h)
+    kept_whole c.args.self.now.parts (subst (λ v. Valid v.parts) c.self.view_is (found_valid _ _ _ _ _ _ _ _ _ c.self.invariant)) (sym c.is_normal.ensures ∙ h)

@@ -25,6 +25,6 @@ returns c =
     let some = c.segment_count.ensures.valid.is_path.some in
     let count = c.segment_count.ensures.count in
     let other = c.segment_count-2.ensures.count in
-    let whole = merged_length c.args.self.now c.args.reference.now c.segment_count.ensures.valid c.segment_count-2.ensures.valid c.requires in
-    let same : c.segment_count.result - 1 + c.segment_count-2.result ≡ length (pieces (merge c.args.self.now c.args.reference.now)) = omega arith in
+    let whole = merged_length c.args.self.now.parts c.args.reference.now.parts c.segment_count.ensures.valid c.segment_count-2.ensures.valid c.requires in
+    let same : c.segment_count.result - 1 + c.segment_count-2.result ≡ length (pieces (merge c.args.self.now.parts c.args.reference.now.parts)) = omega arith in
     ap (nat_lt 1000000) same

@@ -10,19 +10,19 @@ use Rattle.uriparse_reference.proofs.uri_reference.view.ReferenceView.put_merged
 
 pub put_merged-requires-clause-short : goal.put_merged-requires-clause-short
 put_merged-requires-clause-short c =
-    let b = c.args.self.now in
-    let r = c.args.reference.now in
+    let b = c.args.self.now.parts in
+    let r = c.args.reference.now.parts in
     subst (λ u. length (merged (spelled u) (spelled c.path_bytes-2.result.now)).segments ≤ max_segments) (sym c.path_bytes.ensures.text)
     (subst (λ u. length (merged (spelled (text b.path)) (spelled u)).segments ≤ max_segments) (sym c.path_bytes-2.ensures.text)
     (merged_short b r c.path_bytes.ensures.valid c.path_bytes-2.ensures.valid c.requires.merged c.requires.short))
 
 pub put_merged-requires-clause-relative : goal.put_merged-requires-clause-relative
-put_merged-requires-clause-relative c = ap is_rooted c.path_bytes-2.ensures.text ∙ merged_relative c.args.reference.now c.requires.merged
+put_merged-requires-clause-relative c = ap is_rooted c.path_bytes-2.ensures.text ∙ merged_relative c.args.reference.now.parts c.requires.merged
 
 pub returns-clause-ends : goal.returns-clause-ends
 returns-clause-ends c =
-    let b = c.args.self.now in
-    let r = c.args.reference.now in
+    let b = c.args.self.now.parts in
+    let r = c.args.reference.now.parts in
     subst (EndsWith c.put_merged.new.out c.put_merged.result)
     (same_tail c.query.result c.fragment.result r.query r.fragment
     (text (shield_unless c.has_authority-has_authority.result

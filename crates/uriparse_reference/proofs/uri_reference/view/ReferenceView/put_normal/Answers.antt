@@ -9,7 +9,7 @@ use Rattle.uriparse_reference.proofs.uri_reference.view.ReferenceView.put_normal
 
 pub returns-clause-ends : goal.returns-clause-ends
 returns-clause-ends c =
-    let v = c.args.self.now in
+    let v = c.args.self.now.parts in
     let place : Place = record { has_scheme = c.has_scheme.result; has_authority = c.has_authority.result } in
     subst (EndsWith c.put_front.new.out c.put_front.result)
     (same_text Canonical v c.scheme.result c.authority.result (text (normal_at place (spelled c.path_bytes.result.now))) _ c.query.result c.fragment.result

@@ -13,18 +13,18 @@ returns-then-not-has_scheme c = record {
 pub returns-then-lacks_target : goal.returns-then-lacks_target
 returns-then-lacks_target c = record {
   base = λ h. absurd (false≢true (sym h ∙ sym c.has_scheme.ensures ∙ c.if-not-has_scheme.false));
-  target = λ h. nothing_written _ _ (target c.args.self.now c.args.reference.now)
-      (no_target c.args.self.now c.args.reference.now (sym c.lacks_target.ensures ∙ c.if-lacks_target.true)) (refl, refl);
+  target = λ h. nothing_written _ _ (target c.args.self.now.parts c.args.reference.now.parts)
+      (no_target c.args.self.now.parts c.args.reference.now.parts (sym c.lacks_target.ensures ∙ c.if-lacks_target.true)) (refl, refl);
 }
 
 pub write_target-requires : goal.write_target-requires
-write_target-requires c = short_enough c.args.self.now c.args.reference.now (sym c.lacks_target.ensures ∙ c.if-lacks_target.false)
+write_target-requires c = short_enough c.args.self.now.parts c.args.reference.now.parts (sym c.lacks_target.ensures ∙ c.if-lacks_target.false)
 
 pub returns : goal.returns
 returns c = record {
   base = λ h. absurd (false≢true (sym h ∙ sym c.has_scheme.ensures ∙ c.if-not-has_scheme.false));
-  target = λ h. target_written c.write_target.result c.args.out.now c.write_target.new.out _ (target c.args.self.now c.args.reference.now)
-      (some_target c.args.self.now c.args.reference.now
-      (short_enough c.args.self.now c.args.reference.now (sym c.lacks_target.ensures ∙ c.if-lacks_target.false)))
+  target = λ h. target_written c.write_target.result c.args.out.now c.write_target.new.out _ (target c.args.self.now.parts c.args.reference.now.parts)
+      (some_target c.args.self.now.parts c.args.reference.now.parts
+      (short_enough c.args.self.now.parts c.args.reference.now.parts (sym c.lacks_target.ensures ∙ c.if-lacks_target.false)))
       c.write_target.ensures;
 }

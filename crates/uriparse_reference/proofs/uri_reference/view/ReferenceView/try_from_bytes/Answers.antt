@@ -1,10 +1,15 @@
 use Rattle.std.proofs.Common.{◌∙◌}
-use Rattle.uriparse_reference.proofs.lemmas.reading.ReadingLemmas.{again}
-use Rattle.uriparse_reference.proofs.lemmas.reading.ViewLemmas.{read_spelled}
+use Rattle.uriparse_reference.proofs.lemmas.reading.ViewLemmas.{viewed_again, viewed_faulty, viewed_spelled, viewed_text}
 use Rattle.uriparse_reference.proofs.uri_reference.view.ReferenceView.try_from_bytes.Goals as goal
 
+pub returns-clause-text : goal.returns-clause-text
+returns-clause-text c = viewed_text c.args.bytes.now c.read.result c.read.ensures
+
 pub returns-clause-found : goal.returns-clause-found
-returns-clause-found c = read_spelled c.args.bytes.now c.read.result c.read.ensures
+returns-clause-found c = viewed_spelled c.args.bytes.now c.read.result c.read.ensures
 
 pub returns-clause-only : goal.returns-clause-only
-returns-clause-only c p s = c.read.ensures ∙ again c.args.bytes.now p s
+returns-clause-only c p s = c.read.ensures ∙ viewed_again c.args.bytes.now p s
+
+pub returns-clause-fault : goal.returns-clause-fault
+returns-clause-fault c = viewed_faulty c.args.bytes.now c.read.result c.read.ensures

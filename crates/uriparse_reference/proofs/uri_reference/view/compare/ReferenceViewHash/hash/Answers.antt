@@ -8,7 +8,7 @@ pub returns-clause-fed : goal.returns-clause-fed
 returns-clause-fed g c =
     let write = g.H.Hasher.write in
     fed_by_turns write c.args.state.now c.hash.new.state c.hash-2.new.state c.feed_path_text.new.state c.hash-3.new.state c.hash-4.new.state
-    c.args.self.now c.path_bytes.ensures.valid
+    c.args.self.now.parts c.path_bytes.ensures.valid
     (rw c.scheme.ensures at c.hash.ensures)
     (rw c.authority.ensures at c.hash-2.ensures)
     (c.feed_path_text.ensures ∙ ap (λ t. fold write c.hash-2.new.state (path.fed (canonical t))) c.path_bytes.ensures.text)
@@ -18,9 +18,9 @@ returns-clause-fed g c =
 pub returns-clause-key : goal.returns-clause-key
 returns-clause-key g c =
     let write = g.H.Hasher.write in
-    feeds_key write c.args.state.now c.hash-4.new.state c.args.self.now c.path_bytes.ensures.valid
+    feeds_key write c.args.state.now c.hash-4.new.state c.args.self.now.parts c.path_bytes.ensures.valid
     (fed_by_turns write c.args.state.now c.hash.new.state c.hash-2.new.state c.feed_path_text.new.state c.hash-3.new.state c.hash-4.new.state
-    c.args.self.now c.path_bytes.ensures.valid
+    c.args.self.now.parts c.path_bytes.ensures.valid
     (rw c.scheme.ensures at c.hash.ensures)
     (rw c.authority.ensures at c.hash-2.ensures)
     (c.feed_path_text.ensures ∙ ap (λ t. fold write c.hash-2.new.state (path.fed (canonical t))) c.path_bytes.ensures.text)

@@ -7,5 +7,5 @@ use Rattle.uriparse_reference.proofs.uri_reference.view.compare.ReferenceViewPar
 pub returns-else-eq : goal.returns-else-eq
 returns-else-eq c =
     c.is_each_alike.ensures
-    ∙ tested c.args.self.now c.args.other.now (subst Valid c.self.view_is (found_valid _ _ _ _ _ _ _ _ _ c.self.invariant))
-    (subst Valid c.other.view_is (found_valid _ _ _ _ _ _ _ _ _ c.other.invariant))
+    ∙ tested c.args.self.now.parts c.args.other.now.parts (subst (λ v. Valid v.parts) c.self.view_is (found_valid _ _ _ _ _ _ _ _ _ c.self.invariant))
+    (subst (λ v. Valid v.parts) c.other.view_is (found_valid _ _ _ _ _ _ _ _ _ c.other.invariant))
