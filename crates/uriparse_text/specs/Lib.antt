@@ -16,5 +16,6 @@ pub mod Escapes
 pub mod Spelling
 pub mod Coding
 pub mod Pairs
+pub mod Link
 pub mod Printing
 pub mod Ends

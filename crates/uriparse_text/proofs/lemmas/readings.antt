@@ -3,3 +3,4 @@ pub mod OptionLemmas
 pub mod ReadingLemmas
 pub mod SaturatingLemmas
 pub mod PairLemmas
+pub mod LinkLemmas
