@@ -4,3 +4,4 @@ pub mod ReadingLemmas
 pub mod SaturatingLemmas
 pub mod PairLemmas
 pub mod LinkLemmas
+pub mod WithoutLemmas

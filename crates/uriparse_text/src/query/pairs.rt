@@ -34,7 +34,7 @@ impl<'q> Model for Pairs<'q> {
 }
 
 /// The pair of a piece of a query.
-fn pair_of(piece: &[u8]) -> (Query<'_>, Option<Query<'_>>)
+pub fn pair_of(piece: &[u8]) -> (Query<'_>, Option<Query<'_>>)
     requires { IsQuery piece.now }
     ensures { result ≡ spec.pair_of piece.now }
 {

@@ -101,7 +101,7 @@ split_front mark same (b ∷ s) t h =
     let both = and_parts _ _ h in
     slice_split-cons_no (λ b. b == mark) b (s ++ mark ∷ t) (not-true (b == mark) both.0) ∙ ap (onto_first b) (split_front mark same s t both.1)
 
-split_joined : (mark : ℕ) → (mark == mark) ≡ true → (s : List ℕ) (ss : List (List ℕ)) → lacks mark s ≡ true → list_all (lacks mark) ss ≡ true
+pub split_joined : (mark : ℕ) → (mark == mark) ≡ true → (s : List ℕ) (ss : List (List ℕ)) → lacks mark s ≡ true → list_all (lacks mark) ss ≡ true
     → slice_split (λ b. b == mark) (join_with_byte mark (s ∷ ss)) ≡ s ∷ ss
 split_joined mark same s [] h k = split_none mark s h
 split_joined mark same s (r ∷ ss) h k =
@@ -236,13 +236,13 @@ written_back ps some bytes = ap (map decoded_pair) (pairs-joined ps some) ∙ al
 
 -- ---- the query that is written is one
 
-in_join : (t u : List ℕ) (mark : ℕ) → is_hex mark ≡ false → not (mark == percent) ≡ true → is_plain Query mark ≡ true → IsIn Query t → IsIn Query u
+pub in_join : (t u : List ℕ) (mark : ℕ) → is_hex mark ≡ false → not (mark == percent) ≡ true → is_plain Query mark ≡ true → IsIn Query t → IsIn Query u
     → IsIn Query (t ++ mark ∷ u)
 in_join t u mark digit sign plain h k =
     ap (list_all (allows Query)) (tokens-mark mark digit sign t u) ∙ list_all-append (allows Query) (tokens t) (Byte mark ∷ tokens u)
     ∙ and_from _ _ h (and_from _ _ plain k)
 
-ampersand_plain : is_plain Query ampersand ≡ true
+pub ampersand_plain : is_plain Query ampersand ≡ true
 unfolding is_plain is_unreserved is_sub_delim
 ampersand_plain = refl
 
