@@ -7,6 +7,7 @@ use crate::internal::{Case, Class, Text, TextKind};
 use thiserror::Error;
 
 mod pairs;
+mod set;
 mod without;
 
 pub use pairs::Pairs;

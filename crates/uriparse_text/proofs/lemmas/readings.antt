@@ -5,3 +5,4 @@ pub mod SaturatingLemmas
 pub mod PairLemmas
 pub mod LinkLemmas
 pub mod WithoutLemmas
+pub mod SetLemmas

@@ -1,5 +1,6 @@
 //! Queries without some of their pairs: RFC 3986, section 3.4.
-ghost use Rattle.std.specs.Prelude.{◌≡◌, List, ℕ, IfOk, map};
+ghost use Rattle.std.specs.Prelude.{◌≡◌, Bool, List, ℕ, IfOk, map, not};
+ghost use Rattle.std.specs.List.{filter};
 ghost use Rattle.uriparse_text.specs.Pairs as spec;
 ghost use Rattle.uriparse_text.specs.Query.{IsQuery};
 ghost use Rattle.uriparse_text.specs.Written.{AreWritten};
@@ -73,7 +74,11 @@ impl<'q> Query<'q> {
     where
         F: FnMut(Query<'_>, Option<Query<'_>>) -> bool,
         requires { F.IsAlwaysCallable test }
-        ensures { IfOk result (λ q. spec.IsWithout F.step test (spec.pairs self.now) (spec.pairs_left q)) }
+        // The pairs at which the test returned false, called at each in turn.
+        ensures pairs { IfOk result (λ q. spec.IsWithout F.step test (spec.pairs self.now) (spec.pairs_left q)) }
+
+        // The same for a test whose answer is a function of the pair.
+        ensures chosen { (is : spec.Pair → Bool) → ((f g : F) (p : spec.Pair) (b : Bool) → F.step f p.0 p.1 b g → b ≡ is p) → IfOk result (λ q. spec.pairs_left q ≡ filter (λ p. not (is p)) (spec.pairs self.now)) }
     {
         let text = kept_pieces(alloc, self.as_bytes(), test)?;
         Ok(query_of_pieces(text))

@@ -193,7 +193,7 @@ value_lacks : (o : Option (List ℕ)) → IfSome (option_map encoded_in_pair o) 
 value_lacks None = tt
 value_lacks (Some t) = name_lacks ampersand refl refl refl t
 
-piece_lacks : (p : Pair) → lacks ampersand (piece_of (encoded_pair p)) ≡ true
+pub piece_lacks : (p : Pair) → lacks ampersand (piece_of (encoded_pair p)) ≡ true
 piece_lacks p =
     lacks-append ampersand (encoded_in_pair p.0) (behind equals_sign (option_map encoded_in_pair p.1)) (name_lacks ampersand refl refl refl p.0)
     (lacks-behind ampersand equals_sign (option_map encoded_in_pair p.1) refl (value_lacks p.1))
@@ -202,7 +202,7 @@ pieces_lack : (ps : List Pair) → list_all (lacks ampersand) (map piece_of (map
 pieces_lack [] = refl
 pieces_lack (p ∷ ps) = and_from _ _ (piece_lacks p) (pieces_lack ps)
 
-pair_back : (p : Pair) → pair_of (piece_of (encoded_pair p)) ≡ encoded_pair p
+pub pair_back : (p : Pair) → pair_of (piece_of (encoded_pair p)) ≡ encoded_pair p
 pair_back p =
     let lacking = name_lacks equals_sign refl refl refl p.0 in
     rw (
@@ -250,7 +250,7 @@ equals_sign_plain : is_plain Query equals_sign ≡ true
 unfolding is_plain is_unreserved is_sub_delim
 equals_sign_plain = refl
 
-piece_query : (p : Pair) → IsQuery (piece_of (encoded_pair p))
+pub piece_query : (p : Pair) → IsQuery (piece_of (encoded_pair p))
 piece_query p = by_value p.1
   where
     name : IsQuery (encoded_in_pair p.0)

@@ -1,11 +1,13 @@
 -- Queries without some of their pairs.
 use Rattle.std.proofs.Common.{◌≡◌, ℕ, ◌+◌, ◌-◌, ◌<◌, Bool, true, false, List, [], ◌∷◌, ◌++◌, length, take, map, flat_map, Option, Some, None, refl, sym, ap, subst, ◌∙◌, append-nil, append_assoc, arith, suc}
-use Rattle.std.specs.Prelude.{IfSome}
-use Rattle.std.specs.List.{list_all, join_with_byte}
+use Rattle.std.specs.Prelude.{not, IfSome}
+use Rattle.std.specs.List.{filter, list_all, join_with_byte}
 use Rattle.std.proofs.lemmas.Bool.{and_from, and_parts}
+use Rattle.std.proofs.Math.Bool.{not-not}
 use Rattle.std.proofs.lemmas.List.{length-append, take_at, map-append}
 use Rattle.std.proofs.lemmas.List.Concat.{flat_map-append}
 use Rattle.std.proofs.lemmas.List.Folds.{list_all-append}
+use Rattle.std.proofs.lemmas.List.Elements.{filter_from_retain}
 use Rattle.uriparse_text.specs.Bytes.{ampersand}
 use Rattle.uriparse_text.specs.Cuts.{lacks, behind, before, after}
 use Rattle.uriparse_text.specs.Query.{IsQuery}
@@ -56,6 +58,13 @@ none_written (s ∷ ss) t w none =
     let joined = join_with_byte ampersand (s ∷ ss) in
     let size = ap length (w.0 ∙ written_join s ss) ∙ length-append joined (ampersand ∷ []) in
     absurd (omega (arith, none, size))
+
+pub some_written : (ss : List (List ℕ)) (t : List ℕ) → AreWritten ss t → 0 < length ss → 0 < length t
+some_written [] t w some = absurd (omega (arith, some))
+some_written (s ∷ ss) t w some =
+    let joined = join_with_byte ampersand (s ∷ ss) in
+    let size = ap length (w.0 ∙ written_join s ss) ∙ length-append joined (ampersand ∷ []) in
+    omega (arith, size)
 
 -- ---- one piece after another
 
@@ -151,3 +160,11 @@ left_of-after left = by_after (after ampersand left) (before_after ampersand lef
 
 pub next_smaller : (o : Option (List ℕ)) (left : List ℕ) (rest : Option (List ℕ)) → o ≡ Some left → rest ≡ after ampersand left → left_of rest < left_of o
 next_smaller o left rest some cutting = subst (λ n. n < left_of o) (ap left_of (sym cutting)) (subst (λ n. left_of (after ampersand left) < n) (ap left_of (sym some)) (left_of-after left))
+
+-- ---- a test that is a function
+
+pub without_is : {F : Type 0} (step : F → List ℕ → Option (List ℕ) → Bool → F → Type 0) (test : Pair → Bool)
+    → ((f g : F) (p : Pair) (b : Bool) → step f p.0 p.1 b g → b ≡ test p) → (f : F) (ps kept : List Pair) → IsWithout step f ps kept
+    → kept ≡ filter (λ p. not (test p)) ps
+without_is step test says =
+    filter_from_retain (λ f p b g. step f p.0 p.1 (not b) g) (λ p. not (test p)) (λ f p b g call. sym (not-not b) ∙ ap not (says f g p (not b) call))
