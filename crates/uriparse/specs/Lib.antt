@@ -12,6 +12,8 @@ pub use Rattle.uriparse_text.specs.Readings
 pub use Rattle.uriparse_text.specs.Canonical
 pub use Rattle.uriparse_text.specs.Coding
 pub use Rattle.uriparse_text.specs.Query
+pub use Rattle.uriparse_text.specs.Pairs
+pub use Rattle.uriparse_text.specs.Link
 pub use Rattle.uriparse_text.specs.Fragment
 pub use Rattle.uriparse_text.specs.declared.internal.class.Class
 pub use Rattle.uriparse_text.specs.declared.internal.canonical.Case

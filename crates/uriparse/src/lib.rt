@@ -37,5 +37,6 @@ pub use uriparse_scheme::scheme;
 pub use uriparse_scheme::scheme::{Scheme, SchemeError, SchemeStatus, UnregisteredScheme};
 pub use uriparse_text::fragment::{Fragment, FragmentError};
 pub use uriparse_text::internal::Text;
+pub use uriparse_text::link::trim_link;
 pub use uriparse_text::query::{Query, QueryError};
 pub use uriparse_text::{fragment, query};

@@ -16,5 +16,7 @@ pub mod Escapes
 pub mod Spelling
 pub mod Coding
 pub mod Pairs
+pub mod Written
+pub mod Link
 pub mod Printing
 pub mod Ends

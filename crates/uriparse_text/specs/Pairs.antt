@@ -1,8 +1,9 @@
 -- The pairs of a query: RFC 3986, section 3.4.
-use Rattle.std.specs.Prelude.{ℕ, Bool, ◌==◌, ◌&&◌, List, [], ◌++◌, map, codes, Option, Some, None, unwrap_or}
+use Rattle.std.specs.Prelude.{ℕ, Bool, ◌==◌, ◌&&◌, not, if◌then◌else◌, List, [], ◌∷◌, ◌++◌, map, bytes_eq, codes, Option, Some, None, unwrap_or}
 use Rattle.std.specs.Borrow.{Bor}
 use Rattle.std.specs.Option.{option_map, option_copied}
-use Rattle.std.specs.List.{slice_split, join_with_byte}
+use Rattle.std.specs.List.{filter, slice_split, join_with_byte}
+use Rattle.std.specs.List.Retain.{IsFiltered}
 use Rattle.uriparse_text.specs.declared.internal.class.Class.TheVariants.{Query}
 use Rattle.uriparse_text.specs.Bytes.{ampersand, equals_sign}
 use Rattle.uriparse_text.specs.Cuts.{behind, before, after}
@@ -39,6 +40,27 @@ piece_of p = p.0 ++ behind equals_sign p.1
 -- the pieces, with a "&" between each two
 abbrev pub joined_pairs : List Pair → List ℕ
 joined_pairs ps = join_with_byte ampersand (map piece_of ps)
+
+-- ---- pairs that are left out
+
+-- A test, called at each pair in turn, returned false for those that are kept, and true for the others.
+abbrev pub IsWithout : {F : Type 0} → (F → List ℕ → Option (List ℕ) → Bool → F → Type 0) → F → List Pair → List Pair → Type 0
+IsWithout step test ps kept = IsFiltered (λ f p b g. step f p.0 p.1 (not b) g) test ps kept
+
+-- ---- a pair that is set
+
+-- the name of the pair stands for these bytes
+abbrev pub is_named : List ℕ → Pair → Bool
+is_named name p = bytes_eq (decoded p.0) name
+
+-- the pairs of other names
+abbrev pub without_name : List ℕ → List Pair → List Pair
+without_name name ps = filter (λ p. not (is_named name p)) ps
+
+-- The first pair of the name becomes this one, and the others of the name are left out; if there is none, it follows all others.
+abbrev pub with_pair : List ℕ → Pair → List Pair → List Pair
+with_pair name new [] = new ∷ []
+with_pair name new (p ∷ ps) = if is_named name p then new ∷ without_name name ps else p ∷ with_pair name new ps
 
 -- ---- what the texts stand for
 

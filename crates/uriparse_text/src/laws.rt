@@ -1,7 +1,8 @@
 //! Laws of the definitions that contracts cite. Each function does nothing: its contract is the
 //! law.
 ghost use Rattle.std.specs.Prelude.{◌≡◌, ◌==◌, ◌↔◌, ◌<◌, ◌∷◌, ◌++◌, ℕ, List, [], Some, None, true, false, flat_map, length, map, not, codes};
-ghost use Rattle.std.specs.List.{list_all};
+ghost use Rattle.std.specs.Char.{is_ascii_whitespace};
+ghost use Rattle.std.specs.List.{filter, list_all};
 ghost use Rattle.uriparse_text.specs.declared.internal.token.Token.{Token};
 ghost use Rattle.uriparse_text.specs.declared.internal.class.Class.{Class};
 ghost use Rattle.uriparse_text.specs.declared.internal.class.Class.TheVariants as class;
@@ -12,8 +13,9 @@ ghost use Rattle.uriparse_text.specs.Tokens.{is_well_formed, spell, IsConcatenat
 ghost use Rattle.uriparse_text.specs.Faults.{fault, IsIn, IsOfClass, HasFaultAt};
 ghost use Rattle.uriparse_text.specs.Canonical.{canonical_token, canonical_in, fed_bytes};
 ghost use Rattle.uriparse_text.specs.Coding.{are_bytes, decoded, escaped_in, form_decoded};
-ghost use Rattle.uriparse_text.specs.Cuts.{lacks};
-ghost use Rattle.uriparse_text.specs.Pairs.{Pair, are_pair_bytes, decoded_pair, encoded_pair, joined_pairs, pairs};
+ghost use Rattle.uriparse_text.specs.Cuts.{lacks, none_pass};
+ghost use Rattle.uriparse_text.specs.Link.{in_brackets, less_than, link, trimmed};
+ghost use Rattle.uriparse_text.specs.Pairs.{Pair, are_pair_bytes, decoded_pair, encoded_pair, is_named, joined_pairs, pairs, with_pair, without_name};
 ghost use Rattle.uriparse_text.specs.Address.{IsOctets, IsSegments, SpellsIpv4, SpellsIpv6, ipv4_text, ipv6_text, ipv4_reading, ipv6_reading, IsPrintedIpv6, is_ipv4_byte, is_ipv6_byte};
 
 /// A text has no fault exactly if it is a concatenation of tokens of the class; else its fault is
@@ -110,6 +112,12 @@ pub fn one_list_of_pairs()
     ensures decoded { (ps : List Pair) → 0 < length ps → list_all are_pair_bytes ps ≡ true → map decoded_pair (pairs (joined_pairs (map encoded_pair ps))) ≡ ps }
 {}
 
+/// Once a pair of a name is set, it is the only one of the name, and the others are as before.
+pub fn one_pair_of_a_name()
+    ensures one { (name : List ℕ) (new : Pair) (ps : List Pair) → is_named name new ≡ true → filter (is_named name) (with_pair name new ps) ≡ new ∷ [] }
+    ensures others { (name : List ℕ) (new : Pair) (ps : List Pair) → is_named name new ≡ true → without_name name (with_pair name new ps) ≡ without_name name ps }
+{}
+
 /// Queries and their pairs.
 #[tactic(auto, unfolding(crate::specs::Coding::decoded, crate::specs::Tokens::tokens, crate::specs::Classes::is_plain, crate::specs::Bytes::is_unreserved, crate::specs::Bytes::is_sub_delim))]
 pub fn examples_of_pairs()
@@ -118,7 +126,37 @@ pub fn examples_of_pairs()
     ensures empties { pairs (codes "&=") ≡ ([], None) ∷ ([], Some []) ∷ [] }
     ensures made { joined_pairs (map encoded_pair ((codes "a b", Some (codes "&=+#%")) ∷ (codes "c", None) ∷ [])) ≡ codes "a%20b=%26%3D%2B%23%25&c" }
     ensures plus { decoded (codes "a+b%2Bc%20d") ≡ codes "a+b+c d" }
+    ensures set { with_pair (codes "a") (codes "a", Some (codes "3")) (pairs (codes "b&%61=1&c=%2f&a=2")) ≡ pairs (codes "b&a=3&c=%2f") }
+    ensures set_last { with_pair (codes "d") (codes "d", None) (pairs (codes "b&c=d")) ≡ pairs (codes "b&c=d&d") }
+    ensures set_empty { with_pair [] ([], Some []) (pairs []) ≡ pairs (codes "=") }
+    ensures without { without_name (codes "a") (pairs (codes "a=1&%61&b=%2f&A=a")) ≡ pairs (codes "b=%2f&A=a") }
     ensures form { form_decoded (codes "a+b%2Bc%20d") ≡ codes "a b+c d" }
+{}
+
+/// A text with neither white space nor `<` is its own link. A link has no white space at its ends,
+/// and is its own link unless it stands in brackets.
+pub fn one_link()
+    ensures kept { (t : List ℕ) → none_pass is_ascii_whitespace t ≡ true → lacks less_than t ≡ true → link t ≡ t }
+    ensures trimmed { (t : List ℕ) → trimmed (link t) ≡ link t }
+    ensures twice { (t : List ℕ) → in_brackets (link t) ≡ None → link (link t) ≡ link t }
+{}
+
+/// Links in running text: three of appendix C, of which the second keeps its line break, and others.
+pub fn examples_of_links()
+    ensures brackets { link (codes "<http://www.ics.uci.edu/pub/ietf/uri/historical.html#WARNING>") ≡ codes "http://www.ics.uci.edu/pub/ietf/uri/historical.html#WARNING" }
+    ensures line_break { link (codes "<ftp://foo.example." ++ 10 ∷ codes "com/rfc/>") ≡ codes "ftp://foo.example." ++ 10 ∷ codes "com/rfc/" }
+    ensures quotes { link (34 ∷ codes "http://www.w3.org/Addressing/" ++ 34 ∷ []) ≡ 34 ∷ codes "http://www.w3.org/Addressing/" ++ 34 ∷ [] }
+    ensures white_space { link (32 ∷ 9 ∷ codes "http://a/b c" ++ 13 ∷ 10 ∷ 12 ∷ []) ≡ codes "http://a/b c" }
+    ensures vertical_tab { link (11 ∷ codes "a") ≡ 11 ∷ codes "a" }
+    ensures label { link (codes " < url: http://a/ > ") ≡ codes "http://a/" }
+    ensures plain_label { link (codes "URL:http://a/") ≡ codes "URL:http://a/" }
+    ensures two_labels { link (codes "<URL:URL:a>") ≡ codes "URL:a" }
+    ensures left_alone { link (codes "<http://a/") ≡ codes "<http://a/" }
+    ensures right_alone { link (codes "http://a/>") ≡ codes "http://a/>" }
+    ensures two_pairs { link (codes "<<a>>") ≡ codes "<a>" }
+    ensures nothing { link (codes "<>") ≡ [] }
+    ensures one_bracket { link (codes "<") ≡ codes "<" }
+    ensures empty { link [] ≡ [] }
 {}
 
 /// Texts of addresses, and what they are read as.

@@ -7,4 +7,5 @@ pub mod address;
 pub mod fragment;
 pub mod internal;
 pub mod laws;
+pub mod link;
 pub mod query;

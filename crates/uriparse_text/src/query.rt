@@ -7,6 +7,8 @@ use crate::internal::{Case, Class, Text, TextKind};
 use thiserror::Error;
 
 mod pairs;
+mod set;
+mod without;
 
 pub use pairs::Pairs;
 
@@ -61,7 +63,8 @@ impl TextKind for QueryKind {
 /// `%` without two hexadecimal digits after it, else
 /// [`InvalidCharacter`](QueryError::InvalidCharacter). Two queries are equal if their canonical
 /// spellings are. The calls are those of [`Text`], and
-/// [`pairs`](Query::pairs), [`from_pairs`](Query::from_pairs) and
+/// [`pairs`](Query::pairs), [`from_pairs`](Query::from_pairs),
+/// [`without_pairs`](Query::without_pairs), [`with_pair`](Query::with_pair) and
 /// [`decode_form`](Query::decode_form).
 ///
 /// ```

@@ -1,6 +1,6 @@
 //! Decoding texts to bytes, encoding bytes as texts, and escaping what a text may not have: RFC
 //! 3986, section 2.
-ghost use Rattle.std.specs.Prelude.{◌≡◌, ◌++◌, ◌∷◌, ◌<◌, ◌||◌, [], IfOk, OnOk, if◌then◌else◌, true};
+ghost use Rattle.std.specs.Prelude.{◌≡◌, ◌++◌, ◌∷◌, ◌<◌, ◌||◌, [], bytes_eq, IfOk, OnOk, if◌then◌else◌, true};
 ghost use Rattle.uriparse_text.specs.Alike.{upper_digit_of};
 ghost use Rattle.uriparse_text.specs.Coding.{are_bytes, decoded, encoded, encoded_without, escape_of, escaped_in, form_decoded, form_value_of, may_stand, token_for, token_without, value_of};
 ghost use Rattle.uriparse_text.specs.Tokens.{has_digits, is_escape as begins_escape, spell};
@@ -88,6 +88,25 @@ pub fn decoded_bytes(alloc: Global, text: &[u8]) -> Result<Vec<u8>, AllocError>
         rest = after;
     }
     Ok(bytes)
+}
+
+/// Whether the text's tokens represent these bytes. Walks both once.
+pub fn represents(text: &[u8], bytes: &[u8]) -> bool
+    ensures { result ≡ bytes_eq (decoded text.now) bytes.now }
+{
+    let mut rest = text;
+    let mut left = bytes;
+    'tokens: while let Some((token, after)) = split_token(rest) {
+        let Some((&b, later)) = left.split_first() else {
+            return false;
+        };
+        if token.value() != b {
+            return false;
+        }
+        left = later;
+        rest = after;
+    }
+    left.is_empty()
 }
 
 /// The text that represents the bytes. Walks them once and reserves capacity once: three bytes for

@@ -34,7 +34,7 @@ impl<'q> Model for Pairs<'q> {
 }
 
 /// The pair of a piece of a query.
-fn pair_of(piece: &[u8]) -> (Query<'_>, Option<Query<'_>>)
+pub fn pair_of(piece: &[u8]) -> (Query<'_>, Option<Query<'_>>)
     requires { IsQuery piece.now }
     ensures { result ≡ spec.pair_of piece.now }
 {
@@ -63,7 +63,7 @@ impl<'q> Iterator for Pairs<'q> {
 
 /// An upper bound for the number of bytes of the query of these pairs: three for each byte, as an
 /// escape needs, and two delimiters for each pair; or `usize::MAX`.
-fn most_pair_bytes(pairs: &[(&[u8], Option<&[u8]>)]) -> usize {
+pub fn most_pair_bytes(pairs: &[(&[u8], Option<&[u8]>)]) -> usize {
     let mut most: usize = 0;
     for (name, value) in pairs {
         let count = name.len().saturating_add(value.unwrap_or(b"").len());
@@ -75,7 +75,7 @@ fn most_pair_bytes(pairs: &[(&[u8], Option<&[u8]>)]) -> usize {
 }
 
 /// Appends a pair.
-fn push_pair(text: &mut Vec<u8>, pair: (&[u8], Option<&[u8]>)) -> Result<(), AllocError>
+pub fn push_pair(text: &mut Vec<u8>, pair: (&[u8], Option<&[u8]>)) -> Result<(), AllocError>
     ensures text { OnOk result (text.new.items ≡ text.old.items ++ spec.piece_of (spec.encoded_pair (spec.given pair.entry))) }
     ensures bytes { OnOk result (spec.are_pair_bytes (spec.given pair.entry) ≡ true) }
 {

@@ -101,7 +101,7 @@ split_front mark same (b ∷ s) t h =
     let both = and_parts _ _ h in
     slice_split-cons_no (λ b. b == mark) b (s ++ mark ∷ t) (not-true (b == mark) both.0) ∙ ap (onto_first b) (split_front mark same s t both.1)
 
-split_joined : (mark : ℕ) → (mark == mark) ≡ true → (s : List ℕ) (ss : List (List ℕ)) → lacks mark s ≡ true → list_all (lacks mark) ss ≡ true
+pub split_joined : (mark : ℕ) → (mark == mark) ≡ true → (s : List ℕ) (ss : List (List ℕ)) → lacks mark s ≡ true → list_all (lacks mark) ss ≡ true
     → slice_split (λ b. b == mark) (join_with_byte mark (s ∷ ss)) ≡ s ∷ ss
 split_joined mark same s [] h k = split_none mark s h
 split_joined mark same s (r ∷ ss) h k =
@@ -193,7 +193,7 @@ value_lacks : (o : Option (List ℕ)) → IfSome (option_map encoded_in_pair o) 
 value_lacks None = tt
 value_lacks (Some t) = name_lacks ampersand refl refl refl t
 
-piece_lacks : (p : Pair) → lacks ampersand (piece_of (encoded_pair p)) ≡ true
+pub piece_lacks : (p : Pair) → lacks ampersand (piece_of (encoded_pair p)) ≡ true
 piece_lacks p =
     lacks-append ampersand (encoded_in_pair p.0) (behind equals_sign (option_map encoded_in_pair p.1)) (name_lacks ampersand refl refl refl p.0)
     (lacks-behind ampersand equals_sign (option_map encoded_in_pair p.1) refl (value_lacks p.1))
@@ -202,7 +202,7 @@ pieces_lack : (ps : List Pair) → list_all (lacks ampersand) (map piece_of (map
 pieces_lack [] = refl
 pieces_lack (p ∷ ps) = and_from _ _ (piece_lacks p) (pieces_lack ps)
 
-pair_back : (p : Pair) → pair_of (piece_of (encoded_pair p)) ≡ encoded_pair p
+pub pair_back : (p : Pair) → pair_of (piece_of (encoded_pair p)) ≡ encoded_pair p
 pair_back p =
     let lacking = name_lacks equals_sign refl refl refl p.0 in
     rw (
@@ -236,13 +236,13 @@ written_back ps some bytes = ap (map decoded_pair) (pairs-joined ps some) ∙ al
 
 -- ---- the query that is written is one
 
-in_join : (t u : List ℕ) (mark : ℕ) → is_hex mark ≡ false → not (mark == percent) ≡ true → is_plain Query mark ≡ true → IsIn Query t → IsIn Query u
+pub in_join : (t u : List ℕ) (mark : ℕ) → is_hex mark ≡ false → not (mark == percent) ≡ true → is_plain Query mark ≡ true → IsIn Query t → IsIn Query u
     → IsIn Query (t ++ mark ∷ u)
 in_join t u mark digit sign plain h k =
     ap (list_all (allows Query)) (tokens-mark mark digit sign t u) ∙ list_all-append (allows Query) (tokens t) (Byte mark ∷ tokens u)
     ∙ and_from _ _ h (and_from _ _ plain k)
 
-ampersand_plain : is_plain Query ampersand ≡ true
+pub ampersand_plain : is_plain Query ampersand ≡ true
 unfolding is_plain is_unreserved is_sub_delim
 ampersand_plain = refl
 
@@ -250,7 +250,7 @@ equals_sign_plain : is_plain Query equals_sign ≡ true
 unfolding is_plain is_unreserved is_sub_delim
 equals_sign_plain = refl
 
-piece_query : (p : Pair) → IsQuery (piece_of (encoded_pair p))
+pub piece_query : (p : Pair) → IsQuery (piece_of (encoded_pair p))
 piece_query p = by_value p.1
   where
     name : IsQuery (encoded_in_pair p.0)

@@ -1,6 +1,6 @@
 -- Bytes that are written as a text, and the bytes that a text stands for.
 use Rattle.std.proofs.Common.{◌≡◌, ℕ, ◌<◌, Bool, true, false, List, [], ◌∷◌, ◌++◌, map, refl, sym, ap, ◌∙◌, arith, append_assoc, append-nil, ◌+◌, length, take, get_or, suc}
-use Rattle.std.specs.Prelude.{◌==◌, ◌/◌, ◌%◌}
+use Rattle.std.specs.Prelude.{◌==◌, ◌&&◌, ◌/◌, ◌%◌, bytes_eq}
 use Rattle.std.specs.List.{flat_map, list_all}
 use Rattle.std.specs.Int.{is_in_range}
 use Rattle.std.specs.Char.{to_ascii_uppercase}
@@ -222,3 +222,33 @@ written_without class without first bytes done new i b h e small is f = (
   where
     next : suc i ≡ i + 1
     next = omega arith
+
+-- ---- a text and bytes, walked together
+
+pub represents_next : (rest after left later : List ℕ) (t : Token) (v b : ℕ) (whole : Bool) → tokens rest ≡ t ∷ tokens after → left ≡ b ∷ later → v ≡ value_of t
+    → (v == b) ≡ true → bytes_eq (decoded rest) left ≡ whole → bytes_eq (decoded after) later ≡ whole
+represents_next rest after left later t v b whole cut first value same h =
+    ap (λ x. x && bytes_eq (decoded after) later) (sym (ap (λ x. x == b) (sym value) ∙ same))
+    ∙ ap (bytes_eq (value_of t ∷ decoded after)) (sym first) ∙ ap (λ u. bytes_eq u left) (sym (decoded-cons rest after t cut)) ∙ h
+
+pub represents_other : (rest after left later : List ℕ) (t : Token) (v b : ℕ) (whole : Bool) → tokens rest ≡ t ∷ tokens after → left ≡ b ∷ later → v ≡ value_of t
+    → (v == b) ≡ false → bytes_eq (decoded rest) left ≡ whole → false ≡ whole
+represents_other rest after left later t v b whole cut first value other h =
+    ap (λ x. x && bytes_eq (decoded after) later) (sym (ap (λ x. x == b) (sym value) ∙ other))
+    ∙ ap (bytes_eq (value_of t ∷ decoded after)) (sym first) ∙ ap (λ u. bytes_eq u left) (sym (decoded-cons rest after t cut)) ∙ h
+
+pub represents_more : (rest after left : List ℕ) (t : Token) (whole : Bool) → tokens rest ≡ t ∷ tokens after → length left ≡ 0 → bytes_eq (decoded rest) left ≡ whole
+    → false ≡ whole
+represents_more rest after left t whole cut none h =
+    by_left left none ∙ ap (λ u. bytes_eq u left) (sym (decoded-cons rest after t cut)) ∙ h
+  where
+    by_left : (l : List ℕ) → length l ≡ 0 → false ≡ bytes_eq (value_of t ∷ decoded after) l
+    by_left [] e = refl
+    by_left (b ∷ l) e = absurd (omega (arith, e))
+
+pub represents_end : (rest left : List ℕ) (whole : Bool) → rest ≡ [] → bytes_eq (decoded rest) left ≡ whole → (length left == 0) ≡ whole
+represents_end rest left whole none h = by_left left ∙ ap (λ u. bytes_eq u left) (sym (decoded-nil rest none)) ∙ h
+  where
+    by_left : (l : List ℕ) → (length l == 0) ≡ bytes_eq [] l
+    by_left [] = refl
+    by_left (b ∷ l) = grind (arith, nat_tests)

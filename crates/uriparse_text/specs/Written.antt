@@ -1,0 +1,25 @@
+-- How pieces of a query are written one after another. No public contract cites these words.
+use Rattle.std.specs.Prelude.{ℕ, Bool, ◌≡◌, ◌&&◌, true, if◌then◌else◌, List, [], ◌∷◌, ◌++◌, flat_map}
+use Rattle.std.specs.List.{list_all}
+use Rattle.uriparse_text.specs.declared.internal.class.Class.TheVariants.{Query}
+use Rattle.uriparse_text.specs.Bytes.{ampersand}
+use Rattle.uriparse_text.specs.Cuts.{lacks}
+use Rattle.uriparse_text.specs.Faults.{allows}
+use Rattle.uriparse_text.specs.Tokens.{tokens}
+use Rattle.uriparse_text.specs.Pairs.{pair_of, is_named}
+
+-- a query without "&"
+abbrev pub is_piece : List ℕ → Bool
+is_piece s = lacks ampersand s && list_all (allows Query) (tokens s)
+
+-- what a piece becomes where the pair of this piece is set: the name's first piece that one, and its others none
+abbrev pub next_pieces : List ℕ → List ℕ → Bool → List ℕ → List (List ℕ)
+next_pieces name new done s = if is_named name (pair_of s) then (if done then [] else new ∷ []) else s ∷ []
+
+-- the pieces, each with a "&" after it
+abbrev pub ended : List (List ℕ) → List ℕ
+ended ss = flat_map (λ s. s ++ ampersand ∷ []) ss
+
+-- the text has these pieces, each with a "&" after it
+abbrev pub AreWritten : List (List ℕ) → List ℕ → Type 0
+AreWritten ss t = (t ≡ ended ss) × (list_all is_piece ss ≡ true)

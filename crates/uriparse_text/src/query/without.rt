@@ -1,0 +1,86 @@
+//! Queries without some of their pairs: RFC 3986, section 3.4.
+ghost use Rattle.std.specs.Prelude.{◌≡◌, Bool, List, ℕ, IfOk, map, not};
+ghost use Rattle.std.specs.List.{filter};
+ghost use Rattle.uriparse_text.specs.Pairs as spec;
+ghost use Rattle.uriparse_text.specs.Query.{IsQuery};
+ghost use Rattle.uriparse_text.specs.Written.{AreWritten};
+
+use super::Query;
+use super::pairs::pair_of;
+use crate::internal::{made_text, split_at_mark, without_mark};
+use std::alloc::{AllocError, Global};
+
+/// Calls the test at the pair of a piece of a query.
+fn passes<F>(test: &mut F, piece: &[u8]) -> bool
+where
+    F: FnMut(Query<'_>, Option<Query<'_>>) -> bool,
+    requires query { IsQuery piece.now }
+    requires callable { F.IsAlwaysCallable test.old }
+    ensures step { F.step test.old (spec.pair_of piece.now).0 (spec.pair_of piece.now).1 result test.new }
+    ensures again { F.IsAlwaysCallable test.new }
+{
+    let (name, value) = pair_of(piece);
+    test(name, value)
+}
+
+/// The pieces of the query at whose pairs the test returns false, each with a `&` after it.
+fn kept_pieces<F>(alloc: Global, query: &[u8], mut test: F) -> Result<Vec<u8>, AllocError>
+where
+    F: FnMut(Query<'_>, Option<Query<'_>>) -> bool,
+    requires query { IsQuery query.now }
+    requires callable { F.IsAlwaysCallable test }
+    ensures { IfOk result (λ v. (ss : List (List ℕ)) × AreWritten ss v.items × spec.IsWithout F.step test (spec.pairs query.now) (map spec.pair_of ss)) }
+{
+    let mut text = Vec::with_capacity(alloc, query.len().saturating_add(1))?;
+    let mut rest = Some(query);
+    while let Some(left) = rest {
+        let (piece, behind) = split_at_mark(left, b'&');
+        rest = without_mark(behind);
+        if !passes(&mut test, piece) {
+            text.extend_from_slice(piece)?;
+            text.push(b'&')?;
+        }
+    }
+    Ok(text)
+}
+
+/// The query of the pieces in the text, without the `&` after the last one, or `None` if there are
+/// no pieces.
+fn query_of_pieces(mut text: Vec<u8>) -> Option<Query<'static>>
+    requires { (ss : List (List ℕ)) × AreWritten ss text.items }
+    ensures { (ss : List (List ℕ)) → AreWritten ss text.items → spec.pairs_left result ≡ map spec.pair_of ss }
+{
+    match text.pop() {
+        None => None,
+        Some(_) => Some(made_text(text)),
+    }
+}
+
+impl<'q> Query<'q> {
+    /// The query without the pairs at which the test returns true, or `None` if no pair is left. The
+    /// others stay in order, byte for byte. The test is called once at the name and the value of each
+    /// of the [`pairs`](Query::pairs), in order. Reserves capacity once.
+    ///
+    /// ```
+    /// let query = Query::try_from_str("utm_source=a&q=b%20c&utm_id=1&z")?;
+    /// let query = query.without_pairs(alloc, |name, _| name.as_str().starts_with("utm_"))?;
+    /// assert_eq!(query.unwrap().as_str(), "q=b%20c&z");
+    /// ```
+    pub fn without_pairs<F>(
+        &self,
+        alloc: Global,
+        test: F,
+    ) -> Result<Option<Query<'static>>, AllocError>
+    where
+        F: FnMut(Query<'_>, Option<Query<'_>>) -> bool,
+        requires { F.IsAlwaysCallable test }
+        // The pairs at which the test returned false, called at each in turn.
+        ensures pairs { IfOk result (λ q. spec.IsWithout F.step test (spec.pairs self.now) (spec.pairs_left q)) }
+
+        // The same for a test whose answer is a function of the pair.
+        ensures chosen { (is : spec.Pair → Bool) → ((f g : F) (p : spec.Pair) (b : Bool) → F.step f p.0 p.1 b g → b ≡ is p) → IfOk result (λ q. spec.pairs_left q ≡ filter (λ p. not (is p)) (spec.pairs self.now)) }
+    {
+        let text = kept_pieces(alloc, self.as_bytes(), test)?;
+        Ok(query_of_pieces(text))
+    }
+}
