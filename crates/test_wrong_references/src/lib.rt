@@ -10,7 +10,6 @@
 ghost use Rattle.std.specs.Prelude.{◌≡◌, ◌↔◌, Err, IfOk, IsTrue, MatchOption, MatchResult, None, Ok, OnErr, OnOk, Some, bytes_eq, is_some, length, string_bytes, true};
 ghost use Rattle.uriparse_text.specs.Readings.{IsUnless, Settles};
 ghost use Rattle.uriparse_path.specs.Dots as dots;
-ghost use Rattle.uriparse_path.specs.Path.{text};
 ghost use Rattle.uriparse_path.specs.declared.path.error.PathError.TheVariants.{OutOfMemory};
 ghost use Rattle.uriparse_scheme.specs.Scheme as schemes;
 ghost use Rattle.uriparse_reference.specs.Edits.{Run, edited};
@@ -137,13 +136,6 @@ pub fn text_of_view<'t>(view: &ReferenceView<'t>) -> &'t str
     ensures { result.now ≡ view.now.text }
 {
     view.as_str()
-}
-
-/// The text of a view's path.
-pub fn path_of_view<'t>(view: &ReferenceView<'t>) -> &'t str
-    ensures { result.now ≡ text view.now.parts.path }
-{
-    view.path()
 }
 
 /// Whether two views are equal.

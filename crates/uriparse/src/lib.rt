@@ -7,7 +7,7 @@
 //! Some types are aliases of a more general one, whose docs list their calls: [`Query`],
 //! [`Fragment`], [`Username`] and [`Password`] are each a [`Text`], [`Path`] is a [`PathOf`],
 //! [`URI`] and [`RelativeReference`] are each a [`ReferenceOf`], and their builders a
-//! [`BuilderOf`].
+//! [`BuilderOf`]. A function over all texts takes a `Text<'_, K>` of any `K: TextKind`.
 #![tactic(auto)]
 
 mod builder_of;
@@ -36,7 +36,7 @@ pub use uriparse_reference::uri_reference::{
 pub use uriparse_scheme::scheme;
 pub use uriparse_scheme::scheme::{Scheme, SchemeError, SchemeStatus, UnregisteredScheme};
 pub use uriparse_text::fragment::{Fragment, FragmentError};
-pub use uriparse_text::internal::Text;
+pub use uriparse_text::internal::{Text, TextKind};
 pub use uriparse_text::link::trim_link;
 pub use uriparse_text::query::{Query, QueryError};
 pub use uriparse_text::{fragment, query};
