@@ -121,6 +121,33 @@ fn written_pairs(alloc: Global, name: &str, value: &str) -> Answer {
     query.to_string(alloc)
 }
 
+/// The query without the pairs whose names begin so, or the error.
+fn without_prefix(alloc: Global, text: &str, prefix: &str) -> Answer {
+    match Query::try_from_str(text) {
+        Ok(query) => left_of(alloc, &query, prefix),
+        Err(why) => printed(alloc, why),
+    }
+}
+
+/// The query without the pairs whose names begin so.
+fn left_of(alloc: Global, query: &Query<'_>, prefix: &str) -> Answer {
+    match query.without_pairs(alloc, |name, _| name.as_str().starts_with(prefix))? {
+        Some(left) => left.to_string(alloc),
+        None => said(alloc, "no pair"),
+    }
+}
+
+/// The query with a pair of this name and the value `x y`, or the error.
+fn with_name(alloc: Global, text: &str, name: &str) -> Answer {
+    match Query::try_from_str(text) {
+        Ok(query) => {
+            let set = query.with_pair(alloc, name.as_bytes(), Some(b"x y"))?;
+            set.to_string(alloc)
+        }
+        Err(why) => printed(alloc, why),
+    }
+}
+
 /// The bytes of a form's text, or the error.
 fn form_bytes(alloc: Global, text: &str) -> Answer {
     match Query::try_from_str(text) {
@@ -148,6 +175,8 @@ pub fn answer(alloc: Global, asked: &str) -> Answer {
         "decode-username" => text_bytes(alloc, Username::try_from_str(text)),
         "pairs" => pairs_of(alloc, text),
         "from-pairs" => written_pairs(alloc, text, other),
+        "without-pairs" => without_prefix(alloc, text, other),
+        "with-pair" => with_name(alloc, text, other),
         "decode-form" => form_bytes(alloc, text),
         "decode-password" => text_bytes(alloc, Password::try_from_str(text)),
         _ => said(alloc, "no such command"),
@@ -161,6 +190,15 @@ pairs & -> ()()
 pairs #a -> invalid query character
 from-pairs '' '' -> =&
 from-pairs 'a b&=+#%é' c/d? -> a%20b%26%3D%2B%23%25%C3%A9=c/d?&a%20b%26%3D%2B%23%25%C3%A9
+without-pairs utm_a=1&q=%2f&utm_b&z utm_ -> q=%2f&z
+without-pairs utm_a=1&utm_b utm_ -> no pair
+without-pairs a&&b&=c b -> a&&=c
+without-pairs a=utm_ utm_ -> a=utm_
+with-pair p=1&q=%2f&%70&p=2 p -> p=x%20y&q=%2f
+with-pair q=%2f a&b -> q=%2f&a%26b=x%20y
+with-pair '' q -> &q=x%20y
+with-pair a+b=1 'a b' -> a+b=1&a%20b=x%20y
+with-pair a%2Bb&a+b a+b -> a%2Bb=x%20y
 decode-form a+b%2Bc%20d -> a b+c d
 decode-form a%2 -> invalid query percent encoding
 encode-segment '' -> ''
