@@ -6,14 +6,20 @@ use std::alloc::Global;
 use std::io::Write;
 use uriparse::{Authority, Edit, Fragment, Path, Query, Scheme, URIReference, URIReferenceError};
 
+/// A component that an edit sets.
+#[derive(Clone, Copy)]
+enum Component {
+    Scheme,
+    Authority,
+    Path,
+    Query,
+    Fragment,
+}
+
 /// An edit, as its words say it. Its value isn't read yet.
 #[derive(Clone, Copy)]
 enum Change<'w> {
-    Scheme(&'w str),
-    Authority(&'w str),
-    Path(&'w str),
-    Query(&'w str),
-    Fragment(&'w str),
+    Set(Component, &'w str),
     DropScheme,
     DropAuthority,
     DropQuery,
@@ -21,19 +27,40 @@ enum Change<'w> {
     Normalize,
 }
 
+/// The component of this name.
+fn component_of(name: &str) -> Option<Component> {
+    match name {
+        "scheme" => Some(Component::Scheme),
+        "authority" => Some(Component::Authority),
+        "path" => Some(Component::Path),
+        "query" => Some(Component::Query),
+        "fragment" => Some(Component::Fragment),
+        _ => None,
+    }
+}
+
+/// The edit of this name that takes no value.
+fn plain_change(name: &str) -> Option<Change<'static>> {
+    match name {
+        "drop-scheme" => Some(Change::DropScheme),
+        "drop-authority" => Some(Change::DropAuthority),
+        "drop-query" => Some(Change::DropQuery),
+        "drop-fragment" => Some(Change::DropFragment),
+        "normalize" => Some(Change::Normalize),
+        _ => None,
+    }
+}
+
 /// The first edit of these words, and how many words it takes.
 fn first_change<'w>(words: &[&'w str]) -> Result<(Change<'w>, usize), Failure> {
-    match words {
-        ["scheme", value, ..] => Ok((Change::Scheme(value), 2)),
-        ["authority", value, ..] => Ok((Change::Authority(value), 2)),
-        ["path", value, ..] => Ok((Change::Path(value), 2)),
-        ["query", value, ..] => Ok((Change::Query(value), 2)),
-        ["fragment", value, ..] => Ok((Change::Fragment(value), 2)),
-        ["drop-scheme", ..] => Ok((Change::DropScheme, 1)),
-        ["drop-authority", ..] => Ok((Change::DropAuthority, 1)),
-        ["drop-query", ..] => Ok((Change::DropQuery, 1)),
-        ["drop-fragment", ..] => Ok((Change::DropFragment, 1)),
-        ["normalize", ..] => Ok((Change::Normalize, 1)),
+    let [word, values @ ..] = words else {
+        return Err(Failure::Usage);
+    };
+    if let Some(change) = plain_change(word) {
+        return Ok((change, 1));
+    }
+    match (component_of(word), values) {
+        (Some(component), [value, ..]) => Ok((Change::Set(component, value), 2)),
         _ => Err(Failure::Usage),
     }
 }
@@ -53,20 +80,31 @@ fn changes<'w>(alloc: Global, words: &[&'w str]) -> Result<Vec<Change<'w>>, Fail
     Ok(changes)
 }
 
+/// Reads the value that a component is set to.
+fn read_set<'w>(
+    alloc: Global,
+    component: Component,
+    text: &'w str,
+) -> Result<Edit<'w>, URIReferenceError> {
+    Ok(match component {
+        Component::Scheme => Edit::Scheme(Some(Scheme::try_from_str(text)?)),
+        Component::Authority => Edit::Authority(Some(Authority::try_from_str(text)?)),
+        Component::Path => Edit::Path(Path::try_from_str(alloc, text)?),
+        Component::Query => Edit::Query(Some(Query::try_from_str(text)?)),
+        Component::Fragment => Edit::Fragment(Some(Fragment::try_from_str(text)?)),
+    })
+}
+
 /// Reads the edit's value, if it has one.
 fn read_change<'w>(alloc: Global, change: Change<'w>) -> Result<Edit<'w>, URIReferenceError> {
-    Ok(match change {
-        Change::Scheme(text) => Edit::Scheme(Some(Scheme::try_from_str(text)?)),
-        Change::Authority(text) => Edit::Authority(Some(Authority::try_from_str(text)?)),
-        Change::Path(text) => Edit::Path(Path::try_from_str(alloc, text)?),
-        Change::Query(text) => Edit::Query(Some(Query::try_from_str(text)?)),
-        Change::Fragment(text) => Edit::Fragment(Some(Fragment::try_from_str(text)?)),
-        Change::DropScheme => Edit::Scheme(None),
-        Change::DropAuthority => Edit::Authority(None),
-        Change::DropQuery => Edit::Query(None),
-        Change::DropFragment => Edit::Fragment(None),
-        Change::Normalize => Edit::Normalize,
-    })
+    match change {
+        Change::Set(component, text) => read_set(alloc, component, text),
+        Change::DropScheme => Ok(Edit::Scheme(None)),
+        Change::DropAuthority => Ok(Edit::Authority(None)),
+        Change::DropQuery => Ok(Edit::Query(None)),
+        Change::DropFragment => Ok(Edit::Fragment(None)),
+        Change::Normalize => Ok(Edit::Normalize),
+    }
 }
 
 /// Reads the edits' values, from the left.

@@ -31,8 +31,11 @@ uri help COMMAND      more on a command or on an option, with an example
 uri --json parse TEXT the reference as a JSON object
 uri --quiet parse TEXT, uri --quiet equal A B
                       nothing but the status
+uri --trim escape TEXT
+                      the text without white space and <> round it, escaped
 uri --lines parse, uri --lines normalize, uri --lines resolve BASE,
-uri --lines get PART, uri --lines equal, uri --lines escape
+uri --lines get PART, uri --lines equal, uri --lines escape,
+uri --lines --trim escape
                       the same for each line of the standard input;
                       parse prints JSON objects
 uri --version         the version

@@ -30,7 +30,7 @@ mod tail;
 use coding::{decode, encode};
 use edit::edit;
 use equal::equal;
-use escape::escape;
+use escape::{escape, escape_link};
 use failure::Failure;
 use get::get;
 use help::{help, help_on, version};
@@ -125,10 +125,11 @@ fn command<O: Write>(
     words: &[&str],
     out: &mut O,
 ) -> Result<(), Failure> {
-    match (options.is_quiet, options.is_json, words) {
-        (false, false, _) => plain_command(alloc, words, out),
-        (true, false, _) => quiet(words),
-        (false, true, ["parse", text]) => parse_json(alloc, text.as_bytes(), out),
+    match (options.is_quiet, options.is_json, options.trims, words) {
+        (false, false, false, _) => plain_command(alloc, words, out),
+        (true, false, false, _) => quiet(words),
+        (false, true, false, ["parse", text]) => parse_json(alloc, text.as_bytes(), out),
+        (false, false, true, ["escape", text]) => escape_link(alloc, text.as_bytes(), out),
         _ => Err(Failure::Usage),
     }
 }

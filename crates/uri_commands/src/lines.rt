@@ -6,7 +6,7 @@ ghost use Rattle.std.specs.Io.KnownBytes.{IsAtEnd};
 ghost use Rattle.uri_commands.specs.Lines.{newline};
 
 use crate::equal::equal;
-use crate::escape::escape;
+use crate::escape::{escape, escape_link};
 use crate::failure::Failure;
 use crate::get::{Part, get_part, read_part};
 use crate::json::parse_json;
@@ -31,6 +31,8 @@ enum Task<'w> {
     Normalize,
     /// Print the text with escapes for what a reference can't have.
     Escape,
+    /// Print the same of the text without what is round a link.
+    EscapeLink,
     /// Print the target of the reference against this base.
     Resolve(URI<'w>),
     /// Print this part of the reference, or an empty line if it is absent.
@@ -53,6 +55,8 @@ impl<'w> Task<'w> {
 /// Reads a task from the words of the command. A base is read here, before any line.
 fn read_task<'w>(alloc: Global, options: Options, words: &[&'w str]) -> Result<Task<'w>, Failure> {
     match (options.is_quiet, options.is_json, words) {
+        (false, false, ["escape"]) if options.trims => Ok(Task::EscapeLink),
+        _ if options.trims => Err(Failure::Usage),
         (false, _, ["parse"]) => Ok(Task::Parse),
         (true, false, ["parse"]) => Ok(Task::Check),
         (true, false, ["equal"]) => Ok(Task::CheckEqual),
@@ -104,6 +108,7 @@ fn run_task<O: Write>(
         Task::Parse => parse_json(alloc, line, out),
         Task::Normalize => normalize(alloc, line, out),
         Task::Escape => escape(alloc, line, out),
+        Task::EscapeLink => escape_link(alloc, line, out),
         Task::Resolve(base) => resolve_against(alloc, base, line, out),
         Task::Get(part) => get_or_empty(*part, line, out),
         Task::Equal => equal_pair(line, out),

@@ -9,6 +9,8 @@ pub struct Options {
     pub is_json: bool,
     /// `--quiet`: the status alone reports the result.
     pub is_quiet: bool,
+    /// `--trim`: what is round a link is taken off.
+    pub trims: bool,
 }
 
 /// Splits the words into the options and the words of the command.
@@ -19,12 +21,14 @@ pub fn split_options<'w, 't>(words: &'w [&'t str]) -> (Options, &'w [&'t str]) {
         reads_lines: false,
         is_json: false,
         is_quiet: false,
+        trims: false,
     };
     for at in 0..words.len() {
         match words[at] {
             "--lines" => options.reads_lines = true,
             "--json" => options.is_json = true,
             "--quiet" => options.is_quiet = true,
+            "--trim" => options.trims = true,
             _ => return (options, &words[at..]),
         }
     }

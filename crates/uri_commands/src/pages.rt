@@ -163,7 +163,9 @@ prints
 
 const ESCAPE: &str = "\
 uri escape TEXT
+uri --trim escape TEXT
 uri --lines escape
+uri --lines --trim escape
 
 Prints any text as that of a reference: each byte that a reference can't have
 where it stands becomes an escape, such as a space, a letter with an accent, or
@@ -171,7 +173,8 @@ a bracket outside of an authority. The rest stays, escapes too; a `%` without
 two hexadecimal digits after it becomes %25. A reference stays as it is.
 An authority keeps its `:`, `@`, `[` and `]`, so a text with an invalid host or
 port is still rejected by the other commands. Lines are bytes of any encoding: a
-carriage return becomes %0D.
+carriage return becomes %0D. For links with white space or brackets round them
+see uri help --trim.
 
 Exit status: 0 on success, 2 on a usage error.
 
@@ -222,8 +225,8 @@ uri help COMMAND
 uri --help
 
 Prints the commands, or more on one of them or on one of the options --json,
---quiet and --lines. Options come before the command, in any order: a word
-after the command is a text.
+--quiet, --trim and --lines. Options come before the command, in any order: a
+word after the command is a text.
 
 Exit status: 0 on success, 2 on a usage error. Every command ends with 1 if
 memory runs out, a read or a write fails, or an argument is not UTF-8.
@@ -282,6 +285,23 @@ prints
     rejected
 ";
 
+const TRIM: &str = "\
+uri --trim escape TEXT
+uri --lines --trim escape
+
+Takes off what is round a link, and prints the rest as `uri escape` does: white
+space at both ends, so also a carriage return at the end of a line; then a pair
+of angle brackets, the white space in it, and a URL: that follows the first
+bracket. One bracket alone stays, and is escaped.
+
+Exit status: 0 on success, 2 on a usage error.
+
+Example:
+    uri --trim escape ' <URL:http://h/a b> '
+prints
+    http://h/a%20b
+";
+
 const LINES: &str = "\
 uri --lines parse
 uri --lines normalize
@@ -289,6 +309,7 @@ uri --lines resolve BASE
 uri --lines get PART
 uri --lines equal
 uri --lines escape
+uri --lines --trim escape
 uri --lines --quiet parse
 uri --lines --quiet equal
 
@@ -329,6 +350,7 @@ pub fn page(name: &str) -> Option<&'static str> {
         "help" => Some(HELP),
         "--json" => Some(JSON),
         "--quiet" => Some(QUIET),
+        "--trim" => Some(TRIM),
         "--lines" => Some(LINES),
         _ => None,
     }

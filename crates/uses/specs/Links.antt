@@ -3,7 +3,9 @@ use Rattle.std.specs.Prelude.{◌≡◌, ◌⊎◌, ℕ, true, List, [], ◌∷�
 use Rattle.std.specs.List.{list_all}
 use Rattle.std.specs.Option.{IsSomeAnd}
 use Rattle.uriparse.specs.PathError.TheVariants.{ExceededMaximumLength, OutOfMemory}
-use Rattle.uriparse.specs.Reference.{Parts}
+use Rattle.uriparse.specs.Escaped.{escaped}
+use Rattle.uriparse.specs.Link.{link}
+use Rattle.uriparse.specs.Reference.{Parts, Spells}
 use Rattle.uriparse.specs.Relate.{LeavesOut}
 use Rattle.uriparse.specs.Target.{target}
 use Rattle.uriparse.specs.declared.uri.error.URIError.{URIError}
@@ -12,6 +14,10 @@ use Rattle.uriparse.specs.declared.uri.error.URIError.TheVariants.{Path}
 -- these are the links' targets, one for each and in order
 abbrev pub AreTargets : Parts → List Parts → List Parts → Type 0
 AreTargets base links targets = map (target base) links ≡ map Some targets
+
+-- the URI that a link leads to, which stands in a page as people write it
+abbrev pub Reaches : Parts → List ℕ → Parts → Type 0
+Reaches base written u = (r : Parts) × Spells (escaped (link written)) r × (target base r ≡ Some u)
 
 -- Why a link is rejected: it has no target, or memory ran out.
 abbrev pub IsRefusal : Parts → Parts → URIError → Type 0

@@ -1,10 +1,29 @@
-//! A link rewriter: the targets of a page's links, and relative links in place of absolute ones.
+//! A link rewriter: where links lead that stand in a page as people write them, the targets of a
+//! page's links, and relative links in place of absolute ones.
 ghost use Rattle.std.specs.Prelude.{◌≡◌, ◌++◌, ◌∷◌, [], IfOk, IfErr, MatchResult, OnOk};
 ghost use Rattle.uriparse.specs.PathError.TheVariants.{OutOfMemory};
-ghost use Rattle.uses.specs.Links.{AreLinks, AreTargets, Gains, GainsLink, IsRefusal, IsRefused};
+ghost use Rattle.uses.specs.Links.{AreLinks, AreTargets, Gains, GainsLink, IsRefusal, IsRefused, Reaches};
 
 use std::alloc::{AllocError, Global};
-use uriparse::{PathError, URI, URIError, URIReference};
+use uriparse::{PathError, URI, URIError, URIReference, escape_invalid, trim_link};
+
+/// Where a link leads that stands in a page as people write it: without what is round it, with
+/// escapes for what a reference can't have, and against the page's base.
+///
+/// Fails if the link is no reference even so, if it has no target, or if memory runs out.
+///
+/// ```
+/// let base = URI::try_from_str(alloc, "http://a/b/c")?;
+/// let uri = read_link(alloc, &base, " <../d e?100%>\n".as_bytes())?;
+/// assert_eq!(uri.to_string(alloc)?.as_str(), "http://a/d%20e?100%25");
+/// ```
+pub fn read_link(alloc: Global, base: &URI<'_>, link: &[u8]) -> Result<URI<'static>, URIError>
+    ensures { IfOk result (λ u. Reaches base.now link.now u) }
+{
+    let text = escape_invalid(alloc, trim_link(link))?;
+    let reference = URIReference::try_from_str(alloc, text.as_str())?;
+    Ok(base.resolve(alloc, &reference)?.into_owned(alloc)?)
+}
 
 /// Where each link of a page leads, in order: its target against the page's base, RFC 3986, section
 /// 5.2.2. The targets borrow the texts of the base and the links.

@@ -5,7 +5,7 @@ use super::options::ends;
 use std::test::Fail;
 
 // (the words separated by bars, the input, the output, the messages on standard error, the status)
-static ROWS: [(&str, &str, &str, &str, u8); 14] = [
+static ROWS: [(&str, &str, &str, &str, u8); 22] = [
     (
         "escape|http://[::1]/a b?100%&é#[x]%2f",
         "",
@@ -20,6 +20,26 @@ static ROWS: [(&str, &str, &str, &str, u8); 14] = [
     ("--quiet|escape|a", "", "", USAGE, 2),
     ("--lines|escape", "a b\n\n%\r\n", "a%20b\n\n%25%0D\n", "", 0),
     ("--lines|escape|a", "", "", USAGE, 2),
+    (
+        "--trim|escape| <URL:http://h/a b>\n",
+        "",
+        "http://h/a%20b\n",
+        "",
+        0,
+    ),
+    ("--trim|escape|<http://h/", "", "%3Chttp://h/\n", "", 0),
+    ("--trim|escape|< >", "", "\n", "", 0),
+    ("--trim|escape", "", "", USAGE, 2),
+    ("--trim|parse|a", "", "", USAGE, 2),
+    ("--trim|--quiet|escape|a", "", "", USAGE, 2),
+    (
+        "--lines|--trim|escape",
+        "\ta b\r\n\n<http://h/é>\n",
+        "a%20b\n\nhttp://h/%C3%A9\n",
+        "",
+        0,
+    ),
+    ("--trim|--lines|normalize", "a\n", "", USAGE, 2),
     ("pairs|/?a=1&b=%26=&&c#d", "", "a=1\nb=%26=\n\nc\n", "", 0),
     ("pairs|?", "", "\n", "", 0),
     ("pairs|/", "", "", "", 3),
