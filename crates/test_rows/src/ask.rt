@@ -43,17 +43,3 @@ pub fn wrong_row<L: Layer>(alloc: Global, layers: &[L]) -> Answer {
     }
     said(alloc, "")
 }
-
-/// The same of the row of this number, from which the rows before it are taken. `None` if there are
-/// fewer.
-pub fn wrong_row_at<L: Layer>(alloc: Global, layers: &[L], number: &mut usize) -> Option<Answer> {
-    for layer in layers {
-        for row in layer.rows().lines() {
-            match number.checked_sub(1) {
-                Some(left) => *number = left,
-                None => return Some(wrong(alloc, layer, row)),
-            }
-        }
-    }
-    None
-}

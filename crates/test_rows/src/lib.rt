@@ -1,4 +1,4 @@
-//! Rows of inputs and expected results, for tests.
+//! What runs rows of inputs and expected results, for tests.
 //!
 //! A row is `COMMAND WORD.. -> ANSWER`. A word in quotes may be empty and may have spaces; an empty
 //! answer is written as two quotes. Each layer of a library has a text of rows, one short function
@@ -11,4 +11,4 @@ pub mod authorities;
 pub mod same;
 pub mod written;
 
-pub use ask::{Layer, wrong_row, wrong_row_at};
+pub use ask::{Layer, wrong_row};

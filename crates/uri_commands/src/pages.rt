@@ -291,8 +291,8 @@ uri --lines --trim escape
 
 Takes off what is round a link, and prints the rest as `uri escape` does: white
 space at both ends, so also a carriage return at the end of a line; then a pair
-of angle brackets, the white space in it, and a URL: that follows the first
-bracket. One bracket alone stays, and is escaped.
+of angle brackets, a URL: that follows the first, and the white space at the
+ends of what they hold. One bracket alone stays, and is escaped.
 
 Exit status: 0 on success, 2 on a usage error.
 
@@ -316,10 +316,10 @@ uri --lines --quiet equal
 Runs the command for each line of the standard input, and prints one line for
 each, in order. A line is one text, or for equal two, separated by a tab; parse
 prints JSON objects. Lines are bytes and of any length, and end with a newline
-alone: a carriage return is part of the text, which is rejected for it. A
-rejected line is reported as `line N: ERROR: TEXT` on the standard error, prints
-nothing else, and the work goes on. It ends early if memory runs out, or a read
-or a write fails.
+alone: a carriage return is part of the text, which is rejected for it, or with
+escape is escaped, or taken off by --trim. A rejected line is reported as
+`line N: ERROR: TEXT` on the standard error, prints nothing else, and the work
+goes on. It ends early if memory runs out, or a read or a write fails.
 
 Exit status: 0 on success, 1 if a line is rejected or the work ends early, 2 on
 a usage error, 3 with --quiet if no line is rejected and two references differ.

@@ -233,8 +233,8 @@ impl<'r, K: ReferenceKind> ReferenceOf<'r, K> {
         })
     }
 
-    /// A copy that owns its texts, in one call. Allocates each text, and lists of segments if there
-    /// is more than one.
+    /// A copy that owns its texts, in one call. Allocates a copy of each text and, for several
+    /// segments, two lists of them, one of which is freed again.
     pub fn to_owned(&self, alloc: Global) -> Result<ReferenceOf<'static, K>, AllocError>
         ensures { IfOk result (λ u. u ≡ self.now) }
     {

@@ -34,9 +34,9 @@ fn without_label(text: &[u8]) -> &[u8]
 
 /// The reference in a text that was cut out of a page or a letter: the text without the white space
 /// at its ends and, if what is left begins with `<` and ends with `>`, without these two, the white
-/// space inside them, and a prefix `URL:` in any case with the white space after it. RFC 3986,
-/// appendix C. White space is space, tab, line feed, form feed and carriage return. Does not
-/// allocate.
+/// space at the ends of what they hold, and a prefix `URL:` in any case with the white space after
+/// it. RFC 3986, appendix C. White space is space, tab, line feed, form feed and carriage return.
+/// Does not allocate.
 ///
 /// All else stays: a bracket without the other, a second pair of brackets, quotation marks, and
 /// `URL:` without brackets, where it is a scheme. Appendix C also ignores white space within a

@@ -1,5 +1,5 @@
-//! A link rewriter: where links lead that stand in a page as people write them, the targets of a
-//! page's links, and relative links in place of absolute ones.
+//! A link rewriter: the target of a link as people write it, the targets of a page's links, and
+//! relative links in place of absolute ones.
 ghost use Rattle.std.specs.Prelude.{◌≡◌, ◌++◌, ◌∷◌, [], IfOk, IfErr, MatchResult, OnOk};
 ghost use Rattle.uriparse.specs.PathError.TheVariants.{OutOfMemory};
 ghost use Rattle.uses.specs.Links.{AreLinks, AreTargets, Gains, GainsLink, IsRefusal, IsRefused, Reaches};
@@ -7,8 +7,8 @@ ghost use Rattle.uses.specs.Links.{AreLinks, AreTargets, Gains, GainsLink, IsRef
 use std::alloc::{AllocError, Global};
 use uriparse::{PathError, URI, URIError, URIReference, escape_invalid, trim_link};
 
-/// Where a link leads that stands in a page as people write it: without what is round it, with
-/// escapes for what a reference can't have, and against the page's base.
+/// The target of a link as people write it, against the page's base: the link is trimmed, escaped,
+/// read and resolved.
 ///
 /// Fails if the link is no reference even so, if it has no target, or if memory runs out.
 ///

@@ -85,8 +85,8 @@ impl<'p> Path<'p> {
         })
     }
 
-    /// A copy that owns its texts, in one call. Allocates each text, and lists of segments if there
-    /// is more than one.
+    /// A copy that owns its texts, in one call. Allocates a copy of each text and, for several
+    /// segments, two lists of them, one of which is freed again.
     pub fn to_owned(&self, alloc: Global) -> Result<Path<'static>, AllocError>
         ensures { IfOk result (λ p. p ≡ self.now) }
     {

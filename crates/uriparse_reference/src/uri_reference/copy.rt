@@ -121,8 +121,8 @@ impl<'r> URIReference<'r> {
         })
     }
 
-    /// A copy that owns its texts, in one call. Allocates each text, and lists of segments if there
-    /// is more than one.
+    /// A copy that owns its texts, in one call. Allocates a copy of each text and, for several
+    /// segments, two lists of them, one of which is freed again.
     pub fn to_owned(&self, alloc: Global) -> Result<URIReference<'static>, AllocError>
         ensures { IfOk result (λ r. r ≡ self.now) }
     {

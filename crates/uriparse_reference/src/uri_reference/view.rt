@@ -31,8 +31,9 @@ mod target;
 ///
 /// It borrows the text, and no call but [`to_reference`](ReferenceView::to_reference) allocates. So
 /// it suits a caller who reads many references and asks each for a component or two. What its calls
-/// return borrows the text too, not the view. Contracts see it as the components of a
-/// [`URIReference`]; two views are equal, and feed a hasher, as the references are that they build.
+/// return borrows the text too, not the view. Contracts see it as the text that was read and its
+/// components. Two views are equal if the [`URIReference`]s that they build are, and they hash alike
+/// then.
 ///
 /// ```
 /// let view = ReferenceView::try_from_str("https://user@example.com:80/a/b?q")?;

@@ -62,10 +62,11 @@ impl<'t> ReferenceView<'t> {
             && self.has_canonical_fragment()
     }
 
-    /// Whether the reference is in normal form, as
-    /// [`URIReference::is_normalized`](crate::uri_reference::URIReference::is_normalized) tells:
-    /// the text that it prints is that of its normal form. What reading itself changes does not
-    /// count, such as the case of a registered scheme. Does not allocate.
+    /// Whether the reference that the view builds is in normal form, as
+    /// [`URIReference::is_normalized`](crate::uri_reference::URIReference::is_normalized) reports:
+    /// the text that this reference prints is that of its normal form. What reading itself changes
+    /// does not count, such as the case of a registered scheme, so the view's own text may differ.
+    /// Does not allocate.
     pub fn is_normalized(&self) -> bool
         ensures text { IsTrue result ↔ (print (normal self.now.parts) ≡ print self.now.parts) }
         ensures form { IsTrue result → normal self.now.parts ≡ self.now.parts }
