@@ -62,13 +62,27 @@ pub use view::ReferenceView;
 /// assert!(reference == URIReference::try_from_str(alloc, "//H/~a?q#f")?);
 /// assert_eq!(reference.to_string(alloc)?.as_str(), "//h/%7Ea?q#f");
 /// ```
-#[derive(Drop)]
 pub struct URIReference<'r> {
     scheme: Option<Scheme<'r>>,
     authority: Option<Authority<'r>>,
     path: Path<'r>,
     query: Option<Query<'r>>,
     fragment: Option<Fragment<'r>>,
+}
+
+// By hand, so that a proof treats letting a reference go as one call: a derived destructor is
+// written out for all components at each exit of a caller.
+impl<'r> Drop for URIReference<'r> {
+    #[inline(always)]
+    fn drop(self) {
+        let URIReference {
+            scheme: _scheme,
+            authority: _authority,
+            path: _path,
+            query: _query,
+            fragment: _fragment,
+        } = self;
+    }
 }
 
 impl<'r> Model for URIReference<'r> {

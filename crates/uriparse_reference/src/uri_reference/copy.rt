@@ -110,8 +110,9 @@ impl<'r> URIReference<'r> {
     pub fn into_owned(self, alloc: Global) -> Result<URIReference<'static>, AllocError>
         ensures { IfOk result (λ r. r ≡ self.entry) }
     {
-        let (scheme, authority) = owned_front(alloc, self.scheme, self.authority)?;
-        let (path, query, fragment) = owned_tail(alloc, self.path, self.query, self.fragment)?;
+        let (scheme, authority, path, query, fragment) = self.into_parts();
+        let (scheme, authority) = owned_front(alloc, scheme, authority)?;
+        let (path, query, fragment) = owned_tail(alloc, path, query, fragment)?;
         Ok(URIReference {
             scheme,
             authority,

@@ -138,13 +138,14 @@ impl<'r> URIReference<'r> {
         ensures fragment { result.4 ≡ self.entry.fragment }
         ensures valid { Valid self.entry }
     {
-        (
-            self.scheme,
-            self.authority,
-            self.path,
-            self.query,
-            self.fragment,
-        )
+        let URIReference {
+            scheme,
+            authority,
+            path,
+            query,
+            fragment,
+        } = self;
+        (scheme, authority, path, query, fragment)
     }
 
     /// Sets or removes the scheme. With neither a scheme nor an authority, fails with
