@@ -2,6 +2,7 @@
 pub mod Kinds
 pub mod Uri
 pub mod RelativeReference
+pub mod Origin
 -- texts: RFC 3986, section 2
 pub use Rattle.uriparse_text.specs.Bytes
 pub use Rattle.uriparse_text.specs.Classes
@@ -26,6 +27,7 @@ pub use Rattle.uriparse_scheme.specs.Grammar as SchemeGrammar
 pub use Rattle.uriparse_scheme.specs.Scheme
 pub use Rattle.uriparse_scheme.specs.Unregistered
 pub use Rattle.uriparse_scheme.specs.Normal as SchemeNormal
+pub use Rattle.uriparse_scheme.specs.DefaultPort
 pub use Rattle.uriparse_scheme.specs.declared.scheme.Scheme as SchemeValue
 pub use Rattle.uriparse_scheme.specs.declared.scheme.registered.RegisteredScheme
 pub use Rattle.uriparse_scheme.specs.declared.scheme.microsoft.MicrosoftScheme
@@ -69,6 +71,8 @@ pub use Rattle.uriparse_reference.specs.Reading
 pub use Rattle.uriparse_reference.specs.View
 pub use Rattle.uriparse_reference.specs.Escaped
 pub use Rattle.uriparse_reference.specs.Into
+pub use Rattle.uriparse_reference.specs.Ports
+pub use Rattle.uriparse_reference.specs.Masked
 pub use Rattle.uriparse_reference.specs.Edits
 pub use Rattle.uriparse_reference.specs.Builder
 pub use Rattle.uriparse_reference.specs.Key

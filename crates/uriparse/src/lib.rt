@@ -20,7 +20,7 @@ pub mod uri;
 pub use builder_of::BuilderOf;
 pub use reference_of::ReferenceOf;
 pub use relative_reference::{RelativeReference, RelativeReferenceBuilder, RelativeReferenceError};
-pub use uri::{URI, URIBuilder, URIError};
+pub use uri::{Origin, URI, URIBuilder, URIError};
 pub use uriparse_authority::authority;
 pub use uriparse_authority::authority::{
     Authority, AuthorityError, Host, HostError, IPvFuture, IpAddr, Ipv4Addr, Ipv6Addr, Password,
@@ -31,7 +31,7 @@ pub use uriparse_path::path::{Path, PathError, PathOf, Segment, Segments};
 pub use uriparse_reference::uri_reference;
 pub use uriparse_reference::uri_reference::{
     BufferError, Edit, ReferenceView, URIReference, URIReferenceBuilder, URIReferenceError,
-    escape_invalid,
+    WithoutPassword, escape_invalid,
 };
 pub use uriparse_scheme::scheme;
 pub use uriparse_scheme::scheme::{Scheme, SchemeError, SchemeStatus, UnregisteredScheme};

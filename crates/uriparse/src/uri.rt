@@ -17,10 +17,12 @@ use uriparse_text::fragment::Fragment;
 use uriparse_text::query::Query;
 
 mod error;
+mod origin;
 mod relate;
 mod resolve;
 
 pub use error::URIError;
+pub use origin::Origin;
 
 /// The kind of reference that a URI is.
 pub struct WithScheme;

@@ -1,7 +1,8 @@
 -- Building a reference from its components, editing one, and lists of edits.
 use Rattle.std.specs.Prelude.{◌≡◌, ◌⊎◌, ℕ, suc, Bool, true, false, List, [], ◌∷◌, Option, Some, None, Result, Ok, Err, is_some}
-use Rattle.uriparse_text.specs.Readings.{unless_fault}
+use Rattle.uriparse_text.specs.Readings.{◌>>=◌, of_piece, unless_fault}
 use Rattle.uriparse_path.specs.Path as path
+use Rattle.uriparse_path.specs.Edits.{pushing}
 use Rattle.uriparse_reference.specs.declared.uri_reference.edit.Edit.{Edit}
 use Rattle.uriparse_reference.specs.declared.uri_reference.edit.Edit.TheVariants as edits
 use Rattle.uriparse_reference.specs.declared.uri_reference.error.URIReferenceError.{URIReferenceError}
@@ -35,6 +36,10 @@ edited p (edits.Path h) = of_parts (record p { path = h })
 edited p (edits.Query q) = Ok (record p { query = q })
 edited p (edits.Fragment f) = Ok (record p { fragment = f })
 edited p edits.Normalize = Ok (normal p)
+
+-- The reference with a segment appended to its path, or why not: the path is full, or may not stand in the reference.
+abbrev pub segment_pushed : Parts → List ℕ → Result Parts URIReferenceError
+segment_pushed p s = of_piece errors.Path (pushing p.path (Ok s)) >>= (λ h. edited p (edits.Path h))
 
 -- the components with one of them replaced, which may not build a reference; or their normal form
 abbrev pub replaced : Parts → Edit → Parts

@@ -7,6 +7,9 @@ use Rattle.uriparse_reference.specs.Reading.{reading}
 use Rattle.uriparse_reference.specs.Key.{key}
 use Rattle.uriparse_reference.specs.Normal.{normal, is_normal}
 use Rattle.uriparse_reference.specs.Target.{target}
+use Rattle.uriparse_reference.specs.Edits.{segment_pushed}
+use Rattle.uriparse_reference.specs.Ports.{port_or_default, without_default_port}
+use Rattle.uriparse_reference.specs.Masked.{masked}
 
 -- ---- results for a text
 
@@ -147,3 +150,21 @@ relative_form_rows =
     ∷ row (codes "%2E%2e/a") (codes "../a")
     ∷ row (codes "/a/..//b") (codes "/.//b")
     ∷ []
+
+-- ---- changes
+
+-- the printed text without a default port
+abbrev pub portless : List ℕ → Option (List ℕ)
+portless t = option_map (λ p. print (without_default_port p)) (read t)
+
+-- the port, or the default one
+abbrev pub used_port : List ℕ → Option (Option ℕ)
+used_port t = option_map port_or_default (read t)
+
+-- the printed text with a hidden password
+abbrev pub shown : List ℕ → Option (List ℕ)
+shown t = option_map (λ p. print (masked p)) (read t)
+
+-- the printed text with a segment appended
+abbrev pub lengthened : List ℕ → List ℕ → Option (List ℕ)
+lengthened t s = option_and_then (λ p. option_map print (if_ok (segment_pushed p s))) (read t)

@@ -12,3 +12,5 @@ pub mod Target
 pub mod Relate
 pub mod Examples
 pub mod Into
+pub mod Ports
+pub mod Masked

@@ -18,8 +18,9 @@ ghost use Rattle.uriparse_reference.specs.Reference.{Parts, Spells, Valid, Reads
 ghost use Rattle.uriparse_reference.specs.Cuts.{scheme_text, authority_text, path_text, query_text, fragment_text};
 ghost use Rattle.uriparse_reference.specs.Escaped.{escaped, escaped_authority, escaped_component, escaped_path, fault_left};
 ghost use Rattle.uriparse_reference.specs.Edits.{IsWant, Run, edited, of_parts, replaced};
+ghost use Rattle.uriparse_reference.specs.Ports.{port_or_default, without_default_port};
 ghost use Rattle.uriparse_reference.specs.Builder.{built, held};
-ghost use Rattle.uriparse_reference.specs.Examples.{are_equal, hold, is_normalised, normal_form_rows, normalised, normalised_first, normal_rows, relative_form_rows, abnormal_rows, resolved, resolved_first, rfc_base};
+ghost use Rattle.uriparse_reference.specs.Examples.{are_equal, hold, is_normalised, lengthened, normal_form_rows, normalised, normalised_first, normal_rows, portless, relative_form_rows, abnormal_rows, resolved, resolved_first, rfc_base, shown, used_port};
 ghost use Rattle.uriparse_reference.specs.Key.{fed, fed_key, key};
 ghost use Rattle.uriparse_reference.specs.declared.uri_reference.edit.Edit.{Edit};
 ghost use Rattle.uriparse_reference.specs.declared.uri_reference.error.URIReferenceError.{URIReferenceError};
@@ -149,6 +150,27 @@ pub fn normalising_commutes()
 pub fn one_edit()
     ensures own { (p : Parts) → Valid p → of_parts p ≡ Ok p }
     ensures replaced { (p : Parts) (e : Edit) → Valid p → edited p e ≡ of_parts (replaced p e) }
+{}
+
+/// Without a port that is its scheme's default one, a reference is valid and has the same port in
+/// use. To leave that port out twice is to leave it out once.
+pub fn one_default_port()
+    ensures valid { (p : Parts) → Valid p → Valid (without_default_port p) }
+    ensures port { (p : Parts) → port_or_default (without_default_port p) ≡ port_or_default p }
+    ensures twice { (p : Parts) → without_default_port (without_default_port p) ≡ without_default_port p }
+{}
+
+/// Examples of ports, of segments appended, and of hidden passwords.
+pub fn change_examples()
+    ensures port { used_port (codes "HTTP://h/") ≡ Some (Some 80) }
+    ensures own_port { used_port (codes "https://h:8443/") ≡ Some (Some 8443) }
+    ensures no_port { (used_port (codes "x-y://h/") ≡ Some None) × (used_port (codes "http:/a") ≡ Some None) }
+    ensures default { portless (codes "http://u@h:0080/a") ≡ Some (codes "http://u@h/a") }
+    ensures other { (portless (codes "https://h:80/a") ≡ Some (codes "https://h:80/a")) × (portless (codes "//h:80/a") ≡ Some (codes "//h:80/a")) }
+    ensures password { shown (codes "ftp://u:secret@h/a") ≡ Some (codes "ftp://u:***@h/a") }
+    ensures no_password { shown (codes "ftp://u@h/a") ≡ Some (codes "ftp://u@h/a") }
+    ensures appended { (lengthened (codes "http://h/a?q") (codes "b") ≡ Some (codes "http://h/a/b?q")) × (lengthened (codes "s:") (codes "a:b") ≡ Some (codes "s:a:b")) }
+    ensures misplaced { (lengthened (codes "") (codes "a:b") ≡ None) × (lengthened (codes "s:/") (codes "") ≡ None) }
 {}
 
 /// A builder with the components of a valid reference builds that reference.

@@ -32,18 +32,22 @@ mod edit;
 mod error;
 mod escape;
 mod kind;
+mod masked;
 mod normal;
+mod port;
 mod print;
 pub(crate) mod read;
 pub(crate) mod relate;
 pub(crate) mod resolve;
+mod segment;
 mod view;
 
 pub use builder::URIReferenceBuilder;
 pub use edit::Edit;
 pub use error::{BufferError, URIReferenceError};
 pub use escape::escape_invalid;
-use print::{len_of_scheme, most_of_authority, write_authority, write_behind, write_scheme};
+pub use masked::WithoutPassword;
+use print::{len_of_scheme, most_of_authority, write_authority, write_back, write_scheme};
 use read::{find_pieces, make_path};
 pub use view::ReferenceView;
 
@@ -351,9 +355,7 @@ impl<'r> fmt::Display for URIReference<'r> {
     fn fmt<W: fmt::Write>(&self, f: &mut fmt::Formatter<W>) -> fmt::Result {
         write_scheme(&self.scheme, f)?;
         write_authority(&self.authority, f)?;
-        fmt::Display::fmt(&self.path, f)?;
-        write_behind("?", self.query.as_ref().map(Query::as_str), f)?;
-        write_behind("#", self.fragment.as_ref().map(Fragment::as_str), f)
+        write_back(&self.path, &self.query, &self.fragment, f)
     }
 }
 

@@ -5,3 +5,4 @@ pub mod Scheme
 pub mod Cuts
 pub mod Unregistered
 pub mod Normal
+pub mod DefaultPort

@@ -19,6 +19,7 @@ mod error;
 mod find;
 mod lookup;
 mod microsoft;
+mod port;
 pub(crate) mod read;
 mod registered;
 mod rows;

@@ -7,6 +7,7 @@ use super::ReferenceOf;
 use crate::kind::ReferenceKind;
 use uriparse_authority::authority::{Authority, Host, Password, Username};
 use uriparse_path::path::Path;
+use uriparse_reference::uri_reference::WithoutPassword;
 use uriparse_text::fragment::Fragment;
 use uriparse_text::query::Query;
 
@@ -110,5 +111,13 @@ impl<'r, K: ReferenceKind> ReferenceOf<'r, K> {
         ensures { result ≡ is_some self.now.fragment }
     {
         self.reference.has_fragment()
+    }
+
+    /// The same as it may be shown: prints `***` in place of the password, if there is one. Does not
+    /// allocate.
+    pub fn without_password(&self) -> WithoutPassword<'_, 'r>
+        ensures { result ≡ self.now }
+    {
+        self.reference.without_password()
     }
 }

@@ -1,14 +1,18 @@
 //! Changing the components of a URI or a relative reference.
-ghost use Rattle.std.specs.Prelude.{◌≡◌};
-ghost use Rattle.uriparse_text.specs.Readings.{Settles};
+ghost use Rattle.std.specs.Prelude.{◌≡◌, Ok};
+ghost use Rattle.uriparse_text.specs.Readings.{Settles, SettlesUnless};
+ghost use Rattle.uriparse_path.specs.Edits.{popped};
+ghost use Rattle.uriparse_path.specs.declared.path.error.PathError.TheVariants.{OutOfMemory};
 ghost use Rattle.uriparse_reference.specs.declared.uri_reference.edit.Edit.TheVariants as edits;
-ghost use Rattle.uriparse_reference.specs.Edits.{edited};
+ghost use Rattle.uriparse_reference.specs.declared.uri_reference.error.URIReferenceError.TheVariants as errors;
+ghost use Rattle.uriparse_reference.specs.Edits.{edited, segment_pushed};
 ghost use Rattle.uriparse.specs.Kinds.{told_of};
 
 use super::ReferenceOf;
 use crate::kind::{ReferenceKind, told};
+use std::alloc::Global;
 use uriparse_authority::authority::Authority;
-use uriparse_path::path::Path;
+use uriparse_path::path::{Path, Segment};
 use uriparse_text::fragment::Fragment;
 use uriparse_text::query::Query;
 
@@ -31,6 +35,24 @@ impl<'r, K: ReferenceKind> ReferenceOf<'r, K> {
         ensures { Settles self.old self.new result (told_of K.told (edited self.old (edits.Path path.entry))) }
     {
         told::<K, _>(self.reference.set_path(path))
+    }
+
+    /// Appends a segment to the path, as
+    /// [`push_segment`](uriparse_reference::uri_reference::URIReference::push_segment) does, with errors mapped to the kind's. On an
+    /// error the value is unchanged. Allocates if the list of segments has to grow.
+    pub fn push_segment(&mut self, alloc: Global, segment: Segment<'r>) -> Result<(), K::Error>
+        ensures { SettlesUnless (K.told (errors.Path OutOfMemory)) self.old self.new result (told_of K.told (segment_pushed self.old segment.entry)) }
+    {
+        told::<K, _>(self.reference.push_segment(alloc, segment))
+    }
+
+    /// Removes the last segment of the path: the only one is replaced by an empty one. Does not
+    /// allocate.
+    pub fn pop_segment(&mut self)
+        ensures value { self.new ≡ record self.old { path = popped self.old.path } }
+        ensures edited { edited self.old (edits.Path (popped self.old.path)) ≡ Ok self.new }
+    {
+        self.reference.pop_segment();
     }
 
     /// Sets or removes the query. Always succeeds. Does not allocate.

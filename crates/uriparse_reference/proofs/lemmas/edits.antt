@@ -1,3 +1,5 @@
 pub mod PathRuleLemmas
 pub mod EditLemmas
 pub mod EditListLemmas
+pub mod SegmentLemmas
+pub mod PortLemmas

@@ -43,7 +43,7 @@ pub enum Edit<'e> {
 }
 
 /// Why the path is not allowed, given whether there is a scheme and an authority.
-fn place_refusal(
+pub(super) fn place_refusal(
     has_scheme: bool,
     has_authority: bool,
     path: &Path<'_>,
@@ -64,15 +64,23 @@ fn place_refusal(
     Some(URIReferenceError::SchemelessPathStartsWithColonSegment)
 }
 
+/// Makes the path the one that a reference holds, with or without an authority.
+pub(super) fn settle_path(has_authority: bool, path: &mut Path<'_>)
+    ensures { path.new ≡ placed has_authority path.old }
+{
+    if has_authority {
+        path.set_absolute(true);
+    } else {
+        respell(path);
+    }
+}
+
 /// The path as a reference holds it, with or without an authority.
 fn place(has_authority: bool, path: Path<'_>) -> Path<'_>
     ensures { result ≡ placed has_authority path.entry }
 {
-    if has_authority {
-        return into_absolute(path);
-    }
     let mut path = path;
-    respell(&mut path);
+    settle_path(has_authority, &mut path);
     path
 }
 

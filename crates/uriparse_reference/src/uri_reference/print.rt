@@ -1,17 +1,21 @@
 //! The text of a reference: RFC 3986, section 5.3.
-ghost use Rattle.std.specs.Prelude.{◌≡◌, ◌≤◌, ◌⊎◌, [], length, slice_index, unwrap_or};
+ghost use Rattle.std.specs.Prelude.{◌≡◌, ◌≤◌, ◌⊎◌, ◌++◌, [], length, slice_index, unwrap_or};
 ghost use Rattle.std.specs.Option.{option_copied, option_map};
 ghost use Rattle.std.specs.Fmt.{WritesOnOk, WritesStyledOnOk};
-ghost use Rattle.uriparse_text.specs.Bytes.{colon};
+ghost use Rattle.uriparse_text.specs.Bytes.{colon, number_sign, question_mark};
 ghost use Rattle.uriparse_text.specs.Cuts.{ahead, behind};
 ghost use Rattle.uriparse_authority.specs.Authority as authorities;
+ghost use Rattle.uriparse_path.specs.Path as paths;
 ghost use Rattle.uriparse_scheme.specs.Scheme as schemes;
 ghost use Rattle.uriparse_reference.specs.Reference.{behind_slashes};
 
 use std::fmt;
 use uriparse_authority::authority::Authority;
 use uriparse_authority::internal::most_authority_bytes;
+use uriparse_path::path::Path;
 use uriparse_scheme::scheme::Scheme;
+use uriparse_text::fragment::Fragment;
+use uriparse_text::query::Query;
 
 /// The number of bytes of the scheme, 0 without one.
 pub(super) fn len_of_scheme(scheme: &Option<Scheme<'_>>) -> usize
@@ -64,7 +68,7 @@ pub(super) fn write_authority<W: fmt::Write>(
 }
 
 /// Writes a delimiter and the component that follows it, if there is one.
-pub(super) fn write_behind<W: fmt::Write>(
+fn write_behind<W: fmt::Write>(
     mark: &str,
     part: Option<&str>,
     f: &mut fmt::Formatter<W>,
@@ -78,4 +82,19 @@ pub(super) fn write_behind<W: fmt::Write>(
         f.write_str(text)?;
     }
     Ok(())
+}
+
+/// Writes the path, and the query and the fragment, if there are any, after their delimiters.
+pub(super) fn write_back<W: fmt::Write>(
+    path: &Path<'_>,
+    query: &Option<Query<'_>>,
+    fragment: &Option<Fragment<'_>>,
+    f: &mut fmt::Formatter<W>,
+) -> fmt::Result
+    ensures writes { WritesOnOk W.write_str_gives f.old result (paths.text path.now ++ (behind question_mark query.now ++ behind number_sign fragment.now)) f.new }
+    ensures styled { WritesStyledOnOk W.write_str_gives f.old result (paths.text path.now ++ (behind question_mark query.now ++ behind number_sign fragment.now)) f.new }
+{
+    fmt::Display::fmt(path, f)?;
+    write_behind("?", query.as_ref().map(Query::as_str), f)?;
+    write_behind("#", fragment.as_ref().map(Fragment::as_str), f)
 }

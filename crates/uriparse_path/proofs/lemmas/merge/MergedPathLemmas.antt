@@ -18,7 +18,7 @@ use Rattle.uriparse_path.proofs.lemmas.reading.ReadingLemmas.{limit_is}
 pub some_before : (front l : List (List ℕ)) → 0 < length l → 0 < length (front ++ l)
 some_before front l h = omega (arith, length-append front l)
 
-each_cut : (l : List (List ℕ)) → list_all is_segment l ≡ true → list_all is_segment (all_but_last l) ≡ true
+pub each_cut : (l : List (List ℕ)) → list_all is_segment l ≡ true → list_all is_segment (all_but_last l) ≡ true
 each_cut [] h = refl
 each_cut (s ∷ []) h = refl
 each_cut (s ∷ r ∷ l) h = let both = and_parts (is_segment s) (list_all is_segment (r ∷ l)) h in and_from _ _ both.0 (each_cut (r ∷ l) both.1)

@@ -89,7 +89,7 @@ noscheme-text (s ∷ ss) is =
 
 -- ---- the path of a valid reference
 
-plain_formed : (p : PathParts) → has_hidden_root p ≡ false → respelled p ≡ p
+pub plain_formed : (p : PathParts) → has_hidden_root p ≡ false → respelled p ≡ p
 plain_formed p h = ap (λ w. cond w (make true (drop 1 p.segments)) p) h
 
 formed_plain : (p : PathParts) → respelled p ≡ p → has_hidden_root p ≡ false
