@@ -23,6 +23,7 @@ pub(crate) mod normal;
 mod password;
 mod port;
 mod print;
+mod printed;
 pub(crate) mod read;
 mod username;
 

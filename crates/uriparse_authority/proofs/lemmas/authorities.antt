@@ -8,3 +8,4 @@ pub mod PieceLemmas
 pub mod LengthLemmas
 pub mod FaultLemmas
 pub mod EndLemmas
+pub mod SameTextLemmas
