@@ -41,7 +41,7 @@ mod view;
 
 pub use builder::URIReferenceBuilder;
 pub use edit::Edit;
-pub use error::{BufferError, URIReferenceError};
+pub use error::{BufferError, TargetError, URIReferenceError};
 pub use escape::escape_invalid;
 use print::{len_of_scheme, most_of_authority, write_authority, write_behind, write_scheme};
 use read::{find_pieces, make_path};
