@@ -19,8 +19,10 @@ use uriparse_text::query::Query;
 mod error;
 mod relate;
 mod resolve;
+mod view;
 
 pub use error::URIError;
+pub use view::URIView;
 
 /// The kind of reference that a URI is.
 pub struct WithScheme;
