@@ -21,6 +21,7 @@ mod into;
 mod name;
 pub(crate) mod normal;
 mod password;
+pub(crate) mod place;
 mod port;
 mod print;
 pub(crate) mod read;

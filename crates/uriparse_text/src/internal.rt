@@ -11,6 +11,7 @@ mod digit;
 mod ends;
 mod found;
 mod pairs;
+mod place;
 mod print;
 mod printed;
 mod run;
@@ -29,6 +30,7 @@ pub use copy::{borrowed_text, canonical_copy, is_canonical_part, owned_text, put
 pub use cut::{split_at_mark, without_mark};
 pub use ends::{Form, put, put_behind, put_formed};
 pub use found::{Found, find_text_before, find_text_if, no_text};
+pub use place::place_of_fault;
 pub use print::write_plain;
 pub use printed::{put_decimal, put_ipv4, put_ipv6};
 pub use scan::{ByteTest, Is, IsAny, Outside, first, next_marks, next_marks_by_two};

@@ -1,6 +1,6 @@
 //! Laws of the definitions that contracts cite. Each function does nothing: its contract is the
 //! law.
-ghost use Rattle.std.specs.Prelude.{◌≡◌, ◌==◌, ◌↔◌, ◌<◌, ◌∷◌, ◌++◌, ℕ, List, [], Some, None, true, false, flat_map, length, map, not, codes};
+ghost use Rattle.std.specs.Prelude.{◌≡◌, ◌==◌, ◌↔◌, ◌<◌, ◌∷◌, ◌++◌, ℕ, List, [], Some, None, true, false, flat_map, length, map, not, codes, drop, take, slice_get};
 ghost use Rattle.std.specs.Char.{is_ascii_whitespace};
 ghost use Rattle.std.specs.List.{filter, list_all};
 ghost use Rattle.uriparse_text.specs.declared.internal.token.Token.{Token};
@@ -11,6 +11,7 @@ ghost use Rattle.uriparse_text.specs.declared.internal.canonical.Case.TheVariant
 ghost use Rattle.uriparse_text.specs.Bytes.{is_among, left_bracket, right_bracket};
 ghost use Rattle.uriparse_text.specs.Tokens.{is_well_formed, spell, IsConcatenation};
 ghost use Rattle.uriparse_text.specs.Faults.{fault, IsIn, IsOfClass, HasFaultAt};
+ghost use Rattle.uriparse_text.specs.Place.{fault_place};
 ghost use Rattle.uriparse_text.specs.Canonical.{canonical_token, canonical_in, fed_bytes};
 ghost use Rattle.uriparse_text.specs.Coding.{are_bytes, decoded, escaped_in, form_decoded};
 ghost use Rattle.uriparse_text.specs.Cuts.{lacks, none_pass};
@@ -24,6 +25,13 @@ pub fn one_leftmost_fault()
     ensures class { (class : Class) (text : List ℕ) → IsIn class text ↔ IsOfClass class text }
     ensures none { (class : Class) (text : List ℕ) → (fault class text ≡ None) ↔ IsOfClass class text }
     ensures place { (class : Class) (text : List ℕ) (byte : ℕ) → (fault class text ≡ Some byte) ↔ HasFaultAt class text byte }
+{}
+
+/// The fault is that of the byte at its place, and what precedes this place has none.
+pub fn one_place_of_fault()
+    ensures byte { (class : Class) (text : List ℕ) → fault class text ≡ slice_get (drop (fault_place class text) text) 0 }
+    ensures before { (class : Class) (text : List ℕ) → fault class (take (fault_place class text) text) ≡ None }
+    ensures within { (class : Class) (text : List ℕ) (byte : ℕ) → fault class text ≡ Some byte → fault_place class text < length text }
 {}
 
 /// A text is well formed exactly if it is a concatenation of tokens, which are then unique.

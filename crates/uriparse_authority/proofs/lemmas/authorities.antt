@@ -7,4 +7,5 @@ pub mod PrintedLemmas
 pub mod PieceLemmas
 pub mod LengthLemmas
 pub mod FaultLemmas
+pub mod PlaceLemmas
 pub mod EndLemmas
