@@ -24,7 +24,10 @@ pub use alike::same_spelling;
 pub use bits::{count_below, lowest, without, without_lowest};
 pub use canonical::{Case, canonical_bytes, feed_spelling, feed_text, is_canonical};
 pub use class::Class;
-pub use coding::{form_decoded_bytes, most_escaped_bytes, push_encoded, push_escaped, represents};
+pub use coding::{
+    compare_represented, form_decoded_bytes, most_escaped_bytes, push_encoded, push_escaped,
+    represents,
+};
 pub use copy::{borrowed_text, canonical_copy, is_canonical_part, owned_text, put_copy};
 pub use cut::{split_at_mark, without_mark};
 pub use ends::{Form, put, put_behind, put_formed};
