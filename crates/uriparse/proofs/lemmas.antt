@@ -1,3 +1,4 @@
 pub mod KindLemmas
+pub mod ViewLemmas
 pub mod BuilderLemmas
 pub mod ResolveLemmas

@@ -6,6 +6,7 @@ use Rattle.uriparse_reference.specs.declared.uri_reference.error.URIReferenceErr
 use Rattle.uriparse_reference.specs.Reference.{Parts}
 use Rattle.uriparse_reference.specs.Builder.{Held}
 use Rattle.uriparse_reference.specs.Reading.{reading}
+use Rattle.uriparse_reference.specs.View.{Viewed}
 
 -- the same result, its error mapped to another
 abbrev pub told_of : {E F A : Type 0} → (E → F) → Result A E → Result A F
@@ -26,6 +27,12 @@ reading_of has_scheme told other t = told_of told (reading t) >>= of_kind has_sc
 -- why a text is rejected
 abbrev pub fault_of : {E : Type 0} → Bool → (URIReferenceError → E) → E → List ℕ → Option E
 fault_of has_scheme told other t = fault_in (reading_of has_scheme told other t)
+
+-- What viewing a text returns: the text with its components, or why it is rejected.
+abbrev pub viewed_of : {E : Type 0} → Bool → (URIReferenceError → E) → E → List ℕ → Result Viewed E
+viewed_of has_scheme told other t = do
+  parts ← reading_of has_scheme told other t
+  Ok (record { text = t; parts = parts })
 
 -- a builder holds a scheme only where the kind has one
 abbrev pub HoldsKind : Bool → Held → Type 0

@@ -6,8 +6,9 @@
 //!
 //! Some types are aliases of a more general one, whose docs list their calls: [`Query`],
 //! [`Fragment`], [`Username`] and [`Password`] are each a [`Text`], [`Path`] is a [`PathOf`],
-//! [`URI`] and [`RelativeReference`] are each a [`ReferenceOf`], and their builders a
-//! [`BuilderOf`]. A function over all texts takes a `Text<'_, K>` of any `K: TextKind`.
+//! [`URI`] and [`RelativeReference`] are each a [`ReferenceOf`], their builders a [`BuilderOf`],
+//! and their views a [`ViewOf`]. A function over all texts takes a `Text<'_, K>` of any
+//! `K: TextKind`.
 #![tactic(auto)]
 
 mod builder_of;
@@ -16,11 +17,14 @@ pub mod laws;
 mod reference_of;
 pub mod relative_reference;
 pub mod uri;
+mod view_of;
 
 pub use builder_of::BuilderOf;
 pub use reference_of::ReferenceOf;
-pub use relative_reference::{RelativeReference, RelativeReferenceBuilder, RelativeReferenceError};
-pub use uri::{Origin, URI, URIBuilder, URIError};
+pub use relative_reference::{
+    RelativeReference, RelativeReferenceBuilder, RelativeReferenceError, RelativeReferenceView,
+};
+pub use uri::{Origin, URI, URIBuilder, URIError, URIView};
 pub use uriparse_authority::authority;
 pub use uriparse_authority::authority::{
     Authority, AuthorityError, Host, HostError, IPvFuture, IpAddr, Ipv4Addr, Ipv6Addr, Password,
@@ -30,8 +34,8 @@ pub use uriparse_path::path;
 pub use uriparse_path::path::{Path, PathError, PathOf, Segment, Segments};
 pub use uriparse_reference::uri_reference;
 pub use uriparse_reference::uri_reference::{
-    BufferError, Edit, ReferenceView, URIReference, URIReferenceBuilder, URIReferenceError,
-    WithoutPassword, escape_invalid,
+    BufferError, Edit, ReferenceView, TargetError, URIReference, URIReferenceBuilder,
+    URIReferenceError, WithoutPassword, escape_invalid,
 };
 pub use uriparse_scheme::scheme;
 pub use uriparse_scheme::scheme::{Scheme, SchemeError, SchemeStatus, UnregisteredScheme};
@@ -40,3 +44,4 @@ pub use uriparse_text::internal::{Text, TextKind};
 pub use uriparse_text::link::trim_link;
 pub use uriparse_text::query::{Query, QueryError};
 pub use uriparse_text::{fragment, query};
+pub use view_of::ViewOf;

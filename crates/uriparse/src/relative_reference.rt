@@ -1,5 +1,5 @@
 //! A relative reference: RFC 3986, section 4.2.
-ghost use Rattle.std.specs.Prelude.{◌≡◌, None};
+ghost use Rattle.std.specs.Prelude.{◌≡◌, IfOk, IsOk, None, length};
 ghost use Rattle.uriparse_reference.specs.Edits.{of_parts};
 ghost use Rattle.uriparse_reference.specs.Kinds as kinds;
 ghost use Rattle.uriparse.specs.Kinds.{told_of};
@@ -8,6 +8,8 @@ ghost use Rattle.uriparse.specs.RelativeReference as spec;
 use crate::builder_of::BuilderOf;
 use crate::kind::ReferenceKind;
 use crate::reference_of::ReferenceOf;
+use crate::view_of::ViewOf;
+use std::alloc::{AllocError, Global};
 use uriparse_authority::authority::Authority;
 use uriparse_path::path::Path;
 use uriparse_reference::uri_reference::{URIReference, URIReferenceError};
@@ -74,6 +76,29 @@ pub type RelativeReference<'r> = ReferenceOf<'r, WithoutScheme>;
 /// assert_eq!(builder.build()?.to_string(alloc)?.as_str(), "a");
 /// ```
 pub type RelativeReferenceBuilder<'b> = BuilderOf<'b, WithoutScheme>;
+
+/// A relative reference in its text: a [`ReferenceView`](crate::ReferenceView) without a scheme.
+/// The calls that it shares with views of URIs are those of [`ViewOf`].
+///
+/// ```
+/// let view = RelativeReferenceView::try_from_str("../a?q")?;
+/// assert!(view.as_reference_view().path() == "../a");
+/// assert!(RelativeReferenceView::try_from_str("s:a").is_err());
+/// ```
+pub type RelativeReferenceView<'r> = ViewOf<'r, WithoutScheme>;
+
+impl<'r> RelativeReferenceView<'r> {
+    /// The relative reference, whose components borrow the text. Allocates only for the list of the
+    /// path's segments, if there is more than one; no byte is checked again.
+    pub fn to_relative_reference(&self, alloc: Global) -> Result<RelativeReference<'r>, AllocError>
+        ensures reference { IfOk result (λ r. r ≡ self.now.parts) }
+
+        // A path of one segment takes no memory.
+        ensures takes_no_memory { length self.now.parts.path.segments ≡ 1 → IsOk result }
+    {
+        self.to_value(alloc)
+    }
+}
 
 impl<'r> RelativeReference<'r> {
     ghost use Rattle.uriparse_reference.specs.Reference.{Valid};

@@ -20,9 +20,11 @@ mod error;
 mod origin;
 mod relate;
 mod resolve;
+mod view;
 
 pub use error::URIError;
 pub use origin::Origin;
+pub use view::URIView;
 
 /// The kind of reference that a URI is.
 pub struct WithScheme;

@@ -5,6 +5,7 @@ pub mod Port
 pub mod Future
 pub mod Host
 pub mod Authority
+pub mod Place
 pub mod Normal
 pub mod Found
 pub mod Ends

@@ -21,8 +21,10 @@ mod into;
 mod name;
 pub(crate) mod normal;
 mod password;
+pub(crate) mod place;
 mod port;
 mod print;
+mod printed;
 pub(crate) mod read;
 mod username;
 

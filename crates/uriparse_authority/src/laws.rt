@@ -1,6 +1,6 @@
 //! Laws of the definitions that contracts cite. Each function does nothing: its contract is the
 //! law.
-ghost use Rattle.std.specs.Prelude.{◌≡◌, ◌↔◌, ◌⊎◌, ◌∷◌, ◌++◌, true, false, ℕ, codes, IfSome, List, [], Err, None, Ok, Option, Some, decimal};
+ghost use Rattle.std.specs.Prelude.{◌≡◌, ◌↔◌, ◌⊎◌, ◌∷◌, ◌++◌, true, false, ℕ, ◌<◌, codes, length, IfSome, List, [], Err, None, Ok, Option, Some, decimal};
 ghost use Rattle.uriparse_text.specs.Bytes.{at_sign, colon, right_bracket};
 ghost use Rattle.uriparse_text.specs.Cuts.{lacks, none_pass};
 ghost use Rattle.uriparse_authority.specs.declared.authority.error.AuthorityError.{AuthorityError};
@@ -18,6 +18,7 @@ ghost use Rattle.uriparse_authority.specs.Future as future;
 ghost use Rattle.uriparse_authority.specs.Host as host;
 ghost use Rattle.uriparse_authority.specs.Port as port;
 ghost use Rattle.uriparse_authority.specs.Normal.{canonical_host, canonical_authority};
+ghost use Rattle.uriparse_authority.specs.Place.{fault_place};
 ghost use Rattle.uriparse_authority.specs.Authority.{AuthorityParts, Spells, Valid, ReadsBack, canonical_text, ends_authority, fault, fed, fed_key, host_text, joined, key, kind, password_text, port_text, print, reading, rest_error, username_text, whole_reading};
 
 /// Reading returns exactly what a text spells: a host, a name by itself, an address of a later
@@ -50,6 +51,11 @@ pub fn first_fault()
     ensures unsupported_host { (t : List ℕ) → host.reading t ≡ Err host_errors.AddressMechanismNotSupported → ⊥ }
     ensures unsupported { (a : List ℕ) → fault a ≡ Some (errors.Host host_errors.AddressMechanismNotSupported) → ⊥ }
     ensures colon { (a : List ℕ) → fault a ≡ Some (errors.Username username_errors.ContainsColon) → ⊥ }
+{}
+
+/// The place of an authority's fault precedes the end of the text.
+pub fn one_place_of_fault()
+    ensures { (a : List ℕ) (e : AuthorityError) → fault a ≡ Some e → fault_place e a < length a }
 {}
 
 /// Every text is the concatenation of its components. The user name has none of the delimiters that

@@ -2,6 +2,7 @@ pub mod Segment
 pub mod Path
 pub mod Text
 pub mod Faults
+pub mod Place
 pub mod Dots
 pub mod Relative
 pub mod Normal

@@ -13,6 +13,7 @@ ghost use Rattle.uriparse_path.specs.Relate.{leading, no_path};
 ghost use Rattle.uriparse_path.specs.Normal.{is_canonical, is_normal_at, normal_at};
 
 pub use crate::path::normal::Place;
+pub use crate::path::place::place_of_path_fault;
 pub use crate::path::read::{PathFront, counted_path, split_path};
 pub use crate::path::text::into::{put_merged, put_normal_path, put_undotted};
 pub use crate::path::text::normal::is_normal_path_text;

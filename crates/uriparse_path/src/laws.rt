@@ -1,12 +1,14 @@
 //! Laws of the definitions that contracts cite. Each function does nothing: its contract is the
 //! law.
-ghost use Rattle.std.specs.Prelude.{◌≡◌, ◌<◌, ◌≤◌, ◌↔◌, ◌∷◌, [], ℕ, List, Bool, None, Some, Ok, Err, codes, length, map, true, false};
+ghost use Rattle.std.specs.Prelude.{◌≡◌, ◌<◌, ◌≤◌, ◌↔◌, ◌∷◌, [], ℕ, List, Bool, None, Some, Ok, Err, codes, length, map, take, true, false};
 ghost use Rattle.std.specs.List.{list_all, slice_split, join_with_byte};
 ghost use Rattle.uriparse_text.specs.Bytes.{slash};
 ghost use Rattle.uriparse_text.specs.Canonical.{canonical};
 ghost use Rattle.uriparse_path.specs.Segment.{is_segment};
 ghost use Rattle.uriparse_path.specs.Path.{PathParts, IsListed, IsPath, max_segments, is_slash, is_rooted, pieces, text, spelled, respelled};
 ghost use Rattle.uriparse_path.specs.Faults.{PassesLimit, fault};
+ghost use Rattle.uriparse_path.specs.declared.path.error.PathError.{PathError};
+ghost use Rattle.uriparse_path.specs.Place.{fault_place};
 ghost use Rattle.uriparse_path.specs.Dots.{has_dot_segment, Step, Undots, replay, rooted_after, replayed, undot, without_dots};
 ghost use Rattle.uriparse_path.specs.Relative.{is_first, has_colon, Leads, IsIrreducible, IsRelNormal, reduced, relative_normal};
 ghost use Rattle.uriparse_path.specs.Edits.{cleared, popped, pushed, pushing};
@@ -36,6 +38,12 @@ pub fn no_fault()
 /// path may have and a slash follows it.
 pub fn length_fault()
     ensures { (t : List ℕ) → (fault t ≡ Some errors.ExceededMaximumLength) ↔ PassesLimit t }
+{}
+
+/// What precedes the place of a fault has none, and the place precedes the end of the text.
+pub fn one_place_of_fault()
+    ensures before { (t : List ℕ) → fault (take (fault_place t) t) ≡ None }
+    ensures within { (t : List ℕ) (e : PathError) → fault t ≡ Some e → fault_place t < length t }
 {}
 
 /// Splitting at slashes and joining with slashes undo each other.

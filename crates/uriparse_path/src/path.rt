@@ -32,6 +32,7 @@ mod error;
 mod list;
 mod merge;
 pub(crate) mod normal;
+pub(crate) mod place;
 pub(crate) mod read;
 mod reduce;
 mod relate;

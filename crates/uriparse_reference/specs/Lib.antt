@@ -5,6 +5,7 @@ pub mod Edits
 pub mod Builder
 pub mod Key
 pub mod Reading
+pub mod Place
 pub mod View
 pub mod Escaped
 pub mod Normal

@@ -26,6 +26,15 @@ ghost use Rattle.uriparse_reference.specs.declared.uri_reference.edit.Edit.{Edit
 ghost use Rattle.uriparse_reference.specs.declared.uri_reference.error.URIReferenceError.{URIReferenceError};
 ghost use Rattle.uriparse_reference.specs.declared.uri_reference.error.URIReferenceError.TheVariants as errors;
 ghost use Rattle.uriparse_reference.specs.Reading.{reading, fault};
+ghost use Rattle.uriparse_reference.specs.Place.{fault_place, first_fault};
+ghost use Rattle.uriparse_path.specs.Place.{place_within};
+ghost use Rattle.uriparse_path.specs.declared.path.error.PathError.TheVariants as path_errors;
+ghost use Rattle.uriparse_text.specs.declared.query.QueryError.TheVariants as query_errors;
+ghost use Rattle.uriparse_text.specs.declared.fragment.FragmentError.TheVariants as fragment_errors;
+ghost use Rattle.uriparse_authority.specs.declared.authority.error.HostError.TheVariants as host_errors;
+ghost use Rattle.uriparse_authority.specs.declared.authority.error.PasswordError.TheVariants as password_errors;
+ghost use Rattle.uriparse_authority.specs.declared.authority.error.PortError.TheVariants as port_errors;
+ghost use Rattle.uriparse_authority.specs.declared.authority.error.UsernameError.TheVariants as username_errors;
 ghost use Rattle.uriparse_reference.specs.Normal.{normal, is_normal};
 ghost use Rattle.uriparse_reference.specs.Target.{through_last_slash, merge, target, is_merged, MergesAlike, AreSame};
 
@@ -49,6 +58,37 @@ pub fn faults_of_reading()
     ensures memory { (t : List ℕ) → fault t ≡ Some (errors.Path OutOfMemory) → ⊥ }
     ensures unsupported { (t : List ℕ) → fault t ≡ Some (errors.Authority (authority_errors.Host AddressMechanismNotSupported)) → ⊥ }
     ensures colon { (t : List ℕ) → fault t ≡ Some (errors.Authority (authority_errors.Username ContainsColon)) → ⊥ }
+{}
+
+/// The place of a text's fault precedes the end of the text.
+pub fn one_place_of_fault()
+    ensures { (t : List ℕ) (e : URIReferenceError) → fault t ≡ Some e → fault_place e t < length t }
+{}
+
+/// Where texts are wrong, and why: an example of each error that a text may have. The one that takes
+/// a million segments is that of a path of two, by the word for any number.
+pub fn examples_of_first_faults()
+    ensures none { first_fault (codes "http://h/a%20b") ≡ None }
+    ensures username { first_fault (codes "//u[@h") ≡ Some (3, errors.Authority (authority_errors.Username username_errors.InvalidCharacter)) }
+    ensures username_escape { first_fault (codes "//u%@h") ≡ Some (3, errors.Authority (authority_errors.Username username_errors.InvalidPercentEncoding)) }
+    ensures password { first_fault (codes "//u:p[@h") ≡ Some (5, errors.Authority (authority_errors.Password password_errors.InvalidCharacter)) }
+    ensures password_escape { first_fault (codes "//u:%4g@h") ≡ Some (4, errors.Authority (authority_errors.Password password_errors.InvalidPercentEncoding)) }
+    ensures name { first_fault (codes "s://u@h<") ≡ Some (7, errors.Authority (authority_errors.Host host_errors.InvalidIPv4OrRegisteredNameCharacter)) }
+    ensures name_escape { first_fault (codes "//u@h%4x") ≡ Some (5, errors.Authority (authority_errors.Host host_errors.InvalidIPv4OrRegisteredNameCharacter)) }
+    ensures ipv6 { first_fault (codes "//[::g]") ≡ Some (5, errors.Authority (authority_errors.Host host_errors.InvalidIPv6Character)) }
+    ensures ipv6_form { first_fault (codes "//u@[1:2]:80") ≡ Some (4, errors.Authority (authority_errors.Host host_errors.InvalidIPv6Format)) }
+    ensures future { first_fault (codes "//[v1.%]") ≡ Some (6, errors.Authority (authority_errors.Host host_errors.InvalidIPvFutureCharacter)) }
+    ensures future_form { first_fault (codes "//[v1]") ≡ Some (2, errors.Authority (authority_errors.Host host_errors.InvalidIPvFutureFormat)) }
+    ensures port { first_fault (codes "//u@h:8x") ≡ Some (7, errors.Authority (authority_errors.Port port_errors.InvalidCharacter)) }
+    ensures port_range { first_fault (codes "//h:65536") ≡ Some (4, errors.Authority (authority_errors.Port port_errors.Overflow)) }
+    ensures path { first_fault (codes "http://h/a b") ≡ Some (10, errors.Path path_errors.InvalidCharacter) }
+    ensures path_escape { first_fault (codes "/a%4") ≡ Some (2, errors.Path path_errors.InvalidPercentEncoding) }
+    ensures colon { first_fault (codes "1:b/c?[") ≡ Some (0, errors.SchemelessPathStartsWithColonSegment) }
+    ensures query { first_fault (codes "?a[") ≡ Some (2, errors.Query query_errors.InvalidCharacter) }
+    ensures query_escape { first_fault (codes "s:p?%") ≡ Some (4, errors.Query query_errors.InvalidPercentEncoding) }
+    ensures fragment { first_fault (codes "s:p?q#a#") ≡ Some (7, errors.Fragment fragment_errors.InvalidCharacter) }
+    ensures fragment_escape { first_fault (codes "#%1") ≡ Some (1, errors.Fragment fragment_errors.InvalidPercentEncoding) }
+    ensures segments { place_within 1 (codes "a/b/c") ≡ 3 }
 {}
 
 /// Every text is the concatenation of its components: a scheme before a `:`, if it is one; after

@@ -1,5 +1,5 @@
 //! A URI reference: RFC 3986, section 4.1.
-ghost use Rattle.std.specs.Prelude.{◌≡◌, ◌⊎◌, ◌&&◌, IfOk, IfErr, Ok, Err, Some, ◌≤◌, bytes_eq, fold, is_some, length, option_copied, string_bytes};
+ghost use Rattle.std.specs.Prelude.{◌≡◌, ◌⊎◌, ◌&&◌, IfOk, IfErr, Ok, Err, IfSome, Some, ◌<◌, ◌≤◌, bytes_eq, fold, is_some, length, option_copied, string_bytes};
 ghost use Rattle.std.proofs.Common.{rules};
 ghost use Rattle.std.specs.Ordering.{on};
 ghost use Rattle.std.specs.Cmp.Rules.{comparing, hashing};
@@ -9,6 +9,7 @@ ghost use Rattle.uriparse_path.specs.Path.{text};
 ghost use Rattle.uriparse_path.specs.declared.path.error.PathError.TheVariants.{OutOfMemory};
 ghost use Rattle.uriparse_reference.specs.declared.uri_reference.error.URIReferenceError.TheVariants as errors;
 ghost use Rattle.uriparse_reference.specs.Key.{each_alike, ends_alike, fed, fed_key, key, middle_alike};
+ghost use Rattle.uriparse_reference.specs.Place.{first_fault};
 ghost use Rattle.uriparse_reference.specs.Reading.{fault};
 ghost use Rattle.uriparse_reference.specs.Reference.{host_of, password_of, port_of, print, username_of};
 
@@ -34,6 +35,7 @@ mod escape;
 mod kind;
 mod masked;
 mod normal;
+mod place;
 mod port;
 mod print;
 pub(crate) mod read;
@@ -44,9 +46,10 @@ mod view;
 
 pub use builder::URIReferenceBuilder;
 pub use edit::Edit;
-pub use error::{BufferError, URIReferenceError};
+pub use error::{BufferError, TargetError, URIReferenceError};
 pub use escape::escape_invalid;
 pub use masked::WithoutPassword;
+use place::place_of;
 use print::{len_of_scheme, most_of_authority, write_authority, write_back, write_scheme};
 use read::{find_pieces, make_path};
 pub use view::ReferenceView;
@@ -169,6 +172,30 @@ impl<'r> URIReference<'r> {
         match find_pieces(bytes) {
             Ok(_) => Ok(()),
             Err(error) => Err(error),
+        }
+    }
+
+    /// Where a text is wrong, and why: the fault that [`check`](URIReference::check) and the readers
+    /// return, after the number of bytes that precede it. `None` if the text is a reference.
+    ///
+    /// The place of a wrong byte is its own, of a broken escape that of its `%`, and of one segment
+    /// too many that of the slash that begins it. An address of a wrong form, a port that is too
+    /// large and a path that may not follow what precedes it are wrong where they begin: at the `[`,
+    /// at the first digit, at the first byte. Precedes the end of the text. Walks the text again if
+    /// it is faulty. Does not allocate.
+    ///
+    /// ```
+    /// assert!(URIReference::first_fault(b"http://h/a%20b").is_none());
+    /// assert!(matches!(URIReference::first_fault(b"http://h/a b"), Some((10, URIReferenceError::Path(_)))));
+    /// assert!(matches!(URIReference::first_fault(b"//h:65536"), Some((4, URIReferenceError::Authority(_)))));
+    /// ```
+    pub fn first_fault(bytes: &[u8]) -> Option<(usize, URIReferenceError)>
+        ensures fault { result ≡ first_fault bytes.now }
+        ensures within { IfSome result (λ f. f.0 < length bytes.now) }
+    {
+        match URIReference::check(bytes) {
+            Ok(()) => None,
+            Err(error) => Some((place_of(&error, bytes), error)),
         }
     }
 

@@ -4,6 +4,8 @@ use Rattle.std.specs.Borrow.{Bor}
 use Rattle.std.specs.Option.{option_map, option_copied}
 use Rattle.std.specs.List.{filter, slice_split, join_with_byte}
 use Rattle.std.specs.List.Retain.{IsFiltered}
+use Rattle.std.specs.Cmp.Lexicographic.{slice_cmp}
+use Rattle.std.specs.Ordering.{is_lt, nat_cmp}
 use Rattle.uriparse_text.specs.declared.internal.class.Class.TheVariants.{Query}
 use Rattle.uriparse_text.specs.Bytes.{ampersand, equals_sign}
 use Rattle.uriparse_text.specs.Cuts.{behind, before, after}
@@ -61,6 +63,22 @@ without_name name ps = filter (λ p. not (is_named name p)) ps
 abbrev pub with_pair : List ℕ → Pair → List Pair → List Pair
 with_pair name new [] = new ∷ []
 with_pair name new (p ∷ ps) = if is_named name p then new ∷ without_name name ps else p ∷ with_pair name new ps
+
+-- ---- pairs in the order of their names
+
+-- the bytes that the first pair's name stands for are less than those of the second's: byte by byte, and a prefix is less
+abbrev pub has_less_name : Pair → Pair → Bool
+has_less_name p q = is_lt (slice_cmp nat_cmp (decoded p.0) (decoded q.0))
+
+-- the pair before the first one whose name is not less
+abbrev pub insert_pair : Pair → List Pair → List Pair
+insert_pair p [] = p ∷ []
+insert_pair p (q ∷ qs) = if has_less_name q p then q ∷ insert_pair p qs else p ∷ q ∷ qs
+
+-- the pairs in the order of their names, those of one name in the order that they had
+abbrev pub sorted_pairs : List Pair → List Pair
+sorted_pairs [] = []
+sorted_pairs (p ∷ ps) = insert_pair p (sorted_pairs ps)
 
 -- ---- what the texts stand for
 

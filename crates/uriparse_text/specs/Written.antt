@@ -1,12 +1,12 @@
 -- How pieces of a query are written one after another. No public contract cites these words.
 use Rattle.std.specs.Prelude.{ℕ, Bool, ◌≡◌, ◌&&◌, true, if◌then◌else◌, List, [], ◌∷◌, ◌++◌, flat_map}
-use Rattle.std.specs.List.{list_all}
+use Rattle.std.specs.List.{list_all, slice_split}
 use Rattle.uriparse_text.specs.declared.internal.class.Class.TheVariants.{Query}
 use Rattle.uriparse_text.specs.Bytes.{ampersand}
 use Rattle.uriparse_text.specs.Cuts.{lacks}
 use Rattle.uriparse_text.specs.Faults.{allows}
 use Rattle.uriparse_text.specs.Tokens.{tokens}
-use Rattle.uriparse_text.specs.Pairs.{pair_of, is_named}
+use Rattle.uriparse_text.specs.Pairs.{pair_of, is_ampersand, is_named}
 
 -- a query without "&"
 abbrev pub is_piece : List ℕ → Bool
@@ -23,3 +23,7 @@ ended ss = flat_map (λ s. s ++ ampersand ∷ []) ss
 -- the text has these pieces, each with a "&" after it
 abbrev pub AreWritten : List (List ℕ) → List ℕ → Type 0
 AreWritten ss t = (t ≡ ended ss) × (list_all is_piece ss ≡ true)
+
+-- the pieces of a query between its "&", of which each is one
+abbrev pub ArePieces : List ℕ → List (List ℕ) → Type 0
+ArePieces q ss = (ss ≡ slice_split is_ampersand q) × (list_all is_piece ss ≡ true)

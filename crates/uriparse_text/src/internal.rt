@@ -11,6 +11,7 @@ mod digit;
 mod ends;
 mod found;
 mod pairs;
+mod place;
 mod print;
 mod printed;
 mod run;
@@ -24,11 +25,15 @@ pub use alike::same_spelling;
 pub use bits::{count_below, lowest, without, without_lowest};
 pub use canonical::{Case, canonical_bytes, feed_spelling, feed_text, is_canonical};
 pub use class::Class;
-pub use coding::{form_decoded_bytes, most_escaped_bytes, push_encoded, push_escaped, represents};
+pub use coding::{
+    compare_represented, form_decoded_bytes, most_escaped_bytes, push_encoded, push_escaped,
+    represents,
+};
 pub use copy::{borrowed_text, canonical_copy, is_canonical_part, owned_text, put_copy};
 pub use cut::{split_at_mark, without_mark};
 pub use ends::{Form, put, put_behind, put_formed};
 pub use found::{Found, find_text_before, find_text_if, no_text};
+pub use place::place_of_fault;
 pub use print::write_plain;
 pub use printed::{put_decimal, put_ipv4, put_ipv6};
 pub use scan::{ByteTest, Is, IsAny, Outside, first, next_marks, next_marks_by_two};

@@ -1,8 +1,9 @@
 //! Laws of the definitions that contracts cite. Each function does nothing: its contract is the
 //! law.
-ghost use Rattle.std.specs.Prelude.{◌≡◌, ◌==◌, ◌↔◌, ◌<◌, ◌∷◌, ◌++◌, ℕ, List, [], Some, None, true, false, flat_map, length, map, not, codes};
+ghost use Rattle.std.specs.Prelude.{◌≡◌, ◌==◌, ◌↔◌, ◌<◌, ◌∷◌, ◌++◌, ℕ, List, [], Some, None, true, false, flat_map, length, map, not, codes, drop, take, slice_get};
 ghost use Rattle.std.specs.Char.{is_ascii_whitespace};
 ghost use Rattle.std.specs.List.{filter, list_all};
+ghost use Rattle.std.specs.List.Sorted.{IsPermutation, IsSortedBy};
 ghost use Rattle.uriparse_text.specs.declared.internal.token.Token.{Token};
 ghost use Rattle.uriparse_text.specs.declared.internal.class.Class.{Class};
 ghost use Rattle.uriparse_text.specs.declared.internal.class.Class.TheVariants as class;
@@ -11,11 +12,12 @@ ghost use Rattle.uriparse_text.specs.declared.internal.canonical.Case.TheVariant
 ghost use Rattle.uriparse_text.specs.Bytes.{is_among, left_bracket, right_bracket};
 ghost use Rattle.uriparse_text.specs.Tokens.{is_well_formed, spell, IsConcatenation};
 ghost use Rattle.uriparse_text.specs.Faults.{fault, IsIn, IsOfClass, HasFaultAt};
+ghost use Rattle.uriparse_text.specs.Place.{fault_place};
 ghost use Rattle.uriparse_text.specs.Canonical.{canonical_token, canonical_in, fed_bytes};
 ghost use Rattle.uriparse_text.specs.Coding.{are_bytes, decoded, escaped_in, form_decoded};
 ghost use Rattle.uriparse_text.specs.Cuts.{lacks, none_pass};
 ghost use Rattle.uriparse_text.specs.Link.{in_brackets, less_than, link, trimmed};
-ghost use Rattle.uriparse_text.specs.Pairs.{Pair, are_pair_bytes, decoded_pair, encoded_pair, is_named, joined_pairs, pairs, with_pair, without_name};
+ghost use Rattle.uriparse_text.specs.Pairs.{Pair, are_pair_bytes, decoded_pair, encoded_pair, has_less_name, is_named, joined_pairs, pairs, sorted_pairs, with_pair, without_name};
 ghost use Rattle.uriparse_text.specs.Address.{IsOctets, IsSegments, SpellsIpv4, SpellsIpv6, ipv4_text, ipv6_text, ipv4_reading, ipv6_reading, IsPrintedIpv6, is_ipv4_byte, is_ipv6_byte};
 
 /// A text has no fault exactly if it is a concatenation of tokens of the class; else its fault is
@@ -24,6 +26,13 @@ pub fn one_leftmost_fault()
     ensures class { (class : Class) (text : List ℕ) → IsIn class text ↔ IsOfClass class text }
     ensures none { (class : Class) (text : List ℕ) → (fault class text ≡ None) ↔ IsOfClass class text }
     ensures place { (class : Class) (text : List ℕ) (byte : ℕ) → (fault class text ≡ Some byte) ↔ HasFaultAt class text byte }
+{}
+
+/// The fault is that of the byte at its place, and what precedes this place has none.
+pub fn one_place_of_fault()
+    ensures byte { (class : Class) (text : List ℕ) → fault class text ≡ slice_get (drop (fault_place class text) text) 0 }
+    ensures before { (class : Class) (text : List ℕ) → fault class (take (fault_place class text) text) ≡ None }
+    ensures within { (class : Class) (text : List ℕ) (byte : ℕ) → fault class text ≡ Some byte → fault_place class text < length text }
 {}
 
 /// A text is well formed exactly if it is a concatenation of tokens, which are then unique.
@@ -118,6 +127,15 @@ pub fn one_pair_of_a_name()
     ensures others { (name : List ℕ) (new : Pair) (ps : List Pair) → is_named name new ≡ true → without_name name (with_pair name new ps) ≡ without_name name ps }
 {}
 
+/// Sorted pairs are the same ones, with ascending names, and those of one name in the order that
+/// they had. No other list is.
+pub fn one_order_of_pairs()
+    ensures same { (ps : List Pair) → IsPermutation ps (sorted_pairs ps) }
+    ensures ascending { (ps : List Pair) → IsSortedBy has_less_name (sorted_pairs ps) }
+    ensures stable { (name : List ℕ) (ps : List Pair) → filter (is_named name) (sorted_pairs ps) ≡ filter (is_named name) ps }
+    ensures one { (ps qs : List Pair) → IsSortedBy has_less_name qs → ((name : List ℕ) → filter (is_named name) qs ≡ filter (is_named name) ps) → qs ≡ sorted_pairs ps }
+{}
+
 /// Queries and their pairs.
 #[tactic(auto, unfolding(crate::specs::Coding::decoded, crate::specs::Tokens::tokens, crate::specs::Classes::is_plain, crate::specs::Bytes::is_unreserved, crate::specs::Bytes::is_sub_delim))]
 pub fn examples_of_pairs()
@@ -130,6 +148,8 @@ pub fn examples_of_pairs()
     ensures set_last { with_pair (codes "d") (codes "d", None) (pairs (codes "b&c=d")) ≡ pairs (codes "b&c=d&d") }
     ensures set_empty { with_pair [] ([], Some []) (pairs []) ≡ pairs (codes "=") }
     ensures without { without_name (codes "a") (pairs (codes "a=1&%61&b=%2f&A=a")) ≡ pairs (codes "b=%2f&A=a") }
+    ensures sorted { sorted_pairs (pairs (codes "z=1&b=2&a&%62=1&ab&")) ≡ pairs (codes "&a&ab&b=2&%62=1&z=1") }
+    ensures sorted_case { sorted_pairs (pairs (codes "a=2&B&%C3%A4&a=1&+")) ≡ pairs (codes "+&B&a=2&a=1&%C3%A4") }
     ensures form { form_decoded (codes "a+b%2Bc%20d") ≡ codes "a b+c d" }
 {}
 

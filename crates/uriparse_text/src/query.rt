@@ -8,6 +8,7 @@ use thiserror::Error;
 
 mod pairs;
 mod set;
+mod sort;
 mod without;
 
 pub use pairs::Pairs;
@@ -64,8 +65,8 @@ impl TextKind for QueryKind {
 /// [`InvalidCharacter`](QueryError::InvalidCharacter). Two queries are equal if their canonical
 /// spellings are. The calls are those of [`Text`], and
 /// [`pairs`](Query::pairs), [`from_pairs`](Query::from_pairs),
-/// [`without_pairs`](Query::without_pairs), [`with_pair`](Query::with_pair) and
-/// [`decode_form`](Query::decode_form).
+/// [`without_pairs`](Query::without_pairs), [`with_pair`](Query::with_pair),
+/// [`sorted_pairs`](Query::sorted_pairs) and [`decode_form`](Query::decode_form).
 ///
 /// ```
 /// let query = Query::try_from_str("k=%7e")?;

@@ -7,4 +7,6 @@ pub mod PrintedLemmas
 pub mod PieceLemmas
 pub mod LengthLemmas
 pub mod FaultLemmas
+pub mod PlaceLemmas
 pub mod EndLemmas
+pub mod SameTextLemmas

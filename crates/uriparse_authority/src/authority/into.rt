@@ -31,7 +31,7 @@ fn put_port(port: Option<u16>, out: &mut [u8], len: usize) -> usize
 }
 
 /// Puts a host.
-fn put_host(form: Form, host: &Host<'_>, out: &mut [u8], len: usize) -> usize
+pub(super) fn put_host(form: Form, host: &Host<'_>, out: &mut [u8], len: usize) -> usize
     ensures room { length out.new ≡ length out.old }
     ensures puts { Puts (hosts.text (formed_host form host.now)) out.old len out.new result }
 {

@@ -3,6 +3,7 @@ pub mod ComponentByteLemmas
 pub mod TailLemmas
 pub mod ReadingLemmas
 pub mod FaultSourceLemmas
+pub mod PlaceLemmas
 pub mod SpellingLemmas
 pub mod PrintedLemmas
 pub mod LengthLemmas

@@ -1,2 +1,4 @@
 pub mod EndLemmas
 pub mod TargetLemmas
+pub mod StringLemmas
+pub mod SameTextLemmas

@@ -55,6 +55,20 @@ pub enum BufferError {
     TooManySegments,
 }
 
+/// Why there is no text of a target.
+#[derive(Clone, Copy, Debug, PartialEq, Eq, Hash, Error)]
+pub enum TargetError {
+    /// The base has no scheme.
+    #[error("base without a scheme")]
+    RelativeBase,
+    /// The merged paths have more segments than a path may have.
+    #[error("merged path with too many segments")]
+    TooManySegments,
+    /// Out of memory, for the text.
+    #[error("out of memory")]
+    OutOfMemory,
+}
+
 impl From<AuthorityError> for URIReferenceError {
     ghost from_gives = { λ x e. e ≡ errors.Authority x };
 

@@ -37,7 +37,7 @@ fn split_at_end(text: &[u8]) -> (&[u8], &[u8])
 }
 
 /// The authority that follows two leading slashes, and the rest; or none, and the whole text.
-fn split_authority(text: &[u8]) -> (Option<&[u8]>, &[u8])
+pub(super) fn split_authority(text: &[u8]) -> (Option<&[u8]>, &[u8])
     ensures authority { option_copied result.0 ≡ cut_authority text.now }
     ensures rest { result.1.now ≡ without_authority text.now }
 {

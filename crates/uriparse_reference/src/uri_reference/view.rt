@@ -24,16 +24,17 @@ mod compare;
 mod into;
 mod kind;
 mod normal;
+mod printed;
+mod string;
 mod target;
 
 /// A URI reference in its text: a URI or a relative reference, whose components are found and
 /// checked but not copied. RFC 3986, section 4.1.
 ///
-/// It borrows the text, and no call but [`to_reference`](ReferenceView::to_reference) allocates. So
-/// it suits a caller who reads many references and asks each for a component or two. What its calls
-/// return borrows the text too, not the view. Contracts see it as the text that was read and its
-/// components. Two views are equal if the [`URIReference`]s that they build are, and they hash alike
-/// then.
+/// It borrows the text, and only its calls that take an allocator allocate. So it suits a caller
+/// who reads many references and asks each for a component or two. What its calls return borrows
+/// the text too, not the view. Contracts see it as the text that was read and its components. Two
+/// views are equal if the [`URIReference`]s that they build are, and they hash alike then.
 ///
 /// ```
 /// let view = ReferenceView::try_from_str("https://user@example.com:80/a/b?q")?;

@@ -6,3 +6,4 @@ pub mod PairLemmas
 pub mod LinkLemmas
 pub mod WithoutLemmas
 pub mod SetLemmas
+pub mod SortLemmas

@@ -1,6 +1,8 @@
 //! Decoding texts to bytes, encoding bytes as texts, and escaping what a text may not have: RFC
 //! 3986, section 2.
 ghost use Rattle.std.specs.Prelude.{◌≡◌, ◌++◌, ◌∷◌, ◌<◌, ◌||◌, [], bytes_eq, IfOk, OnOk, if◌then◌else◌, true};
+ghost use Rattle.std.specs.Cmp.Lexicographic.{slice_cmp};
+ghost use Rattle.std.specs.Ordering.{nat_cmp};
 ghost use Rattle.uriparse_text.specs.Alike.{upper_digit_of};
 ghost use Rattle.uriparse_text.specs.Coding.{are_bytes, decoded, encoded, encoded_without, escape_of, escaped_in, form_decoded, form_value_of, may_stand, token_for, token_without, value_of};
 ghost use Rattle.uriparse_text.specs.Tokens.{has_digits, is_escape as begins_escape, spell};
@@ -12,6 +14,7 @@ use super::scan::{Outside, next_marks};
 use super::settled::split_settled;
 use super::token::{Token, is_escape, split_token};
 use std::alloc::{AllocError, Global};
+use std::cmp::Ordering;
 
 impl Token {
     /// The byte that the token represents.
@@ -107,6 +110,29 @@ pub fn represents(text: &[u8], bytes: &[u8]) -> bool
         rest = after;
     }
     left.is_empty()
+}
+
+/// Compares the bytes that two texts represent. Walks both once.
+pub fn compare_represented(text: &[u8], other: &[u8]) -> Ordering
+    ensures { result ≡ slice_cmp nat_cmp (decoded text.now) (decoded other.now) }
+{
+    let mut rest = text;
+    let mut left = other;
+    'tokens: while let Some((token, after)) = split_token(rest) {
+        let Some((next, later)) = split_token(left) else {
+            return Ordering::Greater;
+        };
+        match token.value().cmp(&next.value()) {
+            Ordering::Equal => {}
+            order => return order,
+        }
+        left = later;
+        rest = after;
+    }
+    match split_token(left) {
+        None => Ordering::Equal,
+        Some(_) => Ordering::Less,
+    }
 }
 
 /// The text that represents the bytes. Walks them once and reserves capacity once: three bytes for

@@ -75,7 +75,7 @@ fn set_pieces(
 }
 
 /// The query of the pieces in the text, without the `&` after the last one.
-fn query_of_pieces(mut text: Vec<u8>) -> Query<'static>
+pub(super) fn query_of_pieces(mut text: Vec<u8>) -> Query<'static>
     requires { (ss : List (List ℕ)) × AreWritten ss text.items × (0 < length ss) }
     ensures { (ss : List (List ℕ)) → AreWritten ss text.items → spec.pairs result ≡ map spec.pair_of ss }
 {

@@ -146,7 +146,7 @@ printed_port : (p : Option ℕ) → IfSome p port.IsPort → (b : ℕ) → is_di
 printed_port None is b digit = tt
 printed_port (Some n) is b digit = decimal_lacks b digit n is
 
-spelled_pieces : (a : List ℕ) (p : AuthorityParts) (s : Spells a p) → ArePieces p.username p.password s.host_text s.port_text
+pub spelled_pieces : (a : List ℕ) (p : AuthorityParts) (s : Spells a p) → ArePieces p.username p.password s.host_text s.port_text
 spelled_pieces a p s =
     record {
       is_username = s.is_username;

@@ -21,7 +21,7 @@ fn before_closing(bytes: &[u8]) -> Option<&[u8]>
 }
 
 /// The text between brackets, if the text begins and ends with them.
-fn in_brackets(bytes: &[u8]) -> Option<&[u8]>
+pub(in crate::authority) fn in_brackets(bytes: &[u8]) -> Option<&[u8]>
     ensures { option_copied result ≡ host.in_brackets bytes.now }
 {
     match bytes {

@@ -1,8 +1,9 @@
--- A text that spells a reference is ASCII.
+-- A text that spells a reference is ASCII, and so is the text of a valid one.
 use Rattle.std.proofs.Common.{◌≡◌, ℕ, ◌<◌, Bool, true, List, [], ◌∷◌, ◌++◌, Option, Some, None, All, IsAscii, IsUtf8, inl, inr, sym, ap, subst, ◌∙◌, arith}
 use Rattle.std.specs.Prelude.{IfSome, unwrap_or}
 use Rattle.std.specs.Char.{is_digit}
 use Rattle.std.specs.List.{list_all, join_with_byte}
+use Rattle.std.specs.Option.{option_map}
 use Rattle.std.proofs.lemmas.Bool.{and_parts}
 use Rattle.std.proofs.lemmas.Bool.Decides.{nat_tests}
 use Rattle.std.proofs.lemmas.List.Elements.{All-nil, All-cons, All-append}
@@ -17,18 +18,23 @@ use Rattle.uriparse_text.specs.Readings.{IfPresent}
 use Rattle.uriparse_text.proofs.lemmas.classes.ClassLemmas.{IsAscii-in_class}
 use Rattle.uriparse_path.specs.Segment.{is_segment}
 use Rattle.uriparse_path.specs.Path.{IsPath}
+use Rattle.uriparse_path.specs.Path.{text as path_text}
 use Rattle.uriparse_path.proofs.lemmas.text.SplitLemmas.{cut, joined-pieces}
 use Rattle.uriparse_path.proofs.lemmas.text.TextWalkLemmas.{pieces_of_path}
 use Rattle.uriparse_authority.specs.Authority as authority
 use Rattle.uriparse_authority.specs.Authority.{AuthorityParts, userinfo}
 use Rattle.uriparse_authority.specs.Future.{is_future_byte}
+use Rattle.uriparse_authority.specs.Host as host
 use Rattle.uriparse_authority.specs.Port as port
-use Rattle.uriparse_authority.proofs.lemmas.hosts.HostLemmas.{IsHostText, spelled_host}
+use Rattle.uriparse_authority.proofs.lemmas.hosts.HostLemmas.{IsHostText, printed_host, spelled_host}
+use Rattle.uriparse_authority.proofs.lemmas.authorities.PortLemmas.{port_printed}
 use Rattle.uriparse_scheme.specs.declared.scheme.Scheme.{Scheme}
 use Rattle.uriparse_scheme.specs.Grammar.{is_scheme_byte}
 use Rattle.uriparse_scheme.specs.Scheme as scheme
 use Rattle.uriparse_scheme.proofs.lemmas.schemes.GrammarLemmas.{scheme_bytes}
-use Rattle.uriparse_reference.specs.Reference.{Parts, Spells, behind_slashes}
+use Rattle.uriparse_reference.specs.Reference.{Parts, Spells, Valid, authority_part, behind_slashes, joined, print, scheme_part}
+use Rattle.uriparse_reference.proofs.lemmas.reading.ReadingLemmas.{scheme_back}
+use Rattle.uriparse_reference.proofs.lemmas.reading.SpellingLemmas.{valid_placed}
 
 abbrev Small : List ℕ → Type 0
 Small t = All (λ b. b < 128) t
@@ -92,13 +98,28 @@ small_userinfo : (u w : Option (List ℕ)) → IfSome u Small → IfSome w Small
 small_userinfo None w h k = tt
 small_userinfo (Some t) w h k = both t (behind colon w) h (small_behind colon (omega arith) w k)
 
+small_parts : (u w : Option (List ℕ)) (g : List ℕ) (o : Option (List ℕ)) → IfSome u (IsIn class.Name) → IfSome w (IsIn class.UserInfo) → IsHostText g
+    → IfSome o Small → Small (authority.joined u w g o)
+small_parts u w g o h k i j =
+    let front = small_ahead at_sign (omega arith) (userinfo u w) (small_userinfo u w (some_class class.Name u h) (some_class class.UserInfo w k)) in
+    let back = both g (behind colon o) (small_host g i) (small_behind colon (omega arith) o j) in
+    both (ahead at_sign (userinfo u w)) (g ++ behind colon o) front back
+
 small_authority : (a : List ℕ) (p : AuthorityParts) → authority.Spells a p → Small a
 small_authority a p s =
-    let front = small_ahead at_sign (omega arith) (userinfo p.username p.password)
-    (small_userinfo p.username p.password (some_class class.Name p.username s.is_username) (some_class class.UserInfo p.password s.is_password)) in
-    let back = both s.host_text (behind colon s.port_text) (small_host s.host_text (spelled_host s.host_text p.host s.is_host))
-    (small_behind colon (omega arith) s.port_text (small_port s.port_text p.port s.is_port)) in
-    subst Small (sym s.whole) (both (ahead at_sign (userinfo p.username p.password)) (s.host_text ++ behind colon s.port_text) front back)
+    subst Small (sym s.whole) (small_parts p.username p.password s.host_text s.port_text s.is_username s.is_password
+    (spelled_host s.host_text p.host s.is_host) (small_port s.port_text p.port s.is_port))
+
+printed_port : (o : Option ℕ) → IfSome o port.IsPort → IfSome (option_map port.text o) Small
+printed_port None h = tt
+printed_port (Some n) h = small_port (Some (port.text n)) (Some n) (port_printed n h)
+
+printed_slashes : (o : Option AuthorityParts) → IfSome o authority.Valid → Small (behind_slashes (option_map authority.print o))
+printed_slashes None h = All-nil (λ b. b < 128)
+printed_slashes (Some p) v =
+    one slash (omega arith) (slash ∷ authority.print p) (one slash (omega arith) (authority.print p)
+    (small_parts p.username p.password (host.text p.host) (option_map port.text p.port) v.is_username v.is_password (printed_host p.host v.is_host)
+    (printed_port p.port v.is_port)))
 
 small_slashes : (o : Option (List ℕ)) (a : Option AuthorityParts) → IfPresent authority.Spells o a → Small (behind_slashes o)
 small_slashes None None h = All-nil (λ b. b < 128)
@@ -124,19 +145,31 @@ small_path t is =
 pub IsAscii-path : (t : List ℕ) → IsPath t → IsAscii t
 IsAscii-path t is = IsAscii-from_all t (small_path t is)
 
+small_whole : (x a : Option (List ℕ)) (h : List ℕ) (q f : Option (List ℕ)) → IfSome x Small → Small (behind_slashes a) → IsPath h → IfSome q (IsIn class.Query)
+    → IfSome f (IsIn class.Query) → Small (joined x a h q f)
+small_whole x a h q f i j k m n =
+    let tail = both h (behind question_mark q ++ behind number_sign f) (small_path h k) (both (behind question_mark q) (behind number_sign f)
+    (small_behind question_mark (omega arith) q (some_class class.Query q m)) (small_behind number_sign (omega arith) f (some_class class.Query f n))) in
+    both (ahead colon x) _ (small_ahead colon (omega arith) x i)
+    (both (behind_slashes a) (h ++ (behind question_mark q ++ behind number_sign f)) j tail)
+
 pub IsAscii-spelled : (t : List ℕ) (p : Parts) → Spells t p → IsAscii t
 IsAscii-spelled t p s =
-    let q = small_behind question_mark (omega arith) p.query (some_class class.Query p.query s.is_query) in
-    let f = small_behind number_sign (omega arith) p.fragment (some_class class.Query p.fragment s.is_fragment) in
-    let tail = both s.path_text (behind question_mark p.query ++ behind number_sign p.fragment) (small_path s.path_text s.is_path)
-    (both (behind question_mark p.query) (behind number_sign p.fragment) q f) in
-    let later = both (behind_slashes s.authority_text) (s.path_text ++ (behind question_mark p.query ++ behind number_sign p.fragment))
-    (small_slashes s.authority_text p.authority s.is_authority) tail in
-    IsAscii-from_all t (subst Small (sym s.whole) (both (ahead colon s.scheme_text) _
-    (small_ahead colon (omega arith) s.scheme_text (small_scheme s.scheme_text p.scheme s.is_scheme)) later))
+    IsAscii-from_all t (subst Small (sym s.whole) (small_whole s.scheme_text s.authority_text s.path_text p.query p.fragment
+    (small_scheme s.scheme_text p.scheme s.is_scheme) (small_slashes s.authority_text p.authority s.is_authority) s.is_path s.is_query s.is_fragment))
+
+-- so is the text of a valid reference, though its host may be a name that reads back as an address
+pub IsAscii-print : (p : Parts) → Valid p → IsAscii (print p)
+IsAscii-print p v =
+    IsAscii-from_all (print p) (small_whole (scheme_part p) (authority_part p) (path_text p.path) p.query p.fragment
+    (small_scheme (scheme_part p) p.scheme (scheme_back p.scheme v.is_scheme)) (printed_slashes p.authority v.is_authority) (valid_placed p v).is_path
+    v.is_query v.is_fragment)
 
 pub IsUtf8-path : (t : List ℕ) → IsPath t → IsUtf8 t
 IsUtf8-path t is = IsUtf8-from_ascii t (IsAscii-path t is)
 
 pub IsUtf8-spelled : (t : List ℕ) (p : Parts) → Spells t p → IsUtf8 t
 IsUtf8-spelled t p s = IsUtf8-from_ascii t (IsAscii-spelled t p s)
+
+pub IsUtf8-print : (p : Parts) → Valid p → IsUtf8 (print p)
+IsUtf8-print p v = IsUtf8-from_ascii (print p) (IsAscii-print p v)

@@ -53,7 +53,7 @@ authority_told (Some a) e h = by_reading (authority.reading a) refl h
     by_reading (Err x) f k = (a, x, ap fault_in f, cc)
 
 -- the fault of four results in sequence is that of one of them
-by_results : {A B C D E : Type 0} (a : Result A URIReferenceError) (b : Result B URIReferenceError) (c : Result C URIReferenceError)
+pub by_results : {A B C D E : Type 0} (a : Result A URIReferenceError) (b : Result B URIReferenceError) (c : Result C URIReferenceError)
     (d : Result D URIReferenceError) (make : A → B → C → D → E) (e : URIReferenceError)
     → fault_in (a >>= λ x. b >>= λ y. c >>= λ z. d >>= λ w. Ok (make x y z w)) ≡ Some e
     → (fault_in a ≡ Some e) ⊎ ((fault_in b ≡ Some e) ⊎ ((fault_in c ≡ Some e) ⊎ (fault_in d ≡ Some e)))

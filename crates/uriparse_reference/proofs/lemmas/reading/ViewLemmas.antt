@@ -73,7 +73,7 @@ abempty_spelled t p s there =
     held None e h = absurd (cc)
     held (Some x) e h = h
 
-not_empty : (b : ℕ) (t : List ℕ) → (length (b ∷ t) == 0) ≡ false
+pub not_empty : (b : ℕ) (t : List ℕ) → (length (b ∷ t) == 0) ≡ false
 not_empty b t = grind (arith, nat_tests)
 
 -- so the text of the path is its own, or a slash if that is empty

@@ -83,7 +83,7 @@ pub(super) fn put_front(
 impl<'t> ReferenceView<'t> {
     /// Puts the text of the normal form at the end of the buffer. Returns its length. If there is
     /// no room, only the length is counted.
-    fn put_normal(&self, out: &mut [u8]) -> usize
+    pub(super) fn put_normal(&self, out: &mut [u8]) -> usize
         ensures room { length out.new ≡ length out.old }
         ensures ends { EndsWith out.new result (print (normal self.now.parts)) }
     {

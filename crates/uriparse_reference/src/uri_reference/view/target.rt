@@ -60,7 +60,7 @@ impl<'t> ReferenceView<'t> {
 
     /// Whether the merged paths of this base and a reference, if they are merged, have too many
     /// segments: then there is no target.
-    fn lacks_target(&self, reference: &ReferenceView<'_>) -> bool
+    pub(super) fn lacks_target(&self, reference: &ReferenceView<'_>) -> bool
         ensures { result ≡ (is_merged reference.now.parts && nat_lt max_segments (length (pieces (merge self.now.parts reference.now.parts)))) }
     {
         reference.is_merged() && self.merges_too_long(reference)
@@ -126,7 +126,7 @@ impl<'t> ReferenceView<'t> {
 
     /// Puts the text of the target at the end of the buffer. Returns its length. If there is no
     /// room, only the length is counted.
-    fn put_target(&self, reference: &ReferenceView<'_>, out: &mut [u8]) -> usize
+    pub(super) fn put_target(&self, reference: &ReferenceView<'_>, out: &mut [u8]) -> usize
         requires { is_merged reference.now.parts ≡ true → length (pieces (merge self.now.parts reference.now.parts)) ≤ max_segments }
         ensures room { length out.new ≡ length out.old }
         ensures ends { EndsWith out.new result (spec.print_if (target self.now.parts reference.now.parts)) }

@@ -54,11 +54,11 @@ some_query (Some u) t h e = let same : u ≡ t = cc in subst IsQuery same h
 -- ---- the first pair
 
 -- what is left of the pieces after the first one
-abbrev pieces_left : (mark : ℕ) → Option (List ℕ) → List (List ℕ)
+abbrev pub pieces_left : (mark : ℕ) → Option (List ℕ) → List (List ℕ)
 pieces_left mark None = []
 pieces_left mark (Some t) = slice_split (λ b. b == mark) t
 
-first_piece : (mark : ℕ) (t : List ℕ) → slice_split (λ b. b == mark) t ≡ before mark t ∷ pieces_left mark (after mark t)
+pub first_piece : (mark : ℕ) (t : List ℕ) → slice_split (λ b. b == mark) t ≡ before mark t ∷ pieces_left mark (after mark t)
 first_piece mark [] = refl
 first_piece mark (b ∷ t) = by_test (b == mark) refl (first_piece mark t)
   where

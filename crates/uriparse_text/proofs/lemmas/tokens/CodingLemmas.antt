@@ -1,6 +1,10 @@
 -- Bytes that are written as a text, and the bytes that a text stands for.
 use Rattle.std.proofs.Common.{◌≡◌, ℕ, ◌<◌, Bool, true, false, List, [], ◌∷◌, ◌++◌, map, refl, sym, ap, ◌∙◌, arith, append_assoc, append-nil, ◌+◌, length, take, get_or, suc}
 use Rattle.std.specs.Prelude.{◌==◌, ◌&&◌, ◌/◌, ◌%◌, bytes_eq}
+use Rattle.std.specs.Cmp.Lexicographic.{slice_cmp}
+use Rattle.std.specs.Ordering.{nat_cmp, ordering_then}
+use Rattle.std.specs.declared.cmp.Ordering.{Ordering}
+use Rattle.std.specs.declared.cmp.Ordering.TheVariants.{Less, Equal, Greater}
 use Rattle.std.specs.List.{flat_map, list_all}
 use Rattle.std.specs.Int.{is_in_range}
 use Rattle.std.specs.Char.{to_ascii_uppercase}
@@ -252,3 +256,40 @@ represents_end rest left whole none h = by_left left ∙ ap (λ u. bytes_eq u le
     by_left : (l : List ℕ) → (length l == 0) ≡ bytes_eq [] l
     by_left [] = refl
     by_left (b ∷ l) = grind (arith, nat_tests)
+
+-- ---- two texts compared by the bytes that they represent
+
+pub compared-cons : (rest after left later : List ℕ) (t u : Token) (v w : ℕ) (o whole : Ordering) → tokens rest ≡ t ∷ tokens after → tokens left ≡ u ∷ tokens later
+    → v ≡ value_of t → w ≡ value_of u → o ≡ nat_cmp v w → slice_cmp nat_cmp (decoded rest) (decoded left) ≡ whole
+    → ordering_then o (slice_cmp nat_cmp (decoded after) (decoded later)) ≡ whole
+compared-cons rest after left later t u v w o whole cut other_cut value other_value is h =
+    ap (λ x. ordering_then x (slice_cmp nat_cmp (decoded after) (decoded later))) is
+    ∙ ap (λ x. ordering_then (nat_cmp x w) (slice_cmp nat_cmp (decoded after) (decoded later))) value
+    ∙ ap (λ x. ordering_then (nat_cmp (value_of t) x) (slice_cmp nat_cmp (decoded after) (decoded later))) other_value
+    ∙ ap (λ d. slice_cmp nat_cmp d (value_of u ∷ decoded later)) (sym (decoded-cons rest after t cut))
+    ∙ ap (slice_cmp nat_cmp (decoded rest)) (sym (decoded-cons left later u other_cut)) ∙ h
+
+pub compared_more : (rest after left : List ℕ) (t : Token) (whole : Ordering) → tokens rest ≡ t ∷ tokens after → left ≡ []
+    → slice_cmp nat_cmp (decoded rest) (decoded left) ≡ whole → Greater ≡ whole
+compared_more rest after left t whole cut none h =
+    ap (slice_cmp nat_cmp (value_of t ∷ decoded after)) (sym (decoded-nil left none))
+    ∙ ap (λ d. slice_cmp nat_cmp d (decoded left)) (sym (decoded-cons rest after t cut)) ∙ h
+
+pub compared_less : (rest left later : List ℕ) (u : Token) (whole : Ordering) → rest ≡ [] → tokens left ≡ u ∷ tokens later
+    → slice_cmp nat_cmp (decoded rest) (decoded left) ≡ whole → Less ≡ whole
+compared_less rest left later u whole none cut h =
+    ap (λ d. slice_cmp nat_cmp d (value_of u ∷ decoded later)) (sym (decoded-nil rest none))
+    ∙ ap (slice_cmp nat_cmp (decoded rest)) (sym (decoded-cons left later u cut)) ∙ h
+
+pub compared_end : (rest left : List ℕ) (whole : Ordering) → rest ≡ [] → left ≡ []
+    → slice_cmp nat_cmp (decoded rest) (decoded left) ≡ whole → Equal ≡ whole
+compared_end rest left whole none empty h =
+    ap (slice_cmp nat_cmp []) (sym (decoded-nil left empty)) ∙ ap (λ d. slice_cmp nat_cmp d (decoded left)) (sym (decoded-nil rest none)) ∙ h
+
+pub compared_same : (o whole : Ordering) (rest : Ordering) → o ≡ Equal → ordering_then o rest ≡ whole → rest ≡ whole
+compared_same o whole rest is h = ap (λ x. ordering_then x rest) (sym is) ∙ h
+
+pub compared_other : (o whole : Ordering) (rest : Ordering) → (o ≡ Equal → ⊥) → ordering_then o rest ≡ whole → o ≡ whole
+compared_other Less whole rest other h = h
+compared_other Greater whole rest other h = h
+compared_other Equal whole rest other h = absurd (other refl)

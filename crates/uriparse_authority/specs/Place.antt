@@ -1,0 +1,44 @@
+-- Where the fault of an authority is: RFC 3986, section 3.2.
+use Rattle.std.specs.Prelude.{ℕ, Bool, not, ◌+◌, List, [], ◌++◌, length, unwrap_or}
+use Rattle.std.specs.List.{position_or_len}
+use Rattle.uriparse_text.specs.declared.internal.class.Class.TheVariants as class
+use Rattle.uriparse_text.specs.Address.{is_ipv6_byte}
+use Rattle.uriparse_text.specs.Bytes.{at_sign}
+use Rattle.uriparse_text.specs.Cuts.{ahead}
+use Rattle.uriparse_text.specs.Place as text
+use Rattle.uriparse_text.specs.Place.{place_behind}
+use Rattle.uriparse_authority.specs.declared.authority.error.AuthorityError.{AuthorityError}
+use Rattle.uriparse_authority.specs.declared.authority.error.AuthorityError.TheVariants as errors
+use Rattle.uriparse_authority.specs.declared.authority.error.HostError.{HostError}
+use Rattle.uriparse_authority.specs.declared.authority.error.HostError.TheVariants as host
+use Rattle.uriparse_authority.specs.declared.authority.error.PortError.{PortError}
+use Rattle.uriparse_authority.specs.declared.authority.error.PortError.TheVariants as port
+use Rattle.uriparse_authority.specs.Authority.{userinfo_text, username_text, password_text, host_text, port_text}
+use Rattle.uriparse_authority.specs.Future.{is_future_byte}
+use Rattle.uriparse_authority.specs.Host.{in_brackets}
+use Rattle.uriparse_authority.specs.Port.{is_other}
+
+-- the place of the first byte between brackets that doesn't pass
+abbrev pub literal_place : (ℕ → Bool) → List ℕ → ℕ
+literal_place passes t = place_behind 1 (position_or_len (λ b. not (passes b))) (in_brackets t)
+
+-- The place of this error in the text of a host: of a byte its own, of a wrong form the beginning.
+abbrev pub host_place : HostError → List ℕ → ℕ
+host_place host.InvalidIPv4OrRegisteredNameCharacter t = text.fault_place class.Name t
+host_place host.InvalidIPv6Character t = literal_place is_ipv6_byte t
+host_place host.InvalidIPv6Format t = 0
+host_place host.InvalidIPvFutureCharacter t = literal_place is_future_byte t
+host_place host.InvalidIPvFutureFormat t = 0
+host_place host.AddressMechanismNotSupported t = 0
+
+-- The same in the text of a port: of a byte its own, of too large a number the beginning.
+abbrev pub port_place : PortError → List ℕ → ℕ
+port_place port.InvalidCharacter t = position_or_len is_other t
+port_place port.Overflow t = 0
+
+-- The place of this error in the text of an authority: that in the component, after what precedes it.
+abbrev pub fault_place : AuthorityError → List ℕ → ℕ
+fault_place (errors.Username e) a = place_behind 0 (text.fault_place class.Name) (username_text a)
+fault_place (errors.Password e) a = length (unwrap_or (username_text a) []) + place_behind 1 (text.fault_place class.UserInfo) (password_text a)
+fault_place (errors.Host e) a = length (ahead at_sign (userinfo_text a)) + host_place e (host_text a)
+fault_place (errors.Port e) a = length (ahead at_sign (userinfo_text a) ++ host_text a) + place_behind 1 (port_place e) (port_text a)

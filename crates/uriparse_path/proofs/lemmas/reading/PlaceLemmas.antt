@@ -1,0 +1,202 @@
+-- The place of the leftmost fault of a path.
+use Rattle.std.proofs.Common.{◌≡◌, ◌≢◌, ℕ, zero, suc, ◌+◌, ◌-◌, ◌<◌, ◌≤◌, cond, Some, None, Bool, true, false, ◌&&◌, List, [], ◌∷◌, length, take, refl, sym, ap, ◌∙◌, arith}
+use Rattle.std.specs.Prelude.{not, ◌==◌}
+use Rattle.std.specs.List.{slice_split}
+use Rattle.std.proofs.lemmas.Bool.{and_parts, eqb-true, eqb-false, ne_eqb}
+use Rattle.uriparse_text.specs.declared.internal.class.Class.TheVariants.{Segment}
+use Rattle.uriparse_text.specs.Bytes.{is_hex}
+use Rattle.uriparse_text.specs.Classes.{is_plain}
+use Rattle.uriparse_text.specs.Tokens.{is_escape}
+use Rattle.uriparse_text.specs.Faults.{begins_fine}
+use Rattle.uriparse_path.specs.declared.path.error.PathError.{PathError}
+use Rattle.uriparse_path.specs.Path.{is_rooted, is_slash, max_segments, root, unrooted}
+use Rattle.uriparse_path.specs.Faults.{fault, fault_within}
+use Rattle.uriparse_path.specs.Place.{fault_place, place_within}
+use Rattle.uriparse_text.proofs.lemmas.tokens.TokenLemmas.{escape_at}
+use Rattle.uriparse_text.proofs.lemmas.classes.FaultByByteLemmas.{fine_plain, hex_plain}
+use Rattle.uriparse_path.proofs.lemmas.reading.FaultLemmas.{SameFrom, behind_plain, behind_sign, behind_slash, no_more}
+
+pub place-nil : (n : ℕ) → place_within n [] ≡ 0
+unfolding place_within
+place-nil n = refl
+
+pub place-fine : (n b : ℕ) (t : List ℕ) → begins_fine Segment (b ∷ t) ≡ true → place_within n (b ∷ t) ≡ suc (place_within n t)
+unfolding place_within
+place-fine n b t fine =
+    ap (λ v. cond v (1 + place_within n t) (cond (is_slash b && not (n == 0)) (1 + place_within (n - 1) t) 0)) fine ∙ (omega arith)
+
+place-other : (n b : ℕ) (t : List ℕ) → begins_fine Segment (b ∷ t) ≡ false
+    → place_within n (b ∷ t) ≡ cond (is_slash b && not (n == 0)) (1 + place_within (n - 1) t) 0
+unfolding place_within
+place-other n b t faulty = ap (λ v. cond v (1 + place_within n t) (cond (is_slash b && not (n == 0)) (1 + place_within (n - 1) t) 0)) faulty
+
+pub place-slash : (n b : ℕ) (t : List ℕ) → begins_fine Segment (b ∷ t) ≡ false → is_slash b ≡ true → n ≢ 0 → place_within n (b ∷ t) ≡ suc (place_within (n - 1) t)
+place-slash n b t faulty slash some =
+    place-other n b t faulty
+    ∙ ap (λ v. cond (v && not (n == 0)) (1 + place_within (n - 1) t) 0) slash
+    ∙ ap (λ v. cond (not v) (1 + place_within (n - 1) t) 0) (ne_eqb _ _ some) ∙ (omega arith)
+
+pub place-full : (b : ℕ) (t : List ℕ) → begins_fine Segment (b ∷ t) ≡ false → place_within 0 (b ∷ t) ≡ 0
+place-full b t faulty = place-other 0 b t faulty ∙ by_test (is_slash b)
+  where
+    by_test : (v : Bool) → cond (v && not (0 == 0)) (1 + place_within (0 - 1) t) 0 ≡ 0
+    by_test true = refl
+    by_test false = refl
+
+pub place-faulty : (n b : ℕ) (t : List ℕ) → begins_fine Segment (b ∷ t) ≡ false → is_slash b ≡ false → place_within n (b ∷ t) ≡ 0
+place-faulty n b t faulty other = place-other n b t faulty ∙ ap (λ v. cond (v && not (n == 0)) (1 + place_within (n - 1) t) 0) other
+
+-- ---- the walk
+
+pub record IsReached (slashes : ℕ) (t : List ℕ) (left : ℕ) (rest : List ℕ) : Type 0 where
+  pub within : length rest ≤ length t
+  pub total : place_within slashes t + length rest ≡ length t + place_within left rest
+
+pub walk_begins : (slashes : ℕ) (t : List ℕ) → IsReached slashes t slashes t
+walk_begins slashes t = record { within = omega arith; total = omega arith }
+
+module _ (slashes : ℕ) (t : List ℕ) (left : ℕ) (rest : List ℕ) (b : ℕ) (after : List ℕ) (is : IsReached slashes t left rest) (first : rest ≡ b ∷ after) where
+  pub walk_passes : begins_fine Segment rest ≡ true → IsReached slashes t left after
+  walk_passes fine =
+      let within = is.within in let total = is.total in let long = ap length first in
+      let f = ap (place_within left) first ∙ place-fine left b after (sym (ap (begins_fine Segment) first) ∙ fine) in
+      record { within = omega arith; total = omega (arith, total, f) }
+
+  pub walk_passes_slash : begins_fine Segment rest ≡ false → is_slash b ≡ true → left ≢ 0 → IsReached slashes t (left - 1) after
+  walk_passes_slash faulty slash some =
+      let within = is.within in let total = is.total in let long = ap length first in
+      let f = ap (place_within left) first ∙ place-slash left b after (sym (ap (begins_fine Segment) first) ∙ faulty) slash some in
+      record { within = omega arith; total = omega (arith, total, f) }
+
+  pub walk_stops_full : begins_fine Segment rest ≡ false → left ≡ 0 → length t - length rest ≡ place_within slashes t
+  walk_stops_full faulty none =
+      let within = is.within in let total = is.total in
+      let f = ap (λ n. place_within n rest) none ∙ ap (place_within 0) first ∙ place-full b after (sym (ap (begins_fine Segment) first) ∙ faulty) in
+      omega (arith, total, f)
+
+  pub walk_stops : begins_fine Segment rest ≡ false → is_slash b ≡ false → length t - length rest ≡ place_within slashes t
+  walk_stops faulty other =
+      let within = is.within in let total = is.total in
+      let f = ap (place_within left) first ∙ place-faulty left b after (sym (ap (begins_fine Segment) first) ∙ faulty) other in omega (arith, total, f)
+
+pub walk_ends : (slashes : ℕ) (t : List ℕ) (left : ℕ) (rest : List ℕ) → IsReached slashes t left rest → length rest ≡ 0 → length t ≡ place_within slashes t
+walk_ends slashes t left [] is end = let total = is.total in let f = place-nil left in omega (arith, total, f)
+walk_ends slashes t left (b ∷ rest) is end = absurd (omega (arith, end))
+
+pub rooted_length : (t : List ℕ) → length t ≡ length (root (is_rooted t)) + length (unrooted t)
+rooted_length [] = refl
+rooted_length (b ∷ t) = by_test (is_slash b)
+  where
+    by_test : (v : Bool) → length (b ∷ t) ≡ length (root v) + length (cond v t (b ∷ t))
+    by_test true = omega arith
+    by_test false = omega arith
+
+-- ---- a path with a fault has it before its end
+
+pub before_end_within : (n : ℕ) (t : List ℕ) (e : PathError) → fault_within (n + 1) (slice_split is_slash t) ≡ Some e → place_within n t < length t
+before_end_within n [] e h = let none = no_more n in cc
+before_end_within n (b ∷ t) e h = by_plain (is_plain Segment b) refl (before_end_within n t e) (before_end_within (n - 1) t e)
+  where
+    later : SameFrom n (b ∷ t) t → begins_fine Segment (b ∷ t) ≡ true
+        → (fault_within (n + 1) (slice_split is_slash t) ≡ Some e → place_within n t < length t) → place_within n (b ∷ t) < length (b ∷ t)
+    later same fine shorter = let s = shorter (sym same.fault ∙ h) in omega (arith, s, place-fine n b t fine)
+
+    by_slash : (u v : Bool) → is_slash b ≡ u → (n == 0) ≡ v → begins_fine Segment (b ∷ t) ≡ false
+        → (fault_within (n - 1 + 1) (slice_split is_slash t) ≡ Some e → place_within (n - 1) t < length t) → place_within n (b ∷ t) < length (b ∷ t)
+    by_slash true true f g faulty shorter = let none = eqb-true n 0 g in omega (arith, ap (λ m. place_within m (b ∷ t)) none ∙ place-full b t faulty)
+    by_slash true false f g faulty shorter = let s = shorter (sym (behind_slash (n - 1) b t f) ∙ ap (λ m. fault_within m (slice_split is_slash (b ∷ t))) (omega (arith, eqb-false n 0 g)) ∙ h) in omega (arith, s, place-slash n b t faulty f (eqb-false n 0 g))
+    by_slash false v f g faulty shorter = omega (arith, place-faulty n b t faulty f)
+
+    by_escape : (w : Bool) → is_escape b t ≡ w → is_plain Segment b ≡ false
+        → (fault_within (n + 1) (slice_split is_slash t) ≡ Some e → place_within n t < length t)
+        → (fault_within (n - 1 + 1) (slice_split is_slash t) ≡ Some e → place_within (n - 1) t < length t) → place_within n (b ∷ t) < length (b ∷ t)
+    by_escape true f g shorter other = later (behind_sign n b t f) (rw (g, f) refl) shorter
+    by_escape false f g shorter other = by_slash (is_slash b) (n == 0) refl refl (rw (g, f) refl) other
+
+    by_plain : (v : Bool) → is_plain Segment b ≡ v
+        → (fault_within (n + 1) (slice_split is_slash t) ≡ Some e → place_within n t < length t)
+        → (fault_within (n - 1 + 1) (slice_split is_slash t) ≡ Some e → place_within (n - 1) t < length t) → place_within n (b ∷ t) < length (b ∷ t)
+    by_plain true f shorter other = later (behind_plain n b t f) (rw f refl) shorter
+    by_plain false f shorter other = by_escape (is_escape b t) refl f shorter other
+
+pub before_end : (t : List ℕ) (e : PathError) → fault t ≡ Some e → fault_place t < length t
+unfolding fault max_segments
+before_end t e h =
+    let later = before_end_within (max_segments - 1) (unrooted t) e h in
+    omega (arith, later, rooted_length t)
+
+-- ---- what precedes the place has no fault
+
+module _ (n : ℕ) where
+  -- the digits of an escape are fine themselves
+  escape_before : (b : ℕ) (t : List ℕ) → is_escape b t ≡ true → is_escape b (take (place_within n t) t) ≡ true
+  escape_before b [] is = cc
+  escape_before b (c ∷ []) is = cc
+  escape_before b (high ∷ low ∷ rest) is =
+      let both = and_parts (is_hex high) (is_hex low) (escape_at b (high ∷ low ∷ rest) is).digits in
+      let second = place-fine n low rest (fine_plain Segment low rest (hex_plain Segment low both.1)) in
+      let first = place-fine n high (low ∷ rest) (fine_plain Segment high (low ∷ rest) (hex_plain Segment high both.0)) in
+      let two : place_within n (high ∷ low ∷ rest) ≡ suc (suc (place_within n rest)) = omega (arith, first, second) in
+      ap (λ k. is_escape b (take k (high ∷ low ∷ rest))) two ∙ is
+
+-- the pieces of the text have no fault, if so many slashes may be in it
+abbrev NoFault : ℕ → List ℕ → Type 0
+NoFault n t = fault_within (n + 1) (slice_split is_slash t) ≡ None
+
+before_within : (n : ℕ) (t : List ℕ) → NoFault n (take (place_within n t) t)
+before_within n [] = ap (λ k. fault_within (n + 1) (slice_split is_slash (take k []))) (place-nil n) ∙ no_more n
+before_within n (b ∷ t) = by_plain (is_plain Segment b) refl (before_within n t) (before_within (n - 1) t)
+  where
+    here : place_within n (b ∷ t) ≡ 0 → NoFault n (take (place_within n (b ∷ t)) (b ∷ t))
+    here none = ap (λ k. fault_within (n + 1) (slice_split is_slash (take k (b ∷ t)))) none ∙ no_more n
+
+    later : SameFrom n (b ∷ take (place_within n t) t) (take (place_within n t) t) → begins_fine Segment (b ∷ t) ≡ true
+        → NoFault n (take (place_within n t) t) → NoFault n (take (place_within n (b ∷ t)) (b ∷ t))
+    later same fine none =
+        ap (λ k. fault_within (n + 1) (slice_split is_slash (take k (b ∷ t)))) (place-fine n b t fine) ∙ same.fault ∙ none
+
+    by_slash : (u v : Bool) → is_slash b ≡ u → (n == 0) ≡ v → begins_fine Segment (b ∷ t) ≡ false
+        → NoFault (n - 1) (take (place_within (n - 1) t) t) → NoFault n (take (place_within n (b ∷ t)) (b ∷ t))
+    by_slash true true f g faulty none = here (ap (λ m. place_within m (b ∷ t)) (eqb-true n 0 g) ∙ place-full b t faulty)
+    by_slash true false f g faulty none =
+        let some = eqb-false n 0 g in
+        let one_less : n + 1 ≡ n - 1 + 1 + 1 = omega (arith, some) in
+        ap (λ k. fault_within (n + 1) (slice_split is_slash (take k (b ∷ t)))) (place-slash n b t faulty f some)
+        ∙ ap (λ m. fault_within m (slice_split is_slash (b ∷ take (place_within (n - 1) t) t))) one_less
+        ∙ behind_slash (n - 1) b (take (place_within (n - 1) t) t) f ∙ none
+    by_slash false v f g faulty none = here (place-faulty n b t faulty f)
+
+    by_escape : (w : Bool) → is_escape b t ≡ w → is_plain Segment b ≡ false → NoFault n (take (place_within n t) t)
+        → NoFault (n - 1) (take (place_within (n - 1) t) t) → NoFault n (take (place_within n (b ∷ t)) (b ∷ t))
+    by_escape true f g none other = later (behind_sign n b (take (place_within n t) t) (escape_before n b t f)) (rw (g, f) refl) none
+    by_escape false f g none other = by_slash (is_slash b) (n == 0) refl refl (rw (g, f) refl) other
+
+    by_plain : (v : Bool) → is_plain Segment b ≡ v → NoFault n (take (place_within n t) t)
+        → NoFault (n - 1) (take (place_within (n - 1) t) t) → NoFault n (take (place_within n (b ∷ t)) (b ∷ t))
+    by_plain true f none other = later (behind_plain n b (take (place_within n t) t) f) (rw f refl) none
+    by_plain false f none other = by_escape (is_escape b t) refl f none other
+
+unrooted_front : (b k : ℕ) (t : List ℕ) → is_slash b ≡ false → unrooted (take k (b ∷ t)) ≡ take k (b ∷ t)
+unrooted_front b zero t other = refl
+unrooted_front b (suc k) t other = ap (λ v. cond v (take k t) (b ∷ take k t)) other
+
+pub faultless_before : (t : List ℕ) → fault (take (fault_place t) t) ≡ None
+unfolding fault max_segments
+faultless_before [] =
+    let k : fault_place [] ≡ 0 = omega (arith, place-nil (max_segments - 1)) in
+    ap (λ m. fault_within max_segments (slice_split is_slash (unrooted (take m [])))) k ∙ no_more (max_segments - 1)
+faultless_before (b ∷ t) = by_slash (is_slash b) refl
+  where
+    by_slash : (v : Bool) → is_slash b ≡ v → fault (take (fault_place (b ∷ t)) (b ∷ t)) ≡ None
+    by_slash true e =
+        let k : fault_place (b ∷ t) ≡ suc (place_within (max_segments - 1) t) =
+        ap (λ v. length (root v) + place_within (max_segments - 1) (cond v t (b ∷ t))) e ∙ (omega arith) in
+        ap (λ m. fault_within max_segments (slice_split is_slash (unrooted (take m (b ∷ t))))) k
+        ∙ ap (λ v. fault_within max_segments (slice_split is_slash (cond v (take (place_within (max_segments - 1) t) t) (b ∷ take (place_within (max_segments - 1) t) t)))) e
+        ∙ before_within (max_segments - 1) t
+    by_slash false e =
+        let k : fault_place (b ∷ t) ≡ place_within (max_segments - 1) (b ∷ t) =
+        ap (λ v. length (root v) + place_within (max_segments - 1) (cond v t (b ∷ t))) e ∙ (omega arith) in
+        ap (λ m. fault_within max_segments (slice_split is_slash (unrooted (take m (b ∷ t))))) k
+        ∙ ap (λ u. fault_within max_segments (slice_split is_slash u)) (unrooted_front b (place_within (max_segments - 1) (b ∷ t)) t e)
+        ∙ before_within (max_segments - 1) (b ∷ t)

@@ -1,0 +1,55 @@
+-- Where the fault of a text is, as a number of bytes from its beginning.
+use Rattle.std.specs.Prelude.{ℕ, ◌+◌, List, ◌++◌, length, Option}
+use Rattle.std.specs.Option.{option_map}
+use Rattle.uriparse_text.specs.declared.internal.class.Class.TheVariants.{Query}
+use Rattle.uriparse_text.specs.Bytes.{colon, question_mark, number_sign}
+use Rattle.uriparse_text.specs.Cuts.{ahead, after, before, behind, up_to}
+use Rattle.uriparse_text.specs.Place as text
+use Rattle.uriparse_text.specs.Place.{place_behind}
+use Rattle.uriparse_path.specs.Faults.{ends_path}
+use Rattle.uriparse_path.specs.Place as path
+use Rattle.uriparse_authority.specs.Place as authority
+use Rattle.uriparse_reference.specs.declared.uri_reference.error.URIReferenceError.{URIReferenceError}
+use Rattle.uriparse_reference.specs.declared.uri_reference.error.URIReferenceError.TheVariants as errors
+use Rattle.uriparse_reference.specs.Reference.{behind_slashes}
+use Rattle.uriparse_reference.specs.Cuts.{scheme_text, authority_text, path_text, query_text, fragment_text}
+use Rattle.uriparse_reference.specs.Reading.{fault}
+
+-- The length of what precedes the path, of what precedes the query with its "?", and of what precedes the fragment with its "#".
+abbrev pub path_begin : List ℕ → ℕ
+path_begin t = length (ahead colon (scheme_text t) ++ behind_slashes (authority_text t))
+
+abbrev pub path_end : List ℕ → ℕ
+path_end t = path_begin t + length (path_text t)
+
+abbrev pub query_end : List ℕ → ℕ
+query_end t = path_end t + length (behind question_mark (query_text t))
+
+-- The place of this error in the text: in a component that in the component, after what precedes it. A path that may not follow
+-- what precedes it is wrong where it begins. Of the last two errors no text has one.
+abbrev pub fault_place : URIReferenceError → List ℕ → ℕ
+fault_place (errors.Authority e) t = length (ahead colon (scheme_text t)) + place_behind 2 (authority.fault_place e) (authority_text t)
+fault_place (errors.Path e) t = path_begin t + path.fault_place (path_text t)
+fault_place errors.AbsolutePathStartsWithTwoSlashes t = path_begin t
+fault_place errors.SchemelessPathStartsWithColonSegment t = path_begin t
+fault_place (errors.Query e) t = path_end t + place_behind 1 (text.fault_place Query) (query_text t)
+fault_place (errors.Fragment e) t = query_end t + place_behind 1 (text.fault_place Query) (fragment_text t)
+fault_place errors.MissingPath t = path_begin t
+fault_place (errors.Scheme e) t = 0
+
+-- the fault of a text, and where it is
+abbrev pub first_fault : List ℕ → Option (ℕ × URIReferenceError)
+first_fault t = option_map (λ e. (fault_place e t, e)) (fault t)
+
+-- ---- words of the clauses of private functions alone
+
+-- the place of this error in what follows the authority
+abbrev pub tail_place : URIReferenceError → List ℕ → ℕ
+tail_place (errors.Authority e) u = 0
+tail_place (errors.Path e) u = path.fault_place (up_to ends_path u)
+tail_place errors.AbsolutePathStartsWithTwoSlashes u = 0
+tail_place errors.SchemelessPathStartsWithColonSegment u = 0
+tail_place (errors.Query e) u = length (up_to ends_path u) + place_behind 1 (text.fault_place Query) (after question_mark (before number_sign u))
+tail_place (errors.Fragment e) u = length (before number_sign u) + place_behind 1 (text.fault_place Query) (after number_sign u)
+tail_place errors.MissingPath u = 0
+tail_place (errors.Scheme e) u = 0

@@ -1,0 +1,70 @@
+//! Where the fault of a text is.
+ghost use Rattle.std.specs.Prelude.{◌≡◌, ◌≤◌, length};
+ghost use Rattle.uriparse_text.specs.declared.internal.class.Class.TheVariants as class;
+ghost use Rattle.uriparse_text.specs.Cuts.{part};
+ghost use Rattle.uriparse_text.specs.Place as text_place;
+ghost use Rattle.uriparse_text.specs.Place.{place_behind};
+ghost use Rattle.uriparse_authority.specs.Place as authority;
+ghost use Rattle.uriparse_reference.specs.Cuts.{cut_authority};
+ghost use Rattle.uriparse_reference.specs.Place as spec;
+
+use super::error::URIReferenceError;
+use super::escape::split_authority;
+use uriparse_authority::authority::AuthorityError;
+use uriparse_authority::internal::place_in_authority;
+use uriparse_path::internal::place_of_path_fault;
+use uriparse_scheme::internal::split_scheme;
+use uriparse_text::internal::{Class, place_of_fault, split_at_mark, without_mark};
+
+/// The place of this error in what follows a scheme.
+fn authority_place(error: &AuthorityError, text: &[u8]) -> usize
+    ensures place { result ≡ place_behind 2 (authority.fault_place error.now) (cut_authority text.now) }
+    ensures within { result ≤ length text.now }
+{
+    match split_authority(text).0 {
+        Some(authority) => 2 + place_in_authority(error, authority),
+        None => 0,
+    }
+}
+
+/// The place of the fault of a query or a fragment, from its delimiter on.
+fn component_place(text: &[u8]) -> usize
+    ensures place { result ≡ place_behind 1 (text_place.fault_place class.Query) (part text.now) }
+    ensures within { result ≤ length text.now }
+{
+    match without_mark(text) {
+        Some(component) => 1 + place_of_fault(Class::Query, component),
+        None => 0,
+    }
+}
+
+/// The place of this error in what follows the authority.
+fn tail_place(error: &URIReferenceError, text: &[u8]) -> usize
+    ensures place { result ≡ spec.tail_place error.now text.now }
+    ensures within { result ≤ length text.now }
+{
+    let (front, fragment) = split_at_mark(text, b'#');
+    let (path, query) = split_at_mark(front, b'?');
+    match error {
+        URIReferenceError::Path(_) => place_of_path_fault(path),
+        URIReferenceError::Query(_) => path.len() + component_place(query),
+        URIReferenceError::Fragment(_) => front.len() + component_place(fragment),
+        _ => 0,
+    }
+}
+
+/// The place of this error in the text of a reference. Does not allocate.
+pub(super) fn place_of(error: &URIReferenceError, text: &[u8]) -> usize
+    ensures place { result ≡ spec.fault_place error.now text.now }
+    ensures within { result ≤ length text.now }
+{
+    let rest = split_scheme(text).rest;
+    let (_, behind) = split_authority(rest);
+    match error {
+        URIReferenceError::Authority(error) => {
+            text.len() - rest.len() + authority_place(error, rest)
+        }
+        URIReferenceError::Scheme(_) => 0,
+        _ => text.len() - behind.len() + tail_place(error, behind),
+    }
+}

@@ -1,0 +1,83 @@
+//! Whether the text of a view is the one that its reference prints, or that of its normal form: RFC
+//! 3986, sections 5.3 and 6.2.2.
+ghost use Rattle.std.specs.Prelude.{◌≡◌, ◌↔◌, [], IsTrue, unwrap_or};
+ghost use Rattle.uriparse_path.specs.Path.{text};
+ghost use Rattle.uriparse_reference.specs.Cuts.{authority_text, path_text, scheme_text};
+ghost use Rattle.uriparse_reference.specs.Reference.{authority_part, print, scheme_part};
+ghost use Rattle.uriparse_reference.specs.Normal.{normal};
+
+use super::super::escape::split_authority;
+use super::ReferenceView;
+use uriparse_authority::internal::is_printed_authority;
+use uriparse_scheme::internal::split_scheme;
+
+impl<'t> ReferenceView<'t> {
+    /// Whether the scheme, if present, prints its text.
+    fn has_printed_scheme(&self) -> bool
+        ensures { IsTrue result ↔ (scheme_part self.now.parts ≡ scheme_text self.now.text) }
+    {
+        match self.scheme() {
+            Some(scheme) => scheme.as_str().as_bytes() == self.pieces.scheme,
+            None => true,
+        }
+    }
+
+    /// The text of the authority, empty without one.
+    fn authority_bytes(&self) -> &'t [u8]
+        ensures { result.now ≡ unwrap_or (authority_text self.now.text) [] }
+    {
+        let (authority, _) = split_authority(split_scheme(self.text).rest);
+        authority.unwrap_or(b"")
+    }
+
+    /// Whether the authority, if present, prints its text.
+    fn has_printed_authority(&self) -> bool
+        ensures { IsTrue result ↔ (authority_part self.now.parts ≡ authority_text self.now.text) }
+    {
+        let _text = &self.text;
+        match self.authority() {
+            Some(authority) => is_printed_authority(&authority, self.authority_bytes()),
+            None => true,
+        }
+    }
+
+    /// Whether the path prints its text.
+    fn has_printed_path(&self) -> bool
+        ensures { IsTrue result ↔ (text self.now.parts.path ≡ path_text self.now.text) }
+    {
+        self.path_bytes() == self.pieces.tail.path
+    }
+
+    /// Whether the scheme and the authority, if present, print their texts.
+    fn has_printed_front(&self) -> bool
+        ensures { IsTrue result ↔ ((scheme_part self.now.parts ≡ scheme_text self.now.text) × (authority_part self.now.parts ≡ authority_text self.now.text)) }
+    {
+        self.has_printed_scheme() && self.has_printed_authority()
+    }
+
+    /// Whether the reference prints the text that was read.
+    fn is_printed(&self) -> bool
+        ensures { IsTrue result ↔ (print self.now.parts ≡ self.now.text) }
+    {
+        let _text = &self.text;
+        self.has_printed_path() && self.has_printed_front()
+    }
+
+    /// Whether the text that was read is that of the normal form, byte for byte: what
+    /// [`normalize_into`](ReferenceView::normalize_into) would write. Other than
+    /// [`is_normalized`](ReferenceView::is_normalized), it also counts what reading itself changes:
+    /// the case of a registered scheme, another text of an IPv6 address, leading zeros of a port or
+    /// a port without digits, and an empty path after an authority. Does not allocate.
+    ///
+    /// ```
+    /// let view = ReferenceView::try_from_str("HTTP://example.com/")?;
+    /// assert!(view.is_normalized() && !view.is_normalized_text());
+    /// assert!(ReferenceView::try_from_str("http://example.com/")?.is_normalized_text());
+    /// ```
+    pub fn is_normalized_text(&self) -> bool
+        ensures { IsTrue result ↔ (print (normal self.now.parts) ≡ self.now.text) }
+    {
+        let _text = &self.text;
+        self.is_printed() && self.is_normalized()
+    }
+}
