@@ -5,7 +5,7 @@ ghost use Rattle.std.specs.Prelude.{◌≤◌};
 use std::alloc::{AllocError, AllocFailed};
 use std::io;
 use thiserror::Error;
-use uriparse::{PathError, QueryError, URIError, URIReferenceError};
+use uriparse::{BufferError, PathError, QueryError, URIError, URIReferenceError};
 
 /// Why a command printed nothing, or not all of its output.
 #[derive(Debug, Drop, Error)]
@@ -47,6 +47,20 @@ pub enum Failure {
 impl<T: Drop> From<AllocFailed<T>> for Failure {
     fn from(_error: AllocFailed<T>) -> Failure {
         Failure::Memory(AllocError)
+    }
+}
+
+/// A buffer that is too small has to grow, and merged paths that are too long are reported as
+/// [`URI::resolve`](uriparse::URI) reports them.
+impl From<BufferError> for Failure {
+    fn from(error: BufferError) -> Failure {
+        match error {
+            BufferError::TooSmall(_) => Failure::Memory(AllocError),
+            BufferError::RelativeBase => Failure::Uri(URIError::NotURI),
+            BufferError::TooManySegments => {
+                Failure::Uri(URIError::Path(PathError::ExceededMaximumLength))
+            }
+        }
     }
 }
 

@@ -11,11 +11,10 @@ ghost use Rattle.std.specs.List.{list_all};
 ghost use Rattle.uri_commands.specs.Json.{escaped, escaped_byte, is_plain, is_special};
 
 use crate::failure::Failure;
-use std::alloc::Global;
 use std::fmt::Display;
 use std::io;
 use std::io::Write;
-use uriparse::{Host, Segment, URIReference};
+use uriparse::{Host, ReferenceView, Segments};
 
 /// Writes text between the quotes of a JSON string, with a `\` before each `"` and each `\`. A
 /// reference is ASCII text without control characters, and JSON escapes nothing else.
@@ -136,39 +135,39 @@ fn write_port<O: Write>(port: Option<u16>, out: &mut O) -> io::Result<()> {
 }
 
 /// Writes the member `segments`, a list.
-fn write_segments<O: Write>(segments: &[Segment<'_>], out: &mut O) -> io::Result<()> {
+fn write_segments<O: Write>(segments: Segments<'_>, out: &mut O) -> io::Result<()> {
     write_name("segments", out)?;
     out.write_all(b"[")?;
-    for (at, segment) in segments.iter().enumerate() {
-        if at > 0 {
-            out.write_all(b",")?;
-        }
+    let mut separator: &[u8] = b"";
+    for segment in segments {
+        out.write_all(separator)?;
         write_string(&segment.as_str(), out)?;
+        separator = b",";
     }
     out.write_all(b"]")
 }
 
 /// Writes the members of the scheme and the authority.
-fn write_front<O: Write>(reference: &URIReference<'_>, out: &mut O) -> io::Result<()> {
-    write_member("scheme", reference.scheme(), out)?;
-    write_member("username", reference.username(), out)?;
-    write_member("password", reference.password(), out)?;
-    write_host(reference.host(), out)?;
+fn write_front<O: Write>(reference: &ReferenceView<'_>, out: &mut O) -> io::Result<()> {
+    write_member("scheme", reference.scheme().as_ref(), out)?;
+    write_member("username", reference.username().as_ref(), out)?;
+    write_member("password", reference.password().as_ref(), out)?;
+    write_host(reference.host().as_ref(), out)?;
     write_port(reference.port(), out)
 }
 
 /// Writes the members of the path, the query and the fragment.
-fn write_back<O: Write>(reference: &URIReference<'_>, out: &mut O) -> io::Result<()> {
-    write_member("path", Some(reference.path()), out)?;
-    write_member("query", reference.query(), out)?;
-    write_member("fragment", reference.fragment(), out)?;
-    write_segments(reference.path().segments(), out)
+fn write_back<O: Write>(reference: &ReferenceView<'_>, out: &mut O) -> io::Result<()> {
+    write_member("path", Some(&reference.path()), out)?;
+    write_member("query", reference.query().as_ref(), out)?;
+    write_member("fragment", reference.fragment().as_ref(), out)?;
+    write_segments(reference.segments(), out)
 }
 
 /// Writes the object, and a newline.
 fn write_object<O: Write>(
     text: &[u8],
-    reference: &URIReference<'_>,
+    reference: &ReferenceView<'_>,
     out: &mut O,
 ) -> io::Result<()> {
     write_text(text, out)?;
@@ -177,8 +176,9 @@ fn write_object<O: Write>(
     out.write_all(b"}\n")
 }
 
-/// Prints the reference that the text spells as a JSON object, with the text as it was given.
-pub fn parse_json<O: Write>(alloc: Global, text: &[u8], out: &mut O) -> Result<(), Failure> {
-    let reference = URIReference::try_from_bytes(alloc, text)?;
+/// Prints the reference that the text spells as a JSON object, with the text as it was given. Does
+/// not allocate.
+pub fn parse_json<O: Write>(text: &[u8], out: &mut O) -> Result<(), Failure> {
+    let reference = ReferenceView::try_from_bytes(text)?;
     write_object(text, &reference, out).map_err(Failure::Io)
 }

@@ -128,7 +128,7 @@ fn command<O: Write>(
     match (options.is_quiet, options.is_json, options.trims, words) {
         (false, false, false, _) => plain_command(alloc, words, out),
         (true, false, false, _) => quiet(words),
-        (false, true, false, ["parse", text]) => parse_json(alloc, text.as_bytes(), out),
+        (false, true, false, ["parse", text]) => parse_json(text.as_bytes(), out),
         (false, false, true, ["escape", text]) => escape_link(alloc, text.as_bytes(), out),
         _ => Err(Failure::Usage),
     }

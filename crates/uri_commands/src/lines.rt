@@ -10,14 +10,14 @@ use crate::escape::{escape, escape_link};
 use crate::failure::Failure;
 use crate::get::{Part, get_part, read_part};
 use crate::json::parse_json;
-use crate::normalize::normalize;
+use crate::normalize::normalize_with;
 use crate::options::Options;
 use crate::quiet::{check, check_equal};
-use crate::resolve::resolve_against;
+use crate::resolve::resolve_with;
 use std::alloc::Global;
 use std::io;
 use std::io::{BufRead, BufReader, BufWriter, Read, Write};
-use uriparse::URI;
+use uriparse::URIView;
 
 /// How many bytes each of the three buffers has.
 const CAPACITY: usize = 65_536;
@@ -34,7 +34,7 @@ enum Task<'w> {
     /// Print the same of the text without what is round a link.
     EscapeLink,
     /// Print the target of the reference against this base.
-    Resolve(URI<'w>),
+    Resolve(URIView<'w>),
     /// Print this part of the reference, or an empty line if it is absent.
     Get(Part),
     /// Print whether the line's two references are equal.
@@ -53,7 +53,7 @@ impl<'w> Task<'w> {
 }
 
 /// Reads a task from the words of the command. A base is read here, before any line.
-fn read_task<'w>(alloc: Global, options: Options, words: &[&'w str]) -> Result<Task<'w>, Failure> {
+fn read_task<'w>(options: Options, words: &[&'w str]) -> Result<Task<'w>, Failure> {
     match (options.is_quiet, options.is_json, words) {
         (false, false, ["escape"]) if options.trims => Ok(Task::EscapeLink),
         _ if options.trims => Err(Failure::Usage),
@@ -64,7 +64,7 @@ fn read_task<'w>(alloc: Global, options: Options, words: &[&'w str]) -> Result<T
         (false, false, ["normalize"]) => Ok(Task::Normalize),
         (false, false, ["escape"]) => Ok(Task::Escape),
         (false, false, ["get", part]) => Ok(Task::Get(read_part(part)?)),
-        (false, false, ["resolve", base]) => { Ok(Task::Resolve(URI::try_from_str(alloc, base)?)) }
+        (false, false, ["resolve", base]) => { Ok(Task::Resolve(URIView::try_from_str(base)?)) }
         _ => Err(Failure::Usage),
     }
 }
@@ -97,19 +97,20 @@ fn get_or_empty<O: Write>(part: Part, line: &[u8], out: &mut O) -> Result<(), Fa
     }
 }
 
-/// Does the task for a line.
+/// Does the task for a line. Normal forms and targets are put together in the buffer.
 fn run_task<O: Write>(
     alloc: Global,
     task: &Task<'_>,
+    buffer: &mut Vec<u8>,
     line: &[u8],
     out: &mut O,
 ) -> Result<(), Failure> {
     match task {
-        Task::Parse => parse_json(alloc, line, out),
-        Task::Normalize => normalize(alloc, line, out),
+        Task::Parse => parse_json(line, out),
+        Task::Normalize => normalize_with(buffer, line, out),
         Task::Escape => escape(alloc, line, out),
         Task::EscapeLink => escape_link(alloc, line, out),
-        Task::Resolve(base) => resolve_against(alloc, base, line, out),
+        Task::Resolve(base) => resolve_with(buffer, base, line, out),
         Task::Get(part) => get_or_empty(*part, line, out),
         Task::Equal => equal_pair(line, out),
         Task::Check => check(line),
@@ -175,12 +176,13 @@ fn report<E: Write>(number: u64, failure: &Failure, line: &[u8], err: &mut E) ->
 fn do_line<O: Write, E: Write>(
     alloc: Global,
     task: &Task<'_>,
+    buffer: &mut Vec<u8>,
     number: u64,
     line: &[u8],
     out: &mut O,
     err: &mut E,
 ) -> Result<Outcome, Failure> {
-    match run_task(alloc, task, line, out) {
+    match run_task(alloc, task, buffer, line, out) {
         Ok(()) => Ok(Outcome::Done),
         Err(Failure::Different) => Ok(Outcome::Different),
         Err(failure) if failure.ends_work() => Err(failure),
@@ -204,11 +206,12 @@ fn do_lines<I: BufRead, O: Write, E: Write>(
 ) -> Result<Outcome, Failure> {
     let mut worst = Outcome::Done;
     let mut line = Vec::new(alloc);
+    let mut buffer = Vec::new(alloc);
     for number in 1..u64::MAX {
         if !read_line(input, &mut line)? {
             break;
         }
-        let outcome = do_line(alloc, task, number, &line, out, err)?;
+        let outcome = do_line(alloc, task, &mut buffer, number, &line, out, err)?;
         worst = worst.max(outcome);
     }
     Ok(worst)
@@ -249,7 +252,7 @@ pub fn lines<I: Read, O: Write, E: Write>(
 ) -> Result<u8, Failure>
     ensures { IfOk result (λ status. status ≤ 3) }
 {
-    let task = read_task(alloc, options, words)?;
+    let task = read_task(options, words)?;
     let mut input = BufReader::with_capacity(alloc, CAPACITY, input)?;
     let worst = do_buffered(alloc, &task, &mut input, out, err)?;
     Ok(worst.status())

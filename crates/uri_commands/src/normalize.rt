@@ -1,23 +1,38 @@
 //! `uri normalize TEXT`: a reference in its normal form.
 
+ghost use Rattle.std.specs.Prelude.{◌≤◌, IfOk, length};
+
 use crate::failure::Failure;
-use crate::print::print_line;
+use crate::print::print_text;
 use std::alloc::Global;
 use std::io::Write;
-use uriparse::URIReference;
+use uriparse::{BufferError, ReferenceView};
 
 /// Prints the reference's normal form.
 pub fn normalize<O: Write>(alloc: Global, text: &[u8], out: &mut O) -> Result<(), Failure> {
-    let mut reference = URIReference::try_from_bytes(alloc, text)?;
-    print_normal(alloc, &mut reference, out)
+    normalize_with(&mut Vec::new(alloc), text, out)
 }
 
-/// Brings the reference into its normal form, and prints it.
-fn print_normal<O: Write>(
-    alloc: Global,
-    reference: &mut URIReference<'_>,
+/// Prints the reference's normal form, which is put together in a buffer that grows to its length.
+pub fn normalize_with<O: Write>(
+    buffer: &mut Vec<u8>,
+    text: &[u8],
     out: &mut O,
 ) -> Result<(), Failure> {
-    reference.normalize(alloc)?;
-    print_line(reference, out).map_err(Failure::Io)
+    let reference = ReferenceView::try_from_bytes(text)?;
+    let len = put_normal(&reference, buffer)?;
+    print_text(&buffer[..len], out).map_err(Failure::Io)
+}
+
+/// Puts the text of the normal form at the start of the buffer, and returns its length.
+fn put_normal(reference: &ReferenceView<'_>, buffer: &mut Vec<u8>) -> Result<usize, Failure>
+    ensures { IfOk result (λ len. len ≤ length buffer.new.items) }
+{
+    match reference.normalize_into(buffer) {
+        Err(BufferError::TooSmall(len)) => {
+            buffer.resize(len, 0)?;
+            Ok(reference.normalize_into(buffer)?)
+        }
+        result => Ok(result?),
+    }
 }

@@ -9,6 +9,12 @@ pub fn print_line<T: Display, O: Write>(value: &T, out: &mut O) -> io::Result<()
     writeln!(out, "{value}")
 }
 
+/// Prints the text.
+pub fn print_text<O: Write>(text: &[u8], out: &mut O) -> io::Result<()> {
+    out.write_all(text)?;
+    out.write_all(b"\n")
+}
+
 /// Prints the component after its name, if it is present.
 pub fn print_part<T: Display, O: Write>(
     name: &str,

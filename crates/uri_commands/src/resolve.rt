@@ -1,10 +1,12 @@
 //! `uri resolve BASE REF`: the target of a reference against a base.
 
+ghost use Rattle.std.specs.Prelude.{◌≤◌, IfOk, length};
+
 use crate::failure::Failure;
-use crate::print::print_line;
+use crate::print::print_text;
 use std::alloc::Global;
 use std::io::Write;
-use uriparse::{URI, URIReference};
+use uriparse::{BufferError, ReferenceView, URIView};
 
 /// Prints the target of the reference against the base, which is read first.
 pub fn resolve<O: Write>(
@@ -13,28 +15,36 @@ pub fn resolve<O: Write>(
     reference: &[u8],
     out: &mut O,
 ) -> Result<(), Failure> {
-    let base = URI::try_from_bytes(alloc, base)?;
-    resolve_against(alloc, &base, reference, out)
+    let base = URIView::try_from_bytes(base)?;
+    resolve_with(&mut Vec::new(alloc), &base, reference, out)
 }
 
-/// Reads the reference, and prints its target against the base.
-pub fn resolve_against<O: Write>(
-    alloc: Global,
-    base: &URI<'_>,
+/// Reads the reference, and prints its target against the base, which is put together in a buffer
+/// that grows to its length.
+pub fn resolve_with<O: Write>(
+    buffer: &mut Vec<u8>,
+    base: &URIView<'_>,
     reference: &[u8],
     out: &mut O,
 ) -> Result<(), Failure> {
-    let reference = URIReference::try_from_bytes(alloc, reference)?;
-    print_target(alloc, base, &reference, out)
+    let reference = ReferenceView::try_from_bytes(reference)?;
+    let len = put_target(base, &reference, buffer)?;
+    print_text(&buffer[..len], out).map_err(Failure::Io)
 }
 
-/// Prints the target of the reference against the base.
-fn print_target<O: Write>(
-    alloc: Global,
-    base: &URI<'_>,
-    reference: &URIReference<'_>,
-    out: &mut O,
-) -> Result<(), Failure> {
-    let target = base.resolve(alloc, reference)?;
-    print_line(&target, out).map_err(Failure::Io)
+/// Puts the text of the target at the start of the buffer, and returns its length.
+fn put_target(
+    base: &URIView<'_>,
+    reference: &ReferenceView<'_>,
+    buffer: &mut Vec<u8>,
+) -> Result<usize, Failure>
+    ensures { IfOk result (λ len. len ≤ length buffer.new.items) }
+{
+    match base.resolve_into(reference, buffer) {
+        Err(BufferError::TooSmall(len)) => {
+            buffer.resize(len, 0)?;
+            Ok(base.resolve_into(reference, buffer)?)
+        }
+        result => Ok(result?),
+    }
 }
