@@ -11,7 +11,7 @@ use std::io::Write;
 use std::test::Fail;
 use std::{io, str};
 
-const USAGE: &str = "usage: uri COMMAND TEXT..\n";
+const USAGE: &str = "usage: uri COMMAND TEXT..\nuri help lists the commands\n";
 
 const HELP: &str = "\
 uri parse TEXT        the reference, and then each of its parts
@@ -38,6 +38,9 @@ uri help COMMAND      more on a command or on an option, with an example
 uri --json parse TEXT the reference as a JSON object
 uri --quiet parse TEXT, uri --quiet equal A B
                       nothing but the status
+uri --explain parse TEXT, uri --explain resolve BASE REF
+                      the same, but a rejected text is shown with a caret
+                      under its first wrong byte
 uri --trim escape TEXT
                       the text without white space and <> round it, escaped
 uri --lines parse, uri --lines normalize, uri --lines resolve BASE,
@@ -306,6 +309,31 @@ impl Write for Full {
 
     fn flush(&mut self) -> io::Result<()> {
         Ok(())
+    }
+}
+
+/// A pipe that nobody reads any more.
+#[derive(Drop)]
+struct ClosedPipe;
+
+impl Write for ClosedPipe {
+    fn write(&mut self, _buf: &[u8]) -> io::Result<usize> {
+        Err(io::Error::from(io::ErrorKind::BrokenPipe))
+    }
+
+    fn flush(&mut self) -> io::Result<()> {
+        Ok(())
+    }
+}
+
+#[test]
+fn a_closed_pipe_ends_with_1_and_no_message(rt: HostRuntime) {
+    let alloc = rt.alloc();
+    for words in [["--lines", "escape"], ["tail", "a"], ["help", "parse"]] {
+        let mut err = Vec::new(alloc);
+        let mut input = "a\n".as_bytes();
+        let status = run_with_input(alloc, &words, &mut input, &mut ClosedPipe, &mut err);
+        assert!(rt; status == 1 && err.is_empty());
     }
 }
 

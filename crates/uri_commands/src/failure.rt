@@ -11,7 +11,7 @@ use uriparse::{BufferError, PathError, QueryError, URIError, URIReferenceError};
 #[derive(Debug, Drop, Error)]
 pub enum Failure {
     /// No such command or edit, or a wrong number of words.
-    #[error("usage: uri COMMAND TEXT..")]
+    #[error("usage: uri COMMAND TEXT..\nuri help lists the commands")]
     Usage,
     /// A text that is no reference, or no part of one.
     #[error(transparent)]
@@ -74,6 +74,14 @@ impl Failure {
             Failure::Usage => 2,
             Failure::Absent | Failure::Different => 3,
             _ => 1,
+        }
+    }
+
+    /// Whether nobody reads the output any more, as after `head`. The status alone reports it.
+    pub fn is_closed_pipe(&self) -> bool {
+        match self {
+            Failure::Io(error) => error.kind() == io::ErrorKind::BrokenPipe,
+            _ => false,
         }
     }
 

@@ -31,6 +31,9 @@ uri help COMMAND      more on a command or on an option, with an example
 uri --json parse TEXT the reference as a JSON object
 uri --quiet parse TEXT, uri --quiet equal A B
                       nothing but the status
+uri --explain parse TEXT, uri --explain resolve BASE REF
+                      the same, but a rejected text is shown with a caret
+                      under its first wrong byte
 uri --trim escape TEXT
                       the text without white space and <> round it, escaped
 uri --lines parse, uri --lines normalize, uri --lines resolve BASE,

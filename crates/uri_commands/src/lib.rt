@@ -10,6 +10,7 @@ mod coding;
 mod edit;
 mod equal;
 mod escape;
+mod explain;
 mod failure;
 mod get;
 mod help;
@@ -31,6 +32,7 @@ use coding::{decode, encode};
 use edit::edit;
 use equal::equal;
 use escape::{escape, escape_link};
+use explain::explain;
 use failure::Failure;
 use get::get;
 use help::{help, help_on, version};
@@ -60,8 +62,9 @@ pub fn run<O: Write, E: Write>(alloc: Global, words: &[&str], out: &mut O, err: 
 ///
 /// - 0 on success;
 /// - 1 if a text is rejected, memory runs out, or a read or a write fails: `err` gets a line that says
-///   why, or one for each rejected line of the input;
-/// - 2 on a usage error: `err` gets a line on the usage;
+///   why, or one for each rejected line of the input, but nothing if nobody reads the output any more;
+///   with `--explain` it gets three lines for each rejected text;
+/// - 2 on a usage error: `err` gets two lines on the usage;
 /// - 3 if `get` finds no such part, `pairs` no query, or `--quiet equal` two references that differ.
 ///   Nothing is written.
 ///
@@ -80,28 +83,47 @@ pub fn run_with_input<I: Read, O: Write, E: Write>(
     let (options, words) = split_options(words);
     if options.reads_lines {
         let result = lines(alloc, options, words, input, out, err);
-        return status_of(false, result, err);
+        return status_of(options, words, result, err);
     }
     let result = command(alloc, options, words, out);
-    status_of(options.is_quiet, result.map(|()| 0), err)
+    status_of(options, words, result.map(|()| 0), err)
 }
 
-/// The status of a command's result. A failure is reported in a line of `err`, except one of status 3,
-/// and with `--quiet` one of status 1.
-fn status_of<E: Write>(is_quiet: bool, answer: Result<u8, Failure>, err: &mut E) -> u8
+/// The status of a command's result. A failure is reported on `err`.
+fn status_of<E: Write>(
+    options: Options,
+    words: &[&str],
+    answer: Result<u8, Failure>,
+    err: &mut E,
+) -> u8
     requires { IfOk answer (λ status. status ≤ 3) }
     ensures { result ≤ 3 }
 {
     match answer {
         Ok(status) => status,
         Err(failure) => {
-            let status = failure.status();
-            if status == 2 || (status == 1 && !is_quiet) {
-                // The status reports a failure that can't be written either.
-                let _ = writeln!(err, "{failure}");
-            }
-            status
+            // The status reports a failure that can't be written either.
+            let _ = report(options, words, &failure, err);
+            failure.status()
         }
+    }
+}
+
+/// Reports a failure, except one of status 3, a closed pipe, and with `--quiet` one of status 1 that
+/// doesn't end the work on many lines.
+fn report<E: Write>(
+    options: Options,
+    words: &[&str],
+    failure: &Failure,
+    err: &mut E,
+) -> io::Result<()> {
+    match failure.status() {
+        2 => writeln!(err, "{failure}"),
+        1 if failure.is_closed_pipe() => Ok(()),
+        1 if options.is_quiet && !options.reads_lines => Ok(()),
+        1 if options.explains => explain(words, failure, err),
+        1 => writeln!(err, "{failure}"),
+        _ => Ok(()),
     }
 }
 
@@ -126,6 +148,7 @@ fn command<O: Write>(
     out: &mut O,
 ) -> Result<(), Failure> {
     match (options.is_quiet, options.is_json, options.trims, words) {
+        _ if !options.allow(words) => Err(Failure::Usage),
         (false, false, false, _) => plain_command(alloc, words, out),
         (true, false, false, _) => quiet(words),
         (false, true, false, ["parse", text]) => parse_json(text.as_bytes(), out),

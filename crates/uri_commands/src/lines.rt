@@ -7,6 +7,7 @@ ghost use Rattle.uri_commands.specs.Lines.{newline};
 
 use crate::equal::equal;
 use crate::escape::{escape, escape_link};
+use crate::explain::explain_line;
 use crate::failure::Failure;
 use crate::get::{Part, get_part, read_part};
 use crate::json::parse_json;
@@ -55,6 +56,7 @@ impl<'w> Task<'w> {
 /// Reads a task from the words of the command. A base is read here, before any line.
 fn read_task<'w>(options: Options, words: &[&'w str]) -> Result<Task<'w>, Failure> {
     match (options.is_quiet, options.is_json, words) {
+        _ if !options.allow(words) => Err(Failure::Usage),
         (false, false, ["escape"]) if options.trims => Ok(Task::EscapeLink),
         _ if options.trims => Err(Failure::Usage),
         (false, _, ["parse"]) => Ok(Task::Parse),
@@ -164,8 +166,18 @@ pub fn read_line<I: BufRead>(input: &mut I, line: &mut Vec<u8>) -> io::Result<bo
     Ok(count > 0)
 }
 
-/// Reports a rejected line.
-fn report<E: Write>(number: u64, failure: &Failure, line: &[u8], err: &mut E) -> io::Result<()> {
+/// Reports a rejected line. If `explains` is set and the line is no reference, three lines say where
+/// it is wrong.
+fn report<E: Write>(
+    explains: bool,
+    number: u64,
+    failure: &Failure,
+    line: &[u8],
+    err: &mut E,
+) -> io::Result<()> {
+    if explains && explain_line(number, line, err)? {
+        return Ok(());
+    }
     write!(err, "line {number}: {failure}: ")?;
     err.write_all(line)?;
     err.write_all(b"\n")
@@ -175,6 +187,7 @@ fn report<E: Write>(number: u64, failure: &Failure, line: &[u8], err: &mut E) ->
 /// out or a write fails.
 fn do_line<O: Write, E: Write>(
     alloc: Global,
+    explains: bool,
     task: &Task<'_>,
     buffer: &mut Vec<u8>,
     number: u64,
@@ -189,7 +202,7 @@ fn do_line<O: Write, E: Write>(
         Err(failure) => {
             if !task.is_quiet() {
                 // The status reports a rejection that can't be written either.
-                let _ = report(number, &failure, line, err);
+                let _ = report(explains, number, &failure, line, err);
             }
             Ok(Outcome::Rejected)
         }
@@ -199,6 +212,7 @@ fn do_line<O: Write, E: Write>(
 /// Does the task for each line, and returns the worst outcome.
 fn do_lines<I: BufRead, O: Write, E: Write>(
     alloc: Global,
+    explains: bool,
     task: &Task<'_>,
     input: &mut I,
     out: &mut O,
@@ -211,7 +225,9 @@ fn do_lines<I: BufRead, O: Write, E: Write>(
         if !read_line(input, &mut line)? {
             break;
         }
-        let outcome = do_line(alloc, task, &mut buffer, number, &line, out, err)?;
+        let outcome = do_line(
+            alloc, explains, task, &mut buffer, number, &line, out, err,
+        )?;
         worst = worst.max(outcome);
     }
     Ok(worst)
@@ -220,6 +236,7 @@ fn do_lines<I: BufRead, O: Write, E: Write>(
 /// Does the task for each line with buffered output, which is written even if the work ends early.
 fn do_buffered<I: BufRead, O: Write, E: Write>(
     alloc: Global,
+    explains: bool,
     task: &Task<'_>,
     input: &mut I,
     out: &mut O,
@@ -227,7 +244,7 @@ fn do_buffered<I: BufRead, O: Write, E: Write>(
 ) -> Result<Outcome, Failure> {
     let mut out = BufWriter::with_capacity(alloc, CAPACITY, out)?;
     let mut err = BufWriter::with_capacity(alloc, CAPACITY, err)?;
-    let worst = do_lines(alloc, task, input, &mut out, &mut err);
+    let worst = do_lines(alloc, explains, task, input, &mut out, &mut err);
     let flushed = out.flush();
     // The status reports rejections that can't be written either.
     let _ = err.flush();
@@ -254,6 +271,6 @@ pub fn lines<I: Read, O: Write, E: Write>(
 {
     let task = read_task(options, words)?;
     let mut input = BufReader::with_capacity(alloc, CAPACITY, input)?;
-    let worst = do_buffered(alloc, &task, &mut input, out, err)?;
+    let worst = do_buffered(alloc, options.explains, &task, &mut input, out, err)?;
     Ok(worst.status())
 }

@@ -11,6 +11,18 @@ pub struct Options {
     pub is_quiet: bool,
     /// `--trim`: what is round a link is taken off.
     pub trims: bool,
+    /// `--explain`: three lines say where a rejected text is wrong, and why.
+    pub explains: bool,
+}
+
+impl Options {
+    /// Whether `--explain` is absent, or may stand with the other options and this command.
+    pub fn allow(self, words: &[&str]) -> bool {
+        match words {
+            ["parse" | "resolve", ..] => !(self.explains && self.is_quiet),
+            _ => !self.explains,
+        }
+    }
 }
 
 /// Splits the words into the options and the words of the command.
@@ -22,6 +34,7 @@ pub fn split_options<'w, 't>(words: &'w [&'t str]) -> (Options, &'w [&'t str]) {
         is_json: false,
         is_quiet: false,
         trims: false,
+        explains: false,
     };
     for at in 0..words.len() {
         match words[at] {
@@ -29,6 +42,7 @@ pub fn split_options<'w, 't>(words: &'w [&'t str]) -> (Options, &'w [&'t str]) {
             "--json" => options.is_json = true,
             "--quiet" => options.is_quiet = true,
             "--trim" => options.trims = true,
+            "--explain" => options.explains = true,
             _ => return (options, &words[at..]),
         }
     }

@@ -5,13 +5,16 @@ const PARSE: &str = "\
 uri parse TEXT
 uri --json parse TEXT
 uri --quiet parse TEXT
+uri --explain parse TEXT
 uri --lines parse
 uri --lines --quiet parse
+uri --lines --explain parse
 
 Prints the reference, and on a line each its components as NAME=VALUE: scheme,
 username, password, host, port, path, query and fragment, if present. The name
 of a host says what it is: host.ipv4, host.ipv6, host.ipvfuture or host.name.
-For the options see uri help --json, uri help --quiet and uri help --lines.
+For the options see uri help --json, uri help --quiet, uri help --explain and
+uri help --lines.
 
 Exit status: 0 on success, 1 if a text is no reference, 2 on a usage error.
 
@@ -102,10 +105,12 @@ prints
 
 const RESOLVE: &str = "\
 uri resolve BASE REF
+uri --explain resolve BASE REF
 uri --lines resolve BASE
+uri --lines --explain resolve BASE
 
 Prints the target of the reference against the base, a URI: RFC 3986, section
-5.2.
+5.2. For the option see uri help --explain.
 
 Exit status: 0 on success, 1 if the base is no URI, a text is no reference or
 the merged path is too long, 2 on a usage error.
@@ -225,8 +230,8 @@ uri help COMMAND
 uri --help
 
 Prints the commands, or more on one of them or on one of the options --json,
---quiet, --trim and --lines. Options come before the command, in any order: a
-word after the command is a text.
+--quiet, --explain, --trim and --lines. Options come before the command, in any
+order: a word after the command is a text.
 
 Exit status: 0 on success, 2 on a usage error. Every command ends with 1 if
 memory runs out, a read or a write fails, or an argument is not UTF-8.
@@ -285,6 +290,31 @@ prints
     rejected
 ";
 
+const EXPLAIN: &str = "\
+uri --explain parse TEXT
+uri --explain --json parse TEXT
+uri --explain resolve BASE REF
+uri --lines --explain parse
+uri --lines --explain resolve BASE
+
+Explains on the standard error why a text is rejected, in three lines: the text,
+a caret under the first byte that is wrong, and the error with the component and
+the number of bytes before that byte. An address of a wrong form, too large a
+port and a path with a colon that is taken for a scheme's are wrong where they
+begin. Of a long text 72 bytes are shown; a byte that is not printable ASCII is
+shown as a dot. With resolve the third line says which text is wrong, with
+--lines on which line.
+
+Exit status: 0 on success, 1 if a text is rejected, 2 on a usage error.
+
+Example:
+    uri --explain parse 'http://h/a b' 2>&1
+prints
+    http://h/a b
+              ^
+    path at byte 10: invalid path character
+";
+
 const TRIM: &str = "\
 uri --trim escape TEXT
 uri --lines --trim escape
@@ -312,6 +342,8 @@ uri --lines escape
 uri --lines --trim escape
 uri --lines --quiet parse
 uri --lines --quiet equal
+uri --lines --explain parse
+uri --lines --explain resolve BASE
 
 Runs the command for each line of the standard input, and prints one line for
 each, in order. A line is one text, or for equal two, separated by a tab; parse
@@ -350,6 +382,7 @@ pub fn page(name: &str) -> Option<&'static str> {
         "help" => Some(HELP),
         "--json" => Some(JSON),
         "--quiet" => Some(QUIET),
+        "--explain" => Some(EXPLAIN),
         "--trim" => Some(TRIM),
         "--lines" => Some(LINES),
         _ => None,

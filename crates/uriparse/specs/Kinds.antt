@@ -1,10 +1,12 @@
 -- References of one kind: all have a scheme, or none has one. RFC 3986, section 4.1.
 use Rattle.std.specs.Prelude.{◌≡◌, ℕ, Bool, false, if◌then◌else◌, List, Option, Result, Ok, Err, is_some}
 use Rattle.std.specs.Bool.{beq}
+use Rattle.std.specs.Option.{option_map, option_or}
 use Rattle.uriparse_text.specs.Readings.{◌>>=◌, fault_in, of_piece}
 use Rattle.uriparse_reference.specs.declared.uri_reference.error.URIReferenceError.{URIReferenceError}
 use Rattle.uriparse_reference.specs.Reference.{Parts}
 use Rattle.uriparse_reference.specs.Builder.{Held}
+use Rattle.uriparse_reference.specs.Place.{first_fault}
 use Rattle.uriparse_reference.specs.Reading.{reading}
 use Rattle.uriparse_reference.specs.View.{Viewed}
 
@@ -33,6 +35,12 @@ abbrev pub viewed_of : {E : Type 0} → Bool → (URIReferenceError → E) → E
 viewed_of has_scheme told other t = do
   parts ← reading_of has_scheme told other t
   Ok (record { text = t; parts = parts })
+
+-- Where a text is wrong, and why: where its fault is, or else at its beginning, if it is of the other kind. A scheme that is
+-- missing would begin there, and one that may not be begins there.
+abbrev pub first_fault_of : {E : Type 0} → Bool → (URIReferenceError → E) → E → List ℕ → Option (ℕ × E)
+first_fault_of has_scheme told other t =
+    option_or (option_map (λ f. (f.0, told f.1)) (first_fault t)) (option_map (λ e. (0, e)) (fault_of has_scheme told other t))
 
 -- a builder holds a scheme only where the kind has one
 abbrev pub HoldsKind : Bool → Held → Type 0

@@ -9,6 +9,7 @@ pub use Rattle.uriparse_text.specs.Classes
 pub use Rattle.uriparse_text.specs.Tokens
 pub use Rattle.uriparse_text.specs.Cuts as TextCuts
 pub use Rattle.uriparse_text.specs.Faults as TextFaults
+pub use Rattle.uriparse_text.specs.Place as TextPlace
 pub use Rattle.uriparse_text.specs.Readings
 pub use Rattle.uriparse_text.specs.Canonical
 pub use Rattle.uriparse_text.specs.Coding
@@ -44,6 +45,7 @@ pub use Rattle.uriparse_authority.specs.Host
 pub use Rattle.uriparse_authority.specs.Name
 pub use Rattle.uriparse_authority.specs.Future
 pub use Rattle.uriparse_authority.specs.Port
+pub use Rattle.uriparse_authority.specs.Place as AuthorityPlace
 pub use Rattle.uriparse_authority.specs.Normal as AuthorityNormal
 pub use Rattle.uriparse_authority.specs.declared.authority.host.Host as HostValue
 pub use Rattle.uriparse_authority.specs.declared.authority.error.AuthorityError
@@ -55,6 +57,7 @@ pub use Rattle.uriparse_authority.specs.declared.authority.error.PortError
 pub use Rattle.uriparse_path.specs.Segment
 pub use Rattle.uriparse_path.specs.Path
 pub use Rattle.uriparse_path.specs.Faults as PathFaults
+pub use Rattle.uriparse_path.specs.Place as PathPlace
 pub use Rattle.uriparse_path.specs.Dots
 pub use Rattle.uriparse_path.specs.Relative
 pub use Rattle.uriparse_path.specs.Edits as PathEdits
@@ -68,6 +71,7 @@ pub use Rattle.uriparse_reference.specs.Reference
 pub use Rattle.uriparse_reference.specs.Kinds as ReferenceKinds
 pub use Rattle.uriparse_reference.specs.Cuts
 pub use Rattle.uriparse_reference.specs.Reading
+pub use Rattle.uriparse_reference.specs.Place
 pub use Rattle.uriparse_reference.specs.View
 pub use Rattle.uriparse_reference.specs.Escaped
 pub use Rattle.uriparse_reference.specs.Into

@@ -1,6 +1,7 @@
 //! A reference of one kind: what URIs and relative references share.
-ghost use Rattle.std.specs.Prelude.{◌≡◌, ◌⊎◌, if◌then◌else◌, false, IfOk, IfErr, Ok, Err, Some, bytes_eq, fold, is_some, length, string_bytes};
+ghost use Rattle.std.specs.Prelude.{◌≡◌, ◌⊎◌, ◌<◌, if◌then◌else◌, false, [], IfOk, IfErr, IfSome, Ok, Err, Some, bytes_eq, fold, is_some, length, string_bytes};
 ghost use Rattle.std.specs.Bool.{beq};
+ghost use Rattle.std.specs.Option.{option_map};
 ghost use Rattle.std.proofs.Common.{rules};
 ghost use Rattle.std.specs.Ordering.{on};
 ghost use Rattle.std.specs.Cmp.Rules.{comparing, hashing};
@@ -9,7 +10,7 @@ ghost use Rattle.uriparse_path.specs.declared.path.error.PathError.TheVariants.{
 ghost use Rattle.uriparse_reference.specs.declared.uri_reference.error.URIReferenceError.TheVariants as errors;
 ghost use Rattle.uriparse_reference.specs.Key.{fed, fed_key, key};
 ghost use Rattle.uriparse_reference.specs.Reference.{print};
-ghost use Rattle.uriparse.specs.Kinds.{IsOfKind, fault_of, of_kind, reading_of, told_of};
+ghost use Rattle.uriparse.specs.Kinds.{IsOfKind, fault_of, first_fault_of, of_kind, reading_of, told_of};
 
 use crate::builder_of::BuilderOf;
 use crate::kind::ReferenceKind;
@@ -128,6 +129,33 @@ impl<'r, K: ReferenceKind> ReferenceOf<'r, K> {
         match find_pieces(bytes) {
             Ok(pieces) => Self::check_kind(pieces.has_scheme()),
             Err(error) => Err(K::told(error)),
+        }
+    }
+
+    /// Where a text is wrong, and why: what
+    /// [`URIReference::first_fault`] returns, with the error mapped to the kind's. A faultless text
+    /// of the other kind is wrong at its beginning, where a missing scheme would stand, or a scheme
+    /// stands that may not be there. `None` if [`check`](ReferenceOf::check) accepts the text, else
+    /// its error, with a place before the end of the text, or 0 if the text is empty. Does not
+    /// allocate.
+    pub fn first_fault(bytes: &[u8]) -> Option<(usize, K::Error)>
+        ensures fault { result ≡ first_fault_of K.has_scheme K.told K.other bytes.now }
+        ensures error { option_map (λ f. f.1) result ≡ fault_of K.has_scheme K.told K.other bytes.now }
+        ensures within { IfSome result (λ f. (f.0 < length bytes.now) ⊎ (bytes.now ≡ [])) }
+    {
+        match URIReference::first_fault(bytes) {
+            Some((place, error)) => Some((place, K::told(error))),
+            None => Self::other_fault(bytes),
+        }
+    }
+
+    /// What [`check`](ReferenceOf::check) says of a text, at its beginning.
+    fn other_fault(bytes: &[u8]) -> Option<(usize, K::Error)>
+        ensures { result ≡ option_map (λ e. (0, e)) (fault_of K.has_scheme K.told K.other bytes.now) }
+    {
+        match Self::check(bytes) {
+            Ok(()) => None,
+            Err(error) => Some((0, error)),
         }
     }
 

@@ -1,14 +1,15 @@
 -- The result of reading a reference of one kind.
-use Rattle.std.proofs.Common.{◌≡◌, ℕ, Bool, true, false, cond, List, Option, None, Some, Ok, Err, inl, inr, refl, sym, ap, ◌∙◌}
-use Rattle.std.specs.Prelude.{IfOk, Result, is_some}
+use Rattle.std.proofs.Common.{◌≡◌, ℕ, ◌<◌, Bool, true, false, cond, List, [], ◌∷◌, length, arith, Option, None, Some, Ok, Err, inl, inr, refl, sym, ap, ◌∙◌}
+use Rattle.std.specs.Prelude.{◌⊎◌, IfOk, IfSome, Result, is_some}
 use Rattle.std.specs.Bool.{beq}
-use Rattle.std.specs.Option.{option_map}
+use Rattle.std.specs.Option.{option_map, option_or}
 use Rattle.uriparse_text.specs.Readings.{◌>>=◌, IsUnless, fault_in, unless_fault}
 use Rattle.uriparse_reference.specs.declared.uri_reference.error.URIReferenceError.{URIReferenceError}
 use Rattle.uriparse_reference.specs.Reference.{Parts, Spells}
+use Rattle.uriparse_reference.specs.Place.{fault_place, first_fault}
 use Rattle.uriparse_reference.specs.Reading.{reading}
 use Rattle.uriparse_reference.proofs.lemmas.reading.ReadingLemmas.{again, found}
-use Rattle.uriparse.specs.Kinds.{IsOfKind, fault_of, of_kind, reading_of, told_of}
+use Rattle.uriparse.specs.Kinds.{IsOfKind, fault_of, first_fault_of, of_kind, reading_of, told_of}
 
 -- a reference of the kind is taken
 pub of_its_kind : {E : Type 0} (v : Bool) (other : E) (p : Parts) → IsOfKind v p → of_kind v other p ≡ Ok p
@@ -71,3 +72,47 @@ checked v told other t p b is h =
 pub unchecked : {E : Type 0} (v : Bool) (told : URIReferenceError → E) (other : E) (t : List ℕ) (e : URIReferenceError) → reading t ≡ Err e
     → ◌≡◌ {A = Result (Unit {0}) E} (Err (told e)) (unless_fault (fault_of v told other t) tt)
 unchecked v told other t e h = ap (λ r. unless_fault (fault_in (told_of told r >>= of_kind v other)) tt) (sym h)
+
+-- ---- where a text is wrong
+
+abbrev at_zero : {E : Type 0} → E → ℕ × E
+at_zero x = (0, x)
+
+module _ {E : Type 0} (v : Bool) (told : URIReferenceError → E) (other : E) where
+  pub faulty_place : (t : List ℕ) (n : ℕ) (e : URIReferenceError) → first_fault t ≡ Some (n, e) → first_fault_of v told other t ≡ Some (n, told e)
+  faulty_place t n e h = ap (λ o. option_or (option_map (λ f. (f.0, told f.1)) o) (option_map (λ x. (0, x)) (fault_of v told other t))) h
+
+  pub other_place : (t : List ℕ) (o : Option E) → first_fault t ≡ None → fault_of v told other t ≡ o → first_fault_of v told other t ≡ option_map (λ x. (0, x)) o
+  other_place t o h k =
+      ap (λ u. option_or (option_map (λ f. (f.0, told f.1)) u) (option_map (λ x. (0, x)) (fault_of v told other t))) h ∙ ap (option_map (λ x. (0, x))) k
+
+  zero_dropped : (o : Option E) → option_map (λ f. f.1) (option_map at_zero o) ≡ o
+  zero_dropped None = refl
+  zero_dropped (Some x) = refl
+
+  -- the error is that of the readers
+  pub told_fault : (t : List ℕ) → option_map (λ f. f.1) (first_fault_of v told other t) ≡ fault_of v told other t
+  told_fault t = by_reading (reading t)
+    where
+      by_reading : (r : Result Parts URIReferenceError)
+          → option_map (λ (f : ℕ × E). f.1) (option_or (option_map (λ (f : ℕ × URIReferenceError). (f.0, told f.1)) (option_map (λ e. (fault_place e t, e)) (fault_in r)))
+          (option_map (λ x. (0, x)) (fault_in (told_of told r >>= of_kind v other))))
+          ≡ fault_in (told_of told r >>= of_kind v other)
+      by_reading (Ok p) = zero_dropped (fault_in (of_kind v other p))
+      by_reading (Err e) = refl
+
+pub checked_fault : {A E : Type 0} (o : Option E) (x : A) (e : E) → unless_fault o x ≡ Err e → o ≡ Some e
+checked_fault None x e h = absurd (cc)
+checked_fault (Some y) x e h = let same : y ≡ e = cc in ap Some same
+
+pub checked_none : {A E : Type 0} (o : Option E) (x : A) → ◌≡◌ {A = Result A E} (unless_fault o x) (Ok x) → o ≡ None
+checked_none None x h = refl
+checked_none (Some y) x h = absurd (cc)
+
+pub some_or_none : (t : List ℕ) → (0 < length t) ⊎ (t ≡ [])
+some_or_none [] = inr refl
+some_or_none (b ∷ t) = inl (omega arith)
+
+pub zero_within : {E : Type 0} (t : List ℕ) (o : Option E) → IfSome (option_map at_zero o) (λ f. (f.0 < length t) ⊎ (t ≡ []))
+zero_within t None = tt
+zero_within t (Some x) = some_or_none t

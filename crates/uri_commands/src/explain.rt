@@ -1,0 +1,139 @@
+//! `--explain`: where a rejected text is wrong, and why, on three lines.
+
+use crate::failure::Failure;
+use std::cmp::min;
+use std::io;
+use std::io::Write;
+use uriparse::{AuthorityError, URI, URIError, URIReference, URIReferenceError};
+
+/// How many bytes of a text are shown at most.
+const WIDTH: usize = 72;
+
+/// The component of an authority that the error is about.
+fn part_of_authority(error: &AuthorityError) -> &'static str {
+    match error {
+        AuthorityError::Username(_) => "username",
+        AuthorityError::Password(_) => "password",
+        AuthorityError::Host(_) => "host",
+        AuthorityError::Port(_) => "port",
+    }
+}
+
+/// The component of a reference that the error is about.
+fn part_of_reference(error: &URIReferenceError) -> &'static str {
+    match error {
+        URIReferenceError::Scheme(_) => "scheme",
+        URIReferenceError::Authority(error) => part_of_authority(error),
+        URIReferenceError::Query(_) => "query",
+        URIReferenceError::Fragment(_) => "fragment",
+        _ => "path",
+    }
+}
+
+/// The component of a URI that the error is about.
+fn part_of_uri(error: &URIError) -> &'static str {
+    match error {
+        URIError::NotURI | URIError::MissingScheme | URIError::Scheme(_) => "scheme",
+        URIError::Authority(error) => part_of_authority(error),
+        URIError::Query(_) => "query",
+        URIError::Fragment(_) => "fragment",
+        _ => "path",
+    }
+}
+
+/// The byte if it is printable ASCII, else a dot.
+fn shown(b: u8) -> u8 {
+    match b {
+        b' '..=b'~' => b,
+        _ => b'.',
+    }
+}
+
+/// Where the bytes begin that are shown of a text of this length, round this place.
+fn window(len: usize, place: usize) -> usize {
+    min(place.saturating_sub(WIDTH / 2), len.saturating_sub(WIDTH))
+}
+
+/// Writes a line with the bytes of the text from this one on.
+fn write_text<E: Write>(text: &[u8], start: usize, err: &mut E) -> io::Result<()> {
+    for b in text.iter().skip(start).take(WIDTH) {
+        err.write_all(&[shown(*b)])?;
+    }
+    err.write_all(b"\n")
+}
+
+/// Writes a line with a caret in this column.
+fn write_caret<E: Write>(column: usize, err: &mut E) -> io::Result<()> {
+    for _ in 0..column {
+        err.write_all(b" ")?;
+    }
+    err.write_all(b"^\n")
+}
+
+/// Writes the text, or what is round this place in it, and a caret under the place.
+fn write_place<E: Write>(text: &[u8], place: usize, err: &mut E) -> io::Result<()> {
+    let start = window(text.len(), place);
+    write_text(text, start, err)?;
+    write_caret(place.saturating_sub(start), err)
+}
+
+/// Explains why a base is no URI. Returns whether it is none.
+fn explain_base<E: Write>(text: &[u8], err: &mut E) -> io::Result<bool> {
+    let Some((place, error)) = URI::first_fault(text) else {
+        return Ok(false);
+    };
+    write_place(text, place, err)?;
+    let part = part_of_uri(&error);
+    writeln!(err, "base: {part} at byte {place}: {error}")?;
+    Ok(true)
+}
+
+/// Explains why a text is no reference, by this name of the text. Returns whether it is none.
+fn explain_reference<E: Write>(name: &str, text: &[u8], err: &mut E) -> io::Result<bool> {
+    let Some((place, error)) = URIReference::first_fault(text) else {
+        return Ok(false);
+    };
+    write_place(text, place, err)?;
+    let part = part_of_reference(&error);
+    writeln!(err, "{name}{part} at byte {place}: {error}")?;
+    Ok(true)
+}
+
+/// Explains why a text is no reference, by its line's number. Returns whether it is none.
+pub fn explain_line<E: Write>(number: u64, text: &[u8], err: &mut E) -> io::Result<bool> {
+    let Some((place, error)) = URIReference::first_fault(text) else {
+        return Ok(false);
+    };
+    write_place(text, place, err)?;
+    let part = part_of_reference(&error);
+    writeln!(err, "line {number}: {part} at byte {place}: {error}")?;
+    Ok(true)
+}
+
+/// Explains which of two texts is wrong, the base or the reference. Returns whether one is.
+fn explain_either<E: Write>(base: &str, reference: &str, err: &mut E) -> io::Result<bool> {
+    if explain_base(base.as_bytes(), err)? {
+        return Ok(true);
+    }
+    explain_reference("reference: ", reference.as_bytes(), err)
+}
+
+/// Explains why a text of the command of these words is rejected. Returns whether one is.
+fn explain_words<E: Write>(words: &[&str], err: &mut E) -> io::Result<bool> {
+    match words {
+        ["parse", text] => explain_reference("", text.as_bytes(), err),
+        ["resolve", base] => explain_base(base.as_bytes(), err),
+        ["resolve", base, reference] => explain_either(base, reference, err),
+        _ => Ok(false),
+    }
+}
+
+/// Writes three lines on the text that the command of these words rejects: the text, a caret under
+/// its first wrong byte, and its fault. If the command fails for another reason, only that is
+/// written.
+pub fn explain<E: Write>(words: &[&str], failure: &Failure, err: &mut E) -> io::Result<()> {
+    if explain_words(words, err)? {
+        return Ok(());
+    }
+    writeln!(err, "{failure}")
+}
