@@ -1,3 +1,4 @@
 pub mod KindLemmas
 pub mod BuilderLemmas
 pub mod ResolveLemmas
+pub mod FileLemmas

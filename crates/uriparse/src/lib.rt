@@ -11,6 +11,7 @@
 #![tactic(auto)]
 
 mod builder_of;
+pub mod file;
 mod kind;
 pub mod laws;
 mod reference_of;
