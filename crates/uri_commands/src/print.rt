@@ -1,4 +1,4 @@
-//! What commands print: values and components of texts, each on a line of its own.
+//! What commands print: values, bytes, and components of texts, each on a line of its own.
 
 use std::fmt::Display;
 use std::io;
@@ -7,6 +7,12 @@ use std::io::Write;
 /// Prints the value.
 pub fn print_line<T: Display, O: Write>(value: &T, out: &mut O) -> io::Result<()> {
     writeln!(out, "{value}")
+}
+
+/// Prints the bytes, and a newline.
+pub fn print_bytes<O: Write>(bytes: &[u8], out: &mut O) -> io::Result<()> {
+    out.write_all(bytes)?;
+    out.write_all(b"\n")
 }
 
 /// Prints the component after its name, if it is present.

@@ -6,7 +6,7 @@ use std::str;
 use std::test::Fail;
 
 /// Each command and option that has a page.
-static NAMES: [&str; 17] = [
+static NAMES: [&str; 18] = [
     "parse",
     "tail",
     "get",
@@ -18,6 +18,7 @@ static NAMES: [&str; 17] = [
     "encode",
     "escape",
     "pairs",
+    "file",
     "edit",
     "help",
     "--json",
