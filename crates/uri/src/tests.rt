@@ -1,5 +1,6 @@
 //! The commands' output and statuses.
 
+mod files;
 mod lines;
 mod links;
 mod options;
@@ -29,6 +30,8 @@ uri encode KIND TEXT  the text as a segment, query, fragment, username or
 uri escape TEXT       any text as a reference, with escapes for what it
                       can't have
 uri pairs TEXT        the pairs of the reference's query, a line each
+uri file PATH         the URI of a file's absolute path
+uri get file URI      the path of the file that the URI names
 uri edit TEXT EDIT..  the reference with all edits made, from the left;
                       an edit is scheme V, authority V, path V, query V,
                       fragment V, drop-scheme, drop-authority, drop-query,

@@ -1,9 +1,8 @@
 //! `uri decode TEXT` and `uri encode KIND TEXT`: between bytes and percent-encoded components.
 
 use crate::failure::Failure;
-use crate::print::print_line;
+use crate::print::{print_bytes, print_line};
 use std::alloc::Global;
-use std::io;
 use std::io::Write;
 use uriparse::{Fragment, Password, Query, Segment, Username};
 
@@ -13,12 +12,6 @@ pub fn decode<O: Write>(alloc: Global, text: &[u8], out: &mut O) -> Result<(), F
     let query = Query::try_from_bytes(text)?;
     let bytes = query.decode(alloc)?;
     print_bytes(&bytes, out).map_err(Failure::Io)
-}
-
-/// Prints the bytes, and a newline.
-fn print_bytes<O: Write>(bytes: &[u8], out: &mut O) -> io::Result<()> {
-    out.write_all(bytes)?;
-    out.write_all(b"\n")
 }
 
 /// Encodes the bytes as a component of this kind, and prints it.

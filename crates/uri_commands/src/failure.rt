@@ -5,6 +5,7 @@ ghost use Rattle.std.specs.Prelude.{◌≤◌};
 use std::alloc::{AllocError, AllocFailed};
 use std::io;
 use thiserror::Error;
+use uriparse::file::FileError;
 use uriparse::{BufferError, PathError, QueryError, URIError, URIReferenceError};
 
 /// Why a command printed nothing, or not all of its output.
@@ -28,6 +29,9 @@ pub enum Failure {
     /// A text that is no query.
     #[error(transparent)]
     Query(#[from] QueryError),
+    /// A path that has no file URI, or a URI that names no file's path.
+    #[error(transparent)]
+    File(#[from] FileError),
     /// A line that should hold two texts.
     #[error("no tab between two texts")]
     NoTab,

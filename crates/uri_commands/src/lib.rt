@@ -12,6 +12,7 @@ mod equal;
 mod escape;
 mod explain;
 mod failure;
+mod file;
 mod get;
 mod help;
 pub mod internal;
@@ -34,6 +35,7 @@ use equal::equal;
 use escape::{escape, escape_link};
 use explain::explain;
 use failure::Failure;
+use file::{file, get_file};
 use get::get;
 use help::{help, help_on, version};
 use json::parse_json;
@@ -173,7 +175,9 @@ fn plain_command<O: Write>(alloc: Global, words: &[&str], out: &mut O) -> Result
 /// Runs a command whose texts are read as bytes.
 fn byte_command<O: Write>(alloc: Global, words: &[&str], out: &mut O) -> Result<(), Failure> {
     match words {
+        ["get", "file", text] => get_file(alloc, text.as_bytes(), out),
         ["get", part, text] => get(part, text.as_bytes(), out),
+        ["file", path] => file(alloc, path.as_bytes(), out),
         ["pairs", text] => pairs(alloc, text.as_bytes(), out),
         ["normalize", text] => normalize(alloc, text.as_bytes(), out),
         ["escape", text] => escape(alloc, text.as_bytes(), out),

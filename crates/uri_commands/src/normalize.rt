@@ -3,7 +3,7 @@
 ghost use Rattle.std.specs.Prelude.{◌≤◌, IfOk, length};
 
 use crate::failure::Failure;
-use crate::print::print_text;
+use crate::print::print_bytes;
 use std::alloc::Global;
 use std::io::Write;
 use uriparse::{BufferError, ReferenceView};
@@ -21,7 +21,7 @@ pub fn normalize_with<O: Write>(
 ) -> Result<(), Failure> {
     let reference = ReferenceView::try_from_bytes(text)?;
     let len = put_normal(&reference, buffer)?;
-    print_text(&buffer[..len], out).map_err(Failure::Io)
+    print_bytes(&buffer[..len], out).map_err(Failure::Io)
 }
 
 /// Puts the text of the normal form at the start of the buffer, and returns its length.

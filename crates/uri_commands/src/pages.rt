@@ -55,7 +55,7 @@ uri --lines get PART
 Prints one part of the reference: scheme, authority, username, password, host,
 port, path, query, fragment or origin. The origin is scheme, host and port. An
 IPv6 address has its brackets. With --lines an absent part is an empty line,
-and the status is 0.
+and the status is 0. For `uri get file URI` see uri help file.
 
 Exit status: 0 on success, 1 if a text is no reference, 2 on a usage error,
 3 if the part is absent; nothing is printed then.
@@ -206,6 +206,26 @@ prints
     a=1
     b=x%26y
     c
+";
+
+const FILE: &str = "\
+uri file PATH
+uri get file URI
+
+The first prints the file URI of an absolute path, with an empty host: RFC 8089.
+Each byte that the path of a URI can't have becomes an escape, a `%` too. The
+path stays as it is: nothing is looked up, and `.`, `..` and empty names remain.
+
+The second prints the bytes of the path that a file URI names, and a newline.
+Its host is absent, empty or localhost. A user name, another host, a port, a
+query, a fragment, a %2F and a %00 are rejected.
+
+Exit status: 0 on success, 1 if a path or a URI is rejected, 2 on a usage error.
+
+Example:
+    uri file '/tmp/a b%.txt'
+prints
+    file:///tmp/a%20b%25.txt
 ";
 
 const EDIT: &str = "\
@@ -378,6 +398,7 @@ pub fn page(name: &str) -> Option<&'static str> {
         "encode" => Some(ENCODE),
         "escape" => Some(ESCAPE),
         "pairs" => Some(PAIRS),
+        "file" => Some(FILE),
         "edit" => Some(EDIT),
         "help" => Some(HELP),
         "--json" => Some(JSON),

@@ -1,4 +1,4 @@
-//! What commands print: values and components of texts, each on a line of its own.
+//! What commands print: values, bytes, and components of texts, each on a line of its own.
 
 use std::fmt::Display;
 use std::io;
@@ -9,9 +9,9 @@ pub fn print_line<T: Display, O: Write>(value: &T, out: &mut O) -> io::Result<()
     writeln!(out, "{value}")
 }
 
-/// Prints the text.
-pub fn print_text<O: Write>(text: &[u8], out: &mut O) -> io::Result<()> {
-    out.write_all(text)?;
+/// Prints the bytes, and a newline.
+pub fn print_bytes<O: Write>(bytes: &[u8], out: &mut O) -> io::Result<()> {
+    out.write_all(bytes)?;
     out.write_all(b"\n")
 }
 

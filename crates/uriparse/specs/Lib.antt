@@ -3,6 +3,7 @@ pub mod Kinds
 pub mod Uri
 pub mod RelativeReference
 pub mod Origin
+pub mod File
 -- texts: RFC 3986, section 2
 pub use Rattle.uriparse_text.specs.Bytes
 pub use Rattle.uriparse_text.specs.Classes

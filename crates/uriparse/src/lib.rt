@@ -12,6 +12,7 @@
 #![tactic(auto)]
 
 mod builder_of;
+pub mod file;
 mod kind;
 pub mod laws;
 mod reference_of;

@@ -18,6 +18,7 @@ static NAMES: [&str; 18] = [
     "encode",
     "escape",
     "pairs",
+    "file",
     "edit",
     "help",
     "--json",
