@@ -225,9 +225,7 @@ fn do_lines<I: BufRead, O: Write, E: Write>(
         if !read_line(input, &mut line)? {
             break;
         }
-        let outcome = do_line(
-            alloc, explains, task, &mut buffer, number, &line, out, err,
-        )?;
+        let outcome = do_line(alloc, explains, task, &mut buffer, number, &line, out, err)?;
         worst = worst.max(outcome);
     }
     Ok(worst)

@@ -23,20 +23,45 @@ static ROWS: [(&str, u8, &str, &str); 27] = [
     ("get|file|file:////a/./b/..//", 0, "//a/./b/..//\n", ""),
     ("get|file|file:///%C3%A9+%3F%23", 0, "/é+?#\n", ""),
     ("get|file|http:///a", 1, "", "not file URI\n"),
-    ("get|file|file://u@localhost/a", 1, "", "file URI has user name\n"),
+    (
+        "get|file|file://u@localhost/a",
+        1,
+        "",
+        "file URI has user name\n",
+    ),
     (
         "get|file|file://host.example.com/a",
         1,
         "",
         "file URI names another host\n",
     ),
-    ("get|file|file://127.0.0.1/a", 1, "", "file URI names another host\n"),
-    ("get|file|file://localhost:80/a", 1, "", "file URI has port\n"),
+    (
+        "get|file|file://127.0.0.1/a",
+        1,
+        "",
+        "file URI names another host\n",
+    ),
+    (
+        "get|file|file://localhost:80/a",
+        1,
+        "",
+        "file URI has port\n",
+    ),
     ("get|file|file:a", 1, "", "file path is not absolute\n"),
     ("get|file|file:///a?", 1, "", "file URI has query\n"),
     ("get|file|file:///a#", 1, "", "file URI has fragment\n"),
-    ("get|file|file:///a%2fb%00", 1, "", "file URI has escaped slash\n"),
-    ("get|file|file:///a%00", 1, "", "file path contains NUL byte\n"),
+    (
+        "get|file|file:///a%2fb%00",
+        1,
+        "",
+        "file URI has escaped slash\n",
+    ),
+    (
+        "get|file|file:///a%00",
+        1,
+        "",
+        "file path contains NUL byte\n",
+    ),
 ];
 
 #[test]
