@@ -36,11 +36,14 @@ uri --quiet parse TEXT, uri --quiet equal A B
 uri --explain parse TEXT, uri --explain resolve BASE REF
                       the same, but a rejected text is shown with a caret
                       under its first wrong byte
+uri --drop-default-port normalize TEXT
+                      the normal form without a port that is the scheme's
+                      default one
 uri --trim escape TEXT
                       the text without white space and <> round it, escaped
 uri --lines parse, uri --lines normalize, uri --lines resolve BASE,
 uri --lines get PART, uri --lines equal, uri --lines escape,
-uri --lines --trim escape
+uri --lines --trim escape, uri --lines --drop-default-port normalize
                       the same for each line of the standard input;
                       parse prints JSON objects
 uri --version         the version

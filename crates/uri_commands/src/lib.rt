@@ -40,7 +40,7 @@ use get::get;
 use help::{help, help_on, version};
 use json::parse_json;
 use lines::lines;
-use normalize::normalize;
+use normalize::{normalize, normalize_port};
 use options::{Options, split_options};
 use pairs::pairs;
 use parse::parse;
@@ -151,6 +151,9 @@ fn command<O: Write>(
 ) -> Result<(), Failure> {
     match (options.is_quiet, options.is_json, options.trims, words) {
         _ if !options.allow(words) => Err(Failure::Usage),
+        (false, false, false, ["normalize", text]) if options.drops_port => {
+            normalize_port(alloc, text.as_bytes(), out)
+        }
         (false, false, false, _) => plain_command(alloc, words, out),
         (true, false, false, _) => quiet(words),
         (false, true, false, ["parse", text]) => parse_json(text.as_bytes(), out),

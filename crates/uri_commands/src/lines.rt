@@ -11,7 +11,7 @@ use crate::explain::explain_line;
 use crate::failure::Failure;
 use crate::get::{Part, get_part, read_part};
 use crate::json::parse_json;
-use crate::normalize::normalize_with;
+use crate::normalize::{normalize_port, normalize_with};
 use crate::options::Options;
 use crate::quiet::{check, check_equal};
 use crate::resolve::resolve_with;
@@ -30,6 +30,8 @@ enum Task<'w> {
     Parse,
     /// Print the reference's normal form.
     Normalize,
+    /// Print the same without a port that is the scheme's default one.
+    NormalizePort,
     /// Print the text with escapes for what a reference can't have.
     Escape,
     /// Print the same of the text without what is round a link.
@@ -63,6 +65,7 @@ fn read_task<'w>(options: Options, words: &[&'w str]) -> Result<Task<'w>, Failur
         (true, false, ["parse"]) => Ok(Task::Check),
         (true, false, ["equal"]) => Ok(Task::CheckEqual),
         (false, false, ["equal"]) => Ok(Task::Equal),
+        (false, false, ["normalize"]) if options.drops_port => Ok(Task::NormalizePort),
         (false, false, ["normalize"]) => Ok(Task::Normalize),
         (false, false, ["escape"]) => Ok(Task::Escape),
         (false, false, ["get", part]) => Ok(Task::Get(read_part(part)?)),
@@ -110,6 +113,7 @@ fn run_task<O: Write>(
     match task {
         Task::Parse => parse_json(line, out),
         Task::Normalize => normalize_with(buffer, line, out),
+        Task::NormalizePort => normalize_port(alloc, line, out),
         Task::Escape => escape(alloc, line, out),
         Task::EscapeLink => escape_link(alloc, line, out),
         Task::Resolve(base) => resolve_with(buffer, base, line, out),

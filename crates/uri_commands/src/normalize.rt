@@ -3,10 +3,10 @@
 ghost use Rattle.std.specs.Prelude.{◌≤◌, IfOk, length};
 
 use crate::failure::Failure;
-use crate::print::print_bytes;
+use crate::print::{print_bytes, print_line};
 use std::alloc::Global;
 use std::io::Write;
-use uriparse::{BufferError, ReferenceView};
+use uriparse::{BufferError, ReferenceView, URIReference};
 
 /// Prints the reference's normal form.
 pub fn normalize<O: Write>(alloc: Global, text: &[u8], out: &mut O) -> Result<(), Failure> {
@@ -22,6 +22,14 @@ pub fn normalize_with<O: Write>(
     let reference = ReferenceView::try_from_bytes(text)?;
     let len = put_normal(&reference, buffer)?;
     print_bytes(&buffer[..len], out).map_err(Failure::Io)
+}
+
+/// Prints the reference's normal form without a port that is its scheme's default one.
+pub fn normalize_port<O: Write>(alloc: Global, text: &[u8], out: &mut O) -> Result<(), Failure> {
+    let mut reference = URIReference::try_from_bytes(alloc, text)?;
+    reference.normalize(alloc)?;
+    reference.normalize_port();
+    print_line(&reference, out).map_err(Failure::Io)
 }
 
 /// Puts the text of the normal form at the start of the buffer, and returns its length.

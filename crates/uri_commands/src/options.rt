@@ -13,14 +13,18 @@ pub struct Options {
     pub trims: bool,
     /// `--explain`: three lines say where a rejected text is wrong, and why.
     pub explains: bool,
+    /// `--drop-default-port`: a port that is the scheme's default one is left out.
+    pub drops_port: bool,
 }
 
 impl Options {
-    /// Whether `--explain` is absent, or may stand with the other options and this command.
+    /// Whether `--explain` and `--drop-default-port` are absent, or may stand with the other options
+    /// and this command.
     pub fn allow(self, words: &[&str]) -> bool {
         match words {
-            ["parse" | "resolve", ..] => !(self.explains && self.is_quiet),
-            _ => !self.explains,
+            ["parse" | "resolve", ..] => !(self.explains && self.is_quiet) && !self.drops_port,
+            ["normalize", ..] => !self.explains,
+            _ => !self.explains && !self.drops_port,
         }
     }
 }
@@ -35,6 +39,7 @@ pub fn split_options<'w, 't>(words: &'w [&'t str]) -> (Options, &'w [&'t str]) {
         is_quiet: false,
         trims: false,
         explains: false,
+        drops_port: false,
     };
     for at in 0..words.len() {
         match words[at] {
@@ -43,6 +48,7 @@ pub fn split_options<'w, 't>(words: &'w [&'t str]) -> (Options, &'w [&'t str]) {
             "--quiet" => options.is_quiet = true,
             "--trim" => options.trims = true,
             "--explain" => options.explains = true,
+            "--drop-default-port" => options.drops_port = true,
             _ => return (options, &words[at..]),
         }
     }

@@ -68,11 +68,13 @@ prints
 
 const NORMALIZE: &str = "\
 uri normalize TEXT
+uri --drop-default-port normalize TEXT
 uri --lines normalize
+uri --lines --drop-default-port normalize
 
 Prints the normal form of the reference. Scheme and host are in lower case, an
 escape stands only where it is needed and has upper-case digits, and dot
-segments are removed.
+segments are removed. For the option see uri help --drop-default-port.
 
 Exit status: 0 on success, 1 if a text is no reference, 2 on a usage error.
 
@@ -335,6 +337,22 @@ prints
     path at byte 10: invalid path character
 ";
 
+const DROP_DEFAULT_PORT: &str = "\
+uri --drop-default-port normalize TEXT
+uri --lines --drop-default-port normalize
+
+Prints the normal form of the reference without its port if that is the default
+port of the scheme, as 443 of https: RFC 3986, section 6.2.3. A scheme whose
+registration names no default port keeps each port.
+
+Exit status: 0 on success, 1 if a text is no reference, 2 on a usage error.
+
+Example:
+    uri --drop-default-port normalize 'HTTPS://h:443/%7Ea'
+prints
+    https://h/~a
+";
+
 const TRIM: &str = "\
 uri --trim escape TEXT
 uri --lines --trim escape
@@ -360,6 +378,7 @@ uri --lines get PART
 uri --lines equal
 uri --lines escape
 uri --lines --trim escape
+uri --lines --drop-default-port normalize
 uri --lines --quiet parse
 uri --lines --quiet equal
 uri --lines --explain parse
@@ -404,6 +423,7 @@ pub fn page(name: &str) -> Option<&'static str> {
         "--json" => Some(JSON),
         "--quiet" => Some(QUIET),
         "--explain" => Some(EXPLAIN),
+        "--drop-default-port" => Some(DROP_DEFAULT_PORT),
         "--trim" => Some(TRIM),
         "--lines" => Some(LINES),
         _ => None,

@@ -5,7 +5,7 @@ use std::alloc::Global;
 use std::test::Fail;
 
 // (the words separated by bars, the input, the output, the messages on standard error, the status)
-static ROWS: [(&str, &str, &str, &str, u8); 114] = [
+static ROWS: [(&str, &str, &str, &str, u8); 121] = [
     // A JSON object has the text as it is given, and each component as it is printed.
     (
         "--json|parse|HTTP://u:@H:080/%7e//b?q#",
@@ -391,6 +391,43 @@ static ROWS: [(&str, &str, &str, &str, u8); 114] = [
         "?%\n ^\nreference: query at byte 1: invalid query percent encoding\n",
         1,
     ),
+    (
+        "--drop-default-port|normalize|HTTPS://U@H:443/%7e",
+        "",
+        "https://U@h/~\n",
+        "",
+        0,
+    ),
+    (
+        "--drop-default-port|normalize|http://h:443",
+        "",
+        "http://h:443/\n",
+        "",
+        0,
+    ),
+    (
+        "--drop-default-port|normalize|a b",
+        "",
+        "",
+        "invalid path character\n",
+        1,
+    ),
+    (
+        "--lines|--drop-default-port|normalize",
+        "ws://h:80/a\nx:a\nftp://h:80\n",
+        "ws://h/a\nx:a\nftp://h:80/\n",
+        "",
+        0,
+    ),
+    ("--drop-default-port|parse|a", "", "", USAGE, 2),
+    (
+        "--explain|--drop-default-port|normalize|a",
+        "",
+        "",
+        USAGE,
+        2,
+    ),
+    ("--lines|--drop-default-port|parse", "a", "", USAGE, 2),
     ("--explain|parse", "", "", USAGE, 2),
     ("--explain|normalize|a", "", "", USAGE, 2),
     ("--explain|--quiet|parse|a", "", "", USAGE, 2),

@@ -6,7 +6,7 @@ use std::str;
 use std::test::Fail;
 
 /// Each command and option that has a page.
-static NAMES: [&str; 18] = [
+static NAMES: [&str; 20] = [
     "parse",
     "tail",
     "get",
@@ -24,6 +24,7 @@ static NAMES: [&str; 18] = [
     "--json",
     "--quiet",
     "--explain",
+    "--drop-default-port",
     "--trim",
     "--lines",
 ];
