@@ -1,7 +1,10 @@
 //! A link rewriter: the target of a link as people write it, the targets of a page's links, and
 //! relative links in place of absolute ones.
-ghost use Rattle.std.specs.Prelude.{◌≡◌, ◌++◌, ◌∷◌, [], IfOk, IfErr, MatchResult, OnOk};
+ghost use Rattle.std.specs.Prelude.{◌≡◌, ◌++◌, ◌∷◌, [], IfOk, IfErr, MatchResult, Ok, OnOk};
 ghost use Rattle.uriparse.specs.PathError.TheVariants.{OutOfMemory};
+ghost use Rattle.uriparse.specs.Readings.{IsUnless};
+ghost use Rattle.uriparse.specs.Reference.{Parts};
+ghost use Rattle.uriparse.specs.declared.uri.error.URIError.TheVariants as uris;
 ghost use Rattle.uses.specs.Links.{AreLinks, AreTargets, Gains, GainsLink, IsRefusal, IsRefused, Reaches};
 
 use std::alloc::{AllocError, Global};
@@ -18,7 +21,11 @@ use uriparse::{PathError, URI, URIError, URIReference, escape_invalid, trim_link
 /// assert_eq!(uri.to_string(alloc)?.as_str(), "http://a/d%20e?100%25");
 /// ```
 pub fn read_link(alloc: Global, base: &URI<'_>, link: &[u8]) -> Result<URI<'static>, URIError>
-    ensures { IfOk result (λ u. Reaches base.now link.now u) }
+    // What is returned is where the link leads.
+    ensures reached { IfOk result (λ u. Reaches base.now link.now u) }
+
+    // A link that leads somewhere is followed, unless memory runs out.
+    ensures only { (u : Parts) → Reaches base.now link.now u → IsUnless (uris.Path OutOfMemory) result (Ok u) }
 {
     let text = escape_invalid(alloc, trim_link(link))?;
     let reference = URIReference::try_from_str(alloc, text.as_str())?;
