@@ -21,6 +21,7 @@ ghost use Rattle.uriparse_reference.specs.Escaped.{escaped};
 ghost use Rattle.uriparse_reference.specs.Into.{Writes};
 ghost use Rattle.uriparse_reference.specs.Key.{key};
 ghost use Rattle.uriparse_reference.specs.Normal.{normal};
+ghost use Rattle.uriparse_reference.specs.Place.{first_fault};
 ghost use Rattle.uriparse_reference.specs.Reading.{fault};
 ghost use Rattle.uriparse_reference.specs.Reference.{Parts, Spells, print};
 ghost use Rattle.uriparse_reference.specs.Target.{target};
@@ -33,7 +34,6 @@ use uriparse_reference::uri_reference::{
     BufferError, Edit, ReferenceView, URIReference, URIReferenceError, escape_invalid,
 };
 use uriparse_scheme::scheme::{Scheme, SchemeError};
-use uriparse_text::query::Query;
 
 /// Reads a scheme, which is looked up in the table of registered ones.
 pub fn read_scheme(bytes: &[u8]) -> Result<Scheme<'_>, SchemeError>
@@ -70,14 +70,11 @@ pub fn set_authority<'r>(
     reference.set_authority(authority)
 }
 
-/// Sets a reference's query, or removes it.
-pub fn set_query<'r>(
-    reference: &mut URIReference<'r>,
-    query: Option<Query<'r>>,
-) -> Result<(), URIReferenceError>
-    ensures { Settles reference.old reference.new result (edited reference.old (edits.Query query.entry)) }
+/// Where a text is wrong, and why.
+pub fn place_and_fault(bytes: &[u8]) -> Option<(usize, URIReferenceError)>
+    ensures { result ≡ first_fault bytes.now }
 {
-    reference.set_query(query)
+    URIReference::first_fault(bytes)
 }
 
 /// Makes the edits up to the first that is rejected, and returns its index.
