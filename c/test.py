@@ -22,6 +22,7 @@ assert uriparse.hash_of(b"a%7e") == uriparse.hash_of(b"a~")
 assert uriparse.normalize(b"HTTP://H/%7e/../x") == b"http://h/x"
 assert uriparse.resolve(b"http://a/b/c", b"../g#s") == b"http://a/g#s"
 rejects(0x52, uriparse.parse, b"/%")
+assert uriparse.first_fault(b"/a%4") == (0x52, 2) and uriparse.first_fault(b"/a") is None
 rejects(0x152, uriparse.resolve, b"s:%", b"a")
 rejects(0x103, uriparse.resolve, b"/a", b"b")
 print("ok")

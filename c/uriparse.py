@@ -31,6 +31,7 @@ def _export(name, result, *arguments):
 
 
 _parse = _export("parse", ctypes.c_uint32, *_text, ctypes.POINTER(Parts))
+_first_fault = _export("first_fault", ctypes.c_uint32, *_text, ctypes.POINTER(_size))
 _is_uri = _export("is_uri", ctypes.c_bool, *_text)
 _equal = _export("equal", ctypes.c_uint32, *_text, *_text, ctypes.POINTER(ctypes.c_bool))
 _hash = _export("hash", ctypes.c_uint32, *_text, ctypes.POINTER(ctypes.c_uint64))
@@ -63,6 +64,13 @@ def parse(text: bytes) -> dict:
     parts = spans(text)
     found = ((name, getattr(parts, name)) for name in COMPONENTS)
     return {name: text[span.begin:span.end] for name, span in found if span.present}
+
+
+def first_fault(text: bytes):
+    """The code of the text's first fault and how many bytes precede it, or None if it is a reference."""
+    place = _size()
+    code = _first_fault(text, len(text), place)
+    return (code, place.value) if code else None
 
 
 def is_uri(text: bytes) -> bool:
