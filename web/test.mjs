@@ -9,9 +9,9 @@ import { load, isSupported, URIParseError } from "./uriparse.mjs";
 let passed = 0;
 let failed = 0;
 
-function test(name, body) {
+async function test(name, body) {
   try {
-    body();
+    await body();
     passed += 1;
   } catch (error) {
     failed += 1;
@@ -60,7 +60,7 @@ for (const [[command, ...texts], status, out] of rows) {
     continue;
   }
   tried += 1;
-  test(`${command} ${texts.join(" ")}`, () => {
+  await test(`${command} ${texts.join(" ")}`, () => {
     if (status === 0) {
       assert.equal(result(command, texts), expected(command, out));
     } else {
@@ -68,9 +68,9 @@ for (const [[command, ...texts], status, out] of rows) {
     }
   });
 }
-test("the rows were found", () => assert(tried > 25, `${tried} rows`));
+await test("the rows were found", () => assert(tried > 25, `${tried} rows`));
 
-test("each component and its place", () => {
+await test("each component and its place", () => {
   const parts = uris.parse("http://u:p@h:080/a//b?q#");
   assert.deepEqual(parts.segments, ["a", "", "b"]);
   assert.deepEqual(parts.places.port, [13, 16]);
@@ -99,31 +99,41 @@ const FAULTS = [
   ["http://h/é😀 ", 9, "path"],
 ];
 for (const [text, place, component] of FAULTS) {
-  test(`the fault of ${text}`, () => {
+  await test(`the fault of ${text}`, () => {
     const fault = uris.fault(text);
     assert.deepEqual([fault.place, fault.component], [place, component]);
     assert.throws(() => uris.parse(text), { name: "URIParseError", code: fault.code, place, component, text });
   });
 }
 
-test("no fault", () => assert.equal(uris.fault("http://h/a"), null));
-test("a base without a scheme", () => assert.throws(() => uris.resolve("/a", "b"), { inBase: true, component: "scheme", code: 0x103 }));
-test("the base's error comes first", () => assert.throws(() => uris.resolve("s:%", "%"), { inBase: true, text: "s:%" }));
-test("the reference's error", () => assert.throws(() => uris.resolve("s:a", "%"), { inBase: false, text: "%", place: 0 }));
-test("the right one's error", () => assert.throws(() => uris.equal("a", "b c"), { text: "b c", place: 1 }));
-test("a lone surrogate", () => assert.equal(uris.fault("a\ud800").place, 1));
-test("a value that is no string", () => assert.equal(uris.normalize(new URL("http://h/%7Ea")), "http://h/~a"));
-test("kinds", () => assert.deepEqual([uris.isURI("s:"), uris.isURI("a"), uris.isURI("%")], [true, false, false]));
-test("hashes", () => {
+await test("the messages are those of the header", async () => {
+  const header = await readFile(new URL("../c/uriparse.h", import.meta.url), "utf8");
+  const codes = new Map([...header.matchAll(/^  URIPARSE_(\w+) = (0x\w+|\d+)/gm)].map(([, name, code]) => [name, Number(code)]));
+  const texts = [...header.matchAll(/case URIPARSE_(\w+): return "(.*)";/g)].map(([, name, text]) => [codes.get(name), text]);
+  assert.equal(texts.length, 23);
+  for (const [code, text] of texts.filter(([code]) => code > 2)) {
+    assert.equal(new URIParseError(code, 0, "").message, text);
+  }
+});
+
+await test("no fault", () => assert.equal(uris.fault("http://h/a"), null));
+await test("a base without a scheme", () => assert.throws(() => uris.resolve("/a", "b"), { inBase: true, component: "scheme", code: 0x103 }));
+await test("the base's error comes first", () => assert.throws(() => uris.resolve("s:%", "%"), { inBase: true, text: "s:%" }));
+await test("the reference's error", () => assert.throws(() => uris.resolve("s:a", "%"), { inBase: false, text: "%", place: 0 }));
+await test("the right one's error", () => assert.throws(() => uris.equal("a", "b c"), { text: "b c", place: 1 }));
+await test("a lone surrogate", () => assert.equal(uris.fault("a\ud800").place, 1));
+await test("a value that is no string", () => assert.equal(uris.normalize(new URL("http://h/%7Ea")), "http://h/~a"));
+await test("kinds", () => assert.deepEqual([uris.isURI("s:"), uris.isURI("a"), uris.isURI("%")], [true, false, false]));
+await test("hashes", () => {
   assert.equal(uris.hash("http://h/%7e"), uris.hash("HTTP://H/~"));
   assert.notEqual(uris.hash("/a"), uris.hash("/b"));
 });
-test("a long text", () => {
+await test("a long text", () => {
   const text = `http://h/${"%41/../".repeat(200000)}`;
   assert.equal(uris.normalize(text), "http://h/");
   assert.equal(uris.parse(text).segments.length, 400001);
 });
-test("many segments", () => assert.equal(uris.fault("a/".repeat(1000001)).code, 5));
+await test("many segments", () => assert.equal(uris.fault("a/".repeat(1000001)).code, 5));
 
 console.log(`web: ${tried} rows of the program`);
 console.log(`${passed} passed, ${failed} failed`);

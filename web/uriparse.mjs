@@ -1,10 +1,10 @@
 // URIs and URI references of RFC 3986, read, compared, normalized and resolved by proved code in WebAssembly.
 //
 //     import { load } from "./uriparse.mjs";
-//     const uris = await load(new URL("uriparse.wasm", import.meta.url));
+//     const uris = await load();                   // uriparse.wasm beside this file
 //     uris.normalize("HTTP://h/a/../%7Eb");        // "http://h/~b"
 //
-// It needs a browser or a runtime with 64-bit WebAssembly memories; `isSupported()` says whether it is one.
+// It needs a browser or a runtime with WebAssembly memories of 64-bit addresses: `isSupported()` says whether it is one.
 
 const CODES = {
   3: ["scheme", "the base has no scheme"],
@@ -30,25 +30,37 @@ const CODES = {
 };
 
 const NO_ROOM = 2;
+const NO_SCHEME = 3;
 const IN_BASE = 0x100;
 const HOST_KINDS = { 1: "name", 4: "ipv4", 6: "ipv6", 7: "ipvfuture" };
 const COMPONENTS = ["scheme", "authority", "username", "password", "host", "port", "path", "query", "fragment"];
 
-// Where the module's struct of components has its fields, in bytes.
-const SPAN = 24;
+// Where the module's struct of components has its fields, in words of 32 bits. No text that fits in a string has an index
+// that needs more, so of wider numbers the low word is read.
+const BEGIN = 0;
+const END = 2;
+const IS_PRESENT = 4;
+const SPAN = 6;
 const HOST_KIND = COMPONENTS.length * SPAN;
-const PARTS = HOST_KIND + 8;
+const PORT = HOST_KIND + 1;
+const PARTS = 4 * (PORT + 1);
 
+const WORD = 16;
 const PAGE = 65536;
 
 // The smallest module with a memory of 64-bit addresses.
 const PROBE = new Uint8Array([0, 97, 115, 109, 1, 0, 0, 0, 5, 3, 1, 4, 1]);
 
+// The component that a code is about, and what it means.
+function meaning(code) {
+  return CODES[code & ~IN_BASE] ?? [null, `unknown code ${code}`];
+}
+
 /** Why a text is rejected. */
 export class URIParseError extends Error {
   constructor(code, place, text) {
-    const [component, message] = CODES[code & ~IN_BASE] ?? [null, `unknown code ${code}`];
-    super(code & IN_BASE ? `base: ${message}` : message);
+    const [component, message] = meaning(code);
+    super(code & IN_BASE && (code & ~IN_BASE) !== NO_SCHEME ? `base: ${message}` : message);
     this.name = "URIParseError";
     this.code = code;
     this.component = component;
@@ -97,80 +109,82 @@ class URIs {
   #calls;
   #memory;
   #base;
+  #bytes = new Uint8Array();
+  #words = new Uint32Array();
   #encoder = new TextEncoder();
-  #decoder = new TextDecoder();
+  #decoder = new TextDecoder("utf-8", { ignoreBOM: true });
 
   constructor(exports) {
     this.#calls = exports;
     this.#memory = exports.memory;
-    this.#base = (Number(exports.__heap_base.value) + 15) & ~15;
+    this.#base = rounded(Number(exports.__heap_base.value));
   }
 
-  // Makes the memory large enough, and returns it as bytes.
-  #room(end) {
+  // Makes the memory large enough, and views it.
+  #view(end) {
     const missing = Math.ceil((end - this.#memory.buffer.byteLength) / PAGE);
     if (missing > 0) {
       grow(this.#memory, missing);
     }
-    return new Uint8Array(this.#memory.buffer);
+    if (this.#bytes.buffer !== this.#memory.buffer) {
+      this.#bytes = new Uint8Array(this.#memory.buffer);
+      this.#words = new Uint32Array(this.#memory.buffer);
+    }
   }
 
-  // Writes texts one after another, and returns their places and lengths, and the place of what may follow.
+  // Writes texts one after another. Returns their places and lengths, and a place after them with room for numbers.
   #put(...texts) {
-    const most = texts.reduce((sum, text) => sum + 3 * text.length, 0);
-    const bytes = this.#room(this.#base + most + PARTS + 64);
-    let at = this.#base;
-    const spans = texts.flatMap((text) => {
-      const { written } = this.#encoder.encodeInto(text, bytes.subarray(at));
-      const span = [BigInt(at), BigInt(written)];
-      at += written;
-      return span;
-    });
-    return { spans, next: (at + 15) & ~15 };
+    this.#view(this.#base + texts.reduce((sum, text) => sum + 3 * text.length, 2 * WORD + PARTS));
+    const spans = [];
+    let next = this.#base;
+    for (const text of texts) {
+      const { written } = this.#encoder.encodeInto(text, this.#bytes.subarray(next));
+      spans.push(BigInt(next), BigInt(written));
+      next += written;
+    }
+    return { spans, next: rounded(next) };
   }
 
-  // The index of a byte of the text that was put first.
-  #index(byte) {
-    const bytes = new Uint8Array(this.#memory.buffer, this.#base, byte);
-    return this.#decoder.decode(bytes, { stream: false }).length;
+  #word(at) {
+    return this.#words[at >>> 2];
   }
 
-  #fail(code, texts) {
-    const text = code & IN_BASE || texts.length === 1 ? texts[0] : texts[texts.length - 1];
-    throw new URIParseError(code, this.fault(text)?.place ?? 0, text);
+  // The error of a text with this code: the place is that of its first fault, if the text alone is at fault.
+  #error(code, text) {
+    return new URIParseError(code, this.fault(text)?.place ?? 0, text);
   }
 
   /** The components of a reference, as they stand in its text, and their places. Absent ones are null. */
   parse(text) {
     text = String(text);
     const { spans, next } = this.#put(text);
-    const code = this.#calls.uriparse_parse(...spans, BigInt(next));
+    const code = this.#calls.uriparse_parse(spans[0], spans[1], BigInt(next));
     if (code !== 0) {
-      this.#fail(code, [text]);
+      throw this.#error(code, text);
     }
-    const view = new DataView(this.#memory.buffer, next, PARTS);
-    const found = {};
+    const words = this.#words;
+    const first = next >>> 2;
     const places = {};
-    COMPONENTS.forEach((name, i) => {
-      const begin = Number(view.getBigUint64(i * SPAN, true));
-      const end = Number(view.getBigUint64(i * SPAN + 8, true));
-      const isPresent = view.getUint8(i * SPAN + 16) !== 0;
-      places[name] = isPresent ? [begin, end] : null;
-      found[name] = isPresent ? text.slice(begin, end) : null;
-    });
-    const kind = view.getUint32(HOST_KIND, true);
+    const found = {};
+    let at = first;
+    for (const name of COMPONENTS) {
+      const place = words[at + IS_PRESENT] & 0xff ? [words[at + BEGIN], words[at + END]] : null;
+      places[name] = place;
+      found[name] = place && text.slice(place[0], place[1]);
+      at += SPAN;
+    }
     return {
       text,
       scheme: found.scheme,
       username: found.username,
       password: found.password,
       host: found.host,
-      host_kind: HOST_KINDS[kind] ?? null,
-      port: found.port ? view.getUint32(HOST_KIND + 4, true) : null,
+      host_kind: HOST_KINDS[words[first + HOST_KIND]] ?? null,
+      port: found.port ? words[first + PORT] : null,
       path: found.path,
       query: found.query,
       fragment: found.fragment,
-      segments: found.path.replace(/^\//, "").split("/"),
+      segments: (found.path[0] === "/" ? found.path.slice(1) : found.path).split("/"),
       places,
     };
   }
@@ -179,67 +193,58 @@ class URIs {
   fault(text) {
     text = String(text);
     const { spans, next } = this.#put(text);
-    const code = this.#calls.uriparse_first_fault(...spans, BigInt(next));
+    const code = this.#calls.uriparse_first_fault(spans[0], spans[1], BigInt(next));
     if (code === 0) {
       return null;
     }
-    const place = Number(new DataView(this.#memory.buffer).getBigUint64(next, true));
-    const { component, message } = new URIParseError(code, place, text);
-    return { code, component, message, place: this.#index(place) };
+    const before = this.#bytes.subarray(this.#base, this.#base + this.#word(next));
+    const [component, message] = meaning(code);
+    return { code, component, message, place: this.#decoder.decode(before).length };
   }
 
   /** Whether a text is a URI: a reference with a scheme. */
   isURI(text) {
     const { spans } = this.#put(String(text));
-    return this.#calls.uriparse_is_uri(...spans) !== 0;
+    return this.#calls.uriparse_is_uri(spans[0], spans[1]) !== 0;
   }
 
-  /** Whether two references are equal: spelled alike but for percent-encoding and case where these mean nothing. */
+  /** Whether two references differ at most by percent-encoding and case where these mean nothing. */
   equal(left, right) {
-    const texts = [String(left), String(right)];
-    const { spans, next } = this.#put(...texts);
+    left = String(left);
+    right = String(right);
+    const { spans, next } = this.#put(left, right);
     const code = this.#calls.uriparse_equal(...spans, BigInt(next));
     if (code !== 0) {
-      throw this.#faultOf(texts);
+      throw this.#error(code, this.fault(left) ? left : right);
     }
-    return new Uint8Array(this.#memory.buffer)[next] !== 0;
-  }
-
-  // The error of the first faulty text.
-  #faultOf(texts) {
-    for (const text of texts) {
-      const fault = this.fault(text);
-      if (fault) {
-        return new URIParseError(fault.code, fault.place, text);
-      }
-    }
-    return new Error("no fault");
+    return this.#bytes[next] !== 0;
   }
 
   /** A hash, as a BigInt: equal references have equal hashes, on every machine. */
   hash(text) {
     text = String(text);
     const { spans, next } = this.#put(text);
-    const code = this.#calls.uriparse_hash(...spans, BigInt(next));
+    const code = this.#calls.uriparse_hash(spans[0], spans[1], BigInt(next));
     if (code !== 0) {
-      this.#fail(code, [text]);
+      throw this.#error(code, text);
     }
-    return new DataView(this.#memory.buffer).getBigUint64(next, true);
+    return (BigInt(this.#word(next + 4)) << 32n) | BigInt(this.#word(next));
   }
 
-  // What a call writes for these texts.
+  // What a call writes for these texts. A code of the first text alone, if there are two, is marked.
   #written(call, ...texts) {
     const { spans, next } = this.#put(...texts);
+    const out = next + WORD;
     let room = 2 * texts.reduce((sum, text) => sum + text.length, 0) + 64;
     for (;;) {
-      this.#room(next + 16 + room);
-      const code = call(...spans, BigInt(next + 16), BigInt(room), BigInt(next));
-      const needed = Number(new DataView(this.#memory.buffer).getBigUint64(next, true));
+      this.#view(out + room);
+      const code = call(...spans, BigInt(out), BigInt(room), BigInt(next));
+      const needed = this.#word(next);
       if (code === 0) {
-        return this.#decoder.decode(new Uint8Array(this.#memory.buffer, next + 16, needed));
+        return this.#decoder.decode(this.#bytes.subarray(out, out + needed));
       }
       if (code !== NO_ROOM) {
-        this.#fail(code, texts);
+        throw this.#error(code, code & IN_BASE ? texts[0] : texts.at(-1));
       }
       room = needed;
     }
@@ -254,6 +259,11 @@ class URIs {
   resolve(base, reference) {
     return this.#written(this.#calls.uriparse_resolve, String(base), String(reference));
   }
+}
+
+// The next place where any number may stand.
+function rounded(at) {
+  return Math.ceil(at / WORD) * WORD;
 }
 
 // Adds pages. Engines differ in the type of the count.
