@@ -1,4 +1,4 @@
-/** What stands round a place in a text, or null if it is absent. */
+/** Where a component begins and ends in a text, as indices, or null if it is absent. */
 export type Place = [begin: number, end: number] | null;
 
 export type Component = "scheme" | "authority" | "username" | "password" | "host" | "port" | "path" | "query" | "fragment";
@@ -55,5 +55,8 @@ export interface URIs {
 /** Whether there are 64-bit WebAssembly memories here. */
 export function isSupported(): boolean;
 
+/** What the module is loaded from: its URL, a response with it, its bytes, or the module itself. */
+export type Source = URL | string | Response | BufferSource | WebAssembly.Module;
+
 /** Loads the module, by default `uriparse.wasm` beside this file. */
-export function load(source?: URL | string | Response | BufferSource | WebAssembly.Module): Promise<URIs>;
+export function load(source?: Source | Promise<Source>): Promise<URIs>;

@@ -98,7 +98,7 @@ export async function load(source = new URL("uriparse.wasm", import.meta.url)) {
   if (!isSupported()) {
     throw new Error("64-bit WebAssembly is not supported here");
   }
-  const bytes = await bytesOf(source);
+  const bytes = await bytesOf(await source);
   const module = bytes instanceof WebAssembly.Module ? bytes : await WebAssembly.compile(bytes);
   const instance = await WebAssembly.instantiate(module, {});
   return new URIs(instance.exports);
