@@ -88,4 +88,5 @@ def main():
     print("%d texts, %d accepted, %d equal to another" % (count, accepted, equal))
 
 
-main()
+if __name__ == "__main__":
+    main()
