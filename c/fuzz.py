@@ -55,10 +55,13 @@ def check_accepted(text, found):
     assert uriparse.is_uri(text) == ("scheme" in found), text
     normal = uriparse.normalize(text)
     assert uriparse.normalize(normal) == normal, text
+    assert uriparse.first_fault(text) is None, text
 
 
 def check_rejected(text, code):
     assert not uriparse.is_uri(text), text
+    found, place = uriparse.first_fault(text)
+    assert found == code and place < len(text), text
     for call, arguments in ((uriparse.normalize, (text,)), (uriparse.hash_of, (text,)), (uriparse.equal, (text, b"%")),
                             (uriparse.resolve, (b"s:", text))):
         assert code_of(call, *arguments) == code, text
@@ -85,4 +88,5 @@ def main():
     print("%d texts, %d accepted, %d equal to another" % (count, accepted, equal))
 
 
-main()
+if __name__ == "__main__":
+    main()

@@ -19,12 +19,13 @@ void *__wrap_realloc(void *old, size_t size) {
 
 void __wrap_free(void *old) { requests += old != NULL; }
 
-enum { ROOM = 300, CALLS = 6 };
+enum { ROOM = 300, CALLS = 7 };
 
 /* What a call writes. */
 struct written {
   uint8_t out[ROOM];
   size_t needed;
+  size_t place;
   uint64_t hash;
   struct uriparse_parts parts;
   bool equal;
@@ -38,7 +39,8 @@ static uint32_t call(int which, const char *text, struct written *to) {
   case 1: return uriparse_is_uri(text, len) ? URIPARSE_OK : URIPARSE_NO_SCHEME;
   case 2: return uriparse_equal(base, base_len, text, len, &to->equal);
   case 3: return uriparse_hash(text, len, &to->hash);
-  case 4: return uriparse_normalize(text, len, to->out, ROOM, &to->needed);
+  case 4: return uriparse_first_fault(text, len, &to->place);
+  case 5: return uriparse_normalize(text, len, to->out, ROOM, &to->needed);
   default: return uriparse_resolve(base, base_len, text, len, to->out, ROOM, &to->needed);
   }
 }

@@ -46,13 +46,15 @@ static void normalizes(const char *text, const char *expected) {
   check(code == URIPARSE_OK && needed == strlen(expected) && memcmp(out, expected, needed) == 0, "normalize", text);
 }
 
-static void rejects(const char *text, uint32_t expected) {
+static void rejects(const char *text, uint32_t expected, size_t place) {
   struct uriparse_parts parts, before;
   memset(&parts, 0x5a, sizeof parts);
   memcpy(&before, &parts, sizeof parts);
   uint32_t code = uriparse_parse(text, strlen(text), &parts);
   check(code == expected, "code of", text);
   check(memcmp(&parts, &before, sizeof parts) == 0, "parts unchanged", text);
+  size_t found = 99999;
+  check(uriparse_first_fault(text, strlen(text), &found) == expected && found == place, "place of the fault", text);
   uint8_t out[4] = {1, 2, 3, 4};
   size_t needed = 7;
   check(uriparse_normalize(text, strlen(text), out, 4, &needed) == expected && needed == 0 && out[0] == 1, "normalize rejects", text);
@@ -75,6 +77,8 @@ static void parses(const char *text, const char *scheme, const char *username, c
   struct uriparse_parts parts;
   memset(&parts, 0x5a, sizeof parts);
   check(uriparse_parse(text, strlen(text), &parts) == URIPARSE_OK, "parse", text);
+  size_t place = 99999;
+  check(uriparse_first_fault(text, strlen(text), &place) == URIPARSE_OK && place == 99999, "no fault", text);
   is(text, parts.scheme, scheme);
   is(text, parts.username, username);
   is(text, parts.password, password);
@@ -135,25 +139,25 @@ int main(void) {
   normalizes("a/b/..", "a/");
   normalizes("http://[0:0:0:0:0:0:0:1]/", "http://[::1]/");
 
-  rejects("//u%@h", URIPARSE_USERNAME_ESCAPE);
-  rejects("//u\"@h", URIPARSE_USERNAME_BYTE);
-  rejects("//u:p%4@h", URIPARSE_PASSWORD_ESCAPE);
-  rejects("//u:p[@h", URIPARSE_PASSWORD_BYTE);
-  rejects("//h^/", URIPARSE_HOST_BYTE);
-  rejects("//[v1.]/", URIPARSE_HOST_FUTURE_FORM);
-  rejects("//[v1.^]/", URIPARSE_HOST_FUTURE_BYTE);
-  rejects("//[::g]/", URIPARSE_HOST_IPV6_BYTE);
-  rejects("//[1:2]/", URIPARSE_HOST_IPV6_FORM);
-  rejects("//h:8x/", URIPARSE_PORT_BYTE);
-  rejects("//h:65536/", URIPARSE_PORT_RANGE);
-  rejects("/a b", URIPARSE_PATH_BYTE);
-  rejects("/%g0", URIPARSE_PATH_ESCAPE);
-  rejects("1:2", URIPARSE_COLON_IN_SEGMENT);
-  rejects("?^", URIPARSE_QUERY_BYTE);
-  rejects("?%", URIPARSE_QUERY_ESCAPE);
-  rejects("#^", URIPARSE_FRAGMENT_BYTE);
-  rejects("#%f", URIPARSE_FRAGMENT_ESCAPE);
-  rejects("/\xc3\xa9", URIPARSE_PATH_BYTE);
+  rejects("//u%@h", URIPARSE_USERNAME_ESCAPE, 3);
+  rejects("//u\"@h", URIPARSE_USERNAME_BYTE, 3);
+  rejects("//u:p%4@h", URIPARSE_PASSWORD_ESCAPE, 5);
+  rejects("//u:p[@h", URIPARSE_PASSWORD_BYTE, 5);
+  rejects("//h^/", URIPARSE_HOST_BYTE, 3);
+  rejects("//[v1.]/", URIPARSE_HOST_FUTURE_FORM, 2);
+  rejects("//[v1.^]/", URIPARSE_HOST_FUTURE_BYTE, 6);
+  rejects("//[::g]/", URIPARSE_HOST_IPV6_BYTE, 5);
+  rejects("//[1:2]/", URIPARSE_HOST_IPV6_FORM, 2);
+  rejects("//h:8x/", URIPARSE_PORT_BYTE, 5);
+  rejects("//h:65536/", URIPARSE_PORT_RANGE, 4);
+  rejects("/a b", URIPARSE_PATH_BYTE, 2);
+  rejects("/%g0", URIPARSE_PATH_ESCAPE, 1);
+  rejects("1:2", URIPARSE_COLON_IN_SEGMENT, 0);
+  rejects("?^", URIPARSE_QUERY_BYTE, 1);
+  rejects("?%", URIPARSE_QUERY_ESCAPE, 1);
+  rejects("#^", URIPARSE_FRAGMENT_BYTE, 1);
+  rejects("#%f", URIPARSE_FRAGMENT_ESCAPE, 1);
+  rejects("/\xc3\xa9", URIPARSE_PATH_BYTE, 1);
   {
     uint8_t out[4];
     size_t needed;
@@ -169,6 +173,7 @@ int main(void) {
     many[0] = 'a';
     check(uriparse_parse(many, most, &parts) == URIPARSE_OK && parts.path.end == most, "1,000,000 segments", "a////..");
     check(uriparse_parse(many, most + 1, &parts) == URIPARSE_TOO_MANY_SEGMENTS, "1,000,001 segments", "a////..");
+    check(uriparse_first_fault(many, most + 1, &needed) == URIPARSE_TOO_MANY_SEGMENTS && needed == most, "place of the segment", "a////..");
     needed = 7;
     check(uriparse_resolve("s:/b/c", 6, many, most, out, 4, &needed) == URIPARSE_TOO_MANY_SEGMENTS && needed == 0,
           "1,000,001 segments, resolved", "a////..");
@@ -203,6 +208,7 @@ int main(void) {
     size_t needed = 7;
     check(uriparse_parse(NULL, 0, &parts) == URIPARSE_OK && parts.path.present && parts.path.end == 0, "parse", "NULL");
     check(!uriparse_is_uri(NULL, 0), "is_uri", "NULL");
+    check(uriparse_first_fault(NULL, 0, &needed) == URIPARSE_OK && needed == 7, "first_fault", "NULL");
     check(uriparse_equal(NULL, 0, "", 0, &equal) == URIPARSE_OK && equal, "equal", "NULL");
     check(uriparse_hash(NULL, 0, &hash) == URIPARSE_OK, "hash", "NULL");
     check(uriparse_normalize(NULL, 0, NULL, 0, &needed) == URIPARSE_OK && needed == 0, "normalize", "NULL");

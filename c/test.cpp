@@ -37,6 +37,9 @@ int main() {
   check(parts.host_kind == URIPARSE_HOST_NAME && parts.port_number == 80, "kind and port");
   check(uriparse_is_uri(text.data(), text.size()), "is_uri");
   check(normalize("HTTP://h/%7e/../x") == "http://h/x" && normalize("%") == "rejected", "normalize");
+  size_t place = 9;
+  check(uriparse_first_fault("a%7e", 4, &place) == URIPARSE_OK && place == 9, "no fault");
+  check(uriparse_first_fault("a b", 3, &place) == URIPARSE_PATH_BYTE && place == 1, "fault");
   bool equal = false;
   check(uriparse_equal("a%7e", 4, "a~", 2, &equal) == URIPARSE_OK && equal, "equal");
   uint64_t one = 1, other = 2;

@@ -45,6 +45,14 @@ func resolve(base, text string) string {
 	return string(out[:needed])
 }
 
+// The code of the first fault and its place.
+func firstFault(text string) (C.uint32_t, int) {
+	begin, length := pointer(text)
+	var place C.size_t
+	code := C.uriparse_first_fault(begin, length, &place)
+	return code, int(place)
+}
+
 func isURI(text string) bool {
 	begin, length := pointer(text)
 	return bool(C.uriparse_is_uri(begin, length))
@@ -80,6 +88,8 @@ func main() {
 	check(parts.host_kind == C.URIPARSE_HOST_NAME && parts.port_number == 80, "kind and port")
 	begin, length = pointer("/%")
 	check(C.uriparse_parse(begin, length, &parts) == C.URIPARSE_PATH_ESCAPE, "code")
+	code, place := firstFault("a b")
+	check(code == C.URIPARSE_PATH_BYTE && place == 1, "first fault")
 	check(isURI("a:b") && !isURI("a") && !isURI(""), "is_uri")
 	check(equal("a%7e", "a~") && !equal("a", "b"), "equal")
 	check(hash("a%7e") == hash("a~"), "hash")

@@ -2,11 +2,11 @@
 import uriparse
 
 
-def rejects(code, call, *arguments):
+def rejects(code, place, text, call, *arguments):
     try:
         call(*arguments)
     except uriparse.URIError as error:
-        assert error.code == code, hex(error.code)
+        assert (error.code, error.place, error.text) == (code, place, text), error
     else:
         raise AssertionError(arguments)
 
@@ -21,7 +21,10 @@ assert uriparse.equal(b"a%7e", b"a~") and not uriparse.equal(b"a", b"b")
 assert uriparse.hash_of(b"a%7e") == uriparse.hash_of(b"a~")
 assert uriparse.normalize(b"HTTP://H/%7e/../x") == b"http://h/x"
 assert uriparse.resolve(b"http://a/b/c", b"../g#s") == b"http://a/g#s"
-rejects(0x52, uriparse.parse, b"/%")
-rejects(0x152, uriparse.resolve, b"s:%", b"a")
-rejects(0x103, uriparse.resolve, b"/a", b"b")
+rejects(0x52, 1, b"/%", uriparse.parse, b"/%")
+assert uriparse.first_fault(b"/a%4") == (0x52, 2) and uriparse.first_fault(b"/a") is None
+rejects(0x51, 1, b"a b", uriparse.equal, b"c", b"a b")
+rejects(0x51, 1, b"a b", uriparse.resolve, b"s:", b"a b")
+rejects(0x152, 2, b"s:%", uriparse.resolve, b"s:%", b"%")
+rejects(0x103, 0, b"/a", uriparse.resolve, b"/a", b"b")
 print("ok")

@@ -13,9 +13,9 @@
  *
  * A text isn't written and isn't kept: after the call nothing points into it. Its bytes are initialized, and nothing
  * changes them during the call, be it another thread, a signal handler or another process that shares the memory: a
- * call reads a text more than once. What a call writes to (`out`, `needed`, `parts`, `equal`, `hash`) overlaps no other
- * argument. It need not be initialized, and nothing else uses it during the call. On an error nothing is written except
- * `*needed`, which becomes 0, or with URIPARSE_NO_ROOM the length of the text.
+ * call reads a text more than once. What a call writes to (`out`, `needed`, `parts`, `place`, `equal`, `hash`) overlaps no
+ * other argument. It need not be initialized, and nothing else uses it during the call. On an error nothing is written except
+ * `*needed`, which becomes 0, or with URIPARSE_NO_ROOM the length of the text, and `*place`.
  *
  * There is no state between calls, so calls may run concurrently in any threads. No call allocates, so each may be called
  * in a signal handler, and in the forked child of a process with threads.
@@ -106,6 +106,18 @@ struct uriparse_parts {
  * The caller ensures: `text` is readable for `len` bytes; `parts` is writable. */
 uint32_t uriparse_parse(const uint8_t *text, size_t len, struct uriparse_parts *parts);
 
+/* Why a text is no reference, and where: returns the error that `uriparse_parse` returns, and writes to `*place` how many
+ * bytes precede the text's first fault. Returns URIPARSE_OK if the text is a reference, and then leaves `*place` as it
+ * was.
+ *
+ * The place of a wrong byte is its own, of an escape without two digits that of its '%', and of one segment too many that
+ * of the slash before it. An address of a wrong form is wrong at its '[', a port that is too large at its first digit,
+ * and a path with a colon where none may be at its first byte. A place is less than `len`. Reads a faulty text again.
+ * Does not allocate.
+ *
+ * The caller ensures: `text` is readable for `len` bytes; `place` is writable. */
+uint32_t uriparse_first_fault(const uint8_t *text, size_t len, size_t *place);
+
 /* Whether a text is a URI: a reference that has a scheme. Does not allocate.
  *
  * The caller ensures: `text` is readable for `len` bytes. */
@@ -162,6 +174,7 @@ static inline uint8_t *uriparse_room(void *out) {
 /* The functions themselves accept no NULL. With these macros each call accepts NULL with length 0, and a text of any
  * byte type, such as `const char *`. */
 #define uriparse_parse(text, len, parts) (uriparse_parse)(uriparse_text(text), len, parts)
+#define uriparse_first_fault(text, len, place) (uriparse_first_fault)(uriparse_text(text), len, place)
 #define uriparse_is_uri(text, len) (uriparse_is_uri)(uriparse_text(text), len)
 #define uriparse_equal(left, left_len, right, right_len, equal)                                                        \
   (uriparse_equal)(uriparse_text(left), left_len, uriparse_text(right), right_len, equal)

@@ -1,10 +1,12 @@
 """URIs of RFC 3986 by proved code: a wrapper of liburiparse.so for ctypes. See uriparse.h.
 
-Texts are bytes. LIBURIPARSE in the environment names the shared library."""
+Texts are bytes. The shared library is the one that LIBURIPARSE in the environment names, else the one beside this file,
+else that of the system."""
 import ctypes
 import os
 
-_lib = ctypes.CDLL(os.environ.get("LIBURIPARSE", "liburiparse.so"))
+_beside = os.path.join(os.path.dirname(os.path.abspath(__file__)), "liburiparse.so")
+_lib = ctypes.CDLL(os.environ.get("LIBURIPARSE") or (_beside if os.path.exists(_beside) else "liburiparse.so"))
 _size = ctypes.c_size_t
 _text = (ctypes.c_char_p, _size)
 _out = (ctypes.c_char_p, _size, ctypes.POINTER(_size))
@@ -31,6 +33,7 @@ def _export(name, result, *arguments):
 
 
 _parse = _export("parse", ctypes.c_uint32, *_text, ctypes.POINTER(Parts))
+_first_fault = _export("first_fault", ctypes.c_uint32, *_text, ctypes.POINTER(_size))
 _is_uri = _export("is_uri", ctypes.c_bool, *_text)
 _equal = _export("equal", ctypes.c_uint32, *_text, *_text, ctypes.POINTER(ctypes.c_bool))
 _hash = _export("hash", ctypes.c_uint32, *_text, ctypes.POINTER(ctypes.c_uint64))
@@ -39,22 +42,30 @@ _resolve = _export("resolve", ctypes.c_uint32, *_text, *_text, *_out)
 
 
 class URIError(ValueError):
-    """A text is rejected, with a code of uriparse.h."""
+    """A text is rejected, with a code of uriparse.h: what is wrong, and how many bytes precede it.
 
-    def __init__(self, code):
-        super().__init__("rejected: 0x%02x" % code)
+    The place is 0 if the text isn't wrong by itself: a base without a scheme, or a target with too many segments."""
+
+    def __init__(self, code: int, text: bytes):
+        fault = first_fault(text)
         self.code = code
+        self.text = text
+        self.place = fault[1] if fault else 0
+        super().__init__("rejected: code 0x%02x at byte %d of %r" % (code, self.place, text))
 
 
-def _check(code):
+def _check(code, *texts):
+    """Raises the error of a code that a call of these texts returned: a base's, or the first faulty text's."""
+    if code & IN_BASE:
+        raise URIError(code, texts[0])
     if code:
-        raise URIError(code)
+        raise URIError(code, next(filter(first_fault, texts), texts[-1]))
 
 
 def spans(text: bytes) -> Parts:
     """Where the components are."""
     parts = Parts()
-    _check(_parse(text, len(text), parts))
+    _check(_parse(text, len(text), parts), text)
     return parts
 
 
@@ -65,6 +76,13 @@ def parse(text: bytes) -> dict:
     return {name: text[span.begin:span.end] for name, span in found if span.present}
 
 
+def first_fault(text: bytes):
+    """The code of the text's first fault and how many bytes precede it, or None if it is a reference."""
+    place = _size()
+    code = _first_fault(text, len(text), place)
+    return (code, place.value) if code else None
+
+
 def is_uri(text: bytes) -> bool:
     """Whether it is a reference that has a scheme."""
     return _is_uri(text, len(text))
@@ -73,14 +91,14 @@ def is_uri(text: bytes) -> bool:
 def equal(left: bytes, right: bytes) -> bool:
     """Whether two references are equal."""
     answer = ctypes.c_bool()
-    _check(_equal(left, len(left), right, len(right), answer))
+    _check(_equal(left, len(left), right, len(right), answer), left, right)
     return answer.value
 
 
 def hash_of(text: bytes) -> int:
     """A hash of a reference: equal references have equal ones."""
     answer = ctypes.c_uint64()
-    _check(_hash(text, len(text), answer))
+    _check(_hash(text, len(text), answer), text)
     return answer.value
 
 
@@ -91,7 +109,7 @@ def _written(call, *texts) -> bytes:
         out = ctypes.create_string_buffer(room)
         code = call(*arguments, out, room, needed)
         if code != NO_ROOM:
-            _check(code)
+            _check(code, *texts)
             return out.raw[:needed.value]
         room = needed.value
 

@@ -5,10 +5,11 @@
 //! is what a text spells by the grammar, and `fault` is why it spells nothing.
 #![tactic(auto)]
 
-ghost use Rattle.std.specs.Prelude.{◌≡◌, ◌⊎◌, ◌↔◌, IsTrue, Some, None, bytes_eq, is_some, true, false};
+ghost use Rattle.std.specs.Prelude.{◌≡◌, ◌⊎◌, ◌↔◌, ℕ, IsTrue, Some, None, bytes_eq, is_some, true, false};
 ghost use Rattle.uriparse_reference.specs.Key.{key};
 ghost use Rattle.uriparse_reference.specs.declared.uri_reference.error.URIReferenceError.{URIReferenceError};
 ghost use Rattle.uriparse_reference.specs.Normal.{normal};
+ghost use Rattle.uriparse_reference.specs.Place.{first_fault};
 ghost use Rattle.uriparse_reference.specs.Reading.{fault};
 ghost use Rattle.uriparse_reference.specs.Reference.{Parts, Spells, print};
 ghost use Rattle.uriparse_reference.specs.Target.{target};
@@ -22,6 +23,7 @@ use uriparse_ffi::code::{ACCEPTED, code_of, truth_of};
 use uriparse_ffi::places::{UriParts, places};
 use uriparse_ffi::texts::{equal_texts, hashed, write_normal, write_target};
 use uriparse_reference::internal::find_pieces;
+use uriparse_reference::uri_reference::URIReference;
 
 /// Reads a reference, and says where its components are. Does not allocate.
 #[unsafe(no_mangle)]
@@ -38,6 +40,24 @@ pub extern "C" fn uriparse_parse(text: &[u8], out: &mut UriParts) -> u32
             ACCEPTED
         }
         Err(error) => code_of(error),
+    }
+}
+
+/// Says why a text is no reference, and where its first fault is. Does not allocate.
+#[unsafe(no_mangle)]
+pub extern "C" fn uriparse_first_fault(text: &[u8], place: &mut usize) -> u32
+    // A text that spells a reference has no fault, and nothing is written.
+    ensures accepted { (p : Parts) → Spells text.now p → (result ≡ spec.accepted) × (place.new ≡ place.old) }
+
+    // Of any other text the fault's code is returned, and written is how many bytes precede it.
+    ensures found { (n : ℕ) (e : URIReferenceError) → first_fault text.now ≡ Some (n, e) → (result ≡ spec.code_of e) × (place.new ≡ n) }
+{
+    match URIReference::first_fault(text) {
+        Some((at, error)) => {
+            *place = at;
+            code_of(error)
+        }
+        None => ACCEPTED,
     }
 }
 

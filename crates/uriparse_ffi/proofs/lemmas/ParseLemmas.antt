@@ -1,11 +1,13 @@
 -- What reading a text returns, by what it spells.
 use Rattle.std.proofs.Common.{◌≡◌, ℕ, Bool, List, Option, Some, None, Ok, Err, refl, sym, ap, subst, ◌∙◌}
+use Rattle.std.specs.Option.{option_map}
 use Rattle.std.specs.Prelude.{◌↔◌, IsTrue, true, false, is_some}
 use Rattle.uriparse_text.specs.Readings.{fault_in, IfPresent}
 use Rattle.uriparse_scheme.specs.Scheme as scheme
 use Rattle.uriparse_reference.specs.declared.uri_reference.error.URIReferenceError.{URIReferenceError}
 use Rattle.uriparse_reference.specs.Reference.{Parts, Spells}
 use Rattle.uriparse_reference.specs.Reading.{reading, fault}
+use Rattle.uriparse_reference.specs.Place.{fault_place, first_fault}
 use Rattle.uriparse_reference.specs.Cuts.{scheme_text, authority_text, path_text, query_text, fragment_text}
 use Rattle.uriparse_reference.proofs.lemmas.reading.CutLemmas.{IsCutInto, cut_again}
 use Rattle.uriparse_reference.proofs.lemmas.reading.ReadingLemmas.{again, found, spelled_pieces}
@@ -40,6 +42,11 @@ read_one t p q s is = let e = again t p s in cc
 pub no_fault : (t : List ℕ) (p : Parts) (e : URIReferenceError) → Spells t p → fault t ≡ Some e → ⊥
 no_fault t p e s h =
     let none : fault t ≡ None = ap fault_in (again t p s) in
+    absurd (cc)
+
+pub no_first_fault : (t : List ℕ) (p : Parts) (f : ℕ × URIReferenceError) → Spells t p → first_fault t ≡ Some f → ⊥
+no_first_fault t p f s h =
+    let none : first_fault t ≡ None = ap (λ o. option_map (λ e. (fault_place e t, e)) (fault_in o)) (again t p s) in
     absurd (cc)
 
 pub no_fault_read : (t : List ℕ) (p : Parts) (e : URIReferenceError) → reading t ≡ Ok p → fault t ≡ Some e → ⊥

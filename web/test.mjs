@@ -1,0 +1,140 @@
+// Tests of the module in Node: the rows of the program `uri`, and what only JavaScript has.
+//
+//     node --experimental-wasm-memory64 web/test.mjs MODULE        (web/run does this)
+import assert from "node:assert/strict";
+import { readFile } from "node:fs/promises";
+import { pathToFileURL } from "node:url";
+import { load, isSupported, URIParseError } from "./uriparse.mjs";
+
+let passed = 0;
+let failed = 0;
+
+async function test(name, body) {
+  try {
+    await body();
+    passed += 1;
+  } catch (error) {
+    failed += 1;
+    console.log(`${name}: ${error.message}`);
+  }
+}
+
+assert(isSupported());
+const uris = await load(pathToFileURL(process.argv[2]));
+
+// The rows: words separated by bars, the status, the output, the message.
+const STRING = String.raw`"((?:[^"\\]|\\[^])*)"`;
+const ROW = new RegExp(String.raw`\(\s*${STRING},\s*(\d+),\s*${STRING},\s*(?:${STRING}|USAGE),?\s*\)`, "g");
+const source = await readFile(new URL("../crates/uri/src/tests.rt", import.meta.url), "utf8");
+const unescaped = (text) => text.replace(/\\\n\s*/g, "").replace(/\\n/g, "\n").replace(/\\(.)/g, "$1");
+const rows = [...source.matchAll(ROW)].map(([, words, status, out]) => [unescaped(words).split("|"), Number(status), unescaped(out)]);
+
+const CALLS = {
+  normalize: ([text]) => `${uris.normalize(text)}\n`,
+  resolve: ([base, reference]) => `${uris.resolve(base, reference)}\n`,
+  equal: ([left, right]) => (uris.equal(left, right) ? "equal\n" : "different\n"),
+  parse: ([text]) => listed(uris.parse(text)),
+};
+
+// The components as the program lists them, without the whole text.
+function listed(parts) {
+  const host = parts.host_kind && `host.${parts.host_kind}`;
+  const named = [["scheme", parts.scheme], ["username", parts.username], ["password", parts.password], [host, parts.host],
+    ["port", parts.port], ["path", parts.path], ["query", parts.query], ["fragment", parts.fragment]];
+  return named.filter(([, value]) => value !== null).map(([name, value]) => `${name}=${value}\n`).join("");
+}
+
+// The program prints a registered scheme in lower case, and "/" for an empty path after an authority.
+function expected(command, out) {
+  return command === "parse" ? out.slice(out.indexOf("\n") + 1) : out;
+}
+
+function result(command, texts) {
+  const text = CALLS[command](texts);
+  return command === "parse" ? text.replace(/^scheme=HTTP\n/m, "scheme=http\n").replace(/(host.*\n(?:port.*\n)?)path=\n/, "$1path=/\n") : text;
+}
+
+let tried = 0;
+for (const [[command, ...texts], status, out] of rows) {
+  if (!(command in CALLS) || status === 2) {
+    continue;
+  }
+  tried += 1;
+  await test(`${command} ${texts.join(" ")}`, () => {
+    if (status === 0) {
+      assert.equal(result(command, texts), expected(command, out));
+    } else {
+      assert.throws(() => CALLS[command](texts), URIParseError);
+    }
+  });
+}
+await test("the rows were found", () => assert(tried > 25, `${tried} rows`));
+
+await test("each component and its place", () => {
+  const parts = uris.parse("http://u:p@h:080/a//b?q#");
+  assert.deepEqual(parts.segments, ["a", "", "b"]);
+  assert.deepEqual(parts.places.port, [13, 16]);
+  assert.equal(parts.port, 80);
+  assert.equal(parts.fragment, "");
+  assert.deepEqual(parts.places.fragment, [24, 24]);
+  assert.equal(uris.parse("a").query, null);
+  assert.deepEqual(uris.parse("").segments, [""]);
+});
+
+// The place of the first wrong character, and its component.
+const FAULTS = [
+  ["http://h/a b", 10, "path"],
+  ["http://h/%4", 9, "path"],
+  ["http://h:70000/", 9, "port"],
+  ["http://h:8a/", 10, "port"],
+  ["http://[::1/", 7, "host"],
+  ["//[1:2]/", 2, "host"],
+  ["//a%zz/", 3, "host"],
+  ["//u ser@h/", 3, "username"],
+  ["//u:p ass@h/", 5, "password"],
+  ["1:2", 0, "path"],
+  ["a?b[", 3, "query"],
+  ["a#b#", 3, "fragment"],
+  ["é", 0, "path"],
+  ["http://h/é😀 ", 9, "path"],
+];
+for (const [text, place, component] of FAULTS) {
+  await test(`the fault of ${text}`, () => {
+    const fault = uris.fault(text);
+    assert.deepEqual([fault.place, fault.component], [place, component]);
+    assert.throws(() => uris.parse(text), { name: "URIParseError", code: fault.code, place, component, text });
+  });
+}
+
+await test("the messages are those of the header", async () => {
+  const header = await readFile(new URL("../c/uriparse.h", import.meta.url), "utf8");
+  const codes = new Map([...header.matchAll(/^  URIPARSE_(\w+) = (0x\w+|\d+)/gm)].map(([, name, code]) => [name, Number(code)]));
+  const texts = [...header.matchAll(/case URIPARSE_(\w+): return "(.*)";/g)].map(([, name, text]) => [codes.get(name), text]);
+  assert.equal(texts.length, 23);
+  for (const [code, text] of texts.filter(([code]) => code > 2)) {
+    assert.equal(new URIParseError(code, 0, "").message, text);
+  }
+});
+
+await test("no fault", () => assert.equal(uris.fault("http://h/a"), null));
+await test("a base without a scheme", () => assert.throws(() => uris.resolve("/a", "b"), { inBase: true, component: "scheme", code: 0x103 }));
+await test("the base's error comes first", () => assert.throws(() => uris.resolve("s:%", "%"), { inBase: true, text: "s:%" }));
+await test("the reference's error", () => assert.throws(() => uris.resolve("s:a", "%"), { inBase: false, text: "%", place: 0 }));
+await test("the right one's error", () => assert.throws(() => uris.equal("a", "b c"), { text: "b c", place: 1 }));
+await test("a lone surrogate", () => assert.equal(uris.fault("a\ud800").place, 1));
+await test("a value that is no string", () => assert.equal(uris.normalize(new URL("http://h/%7Ea")), "http://h/~a"));
+await test("kinds", () => assert.deepEqual([uris.isURI("s:"), uris.isURI("a"), uris.isURI("%")], [true, false, false]));
+await test("hashes", () => {
+  assert.equal(uris.hash("http://h/%7e"), uris.hash("HTTP://H/~"));
+  assert.notEqual(uris.hash("/a"), uris.hash("/b"));
+});
+await test("a long text", () => {
+  const text = `http://h/${"%41/../".repeat(200000)}`;
+  assert.equal(uris.normalize(text), "http://h/");
+  assert.equal(uris.parse(text).segments.length, 400001);
+});
+await test("many segments", () => assert.equal(uris.fault("a/".repeat(1000001)).code, 5));
+
+console.log(`web: ${tried} rows of the program`);
+console.log(`${passed} passed, ${failed} failed`);
+process.exit(failed ? 1 : 0);

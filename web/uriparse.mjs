@@ -1,0 +1,279 @@
+// URIs and URI references of RFC 3986, read, compared, normalized and resolved by proved code in WebAssembly.
+//
+//     import { load } from "./uriparse.mjs";
+//     const uris = await load();                   // uriparse.wasm beside this file
+//     uris.normalize("HTTP://h/a/../%7Eb");        // "http://h/~b"
+//
+// It needs a browser or a runtime with WebAssembly memories of 64-bit addresses: `isSupported()` says whether it is one.
+
+const CODES = {
+  3: ["scheme", "the base has no scheme"],
+  4: ["path", "a colon in the first segment of a reference without a scheme"],
+  5: ["path", "the path has too many segments"],
+  0x11: ["username", "invalid byte in the user name"],
+  0x12: ["username", "invalid percent-encoding in the user name"],
+  0x21: ["password", "invalid byte in the password"],
+  0x22: ["password", "invalid percent-encoding in the password"],
+  0x31: ["host", "invalid byte or percent-encoding in the host"],
+  0x32: ["host", "invalid byte in the IPv6 address"],
+  0x33: ["host", "invalid form of the IPv6 address"],
+  0x34: ["host", "invalid byte in the IPvFuture address"],
+  0x35: ["host", "invalid form of the IPvFuture address"],
+  0x41: ["port", "invalid byte in the port"],
+  0x42: ["port", "the port is above 65535"],
+  0x51: ["path", "invalid byte in the path"],
+  0x52: ["path", "invalid percent-encoding in the path"],
+  0x61: ["query", "invalid byte in the query"],
+  0x62: ["query", "invalid percent-encoding in the query"],
+  0x71: ["fragment", "invalid byte in the fragment"],
+  0x72: ["fragment", "invalid percent-encoding in the fragment"],
+};
+
+const NO_ROOM = 2;
+const NO_SCHEME = 3;
+const IN_BASE = 0x100;
+const HOST_KINDS = { 1: "name", 4: "ipv4", 6: "ipv6", 7: "ipvfuture" };
+const COMPONENTS = ["scheme", "authority", "username", "password", "host", "port", "path", "query", "fragment"];
+
+// Where the module's struct of components has its fields, in words of 32 bits. No text that fits in a string has an index
+// that needs more, so of wider numbers the low word is read.
+const BEGIN = 0;
+const END = 2;
+const IS_PRESENT = 4;
+const SPAN = 6;
+const HOST_KIND = COMPONENTS.length * SPAN;
+const PORT = HOST_KIND + 1;
+const PARTS = 4 * (PORT + 1);
+
+const WORD = 16;
+const PAGE = 65536;
+
+// The smallest module with a memory of 64-bit addresses.
+const PROBE = new Uint8Array([0, 97, 115, 109, 1, 0, 0, 0, 5, 3, 1, 4, 1]);
+
+// The component that a code is about, and what it means.
+function meaning(code) {
+  return CODES[code & ~IN_BASE] ?? [null, `unknown code ${code}`];
+}
+
+/** Why a text is rejected. */
+export class URIParseError extends Error {
+  constructor(code, place, text) {
+    const [component, message] = meaning(code);
+    super(code & IN_BASE && (code & ~IN_BASE) !== NO_SCHEME ? `base: ${message}` : message);
+    this.name = "URIParseError";
+    this.code = code;
+    this.component = component;
+    this.place = place;
+    this.text = text;
+    this.inBase = (code & IN_BASE) !== 0;
+  }
+}
+
+/** Whether this browser or runtime has WebAssembly memories of 64-bit addresses. */
+export function isSupported() {
+  return typeof WebAssembly === "object" && WebAssembly.validate(PROBE);
+}
+
+async function bytesOf(source) {
+  if (source instanceof URL || typeof source === "string") {
+    const url = new URL(source, globalThis.document?.baseURI ?? import.meta.url);
+    if (url.protocol === "file:" && globalThis.process?.versions?.node) {
+      const { readFile } = await import("node:fs/promises");
+      return readFile(url);
+    }
+    source = await fetch(url);
+  }
+  if (typeof Response === "function" && source instanceof Response) {
+    if (!source.ok) {
+      throw new Error(`${source.url}: ${source.status} ${source.statusText}`);
+    }
+    return source.arrayBuffer();
+  }
+  return source;
+}
+
+/** Loads the module: from a URL, a Response, its bytes, or a WebAssembly.Module. */
+export async function load(source = new URL("uriparse.wasm", import.meta.url)) {
+  if (!isSupported()) {
+    throw new Error("64-bit WebAssembly is not supported here");
+  }
+  const bytes = await bytesOf(await source);
+  const module = bytes instanceof WebAssembly.Module ? bytes : await WebAssembly.compile(bytes);
+  const instance = await WebAssembly.instantiate(module, {});
+  return new URIs(instance.exports);
+}
+
+/** The calls of a loaded module. Texts are strings; a place is an index into the string. */
+class URIs {
+  #calls;
+  #memory;
+  #base;
+  #bytes = new Uint8Array();
+  #words = new Uint32Array();
+  #encoder = new TextEncoder();
+  #decoder = new TextDecoder("utf-8", { ignoreBOM: true });
+
+  constructor(exports) {
+    this.#calls = exports;
+    this.#memory = exports.memory;
+    this.#base = rounded(Number(exports.__heap_base.value));
+  }
+
+  // Makes the memory large enough, and views it.
+  #view(end) {
+    const missing = Math.ceil((end - this.#memory.buffer.byteLength) / PAGE);
+    if (missing > 0) {
+      grow(this.#memory, missing);
+    }
+    if (this.#bytes.buffer !== this.#memory.buffer) {
+      this.#bytes = new Uint8Array(this.#memory.buffer);
+      this.#words = new Uint32Array(this.#memory.buffer);
+    }
+  }
+
+  // Writes texts one after another. Returns their places and lengths, and a place after them with room for numbers.
+  #put(...texts) {
+    this.#view(this.#base + texts.reduce((sum, text) => sum + 3 * text.length, 2 * WORD + PARTS));
+    const spans = [];
+    let next = this.#base;
+    for (const text of texts) {
+      const { written } = this.#encoder.encodeInto(text, this.#bytes.subarray(next));
+      spans.push(BigInt(next), BigInt(written));
+      next += written;
+    }
+    return { spans, next: rounded(next) };
+  }
+
+  #word(at) {
+    return this.#words[at >>> 2];
+  }
+
+  // The error of a text with this code: the place is that of its first fault, if the text alone is at fault.
+  #error(code, text) {
+    return new URIParseError(code, this.fault(text)?.place ?? 0, text);
+  }
+
+  /** The components of a reference, as they stand in its text, and their places. Absent ones are null. */
+  parse(text) {
+    text = String(text);
+    const { spans, next } = this.#put(text);
+    const code = this.#calls.uriparse_parse(spans[0], spans[1], BigInt(next));
+    if (code !== 0) {
+      throw this.#error(code, text);
+    }
+    const words = this.#words;
+    const first = next >>> 2;
+    const places = {};
+    const found = {};
+    let at = first;
+    for (const name of COMPONENTS) {
+      const place = words[at + IS_PRESENT] & 0xff ? [words[at + BEGIN], words[at + END]] : null;
+      places[name] = place;
+      found[name] = place && text.slice(place[0], place[1]);
+      at += SPAN;
+    }
+    return {
+      text,
+      scheme: found.scheme,
+      username: found.username,
+      password: found.password,
+      host: found.host,
+      host_kind: HOST_KINDS[words[first + HOST_KIND]] ?? null,
+      port: found.port ? words[first + PORT] : null,
+      path: found.path,
+      query: found.query,
+      fragment: found.fragment,
+      segments: (found.path[0] === "/" ? found.path.slice(1) : found.path).split("/"),
+      places,
+    };
+  }
+
+  /** Why a text is no reference and where, or null if it is one. */
+  fault(text) {
+    text = String(text);
+    const { spans, next } = this.#put(text);
+    const code = this.#calls.uriparse_first_fault(spans[0], spans[1], BigInt(next));
+    if (code === 0) {
+      return null;
+    }
+    const before = this.#bytes.subarray(this.#base, this.#base + this.#word(next));
+    const [component, message] = meaning(code);
+    return { code, component, message, place: this.#decoder.decode(before).length };
+  }
+
+  /** Whether a text is a URI: a reference with a scheme. */
+  isURI(text) {
+    const { spans } = this.#put(String(text));
+    return this.#calls.uriparse_is_uri(spans[0], spans[1]) !== 0;
+  }
+
+  /** Whether two references differ at most by percent-encoding and case where these mean nothing. */
+  equal(left, right) {
+    left = String(left);
+    right = String(right);
+    const { spans, next } = this.#put(left, right);
+    const code = this.#calls.uriparse_equal(...spans, BigInt(next));
+    if (code !== 0) {
+      throw this.#error(code, this.fault(left) ? left : right);
+    }
+    return this.#bytes[next] !== 0;
+  }
+
+  /** A hash, as a BigInt: equal references have equal hashes, on every machine. */
+  hash(text) {
+    text = String(text);
+    const { spans, next } = this.#put(text);
+    const code = this.#calls.uriparse_hash(spans[0], spans[1], BigInt(next));
+    if (code !== 0) {
+      throw this.#error(code, text);
+    }
+    return (BigInt(this.#word(next + 4)) << 32n) | BigInt(this.#word(next));
+  }
+
+  // What a call writes for these texts. A code of the first text alone, if there are two, is marked.
+  #written(call, ...texts) {
+    const { spans, next } = this.#put(...texts);
+    const out = next + WORD;
+    let room = 2 * texts.reduce((sum, text) => sum + text.length, 0) + 64;
+    for (;;) {
+      this.#view(out + room);
+      const code = call(...spans, BigInt(out), BigInt(room), BigInt(next));
+      const needed = this.#word(next);
+      if (code === 0) {
+        return this.#decoder.decode(this.#bytes.subarray(out, out + needed));
+      }
+      if (code !== NO_ROOM) {
+        throw this.#error(code, code & IN_BASE ? texts[0] : texts.at(-1));
+      }
+      room = needed;
+    }
+  }
+
+  /** The text of the normal form: RFC 3986, section 6.2.2. */
+  normalize(text) {
+    return this.#written(this.#calls.uriparse_normalize, String(text));
+  }
+
+  /** The text of the target of a reference against a base: section 5.2.2. */
+  resolve(base, reference) {
+    return this.#written(this.#calls.uriparse_resolve, String(base), String(reference));
+  }
+}
+
+// The next place where any number may stand.
+function rounded(at) {
+  return Math.ceil(at / WORD) * WORD;
+}
+
+// Adds pages. Engines differ in the type of the count.
+function grow(memory, pages) {
+  try {
+    memory.grow(BigInt(pages));
+  } catch (error) {
+    if (!(error instanceof TypeError)) {
+      throw error;
+    }
+    memory.grow(pages);
+  }
+}
