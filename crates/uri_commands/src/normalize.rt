@@ -13,17 +13,13 @@ pub fn normalize<O: Write>(alloc: Global, text: &[u8], out: &mut O) -> Result<()
     normalize_with(&mut Vec::new(alloc), text, out)
 }
 
-/// Prints the reference's normal form: the text itself, or a text that is put together in a buffer,
-/// which grows to its length.
+/// Prints the reference's normal form, which is put together in a buffer that grows to its length.
 pub fn normalize_with<O: Write>(
     buffer: &mut Vec<u8>,
     text: &[u8],
     out: &mut O,
 ) -> Result<(), Failure> {
     let reference = ReferenceView::try_from_bytes(text)?;
-    if reference.is_normalized_text() {
-        return print_bytes(text, out).map_err(Failure::Io);
-    }
     let len = put_normal(&reference, buffer)?;
     print_bytes(&buffer[..len], out).map_err(Failure::Io)
 }

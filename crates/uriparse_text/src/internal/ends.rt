@@ -7,7 +7,7 @@ ghost use Rattle.uriparse_text.specs.Canonical.{canonical_in};
 ghost use Rattle.uriparse_text.specs.Cuts.{behind};
 ghost use Rattle.uriparse_text.specs.Ends.{Puts, formed};
 
-use super::canonical::Case;
+use super::canonical::{Case, is_canonical};
 use super::text::{Text, TextKind};
 use super::token::{Token, split_token};
 
@@ -88,8 +88,19 @@ fn write_spelling(case: Case, text: &[u8], out: &mut [u8])
     }
 }
 
-/// Puts the text's canonical spelling.
+/// Puts the text's canonical spelling. Most texts are their own, and are copied whole.
 pub fn put_spelling(case: Case, text: &[u8], out: &mut [u8], len: usize) -> usize
+    ensures room { length out.new ≡ length out.old }
+    ensures puts { Puts (canonical_in case text.now) out.old len out.new result }
+{
+    if is_canonical(case, text) {
+        return put(text, out, len);
+    }
+    put_respelled(case, text, out, len)
+}
+
+/// Puts the canonical spelling of any text, token by token.
+fn put_respelled(case: Case, text: &[u8], out: &mut [u8], len: usize) -> usize
     ensures room { length out.new ≡ length out.old }
     ensures puts { Puts (canonical_in case text.now) out.old len out.new result }
 {

@@ -80,6 +80,17 @@ pub(super) fn put_front(
     put_scheme(form, scheme, out, len)
 }
 
+/// Copies a text to the start of the buffer, and returns its length, if there is room.
+fn copy_into(text: &[u8], out: &mut [u8]) -> Result<usize, BufferError>
+    ensures { spec.Writes text.now result out.old out.new }
+{
+    if text.len() > out.len() {
+        return Err(BufferError::TooSmall(text.len()));
+    }
+    out[..text.len()].copy_from_slice(text);
+    Ok(text.len())
+}
+
 impl<'t> ReferenceView<'t> {
     /// Puts the text of the normal form at the end of the buffer. Returns its length. If there is
     /// no room, only the length is counted.
@@ -115,6 +126,9 @@ impl<'t> ReferenceView<'t> {
     pub fn normalize_into(&self, out: &mut [u8]) -> Result<usize, BufferError>
         ensures { spec.Writes (print (normal self.now.parts)) result out.old out.new }
     {
+        if self.is_normalized_text() {
+            return copy_into(self.text, out);
+        }
         let needed = self.put_normal(&mut []);
         if needed > out.len() {
             return Err(BufferError::TooSmall(needed));

@@ -41,6 +41,9 @@ impl<'t> ReferenceView<'t> {
     pub fn normalize_to_string(&self, alloc: Global) -> Result<String, AllocError>
         ensures { IfOk result (λ s. string_bytes s ≡ print (normal self.now.parts)) }
     {
+        if self.is_normalized_text() {
+            return String::from_str(alloc, self.as_str());
+        }
         let mut bytes = vec![in alloc; 0u8; self.normal_len()]?;
         self.fill_normal(&mut bytes);
         Ok(unsafe { String::from_utf8_unchecked(bytes) })
