@@ -2,10 +2,12 @@
 
 Of each accepted text the components are those of the regular expression of RFC 3986, appendix B, and the authority is its
 components put together; the normal form is its own normal form; a text that is equal to its neighbour has the same hash.
-A rejected text is rejected by every call with one code."""
+A rejected text is rejected by every call with one code. Each text, encoded, is decoded to itself, as Python's `quote` and
+`unquote_to_bytes` do it; and escaped it stays if it is escaped again, and means the same."""
 import random
 import re
 import sys
+from urllib.parse import quote, unquote_to_bytes
 
 import uriparse
 
@@ -67,6 +69,22 @@ def check_rejected(text, code):
         assert code_of(call, *arguments) == code, text
 
 
+# The bytes that a component has beside those that `quote` never escapes.
+KEPT = {"username": "!$&'()*+,;=", "password": "!$&'()*+,;=:", "segment": "!$&'()*+,;=:@", "query": "!$&'()*+,;=:@/?",
+        "fragment": "!$&'()*+,;=:@/?"}
+
+
+def check_codings(text):
+    for name, kept in KEPT.items():
+        encoded = uriparse.encode(name, text)
+        assert encoded == quote(text, safe=kept).encode(), (name, text)
+        assert uriparse.decode(encoded) == text, (name, text)
+    escaped = uriparse.escape(text)
+    assert uriparse.escape(escaped) == escaped, text
+    assert unquote_to_bytes(escaped) == unquote_to_bytes(text), text
+    assert code_of(uriparse.spans, text) or escaped == text, text
+
+
 def main():
     count = int(sys.argv[1]) if len(sys.argv) > 1 else 10_000
     draw = random.Random(int(sys.argv[2]) if len(sys.argv) > 2 else 1)
@@ -74,6 +92,7 @@ def main():
     last = b""
     for _ in range(count):
         text = some_text(draw)
+        check_codings(text)
         code = code_of(uriparse.spans, text)
         if code:
             check_rejected(text, code)

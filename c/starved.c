@@ -19,7 +19,7 @@ void *__wrap_realloc(void *old, size_t size) {
 
 void __wrap_free(void *old) { requests += old != NULL; }
 
-enum { ROOM = 300, CALLS = 7 };
+enum { ROOM = 300, CALLS = 10 };
 
 /* What a call writes. */
 struct written {
@@ -41,6 +41,9 @@ static uint32_t call(int which, const char *text, struct written *to) {
   case 3: return uriparse_hash(text, len, &to->hash);
   case 4: return uriparse_first_fault(text, len, &to->place);
   case 5: return uriparse_normalize(text, len, to->out, ROOM, &to->needed);
+  case 6: return uriparse_decode(text, len, to->out, ROOM, &to->needed);
+  case 7: return uriparse_encode(URIPARSE_SEGMENT, text, len, to->out, ROOM, &to->needed);
+  case 8: return uriparse_escape(text, len, to->out, ROOM, &to->needed);
   default: return uriparse_resolve(base, base_len, text, len, to->out, ROOM, &to->needed);
   }
 }

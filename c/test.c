@@ -1,5 +1,5 @@
-/* Rows with what is expected: the tables of RFC 3986, section 5.4, normal forms, components, and texts that are rejected.
- * Prints a line for each check that fails and how many passed; the status is 0 if all did. */
+/* Rows with what is expected: the tables of RFC 3986, section 5.4, normal forms, components, texts that are rejected, and
+ * texts that are decoded, encoded and escaped. Prints a line for each check that fails and how many passed; the status is 0 if all did. */
 #include "uriparse.h"
 
 #include <stdio.h>
@@ -44,6 +44,63 @@ static void normalizes(const char *text, const char *expected) {
   uint8_t out[300];
   uint32_t code = uriparse_normalize(text, strlen(text), out, sizeof out, &needed);
   check(code == URIPARSE_OK && needed == strlen(expected) && memcmp(out, expected, needed) == 0, "normalize", text);
+}
+
+/* The call of a text in a buffer that has exactly the room that is needed, one byte less, and more. */
+typedef uint32_t writer(const char *text, size_t len, uint8_t *out, size_t room, size_t *needed);
+
+static void writes(writer *call, const char *what, const char *text, size_t len, const char *expected, size_t size) {
+  size_t needed = 99999;
+  uint8_t out[100];
+  memset(out, '~', sizeof out);
+  check(call(text, len, out, sizeof out, &needed) == URIPARSE_OK && needed == size && memcmp(out, expected, size) == 0
+            && out[size] == '~' && out[99] == '~', what, text);
+  memset(out, '~', sizeof out);
+  check(call(text, len, out, size, &needed) == URIPARSE_OK && needed == size && memcmp(out, expected, size) == 0
+            && out[size] == '~', "exact room", text);
+  if (size > 0) {
+    memset(out, '~', sizeof out);
+    check(call(text, len, out, size - 1, &needed) == URIPARSE_NO_ROOM && needed == size && out[0] == '~' && out[size - 1] == '~',
+          "no room", text);
+    check(call(text, len, NULL, 0, &needed) == URIPARSE_NO_ROOM && needed == size, "room NULL", text);
+  }
+}
+
+static uint32_t decode(const char *text, size_t len, uint8_t *out, size_t room, size_t *needed) {
+  return uriparse_decode(text, len, out, room, needed);
+}
+
+static uint32_t escape(const char *text, size_t len, uint8_t *out, size_t room, size_t *needed) {
+  return uriparse_escape(text, len, out, room, needed);
+}
+
+static uint32_t component;
+
+static uint32_t encode(const char *text, size_t len, uint8_t *out, size_t room, size_t *needed) {
+  return uriparse_encode(component, text, len, out, room, needed);
+}
+
+static void decodes(const char *text, const char *bytes, size_t count) {
+  writes(decode, "decode", text, strlen(text), bytes, count);
+}
+
+static void decode_rejects(const char *text, uint32_t expected) {
+  uint8_t out[4] = {1, 2, 3, 4};
+  size_t needed = 7;
+  check(uriparse_decode(text, strlen(text), out, 4, &needed) == expected && needed == 0 && out[0] == 1, "decode rejects", text);
+}
+
+/* What is encoded is decoded to the same bytes. */
+static void encodes(uint32_t as, const char *bytes, size_t count, const char *expected) {
+  component = as;
+  writes(encode, "encode", bytes, count, expected, strlen(expected));
+  writes(decode, "decode again", expected, strlen(expected), bytes, count);
+}
+
+/* What is escaped stays if it is escaped again. */
+static void escapes(const char *text, const char *expected) {
+  writes(escape, "escape", text, strlen(text), expected, strlen(expected));
+  writes(escape, "escape again", expected, strlen(expected), expected, strlen(expected));
 }
 
 static void rejects(const char *text, uint32_t expected, size_t place) {
@@ -109,7 +166,7 @@ static void texts(void) {
   for (uint32_t code = 0; code < 0x100; code++) {
     named += strcmp(uriparse_error_text(code), "unknown code") != 0;
   }
-  check(named == 23, "texts", "codes");
+  check(named == 24, "texts", "codes");
   check(strcmp(uriparse_error_text(URIPARSE_IN_BASE | URIPARSE_PORT_RANGE), "the port is above 65535") == 0, "text", "0x142");
   check(strcmp(uriparse_version(), URIPARSE_VERSION) == 0, "version", URIPARSE_VERSION);
 }
@@ -138,6 +195,43 @@ int main(void) {
   normalizes("", "");
   normalizes("a/b/..", "a/");
   normalizes("http://[0:0:0:0:0:0:0:1]/", "http://[::1]/");
+
+  decodes("", "", 0);
+  decodes("a%20b%2f%2F%00%ff+", "a b//\0\377+", 8);
+  decodes("%2525", "%25", 3);
+  decodes("a=1&b", "a=1&b", 5);
+  decode_rejects("a%2", URIPARSE_QUERY_ESCAPE);
+  decode_rejects("%zz", URIPARSE_QUERY_ESCAPE);
+  decode_rejects("a b", URIPARSE_QUERY_BYTE);
+  decode_rejects("#", URIPARSE_QUERY_BYTE);
+
+  encodes(URIPARSE_USERNAME, "a:b@/", 5, "a%3Ab%40%2F");
+  encodes(URIPARSE_PASSWORD, "a:b@/", 5, "a:b%40%2F");
+  encodes(URIPARSE_SEGMENT, "a:b@/?", 6, "a:b@%2F%3F");
+  encodes(URIPARSE_QUERY, "a:b@/?#&=+", 10, "a:b@/?%23&=+");
+  encodes(URIPARSE_FRAGMENT, "a:b@/?#", 7, "a:b@/?%23");
+  encodes(URIPARSE_SEGMENT, "%41 \0\377", 6, "%2541%20%00%FF");
+  encodes(URIPARSE_SEGMENT, "\xc3\xa9~", 3, "%C3%A9~");
+  encodes(URIPARSE_QUERY, "", 0, "");
+  {
+    uint8_t out[4] = {1, 2, 3, 4};
+    static const uint32_t others[] = {0, 0x11, 0x30, 0x40, 0x80, 0xffffffff};
+    for (size_t i = 0; i < sizeof others / sizeof others[0]; i++) {
+      size_t needed = 7;
+      check(uriparse_encode(others[i], "a", 1, out, 4, &needed) == URIPARSE_NO_COMPONENT && needed == 0 && out[0] == 1,
+            "no component", "a");
+    }
+  }
+
+  /* RFC 3987, section 3.1; then bytes that RFC 3986 has nowhere, and delimiters where it doesn't have them. */
+  escapes("http://www.example.org/red%09ros\xc3\xa9#red", "http://www.example.org/red%09ros%C3%A9#red");
+  escapes("http://example.com/\xf0\x90\x8c\x80", "http://example.com/%F0%90%8C%80");
+  escapes("http://h/a b?q=100%&r=\xc3\xbc#[x]", "http://h/a%20b?q=100%25&r=%C3%BC#%5Bx%5D");
+  escapes("//[::1]/[a]?[#[#]", "//[::1]/%5Ba%5D?%5B#%5B%23%5D");
+  escapes("a\\b^c`d{e|f}g\"<>", "a%5Cb%5Ec%60d%7Be%7Cf%7Dg%22%3C%3E");
+  escapes("%%41%4", "%25%41%254");
+  escapes("HTTP://H/%7e/../x", "HTTP://H/%7e/../x");
+  escapes("", "");
 
   rejects("//u%@h", URIPARSE_USERNAME_ESCAPE, 3);
   rejects("//u\"@h", URIPARSE_USERNAME_BYTE, 3);
@@ -178,6 +272,10 @@ int main(void) {
     check(uriparse_resolve("s:/b/c", 6, many, most, out, 4, &needed) == URIPARSE_TOO_MANY_SEGMENTS && needed == 0,
           "1,000,001 segments, resolved", "a////..");
     check(uriparse_normalize(many, most, out, 4, &needed) == URIPARSE_NO_ROOM && needed == most, "long normal form", "a////..");
+    check(uriparse_escape(many, most + 1, out, 4, &needed) == URIPARSE_NO_ROOM && needed == most + 1, "long text, escaped", "a////..");
+    check(uriparse_encode(URIPARSE_SEGMENT, many, most, out, 4, &needed) == URIPARSE_NO_ROOM && needed == 3 * most - 2,
+          "long text, encoded", "a////..");
+    check(uriparse_decode(many, most, out, 4, &needed) == URIPARSE_NO_ROOM && needed == most, "long text, decoded", "a////..");
     free(many);
   }
 
@@ -213,6 +311,9 @@ int main(void) {
     check(uriparse_hash(NULL, 0, &hash) == URIPARSE_OK, "hash", "NULL");
     check(uriparse_normalize(NULL, 0, NULL, 0, &needed) == URIPARSE_OK && needed == 0, "normalize", "NULL");
     check(uriparse_resolve("s:", 2, NULL, 0, NULL, 0, &needed) == URIPARSE_NO_ROOM && needed == 2, "resolve", "NULL");
+    check(uriparse_decode(NULL, 0, NULL, 0, &needed) == URIPARSE_OK && needed == 0, "decode", "NULL");
+    check(uriparse_encode(URIPARSE_QUERY, NULL, 0, NULL, 0, &needed) == URIPARSE_OK && needed == 0, "encode", "NULL");
+    check(uriparse_escape(NULL, 0, NULL, 0, &needed) == URIPARSE_OK && needed == 0, "escape", "NULL");
   }
 
   parses("", NULL, NULL, NULL, NULL, 0, NULL, 0, "", NULL, NULL);

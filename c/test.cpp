@@ -29,6 +29,16 @@ static std::string normalize(const std::string &text) {
   return out;
 }
 
+static std::string encode(uint32_t component, const std::string &bytes) {
+  std::string out(3 * bytes.size(), '\0');
+  size_t needed;
+  if (uriparse_encode(component, bytes.data(), bytes.size(), &out[0], out.size(), &needed) != URIPARSE_OK) {
+    return "rejected";
+  }
+  out.resize(needed);
+  return out;
+}
+
 int main() {
   const std::string text = "http://user@example.com:80/a?q#f";
   uriparse_parts parts;
@@ -48,6 +58,10 @@ int main() {
   size_t needed;
   check(uriparse_resolve("s:/b", 4, "c", 1, out, sizeof out, &needed) == URIPARSE_OK, "resolve");
   check(std::string(out, needed) == "s:/c", "target");
+  check(encode(URIPARSE_SEGMENT, "a/b") == "a%2Fb" && encode(URIPARSE_QUERY, "a/b") == "a/b" && encode(1, "a") == "rejected", "encode");
+  check(uriparse_decode("a%2Fb", 5, out, sizeof out, &needed) == URIPARSE_OK && std::string(out, needed) == "a/b", "decode");
+  check(uriparse_decode("a b", 3, out, sizeof out, &needed) == URIPARSE_QUERY_BYTE && needed == 0, "decode rejects");
+  check(uriparse_escape("a b%", 4, out, sizeof out, &needed) == URIPARSE_OK && std::string(out, needed) == "a%20b%25", "escape");
   std::printf("%d passed, %d failed\n", passed, failed);
   return failed != 0;
 }

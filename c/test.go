@@ -45,6 +45,40 @@ func resolve(base, text string) string {
 	return string(out[:needed])
 }
 
+// The escaped text, whose length is asked for first.
+func escape(text string) string {
+	begin, length := pointer(text)
+	var needed C.size_t
+	var none C.uint8_t
+	check(C.uriparse_escape(begin, length, &none, 0, &needed) == C.URIPARSE_NO_ROOM, "length of "+text)
+	out := make([]byte, needed)
+	room := (*C.uint8_t)(unsafe.Pointer(&out[0]))
+	check(C.uriparse_escape(begin, length, room, needed, &needed) == C.URIPARSE_OK, "escape "+text)
+	return string(out)
+}
+
+func decode(text string) string {
+	begin, length := pointer(text)
+	out := make([]byte, len(text)+1)
+	var needed C.size_t
+	room := (*C.uint8_t)(unsafe.Pointer(&out[0]))
+	if C.uriparse_decode(begin, length, room, C.size_t(len(out)), &needed) != C.URIPARSE_OK {
+		return "rejected"
+	}
+	return string(out[:needed])
+}
+
+func encode(component C.uint32_t, text string) string {
+	begin, length := pointer(text)
+	out := make([]byte, 3*len(text)+1)
+	var needed C.size_t
+	room := (*C.uint8_t)(unsafe.Pointer(&out[0]))
+	if C.uriparse_encode(component, begin, length, room, C.size_t(len(out)), &needed) != C.URIPARSE_OK {
+		return "rejected"
+	}
+	return string(out[:needed])
+}
+
 // The code of the first fault and its place.
 func firstFault(text string) (C.uint32_t, int) {
 	begin, length := pointer(text)
@@ -95,5 +129,9 @@ func main() {
 	check(hash("a%7e") == hash("a~"), "hash")
 	check(normalize("HTTP://H/%7e/../x") == "http://h/x" && normalize("%") == "rejected", "normalize")
 	check(resolve("http://a/b/c", "../g#s") == "http://a/g#s" && resolve("/a", "b") == "rejected", "resolve")
+	check(decode("a%2Fb+") == "a/b+" && decode("") == "" && decode("%2") == "rejected", "decode")
+	check(encode(C.URIPARSE_SEGMENT, "a/b") == "a%2Fb" && encode(C.URIPARSE_QUERY, "") == "", "encode")
+	check(encode(7, "a") == "rejected", "no component")
+	check(escape("http://h/ü b") == "http://h/%C3%BC%20b", "escape")
 	fmt.Println("ok")
 }

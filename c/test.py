@@ -21,7 +21,14 @@ assert uriparse.equal(b"a%7e", b"a~") and not uriparse.equal(b"a", b"b")
 assert uriparse.hash_of(b"a%7e") == uriparse.hash_of(b"a~")
 assert uriparse.normalize(b"HTTP://H/%7e/../x") == b"http://h/x"
 assert uriparse.resolve(b"http://a/b/c", b"../g#s") == b"http://a/g#s"
+assert uriparse.decode(b"a%20b%00+") == b"a b\0+" and uriparse.decode(b"") == b""
+assert uriparse.encode("segment", b"a/b c") == b"a%2Fb%20c" and uriparse.encode("query", b"") == b""
+assert [uriparse.encode(name, b":/") for name in uriparse.ENCODED] == [b"%3A%2F", b":%2F", b":%2F", b":/", b":/"]
+assert uriparse.escape("http://h/a b?\u00fc%".encode()) == b"http://h/a%20b?%C3%BC%25"
 rejects(0x52, 1, b"/%", uriparse.parse, b"/%")
+rejects(0x61, 1, b"a b", uriparse.decode, b"a b")
+rejects(0x61, 1, b"a#%", uriparse.decode, b"a#%")
+rejects(0x62, 0, b"%2", uriparse.decode, b"%2")
 assert uriparse.first_fault(b"/a%4") == (0x52, 2) and uriparse.first_fault(b"/a") is None
 rejects(0x51, 1, b"a b", uriparse.equal, b"c", b"a b")
 rejects(0x51, 1, b"a b", uriparse.resolve, b"s:", b"a b")

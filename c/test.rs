@@ -26,6 +26,13 @@ unsafe extern "C" {
         room: usize,
         needed: *mut usize,
     ) -> u32;
+    fn uriparse_escape(
+        text: *const u8,
+        len: usize,
+        out: *mut u8,
+        room: usize,
+        needed: *mut usize,
+    ) -> u32;
 }
 
 fn parse(text: &str) -> Result<Parts, u32> {
@@ -49,6 +56,17 @@ fn normalize(text: &str) -> Result<String, u32> {
     }
 }
 
+fn escape(text: &str) -> String {
+    let mut out = vec![0; 3 * text.len()];
+    let mut needed = 0;
+    let code = unsafe {
+        uriparse_escape(text.as_ptr(), text.len(), out.as_mut_ptr(), out.len(), &mut needed)
+    };
+    assert_eq!(code, 0);
+    out.truncate(needed);
+    String::from_utf8(out).unwrap()
+}
+
 fn main() {
     let text = "http://user@example.com:80/a?q#f";
     let parts = parse(text).unwrap();
@@ -57,5 +75,6 @@ fn main() {
     assert_eq!((parts.host_kind, parts.port_number), (1, 80));
     assert_eq!(parse("/%").err(), Some(0x52));
     assert_eq!(normalize("HTTP://h/%7e/../x").as_deref(), Ok("http://h/x"));
+    assert_eq!(escape("http://h/ü b"), "http://h/%C3%BC%20b");
     println!("ok");
 }

@@ -1,6 +1,6 @@
-/* URIs and URI references of RFC 3986: read, compare, hash, normalize and resolve them. The code behind these calls is
- * proved: it is safe, it terminates, and it computes what this header says of results, codes and what is written. That no
- * call allocates is only tested. Neither proved nor tested is what it says of threads and signal handlers, which follows
+/* URIs and URI references of RFC 3986: read, compare, hash, normalize, resolve, decode, encode and escape them. The code
+ * behind these calls is proved: it is safe, it terminates, and it computes what this header says of results, codes and
+ * what is written. That no call allocates is only tested. Neither proved nor tested is what it says of threads and signal handlers, which follows
  * from this. README.md says more.
  *
  * The library is for Linux on x86-64 processors of level x86-64-v2 or later, those with SSE4.2 and POPCNT. It doesn't
@@ -45,6 +45,7 @@ enum uriparse_code {
   URIPARSE_NO_SCHEME = 3,         /* of a base alone: it has no scheme, and no error but code 4 */
   URIPARSE_COLON_IN_SEGMENT = 4,  /* without a scheme, a colon precedes the path's first slash: "1:2" */
   URIPARSE_TOO_MANY_SEGMENTS = 5, /* a path, or the one merged of both, has more than 1,000,000 segments */
+  URIPARSE_NO_COMPONENT = 8,      /* of `uriparse_encode` alone: the number is none of uriparse_component */
 
   URIPARSE_USERNAME_BYTE = 0x11,   /* a byte that no user name has */
   URIPARSE_USERNAME_ESCAPE = 0x12, /* a '%' that two hexadecimal digits don't follow */
@@ -159,6 +160,43 @@ uint32_t uriparse_normalize(const uint8_t *text, size_t len, uint8_t *out, size_
 uint32_t uriparse_resolve(const uint8_t *base, size_t base_len, const uint8_t *text, size_t len, uint8_t *out,
                           size_t room, size_t *needed);
 
+/* Writes to `out` the bytes that the text of a component stands for, and to `*needed` their number: each percent-encoded
+ * octet as its byte, each other byte as it is, so a "+" stays. If `room` is less, returns URIPARSE_NO_ROOM, and `out` is
+ * unchanged. The text is that of a query, as the texts of user names, passwords, names of hosts, paths and fragments are
+ * too; for another text returns URIPARSE_QUERY_BYTE or URIPARSE_QUERY_ESCAPE. Does not allocate.
+ *
+ * Cut a query or a path at its delimiters before you decode its pieces: "%26" and "&" become the same byte.
+ *
+ * The caller ensures: `text` is readable for `len` bytes; `out` is writable for `room` bytes; `needed` is writable. */
+uint32_t uriparse_decode(const uint8_t *text, size_t len, uint8_t *out, size_t room, size_t *needed);
+
+/* What `uriparse_encode` writes. */
+enum uriparse_component {
+  URIPARSE_USERNAME = 0x10,
+  URIPARSE_PASSWORD = 0x20,
+  URIPARSE_SEGMENT = 0x50, /* of a path: a '/' becomes "%2F" */
+  URIPARSE_QUERY = 0x60,
+  URIPARSE_FRAGMENT = 0x70
+};
+
+/* Writes to `out` any bytes as the text of a component, one of uriparse_component, as `uriparse_decode` writes: a byte
+ * that the component may have stays, and each other becomes a percent-encoded octet with upper-case digits, '%' too.
+ * `uriparse_decode` returns the bytes again. In a query '&', '=' and '+' stay. Returns URIPARSE_NO_COMPONENT for another
+ * number. Does not allocate.
+ *
+ * The caller ensures: `bytes` is readable for `len` bytes; `out` is writable for `room` bytes; `needed` is writable. */
+uint32_t uriparse_encode(uint32_t component, const uint8_t *bytes, size_t len, uint8_t *out, size_t room,
+                         size_t *needed);
+
+/* Writes to `out` the text of a reference, made of any text, as `uriparse_decode` writes: each byte that RFC 3986 doesn't
+ * allow where it stands becomes a percent-encoded octet, and all else stays. So the text of a reference stays, an IRI in
+ * UTF-8 becomes its URI (RFC 3987, section 3.1), and a second call changes nothing. A '%' that two hexadecimal digits
+ * don't follow becomes "%25". What is written may still be rejected: for its authority, which keeps its delimiters, for
+ * too many segments, or by the colon rule. Does not allocate.
+ *
+ * The caller ensures: `text` is readable for `len` bytes; `out` is writable for `room` bytes; `needed` is writable. */
+uint32_t uriparse_escape(const uint8_t *text, size_t len, uint8_t *out, size_t room, size_t *needed);
+
 #ifdef __cplusplus
 }
 #endif
@@ -183,6 +221,12 @@ static inline uint8_t *uriparse_room(void *out) {
   (uriparse_normalize)(uriparse_text(text), len, uriparse_room(out), room, needed)
 #define uriparse_resolve(base, base_len, text, len, out, room, needed)                                                 \
   (uriparse_resolve)(uriparse_text(base), base_len, uriparse_text(text), len, uriparse_room(out), room, needed)
+#define uriparse_decode(text, len, out, room, needed)                                                                  \
+  (uriparse_decode)(uriparse_text(text), len, uriparse_room(out), room, needed)
+#define uriparse_encode(component, bytes, len, out, room, needed)                                                      \
+  (uriparse_encode)(component, uriparse_text(bytes), len, uriparse_room(out), room, needed)
+#define uriparse_escape(text, len, out, room, needed)                                                                  \
+  (uriparse_escape)(uriparse_text(text), len, uriparse_room(out), room, needed)
 
 /* What a code means, in English. */
 static inline const char *uriparse_error_text(uint32_t code) {
@@ -193,6 +237,7 @@ static inline const char *uriparse_error_text(uint32_t code) {
   case URIPARSE_NO_SCHEME: return "the base has no scheme";
   case URIPARSE_COLON_IN_SEGMENT: return "a colon in the first segment of a reference without a scheme";
   case URIPARSE_TOO_MANY_SEGMENTS: return "the path has too many segments";
+  case URIPARSE_NO_COMPONENT: return "no component has this number";
   case URIPARSE_USERNAME_BYTE: return "invalid byte in the user name";
   case URIPARSE_USERNAME_ESCAPE: return "invalid percent-encoding in the user name";
   case URIPARSE_PASSWORD_BYTE: return "invalid byte in the password";

@@ -3,6 +3,7 @@
 Texts are bytes. The shared library is the one that LIBURIPARSE in the environment names, else the one beside this file,
 else that of the system."""
 import ctypes
+import functools
 import os
 
 _beside = os.path.join(os.path.dirname(os.path.abspath(__file__)), "liburiparse.so")
@@ -13,6 +14,7 @@ _out = (ctypes.c_char_p, _size, ctypes.POINTER(_size))
 
 NO_ROOM = 2
 IN_BASE = 0x100
+ENCODED = {"username": 0x10, "password": 0x20, "segment": 0x50, "query": 0x60, "fragment": 0x70}
 
 COMPONENTS = ("scheme", "authority", "username", "password", "host", "port", "path", "query", "fragment")
 
@@ -39,6 +41,9 @@ _equal = _export("equal", ctypes.c_uint32, *_text, *_text, ctypes.POINTER(ctypes
 _hash = _export("hash", ctypes.c_uint32, *_text, ctypes.POINTER(ctypes.c_uint64))
 _normalize = _export("normalize", ctypes.c_uint32, *_text, *_out)
 _resolve = _export("resolve", ctypes.c_uint32, *_text, *_text, *_out)
+_decode = _export("decode", ctypes.c_uint32, *_text, *_out)
+_encode = _export("encode", ctypes.c_uint32, ctypes.c_uint32, *_text, *_out)
+_escape = _export("escape", ctypes.c_uint32, *_text, *_out)
 
 
 class URIError(ValueError):
@@ -46,20 +51,19 @@ class URIError(ValueError):
 
     The place is 0 if the text isn't wrong by itself: a base without a scheme, or a target with too many segments."""
 
-    def __init__(self, code: int, text: bytes):
-        fault = first_fault(text)
+    def __init__(self, code: int, text: bytes, place: int = 0):
         self.code = code
         self.text = text
-        self.place = fault[1] if fault else 0
+        self.place = place
         super().__init__("rejected: code 0x%02x at byte %d of %r" % (code, self.place, text))
 
 
 def _check(code, *texts):
     """Raises the error of a code that a call of these texts returned: a base's, or the first faulty text's."""
-    if code & IN_BASE:
-        raise URIError(code, texts[0])
     if code:
-        raise URIError(code, next(filter(first_fault, texts), texts[-1]))
+        text = texts[0] if code & IN_BASE else next(filter(first_fault, texts), texts[-1])
+        fault = first_fault(text)
+        raise URIError(code, text, fault[1] if fault else 0)
 
 
 def spans(text: bytes) -> Parts:
@@ -122,3 +126,25 @@ def normalize(text: bytes) -> bytes:
 def resolve(base: bytes, reference: bytes) -> bytes:
     """The text of the target of a reference against a base."""
     return _written(_resolve, base, reference)
+
+
+def decode(text: bytes) -> bytes:
+    """The bytes that the text of a component stands for, which is cut at its delimiters before."""
+    out = ctypes.create_string_buffer(len(text))
+    needed = _size()
+    code = _decode(text, len(text), out, len(text), needed)
+    if code:
+        query = text.split(b"#")[0]
+        fault = first_fault(b"?" + query)
+        raise URIError(code, text, fault[1] - 1 if fault else len(query))
+    return out.raw[:needed.value]
+
+
+def encode(component: str, data: bytes) -> bytes:
+    """The text that stands for the bytes in a component: one of the names in ENCODED."""
+    return _written(functools.partial(_encode, ENCODED[component]), data)
+
+
+def escape(text: bytes) -> bytes:
+    """The text of a reference, made of any text: with escapes for what may not stand where it does."""
+    return _written(_escape, text)

@@ -110,7 +110,7 @@ await test("the messages are those of the header", async () => {
   const header = await readFile(new URL("../c/uriparse.h", import.meta.url), "utf8");
   const codes = new Map([...header.matchAll(/^  URIPARSE_(\w+) = (0x\w+|\d+)/gm)].map(([, name, code]) => [name, Number(code)]));
   const texts = [...header.matchAll(/case URIPARSE_(\w+): return "(.*)";/g)].map(([, name, text]) => [codes.get(name), text]);
-  assert.equal(texts.length, 23);
+  assert.equal(texts.length, 24);
   for (const [code, text] of texts.filter(([code]) => code > 2)) {
     assert.equal(new URIParseError(code, 0, "").message, text);
   }
@@ -127,6 +127,21 @@ await test("kinds", () => assert.deepEqual([uris.isURI("s:"), uris.isURI("a"), u
 await test("hashes", () => {
   assert.equal(uris.hash("http://h/%7e"), uris.hash("HTTP://H/~"));
   assert.notEqual(uris.hash("/a"), uris.hash("/b"));
+});
+await test("escaped", () => {
+  assert.equal(uris.escape("http://h/a b?é%#[x]"), "http://h/a%20b?%C3%A9%25#%5Bx%5D");
+  assert.equal(uris.escape(""), "");
+});
+await test("encoded", () => {
+  assert.deepEqual(["username", "password", "segment", "query", "fragment"].map((name) => uris.encode(name, ":@/é")),
+    ["%3A%40%2F%C3%A9", ":%40%2F%C3%A9", ":@%2F%C3%A9", ":@/%C3%A9", ":@/%C3%A9"]);
+  assert.throws(() => uris.encode("path", "a"), TypeError);
+});
+await test("decoded", () => {
+  assert.deepEqual([...uris.decode("a%2f%FF+")], [97, 47, 255, 43]);
+  assert.throws(() => uris.decode("a%2"), { name: "URIParseError", code: 0x62, component: "query", place: 1, text: "a%2" });
+  assert.throws(() => uris.decode("é"), { code: 0x61, place: 0 });
+  assert.throws(() => uris.decode("a#%"), { code: 0x61, place: 1 });
 });
 await test("a long text", () => {
   const text = `http://h/${"%41/../".repeat(200000)}`;

@@ -1,4 +1,4 @@
-// URIs and URI references of RFC 3986, read, compared, normalized and resolved by proved code in WebAssembly.
+// URIs and URI references of RFC 3986, read, compared, normalized, resolved and escaped by proved code in WebAssembly.
 //
 //     import { load } from "./uriparse.mjs";
 //     const uris = await load();                   // uriparse.wasm beside this file
@@ -10,6 +10,7 @@ const CODES = {
   3: ["scheme", "the base has no scheme"],
   4: ["path", "a colon in the first segment of a reference without a scheme"],
   5: ["path", "the path has too many segments"],
+  8: [null, "no component has this number"],
   0x11: ["username", "invalid byte in the user name"],
   0x12: ["username", "invalid percent-encoding in the user name"],
   0x21: ["password", "invalid byte in the password"],
@@ -33,6 +34,7 @@ const NO_ROOM = 2;
 const NO_SCHEME = 3;
 const IN_BASE = 0x100;
 const HOST_KINDS = { 1: "name", 4: "ipv4", 6: "ipv6", 7: "ipvfuture" };
+const ENCODED = { username: 0x10, password: 0x20, segment: 0x50, query: 0x60, fragment: 0x70 };
 const COMPONENTS = ["scheme", "authority", "username", "password", "host", "port", "path", "query", "fragment"];
 
 // Where the module's struct of components has its fields, in words of 32 bits. No text that fits in a string has an index
@@ -231,8 +233,8 @@ class URIs {
     return (BigInt(this.#word(next + 4)) << 32n) | BigInt(this.#word(next));
   }
 
-  // What a call writes for these texts. A code of the first text alone, if there are two, is marked.
-  #written(call, ...texts) {
+  // The bytes that a call writes for these texts, which stay until the next call, or the code that it returns.
+  #answer(call, ...texts) {
     const { spans, next } = this.#put(...texts);
     const out = next + WORD;
     let room = 2 * texts.reduce((sum, text) => sum + text.length, 0) + 64;
@@ -240,14 +242,20 @@ class URIs {
       this.#view(out + room);
       const code = call(...spans, BigInt(out), BigInt(room), BigInt(next));
       const needed = this.#word(next);
-      if (code === 0) {
-        return this.#decoder.decode(this.#bytes.subarray(out, out + needed));
-      }
       if (code !== NO_ROOM) {
-        throw this.#error(code, code & IN_BASE ? texts[0] : texts.at(-1));
+        return { code, bytes: this.#bytes.subarray(out, out + needed) };
       }
       room = needed;
     }
+  }
+
+  // The text that a call writes for these texts. A code of the first text alone, if there are two, is marked.
+  #written(call, ...texts) {
+    const { code, bytes } = this.#answer(call, ...texts);
+    if (code !== 0) {
+      throw this.#error(code, code & IN_BASE ? texts[0] : texts.at(-1));
+    }
+    return this.#decoder.decode(bytes);
   }
 
   /** The text of the normal form: RFC 3986, section 6.2.2. */
@@ -258,6 +266,31 @@ class URIs {
   /** The text of the target of a reference against a base: section 5.2.2. */
   resolve(base, reference) {
     return this.#written(this.#calls.uriparse_resolve, String(base), String(reference));
+  }
+
+  /** The text of a reference, made of any text: with escapes for what may not stand where it does. */
+  escape(text) {
+    return this.#written(this.#calls.uriparse_escape, String(text));
+  }
+
+  /** The UTF-8 of a string as the text of a component: "username", "password", "segment", "query" or "fragment". */
+  encode(component, text) {
+    if (!Object.hasOwn(ENCODED, component)) {
+      throw new TypeError(`no component that is encoded is ${component}`);
+    }
+    return this.#written((...words) => this.#calls.uriparse_encode(ENCODED[component], ...words), String(text));
+  }
+
+  /** The bytes that the text of a component stands for. */
+  decode(text) {
+    text = String(text);
+    const { code, bytes } = this.#answer(this.#calls.uriparse_decode, text);
+    if (code !== 0) {
+      const [query] = text.split("#");
+      const fault = this.fault(`?${query}`);
+      throw new URIParseError(code, fault ? fault.place - 1 : query.length, text);
+    }
+    return bytes.slice();
   }
 }
 

@@ -5,7 +5,7 @@ use crate::texts::Test;
 use std::alloc::Global;
 use std::test::Fail;
 use test_rows::answer::{Answer, repeated};
-use test_rows::{Layer, wrong_row};
+use test_rows::{Layer, wrong_rows};
 use uriparse::{
     Authority, Fragment, Host, IPvFuture, Password, Query, RegisteredName, Scheme, Segment,
     UnregisteredScheme, Username,
@@ -20,15 +20,7 @@ fn text_becomes<K: TextKind>(alloc: Global, value: &mut Text<'_, K>, normal: &st
     Ok(value.as_str() == normal && printed.as_str() == normal && copy.as_str() == normal)
 }
 
-/// The same of a segment.
-fn segment_becomes(alloc: Global, value: &mut Segment<'_>, normal: &str) -> Test {
-    value.normalize(alloc)?;
-    let printed = value.to_string(alloc)?;
-    let copy = value.as_borrowed().into_owned(alloc)?;
-    Ok(value.as_str() == normal && printed.as_str() == normal && copy.as_str() == normal)
-}
-
-/// The same of a registered name.
+/// Whether the normal form of a registered name, what it prints and a copy are this text.
 fn name_becomes(alloc: Global, value: &mut RegisteredName<'_>, normal: &str) -> Test {
     value.normalize(alloc)?;
     let printed = value.to_string(alloc)?;
@@ -36,7 +28,7 @@ fn name_becomes(alloc: Global, value: &mut RegisteredName<'_>, normal: &str) -> 
     Ok(value.as_str() == normal && printed.as_str() == normal && copy.as_str() == normal)
 }
 
-/// The same of a scheme.
+/// Whether the normal form of a scheme, what it prints and a copy are this text.
 fn scheme_becomes(alloc: Global, value: &mut Scheme<'_>, normal: &str) -> Test {
     value.normalize(alloc)?;
     let printed = value.to_string(alloc)?;
@@ -44,7 +36,7 @@ fn scheme_becomes(alloc: Global, value: &mut Scheme<'_>, normal: &str) -> Test {
     Ok(value.as_str() == normal && printed.as_str() == normal && copy.as_str() == normal)
 }
 
-/// The same of an unregistered scheme.
+/// Whether the normal form of an unregistered scheme, what it prints and a copy are this text.
 fn unregistered_becomes(alloc: Global, value: &mut UnregisteredScheme<'_>, normal: &str) -> Test {
     value.normalize(alloc)?;
     let printed = value.to_string(alloc)?;
@@ -52,7 +44,8 @@ fn unregistered_becomes(alloc: Global, value: &mut UnregisteredScheme<'_>, norma
     Ok(value.as_str() == normal && printed.as_str() == normal && copy.as_str() == normal)
 }
 
-/// The same of an address of a later version.
+/// Whether the normal form of an address of a later version, what it prints and a copy are this
+/// text.
 fn future_becomes(alloc: Global, value: &mut IPvFuture<'_>, normal: &str) -> Test {
     value.normalize(alloc)?;
     let printed = value.to_string(alloc)?;
@@ -69,7 +62,7 @@ fn host_becomes(alloc: Global, value: &mut Host<'_>, normal: &str) -> Test {
     Ok(printed.as_str() == normal && copied.as_str() == normal)
 }
 
-/// The same of an authority.
+/// Whether the normal form of an authority and a copy print this text.
 fn authority_becomes(alloc: Global, value: &mut Authority<'_>, normal: &str) -> Test {
     value.normalize(alloc)?;
     let copy = value.as_borrowed().into_owned(alloc)?;
@@ -108,7 +101,7 @@ fn password(alloc: Global, text: &str, normal: &str) -> Test {
 
 fn segment(alloc: Global, text: &str, normal: &str) -> Test {
     match Segment::try_from_str(text) {
-        Ok(mut value) => segment_becomes(alloc, &mut value, normal),
+        Ok(mut value) => text_becomes(alloc, &mut value, normal),
         Err(_) => Ok(false),
     }
 }
@@ -224,8 +217,8 @@ fn is_right(alloc: Global, component: Component, count: usize) -> Test {
 }
 
 impl Layer for Component {
-    fn rows(&self) -> &'static str {
-        ROWS
+    fn rows(&self) -> (&'static str, &'static str) {
+        ("components", ROWS)
     }
 
     fn answer(&self, alloc: Global, asked: &str) -> Answer {
@@ -250,7 +243,8 @@ static COMPONENTS: [Component; 12] = [
 
 #[test]
 fn long_components_are_answered(rt: HostRuntime) -> Result<(), Fail> {
-    assert_eq!(rt; wrong_row(rt.alloc(), &COMPONENTS)?.as_str(), "");
+    let wrong = wrong_rows(rt.alloc(), &COMPONENTS)?;
+    assert!(rt; wrong.is_empty(), "{wrong}");
     Ok(())
 }
 

@@ -5,7 +5,7 @@ use crate::texts::{Sizes, Test, longer_text, path_text, reference_text, sizes_of
 use std::alloc::{AllocError, Global};
 use std::test::Fail;
 use test_rows::answer::{Answer, said};
-use test_rows::{Layer, wrong_row};
+use test_rows::{Layer, wrong_rows};
 use uriparse::{Edit, Path, Segment, URI, URIReference};
 
 /// Whether a reference prints this text.
@@ -73,7 +73,8 @@ fn normalizes(alloc: Global, text: &str, normal: &str) -> Test {
     }
 }
 
-/// The same by a list of edits.
+/// Whether the reference that a text reads as prints the other text once a list of edits has
+/// normalized it.
 fn edits(alloc: Global, text: &str, normal: &str) -> Test {
     match URIReference::try_from_str(alloc, text) {
         Ok(mut reference) => edited_prints(alloc, &mut reference, normal),
@@ -121,7 +122,7 @@ fn pushes(alloc: Global, path: &str, longer: &str) -> Test {
     }
 }
 
-/// The same for the bytes of `~`.
+/// Whether the path that this text reads as, with the bytes of `~` pushed, prints the longer text.
 fn pushes_bytes(alloc: Global, path: &str, longer: &str) -> Test {
     match Path::try_from_str(alloc, path) {
         Ok(mut path) => {
@@ -204,8 +205,8 @@ pub fn told(alloc: Global, right: bool) -> Answer {
 }
 
 impl Layer for Question {
-    fn rows(&self) -> &'static str {
-        ROWS
+    fn rows(&self) -> (&'static str, &'static str) {
+        ("long", ROWS)
     }
 
     fn answer(&self, alloc: Global, asked: &str) -> Answer {
@@ -225,13 +226,15 @@ static PATHS: [Question; 3] = [Question::Builds, Question::Pushes, Question::Pus
 
 #[test]
 fn long_references_are_answered(rt: HostRuntime) -> Result<(), Fail> {
-    assert_eq!(rt; wrong_row(rt.alloc(), &WHOLE)?.as_str(), "");
+    let wrong = wrong_rows(rt.alloc(), &WHOLE)?;
+    assert!(rt; wrong.is_empty(), "{wrong}");
     Ok(())
 }
 
 #[test]
 fn long_paths_are_answered(rt: HostRuntime) -> Result<(), Fail> {
-    assert_eq!(rt; wrong_row(rt.alloc(), &PATHS)?.as_str(), "");
+    let wrong = wrong_rows(rt.alloc(), &PATHS)?;
+    assert!(rt; wrong.is_empty(), "{wrong}");
     Ok(())
 }
 

@@ -1,12 +1,13 @@
 //! Rows that are asked in turn.
 
-use crate::answer::{Answer, said};
-use std::alloc::Global;
+use crate::answer::Answer;
+use std::alloc::{AllocError, Global};
+use std::fmt::Write;
 
 /// A part of what is tested, with its rows.
 pub trait Layer {
-    /// The rows, one a line.
-    fn rows(&self) -> &'static str;
+    /// The file of the rows, and the rows, one a line.
+    fn rows(&self) -> (&'static str, &'static str);
 
     /// The result of what a row asks.
     fn answer(&self, alloc: Global, asked: &str) -> Answer;
@@ -21,25 +22,31 @@ fn split_row(row: &str) -> (&str, &str) {
     }
 }
 
-/// What is wrong with a row, or nothing. `AllocError` if it ran out of memory.
-fn wrong<L: Layer>(alloc: Global, layer: &L, row: &str) -> Answer {
+/// Adds a line on the row of this file if its result is wrong. `AllocError` if it ran out of memory.
+fn add_wrong<L: Layer>(
+    alloc: Global,
+    layer: &L,
+    file: &str,
+    row: &str,
+    report: &mut String,
+) -> Result<(), AllocError> {
     let (asked, wanted) = split_row(row);
-    let answer = layer.answer(alloc, asked)?;
-    match answer.as_str() == wanted {
-        true => said(alloc, ""),
-        false => format!(in alloc; "{asked} -> {answer}"),
+    let got = layer.answer(alloc, asked)?;
+    if got.as_str() == wanted {
+        return Ok(());
     }
+    writeln!(report, "{file}: {asked}: wanted `{wanted}`, got `{got}`")
 }
 
-/// What is wrong with the first row with a wrong result, or nothing.
-pub fn wrong_row<L: Layer>(alloc: Global, layers: &[L]) -> Answer {
+/// A line on each row with a wrong result: its file, the row, the wanted result, and the one that it
+/// got.
+pub fn wrong_rows<L: Layer>(alloc: Global, layers: &[L]) -> Answer {
+    let mut report = String::new(alloc);
     for layer in layers {
-        for row in layer.rows().lines() {
-            let wrong = wrong(alloc, layer, row)?;
-            if !wrong.is_empty() {
-                return Ok(wrong);
-            }
+        let (file, rows) = layer.rows();
+        for row in rows.lines() {
+            add_wrong(alloc, layer, file, row, &mut report)?;
         }
     }
-    said(alloc, "")
+    Ok(report)
 }

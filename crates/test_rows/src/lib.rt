@@ -11,4 +11,4 @@ pub mod authorities;
 pub mod same;
 pub mod written;
 
-pub use ask::{Layer, wrong_row};
+pub use ask::{Layer, wrong_rows};

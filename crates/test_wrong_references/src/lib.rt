@@ -1,5 +1,5 @@
-//! Promises of `URIReference`, of schemes and of dot segments for which the must-fail edits beside
-//! this file put wrong bodies.
+//! Promises of `URIReference` and of schemes for which the must-fail edits beside this file put wrong
+//! bodies.
 //!
 //! Each function hands on what the library returns, and its clauses follow from the contracts of
 //! the calls alone. So a body that breaks a clause breaks the library's too: what the prover
@@ -9,8 +9,7 @@
 
 ghost use Rattle.std.specs.Prelude.{◌≡◌, ◌↔◌, Err, IfOk, IsTrue, MatchOption, MatchResult, None, Ok, OnErr, OnOk, Some, bytes_eq, is_some, length, string_bytes, true};
 ghost use Rattle.uriparse_text.specs.Readings.{IsUnless, Settles};
-ghost use Rattle.uriparse_path.specs.Dots as dots;
-ghost use Rattle.uriparse_path.specs.declared.path.error.PathError.TheVariants.{OutOfMemory};
+ghost use Rattle.uriparse_text.specs.declared.segment.error.PathError.TheVariants.{OutOfMemory};
 ghost use Rattle.uriparse_scheme.specs.Scheme as schemes;
 ghost use Rattle.uriparse_reference.specs.Edits.{Run, edited};
 ghost use Rattle.uriparse_reference.specs.declared.uri_reference.edit.Edit.TheVariants as edits;
@@ -29,7 +28,7 @@ ghost use Rattle.uriparse_reference.specs.View.{viewed};
 
 use std::alloc::{AllocError, Global};
 use uriparse_authority::authority::Authority;
-use uriparse_path::path::{Path, Segment};
+use uriparse_path::path::Path;
 use uriparse_reference::uri_reference::{
     BufferError, Edit, ReferenceView, URIReference, URIReferenceError, escape_invalid,
 };
@@ -96,13 +95,6 @@ pub fn normalize(alloc: Global, reference: &mut URIReference<'_>) -> Result<(), 
     reference.normalize(alloc)
 }
 
-/// Whether a reference prints as its normal form does.
-pub fn is_normalized(reference: &URIReference<'_>) -> bool
-    ensures { IsTrue result ↔ (print (normal reference.now) ≡ print reference.now) }
-{
-    reference.is_normalized()
-}
-
 /// Sets a reference's path, and returns whether the reference then prints as its normal form.
 pub fn set_path_and_test<'r>(
     reference: &mut URIReference<'r>,
@@ -112,13 +104,6 @@ pub fn set_path_and_test<'r>(
 {
     reference.set_path(path)?;
     Ok(reference.is_normalized())
-}
-
-/// Whether a segment is `..`, where each dot may be percent-encoded.
-pub fn is_double_dot(segment: &Segment<'_>) -> bool
-    ensures { result ≡ dots.is_double_dot segment.now }
-{
-    segment.is_double_dot_segment()
 }
 
 /// Views a reference in its text: exactly what the grammar spells, or the fault.

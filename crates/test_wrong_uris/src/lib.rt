@@ -4,7 +4,7 @@
 
 ghost use Rattle.std.specs.Prelude.{◌≡◌, Err, IsOk, MatchOption, Ok, OnOk, Some, is_some, length, true};
 ghost use Rattle.uriparse_text.specs.Readings.{IsUnless};
-ghost use Rattle.uriparse_path.specs.declared.path.error.PathError.TheVariants as paths;
+ghost use Rattle.uriparse_text.specs.declared.segment.error.PathError.TheVariants as paths;
 ghost use Rattle.uriparse_reference.specs.Normal.{canonical_texts, normal};
 ghost use Rattle.uriparse_reference.specs.Reference.{Parts, Spells};
 ghost use Rattle.uriparse_reference.specs.Target.{target};

@@ -1,9 +1,9 @@
 //! The commands' output and statuses.
 
+mod escapes;
 mod explain;
 mod files;
 mod lines;
-mod links;
 mod options;
 mod pages;
 

@@ -1,10 +1,41 @@
-//! `uri edit TEXT EDIT..`: a reference with components set or removed.
+//! `uri edit TEXT EDIT..`: a reference with components set or removed, or pairs left out.
 
 use crate::failure::Failure;
 use crate::print::print_line;
+use crate::topic::Topic;
 use std::alloc::Global;
 use std::io::Write;
 use uriparse::{Authority, Edit, Fragment, Path, Query, Scheme, URIReference, URIReferenceError};
+
+pub const ABOUT: Topic = Topic {
+    name: "edit",
+    summary: "\
+uri edit TEXT EDIT..  the reference with all edits made, from the left;
+                      an edit is scheme V, authority V, path V, query V,
+                      fragment V, drop-scheme, drop-authority, drop-query,
+                      drop-fragment, drop-pair NAME or normalize
+",
+    page: "\
+uri edit TEXT EDIT..
+
+Prints the reference with all edits made, from the left. An edit is scheme V,
+authority V, path V, query V or fragment V, which set a part, drop-scheme,
+drop-authority, drop-query or drop-fragment, which remove it, drop-pair NAME,
+which leaves out the query's pairs of this name, or normalize. The name is
+compared by the bytes that it stands for, so %61 is a; without a pair left there
+is no query.
+
+Exit status: 0 on success, 1 if a text or an edit is rejected, 2 on a usage
+error.
+
+Example:
+    uri edit 'http://h/a?q#f' scheme https drop-query fragment g
+    uri edit 'http://h/?utm_id=1&q=a%20b&%75tm_id' drop-pair utm_id
+prints
+    https://h/a#g
+    http://h/?q=a%20b
+",
+};
 
 /// A component that an edit sets.
 #[derive(Clone, Copy)]
@@ -24,7 +55,16 @@ enum Change<'w> {
     DropAuthority,
     DropQuery,
     DropFragment,
+    DropPair(&'w str),
     Normalize,
+}
+
+/// An edit whose value is read.
+#[derive(Drop)]
+enum Step<'w> {
+    Edit(Edit<'w>),
+    /// Leaves out the pairs whose names stand for the same bytes as this text.
+    DropPair(Query<'w>),
 }
 
 /// The component of this name.
@@ -59,9 +99,13 @@ fn first_change<'w>(words: &[&'w str]) -> Result<(Change<'w>, usize), Failure> {
     if let Some(change) = plain_change(word) {
         return Ok((change, 1));
     }
-    match (component_of(word), values) {
-        (Some(component), [value, ..]) => Ok((Change::Set(component, value), 2)),
-        _ => Err(Failure::Usage),
+    let [value, ..] = values else {
+        return Err(Failure::Usage);
+    };
+    match component_of(word) {
+        Some(component) => Ok((Change::Set(component, value), 2)),
+        None if *word == "drop-pair" => Ok((Change::DropPair(value), 2)),
+        None => Err(Failure::Usage),
     }
 }
 
@@ -96,24 +140,51 @@ fn read_set<'w>(
 }
 
 /// Reads the edit's value, if it has one.
-fn read_change<'w>(alloc: Global, change: Change<'w>) -> Result<Edit<'w>, URIReferenceError> {
-    match change {
-        Change::Set(component, text) => read_set(alloc, component, text),
-        Change::DropScheme => Ok(Edit::Scheme(None)),
-        Change::DropAuthority => Ok(Edit::Authority(None)),
-        Change::DropQuery => Ok(Edit::Query(None)),
-        Change::DropFragment => Ok(Edit::Fragment(None)),
-        Change::Normalize => Ok(Edit::Normalize),
-    }
+fn read_change<'w>(alloc: Global, change: Change<'w>) -> Result<Step<'w>, URIReferenceError> {
+    Ok(Step::Edit(match change {
+        Change::Set(component, text) => read_set(alloc, component, text)?,
+        Change::DropPair(name) => return Ok(Step::DropPair(Query::try_from_str(name)?)),
+        Change::DropScheme => Edit::Scheme(None),
+        Change::DropAuthority => Edit::Authority(None),
+        Change::DropQuery => Edit::Query(None),
+        Change::DropFragment => Edit::Fragment(None),
+        Change::Normalize => Edit::Normalize,
+    }))
 }
 
 /// Reads the edits' values, from the left.
-fn read_changes<'w>(alloc: Global, changes: &[Change<'w>]) -> Result<Vec<Edit<'w>>, Failure> {
-    let mut edits = Vec::with_capacity(alloc, changes.len())?;
+fn read_changes<'w>(alloc: Global, changes: &[Change<'w>]) -> Result<Vec<Step<'w>>, Failure> {
+    let mut steps = Vec::with_capacity(alloc, changes.len())?;
     for change in changes {
-        edits.push(read_change(alloc, *change)?)?;
+        steps.push(read_change(alloc, *change)?)?;
     }
-    Ok(edits)
+    Ok(steps)
+}
+
+/// Leaves out the pairs of this name, and the query if no pair is left.
+fn drop_pair(
+    alloc: Global,
+    reference: &mut URIReference<'_>,
+    name: &Query<'_>,
+) -> Result<(), URIReferenceError> {
+    let Some(query) = reference.query() else {
+        return Ok(());
+    };
+    let name = name.decode(alloc)?;
+    let query = query.without_name(alloc, &name)?;
+    reference.set_query(query)
+}
+
+/// Makes one edit.
+fn make_change<'w>(
+    alloc: Global,
+    reference: &mut URIReference<'w>,
+    step: Step<'w>,
+) -> Result<(), URIReferenceError> {
+    match step {
+        Step::Edit(edit) => reference.apply(alloc, edit),
+        Step::DropPair(name) => drop_pair(alloc, reference, &name),
+    }
 }
 
 /// Makes the edits, whose values are read first.
@@ -122,11 +193,14 @@ fn make_changes<'w>(
     reference: &mut URIReference<'w>,
     changes: &[Change<'w>],
 ) -> Result<(), Failure> {
-    let edits = read_changes(alloc, changes)?;
-    match reference.apply_all(alloc, edits) {
-        Ok(()) => Ok(()),
-        Err((index, refusal)) => Err(Failure::Edit { index, refusal }),
+    let mut index = 0usize;
+    for step in read_changes(alloc, changes)? {
+        if let Err(refusal) = make_change(alloc, reference, step) {
+            return Err(Failure::Edit { index, refusal });
+        }
+        index = index.saturating_add(1);
     }
+    Ok(())
 }
 
 /// Prints the reference with all edits made. The words are checked first, then the text is read,

@@ -2,9 +2,37 @@
 
 use crate::failure::Failure;
 use crate::print::print_line;
+use crate::topic::Topic;
 use std::io;
 use std::io::Write;
 use uriparse::ReferenceView;
+
+pub const ABOUT: Topic = Topic {
+    name: "equal",
+    summary: "\
+uri equal A B         `equal` or `different`
+",
+    page: "\
+uri equal A B
+uri --quiet equal A B
+uri --lines equal
+uri --lines --quiet equal
+
+Prints `equal` if the two references are printed alike, but for escapes of
+unreserved characters and the case of scheme, host and escapes; else prints
+`different`. A host name differs from every address. Dot segments count:
+normalize first. With --quiet the status alone reports the result. With --lines
+a line has the two texts, separated by a tab.
+
+Exit status: 0 on success, 1 if a text is no reference, 2 on a usage error,
+3 with --quiet if two references differ.
+
+Example:
+    uri equal 'http://h/%7ea' 'HTTP://H/~a'
+prints
+    equal
+",
+};
 
 /// Prints whether the references are equal. Does not allocate.
 pub fn equal<O: Write>(left: &[u8], right: &[u8], out: &mut O) -> Result<(), Failure> {
@@ -26,4 +54,18 @@ fn print_answer<O: Write>(
 ) -> io::Result<()> {
     let answer = if left == right { "equal" } else { "different" };
     print_line(&answer, out)
+}
+
+/// The two texts that the line's first tab separates.
+pub fn split_pair(line: &[u8]) -> Result<(&[u8], &[u8]), Failure> {
+    match line.iter().position(|b| *b == b'\t') {
+        Some(at) => Ok((&line[..at], &line[at + 1..])),
+        None => Err(Failure::NoTab),
+    }
+}
+
+/// Compares the line's two references, and prints the result.
+pub fn equal_pair<O: Write>(line: &[u8], out: &mut O) -> Result<(), Failure> {
+    let (left, right) = split_pair(line)?;
+    equal(left, right, out)
 }

@@ -2,9 +2,64 @@
 
 use crate::failure::Failure;
 use crate::print::print_line;
+use crate::topic::Topic;
 use std::alloc::Global;
 use std::io::Write;
 use uriparse::{escape_invalid, trim_link};
+
+pub const ABOUT: Topic = Topic {
+    name: "escape",
+    summary: "\
+uri escape TEXT       any text as a reference, with escapes for what it
+                      can't have
+",
+    page: "\
+uri escape TEXT
+uri --trim escape TEXT
+uri --lines escape
+uri --lines --trim escape
+
+Prints any text as that of a reference: each byte that a reference can't have
+where it stands becomes an escape, such as a space, a letter with an accent, or
+a bracket outside of an authority. The rest stays, escapes too; a `%` without
+two hexadecimal digits after it becomes %25. A reference stays as it is.
+An authority keeps its `:`, `@`, `[` and `]`, so a text with an invalid host or
+port is still rejected by the other commands. Lines are bytes of any encoding: a
+carriage return becomes %0D. For links with white space or brackets round them
+see uri help --trim.
+
+Exit status: 0 on success, 2 on a usage error.
+
+Example:
+    uri escape 'http://h/a b?q=100%#[x]'
+prints
+    http://h/a%20b?q=100%25#%5Bx%5D
+",
+};
+
+pub const ABOUT_TRIM: Topic = Topic {
+    name: "--trim",
+    summary: "\
+uri --trim escape TEXT
+                      the text without white space and <> round it, escaped
+",
+    page: "\
+uri --trim escape TEXT
+uri --lines --trim escape
+
+Takes off what is round a link, and prints the rest as `uri escape` does: white
+space at both ends, so also a carriage return at the end of a line; then a pair
+of angle brackets, a URL: that follows the first, and the white space at the
+ends of what they hold. One bracket alone stays, and is escaped.
+
+Exit status: 0 on success, 2 on a usage error.
+
+Example:
+    uri --trim escape ' <URL:http://h/a b> '
+prints
+    http://h/a%20b
+",
+};
 
 /// Prints the text with escapes for the bytes that a reference can't have where they stand.
 pub fn escape<O: Write>(alloc: Global, text: &[u8], out: &mut O) -> Result<(), Failure> {
@@ -12,7 +67,8 @@ pub fn escape<O: Write>(alloc: Global, text: &[u8], out: &mut O) -> Result<(), F
     print_line(&escaped, out).map_err(Failure::Io)
 }
 
-/// Prints the same of the text without what is round a link.
+/// Prints the text without what is round a link, with escapes for the bytes that a reference can't
+/// have where they stand.
 pub fn escape_link<O: Write>(alloc: Global, text: &[u8], out: &mut O) -> Result<(), Failure> {
     escape(alloc, trim_link(text), out)
 }

@@ -1,10 +1,44 @@
 //! `--explain`: where a rejected text is wrong, and why, on three lines.
 
 use crate::failure::Failure;
+use crate::topic::Topic;
 use std::cmp::min;
 use std::io;
 use std::io::Write;
 use uriparse::{AuthorityError, URI, URIError, URIReference, URIReferenceError};
+
+pub const ABOUT: Topic = Topic {
+    name: "--explain",
+    summary: "\
+uri --explain parse TEXT, uri --explain resolve BASE REF
+                      the same, but a rejected text is shown with a caret
+                      under its first wrong byte
+",
+    page: "\
+uri --explain parse TEXT
+uri --explain --json parse TEXT
+uri --explain resolve BASE REF
+uri --lines --explain parse
+uri --lines --explain resolve BASE
+
+Explains on the standard error why a text is rejected, in three lines: the text,
+a caret under the first byte that is wrong, and the error with the component and
+the number of bytes before that byte. An address of a wrong form, too large a
+port and a path with a colon that is taken for a scheme's are wrong where they
+begin. Of a long text 72 bytes are shown; a byte that is not printable ASCII is
+shown as a dot. With resolve the third line says which text is wrong, with
+--lines on which line.
+
+Exit status: 0 on success, 1 if a text is rejected, 2 on a usage error.
+
+Example:
+    uri --explain parse 'http://h/a b' 2>&1
+prints
+    http://h/a b
+              ^
+    path at byte 10: invalid path character
+",
+};
 
 /// How many bytes of a text are shown at most.
 const WIDTH: usize = 72;

@@ -2,10 +2,36 @@
 
 use crate::failure::Failure;
 use crate::print::print_line;
+use crate::topic::Topic;
 use std::fmt::Display;
 use std::io;
 use std::io::Write;
 use uriparse::ReferenceView;
+
+pub const ABOUT: Topic = Topic {
+    name: "get",
+    summary: "\
+uri get PART TEXT     that part alone: scheme, authority, username, password,
+                      host, port, path, query, fragment or origin
+",
+    page: "\
+uri get PART TEXT
+uri --lines get PART
+
+Prints one part of the reference: scheme, authority, username, password, host,
+port, path, query, fragment or origin. The origin is scheme, host and port. An
+IPv6 address has its brackets. With --lines an absent part is an empty line,
+and the status is 0. For `uri get file URI` see uri help file.
+
+Exit status: 0 on success, 1 if a text is no reference, 2 on a usage error,
+3 if the part is absent; nothing is printed then.
+
+Example:
+    uri get host 'http://example.com:8080/a?b&c#d'
+prints
+    example.com
+",
+};
 
 /// A component of a reference that can be printed alone.
 #[derive(Clone, Copy)]
@@ -47,12 +73,20 @@ pub fn get<O: Write>(name: &str, text: &[u8], out: &mut O) -> Result<(), Failure
 }
 
 /// Reads the text, and prints the component, or fails with `Failure::Absent`.
-pub fn get_part<O: Write>(part: Part, text: &[u8], out: &mut O) -> Result<(), Failure> {
+fn get_part<O: Write>(part: Part, text: &[u8], out: &mut O) -> Result<(), Failure> {
     let reference = ReferenceView::try_from_bytes(text)?;
     match print_part_of(&reference, part, out) {
         Ok(true) => Ok(()),
         Ok(false) => Err(Failure::Absent),
         Err(error) => Err(Failure::Io(error)),
+    }
+}
+
+/// Prints the component of a line's reference, or an empty line if it is absent.
+pub fn get_or_empty<O: Write>(part: Part, line: &[u8], out: &mut O) -> Result<(), Failure> {
+    match get_part(part, line, out) {
+        Err(Failure::Absent) => out.write_all(b"\n").map_err(Failure::Io),
+        result => result,
     }
 }
 

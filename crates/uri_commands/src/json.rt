@@ -11,10 +11,46 @@ ghost use Rattle.std.specs.List.{list_all};
 ghost use Rattle.uri_commands.specs.Json.{escaped, escaped_byte, is_plain, is_special};
 
 use crate::failure::Failure;
+use crate::topic::Topic;
 use std::fmt::Display;
 use std::io;
 use std::io::Write;
 use uriparse::{Host, ReferenceView, Segments};
+
+pub const ABOUT: Topic = Topic {
+    name: "--json",
+    summary: "\
+uri --json parse TEXT the reference as a JSON object
+",
+    page: "\
+uri --json parse TEXT
+uri --lines --json parse
+
+Prints the reference as a JSON object, on one line. Its keys are, in this order,
+text, scheme, username, password, host, host_kind, port, path, query, fragment
+and segments. The text is as given. The host_kind is ipv4, ipv6, ipvfuture or
+name, the port is a number, and segments are the parts of the path between its
+slashes. What is absent is null, what is empty is \"\". With --lines the option
+changes nothing, since parse prints objects then.
+
+Exit status: 0 on success, 1 if a text is no reference, 2 on a usage error.
+
+Example:
+    uri --json parse '//h/a?' | tr ',' '\\n'
+prints
+    {\"text\":\"//h/a?\"
+    \"scheme\":null
+    \"username\":null
+    \"password\":null
+    \"host\":\"h\"
+    \"host_kind\":\"name\"
+    \"port\":null
+    \"path\":\"/a\"
+    \"query\":\"\"
+    \"fragment\":null
+    \"segments\":[\"a\"]}
+",
+};
 
 /// Writes text between the quotes of a JSON string, with a `\` before each `"` and each `\`. A
 /// reference is ASCII text without control characters, and JSON escapes nothing else.

@@ -6,8 +6,10 @@
 
 ghost use Rattle.std.specs.Prelude.{◌≡◌, ◌≤◌, IfOk};
 
-mod coding;
+mod commands;
+mod decode;
 mod edit;
+mod encode;
 mod equal;
 mod escape;
 mod explain;
@@ -20,7 +22,6 @@ mod json;
 mod lines;
 mod normalize;
 mod options;
-mod pages;
 mod pairs;
 mod parse;
 mod print;
@@ -28,29 +29,16 @@ mod quiet;
 mod relativize;
 mod resolve;
 mod tail;
+mod topic;
 
-use coding::{decode, encode};
-use edit::edit;
-use equal::equal;
-use escape::{escape, escape_link};
+use commands::run_texts;
 use explain::explain;
 use failure::Failure;
-use file::{file, get_file};
-use get::get;
-use help::{help, help_on, version};
-use json::parse_json;
 use lines::lines;
-use normalize::{normalize, normalize_port};
-use options::{Options, split_options};
-use pairs::pairs;
-use parse::parse;
-use quiet::quiet;
-use relativize::relativize;
-use resolve::resolve;
+use options::{Manner, Options, split_options};
 use std::alloc::Global;
 use std::io;
 use std::io::{Read, Write};
-use tail::tail;
 
 /// Runs the command in `words`, which follow the program's name, with an empty input, as
 /// [`run_with_input`] does.
@@ -87,7 +75,7 @@ pub fn run_with_input<I: Read, O: Write, E: Write>(
         let result = lines(alloc, options, words, input, out, err);
         return status_of(options, words, result, err);
     }
-    let result = command(alloc, options, words, out);
+    let result = run_texts(alloc, options, words, out);
     status_of(options, words, result.map(|()| 0), err)
 }
 
@@ -122,7 +110,7 @@ fn report<E: Write>(
     match failure.status() {
         2 => writeln!(err, "{failure}"),
         1 if failure.is_closed_pipe() => Ok(()),
-        1 if options.is_quiet && !options.reads_lines => Ok(()),
+        1 if options.manner == Manner::Quiet && !options.reads_lines => Ok(()),
         1 if options.explains => explain(words, failure, err),
         1 => writeln!(err, "{failure}"),
         _ => Ok(()),
@@ -140,55 +128,4 @@ pub fn refuse_arguments<E: Write>(error: &io::Error, err: &mut E) -> u8
         _ => writeln!(err, "{error}"),
     };
     1
-}
-
-/// Runs the command of these words, with its options.
-fn command<O: Write>(
-    alloc: Global,
-    options: Options,
-    words: &[&str],
-    out: &mut O,
-) -> Result<(), Failure> {
-    match (options.is_quiet, options.is_json, options.trims, words) {
-        _ if !options.allow(words) => Err(Failure::Usage),
-        (false, false, false, ["normalize", text]) if options.drops_port => {
-            normalize_port(alloc, text.as_bytes(), out)
-        }
-        (false, false, false, _) => plain_command(alloc, words, out),
-        (true, false, false, _) => quiet(words),
-        (false, true, false, ["parse", text]) => parse_json(text.as_bytes(), out),
-        (false, false, true, ["escape", text]) => escape_link(alloc, text.as_bytes(), out),
-        _ => Err(Failure::Usage),
-    }
-}
-
-/// Runs the command of these words, without options.
-fn plain_command<O: Write>(alloc: Global, words: &[&str], out: &mut O) -> Result<(), Failure> {
-    match words {
-        ["help" | "--help"] => help(out).map_err(Failure::Io),
-        ["help", name] => help_on(name, out),
-        ["--version"] => version(out).map_err(Failure::Io),
-        ["edit", text, edits @ ..] => edit(alloc, text, edits, out),
-        ["parse", text] => parse(alloc, text, out),
-        ["tail", text] => tail(alloc, text, out),
-        _ => byte_command(alloc, words, out),
-    }
-}
-
-/// Runs a command whose texts are read as bytes.
-fn byte_command<O: Write>(alloc: Global, words: &[&str], out: &mut O) -> Result<(), Failure> {
-    match words {
-        ["get", "file", text] => get_file(alloc, text.as_bytes(), out),
-        ["get", part, text] => get(part, text.as_bytes(), out),
-        ["file", path] => file(alloc, path.as_bytes(), out),
-        ["pairs", text] => pairs(alloc, text.as_bytes(), out),
-        ["normalize", text] => normalize(alloc, text.as_bytes(), out),
-        ["escape", text] => escape(alloc, text.as_bytes(), out),
-        ["decode", text] => decode(alloc, text.as_bytes(), out),
-        ["encode", kind, text] => encode(alloc, kind, text.as_bytes(), out),
-        ["equal", a, b] => equal(a.as_bytes(), b.as_bytes(), out),
-        ["resolve", base, text] => resolve(alloc, base.as_bytes(), text.as_bytes(), out),
-        ["relativize", base, text] => relativize(alloc, base.as_bytes(), text.as_bytes(), out),
-        _ => Err(Failure::Usage),
-    }
 }

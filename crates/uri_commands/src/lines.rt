@@ -5,124 +5,60 @@ ghost use Rattle.std.specs.Io.BufRead.{DropsThrough, first_piece, strip_last};
 ghost use Rattle.std.specs.Io.KnownBytes.{IsAtEnd};
 ghost use Rattle.uri_commands.specs.Lines.{newline};
 
-use crate::equal::equal;
-use crate::escape::{escape, escape_link};
+use crate::commands::Task;
 use crate::explain::explain_line;
 use crate::failure::Failure;
-use crate::get::{Part, get_part, read_part};
-use crate::json::parse_json;
-use crate::normalize::{normalize_port, normalize_with};
 use crate::options::Options;
-use crate::quiet::{check, check_equal};
-use crate::resolve::resolve_with;
+use crate::topic::Topic;
 use std::alloc::Global;
 use std::io;
 use std::io::{BufRead, BufReader, BufWriter, Read, Write};
-use uriparse::URIView;
+
+pub const ABOUT: Topic = Topic {
+    name: "--lines",
+    summary: "\
+uri --lines parse, uri --lines normalize, uri --lines resolve BASE,
+uri --lines get PART, uri --lines equal, uri --lines escape,
+uri --lines --trim escape, uri --lines --drop-default-port normalize
+                      the same for each line of the standard input;
+                      parse prints JSON objects
+",
+    page: "\
+uri --lines parse
+uri --lines normalize
+uri --lines resolve BASE
+uri --lines get PART
+uri --lines equal
+uri --lines escape
+uri --lines --trim escape
+uri --lines --drop-default-port normalize
+uri --lines --quiet parse
+uri --lines --quiet equal
+uri --lines --explain parse
+uri --lines --explain resolve BASE
+
+Runs the command for each line of the standard input, and prints one line for
+each, in order. A line is one text, or for equal two, separated by a tab; parse
+prints JSON objects. Lines are bytes and of any length, and end with a newline
+alone: a carriage return is part of the text, which is rejected for it, or with
+escape is escaped, or taken off by --trim. A rejected line is reported as
+`line N: ERROR: TEXT` on the standard error, prints nothing else, and the work
+goes on. It ends early if memory runs out, or a read or a write fails.
+
+Exit status: 0 on success, 1 if a line is rejected or the work ends early, 2 on
+a usage error, 3 with --quiet if no line is rejected and two references differ.
+
+Example:
+    printf '%s\\n' 'http://a/x?q' '/y' '//b' | uri --lines get host
+prints
+    a
+
+    b
+",
+};
 
 /// How many bytes each of the three buffers has.
 const CAPACITY: usize = 65_536;
-
-/// What is done with each line.
-#[derive(Drop)]
-enum Task<'w> {
-    /// Print the reference as a JSON object.
-    Parse,
-    /// Print the reference's normal form.
-    Normalize,
-    /// Print the same without a port that is the scheme's default one.
-    NormalizePort,
-    /// Print the text with escapes for what a reference can't have.
-    Escape,
-    /// Print the same of the text without what is round a link.
-    EscapeLink,
-    /// Print the target of the reference against this base.
-    Resolve(URIView<'w>),
-    /// Print this part of the reference, or an empty line if it is absent.
-    Get(Part),
-    /// Print whether the line's two references are equal.
-    Equal,
-    /// Check the reference.
-    Check,
-    /// Check that the line's two references are equal.
-    CheckEqual,
-}
-
-impl<'w> Task<'w> {
-    /// Whether the task prints nothing.
-    fn is_quiet(&self) -> bool {
-        matches!(self, Task::Check | Task::CheckEqual)
-    }
-}
-
-/// Reads a task from the words of the command. A base is read here, before any line.
-fn read_task<'w>(options: Options, words: &[&'w str]) -> Result<Task<'w>, Failure> {
-    match (options.is_quiet, options.is_json, words) {
-        _ if !options.allow(words) => Err(Failure::Usage),
-        (false, false, ["escape"]) if options.trims => Ok(Task::EscapeLink),
-        _ if options.trims => Err(Failure::Usage),
-        (false, _, ["parse"]) => Ok(Task::Parse),
-        (true, false, ["parse"]) => Ok(Task::Check),
-        (true, false, ["equal"]) => Ok(Task::CheckEqual),
-        (false, false, ["equal"]) => Ok(Task::Equal),
-        (false, false, ["normalize"]) if options.drops_port => Ok(Task::NormalizePort),
-        (false, false, ["normalize"]) => Ok(Task::Normalize),
-        (false, false, ["escape"]) => Ok(Task::Escape),
-        (false, false, ["get", part]) => Ok(Task::Get(read_part(part)?)),
-        (false, false, ["resolve", base]) => { Ok(Task::Resolve(URIView::try_from_str(base)?)) }
-        _ => Err(Failure::Usage),
-    }
-}
-
-/// The two texts that the line's first tab separates.
-fn split_pair(line: &[u8]) -> Result<(&[u8], &[u8]), Failure> {
-    match line.iter().position(|b| *b == b'\t') {
-        Some(at) => Ok((&line[..at], &line[at + 1..])),
-        None => Err(Failure::NoTab),
-    }
-}
-
-/// Compares the line's two references, and prints the result.
-fn equal_pair<O: Write>(line: &[u8], out: &mut O) -> Result<(), Failure> {
-    let (left, right) = split_pair(line)?;
-    equal(left, right, out)
-}
-
-/// Compares the line's two references.
-fn check_pair(line: &[u8]) -> Result<(), Failure> {
-    let (left, right) = split_pair(line)?;
-    check_equal(left, right)
-}
-
-/// Prints the part of the reference, or an empty line if it is absent.
-fn get_or_empty<O: Write>(part: Part, line: &[u8], out: &mut O) -> Result<(), Failure> {
-    match get_part(part, line, out) {
-        Err(Failure::Absent) => out.write_all(b"\n").map_err(Failure::Io),
-        result => result,
-    }
-}
-
-/// Does the task for a line. Normal forms and targets are put together in the buffer.
-fn run_task<O: Write>(
-    alloc: Global,
-    task: &Task<'_>,
-    buffer: &mut Vec<u8>,
-    line: &[u8],
-    out: &mut O,
-) -> Result<(), Failure> {
-    match task {
-        Task::Parse => parse_json(line, out),
-        Task::Normalize => normalize_with(buffer, line, out),
-        Task::NormalizePort => normalize_port(alloc, line, out),
-        Task::Escape => escape(alloc, line, out),
-        Task::EscapeLink => escape_link(alloc, line, out),
-        Task::Resolve(base) => resolve_with(buffer, base, line, out),
-        Task::Get(part) => get_or_empty(*part, line, out),
-        Task::Equal => equal_pair(line, out),
-        Task::Check => check(line),
-        Task::CheckEqual => check_pair(line),
-    }
-}
 
 /// The outcome of a line, the worst last.
 #[derive(Clone, Copy, PartialEq, Eq, PartialOrd, Ord)]
@@ -199,7 +135,7 @@ fn do_line<O: Write, E: Write>(
     out: &mut O,
     err: &mut E,
 ) -> Result<Outcome, Failure> {
-    match run_task(alloc, task, buffer, line, out) {
+    match task.run(alloc, buffer, line, out) {
         Ok(()) => Ok(Outcome::Done),
         Err(Failure::Different) => Ok(Outcome::Different),
         Err(failure) if failure.ends_work() => Err(failure),
@@ -271,7 +207,7 @@ pub fn lines<I: Read, O: Write, E: Write>(
 ) -> Result<u8, Failure>
     ensures { IfOk result (λ status. status ≤ 3) }
 {
-    let task = read_task(options, words)?;
+    let task = Task::read(options, words)?;
     let mut input = BufReader::with_capacity(alloc, CAPACITY, input)?;
     let worst = do_buffered(alloc, options.explains, &task, &mut input, out, err)?;
     Ok(worst.status())

@@ -4,9 +4,58 @@ ghost use Rattle.std.specs.Prelude.{◌≤◌, IfOk, length};
 
 use crate::failure::Failure;
 use crate::print::{print_bytes, print_line};
+use crate::topic::Topic;
 use std::alloc::Global;
 use std::io::Write;
 use uriparse::{BufferError, ReferenceView, URIReference};
+
+pub const ABOUT: Topic = Topic {
+    name: "normalize",
+    summary: "\
+uri normalize TEXT    the reference's normal form
+",
+    page: "\
+uri normalize TEXT
+uri --drop-default-port normalize TEXT
+uri --lines normalize
+uri --lines --drop-default-port normalize
+
+Prints the normal form of the reference. Scheme and host are in lower case, an
+escape stands only where it is needed and has upper-case digits, and dot
+segments are removed. For the option see uri help --drop-default-port.
+
+Exit status: 0 on success, 1 if a text is no reference, 2 on a usage error.
+
+Example:
+    uri normalize 'HTTP://EXAMPLE.com/a/../%7Eb'
+prints
+    http://example.com/~b
+",
+};
+
+pub const ABOUT_DROP_DEFAULT_PORT: Topic = Topic {
+    name: "--drop-default-port",
+    summary: "\
+uri --drop-default-port normalize TEXT
+                      the normal form without a port that is the scheme's
+                      default one
+",
+    page: "\
+uri --drop-default-port normalize TEXT
+uri --lines --drop-default-port normalize
+
+Prints the normal form of the reference without its port if that is the default
+port of the scheme, as 443 of https: RFC 3986, section 6.2.3. A scheme whose
+registration names no default port keeps each port.
+
+Exit status: 0 on success, 1 if a text is no reference, 2 on a usage error.
+
+Example:
+    uri --drop-default-port normalize 'HTTPS://h:443/%7Ea'
+prints
+    https://h/~a
+",
+};
 
 /// Prints the reference's normal form.
 pub fn normalize<O: Write>(alloc: Global, text: &[u8], out: &mut O) -> Result<(), Failure> {

@@ -1,32 +1,41 @@
 //! The options that precede a command.
 
+/// What a command prints, and of which text, as the options say that exclude each other.
+#[derive(Clone, Copy, PartialEq, Eq)]
+pub enum Manner {
+    /// None of these options.
+    Plain,
+    /// `--json`: a reference is printed as a JSON object.
+    Json,
+    /// `--quiet`: the status alone reports the result.
+    Quiet,
+    /// `--trim`: what is round a link is taken off.
+    Trim,
+    /// `--drop-default-port`: a port that is the scheme's default one is left out.
+    DropDefaultPort,
+    /// Two of these options, which no command takes.
+    Mixed,
+}
+
+impl Manner {
+    /// The manner with one more option.
+    fn with(self, option: Manner) -> Manner {
+        if self == Manner::Plain || self == option {
+            option
+        } else {
+            Manner::Mixed
+        }
+    }
+}
+
 /// The options before a command.
 #[derive(Clone, Copy)]
 pub struct Options {
     /// `--lines`: the texts are the lines of the standard input.
     pub reads_lines: bool,
-    /// `--json`: a reference is printed as a JSON object.
-    pub is_json: bool,
-    /// `--quiet`: the status alone reports the result.
-    pub is_quiet: bool,
-    /// `--trim`: what is round a link is taken off.
-    pub trims: bool,
     /// `--explain`: three lines say where a rejected text is wrong, and why.
     pub explains: bool,
-    /// `--drop-default-port`: a port that is the scheme's default one is left out.
-    pub drops_port: bool,
-}
-
-impl Options {
-    /// Whether `--explain` and `--drop-default-port` are absent, or may stand with the other options
-    /// and this command.
-    pub fn allow(self, words: &[&str]) -> bool {
-        match words {
-            ["parse" | "resolve", ..] => !(self.explains && self.is_quiet) && !self.drops_port,
-            ["normalize", ..] => !self.explains,
-            _ => !self.explains && !self.drops_port,
-        }
-    }
+    pub manner: Manner,
 }
 
 /// Splits the words into the options and the words of the command.
@@ -35,20 +44,19 @@ impl Options {
 pub fn split_options<'w, 't>(words: &'w [&'t str]) -> (Options, &'w [&'t str]) {
     let mut options = Options {
         reads_lines: false,
-        is_json: false,
-        is_quiet: false,
-        trims: false,
         explains: false,
-        drops_port: false,
+        manner: Manner::Plain,
     };
     for at in 0..words.len() {
         match words[at] {
             "--lines" => options.reads_lines = true,
-            "--json" => options.is_json = true,
-            "--quiet" => options.is_quiet = true,
-            "--trim" => options.trims = true,
             "--explain" => options.explains = true,
-            "--drop-default-port" => options.drops_port = true,
+            "--json" => options.manner = options.manner.with(Manner::Json),
+            "--quiet" => options.manner = options.manner.with(Manner::Quiet),
+            "--trim" => options.manner = options.manner.with(Manner::Trim),
+            "--drop-default-port" => {
+                options.manner = options.manner.with(Manner::DropDefaultPort);
+            }
             _ => return (options, &words[at..]),
         }
     }

@@ -2,10 +2,47 @@
 
 use crate::failure::Failure;
 use crate::print::{print_line, print_part};
+use crate::topic::Topic;
 use std::alloc::Global;
 use std::io;
 use std::io::Write;
 use uriparse::{Authority, Host, URIReference};
+
+pub const ABOUT: Topic = Topic {
+    name: "parse",
+    summary: "\
+uri parse TEXT        the reference, and then each of its parts
+",
+    page: "\
+uri parse TEXT
+uri --json parse TEXT
+uri --quiet parse TEXT
+uri --explain parse TEXT
+uri --lines parse
+uri --lines --quiet parse
+uri --lines --explain parse
+
+Prints the reference, and on a line each its components as NAME=VALUE: scheme,
+username, password, host, port, path, query and fragment, if present. The name
+of a host says what it is: host.ipv4, host.ipv6, host.ipvfuture or host.name.
+For the options see uri help --json, uri help --quiet, uri help --explain and
+uri help --lines.
+
+Exit status: 0 on success, 1 if a text is no reference, 2 on a usage error.
+
+Example:
+    uri parse 'HTTP://u@h:80/%7Eb?q#f'
+prints
+    http://u@h:80/%7Eb?q#f
+    scheme=http
+    username=u
+    host.name=h
+    port=80
+    path=/%7Eb
+    query=q
+    fragment=f
+",
+};
 
 /// Prints the reference, its path, and its other components if present, a line each.
 pub fn parse<O: Write>(alloc: Global, text: &str, out: &mut O) -> Result<(), Failure> {

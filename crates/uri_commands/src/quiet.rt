@@ -1,17 +1,34 @@
 //! `uri --quiet parse TEXT` and `uri --quiet equal A B`: the status alone, for scripts.
 
+use crate::equal::split_pair;
 use crate::failure::Failure;
+use crate::topic::Topic;
 use uriparse::{ReferenceView, URIReference};
 
-/// Runs a command that prints nothing. Fails with `Failure::Different` if two references differ,
-/// and with another failure if a text is rejected.
-pub fn quiet(words: &[&str]) -> Result<(), Failure> {
-    match words {
-        ["parse", text] => check(text.as_bytes()),
-        ["equal", left, right] => check_equal(left.as_bytes(), right.as_bytes()),
-        _ => Err(Failure::Usage),
-    }
-}
+pub const ABOUT: Topic = Topic {
+    name: "--quiet",
+    summary: "\
+uri --quiet parse TEXT, uri --quiet equal A B
+                      nothing but the status
+",
+    page: "\
+uri --quiet parse TEXT
+uri --quiet equal A B
+uri --lines --quiet parse
+uri --lines --quiet equal
+
+Prints nothing about texts; the status alone reports the result. With --lines,
+a read that fails and a lack of memory are still reported.
+
+Exit status: 0 on success, 1 if a text is no reference, 2 on a usage error,
+3 if two references differ.
+
+Example:
+    uri --quiet parse 'a b' || echo rejected
+prints
+    rejected
+",
+};
 
 /// Checks whether the text is a reference. Does not allocate.
 pub fn check(text: &[u8]) -> Result<(), Failure> {
@@ -19,7 +36,8 @@ pub fn check(text: &[u8]) -> Result<(), Failure> {
     Ok(())
 }
 
-/// Reads two texts and compares them. Does not allocate.
+/// Checks whether two references are equal, and fails with `Failure::Different` if they differ. Does
+/// not allocate.
 pub fn check_equal(left: &[u8], right: &[u8]) -> Result<(), Failure> {
     let left = ReferenceView::try_from_bytes(left)?;
     let right = ReferenceView::try_from_bytes(right)?;
@@ -28,4 +46,10 @@ pub fn check_equal(left: &[u8], right: &[u8]) -> Result<(), Failure> {
     } else {
         Err(Failure::Different)
     }
+}
+
+/// Checks whether the line's two references are equal.
+pub fn check_pair(line: &[u8]) -> Result<(), Failure> {
+    let (left, right) = split_pair(line)?;
+    check_equal(left, right)
 }

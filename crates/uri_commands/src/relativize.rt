@@ -2,9 +2,31 @@
 
 use crate::failure::Failure;
 use crate::print::print_line;
+use crate::topic::Topic;
 use std::alloc::Global;
 use std::io::Write;
 use uriparse::URI;
+
+pub const ABOUT: Topic = Topic {
+    name: "relativize",
+    summary: "\
+uri relativize BASE URI
+                      the reference that leads from the base to the URI
+",
+    page: "\
+uri relativize BASE URI
+
+Prints the reference that leads from the base to the URI, without what both
+have in common: `uri resolve` makes the same of it as of the URI.
+
+Exit status: 0 on success, 1 if a text is no URI, 2 on a usage error.
+
+Example:
+    uri relativize 'http://a/b/c/d;p?q' 'http://a/b/g#s'
+prints
+    ../g#s
+",
+};
 
 /// Prints the reference that leads from the base to the target. The base is read first.
 pub fn relativize<O: Write>(

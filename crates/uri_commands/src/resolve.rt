@@ -4,9 +4,34 @@ ghost use Rattle.std.specs.Prelude.{◌≤◌, IfOk, length};
 
 use crate::failure::Failure;
 use crate::print::print_bytes;
+use crate::topic::Topic;
 use std::alloc::Global;
 use std::io::Write;
 use uriparse::{BufferError, ReferenceView, URIView};
+
+pub const ABOUT: Topic = Topic {
+    name: "resolve",
+    summary: "\
+uri resolve BASE REF  the target of the reference against the base, a URI
+",
+    page: "\
+uri resolve BASE REF
+uri --explain resolve BASE REF
+uri --lines resolve BASE
+uri --lines --explain resolve BASE
+
+Prints the target of the reference against the base, a URI: RFC 3986, section
+5.2. For the option see uri help --explain.
+
+Exit status: 0 on success, 1 if the base is no URI, a text is no reference or
+the merged path is too long, 2 on a usage error.
+
+Example:
+    uri resolve 'http://a/b/c/d;p?q' '../g#s'
+prints
+    http://a/b/g#s
+",
+};
 
 /// Prints the target of the reference against the base, which is read first.
 pub fn resolve<O: Write>(

@@ -2,10 +2,34 @@
 
 use crate::failure::Failure;
 use crate::print::{print_line, print_part};
+use crate::topic::Topic;
 use std::alloc::Global;
 use std::io;
 use std::io::Write;
 use uriparse::{Fragment, Path, Query, URIReferenceError};
+
+pub const ABOUT: Topic = Topic {
+    name: "tail",
+    summary: "\
+uri tail TEXT         path, query and fragment of a text, and each of them
+",
+    page: "\
+uri tail TEXT
+
+Reads what follows an authority: a path, a query and a fragment. Prints the
+text, and on a line each its components as NAME=VALUE.
+
+Exit status: 0 on success, 1 if the text is rejected, 2 on a usage error.
+
+Example:
+    uri tail 'a/b?q#f'
+prints
+    a/b?q#f
+    path=a/b
+    query=q
+    fragment=f
+",
+};
 
 /// A path, a query and a fragment.
 type Tail<'t> = (Path<'t>, Option<Query<'t>>, Option<Fragment<'t>>);
@@ -13,7 +37,7 @@ type Tail<'t> = (Path<'t>, Option<Query<'t>>, Option<Fragment<'t>>);
 /// The text before the first such delimiter, and what follows it, if it is present.
 fn cut(text: &str, mark: char) -> (&str, Option<&str>) {
     match text.split_once(mark) {
-        Some((before, behind)) => (before, Some(behind)),
+        Some((before, after)) => (before, Some(after)),
         None => (text, None),
     }
 }

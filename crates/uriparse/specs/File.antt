@@ -16,7 +16,7 @@ use Rattle.uriparse_authority.specs.declared.authority.host.Host.{Host}
 use Rattle.uriparse_authority.specs.declared.authority.host.Host.TheVariants.{IPv4Address, IPv6Address, IPvFuture, RegisteredName}
 use Rattle.uriparse_authority.specs.Authority.{AuthorityParts}
 use Rattle.uriparse_path.specs.Path.{is_rooted, is_slash, max_segments, pieces}
-use Rattle.uriparse_path.specs.Segment.{is_segment}
+use Rattle.uriparse_text.specs.Segment.{is_segment}
 use Rattle.uriparse_path.specs.Faults.{length_fault}
 use Rattle.uriparse_reference.specs.Reference.{Parts, host_of, port_of, username_of}
 use Rattle.uriparse_reference.specs.Examples.{read}

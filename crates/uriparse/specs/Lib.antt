@@ -14,12 +14,14 @@ pub use Rattle.uriparse_text.specs.Place as TextPlace
 pub use Rattle.uriparse_text.specs.Readings
 pub use Rattle.uriparse_text.specs.Canonical
 pub use Rattle.uriparse_text.specs.Coding
+pub use Rattle.uriparse_text.specs.Starts
 pub use Rattle.uriparse_text.specs.Query
 pub use Rattle.uriparse_text.specs.Pairs
 pub use Rattle.uriparse_text.specs.Link
 pub use Rattle.uriparse_text.specs.Fragment
 pub use Rattle.uriparse_text.specs.declared.internal.class.Class
 pub use Rattle.uriparse_text.specs.declared.internal.canonical.Case
+pub use Rattle.uriparse_text.specs.declared.internal.starts.TooSmall
 pub use Rattle.uriparse_text.specs.declared.query.QueryError
 pub use Rattle.uriparse_text.specs.declared.fragment.FragmentError
 -- schemes: section 3.1
@@ -55,7 +57,7 @@ pub use Rattle.uriparse_authority.specs.declared.authority.error.PasswordError
 pub use Rattle.uriparse_authority.specs.declared.authority.error.HostError
 pub use Rattle.uriparse_authority.specs.declared.authority.error.PortError
 -- paths: section 3.3
-pub use Rattle.uriparse_path.specs.Segment
+pub use Rattle.uriparse_text.specs.Segment
 pub use Rattle.uriparse_path.specs.Path
 pub use Rattle.uriparse_path.specs.Faults as PathFaults
 pub use Rattle.uriparse_path.specs.Place as PathPlace
@@ -66,7 +68,7 @@ pub use Rattle.uriparse_path.specs.Lends as PathLends
 pub use Rattle.uriparse_path.specs.Normal as PathNormal
 pub use Rattle.uriparse_path.specs.Merge as PathMerge
 pub use Rattle.uriparse_path.specs.Relate as PathRelate
-pub use Rattle.uriparse_path.specs.declared.path.error.PathError
+pub use Rattle.uriparse_text.specs.declared.segment.error.PathError
 -- references: sections 4 and 5
 pub use Rattle.uriparse_reference.specs.Reference
 pub use Rattle.uriparse_reference.specs.Kinds as ReferenceKinds
@@ -86,3 +88,5 @@ pub use Rattle.uriparse_reference.specs.Target
 pub use Rattle.uriparse_reference.specs.Relate
 pub use Rattle.uriparse_reference.specs.declared.uri_reference.edit.Edit
 pub use Rattle.uriparse_reference.specs.declared.uri_reference.error.URIReferenceError
+pub use Rattle.uriparse_reference.specs.declared.uri_reference.error.BufferError
+pub use Rattle.uriparse_reference.specs.declared.uri_reference.error.TargetError

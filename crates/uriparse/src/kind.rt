@@ -30,7 +30,7 @@ pub trait ReferenceKind {
         ensures { result ≡ other };
 }
 
-/// The same result, its error mapped to the kind's.
+/// The result, its error mapped to the kind's.
 pub(crate) fn told<K: ReferenceKind, T>(answer: Result<T, URIReferenceError>) -> Result<T, K::Error>
     ensures { result ≡ told_of K.told answer }
 {

@@ -5,8 +5,8 @@
 //! and the kinds of texts, references and paths are only in their modules.
 //!
 //! Some types are aliases of a more general one, whose docs list their calls: [`Query`],
-//! [`Fragment`], [`Username`] and [`Password`] are each a [`Text`], [`Path`] is a [`PathOf`],
-//! [`URI`] and [`RelativeReference`] are each a [`ReferenceOf`], their builders a [`BuilderOf`],
+//! [`Fragment`], [`Segment`], [`Username`] and [`Password`] are each a [`Text`], [`Path`] is a
+//! [`PathOf`], [`URI`] and [`RelativeReference`] are each a [`ReferenceOf`], their builders a [`BuilderOf`],
 //! and their views a [`ViewOf`]. A function over all texts takes a `Text<'_, K>` of any
 //! `K: TextKind`.
 #![tactic(auto)]
@@ -36,12 +36,12 @@ pub use uriparse_path::path::{Path, PathError, PathOf, Segment, Segments};
 pub use uriparse_reference::uri_reference;
 pub use uriparse_reference::uri_reference::{
     BufferError, Edit, ReferenceView, TargetError, URIReference, URIReferenceBuilder,
-    URIReferenceError, WithoutPassword, escape_invalid,
+    URIReferenceError, WithoutPassword, escape_invalid, escape_invalid_into,
 };
 pub use uriparse_scheme::scheme;
 pub use uriparse_scheme::scheme::{Scheme, SchemeError, SchemeStatus, UnregisteredScheme};
 pub use uriparse_text::fragment::{Fragment, FragmentError};
-pub use uriparse_text::internal::{Text, TextKind};
+pub use uriparse_text::internal::{Text, TextKind, TooSmall};
 pub use uriparse_text::link::trim_link;
 pub use uriparse_text::query::{Query, QueryError};
 pub use uriparse_text::{fragment, query};

@@ -6,7 +6,7 @@ ghost use Rattle.std.proofs.Common.{rules};
 ghost use Rattle.std.specs.Ordering.{on};
 ghost use Rattle.std.specs.Cmp.Rules.{comparing, hashing};
 ghost use Rattle.uriparse_text.specs.Readings.{IsUnless, unless_fault};
-ghost use Rattle.uriparse_path.specs.declared.path.error.PathError.TheVariants.{OutOfMemory};
+ghost use Rattle.uriparse_text.specs.declared.segment.error.PathError.TheVariants.{OutOfMemory};
 ghost use Rattle.uriparse_reference.specs.declared.uri_reference.error.URIReferenceError.TheVariants as errors;
 ghost use Rattle.uriparse_reference.specs.Key.{fed, fed_key, key};
 ghost use Rattle.uriparse_reference.specs.Reference.{print};
@@ -239,8 +239,8 @@ impl<'r, K: ReferenceKind> ReferenceOf<'r, K> {
         BuilderOf::of_checked(self.reference.into_builder())
     }
 
-    /// The same value, borrowed from this one. Allocates the list of segments, if there is more than
-    /// one.
+    /// A copy that borrows this value's texts. Allocates the list of segments, if there is more
+    /// than one.
     pub fn to_borrowed(&self, alloc: Global) -> Result<ReferenceOf<'_, K>, AllocError>
         ensures { IfOk result (λ u. u ≡ self.now) }
     {
@@ -250,7 +250,7 @@ impl<'r, K: ReferenceKind> ReferenceOf<'r, K> {
         })
     }
 
-    /// The same value, owned. Allocates each borrowed text, and the list of segments if there is
+    /// The value, owned. Allocates each borrowed text, and the list of segments if there is
     /// more than one; if memory runs out, the value is dropped.
     pub fn into_owned(self, alloc: Global) -> Result<ReferenceOf<'static, K>, AllocError>
         ensures { IfOk result (λ u. u ≡ self.entry) }

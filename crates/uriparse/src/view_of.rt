@@ -101,7 +101,7 @@ impl<'t, K: ReferenceKind> ViewOf<'t, K> {
         Self::read(text.as_bytes())
     }
 
-    /// The same view, of a reference of any kind: its calls return the components.
+    /// The view, of a reference of any kind: its calls return the components.
     pub fn as_reference_view(&self) -> &ReferenceView<'t>
         ensures value { result.now ≡ self.now }
         ensures kind { IsOfKind K.has_scheme self.now.parts }

@@ -31,7 +31,7 @@ host_place host.InvalidIPvFutureCharacter t = literal_place is_future_byte t
 host_place host.InvalidIPvFutureFormat t = 0
 host_place host.AddressMechanismNotSupported t = 0
 
--- The same in the text of a port: of a byte its own, of too large a number the beginning.
+-- The place of this error in the text of a port: of a byte its own, of too large a number the beginning.
 abbrev pub port_place : PortError → List ℕ → ℕ
 port_place port.InvalidCharacter t = position_or_len is_other t
 port_place port.Overflow t = 0

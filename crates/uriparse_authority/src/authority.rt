@@ -189,7 +189,7 @@ impl<'a> Authority<'a> {
         self.port.is_some()
     }
 
-    /// The same authority, borrowed from this one. Does not allocate.
+    /// A copy that borrows this authority's texts. Does not allocate.
     pub fn as_borrowed(&self) -> Authority<'_>
         ensures { result ≡ self.now }
     {
@@ -201,7 +201,7 @@ impl<'a> Authority<'a> {
         }
     }
 
-    /// The same authority, owned. Borrowed texts are copied, which allocates; if memory runs out,
+    /// The authority, owned. Borrowed texts are copied, which allocates; if memory runs out,
     /// the authority is dropped.
     pub fn into_owned(self, alloc: Global) -> Result<Authority<'static>, AllocError>
         ensures { IfOk result (λ a. a ≡ self.entry) }

@@ -5,7 +5,12 @@
 //! is what a text spells by the grammar, and `fault` is why it spells nothing.
 #![tactic(auto)]
 
-ghost use Rattle.std.specs.Prelude.{◌≡◌, ◌⊎◌, ◌↔◌, ℕ, IsTrue, Some, None, bytes_eq, is_some, true, false};
+ghost use Rattle.std.specs.Prelude.{◌≡◌, ◌⊎◌, ◌↔◌, ℕ, IsTrue, Err, Some, None, bytes_eq, is_some, true, false};
+ghost use Rattle.uriparse_text.specs.declared.internal.class.Class.{Class};
+ghost use Rattle.uriparse_text.specs.declared.query.QueryError.{QueryError};
+ghost use Rattle.uriparse_text.specs.Coding.{decoded, encoded};
+ghost use Rattle.uriparse_text.specs.Query.{IsQuery, reading};
+ghost use Rattle.uriparse_reference.specs.Escaped.{escaped};
 ghost use Rattle.uriparse_reference.specs.Key.{key};
 ghost use Rattle.uriparse_reference.specs.declared.uri_reference.error.URIReferenceError.{URIReferenceError};
 ghost use Rattle.uriparse_reference.specs.Normal.{normal};
@@ -15,11 +20,13 @@ ghost use Rattle.uriparse_reference.specs.Reference.{Parts, Spells, print};
 ghost use Rattle.uriparse_reference.specs.Target.{target};
 ghost use Rattle.uriparse.specs.Uri.{told};
 ghost use Rattle.uriparse_ffi.specs.Code as spec;
+ghost use Rattle.uriparse_ffi.specs.Components.{class_of};
 ghost use Rattle.uriparse_ffi.specs.Hash.{hash_of};
 ghost use Rattle.uriparse_ffi.specs.Places.{ArePlaces, host_number, port_number};
 ghost use Rattle.uriparse_ffi.specs.Put.{IsPut, IsRefused};
 
 use uriparse_ffi::code::{ACCEPTED, code_of, truth_of};
+use uriparse_ffi::coding::{write_decoded, write_encoded, write_escaped};
 use uriparse_ffi::places::{UriParts, places};
 use uriparse_ffi::texts::{equal_texts, hashed, write_normal, write_target};
 use uriparse_reference::internal::find_pieces;
@@ -142,4 +149,44 @@ pub extern "C" fn uriparse_resolve(
     ensures reference { (b : Parts) (e : URIReferenceError) → Spells base.now b → is_some b.scheme ≡ true → fault reference.now ≡ Some e → IsRefused (spec.code_of e) out.old out.new needed.new result }
 {
     write_target(base, reference, out, needed)
+}
+
+/// Writes the bytes that the text of a query represents to the buffer. Does not allocate.
+#[unsafe(no_mangle)]
+pub extern "C" fn uriparse_decode(text: &[u8], out: &mut [u8], needed: &mut usize) -> u32
+    // The buffer holds the bytes that the text's tokens stand for, or it is too small.
+    ensures written { IsQuery text.now → IsPut (decoded text.now) out.old out.new needed.new result }
+
+    // What is no text of a query is rejected with its fault, and the buffer is kept.
+    ensures refused { (e : QueryError) → reading text.now ≡ Err e → IsRefused (spec.query_code e) out.old out.new needed.new result }
+{
+    write_decoded(text, out, needed)
+}
+
+/// Writes the text of a component that represents the bytes to the buffer. Does not allocate.
+#[unsafe(no_mangle)]
+pub extern "C" fn uriparse_encode(
+    component: u32,
+    bytes: &[u8],
+    out: &mut [u8],
+    needed: &mut usize,
+) -> u32
+    // The buffer holds each byte as itself if the component may have it, else as an escape; or it
+    // is too small.
+    ensures written { (c : Class) → class_of component ≡ Some c → IsPut (encoded c bytes.now) out.old out.new needed.new result }
+
+    // Another number is rejected, and the buffer is kept.
+    ensures unknown { class_of component ≡ None → IsRefused spec.no_component out.old out.new needed.new result }
+{
+    write_encoded(component, bytes, out, needed)
+}
+
+/// Writes any text as that of a reference to the buffer, with escapes for the bytes that can't
+/// stand where they do. Does not allocate.
+#[unsafe(no_mangle)]
+pub extern "C" fn uriparse_escape(text: &[u8], out: &mut [u8], needed: &mut usize) -> u32
+    // The buffer holds the text with its components escaped, or it is too small.
+    ensures { IsPut (escaped text.now) out.old out.new needed.new result }
+{
+    write_escaped(text, out, needed)
 }

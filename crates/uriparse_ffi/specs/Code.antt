@@ -4,8 +4,8 @@ use Rattle.uriparse_text.specs.declared.query.QueryError.{QueryError}
 use Rattle.uriparse_text.specs.declared.query.QueryError.TheVariants as queries
 use Rattle.uriparse_text.specs.declared.fragment.FragmentError.{FragmentError}
 use Rattle.uriparse_text.specs.declared.fragment.FragmentError.TheVariants as fragments
-use Rattle.uriparse_path.specs.declared.path.error.PathError.{PathError}
-use Rattle.uriparse_path.specs.declared.path.error.PathError.TheVariants as paths
+use Rattle.uriparse_text.specs.declared.segment.error.PathError.{PathError}
+use Rattle.uriparse_text.specs.declared.segment.error.PathError.TheVariants as paths
 use Rattle.uriparse_authority.specs.declared.authority.error.AuthorityError.{AuthorityError}
 use Rattle.uriparse_authority.specs.declared.authority.error.AuthorityError.TheVariants as authorities
 use Rattle.uriparse_authority.specs.declared.authority.error.HostError.{HostError}
@@ -47,6 +47,10 @@ no_scheme = 3
 -- the path has, or merged paths would have, too many segments
 abbrev pub too_many_segments : ℕ
 too_many_segments = 5
+
+-- no component that is encoded has this number
+abbrev pub no_component : ℕ
+no_component = 8
 
 -- added to the code of a base's error
 abbrev pub in_base : ℕ

@@ -1,4 +1,5 @@
 pub mod Code
+pub mod Components
 pub mod Hash
 pub mod Put
 pub mod Places

@@ -2,7 +2,7 @@
 use Rattle.std.specs.Prelude.{◌≡◌, ◌≤◌, ◌<◌, ℕ, List, ◌++◌, ◌+◌, length, drop, min, Result, Ok, Err}
 use Rattle.uriparse_reference.specs.declared.uri_reference.error.BufferError.{BufferError}
 use Rattle.uriparse_reference.specs.declared.uri_reference.error.BufferError.TheVariants as errors
-use Rattle.uriparse_reference.specs.Into.{most}
+use Rattle.uriparse_text.specs.Starts.{most}
 use Rattle.uriparse_ffi.specs.Code.{accepted, in_base, no_room, no_scheme, too_many_segments}
 
 -- The buffer begins with the text and its other bytes are kept; or, if the text is too long, all are. `needed` is the text's length, or the largest

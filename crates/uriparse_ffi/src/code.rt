@@ -15,6 +15,8 @@ pub const NO_SCHEME: u32 = 3;
 
 pub const TOO_MANY_SEGMENTS: u32 = 5;
 
+pub const NO_COMPONENT: u32 = 8;
+
 pub const IN_BASE: u32 = 0x100;
 
 fn of_username(error: UsernameError) -> u32
@@ -86,7 +88,8 @@ fn of_path(error: PathError) -> u32
     }
 }
 
-fn of_query(error: QueryError) -> u32
+/// The code of a query's error.
+pub fn of_query(error: QueryError) -> u32
     ensures code { result ≡ spec.query_code error }
     ensures small { result ≤ 255 }
 {

@@ -5,6 +5,7 @@
 #![tactic(auto)]
 
 pub mod code;
+pub mod coding;
 pub mod laws;
 pub mod places;
 pub mod put;

@@ -1,20 +1,17 @@
 //! Where the components of a reference begin and end in its text.
-ghost use Rattle.std.specs.Prelude.{◌≡◌, ◌+◌, ◌<◌, ◌≤◌, ◌^◌, [], MatchOption, Some, drop, false, length, true, unwrap_or};
-ghost use Rattle.std.specs.List.{position_or_len};
+ghost use Rattle.std.specs.Prelude.{◌≡◌, ℕ, ◌+◌, ◌<◌, ◌^◌, [], List, Option, Some, length, unwrap_or};
 ghost use Rattle.std.specs.Option.{option_copied};
-ghost use Rattle.uriparse_text.specs.Cuts.{up_to};
-ghost use Rattle.uriparse_path.specs.Path.{has_two_slashes};
 ghost use Rattle.uriparse_authority.specs.Authority as authority;
-ghost use Rattle.uriparse_authority.specs.Host.{kind, kind_code};
-ghost use Rattle.uriparse_reference.specs.Cuts.{authority_text, cut_authority, fragment_text, if_some, path_text, query_text, scheme_text};
+ghost use Rattle.uriparse_reference.specs.Reference.{behind_slashes};
+ghost use Rattle.uriparse_reference.specs.Cuts.{authority_text, fragment_text, if_some, path_text, query_text, scheme_text};
 ghost use Rattle.uriparse_ffi.specs.Places.{AreInAuthority, ArePlaces, host_number, port_number};
 ghost use Rattle.uriparse_ffi.specs.Spans.{span};
 
-use crate::span::{UriSpan, authority_len, delimited_len, place, place_behind};
-use uriparse::{Authority, Fragment, Host, Query};
+use crate::span::{UriSpan, delimited_len, place, place_behind};
+use uriparse::{Fragment, Query};
 use uriparse_authority::internal::{FoundAuthority, split_port, split_userinfo};
 use uriparse_reference::internal::Pieces;
-use uriparse_text::internal::{IsAny, first, split_at_mark, without_mark};
+use uriparse_text::internal::{split_at_mark, without_mark};
 
 /// Where the components of an authority begin and end.
 #[derive(Clone, Copy)]
@@ -84,7 +81,7 @@ fn authority_places(at: usize, text: &[u8]) -> InAuthority
     }
 }
 
-/// The same, if there is an authority.
+/// The spans of the components of an authority that begins there, if there is one.
 fn places_in(at: usize, text: Option<&[u8]>) -> InAuthority
     requires { at + length (unwrap_or (option_copied text) []) < 2 ^ 64 }
     ensures { AreInAuthority at (option_copied text.entry) result }
@@ -103,39 +100,14 @@ fn places_in(at: usize, text: Option<&[u8]>) -> InAuthority
     }
 }
 
-/// Where the first `/`, `?` or `#` is, which ends an authority, or the length.
-fn end_of_authority(text: &[u8]) -> usize
-    ensures place { result ≡ position_or_len authority.ends_authority text.now }
-    ensures within { result ≤ length text.now }
-{
-    first(&IsAny(b'/', b'?', b'#'), text)
-}
-
-/// The text up to that byte.
-fn up_to_end(text: &[u8]) -> &[u8]
-    ensures { result.now ≡ up_to authority.ends_authority text.now }
-{
-    let (front, _) = text.split_at(end_of_authority(text));
-    front
-}
-
-/// What follows the two slashes that a text begins with, if it does.
-fn behind_two_slashes(text: &[u8]) -> Option<&[u8]>
-    ensures { MatchOption result (has_two_slashes text.now ≡ false) (λ r. (has_two_slashes text.now ≡ true) × (r.now ≡ drop 2 text.now)) }
+/// The authority of a reference, in the text between its scheme and its path: two slashes precede
+/// it, if there is one.
+fn authority_in(text: &[u8]) -> Option<&[u8]>
+    ensures { (a : Option (List ℕ)) → text.now ≡ behind_slashes a → option_copied result ≡ a }
 {
     match text {
-        [b'/', b'/', behind @ ..] => Some(behind),
+        [b'/', b'/', authority @ ..] => Some(authority),
         _ => None,
-    }
-}
-
-/// The authority of a text that follows a scheme, if there is one.
-fn authority_of(text: &[u8]) -> Option<&[u8]>
-    ensures { option_copied result ≡ cut_authority text.now }
-{
-    match behind_two_slashes(text) {
-        Some(behind) => Some(up_to_end(behind)),
-        None => None,
     }
 }
 
@@ -169,33 +141,12 @@ fn fragment_bytes<'f>(fragment: &'f Option<Fragment<'_>>) -> Option<&'f [u8]>
     }
 }
 
-/// The authority that was found, if there is one.
-fn authority_if<'a>(found: &Option<FoundAuthority<'a>>) -> Option<Authority<'a>>
-    ensures { result ≡ found.now }
-{
-    match found {
-        Some(found) => Some(found.to_authority()),
-        None => None,
-    }
-}
-
-fn kind_of(host: &Host<'_>) -> u32
-    ensures { result ≡ kind_code (kind host.now) }
-{
-    match host {
-        Host::IPv4Address(_) => 4,
-        Host::IPv6Address(_) => 6,
-        Host::IPvFuture(_) => 7,
-        Host::RegisteredName(_) => 1,
-    }
-}
-
 /// A number for the kind of the host, or 0 if there is no authority.
-fn host_kind_of(authority: &Option<Authority<'_>>) -> u32
+fn host_kind_of(authority: &Option<FoundAuthority<'_>>) -> u32
     ensures { result ≡ host_number authority.now }
 {
     match authority {
-        Some(authority) => kind_of(authority.host()),
+        Some(authority) => authority.host_kind(),
         None => 0,
     }
 }
@@ -210,7 +161,7 @@ fn number_of(port: Option<u16>) -> u32
 }
 
 /// The number of the port, or 0 if there is none.
-fn port_of(authority: &Option<Authority<'_>>) -> u32
+fn port_of(authority: &Option<FoundAuthority<'_>>) -> u32
     ensures { result ≡ port_number authority.now }
 {
     match authority {
@@ -219,24 +170,26 @@ fn port_of(authority: &Option<Authority<'_>>) -> u32
     }
 }
 
-/// The spans of a text's components, of which the scheme, the query and the fragment are known.
+/// The spans of a text's components. What is between the scheme and the path is the authority.
 fn spans(
     text: &[u8],
     scheme: Option<&[u8]>,
+    path: &[u8],
     query: Option<&[u8]>,
     fragment: Option<&[u8]>,
 ) -> UriParts
     requires scheme { option_copied scheme ≡ scheme_text text.now }
+    requires path { path.now ≡ path_text text.now }
     requires query { option_copied query ≡ query_text text.now }
     requires fragment { option_copied fragment ≡ fragment_text text.now }
     ensures { ArePlaces (scheme_text text.now) (authority_text text.now) (path_text text.now) (query_text text.now) (fragment_text text.now) result }
 {
     let begin = delimited_len(scheme);
-    let (_, rest) = text.split_at(begin);
-    let authority = authority_of(rest);
-    let inner = places_in(begin + 2, authority);
     let query_len = delimited_len(query);
     let path_end = text.len() - delimited_len(fragment) - query_len;
+    let path_begin = path_end - path.len();
+    let authority = authority_in(&text[begin..path_begin]);
+    let inner = places_in(begin + 2, authority);
     UriParts {
         scheme: place(0, scheme),
         authority: place(begin + 2, authority),
@@ -245,7 +198,7 @@ fn spans(
         host: inner.host,
         port: inner.port,
         path: UriSpan {
-            begin: begin + authority_len(authority),
+            begin: path_begin,
             end: path_end,
             present: 1,
         },
@@ -259,6 +212,7 @@ fn spans(
 /// Where the components of a reference begin and end, by what was found in its text.
 pub fn places(text: &[u8], pieces: &Pieces<'_>) -> UriParts
     requires scheme { if_some pieces.now.scheme.now ≡ scheme_text text.now }
+    requires path { pieces.now.tail.path.now ≡ path_text text.now }
     requires query { pieces.now.tail.query ≡ query_text text.now }
     requires fragment { pieces.now.tail.fragment ≡ fragment_text text.now }
     ensures places { ArePlaces (scheme_text text.now) (authority_text text.now) (path_text text.now) (query_text text.now) (fragment_text text.now) result }
@@ -270,13 +224,13 @@ pub fn places(text: &[u8], pieces: &Pieces<'_>) -> UriParts
     let found = spans(
         text,
         scheme_of(pieces.scheme),
+        pieces.tail.path,
         query_bytes(&query),
         fragment_bytes(&fragment),
     );
-    let authority = authority_if(&pieces.authority);
     UriParts {
-        host_kind: host_kind_of(&authority),
-        port_number: port_of(&authority),
+        host_kind: host_kind_of(&pieces.authority),
+        port_number: port_of(&pieces.authority),
         ..found
     }
 }

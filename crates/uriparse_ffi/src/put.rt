@@ -1,9 +1,10 @@
 //! What a call reports of a text in a caller's buffer.
-ghost use Rattle.std.specs.Prelude.{◌≡◌};
-ghost use Rattle.uriparse_ffi.specs.Put.{needed_for, written_code};
+ghost use Rattle.std.specs.Prelude.{◌≡◌, ℕ, List, length};
+ghost use Rattle.uriparse_text.specs.Starts.{Writes};
+ghost use Rattle.uriparse_ffi.specs.Put.{IsPut, needed_for, written_code};
 
 use crate::code::{ACCEPTED, IN_BASE, NO_ROOM, NO_SCHEME, TOO_MANY_SEGMENTS};
-use uriparse::BufferError;
+use uriparse::{BufferError, TooSmall};
 
 /// Returns an error's code, and sets `needed` to 0.
 pub fn refuse(code: u32, needed: &mut usize) -> u32
@@ -31,5 +32,21 @@ pub fn answer(written: Result<usize, BufferError>, needed: &mut usize) -> u32
         }
         Err(BufferError::RelativeBase) => refuse(IN_BASE + NO_SCHEME, needed),
         Err(BufferError::TooManySegments) => refuse(TOO_MANY_SEGMENTS, needed),
+    }
+}
+
+/// The same of a text that may be too long for the buffer, and has no other fault.
+pub fn answer_room(written: Result<usize, TooSmall>, needed: &mut usize) -> u32
+    ensures { (text old new : List ℕ) → length new ≡ length old → Writes text written old new → IsPut text old new needed.new result }
+{
+    match written {
+        Ok(len) => {
+            *needed = len;
+            ACCEPTED
+        }
+        Err(TooSmall { needed: len }) => {
+            *needed = len;
+            NO_ROOM
+        }
     }
 }

@@ -3,7 +3,6 @@ ghost use Rattle.std.specs.Prelude.{◌≡◌, ◌+◌, ◌<◌, ◌^◌, [], le
 ghost use Rattle.std.specs.Option.{option_copied};
 ghost use Rattle.uriparse_text.specs.Bytes.{colon};
 ghost use Rattle.uriparse_text.specs.Cuts.{behind};
-ghost use Rattle.uriparse_reference.specs.Reference.{behind_slashes};
 ghost use Rattle.uriparse_ffi.specs.Spans.{span};
 
 /// Where a component begins and ends, in bytes; all zero if there is none.
@@ -59,17 +58,6 @@ pub fn delimited_len(component: Option<&[u8]>) -> usize
 {
     match component {
         Some(component) => component.len() + 1,
-        None => 0,
-    }
-}
-
-/// The length of an authority with its two slashes, or 0 if there is none.
-pub fn authority_len(authority: Option<&[u8]>) -> usize
-    requires { length (behind_slashes (option_copied authority)) < 2 ^ 64 }
-    ensures { result ≡ length (behind_slashes (option_copied authority.entry)) }
-{
-    match authority {
-        Some(authority) => authority.len() + 2,
         None => 0,
     }
 }

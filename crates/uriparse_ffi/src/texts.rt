@@ -77,7 +77,8 @@ fn write_target_of(
     }
 }
 
-/// The same against the base that a text spells. Of two faulty texts the base is rejected.
+/// Writes the text of the target of a reference against a base, both read from texts, or returns
+/// the code of a text's error. Of two faulty texts the base is rejected.
 pub fn write_target(base: &[u8], reference: &[u8], out: &mut [u8], needed: &mut usize) -> u32
     ensures written { (b r t : Parts) → Spells base.now b → is_some b.scheme ≡ true → Spells reference.now r → target b r ≡ Some t → IsPut (print t) out.old out.new needed.new result }
     ensures too_long { (b r : Parts) → Spells base.now b → is_some b.scheme ≡ true → Spells reference.now r → target b r ≡ None → IsRefused spec.too_many_segments out.old out.new needed.new result }

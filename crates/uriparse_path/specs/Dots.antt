@@ -2,21 +2,9 @@
 use Rattle.std.specs.Prelude.{◌≡◌, ℕ, ◌<◌, Bool, true, false, ◌||◌, not, if◌then◌else◌, List, [], ◌∷◌, ◌++◌, length, bytes_eq}
 use Rattle.std.specs.List.{list_all, list_any}
 use Rattle.uriparse_text.specs.Bytes.{dot, slash}
-use Rattle.uriparse_text.specs.Canonical.{canonical}
+unfoldable pub use Rattle.uriparse_text.specs.Segment.{is_single_dot, is_double_dot}
+pub use Rattle.uriparse_text.specs.Segment.{is_dot_segment}
 use Rattle.uriparse_path.specs.Path.{PathParts, text, is_slash, spelled}
-
--- ---- dot segments, whose dots may be percent-encoded
-
--- "."
-unfoldable pub is_single_dot : List ℕ → Bool
-is_single_dot s = bytes_eq (canonical s) (dot ∷ [])
-
--- ".."
-unfoldable pub is_double_dot : List ℕ → Bool
-is_double_dot s = bytes_eq (canonical s) (dot ∷ dot ∷ [])
-
-abbrev pub is_dot_segment : List ℕ → Bool
-is_dot_segment s = is_single_dot s || is_double_dot s
 
 -- one of these is a dot segment
 abbrev pub has_dot_segment : List (List ℕ) → Bool

@@ -5,9 +5,9 @@ use Rattle.std.specs.Result.{result_map_both}
 use Rattle.uriparse_text.specs.Bytes.{slash, question_mark, number_sign}
 use Rattle.uriparse_text.specs.Cuts.{up_to}
 use Rattle.uriparse_text.specs.Readings.{unless_fault}
-use Rattle.uriparse_path.specs.declared.path.error.PathError.{PathError}
-use Rattle.uriparse_path.specs.declared.path.error.PathError.TheVariants.{ExceededMaximumLength}
-use Rattle.uriparse_path.specs.Segment as segment
+use Rattle.uriparse_text.specs.declared.segment.error.PathError.{PathError}
+use Rattle.uriparse_text.specs.declared.segment.error.PathError.TheVariants.{ExceededMaximumLength}
+use Rattle.uriparse_text.specs.Segment as segment
 use Rattle.uriparse_path.specs.Path.{PathParts, max_segments, pieces, spelled}
 
 -- A path ends before a `?` or a `#`.

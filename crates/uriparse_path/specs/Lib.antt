@@ -1,4 +1,3 @@
-pub mod Segment
 pub mod Path
 pub mod Text
 pub mod Faults

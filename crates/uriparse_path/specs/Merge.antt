@@ -1,7 +1,7 @@
 -- A base's path merged with a reference's: RFC 3986, section 5.2.3.
 use Rattle.std.specs.Prelude.{nat_le, if◌then◌else◌, ◌++◌, length, Result, Ok, Err}
-use Rattle.uriparse_path.specs.declared.path.error.PathError.{PathError}
-use Rattle.uriparse_path.specs.declared.path.error.PathError.TheVariants.{ExceededMaximumLength}
+use Rattle.uriparse_text.specs.declared.segment.error.PathError.{PathError}
+use Rattle.uriparse_text.specs.declared.segment.error.PathError.TheVariants.{ExceededMaximumLength}
 use Rattle.uriparse_path.specs.Path.{PathParts, max_segments}
 use Rattle.uriparse_path.specs.Dots.{all_but_last}
 

@@ -4,7 +4,7 @@ use Rattle.std.specs.Hash.{HashWrites, u8}
 use Rattle.std.specs.List.{list_all, slice_split, join_with_byte, refill}
 use Rattle.uriparse_text.specs.Bytes.{slash}
 use Rattle.uriparse_text.specs.Canonical.{fed_bytes}
-use Rattle.uriparse_path.specs.Segment.{is_segment}
+use Rattle.uriparse_text.specs.Segment.{is_segment}
 
 -- whether a slash precedes the segments, and the segments, of any kind
 pub record PartsOf (X : Type 0) : Type 0 where

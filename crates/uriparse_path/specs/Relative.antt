@@ -1,4 +1,4 @@
--- The normal form of a relative path's segments. Dots may be percent-encoded.
+-- The normal form of a relative path's segments. Dots may be escaped.
 use Rattle.std.specs.Prelude.{◌≡◌, ℕ, Bool, true, false, ◌==◌, ◌&&◌, ◌||◌, not, if◌then◌else◌, List, [], ◌∷◌, ◌++◌, map, reverse}
 use Rattle.std.specs.List.{list_any}
 use Rattle.uriparse_text.specs.Bytes.{dot, colon}

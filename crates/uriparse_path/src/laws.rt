@@ -4,16 +4,16 @@ ghost use Rattle.std.specs.Prelude.{◌≡◌, ◌<◌, ◌≤◌, ◌↔◌, �
 ghost use Rattle.std.specs.List.{list_all, slice_split, join_with_byte};
 ghost use Rattle.uriparse_text.specs.Bytes.{slash};
 ghost use Rattle.uriparse_text.specs.Canonical.{canonical};
-ghost use Rattle.uriparse_path.specs.Segment.{is_segment};
+ghost use Rattle.uriparse_text.specs.Segment.{is_segment};
 ghost use Rattle.uriparse_path.specs.Path.{PathParts, IsListed, IsPath, max_segments, is_slash, is_rooted, pieces, text, spelled, respelled};
 ghost use Rattle.uriparse_path.specs.Faults.{PassesLimit, fault};
-ghost use Rattle.uriparse_path.specs.declared.path.error.PathError.{PathError};
+ghost use Rattle.uriparse_text.specs.declared.segment.error.PathError.{PathError};
 ghost use Rattle.uriparse_path.specs.Place.{fault_place};
 ghost use Rattle.uriparse_path.specs.Dots.{has_dot_segment, Step, Undots, replay, rooted_after, replayed, undot, without_dots};
 ghost use Rattle.uriparse_path.specs.Relative.{is_first, has_colon, Leads, IsIrreducible, IsRelNormal, reduced, relative_normal};
 ghost use Rattle.uriparse_path.specs.Edits.{cleared, popped, pushed, pushing};
-ghost use Rattle.uriparse_path.specs.Segment as segment;
-ghost use Rattle.uriparse_path.specs.declared.path.error.PathError.TheVariants as errors;
+ghost use Rattle.uriparse_text.specs.Segment as segment;
+ghost use Rattle.uriparse_text.specs.declared.segment.error.PathError.TheVariants as errors;
 ghost use Rattle.uriparse_path.specs.Merge.{merged};
 ghost use Rattle.uriparse_path.specs.Relate.{climbs_in, leading};
 ghost use Rattle.uriparse_path.specs.Normal.{canonical_path, pnormal, climbs_first, is_normal};
@@ -115,7 +115,7 @@ pub fn normal_form_in_place()
     ensures colon { (p : PathParts) → is_rooted (text p) ≡ false → is_first has_colon p.segments ≡ false → is_first has_colon (pnormal p true).segments ≡ false }
 {}
 
-/// Texts before and after the removal of dot segments. Dots may be percent-encoded.
+/// Texts before and after the removal of dot segments. Dots may be escaped.
 #[tactic(auto, unfolding(crate::specs::Dots::undot, crate::specs::Dots::is_single_dot, crate::specs::Dots::is_double_dot, crate::specs::Relative::relative_normal, uriparse_text::specs::Canonical::canonical_in, uriparse_text::specs::Tokens::tokens, uriparse_text::specs::Bytes::is_unreserved))]
 pub fn examples_without_dot_segments()
     ensures two_levels { undot (codes "/a/b/c/./../../g") ≡ codes "/a/g" }

@@ -1,17 +1,17 @@
 //! A path: RFC 3986, section 3.3.
-ghost use Rattle.std.specs.Prelude.{◌≡◌, ◌≤◌, ◌⊎◌, ◌↔◌, ◌∷◌, ◌++◌, fold, length, IsTrue, IfOk, Ok, IfSome, IsSome, IsErr, Some, true, not, bytes_eq, string_bytes};
+ghost use Rattle.std.specs.Prelude.{◌≡◌, ◌↔◌, ◌∷◌, ◌++◌, fold, length, IsTrue, IfOk, Ok, IfSome, IsSome, IsErr, Some, true, not, bytes_eq, string_bytes};
 ghost use Rattle.std.proofs.Common.{rules};
 ghost use Rattle.std.specs.Ordering.{on};
 ghost use Rattle.std.specs.Cmp.Rules.{comparing, hashing};
 ghost use Rattle.std.specs.Fmt.{WritesOnOk, WritesStyledOnOk};
 ghost use Rattle.std.specs.List.{flat_map, list_all};
 ghost use Rattle.uriparse_text.specs.declared.internal.canonical.Case.TheVariants as case;
-ghost use Rattle.uriparse_text.specs.Bytes.{colon, slash};
-ghost use Rattle.uriparse_text.specs.Cuts.{from_first, lacks, up_to};
+ghost use Rattle.uriparse_text.specs.Bytes.{slash};
+ghost use Rattle.uriparse_text.specs.Cuts.{from_first, up_to};
 ghost use Rattle.uriparse_text.specs.Canonical.{canonical, SpellsAlike};
 ghost use Rattle.uriparse_text.specs.Readings.{IsUnless};
-ghost use Rattle.uriparse_path.specs.Path.{IsListed, PathParts, fed, fed_piece, flag, has_two_slashes, is_rooted, is_slash, made_absolute, spelled, text};
-ghost use Rattle.uriparse_path.specs.Segment.{is_segment};
+ghost use Rattle.uriparse_path.specs.Path.{IsListed, PathParts, fed, fed_piece, flag, is_rooted, is_slash, text};
+ghost use Rattle.uriparse_text.specs.Segment.{is_segment};
 ghost use Rattle.uriparse_path.specs.Faults.{reading};
 ghost use Rattle.uriparse_path.specs.Normal.{is_canonical};
 ghost use Rattle.uriparse_path.specs.Counts as spec;
@@ -22,31 +22,31 @@ use std::fmt::Write;
 use std::hash::{Hash, Hasher};
 use std::marker::Model;
 use uriparse_text::internal::{Case, feed_spelling, same_spelling, split_at_mark};
+pub use uriparse_text::segment::{PathError, Segment};
 
 mod copy;
 mod count;
 pub mod counts;
-mod dots;
+pub(crate) mod dots;
 mod edit;
-mod error;
+pub(crate) mod front;
 mod list;
-mod merge;
+pub(crate) mod merge;
 pub(crate) mod normal;
 pub(crate) mod place;
 pub(crate) mod read;
 mod reduce;
-mod relate;
+pub(crate) mod relate;
 mod segment;
 mod segments;
 pub(crate) mod text;
 
 use counts::{Counts, Dotted};
-pub use error::PathError;
+use front::most_path_bytes;
 use list::SegmentList;
 use read::{count_segments, counted_path, split_root};
-pub use segment::Segment;
 use segment::each_is_segment;
-use segments::{begins_twice, has_first_colon, hides_root};
+use segments::hides_root;
 pub use text::Segments;
 
 /// The maximum number of segments of a path.
@@ -201,66 +201,13 @@ impl<'p> Path<'p> {
         self.is_absolute() || hides_root(self.segments())
     }
 
-    /// An upper bound of the length of the path's text in bytes, or `usize::MAX`.
-    pub(crate) fn most_bytes(&self) -> usize
-        ensures { length (text self.now) ≤ result ⊎ result ≡ usize.MAX }
-    {
-        let mut len = 0usize;
-        for segment in self.segments.as_slice() {
-            len = len.saturating_add(1).saturating_add(segment.as_str().len());
-        }
-        len
-    }
-
     /// A copy of the path's text. Allocates once.
     pub fn to_string(&self, alloc: Global) -> Result<String, AllocError>
         ensures { IfOk result (λ s. string_bytes s ≡ text self.now) }
     {
-        let mut text = String::with_capacity(alloc, self.most_bytes())?;
+        let mut text = String::with_capacity(alloc, most_path_bytes(self))?;
         write!(text, "{self}")?;
         Ok(text)
-    }
-
-    /// Whether the path's text begins with two slashes.
-    pub(crate) fn has_two_slashes(&self) -> bool
-        ensures answer { result ≡ has_two_slashes (text self.now) }
-        ensures listed { IsListed self.now.segments }
-    {
-        begins_twice(self.is_absolute(), self.segments())
-    }
-
-    /// Whether no colon precedes the first slash of the path's text.
-    pub(crate) fn lacks_colon_segment(&self) -> bool
-        ensures { result ≡ lacks colon (up_to is_slash (text self.now)) }
-    {
-        self.is_rooted() || !has_first_colon(self.segments())
-    }
-
-    /// Replaces the path by the one that its text spells. Does not allocate.
-    pub(crate) fn respell(&mut self)
-        ensures { self.new ≡ spelled (text self.old) }
-    {
-        if !hides_root(self.segments()) {
-            return;
-        }
-        if self.is_absolute() {
-            return;
-        }
-        self.segments.remove_first();
-        self.known = 0;
-        self.absolute = 1;
-    }
-
-    /// The same path, made absolute.
-    pub(crate) fn into_absolute(self) -> Path<'p>
-        ensures { result ≡ made_absolute self.entry }
-    {
-        Path {
-            segments: self.segments,
-            absolute: 1,
-            known: self.known,
-            counts: self.counts,
-        }
     }
 
     /// What precedes the first slash of the path's text, and the segments that follow a slash each.

@@ -6,7 +6,7 @@ use Rattle.uriparse_path.specs.Edits.{pushing}
 use Rattle.uriparse_reference.specs.declared.uri_reference.edit.Edit.{Edit}
 use Rattle.uriparse_reference.specs.declared.uri_reference.edit.Edit.TheVariants as edits
 use Rattle.uriparse_reference.specs.declared.uri_reference.error.URIReferenceError.{URIReferenceError}
-use Rattle.uriparse_path.specs.declared.path.error.PathError.TheVariants.{OutOfMemory}
+use Rattle.uriparse_text.specs.declared.segment.error.PathError.TheVariants.{OutOfMemory}
 use Rattle.uriparse_reference.specs.declared.uri_reference.error.URIReferenceError.TheVariants as errors
 use Rattle.uriparse_reference.specs.Reference.{Parts, path_refusal, print}
 use Rattle.uriparse_reference.specs.Normal.{canonical_texts, normal}

@@ -1,9 +1,10 @@
 -- The text of a reference in a buffer of the caller: RFC 3986, sections 5.2.2, 5.3 and 6.2.2.
-use Rattle.std.specs.Prelude.{◌≡◌, ℕ, ◌<◌, ◌^◌, ◌-◌, List, [], ◌++◌, length, drop, min, Option, Some, None, Result, Ok, Err}
+use Rattle.std.specs.Prelude.{ℕ, List, [], ◌++◌, Option, Some, None, Result}
 use Rattle.uriparse_text.specs.declared.internal.ends.Form.{Form}
 use Rattle.uriparse_text.specs.declared.internal.ends.Form.TheVariants.{AsIs, Canonical}
 use Rattle.uriparse_text.specs.Bytes.{question_mark, number_sign}
 use Rattle.uriparse_text.specs.Cuts.{behind}
+use Rattle.uriparse_text.specs.Starts.{WritesOr}
 use Rattle.uriparse_path.specs.Path as path
 use Rattle.uriparse_scheme.specs.declared.scheme.Scheme.{Scheme}
 use Rattle.uriparse_scheme.specs.Normal.{canonical_scheme}
@@ -11,15 +12,9 @@ use Rattle.uriparse_reference.specs.declared.uri_reference.error.BufferError.{Bu
 use Rattle.uriparse_reference.specs.declared.uri_reference.error.BufferError.TheVariants as errors
 use Rattle.uriparse_reference.specs.Reference.{Parts, print}
 
--- the largest length
-abbrev pub most : ℕ
-most = 2 ^ 64 - 1
-
--- The buffer begins with the text, whose length is returned, and what follows it is unchanged. If there is no room for the text, the buffer is
--- unchanged, and the error has the text's length, or the largest one.
+-- The buffer begins with the text, or is too small for it: `WritesOr` says what is returned, and what is unchanged.
 abbrev pub Writes : List ℕ → Result ℕ BufferError → List ℕ → List ℕ → Type 0
-Writes t (Ok n) old new = (n ≡ length t) × (new ≡ t ++ drop (length t) old)
-Writes t (Err e) old new = (e ≡ errors.TooSmall (min (length t) most)) × ((length old < length t) × (new ≡ old))
+Writes t result old new = WritesOr errors.TooSmall t result old new
 
 -- ---- words of private functions' clauses alone
 

@@ -6,7 +6,7 @@ use Rattle.uriparse_text.specs.Bytes.{question_mark, number_sign}
 use Rattle.uriparse_text.specs.Cuts.{up_to, before, after}
 use Rattle.uriparse_text.specs.Query as query
 use Rattle.uriparse_text.specs.Fragment as fragment
-use Rattle.uriparse_path.specs.declared.path.error.PathError.TheVariants.{OutOfMemory}
+use Rattle.uriparse_text.specs.declared.segment.error.PathError.TheVariants.{OutOfMemory}
 use Rattle.uriparse_path.specs.Path.{PathParts}
 use Rattle.uriparse_path.specs.Faults as path
 use Rattle.uriparse_path.specs.Faults.{ends_path}

@@ -31,7 +31,7 @@ view_key v = key v.parts
 -- ---- what a view keeps of its text: a word of its invariant alone
 
 -- These pieces were found in the text t: the texts of the scheme, if it is not empty, and of the path, and the other components. The scheme
--- is known by its name, and the path has no percent-encoded octet, where so said. The path has count segments.
+-- is known by its name, and the path has no escape, where so said. The path has count segments.
 pub record AreFound (t scheme : List ℕ) (known : Option RegisteredScheme) (a : Option authority.AuthorityParts) (path : List ℕ) (count escaped : ℕ)
     (q f : Option (List ℕ)) : Type 0 where
   pub is_scheme : if_some scheme ≡ scheme_text t

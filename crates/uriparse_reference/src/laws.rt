@@ -13,7 +13,7 @@ ghost use Rattle.uriparse_authority.specs.declared.authority.error.HostError.The
 ghost use Rattle.uriparse_authority.specs.declared.authority.error.UsernameError.TheVariants.{ContainsColon};
 ghost use Rattle.uriparse_scheme.specs.Scheme.{is_scheme};
 ghost use Rattle.uriparse_scheme.specs.declared.scheme.error.SchemeError.{SchemeError};
-ghost use Rattle.uriparse_path.specs.declared.path.error.PathError.TheVariants.{OutOfMemory};
+ghost use Rattle.uriparse_text.specs.declared.segment.error.PathError.TheVariants.{OutOfMemory};
 ghost use Rattle.uriparse_reference.specs.Reference.{Parts, Spells, Valid, ReadsBack, HidesAddress, OneHidesAddress, Same, joined, print, kind};
 ghost use Rattle.uriparse_reference.specs.Cuts.{scheme_text, authority_text, path_text, query_text, fragment_text};
 ghost use Rattle.uriparse_reference.specs.Escaped.{escaped, escaped_authority, escaped_component, escaped_path, fault_left};
@@ -28,7 +28,7 @@ ghost use Rattle.uriparse_reference.specs.declared.uri_reference.error.URIRefere
 ghost use Rattle.uriparse_reference.specs.Reading.{reading, fault};
 ghost use Rattle.uriparse_reference.specs.Place.{fault_place, first_fault};
 ghost use Rattle.uriparse_path.specs.Place.{place_within};
-ghost use Rattle.uriparse_path.specs.declared.path.error.PathError.TheVariants as path_errors;
+ghost use Rattle.uriparse_text.specs.declared.segment.error.PathError.TheVariants as path_errors;
 ghost use Rattle.uriparse_text.specs.declared.query.QueryError.TheVariants as query_errors;
 ghost use Rattle.uriparse_text.specs.declared.fragment.FragmentError.TheVariants as fragment_errors;
 ghost use Rattle.uriparse_authority.specs.declared.authority.error.HostError.TheVariants as host_errors;
@@ -235,7 +235,7 @@ pub fn target_examples()
     ensures kept_dots { resolved (codes "http://a/b/../c") (codes "") ≡ Some (codes "http://a/b/../c") }
     ensures no_fragment { resolved (codes "http://a/b#z") (codes "") ≡ Some (codes "http://a/b") }
     ensures empty_path { resolved (codes "http://h") (codes "?y") ≡ Some (codes "http://h/?y") }
-    // Percent-encoded dots are dots, and nothing else is normalized.
+    // Escaped dots are dots, and nothing else is normalized.
     ensures escaped_dots { resolved (codes "http://a/b/c") (codes "%2E%2e/g") ≡ Some (codes "http://a/g") }
     ensures not_normalised { resolved (codes "http://a/") (codes "%7e") ≡ Some (codes "http://a/%7e") }
     // A base's path without a slash contributes nothing to the merge.

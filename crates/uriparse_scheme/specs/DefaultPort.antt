@@ -7,8 +7,8 @@ use Rattle.uriparse_scheme.specs.declared.scheme.Scheme.TheVariants.{Registered,
 
 -- the default port of a registered scheme, if its registration names one
 unfoldable pub registered_port : RegisteredScheme → Option ℕ
+-- schemes.tsv: ports
 registered_port scheme.AAA = Some 3868
-registered_port scheme.AAAS = Some 5658
 registered_port scheme.ACAP = Some 674
 registered_port scheme.CoAP = Some 5683
 registered_port scheme.CoAPTCP = Some 5683
@@ -54,6 +54,7 @@ registered_port scheme.WS = Some 80
 registered_port scheme.WSS = Some 443
 registered_port scheme.Z3950R = Some 210
 registered_port scheme.Z3950S = Some 210
+-- schemes.tsv: end
 registered_port s = None
 
 -- the default port of a scheme; an unregistered one has none

@@ -16,6 +16,7 @@ row name status = record { name = name; status = status }
 
 -- the row of a registered scheme
 unfoldable pub row_of : RegisteredScheme → Row
+-- schemes.tsv: rows
 row_of scheme.AAA = row (codes "aaa") Permanent
 row_of scheme.AAAS = row (codes "aaas") Permanent
 row_of scheme.About = row (codes "about") Permanent
@@ -321,54 +322,63 @@ row_of scheme.Z3950 = row (codes "z39.50") Historical
 row_of scheme.Z3950R = row (codes "z39.50r") Permanent
 row_of scheme.Z3950S = row (codes "z39.50s") Permanent
 
+-- schemes.tsv: end
+
 -- the registered schemes, in the order of their names
 unfoldable pub variants : List RegisteredScheme
 variants =
-    scheme.AAA ∷ scheme.AAAS ∷ scheme.About ∷ scheme.ACAP ∷ scheme.ACCT ∷ scheme.ACR ∷ scheme.AdiumXtra ∷ scheme.AFP ∷ scheme.AFS ∷ scheme.AIM ∷
-    scheme.AMSS ∷ scheme.Android ∷ scheme.AppData ∷ scheme.APT ∷ scheme.Attachment ∷ scheme.AW ∷ scheme.Barion ∷ scheme.BeShare ∷ scheme.Bitcoin ∷
-    scheme.BitcoinCash ∷ scheme.Blob ∷ scheme.Bolo ∷ scheme.BrowserExt ∷ scheme.Calculator ∷ scheme.CallTo ∷ scheme.CAP ∷ scheme.Cast ∷ scheme.Casts ∷
-    scheme.Chrome ∷ scheme.ChromeExtension ∷ scheme.CID ∷ scheme.CoAP ∷ scheme.CoAPTCP ∷ scheme.CoAPWS ∷ scheme.CoAPS ∷ scheme.CoAPSTCP ∷
-    scheme.CoAPSWS ∷ scheme.ComEventBriteAttendee ∷ scheme.Content ∷ scheme.Conti ∷ scheme.CRID ∷ scheme.CVS ∷ scheme.DAB ∷ scheme.Data ∷ scheme.DAV ∷
-    scheme.Diaspora ∷ scheme.DICT ∷ scheme.DID ∷ scheme.DIS ∷ scheme.DLNAPlayContainer ∷ scheme.DLNAPlaySingle ∷ scheme.DNS ∷ scheme.DNTP ∷
-    scheme.DPP ∷ scheme.DRM ∷ scheme.Drop ∷ scheme.DTN ∷ scheme.DVB ∷ scheme.ED2K ∷ scheme.ELSI ∷ scheme.Example ∷ scheme.FaceTime ∷ scheme.Fax ∷
-    scheme.Feed ∷ scheme.FeedReady ∷ scheme.File ∷ scheme.FileSystem ∷ scheme.Finger ∷ scheme.Fish ∷ scheme.FM ∷ scheme.FTP ∷ scheme.FuchsiaPkg ∷
-    scheme.Geo ∷ scheme.GG ∷ scheme.Git ∷ scheme.GizmoProject ∷ scheme.Go ∷ scheme.Gopher ∷ scheme.Graph ∷ scheme.GTalk ∷ scheme.H323 ∷ scheme.HAM ∷
-    scheme.HCAP ∷ scheme.HCP ∷ scheme.HTTP ∷ scheme.HTTPS ∷ scheme.HXXP ∷ scheme.HXXPS ∷ scheme.HydraZone ∷ scheme.IAX ∷ scheme.ICAP ∷ scheme.Icon ∷
-    scheme.IM ∷ scheme.IMAP ∷ scheme.Info ∷ scheme.IoTDisc ∷ scheme.IPN ∷ scheme.IPP ∷ scheme.IPPS ∷ scheme.IRC ∷ scheme.IRC6 ∷ scheme.IRCS ∷
-    scheme.IRIS ∷ scheme.IRISBEEP ∷ scheme.IRISLWZ ∷ scheme.IRISXPC ∷ scheme.IRISXPCS ∷ scheme.IsoStore ∷ scheme.ITMS ∷ scheme.Jabber ∷ scheme.JAR ∷
-    scheme.JMS ∷ scheme.KeyParc ∷ scheme.LastFM ∷ scheme.LDAP ∷ scheme.LDAPS ∷ scheme.LoRaWAN ∷ scheme.LVLT ∷ scheme.Magnet ∷ scheme.MailServer ∷
-    scheme.MailTo ∷ scheme.Maps ∷ scheme.Market ∷ scheme.Message ∷ scheme.MicrosoftWindowsCamera ∷ scheme.MicrosoftWindowsCameraMultiPicker ∷
-    scheme.MicrosoftWindowsCameraPicker ∷ scheme.MID ∷ scheme.MMS ∷ scheme.Modem ∷ scheme.MongoDB ∷ scheme.Moz ∷ scheme.Microsoft microsoft.MSAccess ∷
-    scheme.Microsoft microsoft.MSBrowserExtension ∷ scheme.Microsoft microsoft.MSCalculator ∷ scheme.Microsoft microsoft.MSDriveTo ∷
-    scheme.Microsoft microsoft.MSEnrollment ∷ scheme.Microsoft microsoft.MSExcel ∷ scheme.Microsoft microsoft.MSEyeControlSpeech ∷
-    scheme.Microsoft microsoft.MSGameBarServices ∷ scheme.Microsoft microsoft.MSGamingOverlay ∷ scheme.Microsoft microsoft.MSGetOffice ∷
-    scheme.Microsoft microsoft.MSHelp ∷ scheme.Microsoft microsoft.MSInfoPath ∷ scheme.Microsoft microsoft.MSInputApp ∷
-    scheme.Microsoft microsoft.MSLockScreenComponentConfig ∷ scheme.Microsoft microsoft.MSMediaStreamID ∷
-    scheme.Microsoft microsoft.MSMixedRealityCapture ∷ scheme.Microsoft microsoft.MSOfficeApp ∷ scheme.Microsoft microsoft.MSPeople ∷
-    scheme.Microsoft microsoft.MSPowerPoint ∷ scheme.Microsoft microsoft.MSProject ∷ scheme.Microsoft microsoft.MSPublisher ∷
-    scheme.Microsoft microsoft.MSRestoreTabCompanion ∷ scheme.Microsoft microsoft.MSScreenClip ∷ scheme.Microsoft microsoft.MSScreenSketch ∷
-    scheme.Microsoft microsoft.MSSearch ∷ scheme.Microsoft microsoft.MSSearchRepair ∷ scheme.Microsoft microsoft.MSSecondaryScreenController ∷
-    scheme.Microsoft microsoft.MSSeocndaryScreenSetup ∷ scheme.Microsoft microsoft.MSSettings ∷ scheme.Microsoft microsoft.MSSettingsAirplaneMode ∷
-    scheme.Microsoft microsoft.MSSettingsBluetooth ∷ scheme.Microsoft microsoft.MSSettingsCamera ∷ scheme.Microsoft microsoft.MSSettingsCellular ∷
-    scheme.Microsoft microsoft.MSSettingsCloudStorage ∷ scheme.Microsoft microsoft.MSSettingsConnectableDevices ∷
-    scheme.Microsoft microsoft.MSSettingsDisplaysTopology ∷ scheme.Microsoft microsoft.MSSettingsEmailAndAccounts ∷
-    scheme.Microsoft microsoft.MSSettingsLanguage ∷ scheme.Microsoft microsoft.MSSettingsLocation ∷ scheme.Microsoft microsoft.MSSettingsLock ∷
+    -- schemes.tsv: variants
+    scheme.AAA ∷ scheme.AAAS ∷ scheme.About ∷ scheme.ACAP ∷ scheme.ACCT ∷ scheme.ACR ∷ scheme.AdiumXtra ∷ scheme.AFP ∷ scheme.AFS ∷
+    scheme.AIM ∷ scheme.AMSS ∷ scheme.Android ∷ scheme.AppData ∷ scheme.APT ∷ scheme.Attachment ∷ scheme.AW ∷ scheme.Barion ∷ scheme.BeShare ∷
+    scheme.Bitcoin ∷ scheme.BitcoinCash ∷ scheme.Blob ∷ scheme.Bolo ∷ scheme.BrowserExt ∷ scheme.Calculator ∷ scheme.CallTo ∷ scheme.CAP ∷
+    scheme.Cast ∷ scheme.Casts ∷ scheme.Chrome ∷ scheme.ChromeExtension ∷ scheme.CID ∷ scheme.CoAP ∷ scheme.CoAPTCP ∷ scheme.CoAPWS ∷
+    scheme.CoAPS ∷ scheme.CoAPSTCP ∷ scheme.CoAPSWS ∷ scheme.ComEventBriteAttendee ∷ scheme.Content ∷ scheme.Conti ∷ scheme.CRID ∷ scheme.CVS ∷
+    scheme.DAB ∷ scheme.Data ∷ scheme.DAV ∷ scheme.Diaspora ∷ scheme.DICT ∷ scheme.DID ∷ scheme.DIS ∷ scheme.DLNAPlayContainer ∷
+    scheme.DLNAPlaySingle ∷ scheme.DNS ∷ scheme.DNTP ∷ scheme.DPP ∷ scheme.DRM ∷ scheme.Drop ∷ scheme.DTN ∷ scheme.DVB ∷ scheme.ED2K ∷
+    scheme.ELSI ∷ scheme.Example ∷ scheme.FaceTime ∷ scheme.Fax ∷ scheme.Feed ∷ scheme.FeedReady ∷ scheme.File ∷ scheme.FileSystem ∷
+    scheme.Finger ∷ scheme.Fish ∷ scheme.FM ∷ scheme.FTP ∷ scheme.FuchsiaPkg ∷ scheme.Geo ∷ scheme.GG ∷ scheme.Git ∷ scheme.GizmoProject ∷
+    scheme.Go ∷ scheme.Gopher ∷ scheme.Graph ∷ scheme.GTalk ∷ scheme.H323 ∷ scheme.HAM ∷ scheme.HCAP ∷ scheme.HCP ∷ scheme.HTTP ∷
+    scheme.HTTPS ∷ scheme.HXXP ∷ scheme.HXXPS ∷ scheme.HydraZone ∷ scheme.IAX ∷ scheme.ICAP ∷ scheme.Icon ∷ scheme.IM ∷ scheme.IMAP ∷
+    scheme.Info ∷ scheme.IoTDisc ∷ scheme.IPN ∷ scheme.IPP ∷ scheme.IPPS ∷ scheme.IRC ∷ scheme.IRC6 ∷ scheme.IRCS ∷ scheme.IRIS ∷
+    scheme.IRISBEEP ∷ scheme.IRISLWZ ∷ scheme.IRISXPC ∷ scheme.IRISXPCS ∷ scheme.IsoStore ∷ scheme.ITMS ∷ scheme.Jabber ∷ scheme.JAR ∷
+    scheme.JMS ∷ scheme.KeyParc ∷ scheme.LastFM ∷ scheme.LDAP ∷ scheme.LDAPS ∷ scheme.LoRaWAN ∷ scheme.LVLT ∷ scheme.Magnet ∷
+    scheme.MailServer ∷ scheme.MailTo ∷ scheme.Maps ∷ scheme.Market ∷ scheme.Message ∷ scheme.MicrosoftWindowsCamera ∷
+    scheme.MicrosoftWindowsCameraMultiPicker ∷ scheme.MicrosoftWindowsCameraPicker ∷ scheme.MID ∷ scheme.MMS ∷ scheme.Modem ∷ scheme.MongoDB ∷
+    scheme.Moz ∷ scheme.Microsoft microsoft.MSAccess ∷ scheme.Microsoft microsoft.MSBrowserExtension ∷
+    scheme.Microsoft microsoft.MSCalculator ∷ scheme.Microsoft microsoft.MSDriveTo ∷ scheme.Microsoft microsoft.MSEnrollment ∷
+    scheme.Microsoft microsoft.MSExcel ∷ scheme.Microsoft microsoft.MSEyeControlSpeech ∷ scheme.Microsoft microsoft.MSGameBarServices ∷
+    scheme.Microsoft microsoft.MSGamingOverlay ∷ scheme.Microsoft microsoft.MSGetOffice ∷ scheme.Microsoft microsoft.MSHelp ∷
+    scheme.Microsoft microsoft.MSInfoPath ∷ scheme.Microsoft microsoft.MSInputApp ∷ scheme.Microsoft microsoft.MSLockScreenComponentConfig ∷
+    scheme.Microsoft microsoft.MSMediaStreamID ∷ scheme.Microsoft microsoft.MSMixedRealityCapture ∷ scheme.Microsoft microsoft.MSOfficeApp ∷
+    scheme.Microsoft microsoft.MSPeople ∷ scheme.Microsoft microsoft.MSPowerPoint ∷ scheme.Microsoft microsoft.MSProject ∷
+    scheme.Microsoft microsoft.MSPublisher ∷ scheme.Microsoft microsoft.MSRestoreTabCompanion ∷ scheme.Microsoft microsoft.MSScreenClip ∷
+    scheme.Microsoft microsoft.MSScreenSketch ∷ scheme.Microsoft microsoft.MSSearch ∷ scheme.Microsoft microsoft.MSSearchRepair ∷
+    scheme.Microsoft microsoft.MSSecondaryScreenController ∷ scheme.Microsoft microsoft.MSSeocndaryScreenSetup ∷
+    scheme.Microsoft microsoft.MSSettings ∷ scheme.Microsoft microsoft.MSSettingsAirplaneMode ∷
+    scheme.Microsoft microsoft.MSSettingsBluetooth ∷ scheme.Microsoft microsoft.MSSettingsCamera ∷
+    scheme.Microsoft microsoft.MSSettingsCellular ∷ scheme.Microsoft microsoft.MSSettingsCloudStorage ∷
+    scheme.Microsoft microsoft.MSSettingsConnectableDevices ∷ scheme.Microsoft microsoft.MSSettingsDisplaysTopology ∷
+    scheme.Microsoft microsoft.MSSettingsEmailAndAccounts ∷ scheme.Microsoft microsoft.MSSettingsLanguage ∷
+    scheme.Microsoft microsoft.MSSettingsLocation ∷ scheme.Microsoft microsoft.MSSettingsLock ∷
     scheme.Microsoft microsoft.MSSettingsNFCTransactions ∷ scheme.Microsoft microsoft.MSSettingsNotifications ∷
-    scheme.Microsoft microsoft.MSSettingsPower ∷ scheme.Microsoft microsoft.MSSettingsPrivacy ∷ scheme.Microsoft microsoft.MSSettingsProximity ∷
-    scheme.Microsoft microsoft.MSSettingsScreenRotation ∷ scheme.Microsoft microsoft.MSSettingsWiFi ∷ scheme.Microsoft microsoft.MSSettingsWorkplace ∷
-    scheme.Microsoft microsoft.MSSPD ∷ scheme.Microsoft microsoft.MSSTTOverlay ∷ scheme.Microsoft microsoft.MSTransitTo ∷
-    scheme.Microsoft microsoft.MSUserActivitySet ∷ scheme.Microsoft microsoft.MSVirtualTouchPad ∷ scheme.Microsoft microsoft.MSVisio ∷
-    scheme.Microsoft microsoft.MSWalkTo ∷ scheme.Microsoft microsoft.MSWhiteboard ∷ scheme.Microsoft microsoft.MSWhiteboardCMD ∷
-    scheme.Microsoft microsoft.MSWord ∷ scheme.MSNIM ∷ scheme.MSRP ∷ scheme.MSRPS ∷ scheme.MSS ∷ scheme.MTQP ∷ scheme.Mumble ∷ scheme.MUpdate ∷
-    scheme.MVN ∷ scheme.News ∷ scheme.NFS ∷ scheme.NI ∷ scheme.NIH ∷ scheme.NNTP ∷ scheme.Notes ∷ scheme.OCF ∷ scheme.OID ∷ scheme.OneNote ∷
-    scheme.OneNoteCMD ∷ scheme.OpaqueLockToken ∷ scheme.OpenPGP4FPR ∷ scheme.Pack ∷ scheme.Palm ∷ scheme.Paparazzi ∷ scheme.PKCS11 ∷ scheme.Platform ∷
-    scheme.POP ∷ scheme.Pres ∷ scheme.Prospero ∷ scheme.Proxy ∷ scheme.PSYC ∷ scheme.PWID ∷ scheme.QB ∷ scheme.Query ∷ scheme.Redis ∷ scheme.RedisS ∷
-    scheme.Reload ∷ scheme.Res ∷ scheme.Resource ∷ scheme.RMI ∷ scheme.RSync ∷ scheme.RTMFP ∷ scheme.RTMP ∷ scheme.RTSP ∷ scheme.RTSPS ∷ scheme.RTSPU ∷
-    scheme.SecondLife ∷ scheme.Service ∷ scheme.Session ∷ scheme.SFTP ∷ scheme.SGN ∷ scheme.SHTTP ∷ scheme.Sieve ∷ scheme.SimpleLedger ∷ scheme.SIP ∷
-    scheme.SIPS ∷ scheme.Skype ∷ scheme.SMB ∷ scheme.SMS ∷ scheme.SMTP ∷ scheme.SNews ∷ scheme.SNMP ∷ scheme.SOAPBEEP ∷ scheme.SOAPBEEPS ∷
-    scheme.Soldat ∷ scheme.SPIFFE ∷ scheme.Spotify ∷ scheme.SSH ∷ scheme.Steam ∷ scheme.STUN ∷ scheme.STUNS ∷ scheme.Submit ∷ scheme.SVN ∷ scheme.Tag ∷
-    scheme.TeamSpeak ∷ scheme.Tel ∷ scheme.TeliaEID ∷ scheme.Telnet ∷ scheme.TFTP ∷ scheme.Things ∷ scheme.ThisMessage ∷ scheme.TIP ∷ scheme.TN3270 ∷
-    scheme.Tool ∷ scheme.TURN ∷ scheme.TURNS ∷ scheme.TV ∷ scheme.UDP ∷ scheme.Unreal ∷ scheme.URN ∷ scheme.UT2004 ∷ scheme.VEvent ∷ scheme.VEMMI ∷
-    scheme.Ventrilo ∷ scheme.Videotex ∷ scheme.ViewSource ∷ scheme.VNC ∷ scheme.WAIS ∷ scheme.Webcal ∷ scheme.WPID ∷ scheme.WS ∷ scheme.WSS ∷
-    scheme.WTAI ∷ scheme.WYCIWYG ∷ scheme.XCON ∷ scheme.XCONUserID ∷ scheme.Xfire ∷ scheme.XMLRPCBEEP ∷ scheme.XMLRPCBEEPS ∷ scheme.XMPP ∷ scheme.XRI ∷
-    scheme.YMSGR ∷ scheme.Z3950 ∷ scheme.Z3950R ∷ scheme.Z3950S ∷ []
+    scheme.Microsoft microsoft.MSSettingsPower ∷ scheme.Microsoft microsoft.MSSettingsPrivacy ∷
+    scheme.Microsoft microsoft.MSSettingsProximity ∷ scheme.Microsoft microsoft.MSSettingsScreenRotation ∷
+    scheme.Microsoft microsoft.MSSettingsWiFi ∷ scheme.Microsoft microsoft.MSSettingsWorkplace ∷ scheme.Microsoft microsoft.MSSPD ∷
+    scheme.Microsoft microsoft.MSSTTOverlay ∷ scheme.Microsoft microsoft.MSTransitTo ∷ scheme.Microsoft microsoft.MSUserActivitySet ∷
+    scheme.Microsoft microsoft.MSVirtualTouchPad ∷ scheme.Microsoft microsoft.MSVisio ∷ scheme.Microsoft microsoft.MSWalkTo ∷
+    scheme.Microsoft microsoft.MSWhiteboard ∷ scheme.Microsoft microsoft.MSWhiteboardCMD ∷ scheme.Microsoft microsoft.MSWord ∷ scheme.MSNIM ∷
+    scheme.MSRP ∷ scheme.MSRPS ∷ scheme.MSS ∷ scheme.MTQP ∷ scheme.Mumble ∷ scheme.MUpdate ∷ scheme.MVN ∷ scheme.News ∷ scheme.NFS ∷
+    scheme.NI ∷ scheme.NIH ∷ scheme.NNTP ∷ scheme.Notes ∷ scheme.OCF ∷ scheme.OID ∷ scheme.OneNote ∷ scheme.OneNoteCMD ∷
+    scheme.OpaqueLockToken ∷ scheme.OpenPGP4FPR ∷ scheme.Pack ∷ scheme.Palm ∷ scheme.Paparazzi ∷ scheme.PKCS11 ∷ scheme.Platform ∷ scheme.POP ∷
+    scheme.Pres ∷ scheme.Prospero ∷ scheme.Proxy ∷ scheme.PSYC ∷ scheme.PWID ∷ scheme.QB ∷ scheme.Query ∷ scheme.Redis ∷ scheme.RedisS ∷
+    scheme.Reload ∷ scheme.Res ∷ scheme.Resource ∷ scheme.RMI ∷ scheme.RSync ∷ scheme.RTMFP ∷ scheme.RTMP ∷ scheme.RTSP ∷ scheme.RTSPS ∷
+    scheme.RTSPU ∷ scheme.SecondLife ∷ scheme.Service ∷ scheme.Session ∷ scheme.SFTP ∷ scheme.SGN ∷ scheme.SHTTP ∷ scheme.Sieve ∷
+    scheme.SimpleLedger ∷ scheme.SIP ∷ scheme.SIPS ∷ scheme.Skype ∷ scheme.SMB ∷ scheme.SMS ∷ scheme.SMTP ∷ scheme.SNews ∷ scheme.SNMP ∷
+    scheme.SOAPBEEP ∷ scheme.SOAPBEEPS ∷ scheme.Soldat ∷ scheme.SPIFFE ∷ scheme.Spotify ∷ scheme.SSH ∷ scheme.Steam ∷ scheme.STUN ∷
+    scheme.STUNS ∷ scheme.Submit ∷ scheme.SVN ∷ scheme.Tag ∷ scheme.TeamSpeak ∷ scheme.Tel ∷ scheme.TeliaEID ∷ scheme.Telnet ∷ scheme.TFTP ∷
+    scheme.Things ∷ scheme.ThisMessage ∷ scheme.TIP ∷ scheme.TN3270 ∷ scheme.Tool ∷ scheme.TURN ∷ scheme.TURNS ∷ scheme.TV ∷ scheme.UDP ∷
+    scheme.Unreal ∷ scheme.URN ∷ scheme.UT2004 ∷ scheme.VEvent ∷ scheme.VEMMI ∷ scheme.Ventrilo ∷ scheme.Videotex ∷ scheme.ViewSource ∷
+    scheme.VNC ∷ scheme.WAIS ∷ scheme.Webcal ∷ scheme.WPID ∷ scheme.WS ∷ scheme.WSS ∷ scheme.WTAI ∷ scheme.WYCIWYG ∷ scheme.XCON ∷
+    scheme.XCONUserID ∷ scheme.Xfire ∷ scheme.XMLRPCBEEP ∷ scheme.XMLRPCBEEPS ∷ scheme.XMPP ∷ scheme.XRI ∷ scheme.YMSGR ∷ scheme.Z3950 ∷
+    scheme.Z3950R ∷ scheme.Z3950S ∷ []
+    -- schemes.tsv: end

@@ -15,9 +15,9 @@ use std::hash::{Hash, Hasher};
 
 mod constants;
 pub(crate) mod cut;
+mod equality;
 mod error;
 mod find;
-mod lookup;
 mod microsoft;
 mod port;
 pub(crate) mod read;
@@ -123,7 +123,7 @@ impl<'s> Scheme<'s> {
         self.as_str().as_bytes()
     }
 
-    /// The same scheme, borrowing this one's text. Does not allocate.
+    /// A copy that borrows this scheme's text. Does not allocate.
     pub fn as_borrowed(&self) -> Scheme<'_>
         ensures { result ≡ self.now }
     {
@@ -133,7 +133,7 @@ impl<'s> Scheme<'s> {
         }
     }
 
-    /// The same scheme, owning its text. Copies borrowed text, which allocates; if memory runs out,
+    /// The scheme, owning its text. Copies borrowed text, which allocates; if memory runs out,
     /// the scheme is lost. A registered scheme is never lost: it has no text to copy.
     pub fn into_owned(self, alloc: Global) -> Result<Scheme<'static>, AllocError>
         // As two clauses this takes more memory than the prover has.
@@ -184,8 +184,8 @@ impl<'s> Scheme<'s> {
         }
     }
 
-    /// Whether the bytes are this scheme in any case. Percent-encoded octets are not decoded: a
-    /// scheme has none. Does not allocate.
+    /// Whether the bytes are this scheme in any case. Escapes are not decoded: a scheme has
+    /// none. Does not allocate.
     pub fn eq_bytes(&self, bytes: &[u8]) -> bool
         ensures { IsTrue result ↔ (str_to_ascii_lowercase bytes.now ≡ str_to_ascii_lowercase (spec.text self.now)) }
     {

@@ -9,6 +9,7 @@ pub mod Cuts
 pub mod Readings
 pub mod Query
 pub mod Fragment
+pub mod Segment
 pub mod Address
 pub mod IpAddr
 pub mod Alike
@@ -21,3 +22,4 @@ pub mod Written
 pub mod Link
 pub mod Printing
 pub mod Ends
+pub mod Starts

@@ -18,6 +18,7 @@ mod run;
 mod scan;
 mod settled;
 mod spelling;
+mod starts;
 mod text;
 mod token;
 
@@ -38,5 +39,6 @@ pub use print::write_plain;
 pub use printed::{put_decimal, put_ipv4, put_ipv6};
 pub use scan::{ByteTest, Is, IsAny, Outside, first, next_marks, next_marks_by_two};
 pub use settled::{check_bytes, split_settled};
+pub use starts::{TooSmall, append, append_escaped, encode_into};
 pub use text::{Text, TextKind, checked_text, kept_text, len_of, made_text, normalized_text};
 pub use token::is_escape;

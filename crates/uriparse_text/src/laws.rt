@@ -1,6 +1,6 @@
 //! Laws of the definitions that contracts cite. Each function does nothing: its contract is the
 //! law.
-ghost use Rattle.std.specs.Prelude.{◌≡◌, ◌==◌, ◌↔◌, ◌<◌, ◌∷◌, ◌++◌, ℕ, List, [], Some, None, true, false, flat_map, length, map, not, codes, drop, take, slice_get};
+ghost use Rattle.std.specs.Prelude.{◌≡◌, ◌==◌, ◌↔◌, ◌<◌, ◌∷◌, ◌++◌, ℕ, List, [], Result, Ok, Err, Some, None, true, false, flat_map, length, map, not, codes, drop, take, slice_get};
 ghost use Rattle.std.specs.Char.{is_ascii_whitespace};
 ghost use Rattle.std.specs.List.{filter, list_all};
 ghost use Rattle.std.specs.List.Sorted.{IsPermutation, IsSortedBy};
@@ -18,6 +18,8 @@ ghost use Rattle.uriparse_text.specs.Coding.{are_bytes, decoded, escaped_in, for
 ghost use Rattle.uriparse_text.specs.Cuts.{lacks, none_pass};
 ghost use Rattle.uriparse_text.specs.Link.{in_brackets, less_than, link, trimmed};
 ghost use Rattle.uriparse_text.specs.Pairs.{Pair, are_pair_bytes, decoded_pair, encoded_pair, has_less_name, is_named, joined_pairs, pairs, sorted_pairs, with_pair, without_name};
+ghost use Rattle.uriparse_text.specs.Starts.{Writes, too_small};
+ghost use Rattle.uriparse_text.specs.declared.internal.starts.TooSmall.{TooSmall};
 ghost use Rattle.uriparse_text.specs.Address.{IsOctets, IsSegments, SpellsIpv4, SpellsIpv6, ipv4_text, ipv6_text, ipv4_reading, ipv6_reading, IsPrintedIpv6, is_ipv4_byte, is_ipv6_byte};
 
 /// A text has no fault exactly if it is a concatenation of tokens of the class; else its fault is
@@ -125,6 +127,30 @@ pub fn one_list_of_pairs()
 pub fn one_pair_of_a_name()
     ensures one { (name : List ℕ) (new : Pair) (ps : List Pair) → is_named name new ≡ true → filter (is_named name) (with_pair name new ps) ≡ new ∷ [] }
     ensures others { (name : List ℕ) (new : Pair) (ps : List Pair) → is_named name new ≡ true → without_name name (with_pair name new ps) ≡ without_name name ps }
+{}
+
+/// Once the pairs of a name are left out, there is none of the name, and leaving them out again
+/// changes nothing. Pairs of which none has the name stay, and setting a pair of the name first
+/// makes no difference.
+pub fn no_pair_of_a_name()
+    ensures none { (name : List ℕ) (ps : List Pair) → filter (is_named name) (without_name name ps) ≡ [] }
+    ensures twice { (name : List ℕ) (ps : List Pair) → without_name name (without_name name ps) ≡ without_name name ps }
+    ensures kept { (name : List ℕ) (ps : List Pair) → filter (is_named name) ps ≡ [] → without_name name ps ≡ ps }
+    ensures set { (name : List ℕ) (new : Pair) (ps : List Pair) → is_named name new ≡ true → without_name name (with_pair name new ps) ≡ without_name name ps }
+{}
+
+/// What is written to a buffer, and what is reported, is determined by the text and the buffer.
+pub fn one_writing()
+    ensures result { (t old new other : List ℕ) (r s : Result ℕ TooSmall) → length new ≡ length old → length other ≡ length old → Writes t r old new → Writes t s old other → r ≡ s }
+    ensures buffer { (t old new other : List ℕ) (r s : Result ℕ TooSmall) → length new ≡ length old → length other ≡ length old → Writes t r old new → Writes t s old other → new ≡ other }
+{}
+
+/// Texts in buffers: one with room left, one that fills it, and one that is too long.
+pub fn examples_of_writing()
+    ensures room { Writes (codes "ab") (Ok 2) (codes "wxyz") (codes "abyz") }
+    ensures filled { Writes (codes "ab") (Ok 2) (codes "yz") (codes "ab") }
+    ensures nothing { Writes [] (Ok 0) [] [] }
+    ensures too_small { Writes (codes "abc") (Err (too_small 3)) (codes "yz") (codes "yz") }
 {}
 
 /// Sorted pairs are the same ones, with ascending names, and those of one name in the order that

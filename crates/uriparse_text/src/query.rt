@@ -65,8 +65,9 @@ impl TextKind for QueryKind {
 /// [`InvalidCharacter`](QueryError::InvalidCharacter). Two queries are equal if their canonical
 /// spellings are. The calls are those of [`Text`], and
 /// [`pairs`](Query::pairs), [`from_pairs`](Query::from_pairs),
-/// [`without_pairs`](Query::without_pairs), [`with_pair`](Query::with_pair),
-/// [`sorted_pairs`](Query::sorted_pairs) and [`decode_form`](Query::decode_form).
+/// [`without_pairs`](Query::without_pairs), [`without_name`](Query::without_name),
+/// [`with_pair`](Query::with_pair), [`sorted_pairs`](Query::sorted_pairs) and
+/// [`decode_form`](Query::decode_form).
 ///
 /// ```
 /// let query = Query::try_from_str("k=%7e")?;

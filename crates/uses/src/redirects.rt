@@ -61,7 +61,7 @@ pub fn follow(
     }
 }
 
-/// The same for a `Location` that was read.
+/// Follows a redirect whose `Location` was read, as [`follow`] does.
 fn follow_to(
     alloc: Global,
     request: &URI<'_>,

@@ -24,10 +24,10 @@ use Rattle.uriparse_text.specs.Canonical.{SpellsAlike, canonical_in, canonical_l
 use Rattle.uriparse_text.specs.Tokens.{is_well_formed, tokens}
 use Rattle.uriparse_text.specs.Readings.{IsUnless, unless_fault}
 use Rattle.uriparse_reference.specs.Reference.{Parts, host_of, port_of, username_of}
-use Rattle.uriparse_path.specs.declared.path.error.PathError.{PathError}
-use Rattle.uriparse_path.specs.declared.path.error.PathError.TheVariants.{ExceededMaximumLength, OutOfMemory}
+use Rattle.uriparse_text.specs.declared.segment.error.PathError.{PathError}
+use Rattle.uriparse_text.specs.declared.segment.error.PathError.TheVariants.{ExceededMaximumLength, OutOfMemory}
 use Rattle.uriparse_path.specs.Path.{IsListed, PathParts, is_slash, is_rooted, max_segments, pieces, spelled}
-use Rattle.uriparse_path.specs.Segment.{is_segment, IsSegment}
+use Rattle.uriparse_text.specs.Segment.{is_segment, IsSegment}
 use Rattle.uriparse_path.specs.Faults.{fault, fault_within, first_fault, length_fault, reading}
 use Rattle.uriparse_path.proofs.lemmas.reading.FaultLemmas.{no_segment_fault}
 use Rattle.uriparse_path.proofs.lemmas.text.SplitLemmas.{IsCut, cut, joined-behind, joined-pieces, pieces-byte, pieces-joined, pieces-slash}

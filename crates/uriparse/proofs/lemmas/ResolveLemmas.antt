@@ -2,7 +2,7 @@
 use Rattle.std.proofs.Common.{◌≡◌, true, Option, Some, None, Ok, Err, inl, inr, sym, ap, ◌∙◌}
 use Rattle.std.specs.Prelude.{Result, MatchOption, is_some}
 use Rattle.uriparse_text.specs.Readings.{IsUnless}
-use Rattle.uriparse_path.specs.declared.path.error.PathError.TheVariants as paths
+use Rattle.uriparse_text.specs.declared.segment.error.PathError.TheVariants as paths
 use Rattle.uriparse_reference.specs.declared.uri_reference.error.URIReferenceError.{URIReferenceError}
 use Rattle.uriparse_reference.specs.declared.uri_reference.error.URIReferenceError.TheVariants as references
 use Rattle.uriparse_reference.specs.Reference.{Parts, Valid}

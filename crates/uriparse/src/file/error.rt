@@ -1,6 +1,6 @@
 //! Why a path has no file URI, or a URI names no file's path.
 ghost use Rattle.std.specs.Prelude.{◌≡◌};
-ghost use Rattle.uriparse_path.specs.declared.path.error.PathError.TheVariants.{OutOfMemory};
+ghost use Rattle.uriparse_text.specs.declared.segment.error.PathError.TheVariants.{OutOfMemory};
 ghost use Rattle.uriparse.specs.declared.file.error.FileError.TheVariants as errors;
 
 use std::alloc::{AllocError, AllocFailed};

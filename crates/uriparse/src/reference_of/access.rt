@@ -113,7 +113,7 @@ impl<'r, K: ReferenceKind> ReferenceOf<'r, K> {
         self.reference.has_fragment()
     }
 
-    /// The same as it may be shown: prints `***` in place of the password, if there is one. Does not
+    /// What may be shown of it: prints `***` in place of the password, if there is one. Does not
     /// allocate.
     pub fn without_password(&self) -> WithoutPassword<'_, 'r>
         ensures { result ≡ self.now }

@@ -1,6 +1,6 @@
 //! Why a URI is rejected.
 ghost use Rattle.std.specs.Prelude.{◌≡◌};
-ghost use Rattle.uriparse_path.specs.declared.path.error.PathError.TheVariants.{OutOfMemory};
+ghost use Rattle.uriparse_text.specs.declared.segment.error.PathError.TheVariants.{OutOfMemory};
 ghost use Rattle.uriparse.specs.declared.uri.error.URIError.TheVariants as errors;
 
 use std::alloc::{AllocError, AllocFailed};

@@ -1,7 +1,7 @@
 //! The target of a reference against a base: RFC 3986, section 5.2.
 ghost use Rattle.std.specs.Prelude.{◌≡◌, Err, IfOk, MatchOption, Ok, Some, true};
 ghost use Rattle.uriparse_text.specs.Readings.{IsUnless};
-ghost use Rattle.uriparse_path.specs.declared.path.error.PathError.TheVariants as paths;
+ghost use Rattle.uriparse_text.specs.declared.segment.error.PathError.TheVariants as paths;
 ghost use Rattle.uriparse_reference.specs.Normal.{normal};
 ghost use Rattle.uriparse_reference.specs.Reference.{Parts, Same, Valid};
 ghost use Rattle.uriparse_reference.specs.Target.{AreSame, MergesAlike, is_merged, target};

@@ -1,6 +1,7 @@
 //! An authority that a reader found: plain words that need no drop.
 ghost use Rattle.std.specs.Prelude.{◌≡◌};
 ghost use Rattle.uriparse_authority.specs.Authority as spec;
+ghost use Rattle.uriparse_authority.specs.Host.{kind_code};
 ghost use Rattle.uriparse_text.specs.Found.{if_there};
 
 use super::Authority;
@@ -67,7 +68,7 @@ pub(super) fn found_authority<'a>(
 impl<'a> FoundAuthority<'a> {
     /// The port, if there is one.
     #[inline(always)]
-    fn to_port(&self) -> Option<u16>
+    pub fn port(&self) -> Option<u16>
         ensures { result ≡ self.now.port }
     {
         if self.has_port == 0 {
@@ -75,6 +76,13 @@ impl<'a> FoundAuthority<'a> {
         } else {
             Some(self.port as u16)
         }
+    }
+
+    /// The number of the host's kind: 1 for a name, and 4, 6 or 7 for an address of that version.
+    pub fn host_kind(&self) -> u32
+        ensures { result ≡ kind_code (spec.kind self.now) }
+    {
+        self.host.kind_code()
     }
 
     /// The authority, whose components borrow the bytes. Does not allocate.
@@ -86,7 +94,7 @@ impl<'a> FoundAuthority<'a> {
             username: self.username.to_text(),
             password: self.password.to_text(),
             host: self.host.to_host(),
-            port: self.to_port(),
+            port: self.port(),
         }
     }
 }

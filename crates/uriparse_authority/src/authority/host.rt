@@ -99,7 +99,7 @@ impl<'h> Host<'h> {
         matches!(self, Host::RegisteredName(_))
     }
 
-    /// The same host, borrowed from this one.
+    /// A copy that borrows this host's text. Does not allocate.
     pub fn as_borrowed(&self) -> Host<'_>
         ensures { result ≡ self.now }
     {
@@ -111,7 +111,7 @@ impl<'h> Host<'h> {
         }
     }
 
-    /// The same host, owned. Borrowed text is copied, which allocates; if memory runs out, the host
+    /// The host, owned. Borrowed text is copied, which allocates; if memory runs out, the host
     /// is dropped. An IPv4 or IPv6 address is never dropped: it has no text to copy.
     pub fn into_owned(self, alloc: Global) -> Result<Host<'static>, AllocError>
         ensures value { IfOk result (λ h. h ≡ self.entry) }

@@ -4,7 +4,7 @@ use Rattle.std.specs.Prelude.{if◌then◌else◌}
 use Rattle.std.proofs.lemmas.Bool.{eqb-true}
 use Rattle.uriparse_text.specs.declared.query.QueryError.TheVariants as queries
 use Rattle.uriparse_text.specs.declared.fragment.FragmentError.TheVariants as fragments
-use Rattle.uriparse_path.specs.declared.path.error.PathError.TheVariants as paths
+use Rattle.uriparse_text.specs.declared.segment.error.PathError.TheVariants as paths
 use Rattle.uriparse_authority.specs.declared.authority.error.AuthorityError.TheVariants as authorities
 use Rattle.uriparse_authority.specs.declared.authority.error.HostError.TheVariants as hosts
 use Rattle.uriparse_authority.specs.declared.authority.error.UsernameError.TheVariants as usernames

@@ -1,15 +1,16 @@
 -- How long the components of a text are together.
-use Rattle.std.proofs.Common.{◌≡◌, ℕ, ◌+◌, ◌≤◌, List, [], ◌∷◌, ◌++◌, length, drop, Option, Some, None, refl, sym, ap, ◌∙◌, arith}
+use Rattle.std.proofs.Common.{◌≡◌, ℕ, ◌+◌, ◌≤◌, List, [], ◌∷◌, ◌++◌, length, drop, take, Option, Some, None, refl, sym, ap, ◌∙◌, arith}
 use Rattle.std.specs.Prelude.{unwrap_or}
 use Rattle.std.proofs.lemmas.List.{length-append}
+use Rattle.std.proofs.Math.Seq.{drop-append_seam, take-append_seam}
 use Rattle.uriparse_text.specs.Bytes.{colon, at_sign, question_mark, number_sign}
 use Rattle.uriparse_text.specs.Cuts.{ahead, behind, before, after}
 use Rattle.uriparse_text.proofs.lemmas.readings.CutLemmas.{before_after, front_rest}
 use Rattle.uriparse_authority.specs.Authority.{cut_host, cut_port, userinfo_text, host_and_port_text}
 use Rattle.uriparse_authority.proofs.lemmas.authorities.AuthorityLemmas.{right_is}
 use Rattle.uriparse_reference.specs.Reference.{behind_slashes}
-use Rattle.uriparse_reference.specs.Cuts.{scheme_text, authority_text, path_text, query_text, fragment_text, after_scheme}
-use Rattle.uriparse_reference.proofs.lemmas.reading.ReadingLemmas.{scheme_whole, whole_is}
+use Rattle.uriparse_reference.specs.Cuts.{scheme_text, authority_text, path_text, query_text, fragment_text}
+use Rattle.uriparse_reference.proofs.lemmas.reading.ReadingLemmas.{whole_is}
 use Rattle.uriparse_ffi.specs.Spans.{span}
 use Rattle.uriparse_ffi.specs.declared.span.UriSpan.{UriSpan}
 
@@ -51,13 +52,20 @@ sizes t =
     ∙ ap (λ n. length s + n) (length-append a (h ++ (q ++ f))
     ∙ ap (λ n. length a + n) (length-append h (q ++ f) ∙ ap (λ n. length h + n) (length-append q f)))
 
-drop_front : (s u : List ℕ) → drop (length s) (s ++ u) ≡ u
-drop_front [] u = refl
-drop_front (b ∷ s) u = drop_front s u
+-- what follows the scheme: an authority with its slashes, and the rest
+after_front : (t : List ℕ) → drop (length (ahead colon (scheme_text t))) t
+    ≡ behind_slashes (authority_text t) ++ (path_text t ++ (behind question_mark (query_text t) ++ behind number_sign (fragment_text t)))
+after_front t =
+    let rest = behind_slashes (authority_text t) ++ (path_text t ++ (behind question_mark (query_text t) ++ behind number_sign (fragment_text t))) in
+    ap (drop (length (ahead colon (scheme_text t)))) (whole_is t) ∙ drop-append_seam (ahead colon (scheme_text t)) rest
 
-pub scheme_dropped : (t : List ℕ) → drop (length (ahead colon (scheme_text t))) t ≡ after_scheme t
-scheme_dropped t =
-    ap (drop (length (ahead colon (scheme_text t)))) (sym (scheme_whole t)) ∙ drop_front (ahead colon (scheme_text t)) (after_scheme t)
+-- between the scheme and the path is the authority with its slashes
+pub between : (t : List ℕ) (b n : ℕ) → b ≡ length (ahead colon (scheme_text t)) → n ≡ length (behind_slashes (authority_text t))
+    → take n (drop b t) ≡ behind_slashes (authority_text t)
+between t b n f g =
+    let rest = path_text t ++ (behind question_mark (query_text t) ++ behind number_sign (fragment_text t)) in
+    ap (λ x. take n (drop x t)) f ∙ ap (take n) (after_front t) ∙ ap (λ x. take x (behind_slashes (authority_text t) ++ rest)) g
+    ∙ take-append_seam (behind_slashes (authority_text t)) rest
 
 abbrev span_from : ℕ → ℕ → UriSpan
 span_from x y = record { begin = x; end = y; present = 1 }

@@ -1,13 +1,15 @@
 -- What is returned where a text spells a reference, and what is left in a buffer.
-use Rattle.std.proofs.Common.{◌≡◌, ◌<◌, ℕ, ◌+◌, List, ◌++◌, true, false, length, drop, Option, Some, None, Ok, Err, sym, ap, subst, ◌∙◌, arith}
-use Rattle.std.proofs.lemmas.List.{length-append}
+use Rattle.std.proofs.Common.{◌≡◌, ℕ, List, true, false, length, Option, Some, None, Ok, Err, refl, sym, ap, subst, ◌∙◌, arith}
 use Rattle.std.specs.Prelude.{Result, MatchOption, is_some}
 use Rattle.uriparse_reference.specs.declared.uri_reference.error.BufferError.{BufferError}
 use Rattle.uriparse_reference.specs.declared.uri_reference.error.BufferError.TheVariants as buffers
+use Rattle.uriparse_text.specs.declared.internal.starts.TooSmall.{TooSmall}
+use Rattle.uriparse_text.specs.Starts.{Writes as WritesText}
+use Rattle.uriparse_text.proofs.lemmas.tokens.StartLemmas.{too_short}
 use Rattle.uriparse_reference.specs.Into.{Writes}
 use Rattle.uriparse_reference.specs.Reference.{Parts, Spells}
 use Rattle.uriparse_reference.proofs.lemmas.reading.ReadingLemmas.{one_reading}
-use Rattle.uriparse_ffi.specs.Code.{too_many_segments}
+use Rattle.uriparse_ffi.specs.Code.{accepted, no_room, too_many_segments}
 use Rattle.uriparse_ffi.specs.Put.{IsPut, IsRefused, needed_for, written_code}
 
 -- a base that is read has a scheme
@@ -26,14 +28,14 @@ no_ok e x h = absurd (cc)
 pub ok_is : {A E : Type 0} (x y : A) → ◌≡◌ {A = Result A E} (Ok x) (Ok y) → x ≡ y
 ok_is x y h = cc
 
-pub err_is : {A : Type 0} (x y : ℕ) → ◌≡◌ {A = Result A ℕ} (Err x) (Err y) → x ≡ y
+pub err_is : {A E : Type 0} (x y : E) → ◌≡◌ {A = Result A E} (Err x) (Err y) → x ≡ y
 err_is x y h = cc
 
--- a buffer doesn't begin with a text that is longer
-too_short : (t old new : List ℕ) → new ≡ t ++ drop (length t) old → length new ≡ length old → length old < length t → ⊥
-too_short t old new text room long =
-    let whole : length new ≡ length t + length (drop (length t) old) = ap length text ∙ length-append t (drop (length t) old) in
-    absurd (omega (arith, whole, room, long))
+pub some_is : {X : Type 0} (x y : X) → Some x ≡ Some y → x ≡ y
+some_is x y h = cc
+
+pub no_some : {X : Type 0} (x : X) → Some x ≡ None → ⊥
+no_some x h = absurd (cc)
 
 -- what is written, or not, as a call reports it
 pub put_written : (t old new : List ℕ) (r : Result ℕ BufferError) (needed code : ℕ) → Writes t r old new → length new ≡ length old
@@ -45,6 +47,16 @@ put_written t old new (Ok n) needed code (len, text) room is at = record {
 put_written t old new (Err e) needed code (why, (short, kept)) room is at = record {
   fits = λ le. absurd (omega (arith, short, le));
   too_long = λ _. (is ∙ ap (λ x. written_code (Err x)) why, at ∙ ap (λ x. needed_for (Err x)) why, kept);
+}
+
+-- the same of a text that has no other fault
+pub put_fits : (t old new : List ℕ) (n : ℕ) → length new ≡ length old → WritesText t (Ok n) old new → IsPut t old new n accepted
+put_fits t old new n room (len, text) = record { fits = λ _. (refl, len, text); too_long = λ long. absurd (too_short t old new text room long) }
+
+pub put_short : (t old new : List ℕ) (e : TooSmall) → WritesText t (Err e) old new → IsPut t old new e.needed no_room
+put_short t old new e (why, (short, kept)) = record {
+  fits = λ le. absurd (omega (arith, short, le));
+  too_long = λ _. (refl, ap (λ (x : TooSmall). x.needed) why, kept);
 }
 
 -- what can't be written since there is no target

@@ -6,7 +6,7 @@ use super::segments::push_borrowed;
 use super::{Path, Segment};
 use std::alloc::{AllocError, Global};
 
-/// The same segments, borrowing the texts of these.
+/// Copies of the segments that borrow their texts.
 fn borrowed_segments<'s>(
     alloc: Global,
     segments: &'s [Segment<'_>],
@@ -18,7 +18,7 @@ fn borrowed_segments<'s>(
     Ok(borrowed)
 }
 
-/// The same segments, owning their texts.
+/// The segments, owning their texts.
 fn owned_segments(
     alloc: Global,
     segments: Vec<Segment<'_>>,
@@ -32,7 +32,7 @@ fn owned_segments(
     Ok(owned)
 }
 
-/// The same list, borrowing the texts of its segments. Allocates only for more than one.
+/// A copy of the list that borrows the texts of its segments. Allocates only for more than one.
 fn borrowed_list<'s>(
     alloc: Global,
     list: &'s SegmentList<Segment<'_>>,
@@ -45,7 +45,7 @@ fn borrowed_list<'s>(
     }
 }
 
-/// The same list, owning the texts of its segments.
+/// The list, owning the texts of its segments.
 fn owned_list(
     alloc: Global,
     list: SegmentList<Segment<'_>>,
@@ -59,8 +59,8 @@ fn owned_list(
 }
 
 impl<'p> Path<'p> {
-    /// The same path, with segments that borrow the texts of this one's. Allocates the list once,
-    /// if there is more than one segment.
+    /// A copy with segments that borrow the texts of this path's. Allocates the list once, if there
+    /// is more than one segment.
     pub fn to_borrowed(&self, alloc: Global) -> Result<Path<'_>, AllocError>
         ensures { IfOk result (λ p. p ≡ self.now) }
     {
@@ -72,7 +72,7 @@ impl<'p> Path<'p> {
         })
     }
 
-    /// The same path, with segments that own their texts. Allocates a copy of each borrowed text,
+    /// The path, with segments that own their texts. Allocates a copy of each borrowed text,
     /// and the list if there is more than one segment. On an error the path is lost.
     pub fn into_owned(self, alloc: Global) -> Result<Path<'static>, AllocError>
         ensures { IfOk result (λ p. p ≡ self.entry) }

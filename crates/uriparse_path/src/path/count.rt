@@ -3,14 +3,14 @@ ghost use Rattle.std.specs.Prelude.{◌≡◌, ◌+◌, ◌<◌, ◌≤◌, ◌�
 ghost use Rattle.std.specs.List.{list_all};
 ghost use Rattle.uriparse_text.specs.Bytes.{dot};
 ghost use Rattle.uriparse_text.specs.Canonical.{canonical};
-ghost use Rattle.uriparse_path.specs.Segment.{is_segment};
+ghost use Rattle.uriparse_text.specs.Segment.{is_dot_segment, is_segment};
 ghost use Rattle.uriparse_path.specs.Dots.{all_but_last, has_dot_segment};
 ghost use Rattle.uriparse_path.specs.Normal.{climbs_first, is_canonical};
 ghost use Rattle.uriparse_path.specs.Edits.{with_last};
 ghost use Rattle.uriparse_path.specs.Counts as spec;
 
+use super::Segment;
 use super::counts::Counts;
-use super::segment::Segment;
 use super::segments::takes_the_place;
 
 /// The number, plus one if `is_more`.
@@ -29,6 +29,17 @@ fn one_less(n: u32, is_less: bool) -> u32
     ensures { result + (if is_less then 1 else 0) ≡ n }
 {
     if is_less { n - 1 } else { n }
+}
+
+/// Whether the segment begins with a dot. A canonical one that does not is no dot segment.
+#[inline(always)]
+fn begins_with_dot(segment: &Segment<'_>) -> bool
+    ensures { result ≡ false → canonical segment.now ≡ segment.now → is_dot_segment segment.now ≡ false }
+{
+    match segment.as_bytes().first() {
+        Some(&b) => b == b'.',
+        None => false,
+    }
 }
 
 impl Counts {
@@ -68,7 +79,7 @@ impl Counts {
         requires canonical { canonical last.now ≡ last.now }
         ensures { self.new ≡ spec.counts (segments.now ++ last.now ∷ []) }
     {
-        if last.begins_with_dot() {
+        if begins_with_dot(last) {
             *self = self.with_canonical(segments, last);
         }
     }

@@ -1,14 +1,13 @@
 //! Removal of dot segments: RFC 3986, section 5.2.4.
 ghost use Rattle.std.specs.Prelude.{◌≡◌, ◌+◌, ◌<◌, ◌≤◌, ◌&&◌, ◌||◌, [], length, not, true, false, take, drop};
-ghost use Rattle.uriparse_path.specs.Path as path;
+ghost use Rattle.uriparse_path.specs.Path as paths;
 ghost use Rattle.uriparse_path.specs.Dots as spec;
 ghost use Rattle.uriparse_path.specs.Edits.{shield_unless};
 
 use super::counts::Counts;
 use super::list::SegmentList;
-use super::segment::Segment;
 use super::segments::{begins_twice, guard, has_dot_segment, hides_root};
-use super::{Path, word_of};
+use super::{Path, Segment, word_of};
 
 /// Replays the segment at `at` on the output so far, which is the first `kept` of the list. Returns
 /// whether a slash precedes the output then, and how long it is.
@@ -62,7 +61,7 @@ fn replay(absolute: bool, segments: &mut [Segment<'_>]) -> (bool, usize)
     (rooted, kept)
 }
 
-/// The same for a list.
+/// Removes the dot segments of a list in one pass, as [`replay`] does.
 fn replay_list(absolute: bool, segments: &mut SegmentList<Segment<'_>>) -> (bool, usize)
     ensures segments { take result.1 segments.new ≡ spec.replay [] segments.old }
     ensures root { result.0 ≡ spec.rooted_after absolute [] segments.old }
@@ -77,7 +76,7 @@ fn replay_list(absolute: bool, segments: &mut SegmentList<Segment<'_>>) -> (bool
 /// precedes the segments then, and how many are left.
 fn root_first(rooted: bool, segments: &mut SegmentList<Segment<'_>>, kept: usize) -> (bool, usize)
     requires within { kept ≤ length segments.old }
-    ensures path { record { absolute = result.0; segments = take result.1 segments.new } ≡ path.respelled (record { absolute = rooted; segments = take kept segments.old }) }
+    ensures path { record { absolute = result.0; segments = take result.1 segments.new } ≡ paths.respelled (record { absolute = rooted; segments = take kept segments.old }) }
     ensures within { result.1 ≤ length segments.new }
     ensures spare { length segments.new + kept ≡ length segments.old + result.1 }
     ensures no_longer { length segments.new ≤ length segments.old }
@@ -95,50 +94,51 @@ fn root_first(rooted: bool, segments: &mut SegmentList<Segment<'_>>, kept: usize
 
 /// Whether no authority precedes the path with these segments and its text begins with two slashes.
 fn needs_shield(has_authority: bool, absolute: bool, segments: &[Segment<'_>]) -> bool
-    ensures { result ≡ (not has_authority && (path.hides_root segments.now && (absolute || path.hides_root (drop 1 segments.now)))) }
+    ensures { result ≡ (not has_authority && (paths.hides_root segments.now && (absolute || paths.hides_root (drop 1 segments.now)))) }
 {
     !has_authority && begins_twice(absolute, segments)
 }
 
-impl<'p> Path<'p> {
-    /// Whether the path has a dot segment.
-    #[inline]
-    pub(crate) fn has_dots(&self) -> bool
-        ensures answer { result ≡ spec.has_dot_segment self.now.segments }
-        ensures listed { path.IsListed self.now.segments }
-    {
-        let segments = self.segments();
-        match self.known_counts() {
-            Some(counts) => counts.has_dots(),
-            None => has_dot_segment(segments),
-        }
+/// Whether the path has a dot segment.
+#[inline]
+pub fn has_dots(path: &Path<'_>) -> bool
+    ensures answer { result ≡ spec.has_dot_segment path.now.segments }
+    ensures listed { paths.IsListed path.now.segments }
+{
+    let segments = path.segments();
+    match path.known_counts() {
+        Some(counts) => counts.has_dots(),
+        None => has_dot_segment(segments),
     }
+}
 
+/// Removes the dot segments as [`Path::remove_dot_segments`] does. Without an authority, a path
+/// that would start with `//` gets a leading `/.`. Does not allocate: the list has capacity for it,
+/// since it has become shorter.
+pub fn remove_dots(path: &mut Path<'_>, has_authority: bool)
+    requires { has_authority ≡ false → paths.hides_root path.old.segments ≡ false }
+    ensures { path.new ≡ shield_unless has_authority (spec.without_dots path.old) }
+{
+    if has_dots(path) {
+        path.take_dots(has_authority);
+    }
+}
+
+impl<'p> Path<'p> {
     /// Removes the dot segments as described in RFC 3986, section 5.2.4. Dots may be
-    /// percent-encoded. So `/a/b/..` becomes `/a/`, and `a/..//b` becomes `//b`. A path without dot
+    /// escaped. So `/a/b/..` becomes `/a/`, and `a/..//b` becomes `//b`. A path without dot
     /// segments is unchanged. Does not allocate.
     pub fn remove_dot_segments(&mut self)
         ensures { self.new ≡ spec.without_dots self.old }
     {
-        self.remove_dots(true);
+        remove_dots(self, true);
     }
 
-    /// The same; and without an authority, a path that would start with `//` gets a leading `/.`.
-    /// The list has capacity for it, since it has become shorter.
-    pub(crate) fn remove_dots(&mut self, has_authority: bool)
-        requires { has_authority ≡ false → path.hides_root self.old.segments ≡ false }
-        ensures { self.new ≡ shield_unless has_authority (spec.without_dots self.old) }
-    {
-        if self.has_dots() {
-            self.take_dots(has_authority);
-        }
-    }
-
-    /// The same for a path with a dot segment.
+    /// Removes the dot segments of a path that has one.
     fn take_dots(&mut self, has_authority: bool)
-        requires shown { has_authority ≡ false → path.hides_root self.old.segments ≡ false }
+        requires shown { has_authority ≡ false → paths.hides_root self.old.segments ≡ false }
         requires dots { spec.has_dot_segment self.old.segments ≡ true }
-        requires listed { path.IsListed self.old.segments }
+        requires listed { paths.IsListed self.old.segments }
         ensures { self.new ≡ shield_unless has_authority (spec.without_dots self.old) }
     {
         let all_canonical = self.is_known_canonical();

@@ -2,8 +2,8 @@
 ghost use Rattle.std.specs.Prelude.{◌≡◌, ◌<◌, ◌∷◌, ◌++◌, [], IfErr, OnOk, OnErr, MatchResult, if◌then◌else◌, length, true};
 ghost use Rattle.std.specs.Borrow.{sem};
 ghost use Rattle.uriparse_text.specs.Readings.{SettlesUnless};
-ghost use Rattle.uriparse_path.specs.declared.path.error.PathError.TheVariants as errors;
-ghost use Rattle.uriparse_path.specs.Segment as segment;
+ghost use Rattle.uriparse_text.specs.declared.segment.error.PathError.TheVariants as errors;
+ghost use Rattle.uriparse_text.specs.Segment as segment;
 ghost use Rattle.uriparse_path.specs.Path.{max_segments};
 ghost use Rattle.uriparse_path.specs.Edits as spec;
 ghost use Rattle.uriparse_path.specs.Counts as counting;

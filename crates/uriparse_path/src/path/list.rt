@@ -1,8 +1,8 @@
 //! The list of a path's segments, which needs memory only for more than one.
 ghost use Rattle.std.specs.Prelude.{◌≡◌, ◌-◌, ◌<◌, ◌≤◌, ◌∷◌, ◌++◌, [], OnOk, OnErr, length, take, drop, slice_set};
 
+use super::Segment;
 use super::counts::Dotted;
-use super::segment::Segment;
 use std::alloc::{AllocError, Global};
 use std::marker::Model;
 use std::{mem, slice};

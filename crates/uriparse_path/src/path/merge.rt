@@ -1,7 +1,7 @@
 //! A reference's path merged with a base's: RFC 3986, section 5.2.3.
-ghost use Rattle.std.specs.Prelude.{◌≡◌, ◌+◌, ◌<◌, ◌≤◌, ◌++◌, Err, IfErr, IfOk, IsOk, OnOk, length, true};
+ghost use Rattle.std.specs.Prelude.{◌≡◌, ◌+◌, ◌<◌, ◌≤◌, ◌++◌, Err, IfErr, IfOk, IsOk, length, true};
 ghost use Rattle.uriparse_text.specs.Readings.{IsUnless};
-ghost use Rattle.uriparse_path.specs.declared.path.error.PathError.TheVariants as errors;
+ghost use Rattle.uriparse_text.specs.declared.segment.error.PathError.TheVariants as errors;
 ghost use Rattle.uriparse_path.specs.Path.{max_segments};
 ghost use Rattle.uriparse_path.specs.Dots.{all_but_last};
 ghost use Rattle.uriparse_path.specs.Merge.{merging};
@@ -49,23 +49,26 @@ fn merged_counts(base: &Path<'_>, reference: &Path<'_>) -> (Counts, bool)
     }
 }
 
-impl<'p> Path<'p> {
-    /// The base's path up to its last slash, then the reference's.
-    pub(crate) fn merged(
-        alloc: Global,
-        base: &'p Path<'_>,
-        reference: &'p Path<'_>,
-    ) -> Result<Path<'p>, PathError>
-        ensures answer { IsUnless errors.OutOfMemory result (merging base.now reference.now) }
-        ensures always { IfErr (merging base.now reference.now) (λ e. result ≡ Err e) }
-    {
-        let front = directory(base.segments());
-        let back = reference.segments();
-        if front.len() + back.len() > MAX_SEGMENTS {
-            return Err(PathError::ExceededMaximumLength);
-        }
-        let segments = joined(alloc, front, back)?;
-        let (counts, is_known) = merged_counts(base, reference);
-        Ok(Path::of(base.is_absolute(), segments, counts, is_known))
+/// Merges a reference's path with a base's: the base's segments without the last one, then the
+/// reference's. All borrow their texts. The result is absolute if the base's path is.
+///
+/// Returns [`ExceededMaximumLength`](PathError::ExceededMaximumLength) if there would be more than
+/// [`MAX_SEGMENTS`] segments, even if memory has run out. Otherwise allocates the list once, and
+/// returns [`OutOfMemory`](PathError::OutOfMemory) if that fails.
+pub fn merged_path<'p>(
+    alloc: Global,
+    base: &'p Path<'_>,
+    reference: &'p Path<'_>,
+) -> Result<Path<'p>, PathError>
+    ensures answer { IsUnless errors.OutOfMemory result (merging base.now reference.now) }
+    ensures always { IfErr (merging base.now reference.now) (λ e. result ≡ Err e) }
+{
+    let front = directory(base.segments());
+    let back = reference.segments();
+    if front.len() + back.len() > MAX_SEGMENTS {
+        return Err(PathError::ExceededMaximumLength);
     }
+    let segments = joined(alloc, front, back)?;
+    let (counts, is_known) = merged_counts(base, reference);
+    Ok(Path::of(base.is_absolute(), segments, counts, is_known))
 }

@@ -8,13 +8,15 @@ ghost use Rattle.uriparse_path.specs.Relative as relative;
 ghost use Rattle.uriparse_path.specs.Normal as spec;
 ghost use Rattle.uriparse_path.specs.Counts as tally;
 
-use super::Path;
 use super::counts::Counts;
+use super::dots::remove_dots;
 use super::list::SegmentList;
 use super::reduce::make_relative;
-use super::segment::Segment;
+use super::segment::has_colon;
 use super::segments::{hides_root, needs_guard};
+use super::{Path, Segment};
 use std::alloc::{AllocError, Global};
+use uriparse_text::internal::normalized_text;
 
 /// What precedes a path in a reference.
 #[derive(Clone, Copy)]
@@ -60,7 +62,7 @@ fn is_guarded(segments: &[Segment<'_>]) -> bool
         Some((first, later)) => {
             first.is_single_dot_segment()
                 && climbs_first(later)
-                && needs_guard(first.has_colon(), later)
+                && needs_guard(has_colon(first.as_bytes()), later)
         },
         None => false,
     }
@@ -93,7 +95,7 @@ fn is_normal(stays_relative: bool, segments: &[Segment<'_>]) -> bool
     }
 }
 
-/// The same, from the counts of the segments.
+/// Whether the segments are in normal form, from their counts.
 #[inline]
 fn is_counted_normal(stays_relative: bool, counts: Counts, segments: &[Segment<'_>]) -> bool
     requires { counts ≡ tally.counts segments.now }
@@ -120,7 +122,7 @@ fn canonical_copies(
     let mut copies = Vec::new(alloc);
     for segment in segments {
         if !segment.is_normalized() {
-            copies.push(segment.to_normalized(alloc)?)?;
+            copies.push(normalized_text(alloc, segment)?)?;
         }
     }
     Ok(copies)
@@ -155,7 +157,8 @@ fn put_copies<'s>(segments: &mut [Segment<'s>], copies: Vec<Segment<'s>>)
     }
 }
 
-/// The same for a list.
+/// Replaces the segments of a list that are not canonical by these copies, from the last one to the
+/// first.
 fn put_copies_in<'s>(list: &mut SegmentList<Segment<'s>>, copies: Vec<Segment<'s>>)
     requires { copies.items ≡ map canonical (filter (λ s. not (spec.is_canonical s)) list.old) }
     ensures { list.new ≡ map canonical list.old }
@@ -222,15 +225,6 @@ impl<'p> Path<'p> {
             }
             None => false,
         }
-    }
-
-    /// Whether the path has the text of its normal form at this place.
-    #[inline]
-    pub(crate) fn is_normal_at(&self, place: Place) -> bool
-        ensures { result ≡ spec.is_normal_at place self.now }
-    {
-        let stays_relative = self.stays_relative(!place.has_scheme);
-        self.is_normal(stays_relative) || (!place.has_authority && self.is_shielded())
     }
 
     /// Counts the segments, which are canonical, if their counts are not known.
@@ -307,28 +301,38 @@ impl<'p> Path<'p> {
         ensures takes_no_memory { text (spec.pnormal self.old as_reference) ≡ text self.old → IsOk result }
         ensures canonical_takes_no_memory { spec.canonical_path self.old ≡ self.old → IsOk result }
     {
-        self.put_normal(alloc, Place::alone(as_reference))
+        normalize_path(self, alloc, Place::alone(as_reference))
     }
+}
 
-    /// Brings the path into its normal form at this place. Allocates copies of the segments that
-    /// are not canonical. On an error the path is unchanged.
-    pub(crate) fn put_normal(&mut self, alloc: Global, place: Place) -> Result<(), AllocError>
-        requires { place.has_authority ≡ false → hides_root self.old.segments ≡ false }
-        ensures ok { OnOk result (self.new ≡ spec.normal_at place self.old) }
-        ensures err { OnErr result (self.new ≡ self.old) }
-        ensures takes_no_memory { list_all spec.is_canonical self.old.segments ≡ true → IsOk result }
-        ensures listed { IsListed self.old.segments }
-    {
-        let stays_relative = self.stays_relative(!place.has_scheme);
-        if self.is_known_normal(stays_relative) {
-            return Ok(());
-        }
-        self.make_canonical(alloc)?;
-        if stays_relative {
-            self.shape_relative();
-        } else {
-            self.remove_dots(place.has_authority);
-        }
-        Ok(())
+/// Whether the path has the text of its normal form at this place in a reference.
+#[inline]
+pub fn is_normal_path(path: &Path<'_>, place: Place) -> bool
+    ensures { result ≡ spec.is_normal_at place path.now }
+{
+    let stays_relative = path.stays_relative(!place.has_scheme);
+    path.is_normal(stays_relative) || (!place.has_authority && path.is_shielded())
+}
+
+/// Brings the path into its normal form as [`Path::normalize`] does. Without an authority, a path
+/// that would start with `//` gets a leading `/.`. Allocates copies of the segments that are not
+/// canonical. On an error the path is unchanged.
+pub fn normalize_path(path: &mut Path<'_>, alloc: Global, place: Place) -> Result<(), AllocError>
+    requires { place.has_authority ≡ false → hides_root path.old.segments ≡ false }
+    ensures ok { OnOk result (path.new ≡ spec.normal_at place path.old) }
+    ensures err { OnErr result (path.new ≡ path.old) }
+    ensures takes_no_memory { list_all spec.is_canonical path.old.segments ≡ true → IsOk result }
+    ensures listed { IsListed path.old.segments }
+{
+    let stays_relative = path.stays_relative(!place.has_scheme);
+    if path.is_known_normal(stays_relative) {
+        return Ok(());
     }
+    path.make_canonical(alloc)?;
+    if stays_relative {
+        path.shape_relative();
+    } else {
+        remove_dots(path, place.has_authority);
+    }
+    Ok(())
 }

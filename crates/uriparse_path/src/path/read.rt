@@ -3,7 +3,7 @@
 ghost use Rattle.std.specs.Prelude.{◌≡◌, ◌<◌, ◌≤◌, ◌&&◌, [], IfOk, IsOk, MatchResult, None, Some, true, false, length, take, ◌||◌};
 ghost use Rattle.std.specs.List.{list_all, list_any, slice_split};
 ghost use Rattle.uriparse_text.specs.Readings.{unless_fault};
-ghost use Rattle.uriparse_path.specs.Segment as segment;
+ghost use Rattle.uriparse_text.specs.Segment as segment;
 ghost use Rattle.uriparse_text.specs.Bytes.{percent};
 ghost use Rattle.uriparse_text.specs.Cuts.{from_first, lacks, up_to};
 ghost use Rattle.uriparse_path.specs.Path.{IsPath, is_slash, is_rooted, pieces, spelled, unrooted};
@@ -11,15 +11,14 @@ ghost use Rattle.uriparse_path.specs.Faults.{ends_path, fault, fault_within, mea
 ghost use Rattle.uriparse_path.specs.Counts as tally;
 
 use super::counts::Counts;
-use super::error::PathError;
 use super::list::SegmentList;
-use super::segment::{Segment, fault_at};
-use super::{MAX_SEGMENTS, Path};
+use super::{MAX_SEGMENTS, Path, PathError, Segment};
 use std::alloc::{AllocError, Global};
 use uriparse_text::internal::{
-    Class, Is, Outside, count_below, is_escape, lowest, next_marks, next_marks_by_two, without,
-    without_lowest,
+    Class, Is, Outside, TextKind, count_below, is_escape, kept_text, lowest, next_marks,
+    next_marks_by_two, without, without_lowest,
 };
+use uriparse_text::segment::SegmentKind;
 
 /// Whether the text begins with a slash, and the text without it.
 pub(super) fn split_root(text: &[u8]) -> (bool, &[u8])
@@ -44,8 +43,8 @@ fn is_end(ends: bool, b: u8) -> bool
 /// Counts the segments and the bytes of the path that a text begins with, or returns its leftmost
 /// fault. The path may have `limit` segments. If `ends` is set it runs to the first `?` or `#`,
 /// otherwise it is the whole text. Each byte outside the class of a segment is a slash, ends the
-/// path, starts a percent-encoded octet or is the fault. The slashes of a block are counted at
-/// once. The last number is 0 only if the path has no percent-encoded octet.
+/// path, starts an escape or is the fault. The slashes of a block are counted at once. The last
+/// number is 0 only if the path has no escape.
 #[inline(always)]
 pub(super) fn count_segments(
     limit: usize,
@@ -79,7 +78,7 @@ pub(super) fn count_segments(
                 return Ok((count + count_below(slashes, k), at + k, escaped));
             }
             if !is_escape(b, &text[at + k + 1..]) {
-                return Err(fault_at(b));
+                return Err(SegmentKind::error_of(b));
             }
             escaped = 1;
             left = without_lowest(left);
@@ -90,7 +89,8 @@ pub(super) fn count_segments(
     Ok((count, at, escaped))
 }
 
-/// The same, one slash after the other, for a text near the limit. The last number is always 1.
+/// Counts the segments and the bytes of that path one slash after the other, for a text near the
+/// limit, or returns its leftmost fault. The last number is always 1.
 #[inline(never)]
 fn count_by_one(limit: usize, ends: bool, text: &[u8]) -> Result<(usize, usize, usize), PathError>
     requires { 0 < limit }
@@ -114,7 +114,7 @@ fn count_by_one(limit: usize, ends: bool, text: &[u8]) -> Result<(usize, usize, 
             } else if is_end(ends, b) {
                 return Ok((count, at + k, 1));
             } else if !is_escape(b, &text[at + k + 1..]) {
-                return Err(fault_at(b));
+                return Err(SegmentKind::error_of(b));
             }
             left = without_lowest(left);
         }
@@ -133,7 +133,7 @@ fn is_dotted(dotted: bool, piece: &[u8]) -> bool
 
 /// The segments of the text, which is cut at its slashes and has `count`, and whether one of them
 /// begins with a dot. Allocates for all of them once. `escaped` is 0 only if the text has no
-/// percent-encoded octet: then each segment is canonical.
+/// escape: then each segment is canonical.
 #[inline(always)]
 fn split_segments<'p>(
     alloc: Global,
@@ -157,7 +157,7 @@ fn split_segments<'p>(
             let end = at + lowest(left);
             let piece = &text[start..end];
             dotted = is_dotted(dotted, piece);
-            segments.push_reserved(Segment::of_kept(piece, escaped == 0));
+            segments.push_reserved(kept_text(piece, escaped == 0));
             start = end + 1;
             left = without_lowest(left);
         }
@@ -165,7 +165,7 @@ fn split_segments<'p>(
     }
     let piece = &text[start..];
     let dotted = is_dotted(dotted, piece);
-    segments.push_reserved(Segment::of_kept(piece, escaped == 0));
+    segments.push_reserved(kept_text(piece, escaped == 0));
     Ok((segments, dotted))
 }
 
@@ -185,7 +185,7 @@ fn read_segments<'p>(
     ensures takes_no_memory { count ≡ 1 → IsOk result }
 {
     if count == 1 {
-        let only = SegmentList::one(Segment::of_kept(text, escaped == 0));
+        let only = SegmentList::one(kept_text(text, escaped == 0));
         return Ok((only, is_dotted(false, text)));
     }
     let (segments, dotted) = split_segments(alloc, count, escaped, text)?;
@@ -199,8 +199,7 @@ pub struct PathFront<'t> {
     pub text: &'t [u8],
     /// The number of segments of the path.
     pub count: usize,
-    /// 0 only if the path has no percent-encoded octet. A word, since a `bool` would be moved with
-    /// its padding.
+    /// 0 only if the path has no escape. A word, since a `bool` would be moved with its padding.
     pub escaped: usize,
     /// What follows the path: nothing, or a `?` or `#` and more.
     pub behind: &'t [u8],
@@ -244,8 +243,8 @@ pub fn split_path(text: &[u8]) -> Result<PathFront<'_>, PathError>
     })
 }
 
-/// Whether no segment begins with a dot and none has a percent-encoded octet. Then none is a dot
-/// segment, and each is canonical.
+/// Whether no segment begins with a dot and none has an escape. Then none is a dot segment, and
+/// each is canonical.
 #[inline(always)]
 fn is_plain(escaped: usize, dotted: bool) -> bool
     ensures { result ≡ true → (escaped ≡ 0) × (dotted ≡ false) }
@@ -254,7 +253,7 @@ fn is_plain(escaped: usize, dotted: bool) -> bool
 }
 
 /// The path that a checked text spells, which has `count` segments. Allocates only for more than
-/// one. `escaped` is 0 only if the text has no percent-encoded octet.
+/// one. `escaped` is 0 only if the text has no escape.
 #[inline(always)]
 pub fn counted_path(
     alloc: Global,

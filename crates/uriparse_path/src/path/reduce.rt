@@ -5,8 +5,8 @@ ghost use Rattle.uriparse_path.specs.Path as path;
 ghost use Rattle.uriparse_path.specs.Dots as dots;
 ghost use Rattle.uriparse_path.specs.Relative as relative;
 
+use super::Segment;
 use super::list::SegmentList;
-use super::segment::Segment;
 use super::segments::{guard, has_first_colon, needs_guard};
 
 /// Whether the last segment is a dot segment.

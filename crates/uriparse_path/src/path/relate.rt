@@ -8,6 +8,7 @@ ghost use Rattle.uriparse_path.specs.Relative.{is_first};
 
 use super::counts::Counts;
 use super::list::SegmentList;
+use super::segment::{double_dot, has_colon, single_dot};
 use super::segments::{directory, has_dot_segment, push_borrowed};
 use super::{MAX_SEGMENTS, Path, Segment};
 use std::alloc::{AllocError, Global};
@@ -44,7 +45,7 @@ fn push_climbs(list: &mut Vec<Segment<'_>>, directories: &[Segment<'_>]) -> Resu
     ensures { OnOk result (list.new.items ≡ list.old.items ++ spec.climbs directories.now) }
 {
     for _directory in directories {
-        list.push(Segment::double_dot())?;
+        list.push(double_dot())?;
     }
     Ok(())
 }
@@ -54,7 +55,7 @@ fn begins_taken(segments: &[Segment<'_>]) -> bool
     ensures { result ≡ is_first spec.is_taken segments.now }
 {
     match segments.first() {
-        Some(first) => first.as_bytes().is_empty() || first.has_colon(),
+        Some(first) => first.as_bytes().is_empty() || has_colon(first.as_bytes()),
         None => false,
     }
 }
@@ -71,7 +72,7 @@ fn push_dot(list: &mut Vec<Segment<'_>>, needed: bool) -> Result<(), AllocError>
     ensures { OnOk result (list.new.items ≡ list.old.items ++ (if needed then (dot ∷ []) ∷ [] else [])) }
 {
     if needed {
-        list.push(Segment::single_dot())?;
+        list.push(single_dot())?;
     }
     Ok(())
 }
@@ -127,63 +128,67 @@ fn are_same(left: &[Segment<'_>], right: &[Segment<'_>]) -> bool
     true
 }
 
-impl<'p> Path<'p> {
-    /// Whether the paths are the same, segment for segment, with the same spelling.
-    pub(crate) fn is_same(&self, other: &Path<'_>) -> bool
-        ensures { IsTrue result ↔ (self.now ≡ other.now) }
-    {
-        self.is_absolute() == other.is_absolute() && are_same(self.segments(), other.segments())
-    }
+/// Whether the paths are the same, segment for segment, with the same spelling.
+pub fn is_same_path(left: &Path<'_>, right: &Path<'_>) -> bool
+    ensures { IsTrue result ↔ (left.now ≡ right.now) }
+{
+    left.is_absolute() == right.is_absolute() && are_same(left.segments(), right.segments())
+}
 
-    /// The empty path. Does not allocate.
-    pub(crate) fn empty() -> Path<'static>
-        ensures { result ≡ spec.no_path }
-    {
-        let list = SegmentList::one(Segment::empty());
-        Path::of(false, list, Counts::none(), false)
-    }
+/// The empty path. Does not allocate.
+pub fn empty_path() -> Path<'static>
+    ensures { result ≡ spec.no_path }
+{
+    let list = SegmentList::one(Segment::empty());
+    Path::of(false, list, Counts::none(), false)
+}
 
-    /// Whether both are absolute, or neither is and no `..` has to leave the base's first
-    /// directory.
-    fn have_one_root(base: &Path<'_>, target: &Path<'_>) -> bool
-        ensures { result ≡ spec.have_one_root base.now target.now }
-    {
-        if base.is_absolute() {
-            return target.is_absolute();
-        }
-        target.is_relative() && stays_below(directory(base.segments()), target.segments())
+/// Whether both are absolute, or neither is and no `..` has to leave the base's first directory.
+fn have_one_root(base: &Path<'_>, target: &Path<'_>) -> bool
+    ensures { result ≡ spec.have_one_root base.now target.now }
+{
+    if base.is_absolute() {
+        return target.is_absolute();
     }
+    target.is_relative() && stays_below(directory(base.segments()), target.segments())
+}
 
-    /// Whether that holds and neither has a dot segment, except as the base's last one.
-    fn may_lead(base: &Path<'_>, target: &Path<'_>) -> bool
-        ensures { result ≡ spec.may_lead base.now target.now }
-    {
-        Path::have_one_root(base, target)
-            && !has_dot_segment(directory(base.segments()))
-            && !has_dot_segment(target.segments())
-    }
+/// Whether they have one root in this way, and neither has a dot segment, except as the base's last
+/// one.
+fn may_lead(base: &Path<'_>, target: &Path<'_>) -> bool
+    ensures { result ≡ spec.may_lead base.now target.now }
+{
+    have_one_root(base, target)
+        && !has_dot_segment(directory(base.segments()))
+        && !has_dot_segment(target.segments())
+}
 
-    /// The relative path that leads from the base's path to the target's, if there is one. Borrows
-    /// the texts of the target's segments. Allocates the list once.
-    pub(crate) fn leading(
-        alloc: Global,
-        base: &Path<'_>,
-        target: &'p Path<'_>,
-    ) -> Result<Option<Path<'p>>, AllocError>
-        ensures { IfOk result (λ o. o ≡ spec.leading base.now target.now) }
-    {
-        if !Path::may_lead(base, target) {
-            return Ok(None);
-        }
-        let directories = directory(base.segments());
-        let segments = target.segments();
-        let shared = shared_len(directories, segments);
-        let left = &directories[shared..];
-        let rest = &segments[shared..];
-        if directories.len() + (left.len() + rest.len()) >= MAX_SEGMENTS {
-            return Ok(None);
-        }
-        let segments = led(alloc, left, rest)?;
-        Ok(Some(Path::of(false, segments, Counts::none(), false)))
+/// Returns the relative path that leads from the base's path to the target's, if there is one: a
+/// `..` for each directory of the base that the target is not in, then the target's segments after
+/// the shared directories. A leading `.` precedes a first segment that is empty or has a colon.
+///
+/// There is one if both paths are absolute, or if neither is and the target is in the base's first
+/// directory or the base is in none. Neither may have a dot segment, except as the base's last one,
+/// and they must not be too long. The result borrows the texts of the target's segments. Allocates
+/// the list once.
+pub fn leading_path<'p>(
+    alloc: Global,
+    base: &Path<'_>,
+    target: &'p Path<'_>,
+) -> Result<Option<Path<'p>>, AllocError>
+    ensures { IfOk result (λ o. o ≡ spec.leading base.now target.now) }
+{
+    if !may_lead(base, target) {
+        return Ok(None);
     }
+    let directories = directory(base.segments());
+    let segments = target.segments();
+    let shared = shared_len(directories, segments);
+    let left = &directories[shared..];
+    let rest = &segments[shared..];
+    if directories.len() + (left.len() + rest.len()) >= MAX_SEGMENTS {
+        return Ok(None);
+    }
+    let segments = led(alloc, left, rest)?;
+    Ok(Some(Path::of(false, segments, Counts::none(), false)))
 }

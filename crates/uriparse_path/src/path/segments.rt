@@ -6,8 +6,9 @@ ghost use Rattle.uriparse_path.specs.Dots as dots;
 ghost use Rattle.uriparse_path.specs.Edits as edits;
 ghost use Rattle.uriparse_path.specs.Relative as relative;
 
+use super::Segment;
 use super::list::SegmentList;
-use super::segment::Segment;
+use super::segment::{has_colon, single_dot};
 use std::alloc::AllocError;
 
 /// Whether there is a dot segment.
@@ -42,7 +43,7 @@ pub(super) fn has_first_colon(segments: &[Segment<'_>]) -> bool
     ensures { result ≡ relative.is_first relative.has_colon segments.now }
 {
     match segments.first() {
-        Some(first) => first.has_colon(),
+        Some(first) => has_colon(first.as_bytes()),
         None => false,
     }
 }
@@ -95,7 +96,7 @@ pub(super) fn guard(segments: &mut SegmentList<Segment<'_>>, needs_guard: bool, 
     ensures { segments.new ≡ relative.filled (if needs_guard then (dot ∷ []) ∷ take kept segments.old else take kept segments.old) }
 {
     if needs_guard {
-        segments.put(kept, Segment::single_dot());
+        segments.put(kept, single_dot());
         segments.truncate(kept + 1);
         segments.rotate_right();
         return;

@@ -4,12 +4,11 @@ ghost use Rattle.std.specs.Iterator.{YieldsFirst, item_count};
 ghost use Rattle.uriparse_text.specs.Canonical.{canonical};
 ghost use Rattle.uriparse_path.specs.Path.{IsPath, fed, pieces};
 
-use super::feed_piece;
 use super::read::split_root;
-use super::segment::Segment;
+use super::{Segment, feed_piece};
 use std::hash::Hasher;
 use std::marker::Model;
-use uriparse_text::internal::{Case, same_spelling, split_at_mark, without_mark};
+use uriparse_text::internal::{Case, kept_text, same_spelling, split_at_mark, without_mark};
 
 mod ending;
 pub(crate) mod into;
@@ -28,7 +27,7 @@ impl<'p> Model for Segments<'p> {
     ghost use Rattle.std.specs.Prelude.{◌≡◌, ℕ, List, true};
     ghost use Rattle.std.specs.List.{list_all};
     ghost use Rattle.std.specs.Option.{option_copied};
-    ghost use Rattle.uriparse_path.specs.Segment.{is_segment};
+    ghost use Rattle.uriparse_text.specs.Segment.{is_segment};
     ghost use Rattle.uriparse_path.specs.Text.{pieces_left};
 
     ghost Value = { List (List ℕ) };
@@ -49,7 +48,7 @@ impl<'p> Iterator for Segments<'p> {
         let rest = self.rest?;
         let (piece, behind) = split_at_mark(rest, b'/');
         self.rest = without_mark(behind);
-        Some(Segment::of_kept(piece, false))
+        Some(kept_text(piece, false))
     }
 }
 

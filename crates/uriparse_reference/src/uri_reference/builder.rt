@@ -3,7 +3,7 @@ ghost use Rattle.std.specs.Prelude.{◌≡◌, IsErr, None, Some};
 ghost use Rattle.std.specs.Option.{option_copied};
 ghost use Rattle.uriparse_text.specs.Readings.{if_present, of_piece};
 ghost use Rattle.uriparse_path.specs.Faults as paths;
-ghost use Rattle.uriparse_path.specs.declared.path.error.PathError.TheVariants.{OutOfMemory};
+ghost use Rattle.uriparse_text.specs.declared.segment.error.PathError.TheVariants.{OutOfMemory};
 ghost use Rattle.uriparse_authority.specs.Authority as authorities;
 ghost use Rattle.uriparse_scheme.specs.Scheme as schemes;
 ghost use Rattle.uriparse_reference.specs.declared.uri_reference.error.URIReferenceError.TheVariants as errors;

@@ -10,7 +10,7 @@ use uriparse_text::fragment::Fragment;
 use uriparse_text::internal::{borrowed_text, owned_text};
 use uriparse_text::query::Query;
 
-/// The same scheme, if present, borrowing this one's text.
+/// A copy that borrows the scheme's text, if present.
 pub(super) fn borrowed_scheme<'r>(scheme: Option<&'r Scheme<'_>>) -> Option<Scheme<'r>>
     ensures { result ≡ option_copied scheme.entry }
 {
@@ -20,7 +20,7 @@ pub(super) fn borrowed_scheme<'r>(scheme: Option<&'r Scheme<'_>>) -> Option<Sche
     }
 }
 
-/// The same authority, if present, borrowing this one's texts.
+/// A copy that borrows the authority's texts, if present.
 pub(super) fn borrowed_authority<'r>(authority: Option<&'r Authority<'_>>) -> Option<Authority<'r>>
     ensures { result ≡ option_copied authority.entry }
 {
@@ -30,7 +30,7 @@ pub(super) fn borrowed_authority<'r>(authority: Option<&'r Authority<'_>>) -> Op
     }
 }
 
-/// The same scheme, if present, owning its text.
+/// The scheme, if present, owning its text.
 fn owned_scheme(
     alloc: Global,
     scheme: Option<Scheme<'_>>,
@@ -43,7 +43,7 @@ fn owned_scheme(
     }
 }
 
-/// The same authority, if present, owning its texts.
+/// The authority, if present, owning its texts.
 fn owned_authority(
     alloc: Global,
     authority: Option<Authority<'_>>,
@@ -56,7 +56,7 @@ fn owned_authority(
     }
 }
 
-/// The same scheme and authority, owning their texts.
+/// The scheme and the authority, owning their texts.
 fn owned_front(
     alloc: Global,
     scheme: Option<Scheme<'_>>,
@@ -68,7 +68,7 @@ fn owned_front(
     Ok((scheme, owned_authority(alloc, authority)?))
 }
 
-/// The same path, query and fragment, owning their texts.
+/// The path, the query and the fragment, owning their texts.
 fn owned_tail(
     alloc: Global,
     path: Path<'_>,
@@ -90,8 +90,8 @@ fn owned_tail(
 }
 
 impl<'r> URIReference<'r> {
-    /// The same reference, borrowing the texts of this one. Allocates once, for the list of
-    /// segments, if there is more than one.
+    /// A copy that borrows the texts of this reference. Allocates once, for the list of segments,
+    /// if there is more than one.
     pub fn to_borrowed(&self, alloc: Global) -> Result<URIReference<'_>, AllocError>
         ensures { IfOk result (λ r. r ≡ self.now) }
     {
@@ -105,7 +105,7 @@ impl<'r> URIReference<'r> {
         })
     }
 
-    /// The same reference, owning its texts. Allocates for each borrowed text, and for the list of
+    /// The reference, owning its texts. Allocates for each borrowed text, and for the list of
     /// segments if there is more than one. If memory runs out, the reference is lost.
     pub fn into_owned(self, alloc: Global) -> Result<URIReference<'static>, AllocError>
         ensures { IfOk result (λ r. r ≡ self.entry) }

@@ -253,8 +253,9 @@ impl<'r> URIReference<'r> {
         }
     }
 
-    /// Makes one edit. Fails as its setter does, or if memory runs out.
-    fn apply(&mut self, alloc: Global, edit: Edit<'r>) -> Result<(), URIReferenceError>
+    /// Makes one edit, as [`apply_all`](URIReference::apply_all) does. Fails as its setter does, or
+    /// if memory runs out; the reference is then unchanged.
+    pub fn apply(&mut self, alloc: Global, edit: Edit<'r>) -> Result<(), URIReferenceError>
         ensures { MatchResult result (λ _. edited self.old edit.entry ≡ Ok self.new) (λ x. IsRefused self.old edit.entry x × (self.new ≡ self.old)) }
     {
         match edit {

@@ -1,6 +1,7 @@
 //! Why a text is not a reference, or is not written to a buffer.
 ghost use Rattle.std.specs.Prelude.{◌≡◌};
-ghost use Rattle.uriparse_path.specs.declared.path.error.PathError.TheVariants.{OutOfMemory};
+ghost use Rattle.uriparse_text.specs.declared.segment.error.PathError.TheVariants.{OutOfMemory};
+ghost use Rattle.uriparse_reference.specs.declared.uri_reference.error.BufferError.TheVariants as buffers;
 ghost use Rattle.uriparse_reference.specs.declared.uri_reference.error.URIReferenceError.TheVariants as errors;
 
 use std::alloc::{AllocError, AllocFailed};
@@ -9,6 +10,7 @@ use uriparse_authority::authority::AuthorityError;
 use uriparse_path::path::PathError;
 use uriparse_scheme::scheme::SchemeError;
 use uriparse_text::fragment::FragmentError;
+use uriparse_text::internal::TooSmall;
 use uriparse_text::query::QueryError;
 
 /// Why a text or a set of components is not a reference: the fault of the first component with one.
@@ -53,6 +55,14 @@ pub enum BufferError {
     /// The merged paths of a target have more segments than a path may have.
     #[error("merged path with too many segments")]
     TooManySegments,
+}
+
+impl From<TooSmall> for BufferError {
+    ghost from_gives = { λ x e. e ≡ buffers.TooSmall x.needed };
+
+    fn from(error: TooSmall) -> BufferError {
+        BufferError::TooSmall(error.needed)
+    }
 }
 
 /// Why there is no text of a target.

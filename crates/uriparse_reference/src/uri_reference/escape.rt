@@ -13,7 +13,10 @@ ghost use Rattle.uriparse_reference.specs.Escaped as spec;
 ghost use Rattle.uriparse_reference.specs.Reading.{fault};
 ghost use Rattle.uriparse_reference.specs.Reference.{behind_slashes};
 
+mod into;
+
 use super::read::behind_two_slashes;
+pub use into::escape_invalid_into;
 use std::alloc::{AllocError, Global};
 use uriparse_scheme::internal::split_scheme;
 use uriparse_text::internal::{
@@ -108,15 +111,15 @@ fn push_components(escaped: &mut Vec<u8>, text: &[u8]) -> Result<(), AllocError>
 }
 
 /// The text of a reference, made of any text: each byte that RFC 3986 does not allow where it
-/// stands becomes a percent-encoded octet with upper-case digits, and all else stays byte for byte.
+/// stands becomes an escape with upper-case digits, and all else stays byte for byte.
 /// So a text without a fault stays as it is, an IRI in UTF-8 becomes its URI (RFC 3987, section
 /// 3.1), and a second call changes nothing. Reserves capacity once.
 ///
 /// The text is cut at its delimiters like any reference's. Spaces, `"`, `<`, `>`, `\`, `^`, `` ` ``,
 /// `{`, `|`, `}`, control characters and bytes above 127 are escaped everywhere, `[` and `]` outside
 /// of an authority, and `#` in a fragment. A `%` without two hexadecimal digits after it becomes
-/// `%25`; one with them is a percent-encoded octet already. To write data that may have a `%` of its
-/// own, use `encode` of the component. Fails only if memory runs out.
+/// `%25`; one with them is an escape already. To write data that may have a `%` of its own, use
+/// `encode` of the component. Fails only if memory runs out.
 ///
 /// The result is a reference, unless its authority is invalid, its path has more than
 /// [`MAX_SEGMENTS`](uriparse_path::path::MAX_SEGMENTS) segments, or it has neither scheme nor

@@ -13,7 +13,7 @@ ghost use Rattle.uriparse_path.specs.Faults.{ends_path};
 ghost use Rattle.uriparse_scheme.specs.Registered.{name_of};
 ghost use Rattle.uriparse_scheme.specs.Cuts.{if_some, scheme_text};
 ghost use Rattle.uriparse_reference.specs.Cuts.{cut_authority, path_text, tail_fragment, tail_query, without_authority};
-ghost use Rattle.uriparse_path.specs.declared.path.error.PathError.TheVariants.{OutOfMemory};
+ghost use Rattle.uriparse_text.specs.declared.segment.error.PathError.TheVariants.{OutOfMemory};
 ghost use Rattle.uriparse_reference.specs.declared.uri_reference.error.URIReferenceError.TheVariants as errors;
 ghost use Rattle.uriparse_reference.specs.Reading.{behind_reading, parts_of, reading, text_tail};
 ghost use Rattle.uriparse_reference.specs.Reference.{is_noscheme, path_of, path_refusal};
@@ -114,7 +114,7 @@ pub struct FoundTail<'t> {
     pub path: &'t [u8],
     /// The number of the path's segments.
     pub count: usize,
-    /// 0 only if the path has no percent-encoded octet.
+    /// 0 only if the path has no escape.
     pub escaped: usize,
     pub query: Found<'t, QueryKind>,
     pub fragment: Found<'t, FragmentKind>,
@@ -182,7 +182,7 @@ pub fn find_pieces(text: &[u8]) -> Result<Pieces<'_>, URIReferenceError>
 }
 
 /// The path that a text spells, which has `count` segments, made absolute with an authority.
-/// Allocates only for more than one. `escaped` is 0 only if the text has no percent-encoded octet.
+/// Allocates only for more than one. `escaped` is 0 only if the text has no escape.
 #[inline(always)]
 pub(super) fn make_path(
     alloc: Global,

@@ -5,7 +5,7 @@ ghost use Rattle.uriparse_path.specs.Dots.{without_dots};
 ghost use Rattle.uriparse_path.specs.Edits.{shield};
 ghost use Rattle.uriparse_path.specs.Merge.{merging};
 ghost use Rattle.uriparse_path.specs.Path.{hides_root, text};
-ghost use Rattle.uriparse_path.specs.declared.path.error.PathError.TheVariants as paths;
+ghost use Rattle.uriparse_text.specs.declared.segment.error.PathError.TheVariants as paths;
 ghost use Rattle.uriparse_reference.specs.declared.uri_reference.error.URIReferenceError.TheVariants as errors;
 ghost use Rattle.uriparse_reference.specs.Reference.{Valid};
 ghost use Rattle.uriparse_reference.specs.Target.{is_empty, target};

@@ -6,6 +6,7 @@ use super::registered::RegisteredScheme;
 
 #[rattlefmt::skip]
 impl Scheme<'static> {
+    // schemes.tsv: constants
     /// `aaa`
     pub const AAA: Scheme<'static> = Scheme::Registered(RegisteredScheme::AAA);
     /// `aaas`
@@ -614,4 +615,5 @@ impl Scheme<'static> {
     pub const Z3950R: Scheme<'static> = Scheme::Registered(RegisteredScheme::Z3950R);
     /// `z39.50s`
     pub const Z3950S: Scheme<'static> = Scheme::Registered(RegisteredScheme::Z3950S);
+    // schemes.tsv: end
 }

@@ -6,6 +6,7 @@
 /// at most 256 variants. It is `Copy` and does not allocate.
 #[derive(Clone, Copy)]
 pub enum MicrosoftScheme {
+    // schemes.tsv: variants
     /// `ms-access`
     MSAccess,
     /// `ms-browser-extension`
@@ -122,4 +123,5 @@ pub enum MicrosoftScheme {
     MSWhiteboardCMD,
     /// `ms-word`
     MSWord,
+    // schemes.tsv: end
 }

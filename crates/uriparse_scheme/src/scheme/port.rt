@@ -18,8 +18,8 @@ impl RegisteredScheme {
         ensures { result ≡ spec.registered_port self }
     {
         match self {
+            // schemes.tsv: ports
             RegisteredScheme::AAA => Some(3868),
-            RegisteredScheme::AAAS => Some(5658),
             RegisteredScheme::ACAP => Some(674),
             RegisteredScheme::CoAP => Some(5683),
             RegisteredScheme::CoAPTCP => Some(5683),
@@ -65,6 +65,7 @@ impl RegisteredScheme {
             RegisteredScheme::WSS => Some(443),
             RegisteredScheme::Z3950R => Some(210),
             RegisteredScheme::Z3950S => Some(210),
+            // schemes.tsv: end
             _ => None,
         }
     }

@@ -8,6 +8,7 @@ use super::microsoft::MicrosoftScheme;
 /// Two are equal if they have the same name.
 #[derive(Clone, Copy)]
 pub enum RegisteredScheme {
+    // schemes.tsv: variants
     /// `aaa`
     AAA,
     /// `aaas`
@@ -272,8 +273,6 @@ pub enum RegisteredScheme {
     MongoDB,
     /// `moz`
     Moz,
-    /// A scheme whose name begins with `ms-`
-    Microsoft(MicrosoftScheme),
     /// `msnim`
     MSNIM,
     /// `msrp`
@@ -502,4 +501,7 @@ pub enum RegisteredScheme {
     Z3950R,
     /// `z39.50s`
     Z3950S,
+    // schemes.tsv: end
+    /// A scheme whose name begins with `ms-`
+    Microsoft(MicrosoftScheme),
 }

@@ -1,6 +1,8 @@
 //! The name and the status of each registered scheme.
-ghost use Rattle.std.specs.Prelude.{◌≡◌};
+ghost use Rattle.std.specs.Prelude.{◌≡◌, true};
 ghost use Rattle.uriparse_scheme.specs.declared.scheme.registered.RegisteredScheme.TheVariants.{Microsoft};
+ghost use Rattle.uriparse_scheme.specs.Grammar.{is_scheme};
+ghost use Rattle.uriparse_scheme.specs.Registered as spec;
 ghost use Rattle.uriparse_scheme.specs.SchemeTable.{row, row_of};
 
 use super::microsoft::MicrosoftScheme;
@@ -16,6 +18,7 @@ fn microsoft_row(scheme: MicrosoftScheme) -> &'static Row
     ensures { row result.now.0.now result.now.1 ≡ row_of (Microsoft scheme) }
 {
     match scheme {
+        // schemes.tsv: microsoft
         MicrosoftScheme::MSAccess => &("ms-access", Provisional),
         MicrosoftScheme::MSBrowserExtension => &("ms-browser-extension", Provisional),
         MicrosoftScheme::MSCalculator => &("ms-calculator", Provisional),
@@ -84,6 +87,7 @@ fn microsoft_row(scheme: MicrosoftScheme) -> &'static Row
         MicrosoftScheme::MSWhiteboard => &("ms-whiteboard", Provisional),
         MicrosoftScheme::MSWhiteboardCMD => &("ms-whiteboard-cmd", Provisional),
         MicrosoftScheme::MSWord => &("ms-word", Provisional),
+        // schemes.tsv: end
     }
 }
 
@@ -93,6 +97,7 @@ pub(super) fn row_of(scheme: RegisteredScheme) -> &'static Row
     ensures { row result.now.0.now result.now.1 ≡ row_of scheme }
 {
     match scheme {
+        // schemes.tsv: registered
         RegisteredScheme::AAA => &("aaa", Permanent),
         RegisteredScheme::AAAS => &("aaas", Permanent),
         RegisteredScheme::About => &("about", Permanent),
@@ -343,6 +348,24 @@ pub(super) fn row_of(scheme: RegisteredScheme) -> &'static Row
         RegisteredScheme::Z3950 => &("z39.50", Historical),
         RegisteredScheme::Z3950R => &("z39.50r", Permanent),
         RegisteredScheme::Z3950S => &("z39.50s", Permanent),
+        // schemes.tsv: end
         RegisteredScheme::Microsoft(scheme) => microsoft_row(scheme),
+    }
+}
+
+impl RegisteredScheme {
+    /// The name, in lower case. Does not allocate.
+    pub fn name(self) -> &'static str
+        ensures value { result.now ≡ spec.name_of self }
+        ensures grammar { is_scheme (spec.name_of self) ≡ true }
+    {
+        row_of(self).0
+    }
+
+    /// The status in this library's table. Does not allocate.
+    pub fn status(self) -> SchemeStatus
+        ensures { result ≡ spec.status_of self }
+    {
+        row_of(self).1
     }
 }

@@ -4,6 +4,7 @@ use super::microsoft::MicrosoftScheme;
 use super::registered::RegisteredScheme;
 
 /// The registered schemes, sorted by name for a binary search.
+// schemes.tsv: schemes
 pub(super) static SCHEMES: [RegisteredScheme; 304] = [
     RegisteredScheme::AAA,
     RegisteredScheme::AAAS,
@@ -310,3 +311,4 @@ pub(super) static SCHEMES: [RegisteredScheme; 304] = [
     RegisteredScheme::Z3950R,
     RegisteredScheme::Z3950S,
 ];
+// schemes.tsv: end

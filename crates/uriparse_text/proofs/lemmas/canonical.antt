@@ -4,3 +4,4 @@ pub mod RunLemmas
 pub mod SettledLemmas
 pub mod ComparisonLemmas
 pub mod SpellingLengthLemmas
+pub mod DotLemmas

@@ -2,3 +2,4 @@ pub mod TokenLemmas
 pub mod UnescapedLemmas
 pub mod CodingLemmas
 pub mod EscapingLemmas
+pub mod StartLemmas

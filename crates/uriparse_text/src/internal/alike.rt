@@ -93,7 +93,8 @@ fn marks_of_pair<const N: usize>(left: &[u8], right: &[u8], at: usize) -> u64
     x.simd_ne(y).to_bitmask() | x.simd_eq(Simd::splat(b'%')).to_bitmask()
 }
 
-/// The same run, known up to a place, byte by byte.
+/// The number of leading bytes that are the same in both texts, none of them `%`, byte by byte from
+/// a place up to which they are known to be.
 #[inline(always)]
 fn common_by_one(left: &[u8], right: &[u8], from: usize) -> usize
     requires left { from ≤ length left.now }

@@ -96,7 +96,7 @@ fn hold<H: Hasher>(b: u8, block: &mut [u8; BLOCK], len: usize, state: &mut H) ->
     0
 }
 
-/// The same for the bytes of a token.
+/// Appends the bytes of a token to those that wait in the block, as [`hold`] does with a byte.
 #[inline]
 fn hold_token<H: Hasher>(token: Token, block: &mut [u8; BLOCK], len: usize, state: &mut H) -> usize
     requires { len < 64 }
@@ -141,7 +141,7 @@ pub fn feed_spelling<H: Hasher>(case: Case, text: &[u8], state: &mut H)
     }
 }
 
-/// The same, and then 0xFF.
+/// Feeds the bytes of the text's canonical spelling to the hasher, and then 0xFF.
 #[inline]
 pub fn feed_text<H: Hasher>(case: Case, text: &[u8], state: &mut H)
     ensures { state.new ≡ fold H.write state.old (spec.fed_text (spec.canonical_in case text.now)) }
@@ -150,7 +150,7 @@ pub fn feed_text<H: Hasher>(case: Case, text: &[u8], state: &mut H)
     state.write_u8(0xff);
 }
 
-/// The same for a text that is known to be canonical.
+/// Feeds the bytes of a text that is known to be canonical to the hasher, and then 0xFF.
 #[inline]
 pub(super) fn feed_known<H: Hasher>(text: &[u8], state: &mut H)
     ensures { state.new ≡ fold H.write state.old (spec.fed_text text.now) }
@@ -172,8 +172,9 @@ pub fn is_canonical(case: Case, text: &[u8]) -> bool
     begins_canonical(case, rest)
 }
 
-/// The same for a text that may begin with a token that isn't canonical. Walks it up to the first
-/// such token. A separate call keeps the inlined test before it small.
+/// Whether the text, which may begin with a token that isn't canonical, is its own canonical
+/// spelling. Walks it up to the first such token. A separate call keeps the inlined test before it
+/// small.
 #[inline(never)]
 fn begins_canonical(case: Case, text: &[u8]) -> bool
     ensures { IsTrue result ↔ (spec.canonical_in case text.now ≡ text.now) }

@@ -109,8 +109,8 @@ pub(super) fn fault_place(class: Class, text: &[u8]) -> usize
     }
 }
 
-/// The same for a short text, byte by byte. An escape's digits are in each class, so no byte has to
-/// be skipped.
+/// The place of the leftmost fault of a short text, or the length, byte by byte. An escape's digits
+/// are in each class, so no byte has to be skipped.
 #[inline(always)]
 fn fault_by_one(class: Class, text: &[u8]) -> usize
     ensures { IsFaultPlace class text.now result }
@@ -126,7 +126,7 @@ fn fault_by_one(class: Class, text: &[u8]) -> usize
     at
 }
 
-/// The same for 8 to 16 bytes, all at once.
+/// The place of the leftmost fault of 8 to 16 bytes, or the length, all at once.
 #[inline(never)]
 fn fault_of_short(class: Class, text: &[u8]) -> usize
     requires least { 8 ≤ length text.now }
@@ -143,7 +143,8 @@ fn fault_of_short(class: Class, text: &[u8]) -> usize
     fault_at_marks(class, text, 0, text.len(), left).unwrap_or(text.len())
 }
 
-/// The same for sixteen bytes or more. The last run may overlap the one before it.
+/// The place of the leftmost fault of sixteen bytes or more, or the length. The last run may
+/// overlap the one before it.
 #[inline(never)]
 fn fault_by_runs(class: Class, text: &[u8]) -> usize
     requires { 16 ≤ length text.now }

@@ -19,7 +19,7 @@ use std::cmp::Ordering;
 impl Token {
     /// The byte that the token represents.
     #[inline]
-    fn value(self) -> u8
+    pub(super) fn value(self) -> u8
         requires { has_digits self ≡ true }
         ensures { result ≡ value_of self }
     {
@@ -31,7 +31,7 @@ impl Token {
 
     /// The token that represents a byte: the byte itself if the class has it, else an escape.
     #[inline]
-    fn writing(class: Class, b: u8) -> Token
+    pub(super) fn writing(class: Class, b: u8) -> Token
         ensures { result ≡ token_for class b }
     {
         if class.has(b) {
@@ -69,7 +69,7 @@ impl Token {
     /// The token that stands for a byte of any text: the byte itself if it may stand there or
     /// begins an escape, else its escape.
     #[inline]
-    fn standing(class: Class, more: &[u8], b: u8, after: &[u8]) -> Token
+    pub(super) fn standing(class: Class, more: &[u8], b: u8, after: &[u8]) -> Token
         ensures { spell result ≡ (if may_stand class more.now b || begins_escape b after.now then b ∷ [] else spell (escape_of b)) }
     {
         if more.contains(&b) || is_escape(b, after) {

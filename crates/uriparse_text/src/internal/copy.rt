@@ -7,7 +7,7 @@ ghost use Rattle.uriparse_text.specs.Canonical.{canonical_in};
 use super::text::{Text, TextKind, normalized_text};
 use std::alloc::{AllocError, Global};
 
-/// The same text, if present, borrowed from this one. Does not allocate.
+/// A copy that borrows the text, if present. Does not allocate.
 pub fn borrowed_text<'r, K: TextKind>(text: Option<&'r Text<'_, K>>) -> Option<Text<'r, K>>
     ensures { result ≡ option_copied text.entry }
 {
@@ -17,8 +17,8 @@ pub fn borrowed_text<'r, K: TextKind>(text: Option<&'r Text<'_, K>>) -> Option<T
     }
 }
 
-/// The same text, if present, owned. Borrowed bytes are copied, which allocates; if memory runs
-/// out, the text is dropped.
+/// The text, if present, owned. Borrowed bytes are copied, which allocates; if memory runs out, the
+/// text is dropped.
 pub fn owned_text<K: TextKind>(
     alloc: Global,
     text: Option<Text<'_, K>>,

@@ -197,7 +197,7 @@ pub fn first<T: ByteTest>(test: &T, text: &[u8]) -> usize
     }
 }
 
-/// The same for 8 to 16 bytes, all at once.
+/// The place of the first of 8 to 16 bytes that passes, or the length, all at once.
 #[inline(always)]
 fn first_of_short<T: ByteTest>(test: &T, text: &[u8]) -> usize
     requires least { 8 ≤ length text.now }
@@ -211,7 +211,8 @@ fn first_of_short<T: ByteTest>(test: &T, text: &[u8]) -> usize
     lowest(marks)
 }
 
-/// The same for sixteen bytes or more. The last run may overlap the one before it.
+/// The place of the first of sixteen bytes or more that passes, or the length. The last run may
+/// overlap the one before it.
 #[inline(always)]
 fn first_by_runs<T: ByteTest>(test: &T, text: &[u8]) -> usize
     requires { 16 ≤ length text.now }
@@ -250,7 +251,8 @@ pub fn next_marks<T: ByteTest>(test: &T, text: &[u8], at: usize) -> (u64, usize)
     }
 }
 
-/// The same by two tests.
+/// The marks by two tests of the next sixteen bytes, or of the remaining ones, and how many bytes
+/// those are.
 #[inline(always)]
 pub fn next_marks_by_two<T: ByteTest, U: ByteTest>(
     test: &T,
@@ -304,7 +306,7 @@ fn marks_by_one<T: ByteTest>(test: &T, text: &[u8], from: usize) -> u64
     marks
 }
 
-/// The same by two tests.
+/// The marks by two tests of a short text's bytes from a place on, byte by byte.
 #[inline(always)]
 fn marks_by_one_by_two<T: ByteTest, U: ByteTest>(
     test: &T,
@@ -335,7 +337,7 @@ fn marks_by_one_by_two<T: ByteTest, U: ByteTest>(
     (marks, others)
 }
 
-/// The same for a short text, byte by byte.
+/// The place of the first byte of a short text that passes, or the length, byte by byte.
 #[inline(always)]
 pub(super) fn first_by_one<T: ByteTest>(test: &T, text: &[u8]) -> usize
     ensures { result ≡ position_or_len (T.passes test.now) text.now }

@@ -46,7 +46,7 @@ pub(super) fn settled_len(class: Class, case: Case, text: &[u8]) -> usize
     }
 }
 
-/// The same, sixteen bytes at a time.
+/// How many leading bytes are of the class and do not change, found sixteen bytes at a time.
 #[inline(never)]
 fn settled_by_lanes(class: Class, case: Case, text: &[u8]) -> usize
     ensures { result ≡ position_or_len (λ b. not (spec.is_settled class case b)) text.now }
@@ -79,8 +79,8 @@ pub(super) fn fault_behind(class: Class, case: Case, text: &[u8], len: usize) ->
     fault_after(class, text, len)
 }
 
-/// The same if an escape or a letter of the other case follows the first `len` bytes, which are
-/// fine. A call of its own, since few texts need it.
+/// The place of the leftmost fault, or the length, if the first `len` bytes are fine, and an escape
+/// or a letter of the other case follows them. A call of its own, since few texts need it.
 #[inline(never)]
 fn fault_after(class: Class, text: &[u8], len: usize) -> usize
     requires fine { AllFine class text.now 0 len }

@@ -63,7 +63,7 @@ impl<'t> Spelling<'t> {
         }
     }
 
-    /// The same text, owned. Borrowed text is copied, which allocates.
+    /// The text, owned. Borrowed text is copied, which allocates.
     pub(super) fn into_owned(self, alloc: Global) -> Result<Spelling<'static>, AllocError>
         ensures { IfOk result (λ s. (spec.spelled s ≡ spec.spelled self.entry) × (spec.is_known s ≡ spec.is_known self.entry)) }
     {
@@ -76,7 +76,7 @@ impl<'t> Spelling<'t> {
         }
     }
 
-    /// The same text, marked as canonical.
+    /// The text, marked as canonical.
     pub(super) fn into_canonical(self) -> Spelling<'t>
         ensures text { spec.spelled result ≡ spec.spelled self.entry }
         ensures known { spec.is_known result ≡ true }

@@ -11,6 +11,7 @@ ghost use Rattle.uriparse_text.specs.Canonical.{canonical_in, fed_text, SpellsAl
 ghost use Rattle.uriparse_text.specs.Spelling.{IsKept};
 ghost use Rattle.uriparse_text.specs.Readings.{reading_in};
 ghost use Rattle.uriparse_text.specs.Coding.{decoded, encoded};
+ghost use Rattle.uriparse_text.specs.Starts.{Writes};
 ghost use Rattle.uriparse_text.specs.declared.internal.canonical.Case.TheVariants.{Kept};
 
 use super::alike::same_spelling;
@@ -19,6 +20,8 @@ use super::class::Class;
 use super::coding::{decoded_bytes, encoded_bytes};
 use super::settled::check_bytes;
 use super::spelling::Spelling;
+use super::starts;
+use super::starts::TooSmall;
 use std::alloc::{AllocError, Global};
 use std::hash::{Hash, Hasher};
 use std::marker::{Model, PhantomData};
@@ -166,7 +169,7 @@ impl<'t, K: TextKind> Text<'t, K> {
         self.as_str().as_bytes()
     }
 
-    /// The same text, borrowed from this one.
+    /// A copy that borrows this text. Does not allocate.
     pub fn as_borrowed(&self) -> Text<'_, K>
         ensures { result ≡ self.now }
     {
@@ -176,7 +179,7 @@ impl<'t, K: TextKind> Text<'t, K> {
         }
     }
 
-    /// The same text, owned. Borrowed bytes are copied, which allocates; if memory runs out, the
+    /// The text, owned. Borrowed bytes are copied, which allocates; if memory runs out, the
     /// text is dropped.
     pub fn into_owned(self, alloc: Global) -> Result<Text<'static, K>, AllocError>
         ensures { IfOk result (λ t. t ≡ self.entry) }
@@ -229,6 +232,41 @@ impl<'t, K: TextKind> Text<'t, K> {
             text: Spelling::owned(unsafe { String::from_utf8_unchecked(text) }, true),
             kind: PhantomData,
         })
+    }
+
+    /// Writes the bytes that [`decode`](Text::decode) returns to the start of the buffer and returns
+    /// their number; what follows them in the buffer is unchanged.
+    ///
+    /// If the buffer is too small, it is unchanged, and the error has the number of bytes needed; so
+    /// a call with an empty buffer returns that. Does not allocate.
+    ///
+    /// ```
+    /// let query = Query::try_from_str("a%20b")?;
+    /// let mut buffer = [0; 8];
+    /// let len = query.decode_into(&mut buffer)?;
+    /// assert!(&buffer[..len] == b"a b".as_slice());
+    /// assert!(query.decode_into(&mut []) == Err(TooSmall { needed: 3 }));
+    /// ```
+    pub fn decode_into(&self, out: &mut [u8]) -> Result<usize, TooSmall>
+        ensures { Writes (decoded self.now) result out.old out.new }
+    {
+        starts::decode_into(self.as_bytes(), out)
+    }
+
+    /// Writes the text that [`encode`](Text::encode) returns to the start of the buffer and returns
+    /// its length, as [`decode_into`](Text::decode_into) does. The kind must keep the case of
+    /// letters. Does not allocate.
+    ///
+    /// ```
+    /// let mut buffer = [0; 8];
+    /// let len = Fragment::encode_into(b"a #", &mut buffer)?;
+    /// assert!(&buffer[..len] == b"a%20%23".as_slice());
+    /// ```
+    pub fn encode_into(bytes: &[u8], out: &mut [u8]) -> Result<usize, TooSmall>
+        requires { K.case ≡ Kept }
+        ensures { Writes (encoded K.class bytes.now) result out.old out.new }
+    {
+        starts::encode_into(K::class(), bytes, out)
     }
 
     /// Whether the text is its own canonical spelling. Does not allocate.

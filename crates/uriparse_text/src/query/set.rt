@@ -11,7 +11,7 @@ use crate::internal::{made_text, represents, split_at_mark, without_mark};
 use std::alloc::{AllocError, Global};
 
 /// Whether the name of the piece stands for these bytes.
-fn is_named(piece: &[u8], name: &[u8]) -> bool
+pub(super) fn is_named(piece: &[u8], name: &[u8]) -> bool
     ensures { result ≡ spec.is_named name.now (spec.pair_of piece.now) }
 {
     let (own, _) = split_at_mark(piece, b'=');

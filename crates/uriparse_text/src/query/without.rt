@@ -1,5 +1,5 @@
 //! Queries without some of their pairs: RFC 3986, section 3.4.
-ghost use Rattle.std.specs.Prelude.{◌≡◌, Bool, List, ℕ, IfOk, map, not};
+ghost use Rattle.std.specs.Prelude.{◌≡◌, Bool, List, ℕ, IfOk, Some, map, not};
 ghost use Rattle.std.specs.List.{filter};
 ghost use Rattle.uriparse_text.specs.Pairs as spec;
 ghost use Rattle.uriparse_text.specs.Query.{IsQuery};
@@ -7,6 +7,7 @@ ghost use Rattle.uriparse_text.specs.Written.{AreWritten};
 
 use super::Query;
 use super::pairs::pair_of;
+use super::set::is_named;
 use crate::internal::{made_text, split_at_mark, without_mark};
 use std::alloc::{AllocError, Global};
 
@@ -37,6 +38,24 @@ where
         let (piece, behind) = split_at_mark(left, b'&');
         rest = without_mark(behind);
         if !passes(&mut test, piece) {
+            text.extend_from_slice(piece)?;
+            text.push(b'&')?;
+        }
+    }
+    Ok(text)
+}
+
+/// The pieces of the query whose names stand for other bytes, each with a `&` after it.
+fn other_pieces(alloc: Global, query: &[u8], name: &[u8]) -> Result<Vec<u8>, AllocError>
+    requires { IsQuery query.now }
+    ensures { IfOk result (λ v. (ss : List (List ℕ)) × AreWritten ss v.items × (map spec.pair_of ss ≡ spec.without_name name.now (spec.pairs query.now))) }
+{
+    let mut text = Vec::with_capacity(alloc, query.len().saturating_add(1))?;
+    let mut rest = Some(query);
+    while let Some(left) = rest {
+        let (piece, behind) = split_at_mark(left, b'&');
+        rest = without_mark(behind);
+        if !is_named(piece, name) {
             text.extend_from_slice(piece)?;
             text.push(b'&')?;
         }
@@ -77,10 +96,34 @@ impl<'q> Query<'q> {
         // The pairs at which the test returned false, called at each in turn.
         ensures pairs { IfOk result (λ q. spec.IsWithout F.step test (spec.pairs self.now) (spec.pairs_left q)) }
 
-        // The same for a test whose answer is a function of the pair.
+        // If the test's answer is a function of the pair, those at which that function is false.
         ensures chosen { (is : spec.Pair → Bool) → ((f g : F) (p : spec.Pair) (b : Bool) → F.step f p.0 p.1 b g → b ≡ is p) → IfOk result (λ q. spec.pairs_left q ≡ filter (λ p. not (is p)) (spec.pairs self.now)) }
     {
         let text = kept_pieces(alloc, self.as_bytes(), test)?;
+        Ok(query_of_pieces(text))
+    }
+    /// The query without the pairs whose names stand for these bytes, or `None` if no pair is left.
+    /// The others stay in order, byte for byte. Reserves capacity once.
+    ///
+    /// Names are compared by the bytes that they stand for, so `%61` is `a`, and `+` is no space.
+    ///
+    /// ```
+    /// let query = Query::try_from_str("lang=de&%6Cang&Lang=en&q=%2f")?;
+    /// let query = query.without_name(alloc, b"lang")?;
+    /// assert_eq!(query.unwrap().as_str(), "Lang=en&q=%2f");
+    /// ```
+    pub fn without_name(
+        &self,
+        alloc: Global,
+        name: &[u8],
+    ) -> Result<Option<Query<'static>>, AllocError>
+        // The pairs of other names.
+        ensures pairs { IfOk result (λ q. spec.pairs_left q ≡ spec.without_name name.now (spec.pairs self.now)) }
+
+        // A query without a pair of the name is returned as it is.
+        ensures kept { spec.without_name name.now (spec.pairs self.now) ≡ spec.pairs self.now → IfOk result (λ q. q ≡ Some self.now) }
+    {
+        let text = other_pieces(alloc, self.as_bytes(), name)?;
         Ok(query_of_pieces(text))
     }
 }

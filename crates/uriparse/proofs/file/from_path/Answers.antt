@@ -2,7 +2,7 @@ use Rattle.std.proofs.Common.{◌≡◌, ◌∷◌, false, Ok, Err, inl, sym, ap
 use Rattle.std.specs.List.{list_any, slice_split}
 use Rattle.uriparse_text.specs.Bytes.{slash}
 use Rattle.uriparse_text.specs.Readings.{IsUnless}
-use Rattle.uriparse_path.specs.declared.path.error.PathError.TheVariants.{OutOfMemory}
+use Rattle.uriparse_text.specs.declared.segment.error.PathError.TheVariants.{OutOfMemory}
 use Rattle.uriparse_path.specs.Path.{PathParts, is_slash}
 use Rattle.uriparse_path.specs.Faults.{reading}
 use Rattle.uriparse.specs.declared.file.error.FileError.TheVariants as errors

@@ -1,6 +1,6 @@
 use Rattle.std.proofs.Common.{◌≡◌, ◌⊎◌, Err, inl, sym, subst, ap, ◌∙◌, rules}
 use Rattle.std.specs.Prelude.{IfErr}
-use Rattle.uriparse_path.specs.declared.path.error.PathError.TheVariants.{OutOfMemory}
+use Rattle.uriparse_text.specs.declared.segment.error.PathError.TheVariants.{OutOfMemory}
 use Rattle.uriparse.specs.declared.file.error.FileError.TheVariants as errors
 use Rattle.uriparse.specs.File as spec
 use Rattle.uriparse.proofs.lemmas.FileLemmas.{checked_err, checked_ok, name_rejected, named_next}

@@ -6,7 +6,7 @@ ghost use Rattle.uriparse_text.specs.declared.internal.canonical.Case.TheVariant
 ghost use Rattle.uriparse_text.specs.Spelling.{IsKept};
 ghost use Rattle.uriparse_authority.specs.Future.{IsFuture};
 ghost use Rattle.uriparse_authority.specs.Found.{found_host};
-ghost use Rattle.uriparse_authority.specs.Host.{Valid};
+ghost use Rattle.uriparse_authority.specs.Host.{Valid, kind, kind_code};
 
 use super::super::future::IPvFuture;
 use super::super::name::RegisteredName;
@@ -99,6 +99,21 @@ pub(super) fn found_future(bytes: &[u8]) -> FoundHost<'_>
 }
 
 impl<'h> FoundHost<'h> {
+    /// The number of the host's kind: 1 for a name, and 4, 6 or 7 for an address of that version.
+    pub(in crate::authority) fn kind_code(&self) -> u32
+        ensures { result ≡ kind_code (kind self.now) }
+    {
+        if self.kind == 0 {
+            1
+        } else if self.kind == 4 {
+            4
+        } else if self.kind == 7 {
+            7
+        } else {
+            6
+        }
+    }
+
     /// The host, whose text borrows the bytes. Does not allocate.
     #[inline(always)]
     pub(in crate::authority) fn to_host(&self) -> Host<'h>

@@ -10,7 +10,8 @@ use Rattle.uriparse_path.specs.Dots.{is_single_dot, is_double_dot, is_dot_segmen
 use Rattle.uriparse_path.specs.Dots.{begins, moves, Reaches, done, more, Undots, all_but_last, replay, is_one, rooted_after, replayed, undot}
 use Rattle.uriparse_path.proofs.lemmas.text.SplitLemmas.{cut, pieces-byte, pieces-slash, joined-behind}
 use Rattle.uriparse_path.proofs.lemmas.text.PathTextLemmas.{text-absolute, text-spelled}
-use Rattle.uriparse_path.proofs.lemmas.dots.DotSegmentLemmas.{empty_no_dot, no_dot, single_dot, double_dot}
+use Rattle.uriparse_text.proofs.lemmas.canonical.DotLemmas.{empty_no_dot}
+use Rattle.uriparse_path.proofs.lemmas.dots.DotSegmentLemmas.{no_dot, single_dot, double_dot}
 use Rattle.uriparse_path.proofs.lemmas.dots.RewritingStepLemmas.{one_output}
 
 -- ---- segments without slashes

@@ -14,13 +14,14 @@ use Rattle.uriparse_text.specs.Bytes.{slash}
 use Rattle.uriparse_text.specs.Ends.{EndsWith, Puts, formed}
 use Rattle.uriparse_path.specs.declared.path.text.ending.Placed.{Placed}
 use Rattle.uriparse_path.specs.declared.path.text.ending.Ending.{Ending}
-use Rattle.uriparse_path.specs.Segment.{is_segment}
+use Rattle.uriparse_text.specs.Segment.{is_segment}
 use Rattle.uriparse_path.specs.Path.{is_rooted, unrooted, has_two_slashes, is_slash, root}
 use Rattle.uriparse_path.specs.Dots.{LacksSlash}
 use Rattle.uriparse_path.specs.Left.{Left, back, backs, kept_text, is_more, IsPlaced, IsEnding}
 use Rattle.uriparse_path.proofs.lemmas.reading.LengthFaultLemmas.{split-append}
 use Rattle.uriparse_path.proofs.lemmas.text.SplitLemmas.{pieces-piece}
-use Rattle.uriparse_path.proofs.lemmas.text.CanonicalTextLemmas.{canonical-nil, rooted-front}
+use Rattle.uriparse_text.proofs.lemmas.canonical.DotLemmas.{canonical-nil}
+use Rattle.uriparse_path.proofs.lemmas.text.CanonicalTextLemmas.{rooted-front}
 
 -- ---- a segment before a text
 

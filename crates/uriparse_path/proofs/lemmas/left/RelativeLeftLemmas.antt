@@ -8,17 +8,19 @@ use Rattle.std.proofs.lemmas.List.Folds.{list_all-append}
 use Rattle.uriparse_text.specs.declared.internal.ends.Form.TheVariants.{Canonical}
 use Rattle.uriparse_text.specs.Bytes.{dot, slash}
 use Rattle.uriparse_text.specs.Canonical.{canonical}
-use Rattle.uriparse_path.specs.Segment.{is_segment}
+use Rattle.uriparse_text.specs.Segment.{is_segment}
 use Rattle.uriparse_path.specs.Path.{is_rooted, hides_root}
 use Rattle.uriparse_path.specs.Dots.{is_single_dot, is_double_dot, is_dot_segment, has_dot_segment}
 use Rattle.uriparse_path.specs.Relative.{is_last, is_first, has_colon, closed, needs_guard, guarded, filled, put, put_all, reduced, relative_normal}
 use Rattle.uriparse_path.specs.Normal.{is_canonical}
 use Rattle.uriparse_path.specs.Left.{Left, reached, left_of, with_end, kept_text, ups, climbed, led, relative_text}
-use Rattle.uriparse_path.proofs.lemmas.dots.DotSegmentLemmas.{double_is, double_of, canonical-dots, single-canonical, double-canonical, dot-canonical, no_dot, not_both}
+use Rattle.uriparse_text.proofs.lemmas.canonical.DotLemmas.{double_is, double_of, canonical-dots}
+use Rattle.uriparse_path.proofs.lemmas.dots.DotSegmentLemmas.{single-canonical, double-canonical, dot-canonical, no_dot, not_both}
 use Rattle.uriparse_path.proofs.lemmas.text.PathTextLemmas.{rooted-relative}
 use Rattle.uriparse_path.proofs.lemmas.text.CanonicalTextLemmas.{each-canonical}
 use Rattle.uriparse_path.proofs.lemmas.normal.DeletionLemmas.{put_single, put_plain}
-use Rattle.uriparse_path.proofs.lemmas.normal.RelativeFormLemmas.{canonical_same, all_canonical-canonical, first_colon-canonical, empty_segment}
+use Rattle.uriparse_text.proofs.lemmas.canonical.DotLemmas.{empty_segment}
+use Rattle.uriparse_path.proofs.lemmas.normal.RelativeFormLemmas.{canonical_same, all_canonical-canonical, first_colon-canonical}
 use Rattle.uriparse_path.proofs.lemmas.normal.RelativeFormLemmas.{each_reduced}
 use Rattle.uriparse_path.proofs.lemmas.normal.RelativeLengthLemmas.{closed_double, put_away}
 use Rattle.uriparse_path.proofs.lemmas.normal.SpellingCommutesLemmas.{shaped-canonical, last-canonical, push_empty-canonical}

@@ -13,20 +13,21 @@ use Rattle.uriparse_text.specs.Cuts.{lacks}
 use Rattle.uriparse_text.specs.Canonical.{canonical}
 use Rattle.uriparse_text.proofs.lemmas.canonical.RunLemmas.{canonical_in-stays}
 use Rattle.uriparse_path.specs.declared.path.counts.Counts.{Counts}
-use Rattle.uriparse_path.specs.Segment.{is_segment}
+use Rattle.uriparse_text.specs.Segment.{is_segment}
 use Rattle.uriparse_path.specs.Dots.{is_single_dot, is_double_dot, is_dot_segment, has_dot_segment, all_but_last}
 use Rattle.uriparse_path.specs.Relative.{filled}
 use Rattle.uriparse_path.specs.Normal.{is_canonical, climbs_first}
-use Rattle.uriparse_path.specs.declared.path.error.PathError.{PathError}
-use Rattle.uriparse_path.specs.declared.path.error.PathError.TheVariants.{OutOfMemory}
+use Rattle.uriparse_text.specs.declared.segment.error.PathError.{PathError}
+use Rattle.uriparse_text.specs.declared.segment.error.PathError.TheVariants.{OutOfMemory}
 use Rattle.uriparse_path.specs.Edits.{with_last}
 use Rattle.uriparse_path.specs.Path.{IsCounted, max_segments}
 use Rattle.uriparse_path.specs.Counts.{counts, is_stray, IsKept}
-use Rattle.uriparse_path.proofs.lemmas.text.CanonicalTextLemmas.{canonical-nil}
+use Rattle.uriparse_text.proofs.lemmas.canonical.DotLemmas.{canonical-nil}
 use Rattle.uriparse_path.proofs.lemmas.normal.RelativeFormLemmas.{all_canonical-canonical, shaped, all_shaped}
 use Rattle.uriparse_path.proofs.lemmas.list.EditLemmas.{counted_popped, counted_pushed}
 use Rattle.uriparse_path.proofs.lemmas.reading.ReadingLemmas.{limit_is}
-use Rattle.uriparse_path.proofs.lemmas.dots.DotSegmentLemmas.{canonical-dot, dot_single, single-canonical, double-canonical, empty_single, empty_double, empty_no_dot, single_is, double_is, no_dot, not_both, neither}
+use Rattle.uriparse_text.proofs.lemmas.canonical.DotLemmas.{canonical-dot, empty_single, empty_double, empty_no_dot, single_is, double_is}
+use Rattle.uriparse_path.proofs.lemmas.dots.DotSegmentLemmas.{dot_single, single-canonical, double-canonical, no_dot, not_both, neither}
 
 abbrev pub make : ℕ → ℕ → ℕ → ℕ → Counts
 make a b c d = record { single = a; double = b; leading = c; strays = d }
@@ -255,7 +256,7 @@ pushed_kept old new s (Err x) v c d e is h k f g =
     let right = is.right in
     record { some = counted.some; short = counted.short; right = λ t. g ∙ right t ∙ ap counts (sym k.1) }
 
--- ---- a segment without percent-encoded octets
+-- ---- a segment without escapes
 
 pub unescaped_stays : (s : List ℕ) → lacks percent s ≡ true → canonical s ≡ s
 unescaped_stays [] h = canonical-nil

@@ -13,14 +13,14 @@ use Rattle.uriparse_text.specs.Canonical.{canonical_in}
 use Rattle.uriparse_text.specs.Classes.{is_plain}
 use Rattle.uriparse_text.specs.Bytes.{is_unreserved}
 use Rattle.uriparse_path.specs.declared.path.TheConstants.{MAX_SEGMENTS}
-use Rattle.uriparse_path.specs.Segment.{is_segment}
+use Rattle.uriparse_text.specs.Segment.{is_segment}
 use Rattle.uriparse_path.specs.Path.{PathParts, IsListed, max_segments, hides_root}
 use Rattle.uriparse_path.specs.Dots.{is_single_dot, is_double_dot, is_dot_segment, has_dot_segment, all_but_last, replay, rooted_after, is_one}
 use Rattle.uriparse_path.specs.Relative.{is_first, has_colon}
 use Rattle.uriparse_path.specs.Relate.{climbs, apart, is_taken, fronted, apart_of, stays_below, have_one_root, may_lead, has_room, leading, climbs_in}
 use Rattle.uriparse_path.specs.Merge.{merged}
 use Rattle.uriparse_path.proofs.lemmas.reading.ReadingLemmas.{limit_is}
-use Rattle.uriparse_path.proofs.lemmas.normal.RelativeFormLemmas.{empty_segment}
+use Rattle.uriparse_text.proofs.lemmas.canonical.DotLemmas.{empty_segment}
 use Rattle.uriparse_path.proofs.lemmas.dots.DotSegmentLemmas.{dot_single, neither, not_both}
 use Rattle.uriparse_path.proofs.lemmas.dots.ReplayLemmas.{once_rooted}
 use Rattle.uriparse_path.proofs.lemmas.normal.NormalFormLemmas.{replay_kept, rooted_kept}

@@ -10,7 +10,8 @@ use Rattle.uriparse_path.specs.Dots.{is_single_dot, is_double_dot, is_dot_segmen
 use Rattle.uriparse_path.specs.Relative.{is_last, closed, needs_guard, guarded, filled, put, put_all, reduced}
 use Rattle.uriparse_path.specs.Normal.{canonical_path, stays_relative, pnormal}
 use Rattle.uriparse_path.proofs.lemmas.text.PathTextLemmas.{listed-respelled}
-use Rattle.uriparse_path.proofs.lemmas.dots.DotSegmentLemmas.{empty_single, empty_double, dot_single, neither, no_dot, not_both, double_dot}
+use Rattle.uriparse_text.proofs.lemmas.canonical.DotLemmas.{empty_single, empty_double}
+use Rattle.uriparse_path.proofs.lemmas.dots.DotSegmentLemmas.{dot_single, neither, no_dot, not_both, double_dot}
 use Rattle.uriparse_path.proofs.lemmas.normal.DeletionLemmas.{put_all-append, put_plain}
 use Rattle.uriparse_path.proofs.lemmas.normal.RelativeFormLemmas.{shaped}
 use Rattle.uriparse_path.proofs.lemmas.normal.RelativeLengthLemmas.{last_push, Pushed, pushed}

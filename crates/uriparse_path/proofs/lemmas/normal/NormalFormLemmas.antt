@@ -6,18 +6,21 @@ use Rattle.std.proofs.lemmas.Bool.{false≢true, not-true, and_parts, and_from, 
 use Rattle.std.proofs.lemmas.List.Folds.{list_all-append}
 use Rattle.uriparse_text.specs.Bytes.{slash}
 use Rattle.uriparse_text.specs.Canonical.{canonical}
-use Rattle.uriparse_path.specs.Segment.{is_segment}
+use Rattle.uriparse_text.specs.Segment.{is_segment}
 use Rattle.uriparse_path.specs.Path.{PathParts, IsListed, text, is_slash, is_rooted, pieces, spelled, hides_root, respelled}
 use Rattle.uriparse_path.specs.Dots.{is_single_dot, is_double_dot, is_dot_segment, has_dot_segment, all_but_last, replay, rooted_after, replayed, undot}
 use Rattle.uriparse_path.specs.Dots.{without_dots}
 use Rattle.uriparse_path.specs.Relative.{is_first, has_colon, relative_normal}
 use Rattle.uriparse_path.specs.Normal.{canonical_path, stays_relative, pnormal, is_canonical, climbs_first, is_guarded, is_normal, are_normal}
 use Rattle.uriparse_path.proofs.lemmas.text.PathTextLemmas.{text-spelled, spelled-text, listed-respelled, pieces-segments, lacks_slash, rooted-relative}
-use Rattle.uriparse_path.proofs.lemmas.text.CanonicalTextLemmas.{canonical-nil, canonical-text, length-canonical, listed-canonical, is_rooted-canonical}
-use Rattle.uriparse_path.proofs.lemmas.dots.DotSegmentLemmas.{empty_no_dot, no_dot}
+use Rattle.uriparse_text.proofs.lemmas.canonical.DotLemmas.{canonical-nil}
+use Rattle.uriparse_path.proofs.lemmas.text.CanonicalTextLemmas.{canonical-text, length-canonical, listed-canonical, is_rooted-canonical}
+use Rattle.uriparse_text.proofs.lemmas.canonical.DotLemmas.{empty_no_dot}
+use Rattle.uriparse_path.proofs.lemmas.dots.DotSegmentLemmas.{no_dot}
 use Rattle.uriparse_path.proofs.lemmas.dots.ReplayLemmas.{AreClean, replay_some, once_rooted, undot-text}
 use Rattle.uriparse_path.proofs.lemmas.normal.RelativeFormLemmas.{colon_relative, all_canonical_same, all_canonical-canonical, has_dot-canonical, hides-canonical, hides_relative}
-use Rattle.uriparse_path.proofs.lemmas.normal.RelativeFormLemmas.{each_relative, some_relative, relative_iff, relative_twice, empty_segment}
+use Rattle.uriparse_text.proofs.lemmas.canonical.DotLemmas.{empty_segment}
+use Rattle.uriparse_path.proofs.lemmas.normal.RelativeFormLemmas.{each_relative, some_relative, relative_iff, relative_twice}
 use Rattle.uriparse_path.proofs.lemmas.normal.RelativeLengthLemmas.{length_relative}
 
 -- ---- replayed segments

@@ -10,23 +10,23 @@ use Rattle.std.proofs.lemmas.Slice.Eq.{bytes_eq-Decides}
 use Rattle.uriparse_text.specs.Bytes.{dot}
 use Rattle.uriparse_text.specs.Bytes.{is_unreserved}
 use Rattle.uriparse_text.specs.Classes.{is_plain}
-use Rattle.uriparse_text.specs.Faults.{allows}
 use Rattle.uriparse_text.specs.Tokens.{tokens}
 use Rattle.uriparse_text.specs.Canonical.{canonical}
-use Rattle.uriparse_text.proofs.lemmas.tokens.TokenLemmas.{tokens-nil}
 use Rattle.uriparse_text.specs.declared.internal.class.Class.TheVariants.{Segment}
 use Rattle.uriparse_text.specs.declared.internal.canonical.Case.TheVariants.{Kept}
 use Rattle.uriparse_text.proofs.lemmas.canonical.CanonicalLemmas.{canonical_in-canonical_in}
 use Rattle.uriparse_text.proofs.lemmas.classes.ClassLemmas.{well_formed-in_class}
-use Rattle.uriparse_path.specs.Segment.{is_segment}
+use Rattle.uriparse_text.specs.Segment.{is_segment}
 use Rattle.uriparse_path.specs.Path.{hides_root}
 use Rattle.uriparse_path.specs.Dots.{is_single_dot, is_double_dot, is_dot_segment, has_dot_segment}
 use Rattle.uriparse_path.specs.Relative.{single, pair, done, IsIrreducible, is_last, is_first, closed, has_colon, needs_guard, guarded}
 use Rattle.uriparse_path.specs.Relative.{filled, put, put_all, reduced, relative_normal}
 use Rattle.uriparse_path.specs.Normal.{is_canonical, climbs_first, is_guarded}
-use Rattle.uriparse_path.proofs.lemmas.dots.DotSegmentLemmas.{not_both, neither, no_dot, single_dot, double_dot, empty_double, empty_no_dot, dot_single, canonical-dot, single_is}
+use Rattle.uriparse_text.proofs.lemmas.canonical.DotLemmas.{empty_double, empty_no_dot, canonical-dot, single_is, empty_segment}
+use Rattle.uriparse_path.proofs.lemmas.dots.DotSegmentLemmas.{not_both, neither, no_dot, single_dot, double_dot, dot_single}
 use Rattle.uriparse_path.proofs.lemmas.dots.DotSegmentLemmas.{single-canonical, double-canonical, dot-canonical, canonical-empty, has_colon-canonical}
-use Rattle.uriparse_path.proofs.lemmas.text.CanonicalTextLemmas.{canonical-nil, each-canonical, length-canonical}
+use Rattle.uriparse_text.proofs.lemmas.canonical.DotLemmas.{canonical-nil}
+use Rattle.uriparse_path.proofs.lemmas.text.CanonicalTextLemmas.{each-canonical, length-canonical}
 use Rattle.uriparse_path.proofs.lemmas.normal.DeletionLemmas.{leads_iff}
 
 -- ---- lists from which nothing is deleted
@@ -283,9 +283,6 @@ module _ (p : List ℕ → Bool) (empty : p [] ≡ true) (guard : p (dot ∷ [])
   all_shaped l h =
       let c = closed (is_last is_dot_segment l) (reduced l) in
       all_filled (guarded l c) (all_guarded l c (all_closed (is_last is_dot_segment l) (reduced l) (all-reverse (put_all [] l) (all_put_all [] l refl h))))
-
-pub empty_segment : is_segment [] ≡ true
-empty_segment = ap (list_all (allows Segment)) tokens-nil
 
 pub dot_segment : is_segment (dot ∷ []) ≡ true
 unfolding tokens is_plain is_unreserved

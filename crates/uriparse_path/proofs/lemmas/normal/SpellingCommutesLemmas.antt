@@ -6,16 +6,19 @@ use Rattle.std.proofs.lemmas.Bool.{and_parts}
 use Rattle.std.proofs.lemmas.List.{map-append, reverse-append}
 use Rattle.uriparse_text.specs.Bytes.{dot}
 use Rattle.uriparse_text.specs.Canonical.{canonical}
-use Rattle.uriparse_path.specs.Segment.{is_segment}
+use Rattle.uriparse_text.specs.Segment.{is_segment}
 use Rattle.uriparse_path.specs.Path.{PathParts, IsListed, text, spelled, respelled, IsPath, pieces, is_rooted}
 use Rattle.uriparse_path.specs.Dots.{is_single_dot, is_double_dot, is_dot_segment, has_dot_segment, all_but_last, replay, is_one, rooted_after, replayed, undot}
 use Rattle.uriparse_path.specs.Dots.{without_dots}
 use Rattle.uriparse_path.specs.Relative.{is_last, closed, needs_guard, guarded, filled, put, put_all, reduced, relative_normal}
 use Rattle.uriparse_path.specs.Normal.{canonical_path, stays_relative, pnormal}
 use Rattle.uriparse_path.proofs.lemmas.text.PathTextLemmas.{text-spelled}
-use Rattle.uriparse_path.proofs.lemmas.text.CanonicalTextLemmas.{canonical-nil, listed-canonical, canonical-text, is_rooted-canonical, is_path-text}
-use Rattle.uriparse_path.proofs.lemmas.dots.DotSegmentLemmas.{canonical-dot, single-canonical, double-canonical, dot-canonical}
-use Rattle.uriparse_path.proofs.lemmas.normal.RelativeFormLemmas.{all_put, empty_segment, dot_segment, shaped, relative_is, guard-canonical, has_dot-canonical}
+use Rattle.uriparse_text.proofs.lemmas.canonical.DotLemmas.{canonical-nil}
+use Rattle.uriparse_path.proofs.lemmas.text.CanonicalTextLemmas.{listed-canonical, canonical-text, is_rooted-canonical, is_path-text}
+use Rattle.uriparse_text.proofs.lemmas.canonical.DotLemmas.{canonical-dot}
+use Rattle.uriparse_path.proofs.lemmas.dots.DotSegmentLemmas.{single-canonical, double-canonical, dot-canonical}
+use Rattle.uriparse_text.proofs.lemmas.canonical.DotLemmas.{empty_segment}
+use Rattle.uriparse_path.proofs.lemmas.normal.RelativeFormLemmas.{all_put, dot_segment, shaped, relative_is, guard-canonical, has_dot-canonical}
 use Rattle.uriparse_path.proofs.lemmas.normal.RelativeFormLemmas.{all_canonical_same}
 use Rattle.uriparse_path.proofs.lemmas.normal.RelativeFormLemmas.{all_canonical-canonical, each_reduced, each_shaped}
 use Rattle.uriparse_path.proofs.lemmas.normal.NormalFormLemmas.{spelled_undot, spelled_canonical_undot, respelled-canonical, pnormal_dots, pnormal_plain, undot_path}

@@ -22,9 +22,9 @@ use Rattle.uriparse_text.proofs.lemmas.readings.CutLemmas.{other_byte}
 use Rattle.uriparse_text.proofs.lemmas.classes.FaultBeforeMarkLemmas.{escape-up_to}
 use Rattle.uriparse_text.proofs.lemmas.classes.FaultByByteLemmas.{unset_is_plain, set_is_outside}
 use Rattle.uriparse_text.specs.Readings.{unless_fault}
-use Rattle.uriparse_path.specs.declared.path.error.PathError.{PathError}
-use Rattle.uriparse_path.specs.declared.path.error.PathError.TheVariants.{ExceededMaximumLength}
-use Rattle.uriparse_path.specs.Segment.{error_of}
+use Rattle.uriparse_text.specs.declared.segment.error.PathError.{PathError}
+use Rattle.uriparse_text.specs.declared.segment.error.PathError.TheVariants.{ExceededMaximumLength}
+use Rattle.uriparse_text.specs.Segment.{error_of}
 use Rattle.uriparse_path.specs.Path.{is_slash}
 use Rattle.uriparse_path.specs.Faults.{fault_within, ends_path, path_front}
 use Rattle.uriparse_path.proofs.lemmas.text.SplitLemmas.{pieces-slash}

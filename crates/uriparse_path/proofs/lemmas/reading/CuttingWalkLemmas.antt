@@ -16,7 +16,7 @@ use Rattle.std.proofs.lemmas.List.Splits.{slice_split_none, slice_split_at}
 use Rattle.std.proofs.lemmas.Nat.Bits.{bit_at-zero}
 use Rattle.uriparse_text.specs.Marks.{AreMarks}
 use Rattle.uriparse_text.proofs.lemmas.scans.MarkLemmas.{above_lowest, marked, unmarked}
-use Rattle.uriparse_path.specs.Segment.{is_segment}
+use Rattle.uriparse_text.specs.Segment.{is_segment}
 use Rattle.uriparse_path.specs.Path.{is_slash}
 
 -- these segments are cut off, the next one begins at the start, and no slash is between that and the current place
@@ -56,7 +56,7 @@ one_of items s ss h =
 fewer : (items : List (List ℕ)) (s : List ℕ) (ss all : List (List ℕ)) → items ++ s ∷ ss ≡ all → length items < length all
 fewer items s ss all e = let whole = ap length e in let parts = length-append items (s ∷ ss) in omega arith
 
--- ---- a text without percent-encoded octets
+-- ---- a text without escapes
 
 all_pass : (p : ℕ → Bool) (t : List ℕ) → prefix_len p t ≡ length t → list_all p t ≡ true
 all_pass p [] h = refl

@@ -13,9 +13,9 @@ use Rattle.uriparse_text.specs.Classes.{is_plain}
 use Rattle.uriparse_text.specs.Tokens.{is_escape}
 use Rattle.uriparse_text.specs.Faults as text
 use Rattle.uriparse_text.proofs.lemmas.classes.FaultLemmas.{fault-nil, fault-plain, fault-escape, fault-here, no_fault}
-use Rattle.uriparse_path.specs.declared.path.error.PathError.{PathError}
-use Rattle.uriparse_path.specs.declared.path.error.PathError.TheVariants.{ExceededMaximumLength}
-use Rattle.uriparse_path.specs.Segment as segment
+use Rattle.uriparse_text.specs.declared.segment.error.PathError.{PathError}
+use Rattle.uriparse_text.specs.declared.segment.error.PathError.TheVariants.{ExceededMaximumLength}
+use Rattle.uriparse_text.specs.Segment as segment
 use Rattle.uriparse_path.specs.Path.{is_slash}
 use Rattle.uriparse_path.specs.Faults.{fault_within, first_fault, length_fault}
 use Rattle.uriparse_text.proofs.lemmas.classes.FaultByByteLemmas.{hex_plain}
@@ -143,7 +143,7 @@ first-cons c t is = at_byte (is_slash c) refl
     at_byte true e = inl (let f = pieces-slash c t e in let g = is.pieces in cc)
     at_byte false e = inr (let f = pieces-byte c t e (cut t) in let g = is.pieces in cc)
 
--- a percent-encoded octet within the first piece is one of the text
+-- an escape within the first piece is one of the text
 escape_in_piece : (b : ℕ) (t : List ℕ) (is : IsCut t) → is_escape b is.first ≡ true → is_escape b t ≡ true
 escape_in_piece b [] is h = absurd (false≢true (sym (ap (is_escape b) (first-nil is)) ∙ h))
 escape_in_piece b (c ∷ []) is h = ⊎_elim

@@ -11,9 +11,9 @@ use Rattle.std.proofs.lemmas.List.Splits.{slice_split-cons_no}
 use Rattle.uriparse_text.specs.declared.internal.class.Class.TheVariants.{Segment}
 use Rattle.uriparse_text.specs.Bytes.{percent, slash}
 use Rattle.uriparse_text.specs.Faults as text
-use Rattle.uriparse_path.specs.declared.path.error.PathError.{PathError}
-use Rattle.uriparse_path.specs.declared.path.error.PathError.TheVariants.{ExceededMaximumLength, InvalidCharacter, InvalidPercentEncoding, OutOfMemory}
-use Rattle.uriparse_path.specs.Segment as segment
+use Rattle.uriparse_text.specs.declared.segment.error.PathError.{PathError}
+use Rattle.uriparse_text.specs.declared.segment.error.PathError.TheVariants.{ExceededMaximumLength, InvalidCharacter, InvalidPercentEncoding, OutOfMemory}
+use Rattle.uriparse_text.specs.Segment as segment
 use Rattle.uriparse_path.specs.Path as path
 use Rattle.uriparse_path.specs.Path.{max_segments, is_slash, is_rooted, root, pieces}
 use Rattle.uriparse_path.specs.Faults.{PassesLimit, fault, fault_within, first_fault, length_fault}

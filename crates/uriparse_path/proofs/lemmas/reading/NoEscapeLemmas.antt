@@ -1,4 +1,4 @@
--- Texts without percent-encoded octets, and the counts of their segments.
+-- Texts without escapes, and the counts of their segments.
 use Rattle.std.proofs.Common.{◌≡◌, ℕ, zero, suc, ◌+◌, ◌-◌, ◌<◌, ◌≤◌, Bool, true, false, not, ◌&&◌, ◌||◌, cond, List, [], ◌∷◌, ◌++◌, length, take, get_or, refl, sym, ap, subst, ◌∙◌, arith, inl, inr}
 use Rattle.std.specs.Prelude.{◌==◌}
 use Rattle.std.specs.List.{list_all, list_any, slice_split}
@@ -22,7 +22,7 @@ use Rattle.uriparse_path.specs.Faults.{ends_path}
 use Rattle.uriparse_path.specs.Dots.{is_dot_segment, has_dot_segment}
 use Rattle.uriparse_path.specs.Normal.{is_canonical}
 use Rattle.uriparse_path.specs.Counts.{begins_with_dot, counts}
-use Rattle.uriparse_path.proofs.lemmas.dots.DotSegmentLemmas.{empty_no_dot}
+use Rattle.uriparse_text.proofs.lemmas.canonical.DotLemmas.{empty_no_dot}
 use Rattle.uriparse_path.proofs.lemmas.reading.ReadingLemmas.{front_unrooted}
 use Rattle.uriparse_path.proofs.lemmas.text.SplitLemmas.{IsCut, cut, pieces-slash, pieces-byte}
 use Rattle.uriparse_path.proofs.lemmas.list.SegmentCountLemmas.{unescaped_stays, canonical_dots, counts_undotted, counts-nil}
@@ -137,7 +137,7 @@ no_dots (s ∷ ss) h k =
       ap (λ v. v && list_all is_canonical ss) ((bytes_eq-Decides (canonical s) s).1 stays) ∙ rest.1,
     )
 
--- a text without percent-encoded octets none of whose segments begins with a dot
+-- a text without escapes none of whose segments begins with a dot
 pub plain_counts : (t : List ℕ) → lacks percent t ≡ true → list_any begins_with_dot (slice_split is_slash t) ≡ false
     → counts [] ≡ counts (slice_split is_slash t)
 plain_counts t h k =

@@ -8,7 +8,7 @@ use Rattle.uriparse_text.specs.Bytes.{is_hex}
 use Rattle.uriparse_text.specs.Classes.{is_plain}
 use Rattle.uriparse_text.specs.Tokens.{is_escape}
 use Rattle.uriparse_text.specs.Faults.{begins_fine}
-use Rattle.uriparse_path.specs.declared.path.error.PathError.{PathError}
+use Rattle.uriparse_text.specs.declared.segment.error.PathError.{PathError}
 use Rattle.uriparse_path.specs.Path.{is_rooted, is_slash, max_segments, root, unrooted}
 use Rattle.uriparse_path.specs.Faults.{fault, fault_within}
 use Rattle.uriparse_path.specs.Place.{fault_place, place_within}

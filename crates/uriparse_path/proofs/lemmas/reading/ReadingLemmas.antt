@@ -9,7 +9,7 @@ use Rattle.uriparse_text.specs.Cuts.{up_to, from_first}
 use Rattle.uriparse_text.proofs.lemmas.readings.CutLemmas.{cut-whole}
 use Rattle.std.specs.Prelude.{IsErr, Result}
 use Rattle.uriparse_text.specs.Readings.{unless_fault}
-use Rattle.uriparse_path.specs.declared.path.error.PathError.{PathError}
+use Rattle.uriparse_text.specs.declared.segment.error.PathError.{PathError}
 use Rattle.uriparse_path.specs.declared.path.TheConstants.{MAX_SEGMENTS}
 use Rattle.uriparse_path.specs.Path.{PathParts, IsListed, IsPath, is_slash, max_segments, unrooted, pieces, spelled}
 use Rattle.uriparse_path.specs.Faults.{ends_path, path_front, fault_within, fault, reading}

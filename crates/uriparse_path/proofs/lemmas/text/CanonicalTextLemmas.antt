@@ -11,10 +11,11 @@ use Rattle.uriparse_text.specs.declared.internal.canonical.Case.TheVariants.{Kep
 use Rattle.uriparse_text.specs.Bytes.{slash, is_unreserved}
 use Rattle.uriparse_text.specs.Tokens.{tokens, spell}
 use Rattle.uriparse_text.specs.Canonical.{canonical_token, escaped_byte, canonical_in, canonical}
-use Rattle.uriparse_text.proofs.lemmas.tokens.TokenLemmas.{tokens-nil, spell-tokens}
+use Rattle.uriparse_text.proofs.lemmas.tokens.TokenLemmas.{spell-tokens}
 use Rattle.uriparse_text.proofs.lemmas.canonical.CanonicalLemmas.{by_escaped, spell-canonical_token, canonical_in-append}
 use Rattle.uriparse_text.proofs.lemmas.classes.ClassLemmas.{well_formed-in_class, IsIn-canonical_in}
-use Rattle.uriparse_path.specs.Segment.{is_segment}
+use Rattle.uriparse_text.specs.Segment.{is_segment}
+use Rattle.uriparse_text.proofs.lemmas.canonical.DotLemmas.{canonical-nil}
 use Rattle.uriparse_path.specs.Path.{PathParts, IsListed, IsPath, root, text, is_slash, is_rooted, pieces, spelled, has_two_slashes, IsCounted}
 use Rattle.uriparse_path.specs.Normal.{canonical_path, is_canonical}
 use Rattle.uriparse_path.proofs.lemmas.text.PathTextLemmas.{spelled-text, listed-respelled, text-spelled, text-cons}
@@ -24,10 +25,6 @@ pub each_is_canonical : (ss : List (List ℕ)) → map canonical ss ≡ ss → l
 each_is_canonical [] e = refl
 each_is_canonical (s ∷ ss) e =
     and_from _ _ ((bytes_eq-Decides (canonical s) s).1 (ap (λ l. get_or l 0 []) e)) (each_is_canonical ss (ap (drop 1) e))
-
-pub canonical-nil : canonical [] ≡ []
-unfolding canonical_in
-canonical-nil = ap (λ ts. flat_map spell (map (canonical_token Kept) ts)) tokens-nil
 
 pub canonical-slash : (t : List ℕ) → canonical (slash ∷ t) ≡ slash ∷ canonical t
 unfolding canonical_in tokens

@@ -9,7 +9,7 @@ use Rattle.uriparse_text.specs.Bytes.{slash}
 use Rattle.uriparse_text.specs.Canonical.{canonical}
 use Rattle.uriparse_text.proofs.lemmas.canonical.CanonicalLemmas.{canonical_in-append}
 use Rattle.uriparse_text.proofs.lemmas.classes.ClassLemmas.{well_formed-in_class, IsIn-canonical_in}
-use Rattle.uriparse_path.specs.Segment.{is_segment}
+use Rattle.uriparse_text.specs.Segment.{is_segment}
 use Rattle.uriparse_path.specs.Path.{is_slash, fed, fed_piece}
 use Rattle.uriparse_path.proofs.lemmas.text.CanonicalTextLemmas.{canonical-behind, each-canonical}
 use Rattle.uriparse_path.proofs.lemmas.text.SplitLemmas.{joined-behind}

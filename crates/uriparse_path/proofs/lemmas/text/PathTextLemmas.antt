@@ -9,7 +9,7 @@ use Rattle.uriparse_text.specs.Classes.{is_plain}
 use Rattle.uriparse_text.specs.Cuts.{lacks}
 use Rattle.uriparse_text.proofs.lemmas.classes.ClassLemmas.{bytes-in_class}
 use Rattle.uriparse_text.proofs.lemmas.readings.CutLemmas.{lacks-append, lacks-in_class}
-use Rattle.uriparse_path.specs.Segment.{is_segment}
+use Rattle.uriparse_text.specs.Segment.{is_segment}
 use Rattle.uriparse_path.specs.Path.{PathParts, IsListed, IsCounted, IsPath, root, text, is_slash, is_rooted, unrooted, pieces, spelled, hides_root, respelled}
 use Rattle.uriparse_path.specs.Dots.{LacksSlash}
 use Rattle.uriparse_path.proofs.lemmas.text.SplitLemmas.{pieces-joined, joined-pieces, joined-behind}

@@ -23,14 +23,15 @@ use Rattle.uriparse_text.specs.Canonical.{canonical_token, canonical_in, canonic
 use Rattle.uriparse_text.proofs.lemmas.tokens.TokenLemmas.{tokens-nil, tokens-byte, tokens-mark, not_percent}
 use Rattle.uriparse_text.proofs.lemmas.readings.CutLemmas.{up_to-append, from_first-append, up_to-none, from_first-head, cut-whole}
 use Rattle.uriparse_text.proofs.lemmas.classes.ClassLemmas.{well_formed-in_class}
-use Rattle.uriparse_path.specs.Segment.{is_segment}
+use Rattle.uriparse_text.specs.Segment.{is_segment}
 use Rattle.uriparse_path.specs.Path.{is_slash, is_rooted, root, unrooted}
 use Rattle.uriparse_path.specs.Dots.{LacksSlash, IsRest}
 use Rattle.uriparse_path.proofs.lemmas.text.SplitLemmas.{joined-behind}
 use Rattle.uriparse_path.proofs.lemmas.text.PathTextLemmas.{lacks_slash, pieces-segments, root-unrooted}
-use Rattle.uriparse_path.proofs.lemmas.text.CanonicalTextLemmas.{canonical-nil, canonical-slash, canonical-behind, each-canonical, is_rooted-canonical}
+use Rattle.uriparse_text.proofs.lemmas.canonical.DotLemmas.{canonical-nil}
+use Rattle.uriparse_path.proofs.lemmas.text.CanonicalTextLemmas.{canonical-slash, canonical-behind, each-canonical, is_rooted-canonical}
 use Rattle.uriparse_path.proofs.lemmas.dots.DotSegmentLemmas.{lacks_slash-canonical, canonical-empty}
-use Rattle.uriparse_path.proofs.lemmas.normal.RelativeFormLemmas.{empty_segment}
+use Rattle.uriparse_text.proofs.lemmas.canonical.DotLemmas.{empty_segment}
 
 -- the segments, a slash before each
 abbrev behind : List (List ℕ) → List ℕ

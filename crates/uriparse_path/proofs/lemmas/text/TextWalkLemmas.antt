@@ -14,10 +14,10 @@ use Rattle.uriparse_text.specs.Cuts.{up_to, from_first, part}
 use Rattle.uriparse_text.specs.Tokens.{tokens, is_token, is_well_formed}
 use Rattle.uriparse_text.proofs.lemmas.classes.ClassLemmas.{well_formed-in_class}
 use Rattle.uriparse_text.proofs.lemmas.tokens.TokenLemmas.{tokens-mark}
-use Rattle.uriparse_path.specs.Segment.{is_segment}
+use Rattle.uriparse_text.specs.Segment.{is_segment}
 use Rattle.uriparse_path.specs.Path.{IsPath, is_slash, fed, fed_piece}
 use Rattle.uriparse_path.specs.Text.{pieces_left}
-use Rattle.uriparse_path.proofs.lemmas.normal.RelativeFormLemmas.{empty_segment}
+use Rattle.uriparse_text.proofs.lemmas.canonical.DotLemmas.{empty_segment}
 use Rattle.uriparse_path.proofs.lemmas.text.HashLemmas.{feeds_path}
 use Rattle.uriparse_path.proofs.lemmas.text.SplitLemmas.{cut, pieces-slash, joined-pieces, joined-behind}
 

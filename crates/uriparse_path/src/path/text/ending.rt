@@ -7,15 +7,16 @@ ghost use Rattle.std.specs.Option.{option_copied};
 ghost use Rattle.uriparse_text.specs.declared.internal.canonical.Case.TheVariants as case;
 ghost use Rattle.uriparse_text.specs.declared.internal.ends.Form.{Form};
 ghost use Rattle.uriparse_text.specs.Ends.{EndsWith, formed};
-ghost use Rattle.uriparse_path.specs.Segment.{is_segment};
+ghost use Rattle.uriparse_text.specs.Segment.{is_segment};
 ghost use Rattle.uriparse_path.specs.Path.{is_slash, root};
 ghost use Rattle.uriparse_path.specs.Relative.{is_last};
 ghost use Rattle.uriparse_path.specs.Dots.{all_but_last, is_dot_segment};
 ghost use Rattle.uriparse_path.specs.Text.{pieces_left};
 ghost use Rattle.uriparse_path.specs.Left as spec;
 
-use crate::path::segment::Segment;
-use uriparse_text::internal::{Case, Form, put, put_formed};
+use crate::path::Segment;
+use crate::path::segment::has_colon;
+use uriparse_text::internal::{Case, Form, kept_text, put, put_formed};
 
 /// A text at the end of a buffer, before what follows it there.
 #[derive(Clone, Copy)]
@@ -112,7 +113,7 @@ impl Ending {
             climbs: 0,
             kept: true,
             removed: false,
-            colon: segment.has_colon(),
+            colon: has_colon(segment.as_bytes()),
             text: text.put_segment(form, segment, out),
         }
     }
@@ -162,7 +163,8 @@ impl Ending {
         ending
     }
 
-    /// The same for all segments but the last one.
+    /// All segments of a text but the last one, from the last of these to the first, as
+    /// [`walk`](Ending::walk) goes over all.
     pub(super) fn walk_directory(
         self,
         form: Form,
@@ -189,8 +191,8 @@ pub(super) fn split_last(text: &[u8]) -> (Option<&[u8]>, Segment<'_>)
     ensures cut { slice_split is_slash text.now ≡ pieces_left (option_copied result.0) ++ result.1 ∷ [] }
 {
     match text.iter().rposition(|&b| b == b'/') {
-        Some(at) => (Some(&text[..at]), Segment::of_kept(&text[at + 1..], false)),
-        None => (None, Segment::of_kept(text, false)),
+        Some(at) => (Some(&text[..at]), kept_text(&text[at + 1..], false)),
+        None => (None, kept_text(text, false)),
     }
 }
 

@@ -17,9 +17,9 @@ ghost use Rattle.uriparse_path.specs.Normal.{normal_at};
 ghost use Rattle.uriparse_path.specs.Left as spec;
 
 use super::ending::{Ending, ends_in_dots};
-use super::normal::has_colon;
 use crate::path::normal::Place;
 use crate::path::read::split_root;
+use crate::path::segment::has_colon;
 use uriparse_text::internal::{Form, put, split_at_mark};
 
 /// The front of a path from which dot segments are removed: its root, and `/.` if it would begin

@@ -10,14 +10,8 @@ ghost use Rattle.uriparse_path.specs.Normal as spec;
 use super::{Segments, segments_of};
 use crate::path::normal::Place;
 use crate::path::read::split_root;
+use crate::path::segment::has_colon;
 use uriparse_text::internal::split_at_mark;
-
-/// Whether the bytes have a colon.
-pub(super) fn has_colon(bytes: &[u8]) -> bool
-    ensures { result ≡ relative.has_colon bytes.now }
-{
-    bytes.contains(&b':')
-}
 
 impl<'p> Segments<'p> {
     /// Whether the first of the segments that are left is empty and others follow it.
@@ -93,7 +87,7 @@ fn are_guarded(segments: Segments<'_>) -> bool
     let Some(first) = later.next() else {
         return false;
     };
-    let needed = later.hide_root() || (later.have_first_colon() && !first.has_colon());
+    let needed = later.hide_root() || (later.have_first_colon() && !has_colon(first.as_bytes()));
     first.is_single_dot_segment() && climb_first(later) && needed
 }
 

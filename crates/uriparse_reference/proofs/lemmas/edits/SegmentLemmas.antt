@@ -5,14 +5,14 @@ use Rattle.std.specs.List.{list_all}
 use Rattle.std.proofs.lemmas.Bool.{false≢true, and_from}
 use Rattle.uriparse_text.specs.Readings.{◌>>=◌, of_piece, unless_fault, SettlesUnless}
 use Rattle.uriparse_path.specs.Path.{PathParts, IsListed, hides_root, max_segments, respelled, text}
-use Rattle.uriparse_path.specs.Segment.{is_segment}
+use Rattle.uriparse_text.specs.Segment.{is_segment}
 use Rattle.uriparse_path.specs.Dots.{all_but_last}
 use Rattle.uriparse_path.specs.Relative.{filled, is_first, has_colon}
 use Rattle.uriparse_path.specs.Edits.{with_last, pushed, pushing, popped}
-use Rattle.uriparse_path.specs.declared.path.error.PathError.TheVariants.{ExceededMaximumLength}
+use Rattle.uriparse_text.specs.declared.segment.error.PathError.TheVariants.{ExceededMaximumLength}
 use Rattle.uriparse_path.proofs.lemmas.list.EditLemmas.{counted_popped}
 use Rattle.uriparse_path.proofs.lemmas.dots.ReplayInPlaceLemmas.{push_cut}
-use Rattle.uriparse_path.proofs.lemmas.normal.RelativeFormLemmas.{empty_segment}
+use Rattle.uriparse_text.proofs.lemmas.canonical.DotLemmas.{empty_segment}
 use Rattle.uriparse_path.proofs.lemmas.merge.MergedPathLemmas.{each_cut}
 use Rattle.uriparse_reference.specs.declared.uri_reference.edit.Edit.TheVariants as edits
 use Rattle.uriparse_reference.specs.declared.uri_reference.error.URIReferenceError.{URIReferenceError}

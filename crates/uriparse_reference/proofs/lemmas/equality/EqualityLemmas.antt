@@ -50,7 +50,7 @@ plain_ends b h = (grind (arith, nat_tests), grind (arith, nat_tests))
 digit_ends : (b : ℕ) → is_hex b ≡ true → (is_slash b ≡ false) × ((b == colon) ≡ false)
 digit_ends b h = (grind (arith, nat_tests), grind (arith, nat_tests))
 
--- a percent-encoded octet has neither a colon nor a slash, as it is and in canonical form
+-- an escape has neither a colon nor a slash, as it is and in canonical form
 past_escape : (high low : ℕ) (rest : List ℕ) → is_hex high ≡ true → is_hex low ≡ true → is_noscheme (spell (Escape high low) ++ rest) ≡ is_noscheme rest
 past_escape high low rest h l =
     let x = digit_ends high h in

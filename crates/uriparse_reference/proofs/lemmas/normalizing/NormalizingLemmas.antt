@@ -8,7 +8,7 @@ use Rattle.std.proofs.lemmas.Bool.{false≢true, and_parts, and_from}
 use Rattle.std.proofs.lemmas.Slice.Eq.{bytes_eq-Decides}
 use Rattle.uriparse_text.specs.Bytes.{dot}
 use Rattle.uriparse_text.specs.Canonical.{canonical}
-use Rattle.uriparse_path.specs.Segment.{is_segment}
+use Rattle.uriparse_text.specs.Segment.{is_segment}
 use Rattle.uriparse_path.specs.Path.{PathParts, IsListed, text, spelled, hides_root, respelled, has_two_slashes}
 use Rattle.uriparse_path.specs.Normal.{pnormal}
 use Rattle.uriparse_path.specs.Normal as path

@@ -16,7 +16,7 @@ use Rattle.uriparse_text.specs.Cuts.{behind, ahead}
 use Rattle.uriparse_text.specs.Faults.{IsIn}
 use Rattle.uriparse_text.specs.Readings.{IfPresent}
 use Rattle.uriparse_text.proofs.lemmas.classes.ClassLemmas.{IsAscii-in_class}
-use Rattle.uriparse_path.specs.Segment.{is_segment}
+use Rattle.uriparse_text.specs.Segment.{is_segment}
 use Rattle.uriparse_path.specs.Path.{IsPath}
 use Rattle.uriparse_path.specs.Path.{text as path_text}
 use Rattle.uriparse_path.proofs.lemmas.text.SplitLemmas.{cut, joined-pieces}

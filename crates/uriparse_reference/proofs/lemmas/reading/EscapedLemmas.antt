@@ -21,7 +21,7 @@ use Rattle.uriparse_text.proofs.lemmas.classes.ClassLemmas.{plain_ascii, hex_asc
 use Rattle.uriparse_text.proofs.lemmas.readings.CutLemmas.{lacks-append, lacks-behind, weaker, up_to-append, from_first-append, before_of, after_of, front_of}
 use Rattle.uriparse_text.proofs.lemmas.readings.ReadingLemmas.{texts_again}
 use Rattle.uriparse_text.proofs.lemmas.tokens.EscapingLemmas as escaping
-use Rattle.uriparse_path.specs.declared.path.error.PathError.{PathError}
+use Rattle.uriparse_text.specs.declared.segment.error.PathError.{PathError}
 use Rattle.uriparse_path.specs.Path.{has_two_slashes, max_segments, pieces, spelled}
 use Rattle.uriparse_path.specs.Faults as paths
 use Rattle.uriparse_path.specs.Faults.{ends_path, length_fault}

@@ -12,7 +12,7 @@ use Rattle.uriparse_text.specs.Tokens.{is_escape}
 use Rattle.uriparse_text.specs.Cuts.{lacks, none_pass}
 use Rattle.uriparse_text.specs.Coding.{may_stand}
 use Rattle.uriparse_text.proofs.lemmas.tokens.EscapingLemmas as escaping
-use Rattle.uriparse_path.specs.Segment as segment
+use Rattle.uriparse_text.specs.Segment as segment
 use Rattle.uriparse_path.specs.Path.{is_slash, is_rooted, unrooted, pieces, has_two_slashes, IsPath, max_segments}
 use Rattle.uriparse_path.specs.Faults as paths
 use Rattle.uriparse_path.specs.Faults.{length_fault}

@@ -9,8 +9,8 @@ use Rattle.uriparse_text.specs.Cuts.{up_to, from_first}
 use Rattle.uriparse_text.specs.Readings.{◌>>=◌, fault_in, if_present, of_piece, some_of, unless_fault}
 use Rattle.uriparse_text.specs.Query as query
 use Rattle.uriparse_text.specs.Fragment as fragment
-use Rattle.uriparse_path.specs.declared.path.error.PathError.{PathError}
-use Rattle.uriparse_path.specs.declared.path.error.PathError.TheVariants.{OutOfMemory}
+use Rattle.uriparse_text.specs.declared.segment.error.PathError.{PathError}
+use Rattle.uriparse_text.specs.declared.segment.error.PathError.TheVariants.{OutOfMemory}
 use Rattle.uriparse_path.specs.Path.{has_two_slashes, is_rooted, is_slash, spelled}
 use Rattle.uriparse_path.specs.Faults as paths
 use Rattle.uriparse_path.specs.Faults.{ends_path}

@@ -11,7 +11,7 @@ use Rattle.uriparse_text.specs.Place.{place_behind}
 use Rattle.uriparse_text.specs.Readings.{◌>>=◌, fault_in, if_present, of_piece, some_of, unless_fault}
 use Rattle.uriparse_text.proofs.lemmas.classes.PlaceLemmas.{present_before_end}
 use Rattle.uriparse_text.proofs.lemmas.readings.CutLemmas.{before_after, cut-whole}
-use Rattle.uriparse_path.specs.declared.path.error.PathError.{PathError}
+use Rattle.uriparse_text.specs.declared.segment.error.PathError.{PathError}
 use Rattle.uriparse_path.specs.Path.{has_two_slashes, spelled}
 use Rattle.uriparse_path.specs.Faults as path
 use Rattle.uriparse_path.specs.Faults.{ends_path}

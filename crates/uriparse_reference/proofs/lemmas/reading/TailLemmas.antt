@@ -6,7 +6,7 @@ use Rattle.uriparse_text.specs.Cuts.{after, up_to, from_first}
 use Rattle.uriparse_text.specs.Readings.{◌>>=◌, if_present, of_piece, unless_fault}
 use Rattle.uriparse_text.specs.Query as query
 use Rattle.uriparse_text.specs.Fragment as fragment
-use Rattle.uriparse_path.specs.declared.path.error.PathError.{PathError}
+use Rattle.uriparse_text.specs.declared.segment.error.PathError.{PathError}
 use Rattle.uriparse_path.specs.Path.{PathParts}
 use Rattle.uriparse_path.specs.Faults as paths
 use Rattle.uriparse_path.specs.Faults.{ends_path}

@@ -11,7 +11,7 @@ use Rattle.uriparse_text.specs.declared.internal.class.Class.TheVariants.{Query}
 use Rattle.uriparse_text.specs.Bytes.{dot}
 use Rattle.uriparse_text.specs.Query.{IsQuery}
 use Rattle.uriparse_text.specs.Canonical.{canonical}
-use Rattle.uriparse_path.specs.Segment.{is_segment}
+use Rattle.uriparse_text.specs.Segment.{is_segment}
 use Rattle.uriparse_path.specs.Path.{PathParts, IsListed, max_segments, text, is_rooted, pieces, respelled}
 use Rattle.uriparse_path.specs.Dots.{is_double_dot, all_but_last, replay, rooted_after}
 use Rattle.uriparse_path.specs.Relative.{is_last, relative_normal}

@@ -8,8 +8,10 @@ use Rattle.uriparse_text.specs.Canonical.{canonical}
 use Rattle.uriparse_path.specs.Path.{PathParts, IsListed, max_segments, text, is_rooted, pieces, respelled, has_two_slashes}
 use Rattle.uriparse_path.specs.Dots.{all_but_last}
 use Rattle.uriparse_path.specs.Normal.{canonical_path, pnormal}
-use Rattle.uriparse_path.proofs.lemmas.text.CanonicalTextLemmas.{canonical-nil, canonical-text, length-canonical, listed-canonical, is_rooted-canonical}
-use Rattle.uriparse_path.proofs.lemmas.dots.DotSegmentLemmas.{canonical-dot, canonical-empty}
+use Rattle.uriparse_text.proofs.lemmas.canonical.DotLemmas.{canonical-nil}
+use Rattle.uriparse_path.proofs.lemmas.text.CanonicalTextLemmas.{canonical-text, length-canonical, listed-canonical, is_rooted-canonical}
+use Rattle.uriparse_text.proofs.lemmas.canonical.DotLemmas.{canonical-dot}
+use Rattle.uriparse_path.proofs.lemmas.dots.DotSegmentLemmas.{canonical-empty}
 use Rattle.uriparse_path.proofs.lemmas.normal.RelativeFormLemmas.{hides-canonical}
 use Rattle.uriparse_path.proofs.lemmas.normal.NormalFormLemmas.{respelled-canonical}
 use Rattle.uriparse_path.proofs.lemmas.normal.SpellingCommutesLemmas.{cut-canonical, pnormal-canonical}

@@ -5,7 +5,7 @@ use Rattle.std.specs.List.{list_all, list_any, slice_split, join_with_byte}
 use Rattle.std.proofs.lemmas.Bool.{false≢true, and_parts}
 use Rattle.std.proofs.lemmas.List.Folds.{list_all-append}
 use Rattle.uriparse_text.specs.Bytes.{slash}
-use Rattle.uriparse_path.specs.Segment.{is_segment}
+use Rattle.uriparse_text.specs.Segment.{is_segment}
 use Rattle.uriparse_path.specs.Path.{PathParts, IsListed, max_segments, root, text, is_slash, is_rooted, unrooted, pieces, spelled, hides_root, respelled}
 use Rattle.uriparse_path.specs.Merge.{merged}
 use Rattle.uriparse_path.specs.Dots.{LacksSlash, all_but_last}

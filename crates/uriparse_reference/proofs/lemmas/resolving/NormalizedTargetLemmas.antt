@@ -12,9 +12,9 @@ use Rattle.uriparse_path.specs.Path.{PathParts, IsListed, max_segments, text}
 use Rattle.uriparse_path.specs.Dots.{replayed}
 use Rattle.uriparse_path.specs.Normal.{canonical_path, stays_relative, pnormal}
 use Rattle.uriparse_path.specs.Normal as path
-use Rattle.uriparse_path.proofs.lemmas.text.CanonicalTextLemmas.{canonical-nil}
-use Rattle.uriparse_path.proofs.lemmas.dots.DotSegmentLemmas.{empty_single, empty_double}
-use Rattle.uriparse_path.proofs.lemmas.normal.RelativeFormLemmas.{empty_segment}
+use Rattle.uriparse_text.proofs.lemmas.canonical.DotLemmas.{canonical-nil}
+use Rattle.uriparse_text.proofs.lemmas.canonical.DotLemmas.{empty_single, empty_double}
+use Rattle.uriparse_text.proofs.lemmas.canonical.DotLemmas.{empty_segment}
 use Rattle.uriparse_path.proofs.lemmas.normal.NormalFormLemmas.{listed_pnormal, normal_kept}
 use Rattle.uriparse_path.proofs.lemmas.merge.MergedNormalFormLemmas.{undotted, listed_undotted, undotted_twice, undotted-canonical, canonical_path_twice}
 use Rattle.uriparse_path.proofs.lemmas.merge.MergedNormalFormLemmas.{respelled_twice, pnormal_is}

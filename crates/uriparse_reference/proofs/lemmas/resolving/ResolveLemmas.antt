@@ -5,8 +5,8 @@ use Rattle.std.specs.Prelude.{IfSome, MatchOption, MatchResult, is_some, nat_le}
 use Rattle.std.specs.Option.{option_or}
 use Rattle.std.proofs.lemmas.Bool.{false≢true, or_parts}
 use Rattle.uriparse_text.specs.Readings.{IsUnless}
-use Rattle.uriparse_path.specs.declared.path.error.PathError.{PathError}
-use Rattle.uriparse_path.specs.declared.path.error.PathError.TheVariants.{ExceededMaximumLength, OutOfMemory}
+use Rattle.uriparse_text.specs.declared.segment.error.PathError.{PathError}
+use Rattle.uriparse_text.specs.declared.segment.error.PathError.TheVariants.{ExceededMaximumLength, OutOfMemory}
 use Rattle.uriparse_path.specs.Path.{PathParts, hides_root, max_segments, text, is_rooted, pieces}
 use Rattle.uriparse_path.specs.Dots.{has_dot_segment, without_dots}
 use Rattle.uriparse_path.specs.Edits.{shield}

@@ -2,7 +2,8 @@
 use Rattle.std.proofs.Common.{◌≡◌, ℕ, ◌-◌, ◌<◌, true, List, length, drop, Option, Some, None, IsUtf8, refl, sym, ap, ◌∙◌, arith}
 use Rattle.std.specs.Prelude.{IfSome, is_some, min}
 use Rattle.uriparse_text.specs.Ends.{EndsWith}
-use Rattle.uriparse_reference.specs.Into.{most, print_if}
+use Rattle.uriparse_text.specs.Starts.{most}
+use Rattle.uriparse_reference.specs.Into.{print_if}
 use Rattle.uriparse_reference.specs.Reference.{Parts, Valid}
 use Rattle.uriparse_reference.specs.Target.{target}
 use Rattle.uriparse_reference.proofs.lemmas.reading.AsciiLemmas.{IsUtf8-print}

@@ -2,6 +2,7 @@
 //! 3986, sections 5.2 and 6.2.2.
 ghost use Rattle.std.specs.Prelude.{◌≡◌, ◌≤◌, Err, IfOk, MatchOption, MatchResult, false, is_some, length, min, string_bytes, true};
 ghost use Rattle.std.specs.Str.{IsUtf8};
+ghost use Rattle.uriparse_text.specs.Starts.{most};
 ghost use Rattle.uriparse_path.specs.Path.{max_segments, pieces};
 ghost use Rattle.uriparse_reference.specs.declared.uri_reference.error.TargetError.TheVariants as errors;
 ghost use Rattle.uriparse_reference.specs.Reference.{print};
@@ -16,14 +17,14 @@ use std::alloc::{AllocError, Global};
 impl<'t> ReferenceView<'t> {
     /// The length of the text of the normal form, or the largest number.
     fn normal_len(&self) -> usize
-        ensures { result ≡ min (length (print (normal self.now.parts))) spec.most }
+        ensures { result ≡ min (length (print (normal self.now.parts))) most }
     {
         self.put_normal(&mut [])
     }
 
     /// Fills a buffer of its length with the text of the normal form.
     fn fill_normal(&self, out: &mut [u8])
-        requires { length out.old ≡ min (length (print (normal self.now.parts))) spec.most }
+        requires { length out.old ≡ min (length (print (normal self.now.parts))) most }
         ensures text { out.new ≡ print (normal self.now.parts) }
         ensures utf8 { IsUtf8 out.new }
     {
@@ -52,7 +53,7 @@ impl<'t> ReferenceView<'t> {
     /// The length of the text of the target, or the largest number.
     fn target_len(&self, reference: &ReferenceView<'_>) -> usize
         requires { is_merged reference.now.parts ≡ true → length (pieces (merge self.now.parts reference.now.parts)) ≤ max_segments }
-        ensures { result ≡ min (length (spec.print_if (target self.now.parts reference.now.parts))) spec.most }
+        ensures { result ≡ min (length (spec.print_if (target self.now.parts reference.now.parts))) most }
     {
         self.put_target(reference, &mut [])
     }
@@ -61,7 +62,7 @@ impl<'t> ReferenceView<'t> {
     fn fill_target(&self, reference: &ReferenceView<'_>, out: &mut [u8])
         requires scheme { is_some self.now.parts.scheme ≡ true }
         requires short { is_merged reference.now.parts ≡ true → length (pieces (merge self.now.parts reference.now.parts)) ≤ max_segments }
-        requires len { length out.old ≡ min (length (spec.print_if (target self.now.parts reference.now.parts))) spec.most }
+        requires len { length out.old ≡ min (length (spec.print_if (target self.now.parts reference.now.parts))) most }
         ensures text { out.new ≡ spec.print_if (target self.now.parts reference.now.parts) }
         ensures utf8 { IsUtf8 out.new }
     {

@@ -41,7 +41,7 @@ ascii (b ∷ t) h =
 pub IsUtf8-scheme : (t : List ℕ) → is_scheme t ≡ true → IsUtf8 t
 IsUtf8-scheme t h = IsUtf8-from_ascii t (ascii t (scheme_bytes t h))
 
--- a scheme has no percent-encoded octets
+-- a scheme has no escapes
 pub scheme_lacks : (t : List ℕ) → is_scheme t ≡ true → lacks percent t ≡ true
 scheme_lacks t h = weaker is_scheme_byte (λ b. not (b == percent)) byte_not_percent t (scheme_bytes t h)
 

@@ -125,7 +125,7 @@ some_pieces name new ps ss is =
 -- ---- the pairs of the name, and the others
 
 module _ (name : List ℕ) where
-  none_named : (ps : List Pair) → filter (is_named name) (without_name name ps) ≡ []
+  pub none_named : (ps : List Pair) → filter (is_named name) (without_name name ps) ≡ []
   none_named [] = refl
   none_named (p ∷ ps) = by_name (is_named name p) refl (none_named ps)
     where
@@ -133,7 +133,7 @@ module _ (name : List ℕ) where
       by_name true e h = rw e h
       by_name false e h = rw e (rw e h)
 
-  others_twice : (ps : List Pair) → without_name name (without_name name ps) ≡ without_name name ps
+  pub others_twice : (ps : List Pair) → without_name name (without_name name ps) ≡ without_name name ps
   others_twice [] = refl
   others_twice (p ∷ ps) = by_name (is_named name p) refl (others_twice ps)
     where
@@ -141,6 +141,25 @@ module _ (name : List ℕ) where
           → without_name name (without_name name (p ∷ ps)) ≡ without_name name (p ∷ ps)
       by_name true e h = rw e h
       by_name false e h = rw e (rw e (ap (λ l. p ∷ l) h))
+
+  filter-yes : (p : Pair) (ps : List Pair) → is_named name p ≡ true → filter (is_named name) (p ∷ ps) ≡ p ∷ filter (is_named name) ps
+  filter-yes p ps e = rw e refl
+
+  filter-no : (p : Pair) (ps : List Pair) → is_named name p ≡ false → filter (is_named name) (p ∷ ps) ≡ filter (is_named name) ps
+  filter-no p ps e = rw e refl
+
+  others-no : (p : Pair) (ps : List Pair) → is_named name p ≡ false → without_name name (p ∷ ps) ≡ p ∷ without_name name ps
+  others-no p ps e = rw e refl
+
+  pub all_others : (ps : List Pair) → filter (is_named name) ps ≡ [] → without_name name ps ≡ ps
+  all_others [] none = refl
+  all_others (p ∷ ps) none = by_name (is_named name p) refl (all_others ps)
+    where
+      by_name : (b : Bool) → is_named name p ≡ b → (filter (is_named name) ps ≡ [] → without_name name ps ≡ ps) → without_name name (p ∷ ps) ≡ p ∷ ps
+      by_name true e h =
+          let some : p ∷ filter (is_named name) ps ≡ [] = sym (filter-yes p ps e) ∙ none in
+          let none = ap length some in absurd (omega (arith, none))
+      by_name false e h = others-no p ps e ∙ ap (λ l. p ∷ l) (h (sym (filter-no p ps e) ∙ none))
 
   module _ (new : Pair) where
     pub named_pairs : (ps : List Pair) → is_named name new ≡ true → filter (is_named name) (with_pair name new ps) ≡ new ∷ []

@@ -1,6 +1,6 @@
 -- Queries without some of their pairs.
 use Rattle.std.proofs.Common.{◌≡◌, ℕ, ◌+◌, ◌-◌, ◌<◌, Bool, true, false, List, [], ◌∷◌, ◌++◌, length, take, map, flat_map, Option, Some, None, refl, sym, ap, subst, ◌∙◌, append-nil, append_assoc, arith, suc}
-use Rattle.std.specs.Prelude.{not, IfSome}
+use Rattle.std.specs.Prelude.{not, ⊤, IfSome}
 use Rattle.std.specs.List.{filter, list_all, join_with_byte}
 use Rattle.std.proofs.lemmas.Bool.{and_from, and_parts}
 use Rattle.std.proofs.Math.Bool.{not-not}
@@ -11,10 +11,10 @@ use Rattle.std.proofs.lemmas.List.Elements.{filter_from_retain}
 use Rattle.uriparse_text.specs.Bytes.{ampersand}
 use Rattle.uriparse_text.specs.Cuts.{lacks, behind, before, after}
 use Rattle.uriparse_text.specs.Query.{IsQuery}
-use Rattle.uriparse_text.specs.Pairs.{Pair, is_ampersand, pair_of, pairs, pairs_left, IsWithout}
+use Rattle.uriparse_text.specs.Pairs.{Pair, is_ampersand, is_named, joined_pairs, pair_of, pairs, pairs_left, without_name, IsWithout}
 use Rattle.uriparse_text.specs.Written.{is_piece, AreWritten}
 use Rattle.uriparse_text.proofs.lemmas.readings.CutLemmas.{before_after, up_to-none}
-use Rattle.uriparse_text.proofs.lemmas.readings.PairLemmas.{ampersand_plain, first_pair, in_join, query_pieces, split_joined}
+use Rattle.uriparse_text.proofs.lemmas.readings.PairLemmas.{ampersand_plain, first_pair, in_join, joined-pairs, query_pieces, split_joined}
 
 -- ---- the query of the pieces
 
@@ -168,3 +168,20 @@ pub without_is : {F : Type 0} (step : F → List ℕ → Option (List ℕ) → B
     → kept ≡ filter (λ p. not (test p)) ps
 without_is step test says =
     filter_from_retain (λ f p b g. step f p.0 p.1 (not b) g) (λ p. not (test p)) (λ f p b g call. sym (not-not b) ∙ ap not (says f g p (not b) call))
+
+-- ---- a test of the name alone, which has no state
+
+abbrev pub NameStep : List ℕ → ⊤ → List ℕ → Option (List ℕ) → Bool → ⊤ → Type 0
+NameStep name _ own value b _ = b ≡ is_named name (own, value)
+
+-- The text has the pieces of the other names once the loop ends.
+pub others_last : (name q : List ℕ) (o : Option (List ℕ)) (text : List ℕ) → Going (NameStep name) tt q tt o text → o ≡ None
+    → (ss : List (List ℕ)) × AreWritten ss text × (map pair_of ss ≡ without_name name (pairs q))
+others_last name q o text g none =
+    let (ss, written, chosen) = going_last (NameStep name) tt q tt o text g none in
+    (ss, written, without_is (NameStep name) (is_named name) (λ _ _ _ _ says. says) tt (pairs q) (map pair_of ss) chosen)
+
+-- pairs of which none is left out are those of the same query
+pub same_query : (q : List ℕ) (o : Option (List ℕ)) → pairs_left o ≡ pairs q → o ≡ Some q
+same_query q None e = let none = ap length e ∙ ap length (first_pair q) in absurd (omega (arith, none))
+same_query q (Some u) e = ap Some (sym (joined-pairs u) ∙ ap joined_pairs e ∙ joined-pairs q)

@@ -1,4 +1,4 @@
-use Rattle.uriparse_path.specs.declared.path.error.PathError.TheVariants.{OutOfMemory}
+use Rattle.uriparse_text.specs.declared.segment.error.PathError.TheVariants.{OutOfMemory}
 use Rattle.uriparse_reference.specs.declared.uri_reference.error.URIReferenceError.TheVariants as errors
 use Rattle.uriparse.proofs.lemmas.KindLemmas.{kind_found, kind_only}
 use Rattle.uriparse.proofs.reference_of.ReferenceOf.try_from_bytes.Goals as goal

@@ -1,10 +1,10 @@
 use Rattle.std.proofs.Common.{◌≡◌, ◌∷◌, true, sym, ap, ◌∙◌, length, refl, arith}
 use Rattle.std.specs.List.{list_all}
 use Rattle.std.proofs.lemmas.Bool.{and_parts}
-use Rattle.uriparse_path.specs.Segment.{is_segment}
+use Rattle.uriparse_text.specs.Segment.{is_segment}
 use Rattle.uriparse_path.specs.Path.{text}
 use Rattle.uriparse_path.proofs.lemmas.text.PathTextLemmas.{text-absolute, text-cons}
-use Rattle.uriparse_path.proofs.lemmas.normal.RelativeFormLemmas.{empty_segment}
+use Rattle.uriparse_text.proofs.lemmas.canonical.DotLemmas.{empty_segment}
 use Rattle.uriparse_path.proofs.path.Path.split_front.Goals as goal
 
 pub returns-then-is_absolute : goal.returns-then-is_absolute

@@ -59,7 +59,7 @@ returns-then-not-is_escape-clause-count c =
     let reached = run_to limit ends text c.runs.at n c.marks.count c.marks.left k c.marks.invariant low.set low.below in
     let goes : (ends && ends_path (get_or text i 0)) ≡ false = cc in
     let never : is_escape (get_or text i 0) (drop (i + 1) text) ≡ false = ap (is_escape (get_or text i 0)) (sym (take_rest text (i + 1))) ∙ (cc) in
-    ap Err c.fault_at.ensures
+    ap Err c.error_of.ensures
     ∙ counted_fault limit (path_front ends text) c.marks.count (get_or text i 0) (path_front ends (drop (i + 1) text))
     (reached_here limit ends text c.marks.count i reached within goes) ((c.marks.invariant.waiting k low.set).2)
     (ne_eqb _ _ c.if-b-eq47.false) (front_escape ends (get_or text i 0) (drop (i + 1) text) ∙ never)

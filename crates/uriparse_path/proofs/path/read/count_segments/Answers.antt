@@ -81,7 +81,7 @@ returns-then-not-is_escape-clause-count c =
     let goes : (ends && ends_path (get_or text i 0)) ≡ false = cc in
     let never : is_escape (get_or text i 0) (drop (i + 1) text) ≡ false = ap (is_escape (get_or text i 0)) (sym (take_rest text (i + 1))) ∙ (cc) in
     let waits = c.marks.invariant.0.waiting k low.set in
-    ap Err c.fault_at.ensures
+    ap Err c.error_of.ensures
     ∙ counted_fault limit (path_front ends text) so_far (get_or text i 0) (path_front ends (drop (i + 1) text))
     (reached_here limit ends text so_far i reached within goes) waits.2 waits.3 (front_escape ends (get_or text i 0) (drop (i + 1) text) ∙ never)
 

@@ -11,7 +11,7 @@ use Rattle.uriparse_path.proofs.lemmas.reading.CountingWalkLemmas.{answer}
 use Rattle.uriparse_path.proofs.lemmas.reading.ReadingLemmas.{counted_front, refused_front, front_counts, behind_front, front_before}
 use Rattle.uriparse_path.proofs.lemmas.reading.FaultLemmas.{within_none}
 use Rattle.uriparse_path.proofs.lemmas.reading.NoEscapeLemmas.{front_lacks}
-use Rattle.uriparse_path.proofs.lemmas.normal.RelativeFormLemmas.{empty_segment}
+use Rattle.uriparse_text.proofs.lemmas.canonical.DotLemmas.{empty_segment}
 use Rattle.uriparse_path.proofs.path.read.split_path.Goals as goal
 
 pub returns-in_err-count : goal.returns-in_err-count

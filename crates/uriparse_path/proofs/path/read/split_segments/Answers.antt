@@ -1,7 +1,7 @@
 use Rattle.std.proofs.Common.{◌∷◌, ◌++◌, [], arith, length, length-append, sym, ap, ◌∙◌}
 use Rattle.std.proofs.lemmas.List.{take_rest}
 use Rattle.std.specs.List.{list_any}
-use Rattle.uriparse_path.specs.Segment.{is_segment}
+use Rattle.uriparse_text.specs.Segment.{is_segment}
 use Rattle.uriparse_path.specs.Counts.{begins_with_dot}
 use Rattle.uriparse_path.proofs.lemmas.reading.CuttingWalkLemmas.{fewer_cut, last_fewer, piece_is_segment, lacks_piece, run_on, run_begins, run_ends, last_whole, last_is_segment}
 use Rattle.std.proofs.lemmas.Bool.{eqb-true}
@@ -9,8 +9,8 @@ use Rattle.uriparse_path.proofs.lemmas.reading.NoEscapeLemmas.{any_push}
 use Rattle.uriparse_path.proofs.lemmas.list.SegmentCountLemmas.{unescaped_stays}
 use Rattle.uriparse_path.proofs.path.read.split_segments.Goals as goal
 
-pub of_kept-requires : goal.of_kept-requires
-of_kept-requires c = record {
+pub kept_text-requires : goal.kept_text-requires
+kept_text-requires c = record {
   inside =
       piece_is_segment c.args.text.now c.marks.segments.items c.marks.start c.runs.at c.next_marks-marks.result.1 c.marks.left c.marks.invariant.0
       c.lowest.result c.lowest.ensures.set c.lowest.ensures.below c.requires.segments;
@@ -42,15 +42,15 @@ marks-preserved c =
     let low = c.lowest.ensures in
     let next = c.without_lowest-left.ensures in
     let k = c.lowest.result in (
-      rw (c.push_reserved.ensures.items, c.of_kept.ensures)
+      rw (c.push_reserved.ensures.items, c.kept_text.ensures)
           (run_on c.args.text.now c.marks.segments.items c.marks.start c.runs.at c.next_marks-marks.result.1 c.marks.left c.marks.invariant.0
           k low.set low.below c.without_lowest-left.result (λ j. next.kept k j (low.set, low.below)) next.no_more (next.cleared k (low.set, low.below))),
       c.is_dotted-dotted.ensures
           ∙ any_push begins_with_dot c.marks.segments.items _ c.marks.dotted c.marks.invariant.1
-          ∙ ap (λ s. list_any begins_with_dot (c.marks.segments.items ++ s ∷ [])) (sym c.of_kept.ensures)
+          ∙ ap (λ s. list_any begins_with_dot (c.marks.segments.items ++ s ∷ [])) (sym c.kept_text.ensures)
           ∙ ap (list_any begins_with_dot) (sym c.push_reserved.ensures.items),
       (let items = ap length c.push_reserved.ensures.items in let len = c.push_reserved.ensures.len in let was = c.marks.invariant.2 in
-          let more = length-append c.marks.segments.items (c.of_kept.result ∷ []) in omega (arith, items, len, was, more)),
+          let more = length-append c.marks.segments.items (c.kept_text.result ∷ []) in omega (arith, items, len, was, more)),
       c.push_reserved.ensures.capacity ∙ c.marks.invariant.3,
     )
 
@@ -62,8 +62,8 @@ runs-preserved c = (
   c.marks.invariant.3,
 )
 
-pub of_kept-requires-2 : goal.of_kept-requires-2
-of_kept-requires-2 c = record {
+pub kept_text-requires-2 : goal.kept_text-requires-2
+kept_text-requires-2 c = record {
   inside =
       ap is_segment (take_rest c.args.text.now c.runs.start)
       ∙ last_is_segment c.args.text.now c.runs.segments.items c.runs.start c.runs.at c.runs.invariant.0 c.runs-test.false c.requires.segments;
@@ -74,7 +74,7 @@ pub returns : goal.returns
 returns c =
     let whole = last_whole c.args.text.now c.runs.segments.items c.runs.start c.runs.at c.runs.invariant.0 c.runs-test.false in
     let rest = take_rest c.args.text.now c.runs.start in (
-      rw (c.push_reserved-2.ensures.items, c.of_kept-2.ensures, rest) whole,
+      rw (c.push_reserved-2.ensures.items, c.kept_text-2.ensures, rest) whole,
       c.is_dotted-dotted-2.ensures
           ∙ any_push begins_with_dot c.runs.segments.items _ c.runs.dotted c.runs.invariant.1
           ∙ ap (λ s. list_any begins_with_dot (c.runs.segments.items ++ s ∷ [])) rest

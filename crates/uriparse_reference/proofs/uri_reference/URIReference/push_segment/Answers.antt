@@ -1,6 +1,6 @@
 use Rattle.std.proofs.Common.{inl, ap, sym, subst, ◌∙◌}
 use Rattle.uriparse_path.specs.Edits.{popped}
-use Rattle.uriparse_path.specs.declared.path.error.PathError.TheVariants.{OutOfMemory}
+use Rattle.uriparse_text.specs.declared.segment.error.PathError.TheVariants.{OutOfMemory}
 use Rattle.uriparse_reference.specs.declared.uri_reference.error.URIReferenceError.TheVariants as errors
 use Rattle.uriparse_reference.specs.Reference.{Parts, Valid}
 use Rattle.uriparse_reference.specs.Edits.{segment_pushed}

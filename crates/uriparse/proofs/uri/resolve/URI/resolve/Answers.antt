@@ -1,6 +1,6 @@
 use Rattle.std.proofs.Common.{◌≡◌, true, Ok, Err, ap, subst, ◌∙◌}
 use Rattle.std.specs.Prelude.{is_some}
-use Rattle.uriparse_path.specs.declared.path.error.PathError.TheVariants as paths
+use Rattle.uriparse_text.specs.declared.segment.error.PathError.TheVariants as paths
 use Rattle.uriparse_reference.specs.declared.uri_reference.error.URIReferenceError.TheVariants as references
 use Rattle.uriparse_reference.specs.Reference.{Parts, Valid}
 use Rattle.uriparse_reference.specs.Normal.{normal}

@@ -1,9 +1,9 @@
 use Rattle.std.proofs.Common.{◌≡◌, ◌<◌, ◌≤◌, length, Err, IfErr, sym, subst, ◌∙◌, arith, rules}
 use Rattle.uriparse_text.specs.Readings.{SettlesUnless}
-use Rattle.uriparse_path.specs.declared.path.error.PathError.TheVariants.{OutOfMemory}
+use Rattle.uriparse_text.specs.declared.segment.error.PathError.TheVariants.{OutOfMemory}
 use Rattle.uriparse_path.specs.Path.{max_segments}
 use Rattle.uriparse_path.specs.Edits.{pushing}
-use Rattle.uriparse_path.specs.Segment as segment
+use Rattle.uriparse_text.specs.Segment as segment
 use Rattle.uriparse_path.proofs.lemmas.reading.ReadingLemmas.{limit_is}
 use Rattle.uriparse_path.proofs.lemmas.list.EditLemmas.{full_answer, full_fault, refused_answer, refused_fault}
 use Rattle.uriparse_path.proofs.path.edit.Path.push_bytes.Goals.{After-from_residual}

@@ -14,15 +14,15 @@ twice_not false = refl
 -- a path on its own is not shielded
 pub returns-clause-ok : goal.returns-clause-ok
 returns-clause-ok c =
-    subst (λ p. OnOk c.put_normal.result (c.put_normal.new.self ≡ p))
+    subst (λ p. OnOk c.normalize_path.result (c.normalize_path.new.path ≡ p))
     (ap (λ q. normal_at q c.args.self.now) c.alone.ensures ∙ ap (pnormal c.args.self.now) (twice_not c.args.as_reference))
-    c.put_normal.ensures.ok
+    c.normalize_path.ensures.ok
 
 pub returns-clause-takes_no_memory : goal.returns-clause-takes_no_memory
 returns-clause-takes_no_memory c e =
-    c.put_normal.ensures.takes_no_memory
-    (and_parts (list_all is_canonical c.args.self.now.segments) _ ((normal_iff c.args.self.now c.args.as_reference c.put_normal.ensures.listed).1 e)).0
+    c.normalize_path.ensures.takes_no_memory
+    (and_parts (list_all is_canonical c.args.self.now.segments) _ ((normal_iff c.args.self.now c.args.as_reference c.normalize_path.ensures.listed).1 e)).0
 
 pub returns-clause-canonical_takes_no_memory : goal.returns-clause-canonical_takes_no_memory
 returns-clause-canonical_takes_no_memory c e =
-    c.put_normal.ensures.takes_no_memory (each_is_canonical c.args.self.now.segments (ap (λ p. p.segments) e))
+    c.normalize_path.ensures.takes_no_memory (each_is_canonical c.args.self.now.segments (ap (λ p. p.segments) e))

@@ -1,7 +1,7 @@
 use Rattle.std.proofs.Common.{◌≡◌, true, sym, ap, subst, ◌∙◌}
 use Rattle.std.specs.List.{list_all}
 use Rattle.uriparse_path.specs.Path.{flag}
-use Rattle.uriparse_path.specs.Segment.{is_segment}
+use Rattle.uriparse_text.specs.Segment.{is_segment}
 use Rattle.uriparse_path.specs.Counts.{IsKept, counts}
 use Rattle.uriparse_path.proofs.lemmas.text.CanonicalTextLemmas.{counted-canonical}
 use Rattle.uriparse_path.proofs.lemmas.list.SegmentCountLemmas.{kept_by, counted_kept}

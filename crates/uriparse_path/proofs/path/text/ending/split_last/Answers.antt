@@ -3,7 +3,7 @@ use Rattle.std.specs.List.{slice_split}
 use Rattle.std.proofs.lemmas.Bool.{false≢true}
 use Rattle.std.proofs.lemmas.List.{take_rest}
 use Rattle.uriparse_path.specs.Path.{is_slash}
-use Rattle.uriparse_path.specs.Segment.{is_segment}
+use Rattle.uriparse_text.specs.Segment.{is_segment}
 use Rattle.uriparse_path.proofs.lemmas.text.SplitLemmas.{pieces-piece}
 use Rattle.uriparse_path.proofs.lemmas.left.EndingLemmas.{cut_last, none_slash, parts_each}
 use Rattle.uriparse_path.proofs.path.text.ending.split_last.Goals.{In-Some, In-None}
@@ -16,19 +16,19 @@ cut-some c = cut_last c.args.text.now c.in-Some.at (search rules) (search rules)
 cut-none : (c : In-None) → slice_split is_slash c.args.text.now ≡ c.args.text.now ∷ []
 cut-none c = pieces-piece c.args.text.now (none_slash c.args.text.now (search rules))
 
-pub of_kept-requires : goal.of_kept-requires
-of_kept-requires c =
+pub kept_text-requires : goal.kept_text-requires
+kept_text-requires c =
     let t = c.args.text.now in
     let at = c.in-Some.at in
     record {
       inside = subst (λ s. is_segment s ≡ true) (sym (take_rest t (at + 1)))
-          (parts_each (slice_split is_slash (take at t)) (drop (at + 1) t) (slice_split is_slash t) (cut-some (goal.at.of_kept-requires c).In-Some) c.requires).1;
+          (parts_each (slice_split is_slash (take at t)) (drop (at + 1) t) (slice_split is_slash t) (cut-some (goal.at.kept_text-requires c).In-Some) c.requires).1;
       canonical = λ h. absurd (false≢true h);
     }
 
-pub of_kept-requires-in-None : goal.of_kept-requires-in-None
-of_kept-requires-in-None c = record {
-  inside = (parts_each [] c.args.text.now (slice_split is_slash c.args.text.now) (cut-none (goal.at.of_kept-requires-in-None c).In-None) c.requires).1;
+pub kept_text-requires-in-None : goal.kept_text-requires-in-None
+kept_text-requires-in-None c = record {
+  inside = (parts_each [] c.args.text.now (slice_split is_slash c.args.text.now) (cut-none (goal.at.kept_text-requires-in-None c).In-None) c.requires).1;
   canonical = λ h. absurd (false≢true h);
 }
 
@@ -38,8 +38,8 @@ returns-in-Some c =
     let at = c.in-Some.at in
     record {
       cut = cut-some (goal.at.returns-in-Some c).In-Some
-          ∙ ap (λ s. slice_split is_slash (take at t) ++ s ∷ []) (sym (c.of_kept.ensures ∙ take_rest t (at + 1)));
+          ∙ ap (λ s. slice_split is_slash (take at t) ++ s ∷ []) (sym (c.kept_text.ensures ∙ take_rest t (at + 1)));
     }
 
 pub returns-in-None : goal.returns-in-None
-returns-in-None c = record { cut = cut-none (goal.at.returns-in-None c).In-None ∙ ap (λ s. s ∷ []) (sym c.of_kept-in-None.ensures) }
+returns-in-None c = record { cut = cut-none (goal.at.returns-in-None c).In-None ∙ ap (λ s. s ∷ []) (sym c.kept_text-in-None.ensures) }

@@ -2,6 +2,7 @@ use Rattle.std.proofs.Common.{◌≡◌, ◌++◌, ◌||◌, ◌∙◌, refl, sy
 use Rattle.uriparse_text.specs.declared.internal.canonical.Case.TheVariants.{Kept}
 use Rattle.uriparse_text.specs.Ends.{formed}
 use Rattle.uriparse_path.specs.Path.{root}
+use Rattle.uriparse_path.specs.Relative.{has_colon}
 use Rattle.uriparse_path.specs.Left.{IsPlaced, is_more, kept_text}
 use Rattle.uriparse_path.proofs.lemmas.left.EndingLemmas.{kept_more}
 use Rattle.uriparse_path.proofs.path.text.ending.Ending.keep.Goals as goal
@@ -17,7 +18,7 @@ returns-clause-is c = λ l t is.
       climbs = refl;
       removed = refl;
       kept = refl;
-      colon = c.has_colon.ensures;
+      colon = c.has_colon.ensures ∙ ap has_colon c.as_bytes.ensures.value;
       placed = subst (λ u. IsPlaced c.put_segment.result c.put_segment.new.out u t)
           (ap (λ v. formed form Kept s ++ (root v ++ text)) more ∙ sym (kept_more form c.args.ended s l.kept))
           (c.put_segment.ensures.placed (root c.if-self.put_root ++ text) t (c.put_root-text.ensures.placed text t is.placed));

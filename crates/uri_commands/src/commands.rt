@@ -1,0 +1,173 @@
+//! The table of the commands: what `uri help` says of each, the words that it takes, and how it
+//! runs on the texts among its words and on each line of an input.
+
+use crate::decode::{self, decode};
+use crate::edit::{self, edit};
+use crate::encode::{self, encode};
+use crate::equal::{self, equal, equal_pair};
+use crate::escape::{self, escape, escape_link};
+use crate::failure::Failure;
+use crate::file::{self, file, get_file};
+use crate::get::{self, Part, get, get_or_empty, read_part};
+use crate::help::{self, help, help_on, version};
+use crate::json::{self, parse_json};
+use crate::normalize::{self, normalize, normalize_port, normalize_with};
+use crate::options::{Manner, Options};
+use crate::pairs::{self, pairs};
+use crate::parse::{self, parse};
+use crate::quiet::{self, check, check_equal, check_pair};
+use crate::relativize::{self, relativize};
+use crate::resolve::{self, resolve, resolve_with};
+use crate::tail::{self, tail};
+use crate::topic::Topic;
+use crate::{explain, lines};
+use std::alloc::Global;
+use std::io::Write;
+use uriparse::URIView;
+
+/// The commands and the options, in the order of `uri help`.
+pub static TOPICS: [Topic; 20] = [
+    parse::ABOUT,
+    tail::ABOUT,
+    get::ABOUT,
+    normalize::ABOUT,
+    equal::ABOUT,
+    resolve::ABOUT,
+    relativize::ABOUT,
+    decode::ABOUT,
+    encode::ABOUT,
+    escape::ABOUT,
+    pairs::ABOUT,
+    file::ABOUT,
+    edit::ABOUT,
+    help::ABOUT,
+    json::ABOUT,
+    quiet::ABOUT,
+    explain::ABOUT,
+    normalize::ABOUT_DROP_DEFAULT_PORT,
+    escape::ABOUT_TRIM,
+    lines::ABOUT,
+];
+
+/// Whether `--explain` is absent, or may precede the command of these words.
+fn may_explain(options: Options, words: &[&str]) -> bool {
+    match (options.manner, words) {
+        _ if !options.explains => true,
+        (Manner::Plain | Manner::Json, ["parse", ..]) => true,
+        (Manner::Plain, ["resolve", ..]) => true,
+        _ => false,
+    }
+}
+
+/// Runs the command of these words on the texts among them.
+pub fn run_texts<O: Write>(
+    alloc: Global,
+    options: Options,
+    words: &[&str],
+    out: &mut O,
+) -> Result<(), Failure> {
+    match (options.manner, words) {
+        _ if !may_explain(options, words) => Err(Failure::Usage),
+        (Manner::Plain, ["parse", text]) => parse(alloc, text, out),
+        (Manner::Json, ["parse", text]) => parse_json(text.as_bytes(), out),
+        (Manner::Quiet, ["parse", text]) => check(text.as_bytes()),
+        (Manner::Plain, ["tail", text]) => tail(alloc, text, out),
+        (Manner::Plain, ["get", "file", uri]) => get_file(alloc, uri.as_bytes(), out),
+        (Manner::Plain, ["get", part, text]) => get(part, text.as_bytes(), out),
+        (Manner::Plain, ["normalize", text]) => normalize(alloc, text.as_bytes(), out),
+        (Manner::DropDefaultPort, ["normalize", text]) => {
+            normalize_port(alloc, text.as_bytes(), out)
+        }
+        (Manner::Plain, ["equal", a, b]) => equal(a.as_bytes(), b.as_bytes(), out),
+        (Manner::Quiet, ["equal", a, b]) => check_equal(a.as_bytes(), b.as_bytes()),
+        (Manner::Plain, ["resolve", base, text]) => {
+            resolve(alloc, base.as_bytes(), text.as_bytes(), out)
+        }
+        (Manner::Plain, ["relativize", base, uri]) => {
+            relativize(alloc, base.as_bytes(), uri.as_bytes(), out)
+        }
+        (Manner::Plain, ["decode", text]) => decode(alloc, text.as_bytes(), out),
+        (Manner::Plain, ["encode", kind, text]) => encode(alloc, kind, text.as_bytes(), out),
+        (Manner::Plain, ["escape", text]) => escape(alloc, text.as_bytes(), out),
+        (Manner::Trim, ["escape", text]) => escape_link(alloc, text.as_bytes(), out),
+        (Manner::Plain, ["pairs", text]) => pairs(alloc, text.as_bytes(), out),
+        (Manner::Plain, ["file", path]) => file(alloc, path.as_bytes(), out),
+        (Manner::Plain, ["edit", text, edits @ ..]) => edit(alloc, text, edits, out),
+        (Manner::Plain, ["help" | "--help"]) => help(out).map_err(Failure::Io),
+        (Manner::Plain, ["help", name]) => help_on(name, out),
+        (Manner::Plain, ["--version"]) => version(out).map_err(Failure::Io),
+        _ => Err(Failure::Usage),
+    }
+}
+
+/// What a command does with each line of the input.
+#[derive(Drop)]
+pub enum Task<'w> {
+    /// Print the reference as a JSON object.
+    Parse,
+    /// Check the reference.
+    Check,
+    /// Print this part of the reference, or an empty line if it is absent.
+    Get(Part),
+    /// Print the reference's normal form.
+    Normalize,
+    /// Print the normal form without a port that is the scheme's default one.
+    NormalizePort,
+    /// Print whether the line's two references are equal.
+    Equal,
+    /// Check that the line's two references are equal.
+    CheckEqual,
+    /// Print the target of the reference against this base.
+    Resolve(URIView<'w>),
+    /// Print the text with escapes for what a reference can't have.
+    Escape,
+    /// Print the text with escapes, without what is round a link.
+    EscapeLink,
+}
+
+impl<'w> Task<'w> {
+    /// Reads a task from the words of the command. A base is read here, before any line.
+    pub fn read(options: Options, words: &[&'w str]) -> Result<Task<'w>, Failure> {
+        match (options.manner, words) {
+            _ if !may_explain(options, words) => Err(Failure::Usage),
+            (Manner::Plain | Manner::Json, ["parse"]) => Ok(Task::Parse),
+            (Manner::Quiet, ["parse"]) => Ok(Task::Check),
+            (Manner::Plain, ["get", part]) => Ok(Task::Get(read_part(part)?)),
+            (Manner::Plain, ["normalize"]) => Ok(Task::Normalize),
+            (Manner::DropDefaultPort, ["normalize"]) => Ok(Task::NormalizePort),
+            (Manner::Plain, ["equal"]) => Ok(Task::Equal),
+            (Manner::Quiet, ["equal"]) => Ok(Task::CheckEqual),
+            (Manner::Plain, ["resolve", base]) => Ok(Task::Resolve(URIView::try_from_str(base)?)),
+            (Manner::Plain, ["escape"]) => Ok(Task::Escape),
+            (Manner::Trim, ["escape"]) => Ok(Task::EscapeLink),
+            _ => Err(Failure::Usage),
+        }
+    }
+
+    /// Does the task for a line. Normal forms and targets are put together in the buffer.
+    pub fn run<O: Write>(
+        &self,
+        alloc: Global,
+        buffer: &mut Vec<u8>,
+        line: &[u8],
+        out: &mut O,
+    ) -> Result<(), Failure> {
+        match self {
+            Task::Parse => parse_json(line, out),
+            Task::Check => check(line),
+            Task::Get(part) => get_or_empty(*part, line, out),
+            Task::Normalize => normalize_with(buffer, line, out),
+            Task::NormalizePort => normalize_port(alloc, line, out),
+            Task::Equal => equal_pair(line, out),
+            Task::CheckEqual => check_pair(line),
+            Task::Resolve(base) => resolve_with(buffer, base, line, out),
+            Task::Escape => escape(alloc, line, out),
+            Task::EscapeLink => escape_link(alloc, line, out),
+        }
+    }
+
+    /// Whether the task prints nothing.
+    pub fn is_quiet(&self) -> bool {
+        matches!(self, Task::Check | Task::CheckEqual)
+    }
+}

@@ -1,0 +1,37 @@
+//! `uri decode TEXT`: the bytes that a component stands for.
+
+use crate::failure::Failure;
+use crate::print::print_bytes;
+use crate::topic::Topic;
+use std::alloc::Global;
+use std::io::Write;
+use uriparse::Query;
+
+pub const ABOUT: Topic = Topic {
+    name: "decode",
+    summary: "\
+uri decode TEXT       the bytes that a query or a segment stands for
+",
+    page: "\
+uri decode TEXT
+
+Prints the bytes that a query stands for, or a segment or another component that
+`uri encode` made, and a newline. The bytes of escapes are printed as they are,
+control characters and broken UTF-8 too. A `+` is a `+`.
+
+Exit status: 0 on success, 1 if the text is no query, 2 on a usage error.
+
+Example:
+    uri decode 'caf%C3%A9%2Fa?b'
+prints
+    caf\u{e9}/a?b
+",
+};
+
+/// Decodes the text of a query, and prints the bytes unchanged and then a newline. Each text that
+/// `uri encode` prints can be decoded in this way, since it is the text of a query too.
+pub fn decode<O: Write>(alloc: Global, text: &[u8], out: &mut O) -> Result<(), Failure> {
+    let query = Query::try_from_bytes(text)?;
+    let bytes = query.decode(alloc)?;
+    print_bytes(&bytes, out).map_err(Failure::Io)
+}

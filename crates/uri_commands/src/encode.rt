@@ -1,0 +1,49 @@
+//! `uri encode KIND TEXT`: a text as a component with escapes.
+
+use crate::failure::Failure;
+use crate::print::print_line;
+use crate::topic::Topic;
+use std::alloc::Global;
+use std::io::Write;
+use uriparse::{Fragment, Password, Query, Segment, Username};
+
+pub const ABOUT: Topic = Topic {
+    name: "encode",
+    summary: "\
+uri encode KIND TEXT  the text as a segment, query, fragment, username or
+                      password
+",
+    page: "\
+uri encode KIND TEXT
+
+Prints a component that stands for the bytes of the text. KIND is segment,
+query, fragment, username or password. A byte that the component can't have is
+written as an escape: a space as %20, and a slash in a segment as %2F. A `%` is
+always %25, so encode a text once. A query keeps its `&` and `=`.
+
+Exit status: 0 on success, 2 on a usage error.
+
+Example:
+    uri encode segment 'a/b c'
+prints
+    a%2Fb%20c
+",
+};
+
+/// Encodes the bytes as a component of this kind, and prints it.
+pub fn encode<O: Write>(
+    alloc: Global,
+    kind: &str,
+    bytes: &[u8],
+    out: &mut O,
+) -> Result<(), Failure> {
+    let printed = match kind {
+        "segment" => print_line(&Segment::encode(alloc, bytes)?, out),
+        "query" => print_line(&Query::encode(alloc, bytes)?, out),
+        "fragment" => print_line(&Fragment::encode(alloc, bytes)?, out),
+        "username" => print_line(&Username::encode(alloc, bytes)?, out),
+        "password" => print_line(&Password::encode(alloc, bytes)?, out),
+        _ => return Err(Failure::Usage),
+    };
+    printed.map_err(Failure::Io)
+}

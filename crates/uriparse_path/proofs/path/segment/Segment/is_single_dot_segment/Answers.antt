@@ -1,8 +1,0 @@
-use Rattle.uriparse_path.proofs.lemmas.dots.DotSegmentLemmas.{single_by, no_single}
-use Rattle.uriparse_path.proofs.path.segment.Segment.is_single_dot_segment.Goals as goal
-
-pub returns : goal.returns
-returns c = single_by c.args.self.now c.eq_bytes.result c.eq_bytes.ensures
-
-pub returns-then-not-may_be_dots : goal.returns-then-not-may_be_dots
-returns-then-not-may_be_dots c = no_single c.args.self.now c.may_be_dots.result c.may_be_dots.ensures c.if-not-may_be_dots.true

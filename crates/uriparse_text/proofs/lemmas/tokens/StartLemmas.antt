@@ -1,0 +1,76 @@
+-- Texts that are written to the start of a buffer, piece by piece.
+use Rattle.std.proofs.Common.{◌≡◌, ℕ, ◌+◌, ◌<◌, List, [], ◌∷◌, ◌++◌, length, take, drop, get_or, Result, Ok, Err, refl, sym, ap, subst, ◌∙◌, append-nil, append_assoc, arith, suc}
+use Rattle.std.proofs.Math.Seq.{take-suc}
+use Rattle.std.proofs.lemmas.List.{length-append}
+use Rattle.uriparse_text.specs.declared.internal.starts.TooSmall.{TooSmall}
+use Rattle.uriparse_text.specs.declared.internal.class.Class.{Class}
+use Rattle.uriparse_text.specs.Coding.{encoded, token_for}
+use Rattle.uriparse_text.specs.Starts.{Appends, StartsWith, Writes}
+use Rattle.uriparse_text.specs.Tokens.{spell}
+use Rattle.uriparse_text.proofs.lemmas.tokens.CodingLemmas.{encoded_push}
+
+pub appends_none : (out : List ℕ) (len : ℕ) → Appends [] out len out len
+appends_none out len = λ t h. subst (StartsWith out len) (sym (append-nil t)) h
+
+pub appends_both : (s u first mid last : List ℕ) (l m r : ℕ) → Appends s first l mid m → Appends u mid m last r → Appends (s ++ u) first l last r
+appends_both s u first mid last l m r one other = λ t h. subst (StartsWith last r) (append_assoc t s u) (other (t ++ s) (one t h))
+
+-- an empty text is at the start of each buffer
+pub starts_none : (buffer : List ℕ) → StartsWith buffer 0 []
+starts_none buffer = record { size = refl; fits = λ _. refl }
+
+-- a text of which this is still to be written
+pub record Writing (whole left first : List ℕ) (begin : ℕ) (out : List ℕ) (len : ℕ) : Type 0 where
+  pub written : List ℕ
+  pub later : written ++ left ≡ whole
+  pub appended : Appends written first begin out len
+  pub room : length out ≡ length first
+
+pub writing_first : (whole first : List ℕ) (begin : ℕ) → Writing whole whole first begin first begin
+writing_first whole first begin = record { written = []; later = refl; appended = appends_none first begin; room = refl }
+
+pub writing_next : (whole left more piece first out new : List ℕ) (begin len next : ℕ) → Writing whole left first begin out len → left ≡ piece ++ more
+    → Appends piece out len new next → length new ≡ length out → Writing whole more first begin new next
+writing_next whole left more piece first out new begin len next w cut appends room = record {
+  written = w.written ++ piece;
+  later = append_assoc w.written piece more ∙ ap (λ l. w.written ++ l) (sym cut) ∙ w.later;
+  appended = appends_both w.written piece first out new begin len next w.appended appends;
+  room = room ∙ w.room;
+}
+
+pub writing_last : (whole left first out : List ℕ) (begin len : ℕ) → Writing whole left first begin out len → left ≡ []
+    → Appends whole first begin out len
+writing_last whole left first out begin len w none =
+    subst (λ t. Appends t first begin out len) (sym (append-nil w.written) ∙ ap (λ l. w.written ++ l) (sym none) ∙ w.later) w.appended
+
+-- the text of a byte more
+pub encoded_next : (class : Class) (bytes : List ℕ) (i b : ℕ) → i < length bytes → b ≡ get_or bytes i 0
+    → encoded class (take i bytes) ++ spell (token_for class b) ≡ encoded class (take (i + 1) bytes)
+encoded_next class bytes i b h e =
+    sym (encoded_push class (take i bytes) b)
+    ∙ ap (encoded class) (ap (λ x. take i bytes ++ x ∷ []) e ∙ sym (take-suc bytes i 0 h) ∙ ap (λ n. take n bytes) next)
+  where
+    next : suc i ≡ i + 1
+    next = omega arith
+
+-- ---- what a call leaves in a buffer
+
+-- a buffer doesn't begin with a text that is longer
+pub too_short : (t old new : List ℕ) → new ≡ t ++ drop (length t) old → length new ≡ length old → length old < length t → ⊥
+too_short t old new text room long =
+    let whole : length new ≡ length t + length (drop (length t) old) = ap length text ∙ length-append t (drop (length t) old) in
+    absurd (omega (arith, whole, room, long))
+
+pub same_result : (t old new other : List ℕ) (r s : Result ℕ TooSmall) → length new ≡ length old → length other ≡ length old → Writes t r old new
+    → Writes t s old other → r ≡ s
+same_result t old new other (Ok n) (Ok m) room space w v = ap Ok (w.0 ∙ sym v.0)
+same_result t old new other (Ok n) (Err e) room space w v = absurd (too_short t old new w.1 room v.1.0)
+same_result t old new other (Err e) (Ok m) room space w v = absurd (too_short t old other v.1 space w.1.0)
+same_result t old new other (Err e) (Err f) room space w v = ap Err (w.0 ∙ sym v.0)
+
+pub same_buffer : (t old new other : List ℕ) (r s : Result ℕ TooSmall) → length new ≡ length old → length other ≡ length old → Writes t r old new
+    → Writes t s old other → new ≡ other
+same_buffer t old new other (Ok n) (Ok m) room space w v = w.1 ∙ sym v.1
+same_buffer t old new other (Ok n) (Err e) room space w v = absurd (too_short t old new w.1 room v.1.0)
+same_buffer t old new other (Err e) (Ok m) room space w v = absurd (too_short t old other v.1 space w.1.0)
+same_buffer t old new other (Err e) (Err f) room space w v = w.1.1 ∙ sym v.1.1

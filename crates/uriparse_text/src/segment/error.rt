@@ -1,0 +1,40 @@
+//! Errors of paths and segments.
+ghost use Rattle.std.specs.Prelude.{◌≡◌};
+ghost use Rattle.uriparse_text.specs.declared.segment.error.PathError.TheVariants.{OutOfMemory};
+
+use std::alloc::{AllocError, AllocFailed};
+use thiserror::Error;
+
+/// Why a text is rejected as a path or a segment. The error is that of the leftmost fault.
+#[derive(Clone, Debug, Drop, PartialEq, Eq, Hash, Error)]
+pub enum PathError {
+    /// More segments than a path may have. The fault is at the slash that would start the first one
+    /// too many.
+    #[error("exceeded maximum path length")]
+    ExceededMaximumLength,
+    /// A byte that a path cannot have. In a segment, a slash too.
+    #[error("invalid path character")]
+    InvalidCharacter,
+    /// A `%` without two hexadecimal digits after it.
+    #[error("invalid path percent encoding")]
+    InvalidPercentEncoding,
+    /// Out of memory: for the list of segments or, in a list of edits, for a normal form.
+    #[error("out of memory")]
+    OutOfMemory,
+}
+
+impl From<AllocError> for PathError {
+    ghost from_gives = { λ _ e. e ≡ OutOfMemory };
+
+    fn from(_error: AllocError) -> PathError {
+        PathError::OutOfMemory
+    }
+}
+
+impl<T: Drop> From<AllocFailed<T>> for PathError {
+    ghost from_gives = { λ _ e. e ≡ OutOfMemory };
+
+    fn from(_error: AllocFailed<T>) -> PathError {
+        PathError::OutOfMemory
+    }
+}
