@@ -1,7 +1,7 @@
 /* URIs and URI references of RFC 3986: read, compare, hash, normalize, resolve, decode, encode and escape them. The code
  * behind these calls is proved: it is safe, it terminates, and it computes what this header says of results, codes and
- * what is written. That no call allocates is only tested. Neither proved nor tested is what it says of threads and signal handlers, which follows
- * from this. README.md says more.
+ * what is written. That no call allocates is only tested. Neither proved nor tested is what it says of threads and
+ * signal handlers, which follows from this. README.md says more.
  *
  * The library is for Linux on x86-64 processors of level x86-64-v2 or later, those with SSE4.2 and POPCNT. It doesn't
  * check the processor.
@@ -160,8 +160,8 @@ uint32_t uriparse_normalize(const uint8_t *text, size_t len, uint8_t *out, size_
 uint32_t uriparse_resolve(const uint8_t *base, size_t base_len, const uint8_t *text, size_t len, uint8_t *out,
                           size_t room, size_t *needed);
 
-/* Writes to `out` the bytes that the text of a component stands for, and to `*needed` their number: each percent-encoded
- * octet as its byte, each other byte as it is, so a "+" stays. If `room` is less, returns URIPARSE_NO_ROOM, and `out` is
+/* Writes to `out` the bytes that the text of a component stands for, and to `*needed` their number: each escape as its
+ * byte, each other byte as it is, so a "+" stays. If `room` is less, returns URIPARSE_NO_ROOM, and `out` is
  * unchanged. The text is that of a query, as the texts of user names, passwords, names of hosts, paths and fragments are
  * too; for another text returns URIPARSE_QUERY_BYTE or URIPARSE_QUERY_ESCAPE. Does not allocate.
  *
@@ -180,7 +180,7 @@ enum uriparse_component {
 };
 
 /* Writes to `out` any bytes as the text of a component, one of uriparse_component, as `uriparse_decode` writes: a byte
- * that the component may have stays, and each other becomes a percent-encoded octet with upper-case digits, '%' too.
+ * that the component may have stays, and each other becomes an escape with upper-case digits, '%' too.
  * `uriparse_decode` returns the bytes again. In a query '&', '=' and '+' stay. Returns URIPARSE_NO_COMPONENT for another
  * number. Does not allocate.
  *
@@ -189,7 +189,7 @@ uint32_t uriparse_encode(uint32_t component, const uint8_t *bytes, size_t len, u
                          size_t *needed);
 
 /* Writes to `out` the text of a reference, made of any text, as `uriparse_decode` writes: each byte that RFC 3986 doesn't
- * allow where it stands becomes a percent-encoded octet, and all else stays. So the text of a reference stays, an IRI in
+ * allow where it stands becomes an escape, and all else stays. So the text of a reference stays, an IRI in
  * UTF-8 becomes its URI (RFC 3987, section 3.1), and a second call changes nothing. A '%' that two hexadecimal digits
  * don't follow becomes "%25". What is written may still be rejected: for its authority, which keeps its delimiters, for
  * too many segments, or by the colon rule. Does not allocate.
