@@ -1,0 +1,92 @@
+//! The jobs that the benchmark times, on texts that they make from a seed: `jobs JOB COUNT SEED`
+//! prints a digest of all results. COUNT says how much is made: pages of 100 links, identifiers,
+//! requests, lines for each command, or texts of each awkward form. The job `all` is all of them.
+#![tactic(auto)]
+
+mod awkward;
+mod buffers;
+mod digest;
+mod error;
+mod lines;
+mod links;
+mod make;
+mod random;
+mod registry;
+mod requests;
+mod texts;
+
+use awkward::awkward;
+use buffers::buffers;
+use digest::Digest;
+use error::JobError;
+use lines::lines;
+use links::links;
+use random::Random;
+use registry::registry;
+use requests::requests;
+use std::alloc::Global;
+use std::process::ExitCode;
+use std::{env, io};
+
+/// Runs the job of this name.
+fn run_job(
+    alloc: Global,
+    job: &str,
+    count: u64,
+    random: &mut Random,
+    digest: &mut Digest,
+) -> Result<(), JobError> {
+    match job {
+        "links" => links(alloc, count, random, digest),
+        "registry" => registry(alloc, count, random, digest),
+        "requests" => requests(alloc, count, random, digest),
+        "lines" => lines(alloc, count, random, digest),
+        "buffers" => buffers(alloc, count, random, digest),
+        "awkward" => awkward(alloc, count, random, digest),
+        _ => Err(JobError::Usage),
+    }
+}
+
+/// Runs the job of this name, or all of them, and returns the digest of the results.
+fn run(alloc: Global, job: &str, count: u64, seed: u64) -> Result<u64, JobError> {
+    let mut random = Random::new(seed);
+    let mut digest = Digest::new();
+    if job != "all" {
+        run_job(alloc, job, count, &mut random, &mut digest)?;
+        return Ok(digest.sum());
+    }
+    for job in [
+        "links", "registry", "requests", "lines", "buffers", "awkward",
+    ] {
+        run_job(alloc, job, count, &mut random, &mut digest)?;
+    }
+    Ok(digest.sum())
+}
+
+/// Reads the count and the seed, and runs the job.
+fn run_words(alloc: Global, words: &[String]) -> Result<u64, JobError> {
+    let [_, job, count, seed] = words else {
+        return Err(JobError::Usage);
+    };
+    match (count.as_str().parse::<u64>(), seed.as_str().parse::<u64>()) {
+        (Ok(count), Ok(seed)) => run(alloc, job.as_str(), count, seed),
+        _ => Err(JobError::Usage),
+    }
+}
+
+fn main(rt: HostRuntime) -> io::Result<ExitCode> {
+    let mut words = Vec::new(rt.alloc());
+    for word in env::args(&rt)? {
+        words.push(word)?;
+    }
+    match run_words(rt.alloc(), &words) {
+        Ok(digest) => {
+            println!(rt; "{digest:016x}")?;
+            Ok(ExitCode::from(0))
+        }
+        Err(error) => {
+            eprintln!(rt; "{error}")?;
+            Ok(ExitCode::from(1))
+        }
+    }
+}
