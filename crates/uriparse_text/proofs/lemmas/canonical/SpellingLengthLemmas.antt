@@ -1,5 +1,5 @@
 -- The length of a canonical spelling.
-use Rattle.std.proofs.Common.{◌≡◌, ℕ, ◌+◌, ◌≤◌, List, [], ◌∷◌, ◌++◌, length, ap, ◌∙◌, arith, length-append}
+use Rattle.std.proofs.Common.{◌≡◌, ℕ, ◌+◌, ◌<◌, ◌≤◌, List, [], ◌∷◌, ◌++◌, length, ap, ◌∙◌, arith, length-append}
 use Rattle.uriparse_text.specs.declared.internal.token.Token.{Token}
 use Rattle.uriparse_text.specs.declared.internal.token.Token.TheVariants.{Byte, Escape}
 use Rattle.uriparse_text.specs.declared.internal.canonical.Case.{Case}
@@ -12,6 +12,10 @@ pub no_longer : (case : Case) (t : Token) → length (spell (canonical_token cas
 no_longer case (Byte b) = omega arith
 no_longer case (Escape high low) = by_escaped case high low (λ u. length (spell u) ≤ 3) (λ e. omega arith) (λ e. omega arith)
 
+pub some_spelled : (t : Token) → 0 < length (spell t)
+some_spelled (Byte b) = omega arith
+some_spelled (Escape high low) = omega arith
+
 -- one token more is counted
 pub length_more : (case : Case) (rest after : List ℕ) (t : Token) → tokens rest ≡ t ∷ tokens after
     → length (canonical_in case rest) ≡ length (spell (canonical_token case t)) + length (canonical_in case after)
@@ -20,6 +24,9 @@ length_more case rest after t e =
 
 pub length_behind : (rest after : List ℕ) (t : Token) → rest ≡ spell t ++ after → length rest ≡ length (spell t) + length after
 length_behind rest after t e = ap length e ∙ length-append (spell t) after
+
+pub length_run : (whole run rest : List ℕ) → whole ≡ run ++ rest → length whole ≡ length run + length rest
+length_run whole run rest e = ap length e ∙ length-append run rest
 
 pub length_none : (case : Case) (rest : List ℕ) → rest ≡ [] → length (canonical_in case rest) ≡ 0
 length_none case rest e = ap (λ u. length (canonical_in case u)) e ∙ ap length (canonical_in-nil case)
