@@ -9,6 +9,7 @@ ghost use Rattle.uriparse_text.specs.Tokens.{has_digits, is_escape as begins_esc
 
 use super::canonical::{Case, push_token};
 use super::class::Class;
+use super::cut::split_at_mark;
 use super::digit::{hex_value, upper_digit};
 use super::scan::{Outside, next_marks};
 use super::settled::split_settled;
@@ -80,7 +81,21 @@ impl Token {
     }
 }
 
-/// The bytes that the text's tokens represent. Walks the text once and reserves capacity once.
+/// The bytes that follow a token up to the next `%`, and the rest. After an escape nothing is searched
+/// for, since often another one follows it.
+#[inline(always)]
+fn split_bytes_after(token: Token, text: &[u8]) -> (&[u8], &[u8])
+    ensures whole { text.now ≡ result.0.now ++ result.1.now }
+    ensures decoded { decoded text.now ≡ result.0.now ++ decoded result.1.now }
+{
+    match token {
+        Token::Byte(_) => split_at_mark(text, b'%'),
+        Token::Escape(_, _) => (b"", text),
+    }
+}
+
+/// The bytes that the text's tokens represent. Walks the text once and reserves capacity once. Bytes
+/// up to the next `%` are copied whole.
 pub fn decoded_bytes(alloc: Global, text: &[u8]) -> Result<Vec<u8>, AllocError>
     ensures { IfOk result (λ v. v.items ≡ decoded text.now) }
 {
@@ -88,7 +103,9 @@ pub fn decoded_bytes(alloc: Global, text: &[u8]) -> Result<Vec<u8>, AllocError>
     let mut rest = text;
     'tokens: while let Some((token, after)) = split_token(rest) {
         bytes.push(token.value())?;
-        rest = after;
+        let (run, later) = split_bytes_after(token, after);
+        bytes.extend_from_slice(run)?;
+        rest = later;
     }
     Ok(bytes)
 }

@@ -1,5 +1,5 @@
 -- Bytes that are written as a text, and the bytes that a text stands for.
-use Rattle.std.proofs.Common.{◌≡◌, ℕ, ◌<◌, Bool, true, false, List, [], ◌∷◌, ◌++◌, map, refl, sym, ap, ◌∙◌, arith, append_assoc, append-nil, ◌+◌, length, take, get_or, suc}
+use Rattle.std.proofs.Common.{◌≡◌, ℕ, ◌<◌, Bool, true, false, cond, List, [], ◌∷◌, ◌++◌, map, refl, sym, ap, ◌∙◌, arith, append_assoc, append-nil, ◌+◌, length, take, get_or, suc}
 use Rattle.std.specs.Prelude.{◌==◌, ◌&&◌, ◌/◌, ◌%◌, bytes_eq}
 use Rattle.std.specs.Cmp.Lexicographic.{slice_cmp}
 use Rattle.std.specs.Ordering.{nat_cmp, ordering_then}
@@ -19,14 +19,16 @@ use Rattle.uriparse_text.specs.declared.internal.token.Token.TheVariants.{Byte, 
 use Rattle.uriparse_text.specs.declared.internal.class.Class.{Class}
 use Rattle.uriparse_text.specs.declared.internal.canonical.Case.{Case}
 use Rattle.uriparse_text.specs.declared.internal.canonical.Case.TheVariants.{Kept}
-use Rattle.uriparse_text.specs.Bytes.{is_hex, is_unreserved}
+use Rattle.uriparse_text.specs.Bytes.{is_hex, is_unreserved, percent}
+use Rattle.uriparse_text.specs.Cuts.{up_to, from_first}
 use Rattle.uriparse_text.specs.Classes.{is_plain}
 use Rattle.uriparse_text.specs.Tokens.{tokens, spell, is_token, has_digits, is_well_formed}
 use Rattle.uriparse_text.specs.Faults.{allows, IsIn}
 use Rattle.uriparse_text.specs.Canonical.{canonical_token, canonical_in, escaped_byte}
 use Rattle.uriparse_text.specs.Alike.{upper_digit_of}
 use Rattle.uriparse_text.specs.Coding.{value_of, decoded, token_for, encoded, are_bytes, form_value_of, form_decoded, token_without, encoded_without}
-use Rattle.uriparse_text.proofs.lemmas.tokens.TokenLemmas.{tokens-nil, tokens_of_concatenation, digits-tokens}
+use Rattle.uriparse_text.proofs.lemmas.canonical.RunLemmas.{no_escape}
+use Rattle.uriparse_text.proofs.lemmas.tokens.TokenLemmas.{tokens-byte, tokens-nil, tokens_of_concatenation, digits-tokens}
 use Rattle.uriparse_text.proofs.lemmas.canonical.CanonicalLemmas.{by_escaped, upper_value, tokens-canonical_in}
 use Rattle.uriparse_text.proofs.lemmas.classes.ClassLemmas.{is_token-allows, unreserved_plain, well_formed-in_class}
 
@@ -165,6 +167,33 @@ pub decoded_more : (done rest after : List ℕ) (t : Token) (whole : List ℕ) �
     → (done ++ value_of t ∷ []) ++ decoded after ≡ whole
 decoded_more done rest after t whole e h =
     append_assoc done (value_of t ∷ []) (decoded after) ∙ ap (λ u. done ++ u) (sym (decoded-cons rest after t e)) ∙ h
+
+decoded-byte : (b : ℕ) (t : List ℕ) → (b == percent) ≡ false → decoded (b ∷ t) ≡ b ∷ decoded t
+decoded-byte b t h = decoded-cons (b ∷ t) t (Byte b) (tokens-byte b t (no_escape b t h))
+
+-- the bytes before the first percent sign stand for themselves
+pub decoded-run : (t : List ℕ) → decoded t ≡ up_to (λ b. b == percent) t ++ decoded (from_first (λ b. b == percent) t)
+decoded-run [] = refl
+decoded-run (b ∷ t) = by_first (b == percent) refl (decoded-run t)
+  where
+    by_first : (v : Bool) → (b == percent) ≡ v → decoded t ≡ up_to (λ b. b == percent) t ++ decoded (from_first (λ b. b == percent) t)
+        → decoded (b ∷ t) ≡ cond v [] (b ∷ up_to (λ b. b == percent) t) ++ decoded (cond v (b ∷ t) (from_first (λ b. b == percent) t))
+    by_first true e h = refl
+    by_first false e h = decoded-byte b t e ∙ ap (λ u. b ∷ u) h
+
+-- a cut at the first percent sign
+pub cut_whole : (p : ℕ → Bool) (t : List ℕ) → t ≡ up_to p t ++ from_first p t
+cut_whole p [] = refl
+cut_whole p (b ∷ t) = by_first (p b) (cut_whole p t)
+  where
+    by_first : (v : Bool) → t ≡ up_to p t ++ from_first p t → b ∷ t ≡ cond v [] (b ∷ up_to p t) ++ cond v (b ∷ t) (from_first p t)
+    by_first true h = refl
+    by_first false h = ap (λ u. b ∷ u) h
+
+-- a token and the bytes after it
+pub decoded_run_more : (done run rest later whole : List ℕ) → done ++ decoded rest ≡ whole → decoded rest ≡ run ++ decoded later
+    → (done ++ run) ++ decoded later ≡ whole
+decoded_run_more done run rest later whole h e = append_assoc done run (decoded later) ∙ ap (λ u. done ++ u) (sym e) ∙ h
 
 pub encoded-nil : (class : Class) → encoded class [] ≡ []
 unfolding encoded
