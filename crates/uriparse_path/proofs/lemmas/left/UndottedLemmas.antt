@@ -9,15 +9,15 @@ use Rattle.uriparse_text.specs.Bytes.{dot, slash}
 use Rattle.uriparse_text.specs.Canonical.{canonical}
 use Rattle.uriparse_text.specs.Ends.{EndsWith, formed}
 use Rattle.uriparse_path.specs.Path.{PathParts, IsListed, IsPath, root, text, is_rooted, unrooted, has_two_slashes, is_slash, max_segments, pieces, spelled}
-use Rattle.uriparse_path.specs.Dots.{is_dot_segment, all_but_last, rooted_after, replayed, undot}
+use Rattle.uriparse_path.specs.Dots.{has_dot_segment, is_dot_segment, all_but_last, rooted_after, replayed, undot}
 use Rattle.uriparse_path.specs.Edits.{dotted, shield_unless}
 use Rattle.uriparse_path.specs.Relative.{is_last}
 use Rattle.uriparse_path.specs.Merge.{merged}
 use Rattle.uriparse_path.specs.Left.{nothing, backs, left_of, kept_text}
 use Rattle.uriparse_path.proofs.lemmas.text.PathTextLemmas.{text-spelled, root-unrooted, spelled-relative}
 use Rattle.uriparse_path.proofs.lemmas.text.SplitLemmas.{joined-pieces, cut}
-use Rattle.uriparse_path.proofs.lemmas.text.CanonicalTextLemmas.{canonical-text}
-use Rattle.uriparse_path.proofs.lemmas.normal.NormalFormLemmas.{listed_replayed}
+use Rattle.uriparse_path.proofs.lemmas.text.CanonicalTextLemmas.{canonical-text, has_two_slashes-canonical}
+use Rattle.uriparse_path.proofs.lemmas.normal.NormalFormLemmas.{listed_replayed, undot_kept}
 use Rattle.uriparse_path.proofs.lemmas.left.LeftLemmas.{replay_left, rooted_left, last_behind}
 use Rattle.uriparse_path.proofs.lemmas.left.EndingLemmas.{backs-append}
 use Rattle.uriparse_path.proofs.lemmas.merge.MergedPathLemmas.{listed_merged}
@@ -86,6 +86,19 @@ pub front_plain : (v : Bool) (x t new : List ℕ) (len : ℕ) → (not v && has_
     → EndsWith new len (text (shield_unless v (spelled x)) ++ t)
 front_plain v x t new len h ends =
     subst (λ u. EndsWith new len (u ++ t)) (sym (shielded_text v x ∙ ap (λ w. cond w (slash ∷ dot ∷ x) x) h)) ends
+
+two_slashes-formed : (form : Form) (t : List ℕ) → has_two_slashes (formed form Kept t) ≡ has_two_slashes t
+two_slashes-formed AsIs t = refl
+two_slashes-formed Canonical t = has_two_slashes-canonical t
+
+-- a path without dot segments that needs no "." is put whole
+pub kept_whole : (form : Form) (v : Bool) (u t new : List ℕ) (len : ℕ) → IsPath u → (not v && has_two_slashes u) ≡ false
+    → has_dot_segment (pieces u) ≡ false → EndsWith new len (formed form Kept u ++ t)
+    → EndsWith new len (text (shield_unless v (spelled (formed form Kept (undot u)))) ++ t)
+kept_whole form v u t new len is h k ends =
+    let same : undot u ≡ u = ap undot (sym (text-spelled u)) ∙ undot_kept (spelled u) is k ∙ text-spelled u in
+    subst (λ x. EndsWith new len (text (shield_unless v (spelled (formed form Kept x))) ++ t)) (sym same)
+    (front_plain v (formed form Kept u) t new len (ap (λ w. not v && w) (two_slashes-formed form u) ∙ h) ends)
 
 -- ---- merged paths
 

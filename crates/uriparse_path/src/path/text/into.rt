@@ -1,6 +1,6 @@
 //! The text of a path's normal form, and of a path without dot segments, put together from its end
 //! in the last bytes of a buffer: RFC 3986, sections 5.2.3, 5.2.4 and 6.2.2.
-ghost use Rattle.std.specs.Prelude.{◌≡◌, ℕ, Bool, ◌<◌, ◌≤◌, ◌++◌, ◌||◌, List, length, false, true};
+ghost use Rattle.std.specs.Prelude.{◌≡◌, ℕ, Bool, ◌<◌, ◌≤◌, ◌++◌, ◌||◌, ◌&&◌, List, length, false, not, true};
 ghost use Rattle.std.specs.List.{join_with_byte, slice_split};
 ghost use Rattle.uriparse_text.specs.declared.internal.canonical.Case.TheVariants as case;
 ghost use Rattle.uriparse_text.specs.declared.internal.ends.Form.{Form};
@@ -9,7 +9,7 @@ ghost use Rattle.uriparse_text.specs.Bytes.{slash};
 ghost use Rattle.uriparse_text.specs.Ends.{EndsWith, Puts, formed};
 ghost use Rattle.uriparse_path.specs.Path as path;
 ghost use Rattle.uriparse_path.specs.Path.{IsPath, is_rooted, is_slash, max_segments, root, spelled};
-ghost use Rattle.uriparse_path.specs.Dots.{replayed, undot};
+ghost use Rattle.uriparse_path.specs.Dots.{has_dot_segment, replayed, undot};
 ghost use Rattle.uriparse_path.specs.Edits.{shield_unless};
 ghost use Rattle.uriparse_path.specs.Merge.{merged};
 ghost use Rattle.uriparse_path.specs.Relative.{relative_normal};
@@ -17,10 +17,12 @@ ghost use Rattle.uriparse_path.specs.Normal.{normal_at};
 ghost use Rattle.uriparse_path.specs.Left as spec;
 
 use super::ending::{Ending, ends_in_dots};
+use super::normal::lack_dots;
+use super::segments_of;
 use crate::path::normal::Place;
 use crate::path::read::split_root;
 use crate::path::segment::has_colon;
-use uriparse_text::internal::{Form, put, split_at_mark};
+use uriparse_text::internal::{Case, Form, put, put_formed, split_at_mark};
 
 /// The front of a path from which dot segments are removed: its root, and `/.` if it would begin
 /// with two slashes without an authority.
@@ -35,8 +37,25 @@ fn put_front(ending: Ending, rooted: bool, has_authority: bool, out: &mut [u8]) 
     text.len
 }
 
+/// Whether no `.` is needed before the text: an authority precedes it, or it does not begin with two
+/// slashes.
+fn needs_no_shield(has_authority: bool, text: &[u8]) -> bool
+    ensures { result ≡ not (not has_authority && path.has_two_slashes text.now) }
+{
+    has_authority || !matches!(text, [b'/', b'/', ..])
+}
+
+/// Whether the removal of dot segments keeps the text as it is.
+fn is_kept(has_authority: bool, text: &[u8]) -> bool
+    requires { IsPath text.now }
+    ensures shield { result ≡ true → (not has_authority && path.has_two_slashes text.now) ≡ false }
+    ensures dots { result ≡ true → has_dot_segment (path.pieces text.now) ≡ false }
+{
+    needs_no_shield(has_authority, text) && lack_dots(segments_of(text))
+}
+
 /// Puts the text without its dot segments. Without an authority, a text that would start with `//`
-/// gets a leading `/.`.
+/// gets a leading `/.`. Most texts have no dot segment and are put whole, since removal keeps them.
 pub fn put_undotted(
     form: Form,
     has_authority: bool,
@@ -48,6 +67,9 @@ pub fn put_undotted(
     ensures room { length out.new ≡ length out.old }
     ensures puts { Puts (path.text (shield_unless has_authority (spelled (formed form case.Kept (undot text.now))))) out.old len out.new result }
 {
+    if is_kept(has_authority, text) {
+        return put_formed(form, Case::Kept, text, out, len);
+    }
     let (rooted, rest) = split_root(text);
     let ending = Ending::none(len).walk(form, ends_in_dots(rest), rest, out);
     put_front(ending, rooted, has_authority, out)

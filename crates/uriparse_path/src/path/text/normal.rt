@@ -1,9 +1,10 @@
 //! Whether the text of a path is that of its normal form, without a list of its segments: RFC
 //! 3986, sections 4.2 and 6.2.2.
-ghost use Rattle.std.specs.Prelude.{◌≡◌, false};
+ghost use Rattle.std.specs.Prelude.{◌≡◌, false, not};
 ghost use Rattle.std.specs.List.{list_all};
 ghost use Rattle.uriparse_path.specs.Path as path;
 ghost use Rattle.uriparse_path.specs.Path.{IsPath, is_rooted, pieces, spelled};
+ghost use Rattle.uriparse_path.specs.Dots.{has_dot_segment};
 ghost use Rattle.uriparse_path.specs.Relative as relative;
 ghost use Rattle.uriparse_path.specs.Normal as spec;
 
@@ -47,6 +48,18 @@ fn are_canonical(segments: Segments<'_>) -> bool
 {
     for segment in segments {
         if !segment.is_normalized() {
+            return false;
+        }
+    }
+    true
+}
+
+/// Whether none of the segments is a dot segment.
+pub(super) fn lack_dots(segments: Segments<'_>) -> bool
+    ensures { result ≡ not (has_dot_segment segments.entry) }
+{
+    for segment in segments {
+        if segment.is_dot_segment() {
             return false;
         }
     }

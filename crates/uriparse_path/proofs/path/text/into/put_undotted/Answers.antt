@@ -7,7 +7,7 @@ use Rattle.uriparse_path.specs.Dots.{is_dot_segment, undot}
 use Rattle.uriparse_path.specs.Edits.{shield_unless}
 use Rattle.uriparse_path.specs.Relative.{is_last}
 use Rattle.uriparse_path.specs.Left.{kept_text, left_of, nothing}
-use Rattle.uriparse_path.proofs.lemmas.left.UndottedLemmas.{undotted_text}
+use Rattle.uriparse_path.proofs.lemmas.left.UndottedLemmas.{kept_whole, undotted_text}
 use Rattle.uriparse_path.proofs.path.text.into.put_undotted.Goals as goal
 
 pub walk-ending-requires-clause-few : goal.walk-ending-requires-clause-few
@@ -37,3 +37,8 @@ returns-clause-puts c = λ t h.
     c.split_root-rooted.ensures.root
     ∙ undotted_text form u c.requires in
     subst (λ x. EndsWith c.put_front.new.out c.put_front.result (text (shield_unless c.args.has_authority (spelled x)) ++ t)) same end
+
+pub returns-then-is_kept-clause-puts : goal.returns-then-is_kept-clause-puts
+returns-then-is_kept-clause-puts c = λ t h.
+    kept_whole c.args.form c.args.has_authority c.args.text.now t c.put_formed.new.out c.put_formed.result c.requires
+    (c.is_kept.ensures.shield c.if-is_kept.true) (c.is_kept.ensures.dots c.if-is_kept.true) (c.put_formed.ensures.puts t h)
