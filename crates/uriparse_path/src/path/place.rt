@@ -1,12 +1,12 @@
 //! Where the leftmost fault of a path is: RFC 3986, section 3.3.
-ghost use Rattle.std.specs.Prelude.{◌≡◌, ◌≤◌, length};
+ghost use Rattle.std.specs.Prelude.{◌≡◌, ℕ, ◌≤◌, length};
 ghost use Rattle.uriparse_text.specs.declared.internal.class.Class.TheVariants as class;
 ghost use Rattle.uriparse_text.specs.Faults.{begins_fine};
 ghost use Rattle.uriparse_path.specs.Place as spec;
 
 use super::MAX_SEGMENTS;
 use super::read::split_root;
-use uriparse_text::internal::{Class, is_escape};
+use uriparse_text::internal::{Class, is_escape, place_of_fault, split_at_mark};
 
 /// Whether a token of a segment begins the text, or it is empty.
 fn begins_token(text: &[u8]) -> bool
@@ -18,9 +18,34 @@ fn begins_token(text: &[u8]) -> bool
     }
 }
 
+/// The place of the leftmost fault of what follows a leading slash and has no slash too many, or its
+/// length: that of a query, whose bytes are tested sixteen at a time, or of a `?` before it, which a
+/// query may have.
+fn place_of_byte(text: &[u8]) -> usize
+    ensures place { (n : ℕ) → length text.now ≤ n → result ≡ spec.place_within n text.now }
+    ensures within { result ≤ length text.now }
+{
+    let (fine, _) = text.split_at(place_of_fault(Class::Query, text));
+    let (front, _) = split_at_mark(fine, b'?');
+    front.len()
+}
+
 /// The place of the leftmost fault of what follows a leading slash, in which this many slashes may
-/// stand, or its length.
+/// stand, or its length. A text with no more bytes than that has no slash too many.
 fn place_within(slashes: usize, text: &[u8]) -> usize
+    ensures place { result ≡ spec.place_within slashes text.now }
+    ensures within { result ≤ length text.now }
+{
+    if text.len() <= slashes {
+        return place_of_byte(text);
+    }
+    place_by_one(slashes, text)
+}
+
+/// The place of the leftmost fault of what follows a leading slash, in which this many slashes may
+/// stand, or its length, byte by byte.
+#[inline(never)]
+fn place_by_one(slashes: usize, text: &[u8]) -> usize
     ensures place { result ≡ spec.place_within slashes text.now }
     ensures within { result ≤ length text.now }
 {
@@ -39,7 +64,7 @@ fn place_within(slashes: usize, text: &[u8]) -> usize
 }
 
 /// The place of the leftmost fault of a path's text, which is that of a byte or of the slash that
-/// begins one segment too many, or the length. Walks the text once and does not allocate.
+/// begins one segment too many, or the length. Walks the text up to there and does not allocate.
 pub fn place_of_path_fault(text: &[u8]) -> usize
     ensures place { result ≡ spec.fault_place text.now }
     ensures within { result ≤ length text.now }

@@ -1,10 +1,12 @@
 -- The place of the leftmost fault of a path.
-use Rattle.std.proofs.Common.{◌≡◌, ◌≢◌, ℕ, zero, suc, ◌+◌, ◌-◌, ◌<◌, ◌≤◌, cond, Some, None, Bool, true, false, ◌&&◌, List, [], ◌∷◌, length, take, refl, sym, ap, ◌∙◌, arith}
+use Rattle.std.proofs.Common.{◌≡◌, ◌≢◌, ℕ, zero, suc, ◌+◌, ◌-◌, ◌<◌, ◌≤◌, cond, Some, None, Bool, true, false, ◌&&◌, ◌||◌, List, [], ◌∷◌, length, take, refl, sym, ap, ◌∙◌, arith}
 use Rattle.std.specs.Prelude.{not, ◌==◌}
 use Rattle.std.specs.List.{slice_split}
 use Rattle.std.proofs.lemmas.Bool.{and_parts, eqb-true, eqb-false, ne_eqb}
-use Rattle.uriparse_text.specs.declared.internal.class.Class.TheVariants.{Segment}
-use Rattle.uriparse_text.specs.Bytes.{is_hex}
+use Rattle.uriparse_text.specs.declared.internal.class.Class.TheVariants.{Segment, Query}
+use Rattle.uriparse_text.specs.Bytes.{is_hex, is_unreserved, is_sub_delim, colon, at_sign, question_mark}
+use Rattle.uriparse_text.specs.Cuts.{up_to}
+use Rattle.uriparse_text.specs.Place as text_place
 use Rattle.uriparse_text.specs.Classes.{is_plain}
 use Rattle.uriparse_text.specs.Tokens.{is_escape}
 use Rattle.uriparse_text.specs.Faults.{begins_fine}
@@ -12,8 +14,10 @@ use Rattle.uriparse_text.specs.declared.segment.error.PathError.{PathError}
 use Rattle.uriparse_path.specs.Path.{is_rooted, is_slash, max_segments, root, unrooted}
 use Rattle.uriparse_path.specs.Faults.{fault, fault_within}
 use Rattle.uriparse_path.specs.Place.{fault_place, place_within}
-use Rattle.uriparse_text.proofs.lemmas.tokens.TokenLemmas.{escape_at}
-use Rattle.uriparse_text.proofs.lemmas.classes.FaultByByteLemmas.{fine_plain, hex_plain}
+use Rattle.uriparse_text.proofs.lemmas.tokens.TokenLemmas.{escape_at, no_escape_with, no_escape_across}
+use Rattle.uriparse_text.proofs.lemmas.canonical.RunLemmas.{no_escape}
+use Rattle.uriparse_text.proofs.lemmas.classes.FaultByByteLemmas.{fine_plain, fine_escape, hex_plain}
+use Rattle.uriparse_text.proofs.lemmas.classes.PlaceLemmas as text
 use Rattle.uriparse_path.proofs.lemmas.reading.FaultLemmas.{SameFrom, behind_plain, behind_sign, behind_slash, no_more}
 
 pub place-nil : (n : ℕ) → place_within n [] ≡ 0
@@ -90,6 +94,134 @@ rooted_length (b ∷ t) = by_test (is_slash b)
     by_test : (v : Bool) → length (b ∷ t) ≡ length (root v) + length (cond v t (b ∷ t))
     by_test true = omega arith
     by_test false = omega arith
+
+-- ---- a text with no slash too many: up to the first question mark its bytes are those of a query
+
+query_plain : (b : ℕ) → is_plain Query b ≡ (is_plain Segment b || (is_slash b || (b == question_mark)))
+unfolding is_plain
+query_plain b = by_kind (is_unreserved b) (is_sub_delim b) (b == colon) (b == at_sign)
+  where
+    by_kind : (u s c a : Bool)
+        → (u || s || c || a || is_slash b || (b == question_mark)) ≡ ((u || s || c || a) || (is_slash b || (b == question_mark)))
+    by_kind true s c a = refl
+    by_kind false true c a = refl
+    by_kind false false true a = refl
+    by_kind false false false true = refl
+    by_kind false false false false = refl
+
+-- a question mark is no digit, so an escape does not go beyond it
+escape_up_to : (b : ℕ) (t : List ℕ) → is_escape b (up_to (λ c. c == question_mark) t) ≡ is_escape b t
+escape_up_to b [] = refl
+escape_up_to b (c ∷ []) = by_first (c == question_mark)
+  where
+    by_first : (v : Bool) → is_escape b (cond v [] (c ∷ [])) ≡ is_escape b (c ∷ [])
+    by_first true = refl
+    by_first false = refl
+escape_up_to b (c ∷ d ∷ t) = by_first (c == question_mark) refl
+  where
+    by_second : (v : Bool) → (d == question_mark) ≡ v
+        → is_escape b (c ∷ cond v [] (d ∷ up_to (λ x. x == question_mark) t)) ≡ is_escape b (c ∷ d ∷ t)
+    by_second true e = sym (ap (λ x. is_escape b (c ∷ x ∷ t)) (eqb-true d question_mark e) ∙ no_escape_across b c question_mark t refl)
+    by_second false e = refl
+
+    by_first : (v : Bool) → (c == question_mark) ≡ v
+        → is_escape b (cond v [] (c ∷ up_to (λ x. x == question_mark) (d ∷ t))) ≡ is_escape b (c ∷ d ∷ t)
+    by_first true e = sym (ap (λ x. is_escape b (x ∷ d ∷ t)) (eqb-true c question_mark e) ∙ no_escape_with b question_mark (d ∷ t) refl)
+    by_first false e = by_second (d == question_mark) refl
+
+pub up_to-shorter : (p : ℕ → Bool) (t : List ℕ) → length (up_to p t) ≤ length t
+up_to-shorter p [] = omega arith
+up_to-shorter p (b ∷ t) = by_first (p b) (up_to-shorter p t)
+  where
+    by_first : (v : Bool) → length (up_to p t) ≤ length t → length (cond v [] (b ∷ up_to p t)) ≤ length (b ∷ t)
+    by_first true h = omega arith
+    by_first false h = omega arith
+
+front_fine : (b : ℕ) (t : List ℕ) → begins_fine Query (b ∷ up_to (λ c. c == question_mark) t) ≡ begins_fine Query (b ∷ t)
+front_fine b t = ap (λ v. is_plain Query b || v) (escape_up_to b t)
+
+-- a fault after a question mark is none of what precedes it
+pub place_up_to : (t : List ℕ) → length (up_to (λ c. c == question_mark) (take (text_place.fault_place Query t) t))
+    ≡ text_place.fault_place Query (up_to (λ c. c == question_mark) t)
+place_up_to [] = ap (λ k. length (up_to (λ c. c == question_mark) (take k []))) (text.place-nil Query) ∙ sym (text.place-nil Query)
+place_up_to (b ∷ t) = by_fine (begins_fine Query (b ∷ t)) refl (place_up_to t)
+  where
+    fine : List ℕ
+    fine = take (text_place.fault_place Query t) t
+
+    Later : Type 0
+    Later = length (up_to (λ c. c == question_mark) fine) ≡ text_place.fault_place Query (up_to (λ c. c == question_mark) t)
+
+    by_mark : (w : Bool) → begins_fine Query (b ∷ t) ≡ true → Later → length (cond w [] (b ∷ up_to (λ c. c == question_mark) fine))
+        ≡ text_place.fault_place Query (cond w [] (b ∷ up_to (λ c. c == question_mark) t))
+    by_mark true is later = sym (text.place-nil Query)
+    by_mark false is later = ap suc later ∙ sym (text.place-fine Query b (up_to (λ c. c == question_mark) t) (front_fine b t ∙ is))
+
+    no_front : (w : Bool) → begins_fine Query (b ∷ t) ≡ false
+        → text_place.fault_place Query (cond w [] (b ∷ up_to (λ c. c == question_mark) t)) ≡ 0
+    no_front true is = text.place-nil Query
+    no_front false is = text.place-faulty Query b (up_to (λ c. c == question_mark) t) (front_fine b t ∙ is)
+
+    by_fine : (v : Bool) → begins_fine Query (b ∷ t) ≡ v → Later
+        → length (up_to (λ c. c == question_mark) (take (text_place.fault_place Query (b ∷ t)) (b ∷ t)))
+        ≡ text_place.fault_place Query (up_to (λ c. c == question_mark) (b ∷ t))
+    by_fine true is later =
+        ap (λ k. length (up_to (λ c. c == question_mark) (take k (b ∷ t)))) (text.place-fine Query b t is) ∙ by_mark (b == question_mark) is later
+    by_fine false is later =
+        ap (λ k. length (up_to (λ c. c == question_mark) (take k (b ∷ t)))) (text.place-faulty Query b t is) ∙ sym (no_front (b == question_mark) is)
+
+-- a question mark begins no token of a segment
+no_mark : (t : List ℕ) → begins_fine Segment (question_mark ∷ t) ≡ false
+unfolding is_plain is_unreserved is_sub_delim
+no_mark t = no_escape question_mark t refl
+
+pub place_of_byte : (n : ℕ) (t : List ℕ) → length t ≤ n → text_place.fault_place Query (up_to (λ c. c == question_mark) t) ≡ place_within n t
+place_of_byte n [] h = text.place-nil Query ∙ sym (place-nil n)
+place_of_byte n (b ∷ t) h = by_mark (b == question_mark) refl (place_of_byte n t) (place_of_byte (n - 1) t)
+  where
+    front : List ℕ
+    front = up_to (λ c. c == question_mark) t
+
+    -- what is known of the rest
+    Later : ℕ → Type 0
+    Later m = length t ≤ m → text_place.fault_place Query front ≡ place_within m t
+
+    fine_query : (v : Bool) → (is_plain Segment b || (is_slash b || (b == question_mark))) ≡ v → is_escape b t ≡ false → begins_fine Query (b ∷ front) ≡ v
+    fine_query true e f = rw (query_plain b ∙ e) refl
+    fine_query false e f = rw (query_plain b ∙ e) (escape_up_to b t ∙ f)
+
+    by_slash : (v : Bool) → is_slash b ≡ v → is_plain Segment b ≡ false → is_escape b t ≡ false → (b == question_mark) ≡ false → Later n → Later (n - 1)
+        → text_place.fault_place Query (b ∷ front) ≡ place_within n (b ∷ t)
+    by_slash true e f g m same less =
+        let some : n ≢ 0 = λ none. (omega (arith, h, none)) in
+        text.place-fine Query b front (fine_query true (rw (f, e) refl) g)
+        ∙ ap suc (less (omega arith))
+        ∙ sym (place-slash n b t (rw (f, g) refl) e some)
+    by_slash false e f g m same less =
+        text.place-faulty Query b front (fine_query false (rw (f, e, m) refl) g) ∙ sym (place-faulty n b t (rw (f, g) refl) e)
+
+    by_escape : (v : Bool) → is_escape b t ≡ v → is_plain Segment b ≡ false → (b == question_mark) ≡ false → Later n → Later (n - 1)
+        → text_place.fault_place Query (b ∷ front) ≡ place_within n (b ∷ t)
+    by_escape true e f m same less =
+        text.place-fine Query b front (fine_escape Query b front (escape_up_to b t ∙ e))
+        ∙ ap suc (same (omega arith))
+        ∙ sym (place-fine n b t (rw (f, e) refl))
+    by_escape false e f m same less = by_slash (is_slash b) refl f e m same less
+
+    by_plain : (v : Bool) → is_plain Segment b ≡ v → (b == question_mark) ≡ false → Later n → Later (n - 1)
+        → text_place.fault_place Query (b ∷ front) ≡ place_within n (b ∷ t)
+    by_plain true e m same less =
+        text.place-fine Query b front (fine_plain Query b front (query_plain b ∙ ap (λ v. v || (is_slash b || (b == question_mark))) e))
+        ∙ ap suc (same (omega arith))
+        ∙ sym (place-fine n b t (rw e refl))
+    by_plain false e m same less = by_escape (is_escape b t) refl e m same less
+
+    by_mark : (v : Bool) → (b == question_mark) ≡ v → Later n → Later (n - 1) → text_place.fault_place Query (cond v [] (b ∷ front)) ≡ place_within n (b ∷ t)
+    by_mark true e same less =
+        let mark : b ≡ question_mark = eqb-true b question_mark e in
+        text.place-nil Query
+        ∙ sym (ap (λ x. place_within n (x ∷ t)) mark ∙ place-faulty n question_mark t (no_mark t) refl)
+    by_mark false e same less = by_plain (is_plain Segment b) refl e same less
 
 -- ---- a path with a fault has it before its end
 

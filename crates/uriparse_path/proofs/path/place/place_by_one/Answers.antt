@@ -3,8 +3,8 @@ use Rattle.std.proofs.lemmas.Bool.{eq-eqb, ne_eqb}
 use Rattle.uriparse_text.specs.declared.internal.class.Class.TheVariants.{Segment}
 use Rattle.uriparse_text.specs.Faults.{begins_fine}
 use Rattle.uriparse_path.proofs.lemmas.reading.PlaceLemmas.{walk_passes, walk_passes_slash, walk_stops, walk_stops_full, walk_ends}
-use Rattle.uriparse_path.proofs.path.place.place_within.Goals as goal
-use Rattle.uriparse_path.proofs.path.place.place_within.Goals.{then-b-ne47-via-then-b-ne47, then-b-ne47-via-else-b-ne47+then-left-eq0}
+use Rattle.uriparse_path.proofs.path.place.place_by_one.Goals as goal
+use Rattle.uriparse_path.proofs.path.place.place_by_one.Goals.{then-b-ne47-via-then-b-ne47, then-b-ne47-via-else-b-ne47+then-left-eq0}
 
 pub returns-then-b-ne47-clause-place : goal.returns-then-b-ne47-clause-place
 returns-then-b-ne47-clause-place c =
