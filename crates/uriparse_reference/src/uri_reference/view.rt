@@ -70,7 +70,9 @@ impl<'t> ReferenceView<'t> {
     ghost use Rattle.uriparse_reference.specs.Reference.{Parts, Spells, Valid};
     ghost use Rattle.uriparse_reference.specs.declared.uri_reference.error.URIReferenceError.{URIReferenceError};
 
-    /// Finds the components of the text, or its fault.
+    /// Finds the components of the text, or its fault. Inlined, so that a view is found in its last
+    /// place: it is large, and a call that returns it would move it.
+    #[inline(always)]
     fn read(bytes: &'t [u8]) -> Result<ReferenceView<'t>, URIReferenceError>
         ensures { result ≡ viewed bytes.now }
     {
@@ -86,6 +88,7 @@ impl<'t> ReferenceView<'t> {
     /// Reads a reference, which borrows the bytes: RFC 3986, section 4.1. Does not allocate.
     ///
     /// Returns the fault that [`URIReference::try_from_bytes`] returns.
+    #[inline(always)]
     pub fn try_from_bytes(bytes: &'t [u8]) -> Result<ReferenceView<'t>, URIReferenceError>
         // The result keeps the text, which spells its components.
         ensures text { IfOk result (λ v. v.text ≡ bytes.now) }
