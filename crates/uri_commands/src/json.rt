@@ -5,16 +5,17 @@
 //! The port is a number and the segments are a list; all else is a string, or `null` if it is
 //! absent.
 
-ghost use Rattle.std.specs.Prelude.{◌≡◌, OnOk};
+ghost use Rattle.std.specs.Prelude.{◌≡◌, ◌==◌, ◌<◌, OnOk, length, map, true};
 ghost use Rattle.std.specs.Io.KnownBytes.{Appends};
 ghost use Rattle.std.specs.List.{list_all};
+ghost use Rattle.std.specs.Simd.Lanes.{mask_l};
 ghost use Rattle.uri_commands.specs.Json.{escaped, escaped_byte, is_plain, is_special};
 
 use crate::failure::Failure;
 use crate::topic::Topic;
-use std::fmt::Display;
 use std::io;
 use std::io::Write;
+use std::simd::prelude::*;
 use uriparse::{Host, ReferenceView, Segments};
 
 pub const ABOUT: Topic = Topic {
@@ -77,11 +78,45 @@ fn is_special(b: u8) -> bool
     matches!(b, b'"' | b'\\')
 }
 
-/// Whether a JSON string holds the text unchanged.
-fn is_plain(text: &[u8]) -> bool
+/// Bit k is set if byte k is this one.
+#[inline(always)]
+fn marks_of(byte: u8, run: &[u8; 16]) -> u64
+    ensures { result ≡ mask_l (map (λ b. b == byte) run.now) }
+{
+    u8x16::from_array(*run)
+        .simd_eq(u8x16::splat(byte))
+        .to_bitmask()
+}
+
+/// Whether a JSON string holds these bytes unchanged.
+#[inline(always)]
+fn is_plain_run(run: &[u8; 16]) -> bool
+    ensures { result ≡ true → list_all is_plain run.now ≡ true }
+{
+    let quotes = marks_of(b'"', run);
+    let backslashes = marks_of(b'\\', run);
+    quotes == 0 && backslashes == 0
+}
+
+/// Whether a JSON string holds the text unchanged, byte by byte.
+fn is_plain_end(text: &[u8]) -> bool
     ensures { result ≡ list_all is_plain text.now }
 {
     text.iter().all(|b| !is_special(*b))
+}
+
+/// Whether a JSON string is known to hold the text unchanged. Tests sixteen bytes at a time.
+fn is_plain(text: &[u8]) -> bool
+    ensures { result ≡ true → list_all is_plain text.now ≡ true }
+{
+    let mut rest = text;
+    'runs: while let Some((run, later)) = rest.split_first_chunk::<16>() {
+        if !is_plain_run(run) {
+            return false;
+        }
+        rest = later;
+    }
+    is_plain_end(rest)
 }
 
 /// Writes the byte, after a `\` if it is special.
@@ -110,31 +145,21 @@ fn write_escaped<O: Write>(text: &[u8], out: &mut O) -> io::Result<()>
     Ok(())
 }
 
-/// Writes the value's text as a JSON string.
-fn write_string<T: Display, O: Write>(value: &T, out: &mut O) -> io::Result<()> {
-    out.write_all(b"\"")?;
-    write!(Escaping { out: &mut *out }, "{value}")?;
-    out.write_all(b"\"")
-}
-
-/// Writes the name of a member that isn't the first.
-fn write_name<O: Write>(name: &str, out: &mut O) -> io::Result<()> {
-    out.write_all(b",\"")?;
-    out.write_all(name.as_bytes())?;
-    out.write_all(b"\":")
-}
-
-/// Writes the member of this name, which isn't the first, as a string, or as `null` if the value is
-/// absent.
-fn write_member<T: Display, O: Write>(
-    name: &str,
-    value: Option<&T>,
+/// Writes a member that isn't the first and whose value is a string or absent: the text after
+/// `open`, which ends with the quote before it, or else `absent`, the whole member.
+fn write_member<O: Write>(
+    open: &[u8],
+    absent: &[u8],
+    text: Option<&[u8]>,
     out: &mut O,
 ) -> io::Result<()> {
-    write_name(name, out)?;
-    match value {
-        Some(value) => write_string(value, out),
-        None => out.write_all(b"null"),
+    match text {
+        Some(text) => {
+            out.write_all(open)?;
+            write_escaped(text, out)?;
+            out.write_all(b"\"")
+        }
+        None => out.write_all(absent),
     }
 }
 
@@ -143,6 +168,19 @@ fn write_text<O: Write>(text: &[u8], out: &mut O) -> io::Result<()> {
     out.write_all(b"{\"text\":\"")?;
     write_escaped(text, out)?;
     out.write_all(b"\"")
+}
+
+/// Writes the members `scheme`, `username` and `password`.
+fn write_front<O: Write>(reference: &ReferenceView<'_>, out: &mut O) -> io::Result<()> {
+    let scheme = reference.scheme();
+    let scheme = scheme.as_ref().map(|scheme| scheme.as_str().as_bytes());
+    write_member(b",\"scheme\":\"", b",\"scheme\":null", scheme, out)?;
+    let username = reference.username();
+    let username = username.as_ref().map(|username| username.as_bytes());
+    write_member(b",\"username\":\"", b",\"username\":null", username, out)?;
+    let password = reference.password();
+    let password = password.as_ref().map(|password| password.as_bytes());
+    write_member(b",\"password\":\"", b",\"password\":null", password, out)
 }
 
 /// What the object calls a host of this kind.
@@ -155,48 +193,58 @@ fn host_kind(host: &Host<'_>) -> &'static str {
     }
 }
 
-/// Writes the members `host`, with the brackets that it has in the text, and `host_kind`.
+/// Writes a host that is present, with the brackets that it has in the text. A name is text that is
+/// written without formatting.
+fn write_host_text<O: Write>(host: &Host<'_>, out: &mut O) -> io::Result<()> {
+    match host {
+        Host::RegisteredName(name) => write_escaped(name.as_bytes(), out),
+        _ => write!(Escaping { out }, "{host}"),
+    }
+}
+
+/// Writes the members `host` and `host_kind`.
 fn write_host<O: Write>(host: Option<&Host<'_>>, out: &mut O) -> io::Result<()> {
-    write_member("host", host, out)?;
-    write_member("host_kind", host.map(host_kind).as_ref(), out)
+    let Some(host) = host else {
+        return out.write_all(b",\"host\":null,\"host_kind\":null");
+    };
+    out.write_all(b",\"host\":\"")?;
+    write_host_text(host, out)?;
+    out.write_all(b"\",\"host_kind\":\"")?;
+    out.write_all(host_kind(host).as_bytes())?;
+    out.write_all(b"\"")
 }
 
 /// Writes the member `port`, a number.
 fn write_port<O: Write>(port: Option<u16>, out: &mut O) -> io::Result<()> {
-    write_name("port", out)?;
     match port {
-        Some(port) => write!(out, "{port}"),
-        None => out.write_all(b"null"),
+        Some(port) => write!(out, ",\"port\":{port}"),
+        None => out.write_all(b",\"port\":null"),
     }
 }
 
-/// Writes the member `segments`, a list.
-fn write_segments<O: Write>(segments: Segments<'_>, out: &mut O) -> io::Result<()> {
-    write_name("segments", out)?;
-    out.write_all(b"[")?;
-    let mut separator: &[u8] = b"";
+/// Writes the member `segments`, a list of at least one text.
+fn write_segments<O: Write>(segments: Segments<'_>, out: &mut O) -> io::Result<()>
+    requires { 0 < length segments }
+{
+    let mut separator: &[u8] = b",\"segments\":[\"";
     for segment in segments {
         out.write_all(separator)?;
-        write_string(&segment.as_str(), out)?;
-        separator = b",";
+        write_escaped(segment.as_bytes(), out)?;
+        separator = b"\",\"";
     }
-    out.write_all(b"]")
-}
-
-/// Writes the members of the scheme and the authority.
-fn write_front<O: Write>(reference: &ReferenceView<'_>, out: &mut O) -> io::Result<()> {
-    write_member("scheme", reference.scheme().as_ref(), out)?;
-    write_member("username", reference.username().as_ref(), out)?;
-    write_member("password", reference.password().as_ref(), out)?;
-    write_host(reference.host().as_ref(), out)?;
-    write_port(reference.port(), out)
+    out.write_all(b"\"]")
 }
 
 /// Writes the members of the path, the query and the fragment.
 fn write_back<O: Write>(reference: &ReferenceView<'_>, out: &mut O) -> io::Result<()> {
-    write_member("path", Some(&reference.path()), out)?;
-    write_member("query", reference.query().as_ref(), out)?;
-    write_member("fragment", reference.fragment().as_ref(), out)?;
+    let path = Some(reference.path().as_bytes());
+    write_member(b",\"path\":\"", b",\"path\":null", path, out)?;
+    let query = reference.query();
+    let query = query.as_ref().map(|query| query.as_bytes());
+    write_member(b",\"query\":\"", b",\"query\":null", query, out)?;
+    let fragment = reference.fragment();
+    let fragment = fragment.as_ref().map(|fragment| fragment.as_bytes());
+    write_member(b",\"fragment\":\"", b",\"fragment\":null", fragment, out)?;
     write_segments(reference.segments(), out)
 }
 
@@ -208,6 +256,8 @@ fn write_object<O: Write>(
 ) -> io::Result<()> {
     write_text(text, out)?;
     write_front(reference, out)?;
+    write_host(reference.host().as_ref(), out)?;
+    write_port(reference.port(), out)?;
     write_back(reference, out)?;
     out.write_all(b"}\n")
 }
