@@ -30,7 +30,7 @@ impl Sources {
     }
 }
 
-/// Works on so many texts of each form.
+/// Works on `count` texts of each form.
 pub fn awkward(
     alloc: Global,
     count: u64,
@@ -61,7 +61,7 @@ fn made_sources(alloc: Global, random: &mut Random) -> Result<Sources, AllocErro
     })
 }
 
-/// 30,000 segments, each after a slash; one in so many is `..`, or none if that is 0.
+/// 30,000 segments, each after a slash; one in `dots` is `..`, or none if that is 0.
 fn made_path(alloc: Global, dots: u64, random: &mut Random) -> Result<Texts, AllocError> {
     let mut path = Texts::new(alloc);
     for _ in 0..30_000 {
@@ -101,7 +101,7 @@ fn made_query(alloc: Global, random: &mut Random) -> Result<Texts, AllocError> {
     Ok(query)
 }
 
-/// Writes so many pieces of the source that follow one another, from a place on that is chosen at
+/// Writes `count` pieces of the source that follow one another, from a place on that is chosen at
 /// random, and a number.
 fn put_cut(
     source: &Texts,
@@ -275,7 +275,7 @@ fn trees(
     Ok(())
 }
 
-/// A file below so many folders from `start` on, and up to 100 others.
+/// A file below `shared` folders from `start` on, and up to 100 others.
 fn put_file(
     source: &Texts,
     start: usize,

@@ -9,7 +9,7 @@ use crate::texts::Texts;
 use std::alloc::Global;
 use uriparse::{ReferenceView, URIView};
 
-/// Follows the links of so many pages, of 100 links each.
+/// Follows the links of `count` pages, of 100 links each.
 pub fn buffers(
     alloc: Global,
     count: u64,

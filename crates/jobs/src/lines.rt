@@ -9,7 +9,7 @@ use crate::texts::Texts;
 use std::alloc::{AllocError, Global};
 use uri_commands::run_with_input;
 
-/// Runs five commands, each on so many lines of its own.
+/// Runs five commands, each on `count` lines of its own.
 pub fn lines(
     alloc: Global,
     count: u64,

@@ -8,7 +8,7 @@ use crate::texts::Texts;
 use std::alloc::{AllocError, Global};
 use uriparse::{URI, URIReference};
 
-/// Follows the links of so many pages, of 100 links each.
+/// Follows the links of `count` pages, of 100 links each.
 pub fn links(
     alloc: Global,
     count: u64,

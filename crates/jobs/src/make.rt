@@ -182,7 +182,7 @@ fn put_name(random: &mut Random, texts: &mut Texts) -> Result<(), AllocError> {
     texts.put(random.pick(&SUFFIXES).as_bytes())
 }
 
-/// Writes a host: a name, or one in so many an address.
+/// Writes a host: a name, or in one of `addresses` cases an address.
 pub fn put_host(random: &mut Random, addresses: u64, texts: &mut Texts) -> Result<(), AllocError>
     requires { 0 < addresses }
 {

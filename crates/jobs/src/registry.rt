@@ -13,7 +13,7 @@ use uriparse::{URI, URIReference};
 /// Scheme and host of the schemas.
 const HOST: &[u8; 28] = b"https://schemas.example.org/";
 
-/// Keeps so many identifiers, and looks up as many references.
+/// Keeps `count` identifiers, and looks up as many references.
 pub fn registry(
     alloc: Global,
     count: u64,

@@ -8,7 +8,7 @@ use crate::texts::Texts;
 use std::alloc::{AllocError, Global};
 use uriparse::{Host, Scheme, Segment, URI};
 
-/// Answers so many requests.
+/// Answers `count` requests.
 pub fn requests(
     alloc: Global,
     count: u64,
