@@ -8,7 +8,6 @@ ghost use Rattle.uriparse_text.specs.Cuts.{behind};
 ghost use Rattle.uriparse_text.specs.Ends.{Puts, formed};
 
 use super::canonical::{Case, is_canonical};
-use super::run::split_run_after;
 use super::text::{Text, TextKind};
 use super::token::{Token, split_token};
 
@@ -42,16 +41,15 @@ fn token_len(token: Token) -> usize
     }
 }
 
-/// The length of the text's canonical spelling. Runs that do not change are not read byte by byte.
+/// The length of the text's canonical spelling.
 fn spelling_len(case: Case, text: &[u8]) -> usize
     ensures { result ≡ length (canonical_in case text.now) }
 {
     let mut len: usize = 0;
     let mut rest = text;
     'tokens: while let Some((token, after)) = split_token(rest) {
-        let (run, later) = split_run_after(token, case, after);
-        len += token_len(token.canonical(case)) + run.len();
-        rest = later;
+        len += token_len(token.canonical(case));
+        rest = after;
     }
     len
 }
@@ -77,20 +75,7 @@ fn write_token(token: Token, out: &mut [u8], at: usize) -> usize
     }
 }
 
-/// Writes bytes to the buffer's bytes from `at` on. Returns where they end.
-fn write_run(run: &[u8], out: &mut [u8], at: usize) -> usize
-    requires { at + length run.now ≤ length out.old }
-    ensures end { result ≡ at + length run.now }
-    ensures room { length out.new ≡ length out.old }
-    ensures written { take result out.new ≡ take at out.old ++ run.now }
-{
-    let end = at + run.len();
-    out[at..end].copy_from_slice(run);
-    end
-}
-
-/// Writes the text's canonical spelling to a buffer of its length. Runs that do not change are
-/// copied whole.
+/// Writes the text's canonical spelling to a buffer of its length.
 fn write_spelling(case: Case, text: &[u8], out: &mut [u8])
     requires { length out.old ≡ length (canonical_in case text.now) }
     ensures { out.new ≡ canonical_in case text.now }
@@ -98,10 +83,8 @@ fn write_spelling(case: Case, text: &[u8], out: &mut [u8])
     let mut at: usize = 0;
     let mut rest = text;
     'tokens: while let Some((token, after)) = split_token(rest) {
-        let (run, later) = split_run_after(token, case, after);
         at = write_token(token.canonical(case), out, at);
-        at = write_run(run, out, at);
-        rest = later;
+        rest = after;
     }
 }
 
@@ -116,7 +99,7 @@ pub fn put_spelling(case: Case, text: &[u8], out: &mut [u8], len: usize) -> usiz
     put_respelled(case, text, out, len)
 }
 
-/// Puts the canonical spelling of any text, by tokens and runs.
+/// Puts the canonical spelling of any text, token by token.
 fn put_respelled(case: Case, text: &[u8], out: &mut [u8], len: usize) -> usize
     ensures room { length out.new ≡ length out.old }
     ensures puts { Puts (canonical_in case text.now) out.old len out.new result }

@@ -5,7 +5,6 @@ ghost use Rattle.uriparse_text.specs.Canonical as spec;
 
 use super::canonical::Case;
 use super::scan::{ByteTest, Is, by_high, by_low, first};
-use super::token::Token;
 use std::simd::prelude::*;
 
 /// The byte may change in a canonical spelling.
@@ -49,17 +48,4 @@ pub(super) fn split_run(case: Case, text: &[u8]) -> (&[u8], &[u8])
         return (b"", text);
     }
     text.split_at(first(&MayChange(case), text))
-}
-
-/// The run that follows a token, and the rest. After an escape nothing is searched for, since often
-/// another one follows it.
-#[inline(always)]
-pub(super) fn split_run_after(token: Token, case: Case, text: &[u8]) -> (&[u8], &[u8])
-    ensures whole { text.now ≡ result.0.now ++ result.1.now }
-    ensures spelled { spec.canonical_in case text.now ≡ result.0.now ++ spec.canonical_in case result.1.now }
-{
-    match token {
-        Token::Byte(_) => split_run(case, text),
-        Token::Escape(_, _) => (b"", text),
-    }
 }

@@ -2,8 +2,7 @@ use Rattle.std.proofs.Common.{◌≡◌, ◌++◌, length, take, refl, sym, ap, 
 use Rattle.uriparse_text.specs.Canonical as spec
 use Rattle.uriparse_text.specs.Tokens.{spell}
 use Rattle.uriparse_text.proofs.lemmas.canonical.CanonicalLemmas.{canonical_in-nil, spelled_more}
-use Rattle.uriparse_text.proofs.lemmas.canonical.RunLemmas.{spelled_run}
-use Rattle.uriparse_text.proofs.lemmas.canonical.SpellingLengthLemmas.{length_more, length_none, length_run}
+use Rattle.uriparse_text.proofs.lemmas.canonical.SpellingLengthLemmas.{length_more, length_none}
 use Rattle.uriparse_text.proofs.internal.ends.write_spelling.Goals as goal
 
 pub tokens-init : goal.tokens-init
@@ -15,30 +14,16 @@ write_token-at-requires c =
     let more = length_more c.args.case c.tokens.rest.now c.in-Some.after.now c.in-Some.token c.in-Some.ensures.cut in
     omega arith
 
-pub write_run-at-requires : goal.write_run-at-requires
-write_run-at-requires c =
-    let token : length (spell c.canonical.result) ≡ length (spell (spec.canonical_token c.args.case c.in-Some.token)) = ap (λ t. length (spell t)) c.canonical.ensures in
-    let more = length_more c.args.case c.tokens.rest.now c.in-Some.after.now c.in-Some.token c.in-Some.ensures.cut in
-    let spelled = length_run (spec.canonical_in c.args.case c.in-Some.after.now) c.split_run_after.result.0.now
-    (spec.canonical_in c.args.case c.split_run_after.result.1.now) c.split_run_after.ensures.spelled in
-    omega arith
-
 pub tokens-preserved : goal.tokens-preserved
 tokens-preserved c =
     let token : length (spell c.canonical.result) ≡ length (spell (spec.canonical_token c.args.case c.in-Some.token)) = ap (λ t. length (spell t)) c.canonical.ensures in
     let more = length_more c.args.case c.tokens.rest.now c.in-Some.after.now c.in-Some.token c.in-Some.ensures.cut in
-    let spelled = length_run (spec.canonical_in c.args.case c.in-Some.after.now) c.split_run_after.result.0.now
-    (spec.canonical_in c.args.case c.split_run_after.result.1.now) c.split_run_after.ensures.spelled in
     record {
       written =
-          ap (λ u. u ++ spec.canonical_in c.args.case c.split_run_after.result.1.now) c.write_run-at.ensures.written
-          ∙ spelled_run c.args.case (take c.write_token-at.result c.write_token-at.new.out) c.split_run_after.result.0.now c.in-Some.after.now
-          c.split_run_after.result.1.now (spec.canonical_in c.args.case c.args.text.now)
-          (ap (λ u. u ++ spec.canonical_in c.args.case c.in-Some.after.now) (c.write_token-at.ensures.written
+          ap (λ u. u ++ spec.canonical_in c.args.case c.in-Some.after.now) (c.write_token-at.ensures.written
           ∙ ap (λ t. take c.tokens.at c.tokens.out ++ spell t) c.canonical.ensures)
           ∙ spelled_more c.args.case (take c.tokens.at c.tokens.out) c.tokens.rest.now c.in-Some.after.now c.in-Some.token
-          (spec.canonical_in c.args.case c.args.text.now) c.in-Some.ensures.cut c.tokens.invariant.written)
-          c.split_run_after.ensures.spelled;
+          (spec.canonical_in c.args.case c.args.text.now) c.in-Some.ensures.cut c.tokens.invariant.written;
       room = omega arith;
     }
 
