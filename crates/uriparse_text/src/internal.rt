@@ -23,7 +23,7 @@ mod text;
 mod token;
 
 pub use alike::same_spelling;
-pub use bits::{count_below, lowest, without, without_lowest};
+pub use bits::{count_below, has_adjacent, lowest, without, without_lowest};
 pub use canonical::{Case, canonical_bytes, feed_spelling, feed_text, is_canonical};
 pub use class::Class;
 pub use coding::{

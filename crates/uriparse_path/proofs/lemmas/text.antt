@@ -5,3 +5,4 @@ pub mod CanonicalTextLemmas
 pub mod SpelledAlikeLemmas
 pub mod HashLemmas
 pub mod TextWalkLemmas
+pub mod HeadLemmas

@@ -11,6 +11,7 @@ use std::marker::Model;
 use uriparse_text::internal::{Case, kept_text, same_spelling, split_at_mark, without_mark};
 
 mod ending;
+mod heads;
 pub(crate) mod into;
 pub(crate) mod normal;
 

@@ -17,8 +17,7 @@ ghost use Rattle.uriparse_path.specs.Normal.{normal_at};
 ghost use Rattle.uriparse_path.specs.Left as spec;
 
 use super::ending::{Ending, ends_in_dots};
-use super::normal::lack_dots;
-use super::segments_of;
+use super::heads::lacks_dots;
 use crate::path::normal::Place;
 use crate::path::read::split_root;
 use crate::path::segment::has_colon;
@@ -51,7 +50,7 @@ fn is_kept(has_authority: bool, text: &[u8]) -> bool
     ensures shield { result ≡ true → (not has_authority && path.has_two_slashes text.now) ≡ false }
     ensures dots { result ≡ true → has_dot_segment (path.pieces text.now) ≡ false }
 {
-    needs_no_shield(has_authority, text) && lack_dots(segments_of(text))
+    needs_no_shield(has_authority, text) && lacks_dots(text)
 }
 
 /// Puts the text without its dot segments. Without an authority, a text that would start with `//`

@@ -8,6 +8,7 @@ ghost use Rattle.uriparse_path.specs.Dots.{has_dot_segment};
 ghost use Rattle.uriparse_path.specs.Relative as relative;
 ghost use Rattle.uriparse_path.specs.Normal as spec;
 
+use super::heads::is_plain;
 use super::{Segments, segments_of};
 use crate::path::normal::Place;
 use crate::path::read::split_root;
@@ -105,8 +106,8 @@ fn are_guarded(segments: Segments<'_>) -> bool
 }
 
 /// Whether the segments of a text are in normal form, for a path that stays relative or for
-/// another.
-fn is_normal(stays_relative: bool, text: &[u8]) -> bool
+/// another. Looks at each segment.
+fn is_each_normal(stays_relative: bool, text: &[u8]) -> bool
     requires { IsPath text.now }
     ensures { result ≡ spec.are_normal stays_relative (pieces text.now) }
 {
@@ -115,6 +116,16 @@ fn is_normal(stays_relative: bool, text: &[u8]) -> bool
     }
     are_canonical(segments_of(text))
         && (climb_first(segments_of(text)) || are_guarded(segments_of(text)))
+}
+
+/// Whether the segments of a text are in normal form, as [`is_each_normal`] says. A text with no
+/// escape and no segment that begins with a dot is, and most are such.
+fn is_normal(stays_relative: bool, text: &[u8]) -> bool
+    requires { IsPath text.now }
+    ensures { result ≡ spec.are_normal stays_relative (pieces text.now) }
+{
+    let (_, rest) = split_root(text);
+    is_plain(rest) || is_each_normal(stays_relative, text)
 }
 
 /// Whether the text is that of an absolute path that is normal except for a leading `.`, which is

@@ -1,0 +1,87 @@
+//! Segments of a path's text that begin like dot segments, looked for sixteen bytes at a time: RFC
+//! 3986, section 3.3.
+ghost use Rattle.std.specs.Prelude.{◌≡◌, ◌==◌, ◌&&◌, ◌||◌, false, not, true};
+ghost use Rattle.std.specs.List.{list_all, slice_split};
+ghost use Rattle.uriparse_text.specs.Bytes.{dot, percent};
+ghost use Rattle.uriparse_text.specs.Cuts.{lacks};
+ghost use Rattle.uriparse_path.specs.Path.{IsPath, is_slash, pieces};
+ghost use Rattle.uriparse_path.specs.Dots.{has_dot_segment};
+ghost use Rattle.uriparse_path.specs.Normal.{is_canonical};
+
+use super::normal::lack_dots;
+use super::segments_of;
+use crate::path::read::split_root;
+use uriparse_text::internal::{Is, IsAny, first, has_adjacent, next_marks_by_two};
+
+/// Whether the byte is one that a dot segment begins with, a dot or the percent sign of an escaped
+/// one, and a segment begins with it.
+#[inline(always)]
+fn is_head(begins: bool, b: u8) -> bool
+    ensures { result ≡ (begins && (b == dot || b == percent || b == percent)) }
+{
+    begins && matches!(b, b'.' | b'%')
+}
+
+/// Whether there is a percent sign among the bytes, if that is asked.
+#[inline(always)]
+fn is_escaped(asked: bool, bytes: &[u8]) -> bool
+    ensures { result ≡ false → asked ≡ true → lacks percent bytes.now ≡ true }
+{
+    asked && first(&Is(b'%'), bytes) < bytes.len()
+}
+
+/// Whether no segment of the text begins with a dot or a percent sign and, if `plain` is set, no
+/// percent sign stands in it at all. Stops at the first run of sixteen bytes with one of these.
+///
+/// A segment begins after a slash. So the mark of each slash of a run is tested against that of the
+/// byte after it; `begins` does this for the first byte of the run.
+#[inline(always)]
+fn lacks_heads_in(plain: bool, text: &[u8]) -> bool
+    ensures dots { result ≡ true → has_dot_segment (slice_split is_slash text.now) ≡ false }
+    ensures escapes { result ≡ true → plain ≡ true → lacks percent text.now ≡ true }
+{
+    let mut begins = true;
+    let mut at = 0;
+    'runs: while at < text.len() {
+        let (slashes, heads, len) = next_marks_by_two(
+            &Is(b'/'),
+            &IsAny(b'.', b'%', b'%'),
+            text,
+            at,
+        );
+        if is_head(begins, text[at]) || has_adjacent(slashes, heads) {
+            return false;
+        }
+        if is_escaped(plain, &text[at..at + len]) {
+            return false;
+        }
+        at += len;
+        begins = text[at - 1] == b'/';
+    }
+    true
+}
+
+/// Whether no segment of the text begins with a dot or a percent sign. Then none is a dot segment.
+pub(super) fn lacks_heads(text: &[u8]) -> bool
+    ensures { result ≡ true → has_dot_segment (slice_split is_slash text.now) ≡ false }
+{
+    lacks_heads_in(false, text)
+}
+
+/// Whether no segment of the text is a dot segment. Most texts have none that begins like one; each
+/// segment of the others is looked at.
+pub(super) fn lacks_dots(text: &[u8]) -> bool
+    requires { IsPath text.now }
+    ensures { result ≡ not (has_dot_segment (pieces text.now)) }
+{
+    let (_, rest) = split_root(text);
+    lacks_heads(rest) || lack_dots(segments_of(text))
+}
+
+/// Whether the text is known to have neither an escape nor a segment that begins with a dot. Then
+/// each segment is canonical, and none is a dot segment.
+pub(super) fn is_plain(text: &[u8]) -> bool
+    ensures { result ≡ true → (has_dot_segment (slice_split is_slash text.now) ≡ false) × (list_all is_canonical (slice_split is_slash text.now) ≡ true) }
+{
+    lacks_heads_in(true, text)
+}
