@@ -1,5 +1,5 @@
 //! The text of a reference's normal form in a buffer of the caller: RFC 3986, section 6.2.2.
-ghost use Rattle.std.specs.Prelude.{◌≡◌, ◌++◌, length};
+ghost use Rattle.std.specs.Prelude.{◌≡◌, ℕ, ◌≤◌, List, ◌++◌, length};
 ghost use Rattle.std.specs.Option.{option_map};
 ghost use Rattle.uriparse_text.specs.declared.internal.canonical.Case.TheVariants as case;
 ghost use Rattle.uriparse_text.specs.Bytes.{colon, number_sign, question_mark};
@@ -91,6 +91,22 @@ fn copy_into(text: &[u8], out: &mut [u8]) -> Result<usize, BufferError>
     Ok(text.len())
 }
 
+/// The number of bytes of a block in which a text is put together before its length is known.
+pub(super) const BLOCK: usize = 256;
+
+/// Copies the text of `len` bytes that the block ends with to the start of the buffer, and returns
+/// its length, if there is room.
+pub(super) fn copy_end(
+    block: &[u8; BLOCK],
+    len: usize,
+    out: &mut [u8],
+) -> Result<usize, BufferError>
+    requires { len ≤ 256 }
+    ensures { (t : List ℕ) → EndsWith block.now len t → spec.Writes t result out.old out.new }
+{
+    copy_into(&block[BLOCK - len..], out)
+}
+
 impl<'t> ReferenceView<'t> {
     /// Puts the text of the normal form at the end of the buffer. Returns its length. If there is
     /// no room, only the length is counted.
@@ -129,7 +145,19 @@ impl<'t> ReferenceView<'t> {
         if self.is_normalized_text() {
             return copy_into(self.text, out);
         }
-        let needed = self.put_normal(&mut []);
+        self.write_normal(out)
+    }
+
+    /// Writes the text of the normal form to the start of the buffer. A short text is put together
+    /// in a block and copied; only a longer one is put together again, once its length is known.
+    fn write_normal(&self, out: &mut [u8]) -> Result<usize, BufferError>
+        ensures { spec.Writes (print (normal self.now.parts)) result out.old out.new }
+    {
+        let mut block = [0; BLOCK];
+        let needed = self.put_normal(&mut block);
+        if needed <= BLOCK {
+            return copy_end(&block, needed, out);
+        }
         if needed > out.len() {
             return Err(BufferError::TooSmall(needed));
         }

@@ -11,7 +11,7 @@ ghost use Rattle.uriparse_reference.specs.Into as spec;
 
 use super::super::error::BufferError;
 use super::ReferenceView;
-use super::into::{put_end, put_front};
+use super::into::{BLOCK, copy_end, put_end, put_front};
 use uriparse_path::internal::{put_merged, put_undotted};
 use uriparse_path::path::MAX_SEGMENTS;
 use uriparse_text::internal::{Form, put};
@@ -149,7 +149,8 @@ impl<'t> ReferenceView<'t> {
         put_front(Form::AsIs, &self.scheme(), &self.authority(), out, len)
     }
 
-    /// Writes the text of the target to the start of the buffer.
+    /// Writes the text of the target to the start of the buffer. A short text is put together in a
+    /// block and copied; only a longer one is put together again, once its length is known.
     fn write_target(
         &self,
         reference: &ReferenceView<'_>,
@@ -158,7 +159,11 @@ impl<'t> ReferenceView<'t> {
         requires { is_merged reference.now.parts ≡ true → length (pieces (merge self.now.parts reference.now.parts)) ≤ max_segments }
         ensures { spec.Writes (spec.print_if (target self.now.parts reference.now.parts)) result out.old out.new }
     {
-        let needed = self.put_target(reference, &mut []);
+        let mut block = [0; BLOCK];
+        let needed = self.put_target(reference, &mut block);
+        if needed <= BLOCK {
+            return copy_end(&block, needed, out);
+        }
         if needed > out.len() {
             return Err(BufferError::TooSmall(needed));
         }
