@@ -5,17 +5,16 @@
 //! The port is a number and the segments are a list; all else is a string, or `null` if it is
 //! absent.
 
-ghost use Rattle.std.specs.Prelude.{◌≡◌, ◌==◌, ◌<◌, OnOk, length, map, true};
+ghost use Rattle.std.specs.Prelude.{◌≡◌, ◌<◌, OnOk, length, true};
 ghost use Rattle.std.specs.Io.KnownBytes.{Appends};
 ghost use Rattle.std.specs.List.{list_all};
-ghost use Rattle.std.specs.Simd.Lanes.{mask_l};
 ghost use Rattle.uri_commands.specs.Json.{escaped, escaped_byte, is_plain, is_special};
 
 use crate::failure::Failure;
+use crate::marks::marks_of;
 use crate::topic::Topic;
 use std::io;
 use std::io::Write;
-use std::simd::prelude::*;
 use uriparse::{Host, ReferenceView, Segments};
 
 pub const ABOUT: Topic = Topic {
@@ -76,16 +75,6 @@ fn is_special(b: u8) -> bool
     ensures { result ≡ is_special b }
 {
     matches!(b, b'"' | b'\\')
-}
-
-/// Bit k is set if byte k is this one.
-#[inline(always)]
-fn marks_of(byte: u8, run: &[u8; 16]) -> u64
-    ensures { result ≡ mask_l (map (λ b. b == byte) run.now) }
-{
-    u8x16::from_array(*run)
-        .simd_eq(u8x16::splat(byte))
-        .to_bitmask()
 }
 
 /// Whether a JSON string holds these bytes unchanged.

@@ -20,6 +20,7 @@ mod help;
 pub mod internal;
 mod json;
 mod lines;
+mod marks;
 mod normalize;
 mod options;
 mod pairs;

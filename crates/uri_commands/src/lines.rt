@@ -1,18 +1,20 @@
 //! `uri --lines COMMAND`: a command for each line of the standard input.
 
-ghost use Rattle.std.specs.Prelude.{◌≡◌, ◌<◌, ◌≤◌, false, length, true, IfOk, IfSome, OnOk};
+ghost use Rattle.std.specs.Prelude.{◌≡◌, ◌≢◌, [], ◌∷◌, ◌++◌, ◌==◌, ◌<◌, ◌≤◌, All, Ok, false, length, true, IfOk, IfSome, OnOk};
+ghost use Rattle.std.specs.List.{position_or_len};
 ghost use Rattle.std.specs.Io.BufRead.{DropsThrough, first_piece, strip_last};
-ghost use Rattle.std.specs.Io.KnownBytes.{IsAtEnd};
+ghost use Rattle.std.specs.Io.KnownBytes.{Consumes, IsAtEnd};
 ghost use Rattle.uri_commands.specs.Lines.{newline};
 
 use crate::commands::Task;
 use crate::explain::explain_line;
 use crate::failure::Failure;
+use crate::marks::marks_of;
 use crate::options::Options;
 use crate::topic::Topic;
 use std::alloc::Global;
 use std::io;
-use std::io::{BufRead, BufReader, BufWriter, Read, Write};
+use std::io::{BufRead, BufReader, BufWriter, ErrorKind, Read, Write};
 
 pub const ABOUT: Topic = Topic {
     name: "--lines",
@@ -92,8 +94,103 @@ fn drop_newline(line: &mut Vec<u8>)
     }
 }
 
+/// The place of the first newline of sixteen bytes, or 16.
+#[inline(always)]
+#[tactic(auto, using(std::proofs::lemmas::Simd::leading_from_mask_l, std::proofs::lemmas::Simd::trailing_mask_l))]
+fn newline_place_of_run(run: &[u8; 16]) -> usize
+    ensures { result ≡ position_or_len (λ b. b == newline) run.now }
+{
+    let newlines = marks_of(b'\n', run);
+    if newlines == 0 {
+        return 16;
+    }
+    newlines.trailing_zeros() as usize
+}
+
+/// The place of the first newline, or the length, byte by byte.
+fn newline_place_of_end(text: &[u8]) -> usize
+    ensures { result ≡ position_or_len (λ b. b == newline) text.now }
+{
+    let mut place = 0;
+    'bytes: while place < text.len() {
+        if text[place] == b'\n' {
+            return place;
+        }
+        place += 1;
+    }
+    place
+}
+
+/// The place of the first newline, or the length. Tests sixteen bytes at a time.
+#[tactic(auto, using(crate::proofs::LineLemmas::place_within))]
+fn newline_place(text: &[u8]) -> usize
+    ensures place { result ≡ position_or_len (λ b. b == newline) text.now }
+    ensures within { result ≤ length text.now }
+{
+    let mut rest = text;
+    'runs: while let Some((run, later)) = rest.split_first_chunk::<16>() {
+        let place = newline_place_of_run(run);
+        if place < 16 {
+            return text.len() - rest.len() + place;
+        }
+        rest = later;
+    }
+    text.len() - rest.len() + newline_place_of_end(rest)
+}
+
+/// What was taken of a line.
+#[derive(Drop)]
+enum Taken {
+    /// All of it, with its newline.
+    Line,
+    /// A front of it, which may be empty; more may follow.
+    Piece,
+    /// Nothing, since the input is at its end.
+    Nothing,
+}
+
+/// Appends what the reader holds of the next line to the empty buffer, without the newline, and
+/// takes it from the reader, with the newline. Asks the reader for bytes once. If that is
+/// interrupted, nothing is taken.
+#[tactic(auto, using(crate::proofs::LineLemmas::line_and_rest, crate::proofs::LineLemmas::none_before))]
+fn take_held<I: BufRead>(input: &mut I, line: &mut Vec<u8>) -> io::Result<Taken>
+    requires { line.old.items ≡ [] }
+    ensures clean { All (λ b. b ≢ newline) line.new.items }
+    ensures line { result ≡ Ok Taken.Line →
+        Consumes (I.remaining input.old) (I.remaining input.new) (line.new.items ++ newline ∷ []) }
+    ensures piece { result ≡ Ok Taken.Piece →
+        Consumes (I.remaining input.old) (I.remaining input.new) line.new.items }
+    ensures nothing { result ≡ Ok Taken.Nothing → (line.new.items ≡ [])
+        × IsAtEnd (I.remaining input.old)
+        × Consumes (I.remaining input.old) (I.remaining input.new) line.new.items }
+{
+    let held = match input.fill_buf() {
+        Ok(held) => held,
+        Err(error) if error.kind() == ErrorKind::Interrupted => return Ok(Taken::Piece),
+        Err(error) => return Err(error),
+    };
+    let place = newline_place(held);
+    // The newline counts as if it were appended, so the buffer grows as it does with `read_until`.
+    line.reserve(held.len().min(place.saturating_add(1)))?;
+    line.extend_from_slice(&held[..place])?;
+    if place < held.len() {
+        input.consume(place + 1);
+        return Ok(Taken::Line);
+    }
+    input.consume(place);
+    Ok(if place > 0 {
+        Taken::Piece
+    } else {
+        Taken::Nothing
+    })
+}
+
 /// Reads the next line into the buffer, without its newline, and returns whether there was one. The
 /// last line may have no newline.
+///
+/// Most lines lie whole in what the reader holds, and are copied in one piece. Where only a front of
+/// the line does, `read_until` appends the rest.
+#[tactic(auto, using(crate::proofs::LineLemmas::taken_line, crate::proofs::LineLemmas::through_append, crate::proofs::LineLemmas::after_append))]
 pub fn read_line<I: BufRead>(input: &mut I, line: &mut Vec<u8>) -> io::Result<bool>
     ensures line { OnOk result (IfSome (I.remaining input.old) (λ bytes. line.new.items ≡ first_piece newline bytes)) }
     ensures rest { OnOk result (DropsThrough (I.remaining input.old) (I.remaining input.new) newline) }
@@ -101,9 +198,16 @@ pub fn read_line<I: BufRead>(input: &mut I, line: &mut Vec<u8>) -> io::Result<bo
     ensures some { IfOk result (λ is_line. is_line ≡ true → IfSome (I.remaining input.old) (λ bytes. 0 < length bytes)) }
 {
     line.clear();
-    let count = input.read_until(b'\n', line)?;
-    drop_newline(line);
-    Ok(count > 0)
+    match take_held(input, line)? {
+        Taken::Line => Ok(true),
+        Taken::Nothing => Ok(false),
+        Taken::Piece => {
+            input.read_until(b'\n', line)?;
+            let is_line = !line.is_empty();
+            drop_newline(line);
+            Ok(is_line)
+        }
+    }
 }
 
 /// Reports a rejected line. If `explains` is set and the line is no reference, three lines say where

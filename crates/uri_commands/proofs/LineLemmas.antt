@@ -1,0 +1,67 @@
+-- Lines, and the places of their newlines.
+use Rattle.std.proofs.Common.{◌≡◌, ◌≢◌, ℕ, ◌+◌, ◌-◌, ◌<◌, ◌≤◌, true, List, [], ◌∷◌, ◌++◌, All, Some, None, IfSome, cond, length, take, drop, get_or, get_or-take, length-take-le, length-append, sym, ap, ◌∙◌, arith, append_assoc, eq-eqb, eqb-true, lt-ltb, take_at, take-take, take-append-drop}
+use Rattle.std.specs.Io.{StartsWith}
+use Rattle.std.specs.Prelude.{◌==◌, not}
+use Rattle.std.specs.declared.option.Option.{Option}
+use Rattle.std.specs.List.{position_or_len}
+use Rattle.std.specs.Io.BufRead.{take_through, drop_through, first_piece, strip_last, ends_with_byte, DropsThrough}
+use Rattle.std.specs.Io.KnownBytes.{Consumes}
+use Rattle.std.proofs.BufReadLemmas.{take_through-append, drop_through-append}
+use Rattle.std.proofs.lemmas.List.{take_more, get_or_push}
+use Rattle.std.proofs.lemmas.List.Sums.{prefix_len-le-length, fails_before_first, passes_at_first}
+use Rattle.std.proofs.lemmas.Bool.{and_from, false≢true}
+use Rattle.uri_commands.specs.Lines.{newline}
+
+pub place_within : (text : List ℕ) → position_or_len (λ b. b == newline) text ≤ length text
+place_within text = prefix_len-le-length (λ b. not (b == newline)) text
+
+-- no byte before the first newline is one
+pub none_before : (text : List ℕ) (place : ℕ) → place ≡ position_or_len (λ b. b == newline) text → All (λ b. b ≢ newline) (take place text)
+none_before text place is = λ k d h e.
+    let within : place ≤ length text = omega (arith, place_within text) in
+    let short : k < place = omega (arith, length-take-le place text within) in
+    let same : get_or text k d ≡ newline = sym (get_or-take place text k d short) ∙ e in
+    let fails = fails_before_first (λ b. b == newline) text k d (omega arith) in
+    false≢true (sym fails ∙ eq-eqb _ _ same)
+
+-- the bytes through the first newline
+pub through_newline : (text : List ℕ) (place : ℕ) → place ≡ position_or_len (λ b. b == newline) text → place < length text
+    → take (place + 1) text ≡ take place text ++ newline ∷ []
+through_newline text place is found =
+    let hit = passes_at_first (λ b. b == newline) text 0 (omega arith) in
+    take_more text place 0 found ∙ ap (λ b. take place text ++ b ∷ []) (ap (λ k. get_or text k 0) is ∙ eqb-true _ _ hit)
+
+-- what a reader shows begins with a line, and it loses the line with its newline
+pub line_and_rest : (bytes held : List ℕ) (place : ℕ) → StartsWith bytes held → place ≡ position_or_len (λ b. b == newline) held → place < length held
+    → (take place held ++ newline ∷ []) ++ drop (place + 1) bytes ≡ bytes
+line_and_rest bytes held place front is found =
+    ap (λ l. l ++ drop (place + 1) bytes) (sym (through_newline held place is found) ∙ ap (take (place + 1)) (sym front) ∙ take-take (place + 1) (length held) bytes (omega arith))
+    ∙ take-append-drop (place + 1) bytes
+
+-- a whole line without its newline
+pub stripped : (line : List ℕ) → strip_last newline (line ++ newline ∷ []) ≡ line
+stripped line =
+    let long : length (line ++ newline ∷ []) ≡ length line + 1 = length-append line (newline ∷ []) in
+    let last : length (line ++ newline ∷ []) - 1 ≡ length line = omega (arith, long) in
+    let ends : ends_with_byte newline (line ++ newline ∷ []) ≡ true =
+    and_from _ _ (lt-ltb _ _ (omega (arith, long))) (eq-eqb _ _ (get_or_push line newline 0 _ (sym last))) in
+    ap (λ b. cond b (take (length (line ++ newline ∷ []) - 1) (line ++ newline ∷ [])) (line ++ newline ∷ [])) ends
+    ∙ take_at line (newline ∷ []) _ (sym last)
+
+-- a line that was taken with its newline is the first
+pub taken_line : (a c : Option (List ℕ)) (line : List ℕ) → Consumes a c (line ++ newline ∷ []) → All (λ b. b ≢ newline) line
+    → IfSome a (λ bytes. line ≡ first_piece newline bytes) × DropsThrough a c newline
+taken_line None c line p lacks = (tt, tt)
+taken_line (Some x) None line p lacks = absurd p
+taken_line (Some x) (Some y) line p lacks =
+    let whole : x ≡ line ++ newline ∷ y = p ∙ append_assoc line (newline ∷ []) y in
+    let taken : take_through newline x ≡ line ++ newline ∷ [] = ap (take_through newline) whole ∙ take_through-append newline line (newline ∷ y) lacks in
+    let dropped : drop_through newline x ≡ y = ap (drop_through newline) whole ∙ drop_through-append newline line (newline ∷ y) lacks in
+    (sym (ap (strip_last newline) taken ∙ stripped line), ap Some (sym dropped))
+
+-- a piece of a line without its newline, and what follows it
+pub through_append : (piece rest : List ℕ) → All (λ b. b ≢ newline) piece → take_through newline (piece ++ rest) ≡ piece ++ take_through newline rest
+through_append piece rest lacks = take_through-append newline piece rest lacks
+
+pub after_append : (piece rest : List ℕ) → All (λ b. b ≢ newline) piece → drop_through newline (piece ++ rest) ≡ drop_through newline rest
+after_append piece rest lacks = drop_through-append newline piece rest lacks
