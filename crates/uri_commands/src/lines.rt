@@ -253,12 +253,26 @@ fn do_line<O: Write, E: Write>(
     }
 }
 
+/// Reads the next line as [`read_line`] does. If the reader does not hold it whole, more input may be
+/// waited for: what the writer has gathered goes out first.
+fn next_line<I: Read, O: Write>(
+    input: &mut BufReader<I>,
+    line: &mut Vec<u8>,
+    out: &mut O,
+) -> io::Result<bool> {
+    let held = input.buffer();
+    if newline_place(held) == held.len() {
+        out.flush()?;
+    }
+    read_line(input, line)
+}
+
 /// Does the task for each line, and returns the worst outcome.
-fn do_lines<I: BufRead, O: Write, E: Write>(
+fn do_lines<I: Read, O: Write, E: Write>(
     alloc: Global,
     explains: bool,
     task: &Task<'_>,
-    input: &mut I,
+    input: &mut BufReader<I>,
     out: &mut O,
     err: &mut E,
 ) -> Result<Outcome, Failure> {
@@ -266,7 +280,7 @@ fn do_lines<I: BufRead, O: Write, E: Write>(
     let mut line = Vec::new(alloc);
     let mut buffer = Vec::new(alloc);
     for number in 1..u64::MAX {
-        if !read_line(input, &mut line)? {
+        if !next_line(input, &mut line, out)? {
             break;
         }
         let outcome = do_line(alloc, explains, task, &mut buffer, number, &line, out, err)?;
@@ -276,11 +290,11 @@ fn do_lines<I: BufRead, O: Write, E: Write>(
 }
 
 /// Does the task for each line with buffered output, which is written even if the work ends early.
-fn do_buffered<I: BufRead, O: Write, E: Write>(
+fn do_buffered<I: Read, O: Write, E: Write>(
     alloc: Global,
     explains: bool,
     task: &Task<'_>,
-    input: &mut I,
+    input: &mut BufReader<I>,
     out: &mut O,
     err: &mut E,
 ) -> Result<Outcome, Failure> {
