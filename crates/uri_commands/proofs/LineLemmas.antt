@@ -1,11 +1,12 @@
 -- Lines, and the places of their newlines.
-use Rattle.std.proofs.Common.{◌≡◌, ◌≢◌, ℕ, ◌+◌, ◌-◌, ◌<◌, ◌≤◌, true, List, [], ◌∷◌, ◌++◌, All, Some, None, IfSome, cond, length, take, drop, get_or, get_or-take, length-take-le, length-append, sym, ap, ◌∙◌, arith, append_assoc, eq-eqb, eqb-true, lt-ltb, take_at, take-take, take-append-drop}
+use Rattle.std.proofs.Common.{◌≡◌, ◌≢◌, ℕ, ◌+◌, ◌-◌, ◌<◌, ◌≤◌, Bool, false, true, List, [], ◌∷◌, ◌++◌, All, Some, None, IfSome, cond, length, take, drop, get_or, get_or-take, length-take-le, length-append, sym, ap, subst, ◌∙◌, arith, append_assoc, eq-eqb, eqb-true, lt-ltb, take_at, take-take, take-append-drop}
 use Rattle.std.specs.Io.{StartsWith}
 use Rattle.std.specs.Prelude.{◌==◌, not}
 use Rattle.std.specs.declared.option.Option.{Option}
 use Rattle.std.specs.List.{position_or_len}
-use Rattle.std.specs.Io.BufRead.{take_through, drop_through, first_piece, strip_last, ends_with_byte, DropsThrough}
-use Rattle.std.specs.Io.KnownBytes.{Consumes}
+use Rattle.std.specs.Io.BufRead.{take_through, drop_through, first_piece, strip_last, ends_with_byte, DropsConsumable, DropsThrough}
+use Rattle.std.specs.Io.KnownBytes.{Consumes, prepend_known}
+use lib.Seq.{take-append_seam}
 use Rattle.std.proofs.BufReadLemmas.{take_through-append, drop_through-append}
 use Rattle.std.proofs.lemmas.List.{take_more, get_or_push}
 use Rattle.std.proofs.lemmas.List.Sums.{prefix_len-le-length, fails_before_first, passes_at_first}
@@ -37,6 +38,16 @@ pub line_and_rest : (bytes held : List ℕ) (place : ℕ) → StartsWith bytes h
 line_and_rest bytes held place front is found =
     ap (λ l. l ++ drop (place + 1) bytes) (sym (through_newline held place is found) ∙ ap (take (place + 1)) (sym front) ∙ take-take (place + 1) (length held) bytes (omega arith))
     ∙ take-append-drop (place + 1) bytes
+
+-- a reader loses a line that it holds whole, with its newline
+pub held_line : (v : Bool) (rest c : Option (List ℕ)) (held line : List ℕ) (place : ℕ) → place ≡ position_or_len (λ b. b == newline) held → place < length held
+    → line ≡ take place held → DropsConsumable (cond v None (prepend_known held rest)) c (Some (length held)) (place + 1)
+    → Consumes (cond v None (prepend_known held rest)) c (line ++ newline ∷ [])
+held_line true rest c held line place is found same drops = tt
+held_line false None c held line place is found same drops = tt
+held_line false (Some y) c held line place is found same drops =
+    subst (λ o. Consumes (Some (held ++ y)) o (line ++ newline ∷ [])) (sym (drops (omega (arith, found))))
+    (sym (line_and_rest (held ++ y) held place (take-append_seam held y) is found) ∙ ap (λ l. (l ++ newline ∷ []) ++ drop (place + 1) (held ++ y)) (sym same))
 
 -- a whole line without its newline
 pub stripped : (line : List ℕ) → strip_last newline (line ++ newline ∷ []) ≡ line

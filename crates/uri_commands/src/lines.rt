@@ -1,8 +1,9 @@
 //! `uri --lines COMMAND`: a command for each line of the standard input.
 
-ghost use Rattle.std.specs.Prelude.{◌≡◌, ◌≢◌, [], ◌∷◌, ◌++◌, ◌==◌, ◌<◌, ◌≤◌, All, Ok, false, length, true, IfOk, IfSome, OnOk};
+ghost use Rattle.std.specs.Prelude.{◌≡◌, ◌≢◌, [], ◌∷◌, ◌++◌, ◌==◌, ◌<◌, ◌≤◌, All, Ok, false, length, take, true, IfOk, IfSome, OnErr, OnOk};
 ghost use Rattle.std.specs.List.{position_or_len};
 ghost use Rattle.std.specs.Io.BufRead.{DropsThrough, first_piece, strip_last};
+ghost use Rattle.std.specs.Io.Buffered.{reader_remaining};
 ghost use Rattle.std.specs.Io.KnownBytes.{Consumes, IsAtEnd};
 ghost use Rattle.uri_commands.specs.Lines.{newline};
 
@@ -138,6 +139,18 @@ fn newline_place(text: &[u8]) -> usize
     text.len() - rest.len() + newline_place_of_end(rest)
 }
 
+/// Appends the bytes before this place to the buffer. The byte there counts as if it were appended
+/// too, so the buffer grows as it does with `read_until`, which appends the newline.
+fn append_front(held: &[u8], place: usize, line: &mut Vec<u8>) -> io::Result<()>
+    requires { place ≤ length held.now }
+    ensures ok { OnOk result (line.new.items ≡ line.old.items ++ take place held.now) }
+    ensures err { OnErr result (line.new.items ≡ line.old.items) }
+{
+    line.reserve(held.len().min(place.saturating_add(1)))?;
+    line.extend_from_slice(&held[..place])?;
+    Ok(())
+}
+
 /// What was taken of a line.
 #[derive(Drop)]
 enum Taken {
@@ -170,9 +183,7 @@ fn take_held<I: BufRead>(input: &mut I, line: &mut Vec<u8>) -> io::Result<Taken>
         Err(error) => return Err(error),
     };
     let place = newline_place(held);
-    // The newline counts as if it were appended, so the buffer grows as it does with `read_until`.
-    line.reserve(held.len().min(place.saturating_add(1)))?;
-    line.extend_from_slice(&held[..place])?;
+    append_front(held, place, line)?;
     if place < held.len() {
         input.consume(place + 1);
         return Ok(Taken::Line);
@@ -253,17 +264,45 @@ fn do_line<O: Write, E: Write>(
     }
 }
 
+/// Takes the next line, with its newline, from a reader that holds it whole, and copies it to the
+/// empty buffer, without the newline. Returns whether the reader holds it; if not, nothing is taken.
+/// The reader is not asked for more.
+#[tactic(auto, using(crate::proofs::LineLemmas::none_before))]
+fn take_whole<I: Read>(input: &mut BufReader<I>, line: &mut Vec<u8>) -> io::Result<bool>
+    requires { line.old.items ≡ [] }
+    ensures clean { All (λ b. b ≢ newline) line.new.items }
+    ensures line { result ≡ Ok true →
+        Consumes (reader_remaining I.remaining input.old) (reader_remaining I.remaining input.new) (line.new.items ++ newline ∷ []) }
+    ensures nothing { result ≡ Ok false → input.new ≡ input.old }
+{
+    let held = input.buffer();
+    let place = newline_place(held);
+    if place == held.len() {
+        return Ok(false);
+    }
+    append_front(held, place, line)?;
+    input.consume(place + 1);
+    Ok(true)
+}
+
 /// Reads the next line as [`read_line`] does. If the reader does not hold it whole, more input may be
 /// waited for: what the writer has gathered goes out first.
+#[tactic(auto, using(crate::proofs::LineLemmas::taken_line))]
 fn next_line<I: Read, O: Write>(
     input: &mut BufReader<I>,
     line: &mut Vec<u8>,
     out: &mut O,
-) -> io::Result<bool> {
-    let held = input.buffer();
-    if newline_place(held) == held.len() {
-        out.flush()?;
+) -> io::Result<bool>
+    ensures line { OnOk result (IfSome (reader_remaining I.remaining input.old) (λ bytes. line.new.items ≡ first_piece newline bytes)) }
+    ensures rest { OnOk result (DropsThrough (reader_remaining I.remaining input.old) (reader_remaining I.remaining input.new) newline) }
+    ensures end { IfOk result (λ is_line. is_line ≡ false → IsAtEnd (reader_remaining I.remaining input.old)) }
+    ensures some { IfOk result (λ is_line. is_line ≡ true → IfSome (reader_remaining I.remaining input.old) (λ bytes. 0 < length bytes)) }
+{
+    line.clear();
+    if take_whole(input, line)? {
+        return Ok(true);
     }
+    out.flush()?;
     read_line(input, line)
 }
 
