@@ -1,5 +1,6 @@
 -- What a reader found.
-use Rattle.std.specs.Prelude.{ℕ, ◌==◌, List, if◌then◌else◌}
+use Rattle.std.specs.Prelude.{◌≡◌, ℕ, ◌==◌, List, length, if◌then◌else◌}
+use Rattle.uriparse_text.specs.Canonical.{canonical_lowered}
 use Rattle.uriparse_authority.specs.declared.authority.host.Host.{Host}
 use Rattle.uriparse_authority.specs.declared.authority.host.Host.TheVariants.{IPv4Address, IPv6Address, IPvFuture, RegisteredName}
 
@@ -10,3 +11,10 @@ found_host kind text ipv4 ipv6 =
     else if kind == 4 then IPv4Address ipv4
     else if kind == 7 then IPvFuture text
     else IPv6Address ipv6
+
+-- a name of this many bytes, in canonical spelling
+abbrev pub IsCanonicalName : Host → ℕ → Type 0
+IsCanonicalName (IPv4Address a) len = ⊥
+IsCanonicalName (IPv6Address a) len = ⊥
+IsCanonicalName (IPvFuture f) len = ⊥
+IsCanonicalName (RegisteredName n) len = (length n ≡ len) × (canonical_lowered n ≡ n)

@@ -1,9 +1,9 @@
 -- Normal forms of references: RFC 3986, section 6.2.2.
-use Rattle.std.specs.Prelude.{Bool, ◌&&◌, Option, Some, None, is_none, is_some, bytes_eq}
+use Rattle.std.specs.Prelude.{◌≡◌, ℕ, Bool, ◌&&◌, List, Option, Some, None, is_none, is_some, bytes_eq}
 use Rattle.std.specs.Option.{option_map, option_eq}
 use Rattle.uriparse_text.specs.Canonical.{canonical}
 use Rattle.uriparse_path.specs.Edits.{shield}
-use Rattle.uriparse_path.specs.Path.{PathParts}
+use Rattle.uriparse_path.specs.Path.{PathParts, text}
 use Rattle.uriparse_path.specs.declared.path.normal.Place.{Place}
 use Rattle.uriparse_path.specs.Normal as path
 use Rattle.uriparse_authority.specs.Authority as authority
@@ -11,6 +11,7 @@ use Rattle.uriparse_authority.specs.Normal.{AreCanonicalCopies, canonical_author
 use Rattle.uriparse_authority.specs.declared.authority.normal.CanonicalCopies.{CanonicalCopies}
 use Rattle.uriparse_scheme.specs.Scheme as scheme
 use Rattle.uriparse_scheme.specs.Normal.{canonical_scheme}
+use Rattle.uriparse_reference.specs.Cuts.{authority_text, path_text, scheme_text}
 use Rattle.uriparse_reference.specs.Reference.{Parts, scheme_part, authority_part}
 
 -- The path after this authority or none. Without an authority, a path that would start with "//" gets a leading "/.".
@@ -52,6 +53,22 @@ is_normal p =
     && (path.is_normal_at (place p) p.path
     && (option_eq bytes_eq (option_map canonical p.query) p.query
     && option_eq bytes_eq (option_map canonical p.fragment) p.fragment)))
+
+-- each but the authority: a word of a private function's clause alone
+abbrev pub is_normal_outside : Parts → Bool
+is_normal_outside p =
+    option_eq bytes_eq (option_map scheme.canonical_text p.scheme) (scheme_part p)
+    && (path.is_normal_at (place p) p.path
+    && (option_eq bytes_eq (option_map canonical p.query) p.query
+    && option_eq bytes_eq (option_map canonical p.fragment) p.fragment))
+
+-- The path and the scheme print their texts, and the authority in normal form prints its own: a word of a private
+-- function's clause alone.
+abbrev pub IsPrintedFront : List ℕ → Parts → Type 0
+IsPrintedFront t p =
+    (text p.path ≡ path_text t)
+    × (scheme_part p ≡ scheme_text t)
+    × (authority_part (normal p) ≡ authority_text t)
 
 -- ---- copies that are made before any is put in place: words of the clauses of private functions alone
 

@@ -1,7 +1,8 @@
 //! An authority that a reader found: plain words that need no drop.
-ghost use Rattle.std.specs.Prelude.{◌≡◌};
+ghost use Rattle.std.specs.Prelude.{◌≡◌, ◌↔◌, IsTrue};
 ghost use Rattle.uriparse_authority.specs.Authority as spec;
 ghost use Rattle.uriparse_authority.specs.Host.{kind_code};
+ghost use Rattle.uriparse_authority.specs.Normal.{canonical_authority};
 ghost use Rattle.uriparse_text.specs.Found.{if_there};
 
 use super::Authority;
@@ -96,5 +97,18 @@ impl<'a> FoundAuthority<'a> {
             host: self.host.to_host(),
             port: self.port(),
         }
+    }
+
+    /// Whether the text, from which the authority was read, is that of its normal form: RFC 3986,
+    /// section 6.2.2. Does not allocate.
+    ///
+    /// A name that was found to be canonical and is as long as the text is all of it, so for most
+    /// texts no byte is read again and no authority is built.
+    #[inline(always)]
+    pub fn is_normal_text(&self, text: &[u8]) -> bool
+        requires { spec.Spells text.now self.now }
+        ensures { IsTrue result ↔ (spec.print (canonical_authority self.now) ≡ text.now) }
+    {
+        self.host.is_canonical_name(text.len()) || self.to_authority().prints_normal(text)
     }
 }

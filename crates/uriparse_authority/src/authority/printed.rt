@@ -1,8 +1,10 @@
-//! Whether an authority prints the text that it was read from: RFC 3986, section 3.2.
+//! Whether an authority, or its normal form, prints the text that the authority was read from: RFC
+//! 3986, sections 3.2 and 6.2.2.
 ghost use Rattle.std.specs.Prelude.{◌≡◌, ◌≤◌, ◌↔◌, IsTrue, length, option_copied};
 ghost use Rattle.std.specs.Option.{option_map};
 ghost use Rattle.uriparse_authority.specs.Authority.{Spells, print};
 ghost use Rattle.uriparse_authority.specs.Host as hosts;
+ghost use Rattle.uriparse_authority.specs.Normal.{canonical_authority};
 ghost use Rattle.uriparse_authority.specs.Port as ports;
 
 use super::into::put_host;
@@ -64,5 +66,13 @@ impl<'a> Authority<'a> {
         let (_, rest) = split_userinfo(text);
         let (host, port) = split_port(rest);
         is_printed_port(self.port, port) && is_printed_host(&self.host, host)
+    }
+
+    /// Whether the authority's normal form prints the text, from which the authority was read.
+    pub(crate) fn prints_normal(&self, text: &[u8]) -> bool
+        requires { Spells text.now self.now }
+        ensures { IsTrue result ↔ (print (canonical_authority self.now) ≡ text.now) }
+    {
+        self.is_normalized() && self.is_printed(text)
     }
 }

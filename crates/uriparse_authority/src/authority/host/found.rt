@@ -1,11 +1,11 @@
 //! A host that a reader found: plain words that need no drop.
-ghost use Rattle.std.specs.Prelude.{◌≡◌, ◌==◌, false};
+ghost use Rattle.std.specs.Prelude.{◌≡◌, ◌==◌, IsTrue, false};
 ghost use Rattle.uriparse_authority.specs.declared.authority.host.Host.TheVariants as hosts;
 ghost use Rattle.uriparse_text.specs.declared.internal.class.Class.TheVariants as class;
 ghost use Rattle.uriparse_text.specs.declared.internal.canonical.Case.TheVariants as case;
 ghost use Rattle.uriparse_text.specs.Spelling.{IsKept};
 ghost use Rattle.uriparse_authority.specs.Future.{IsFuture};
-ghost use Rattle.uriparse_authority.specs.Found.{found_host};
+ghost use Rattle.uriparse_authority.specs.Found.{IsCanonicalName, found_host};
 ghost use Rattle.uriparse_authority.specs.Host.{Valid, kind, kind_code};
 
 use super::super::future::IPvFuture;
@@ -99,6 +99,14 @@ pub(super) fn found_future(bytes: &[u8]) -> FoundHost<'_>
 }
 
 impl<'h> FoundHost<'h> {
+    /// Whether this is a name of this many bytes that is known to be canonical.
+    #[inline(always)]
+    pub(in crate::authority) fn is_canonical_name(&self, len: usize) -> bool
+        ensures { IsTrue result → IsCanonicalName self.now len }
+    {
+        self.kind == 0 && self.canonical == 1 && self.text.len() == len
+    }
+
     /// The number of the host's kind: 1 for a name, and 4, 6 or 7 for an address of that version.
     pub(in crate::authority) fn kind_code(&self) -> u32
         ensures { result ≡ kind_code (kind self.now) }

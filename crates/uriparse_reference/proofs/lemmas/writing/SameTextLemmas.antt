@@ -3,10 +3,12 @@ use Rattle.std.proofs.Common.{◌≡◌, ◌↔◌, ℕ, Bool, true, false, cond
 use Rattle.std.proofs.lemmas.Bool.{false≢true}
 use Rattle.std.proofs.lemmas.Slice.Eq.{bytes_eq-Decides}
 use Rattle.uriparse_text.specs.Bytes.{slash}
+use Rattle.uriparse_text.specs.Canonical.{canonical}
 use Rattle.std.specs.Prelude.{◌==◌, IfSome, IsTrue, is_some, unwrap_or}
-use Rattle.std.specs.Option.{option_map}
+use Rattle.std.specs.Option.{option_eq, option_map}
 use Rattle.uriparse_text.specs.Readings.{IfPresent}
 use Rattle.uriparse_path.specs.Path.{PathParts, text}
+use Rattle.uriparse_path.specs.Normal as paths
 use Rattle.uriparse_authority.specs.Authority as authority
 use Rattle.uriparse_authority.specs.Authority.{AuthorityParts}
 use Rattle.uriparse_authority.specs.Normal.{canonical_authority}
@@ -20,8 +22,10 @@ use Rattle.uriparse_scheme.specs.Normal.{canonical_scheme}
 use Rattle.std.specs.Str.{str_to_ascii_lowercase}
 use Rattle.uriparse_reference.specs.Cuts.{authority_text, if_some, path_text, scheme_text}
 use Rattle.uriparse_reference.specs.Reference.{Parts, Spells, authority_part, joined, print, scheme_part}
-use Rattle.uriparse_reference.specs.Normal.{normal}
+use Rattle.uriparse_reference.specs.Normal.{IsPrintedFront, is_normal, is_normal_outside, normal, place}
+use Rattle.uriparse_reference.proofs.lemmas.equality.CanonicalComponentLemmas.{authority-print, same_texts}
 use Rattle.uriparse_reference.proofs.lemmas.equality.EqualityLemmas.{print_cut}
+use Rattle.uriparse_reference.proofs.lemmas.normalizing.NormalizingLemmas.{normal_exactly}
 use Rattle.uriparse_reference.proofs.lemmas.normalizing.NormalFormLemmas.{normal_valid}
 use Rattle.uriparse_reference.proofs.lemmas.reading.CutLemmas.{IsCutInto, cut_again}
 use Rattle.uriparse_reference.proofs.lemmas.reading.ReadingLemmas.{spelled_pieces}
@@ -90,23 +94,27 @@ authority_read t p a s e = by_text (authority_text t) p.authority (authority_the
     by_text (Some u) None h f = absurd h
     by_text (Some u) (Some b) h f = let same : b ≡ a = cc in subst (authority.Spells u) same h
 
+abbrev normal_print : AuthorityParts → List ℕ
+normal_print a = authority.print (canonical_authority a)
+
 pub tested_authority : (t : List ℕ) (p : Parts) (a : AuthorityParts) (r : Bool) → Spells t p → p.authority ≡ Some a
-    → IsTrue r ↔ (authority.print a ≡ unwrap_or (authority_text t) []) → IsTrue r ↔ (authority_part p ≡ authority_text t)
+    → IsTrue r ↔ (normal_print a ≡ unwrap_or (authority_text t) []) → IsTrue r ↔ (authority_part (normal p) ≡ authority_text t)
 tested_authority t p a r s e test = by_text (authority_text t) p.authority (authority_there t p s) e test
   where
     by_text : (o : Option (List ℕ)) (q : Option AuthorityParts) → IfPresent authority.Spells o q → q ≡ Some a
-        → IsTrue r ↔ (authority.print a ≡ unwrap_or o []) → IsTrue r ↔ (option_map authority.print q ≡ o)
+        → IsTrue r ↔ (normal_print a ≡ unwrap_or o []) → IsTrue r ↔ (option_map authority.print (option_map canonical_authority q) ≡ o)
     by_text None None h f k = absurd (cc)
     by_text None (Some b) h f k = absurd h
     by_text (Some u) None h f k = absurd h
     by_text (Some u) (Some b) h f k =
         let same : b ≡ a = cc in
-        ((λ i. ap Some (ap authority.print same ∙ k.0 i)), (λ i. let texts : authority.print b ≡ u = cc in k.1 (sym (ap authority.print same) ∙ texts)))
+        ((λ i. ap Some (ap normal_print same ∙ k.0 i)), (λ i. let texts : normal_print b ≡ u = cc in k.1 (sym (ap normal_print same) ∙ texts)))
 
-pub no_authority : (t : List ℕ) (p : Parts) → Spells t p → p.authority ≡ None → authority_part p ≡ authority_text t
+pub no_authority : (t : List ℕ) (p : Parts) → Spells t p → p.authority ≡ None → authority_part (normal p) ≡ authority_text t
 no_authority t p s e = by_text (authority_text t) p.authority (authority_there t p s) e
   where
-    by_text : (o : Option (List ℕ)) (q : Option AuthorityParts) → IfPresent authority.Spells o q → q ≡ None → option_map authority.print q ≡ o
+    by_text : (o : Option (List ℕ)) (q : Option AuthorityParts) → IfPresent authority.Spells o q → q ≡ None
+        → option_map authority.print (option_map canonical_authority q) ≡ o
     by_text None None h f = refl
     by_text None (Some b) h f = absurd h
     by_text (Some u) None h f = absurd h
@@ -116,18 +124,6 @@ pub tested_path : (h g x y : List ℕ) (r : Bool) → y ≡ h → x ≡ g → r 
 tested_path h g x y r e f k =
     let test = bytes_eq-Decides y x in
     ((λ i. sym e ∙ test.0 (sym k ∙ i) ∙ f), (λ i. k ∙ test.1 (e ∙ i ∙ sym f)))
-
--- the path's first
-module _ (t : List ℕ) (p : Parts) (s : Spells t p) where
-  pub other_path : (r : Bool) → IsTrue r ↔ (text p.path ≡ path_text t) → r ≡ false → IsTrue r ↔ (print p ≡ t)
-  other_path r test e = ((λ i. absurd (false≢true (sym e ∙ i))), (λ h. test.1 (parts_printed t p s h).is_path))
-
-  pub same_path : (x r : Bool) → IsTrue x ↔ (text p.path ≡ path_text t) → x ≡ true
-      → IsTrue r ↔ ((scheme_part p ≡ scheme_text t) × (authority_part p ≡ authority_text t)) → IsTrue r ↔ (print p ≡ t)
-  same_path x r path e test = (
-    (λ i. whole_printed t p s (record { is_scheme = (test.0 i).0; is_authority = (test.0 i).1; is_path = path.0 e })),
-    (λ h. let are = parts_printed t p s h in test.1 (are.is_scheme, are.is_authority)),
-  )
 
 -- ---- a text that is that of the normal form
 
@@ -188,3 +184,28 @@ normal_printed t p s e =
       is_authority = authority_printed (authority_text t) p.authority (authority_there t p s) (sym cut.authority ∙ ap authority_text e);
       is_path = path_printed t p s (sym cut.path ∙ ap path_text e);
     })
+
+-- ---- the tests of both, first of the path, the scheme and the authority
+
+module _ (t : List ℕ) (p : Parts) (s : Spells t p) where
+  normal_texts : print (normal p) ≡ t → IsPrintedFront t p
+  normal_texts e =
+      let are = parts_printed t p s (normal_printed t p s e) in
+      (are.is_path, are.is_scheme, sym (print_cut (normal p) (normal_valid p (valid t p s))).authority ∙ ap authority_text e)
+
+  pub other_front : (r : Bool) → IsTrue r ↔ IsPrintedFront t p → r ≡ false → IsTrue r ↔ (print (normal p) ≡ t)
+  other_front r test e = ((λ i. absurd (false≢true (sym e ∙ i))), (λ h. test.1 (normal_texts h)))
+
+  pub same_front : (x r : Bool) → IsTrue x ↔ IsPrintedFront t p → x ≡ true → r ≡ is_normal_outside p → IsTrue r ↔ (print (normal p) ≡ t)
+  same_front x r front e test =
+      let are = front.0 e in
+      let printed : authority_part p ≡ authority_text t = authority_printed (authority_text t) p.authority (authority_there t p s) are.2 in
+      let whole : print p ≡ t = whole_printed t p s (record { is_scheme = are.1; is_authority = printed; is_path = are.0 }) in
+      let canon : option_eq bytes_eq (option_map authority.canonical_text p.authority) (authority_part p) ≡ true =
+      (same_texts _ _).1 (sym (authority-print p.authority) ∙ are.2 ∙ sym printed) in
+      let normal_too : is_normal p ≡ is_normal_outside p =
+      ap (λ v. option_eq bytes_eq (option_map scheme.canonical_text p.scheme) (scheme_part p)
+      && (v && (paths.is_normal_at (place p) p.path
+      && (option_eq bytes_eq (option_map canonical p.query) p.query && option_eq bytes_eq (option_map canonical p.fragment) p.fragment)))) canon in
+      let exactly = normal_exactly p (valid t p s) in
+      ((λ i. exactly.0 (normal_too ∙ sym test ∙ i) ∙ whole), (λ h. test ∙ sym normal_too ∙ exactly.1 (h ∙ sym whole)))

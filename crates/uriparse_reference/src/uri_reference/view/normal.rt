@@ -6,7 +6,7 @@ ghost use Rattle.uriparse_authority.specs.Authority as authorities;
 ghost use Rattle.uriparse_scheme.specs.Scheme as schemes;
 ghost use Rattle.uriparse_path.specs.Normal.{is_normal_at};
 ghost use Rattle.uriparse_reference.specs.Reference.{authority_part, print, scheme_part};
-ghost use Rattle.uriparse_reference.specs.Normal.{is_normal, normal};
+ghost use Rattle.uriparse_reference.specs.Normal.{is_normal, is_normal_outside, normal};
 ghost use Rattle.uriparse_reference.specs.Normal.{place as place_of};
 
 use super::super::normal::{is_canonical_authority, is_canonical_scheme};
@@ -50,6 +50,28 @@ impl<'t> ReferenceView<'t> {
         is_normal_path_text(self.path_bytes(), place)
     }
 
+    /// What precedes the path.
+    pub(super) fn place(&self) -> Place
+        ensures { result ≡ place_of self.now.parts }
+    {
+        Place {
+            has_scheme: self.pieces.has_scheme(),
+            has_authority: self.pieces.authority.is_some(),
+        }
+    }
+
+    /// Whether each component but the authority has the text of its normal form, with the path at
+    /// this place.
+    pub(super) fn is_normal_outside(&self, place: Place) -> bool
+        requires { place ≡ place_of self.now.parts }
+        ensures { result ≡ is_normal_outside self.now.parts }
+    {
+        self.has_canonical_scheme()
+            && self.has_normal_path(place)
+            && self.has_canonical_query()
+            && self.has_canonical_fragment()
+    }
+
     /// Whether each component has the text of its normal form, with the path at this place.
     fn is_normal(&self, place: Place) -> bool
         requires { place ≡ place_of self.now.parts }
@@ -71,9 +93,7 @@ impl<'t> ReferenceView<'t> {
         ensures text { IsTrue result ↔ (print (normal self.now.parts) ≡ print self.now.parts) }
         ensures form { IsTrue result → normal self.now.parts ≡ self.now.parts }
     {
-        self.is_normal(Place {
-            has_scheme: self.pieces.has_scheme(),
-            has_authority: self.pieces.authority.is_some(),
-        })
+        let _text = &self.text;
+        self.is_normal(self.place())
     }
 }

@@ -4,11 +4,10 @@ ghost use Rattle.std.specs.Prelude.{◌≡◌, ◌↔◌, [], IsTrue, unwrap_or}
 ghost use Rattle.uriparse_path.specs.Path.{text};
 ghost use Rattle.uriparse_reference.specs.Cuts.{authority_text, path_text, scheme_text};
 ghost use Rattle.uriparse_reference.specs.Reference.{authority_part, print, scheme_part};
-ghost use Rattle.uriparse_reference.specs.Normal.{normal};
+ghost use Rattle.uriparse_reference.specs.Normal.{IsPrintedFront, normal};
 
 use super::super::escape::split_authority;
 use super::ReferenceView;
-use uriparse_authority::internal::is_printed_authority;
 use uriparse_scheme::internal::split_scheme;
 
 impl<'t> ReferenceView<'t> {
@@ -30,13 +29,13 @@ impl<'t> ReferenceView<'t> {
         authority.unwrap_or(b"")
     }
 
-    /// Whether the authority, if present, prints its text.
-    fn has_printed_authority(&self) -> bool
-        ensures { IsTrue result ↔ (authority_part self.now.parts ≡ authority_text self.now.text) }
+    /// Whether the text of the authority, if present, is that of its normal form.
+    fn has_normal_authority_text(&self) -> bool
+        ensures { IsTrue result ↔ (authority_part (normal self.now.parts) ≡ authority_text self.now.text) }
     {
         let _text = &self.text;
-        match self.authority() {
-            Some(authority) => is_printed_authority(&authority, self.authority_bytes()),
+        match &self.pieces.authority {
+            Some(found) => found.is_normal_text(self.authority_bytes()),
             None => true,
         }
     }
@@ -48,19 +47,12 @@ impl<'t> ReferenceView<'t> {
         self.path_bytes() == self.pieces.tail.path
     }
 
-    /// Whether the scheme and the authority, if present, print their texts.
+    /// Whether the path, and the scheme, if present, print their texts, and that of the authority, if
+    /// present, is that of its normal form.
     fn has_printed_front(&self) -> bool
-        ensures { IsTrue result ↔ ((scheme_part self.now.parts ≡ scheme_text self.now.text) × (authority_part self.now.parts ≡ authority_text self.now.text)) }
+        ensures { IsTrue result ↔ IsPrintedFront self.now.text self.now.parts }
     {
-        self.has_printed_scheme() && self.has_printed_authority()
-    }
-
-    /// Whether the reference prints the text that was read.
-    fn is_printed(&self) -> bool
-        ensures { IsTrue result ↔ (print self.now.parts ≡ self.now.text) }
-    {
-        let _text = &self.text;
-        self.has_printed_path() && self.has_printed_front()
+        self.has_printed_path() && self.has_printed_scheme() && self.has_normal_authority_text()
     }
 
     /// Whether the text that was read is that of the normal form, byte for byte: what
@@ -78,6 +70,6 @@ impl<'t> ReferenceView<'t> {
         ensures { IsTrue result ↔ (print (normal self.now.parts) ≡ self.now.text) }
     {
         let _text = &self.text;
-        self.is_printed() && self.is_normalized()
+        self.has_printed_front() && self.is_normal_outside(self.place())
     }
 }
