@@ -5,9 +5,11 @@
 //! The port is a number and the segments are a list; all else is a string, or `null` if it is
 //! absent.
 
-ghost use Rattle.std.specs.Prelude.{◌≡◌, ◌<◌, OnOk, length, true};
+ghost use Rattle.std.specs.Prelude.{◌≡◌, ◌<◌, IfSome, OnOk, length, true};
 ghost use Rattle.std.specs.Io.KnownBytes.{Appends};
 ghost use Rattle.std.specs.List.{list_all};
+ghost use Rattle.std.specs.Option.{option_copied, option_map};
+ghost use Rattle.uriparse.specs.Scheme as scheme;
 ghost use Rattle.uri_commands.specs.Json.{escaped, escaped_byte, is_plain, is_special};
 
 use crate::failure::Failure;
@@ -15,7 +17,7 @@ use crate::marks::marks_of;
 use crate::topic::Topic;
 use std::io;
 use std::io::Write;
-use uriparse::{Host, ReferenceView, Segments};
+use uriparse::{Host, ReferenceView, Scheme, Segments, Text, TextKind};
 
 pub const ABOUT: Topic = Topic {
     name: "--json",
@@ -119,8 +121,7 @@ fn write_byte<O: Write>(b: u8, out: &mut O) -> io::Result<()>
     }
 }
 
-/// Writes a `\` before each special byte. A text without one, as each text of a reference is, is
-/// written in one piece.
+/// Writes a `\` before each special byte. A text without one is written in one piece.
 #[tactic(auto, using(crate::proofs::JsonLemmas::escaped_plain))]
 fn write_escaped<O: Write>(text: &[u8], out: &mut O) -> io::Result<()>
     ensures { OnOk result (Appends (O.contents out.old) (O.contents out.new) (escaped text.now)) }
@@ -134,6 +135,17 @@ fn write_escaped<O: Write>(text: &[u8], out: &mut O) -> io::Result<()>
     Ok(())
 }
 
+/// Writes a text that a JSON string holds unchanged, as each text of a reference. Tests no byte,
+/// and writes what `write_escaped` would: each byte of a reference is unreserved, reserved or a
+/// percent sign, and none of these is a quote or a backslash (RFC 3986, section 2).
+#[tactic(auto, using(crate::proofs::JsonLemmas::escaped_plain))]
+fn write_plain<O: Write>(text: &[u8], out: &mut O) -> io::Result<()>
+    requires { list_all is_plain text.now ≡ true }
+    ensures { OnOk result (Appends (O.contents out.old) (O.contents out.new) (escaped text.now)) }
+{
+    out.write_all(text)
+}
+
 /// Writes a member that isn't the first and whose value is a string or absent: the text after
 /// `open`, which ends with the quote before it, or else `absent`, the whole member.
 fn write_member<O: Write>(
@@ -141,11 +153,13 @@ fn write_member<O: Write>(
     absent: &[u8],
     text: Option<&[u8]>,
     out: &mut O,
-) -> io::Result<()> {
+) -> io::Result<()>
+    requires { IfSome text (λ t. list_all is_plain t.now ≡ true) }
+{
     match text {
         Some(text) => {
             out.write_all(open)?;
-            write_escaped(text, out)?;
+            write_plain(text, out)?;
             out.write_all(b"\"")
         }
         None => out.write_all(absent),
@@ -153,22 +167,47 @@ fn write_member<O: Write>(
 }
 
 /// Writes the member `text`, the first.
-fn write_text<O: Write>(text: &[u8], out: &mut O) -> io::Result<()> {
+fn write_text<O: Write>(text: &[u8], out: &mut O) -> io::Result<()>
+    requires { list_all is_plain text.now ≡ true }
+{
     out.write_all(b"{\"text\":\"")?;
-    write_escaped(text, out)?;
+    write_plain(text, out)?;
     out.write_all(b"\"")
+}
+
+/// The bytes of a scheme, if it is present.
+#[tactic(auto, using(crate::proofs::JsonLemmas::plain_scheme))]
+fn scheme_bytes<'c>(found: Option<&'c Scheme<'_>>) -> Option<&'c [u8]>
+    ensures value { option_copied result ≡ option_map scheme.text (option_copied found.entry) }
+    ensures plain { IfSome result (λ t. list_all is_plain t.now ≡ true) }
+{
+    match found {
+        Some(scheme) => Some(scheme.as_bytes()),
+        None => None,
+    }
+}
+
+/// The bytes of a component, if it is present.
+fn text_bytes<'c, K: TextKind>(found: Option<&'c Text<'_, K>>) -> Option<&'c [u8]>
+    ensures value { option_copied result ≡ option_copied found.entry }
+    ensures plain { IfSome result (λ t. list_all is_plain t.now ≡ true) }
+{
+    match found {
+        Some(text) => Some(text.as_bytes()),
+        None => None,
+    }
 }
 
 /// Writes the members `scheme`, `username` and `password`.
 fn write_front<O: Write>(reference: &ReferenceView<'_>, out: &mut O) -> io::Result<()> {
     let scheme = reference.scheme();
-    let scheme = scheme.as_ref().map(|scheme| scheme.as_str().as_bytes());
+    let scheme = scheme_bytes(scheme.as_ref());
     write_member(b",\"scheme\":\"", b",\"scheme\":null", scheme, out)?;
     let username = reference.username();
-    let username = username.as_ref().map(|username| username.as_bytes());
+    let username = text_bytes(username.as_ref());
     write_member(b",\"username\":\"", b",\"username\":null", username, out)?;
     let password = reference.password();
-    let password = password.as_ref().map(|password| password.as_bytes());
+    let password = text_bytes(password.as_ref());
     write_member(b",\"password\":\"", b",\"password\":null", password, out)
 }
 
@@ -186,7 +225,7 @@ fn host_kind(host: &Host<'_>) -> &'static str {
 /// written without formatting.
 fn write_host_text<O: Write>(host: &Host<'_>, out: &mut O) -> io::Result<()> {
     match host {
-        Host::RegisteredName(name) => write_escaped(name.as_bytes(), out),
+        Host::RegisteredName(name) => write_plain(name.as_bytes(), out),
         _ => write!(Escaping { out }, "{host}"),
     }
 }
@@ -218,31 +257,30 @@ fn write_segments<O: Write>(segments: Segments<'_>, out: &mut O) -> io::Result<(
     let mut separator: &[u8] = b",\"segments\":[\"";
     for segment in segments {
         out.write_all(separator)?;
-        write_escaped(segment.as_bytes(), out)?;
+        write_plain(segment.as_bytes(), out)?;
         separator = b"\",\"";
     }
     out.write_all(b"\"]")
 }
 
 /// Writes the members of the path, the query and the fragment.
+#[tactic(auto, using(crate::proofs::JsonLemmas::plain_path))]
 fn write_back<O: Write>(reference: &ReferenceView<'_>, out: &mut O) -> io::Result<()> {
     let path = Some(reference.path().as_bytes());
     write_member(b",\"path\":\"", b",\"path\":null", path, out)?;
     let query = reference.query();
-    let query = query.as_ref().map(|query| query.as_bytes());
+    let query = text_bytes(query.as_ref());
     write_member(b",\"query\":\"", b",\"query\":null", query, out)?;
     let fragment = reference.fragment();
-    let fragment = fragment.as_ref().map(|fragment| fragment.as_bytes());
+    let fragment = text_bytes(fragment.as_ref());
     write_member(b",\"fragment\":\"", b",\"fragment\":null", fragment, out)?;
     write_segments(reference.segments(), out)
 }
 
 /// Writes the object, and a newline.
-fn write_object<O: Write>(
-    text: &[u8],
-    reference: &ReferenceView<'_>,
-    out: &mut O,
-) -> io::Result<()> {
+fn write_object<O: Write>(text: &[u8], reference: &ReferenceView<'_>, out: &mut O) -> io::Result<()>
+    requires { list_all is_plain text.now ≡ true }
+{
     write_text(text, out)?;
     write_front(reference, out)?;
     write_host(reference.host().as_ref(), out)?;
@@ -253,6 +291,7 @@ fn write_object<O: Write>(
 
 /// Prints the reference that the text spells as a JSON object, with the text as it was given. Does
 /// not allocate.
+#[tactic(auto, using(crate::proofs::JsonLemmas::plain_spelled))]
 pub fn parse_json<O: Write>(text: &[u8], out: &mut O) -> Result<(), Failure> {
     let reference = ReferenceView::try_from_bytes(text)?;
     write_object(text, &reference, out).map_err(Failure::Io)

@@ -8,6 +8,7 @@ pub mod SpellingLemmas
 pub mod PrintedLemmas
 pub mod LengthLemmas
 pub mod ViewLemmas
+pub mod CharacterLemmas
 pub mod AsciiLemmas
 pub mod EscapedPathLemmas
 pub mod EscapedAuthorityLemmas
