@@ -3,4 +3,3 @@ pub mod LeftLemmas
 pub mod UndottedLemmas
 pub mod RelativeLeftLemmas
 pub mod NormalTextLemmas
-pub mod MergedWholeLemmas

@@ -64,7 +64,7 @@ fn place_by_one(slashes: usize, text: &[u8]) -> usize
 }
 
 /// The place of the leftmost fault of a path's text, which is that of a byte or of the slash that
-/// begins one segment too many, or the length. Walks the text up to there and does not allocate.
+/// begins one segment too many, or the length. Takes linear time and does not allocate.
 pub fn place_of_path_fault(text: &[u8]) -> usize
     ensures place { result ≡ spec.fault_place text.now }
     ensures within { result ≤ length text.now }

@@ -2,12 +2,10 @@
 //! in the last bytes of a buffer: RFC 3986, sections 5.2.3, 5.2.4 and 6.2.2.
 ghost use Rattle.std.specs.Prelude.{◌≡◌, ℕ, Bool, ◌<◌, ◌≤◌, ◌++◌, ◌||◌, ◌&&◌, List, length, false, not, true};
 ghost use Rattle.std.specs.List.{join_with_byte, slice_split};
-ghost use Rattle.std.specs.Option.{option_copied};
 ghost use Rattle.uriparse_text.specs.declared.internal.canonical.Case.TheVariants as case;
 ghost use Rattle.uriparse_text.specs.declared.internal.ends.Form.{Form};
 ghost use Rattle.uriparse_text.specs.declared.internal.ends.Form.TheVariants.{Canonical};
 ghost use Rattle.uriparse_text.specs.Bytes.{slash};
-ghost use Rattle.uriparse_text.specs.Cuts.{ahead};
 ghost use Rattle.uriparse_text.specs.Ends.{EndsWith, Puts, formed};
 ghost use Rattle.uriparse_path.specs.Path as path;
 ghost use Rattle.uriparse_path.specs.Path.{IsPath, is_rooted, is_slash, max_segments, root, spelled};
@@ -16,11 +14,10 @@ ghost use Rattle.uriparse_path.specs.Edits.{shield_unless};
 ghost use Rattle.uriparse_path.specs.Merge.{merged};
 ghost use Rattle.uriparse_path.specs.Relative.{relative_normal};
 ghost use Rattle.uriparse_path.specs.Normal.{normal_at};
-ghost use Rattle.uriparse_path.specs.Text.{pieces_left};
 ghost use Rattle.uriparse_path.specs.Left as spec;
 
-use super::ending::{Ending, ends_in_dots, split_last};
-use super::heads::{lacks_dots, lacks_heads};
+use super::ending::{Ending, ends_in_dots};
+use super::heads::lacks_dots;
 use crate::path::normal::Place;
 use crate::path::read::split_root;
 use crate::path::segment::has_colon;
@@ -77,47 +74,8 @@ pub fn put_undotted(
     put_front(ending, rooted, has_authority, out)
 }
 
-/// Whether the removal of dot segments is known to keep the merged text of a base, in which `front`
-/// precedes the last slash, and a reference: no segment of either begins like a dot segment, and no
-/// `.` is needed before two slashes.
-fn is_merge_kept(has_authority: bool, base: &[u8], front: Option<&[u8]>, reference: &[u8]) -> bool
-    ensures shield { result ≡ true → (not has_authority && path.has_two_slashes base.now) ≡ false }
-    ensures front { result ≡ true → has_dot_segment (pieces_left (option_copied front.entry)) ≡ false }
-    ensures reference { result ≡ true → has_dot_segment (slice_split is_slash reference.now) ≡ false }
-{
-    let lacks_front_heads = match front {
-        Some(front) => lacks_heads(front),
-        None => true,
-    };
-    lacks_front_heads && needs_no_shield(has_authority, base) && lacks_heads(reference)
-}
-
-/// Puts what precedes a slash, and the slash, if there is one.
-fn put_ahead(front: Option<&[u8]>, out: &mut [u8], len: usize) -> usize
-    ensures room { length out.new ≡ length out.old }
-    ensures puts { Puts (ahead slash (option_copied front.entry)) out.old len out.new result }
-{
-    match front {
-        Some(front) => {
-            let len = put(b"/", out, len);
-            put(front, out, len)
-        }
-        None => len,
-    }
-}
-
-/// Puts the text of a base up to its last slash: its root, if it has one, and what precedes another
-/// slash.
-fn put_folder(rooted: bool, front: Option<&[u8]>, out: &mut [u8], len: usize) -> usize
-    ensures room { length out.new ≡ length out.old }
-    ensures puts { (t : List ℕ) → EndsWith out.old len t → EndsWith out.new result (root rooted ++ (ahead slash (option_copied front.entry) ++ t)) }
-{
-    let len = put_ahead(front, out, len);
-    if rooted { put(b"/", out, len) } else { len }
-}
-
 /// Puts the merged paths without their dot segments: the base's up to its last slash, then the
-/// reference's. If [`is_merge_kept`] says that none is removed, both are put as they are.
+/// reference's.
 pub fn put_merged(
     has_authority: bool,
     base: &[u8],
@@ -133,11 +91,6 @@ pub fn put_merged(
     ensures puts { Puts (path.text (shield_unless has_authority (spelled (path.text (replayed (merged (spelled base.now) (spelled reference.now))))))) out.old len out.new result }
 {
     let (rooted, rest) = split_root(base);
-    let (front, _) = split_last(rest);
-    if is_merge_kept(has_authority, base, front, reference) {
-        let len = put(reference, out, len);
-        return put_folder(rooted, front, out, len);
-    }
     let ended = ends_in_dots(reference);
     let ending = Ending::none(len).walk(Form::AsIs, ended, reference, out);
     let ending = ending.walk_directory(Form::AsIs, ended, rest, out);

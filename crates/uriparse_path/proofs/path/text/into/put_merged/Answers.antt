@@ -1,8 +1,5 @@
-use Rattle.std.proofs.Common.{◌≡◌, ◌++◌, ◌||◌, ◌∙◌, length, ap, sym, subst, arith}
+use Rattle.std.proofs.Common.{◌≡◌, ◌++◌, ◌||◌, ◌∙◌, length, ap, subst, arith}
 use Rattle.std.specs.List.{slice_split}
-use Rattle.std.specs.Option.{option_copied}
-use Rattle.uriparse_text.specs.Bytes.{slash}
-use Rattle.uriparse_text.specs.Cuts.{ahead}
 use Rattle.uriparse_text.specs.Ends.{EndsWith}
 use Rattle.uriparse_text.specs.declared.internal.ends.Form.TheVariants.{AsIs}
 use Rattle.uriparse_path.specs.Path.{is_rooted, is_slash, max_segments, pieces, root, spelled, text}
@@ -11,7 +8,6 @@ use Rattle.uriparse_path.specs.Edits.{shield_unless}
 use Rattle.uriparse_path.specs.Merge.{merged}
 use Rattle.uriparse_path.specs.Left.{backs, kept_text, left_of, nothing}
 use Rattle.uriparse_path.proofs.lemmas.left.UndottedLemmas.{merged_left, merged_text, pieces_relative}
-use Rattle.uriparse_path.proofs.lemmas.left.MergedWholeLemmas.{merged_whole}
 use Rattle.uriparse_path.proofs.path.text.into.put_merged.Goals as goal
 
 pub walk-ending-requires-clause-few : goal.walk-ending-requires-clause-few
@@ -57,14 +53,3 @@ returns-clause-puts c = λ t h.
     ++ kept_text AsIs v (left_of (merged (spelled base) (spelled reference)).segments).kept) c.ends_in_dots-ended.ensures
     ∙ merged_text base reference c.requires.relative c.requires.base c.requires.reference c.requires.short in
     subst (λ x. EndsWith c.put_front.new.out c.put_front.result (text (shield_unless c.args.has_authority (spelled x)) ++ t)) same end
-
-pub returns-then-is_merge_kept-clause-puts : goal.returns-then-is_merge_kept-clause-puts
-returns-then-is_merge_kept-clause-puts c = λ t h.
-    let base = c.args.base.now in
-    let front = option_copied c.split_last.result.0 in
-    let kept = c.if-is_merge_kept.true in
-    let ends = c.put_folder.ensures.puts (c.args.reference.now ++ t) (c.put-len.ensures.puts t h) in
-    merged_whole c.args.has_authority base c.args.reference.now t c.put_folder.new.out c.put_folder.result front c.split_last.result.1
-    (ap (slice_split is_slash) (sym c.split_root-rooted.ensures.rest) ∙ c.split_last.ensures.cut) c.requires.relative
-    (c.is_merge_kept.ensures.shield kept) (c.is_merge_kept.ensures.front kept) (c.is_merge_kept.ensures.reference kept)
-    (subst (λ v. EndsWith c.put_folder.new.out c.put_folder.result (root v ++ (ahead slash front ++ (c.args.reference.now ++ t)))) c.split_root-rooted.ensures.root ends)
