@@ -267,7 +267,7 @@ fn do_line<O: Write, E: Write>(
 /// Takes the next line, with its newline, from a reader that holds it whole, and copies it to the
 /// empty buffer, without the newline. Returns whether the reader holds it; if not, nothing is taken.
 /// The reader is not asked for more.
-#[tactic(auto, using(crate::proofs::LineLemmas::none_before))]
+#[tactic(auto, using(crate::proofs::LineLemmas::none_before, crate::proofs::LineLemmas::held_line))]
 fn take_whole<I: Read>(input: &mut BufReader<I>, line: &mut Vec<u8>) -> io::Result<bool>
     requires { line.old.items ≡ [] }
     ensures clean { All (λ b. b ≢ newline) line.new.items }
@@ -286,7 +286,8 @@ fn take_whole<I: Read>(input: &mut BufReader<I>, line: &mut Vec<u8>) -> io::Resu
 }
 
 /// Reads the next line as [`read_line`] does. If the reader does not hold it whole, more input may be
-/// waited for: what the writer has gathered goes out first.
+/// waited for: what the writer has gathered goes out first. A writer that fails then keeps what it
+/// has gathered, and fails again when it is full, or at the end.
 #[tactic(auto, using(crate::proofs::LineLemmas::taken_line))]
 fn next_line<I: Read, O: Write>(
     input: &mut BufReader<I>,
@@ -302,7 +303,7 @@ fn next_line<I: Read, O: Write>(
     if take_whole(input, line)? {
         return Ok(true);
     }
-    out.flush()?;
+    let _ = out.flush();
     read_line(input, line)
 }
 

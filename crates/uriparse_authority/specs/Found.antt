@@ -12,7 +12,7 @@ found_host kind text ipv4 ipv6 =
     else if kind == 7 then IPvFuture text
     else IPv6Address ipv6
 
--- a name of this many bytes, in canonical spelling
+-- a name of this many bytes, in canonical spelling: a word of a private function's clause alone
 abbrev pub IsCanonicalName : Host → ℕ → Type 0
 IsCanonicalName (IPv4Address a) len = ⊥
 IsCanonicalName (IPv6Address a) len = ⊥
