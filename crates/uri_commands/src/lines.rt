@@ -1,21 +1,20 @@
 //! `uri --lines COMMAND`: a command for each line of the standard input.
 
-ghost use Rattle.std.specs.Prelude.{◌≡◌, ◌≢◌, [], ◌∷◌, ◌++◌, ◌==◌, ◌<◌, ◌≤◌, All, Ok, false, length, take, true, IfOk, IfSome, OnErr, OnOk};
-ghost use Rattle.std.specs.List.{position_or_len};
+ghost use Rattle.std.specs.Prelude.{◌≡◌, ◌≢◌, [], ◌∷◌, ◌++◌, ◌<◌, ◌≤◌, All, Contains, IsErr, Ok, false, length, take, true, IfOk, IfSome, OnErr, OnOk};
 ghost use Rattle.std.specs.Io.BufRead.{DropsThrough, first_piece, strip_last};
-ghost use Rattle.std.specs.Io.Buffered.{reader_remaining};
+ghost use Rattle.std.specs.Io.Buffered.{reader_buffer, reader_inner, reader_remaining};
 ghost use Rattle.std.specs.Io.KnownBytes.{Consumes, IsAtEnd};
 ghost use Rattle.uri_commands.specs.Lines.{newline};
 
 use crate::commands::Task;
 use crate::explain::explain_line;
 use crate::failure::Failure;
-use crate::marks::marks_of;
 use crate::options::Options;
 use crate::topic::Topic;
 use std::alloc::Global;
 use std::io;
-use std::io::{BufRead, BufReader, BufWriter, ErrorKind, Read, Write};
+use std::io::{BufRead, BufReader, BufWriter, Read, Write};
+use uriparse_text::internal::{Is, first};
 
 pub const ABOUT: Topic = Topic {
     name: "--lines",
@@ -95,50 +94,6 @@ fn drop_newline(line: &mut Vec<u8>)
     }
 }
 
-/// The place of the first newline of sixteen bytes, or 16.
-#[inline(always)]
-#[tactic(auto, using(std::proofs::lemmas::Simd::leading_from_mask_l, std::proofs::lemmas::Simd::trailing_mask_l))]
-fn newline_place_of_run(run: &[u8; 16]) -> usize
-    ensures { result ≡ position_or_len (λ b. b == newline) run.now }
-{
-    let newlines = marks_of(b'\n', run);
-    if newlines == 0 {
-        return 16;
-    }
-    newlines.trailing_zeros() as usize
-}
-
-/// The place of the first newline, or the length, byte by byte.
-fn newline_place_of_end(text: &[u8]) -> usize
-    ensures { result ≡ position_or_len (λ b. b == newline) text.now }
-{
-    let mut place = 0;
-    'bytes: while place < text.len() {
-        if text[place] == b'\n' {
-            return place;
-        }
-        place += 1;
-    }
-    place
-}
-
-/// The place of the first newline, or the length. Tests sixteen bytes at a time.
-#[tactic(auto, using(crate::proofs::LineLemmas::place_within))]
-fn newline_place(text: &[u8]) -> usize
-    ensures place { result ≡ position_or_len (λ b. b == newline) text.now }
-    ensures within { result ≤ length text.now }
-{
-    let mut rest = text;
-    'runs: while let Some((run, later)) = rest.split_first_chunk::<16>() {
-        let place = newline_place_of_run(run);
-        if place < 16 {
-            return text.len() - rest.len() + place;
-        }
-        rest = later;
-    }
-    text.len() - rest.len() + newline_place_of_end(rest)
-}
-
 /// Appends the bytes before this place to the buffer. The byte there counts as if it were appended
 /// too, so the buffer grows as it does with `read_until`, which appends the newline.
 fn append_front(held: &[u8], place: usize, line: &mut Vec<u8>) -> io::Result<()>
@@ -151,57 +106,8 @@ fn append_front(held: &[u8], place: usize, line: &mut Vec<u8>) -> io::Result<()>
     Ok(())
 }
 
-/// What was taken of a line.
-#[derive(Drop)]
-enum Taken {
-    /// All of it, with its newline.
-    Line,
-    /// A front of it, which may be empty; more may follow.
-    Piece,
-    /// Nothing, since the input is at its end.
-    Nothing,
-}
-
-/// Appends what the reader holds of the next line to the empty buffer, without the newline, and
-/// takes it from the reader, with the newline. Asks the reader for bytes once. If that is
-/// interrupted, nothing is taken.
-#[tactic(auto, using(crate::proofs::LineLemmas::line_and_rest, crate::proofs::LineLemmas::none_before))]
-fn take_held<I: BufRead>(input: &mut I, line: &mut Vec<u8>) -> io::Result<Taken>
-    requires { line.old.items ≡ [] }
-    ensures clean { All (λ b. b ≢ newline) line.new.items }
-    ensures line { result ≡ Ok Taken.Line →
-        Consumes (I.remaining input.old) (I.remaining input.new) (line.new.items ++ newline ∷ []) }
-    ensures piece { result ≡ Ok Taken.Piece →
-        Consumes (I.remaining input.old) (I.remaining input.new) line.new.items }
-    ensures nothing { result ≡ Ok Taken.Nothing → (line.new.items ≡ [])
-        × IsAtEnd (I.remaining input.old)
-        × Consumes (I.remaining input.old) (I.remaining input.new) line.new.items }
-{
-    let held = match input.fill_buf() {
-        Ok(held) => held,
-        Err(error) if error.kind() == ErrorKind::Interrupted => return Ok(Taken::Piece),
-        Err(error) => return Err(error),
-    };
-    let place = newline_place(held);
-    append_front(held, place, line)?;
-    if place < held.len() {
-        input.consume(place + 1);
-        return Ok(Taken::Line);
-    }
-    input.consume(place);
-    Ok(if place > 0 {
-        Taken::Piece
-    } else {
-        Taken::Nothing
-    })
-}
-
 /// Reads the next line into the buffer, without its newline, and returns whether there was one. The
 /// last line may have no newline.
-///
-/// Most lines lie whole in what the reader holds, and are copied in one piece. Where only a front of
-/// the line does, `read_until` appends the rest.
-#[tactic(auto, using(crate::proofs::LineLemmas::taken_line, crate::proofs::LineLemmas::through_append, crate::proofs::LineLemmas::after_append))]
 pub fn read_line<I: BufRead>(input: &mut I, line: &mut Vec<u8>) -> io::Result<bool>
     ensures line { OnOk result (IfSome (I.remaining input.old) (λ bytes. line.new.items ≡ first_piece newline bytes)) }
     ensures rest { OnOk result (DropsThrough (I.remaining input.old) (I.remaining input.new) newline) }
@@ -209,16 +115,10 @@ pub fn read_line<I: BufRead>(input: &mut I, line: &mut Vec<u8>) -> io::Result<bo
     ensures some { IfOk result (λ is_line. is_line ≡ true → IfSome (I.remaining input.old) (λ bytes. 0 < length bytes)) }
 {
     line.clear();
-    match take_held(input, line)? {
-        Taken::Line => Ok(true),
-        Taken::Nothing => Ok(false),
-        Taken::Piece => {
-            input.read_until(b'\n', line)?;
-            let is_line = !line.is_empty();
-            drop_newline(line);
-            Ok(is_line)
-        }
-    }
+    input.read_until(b'\n', line)?;
+    let is_line = !line.is_empty();
+    drop_newline(line);
+    Ok(is_line)
 }
 
 /// Reports a rejected line. If `explains` is set and the line is no reference, three lines say where
@@ -274,9 +174,11 @@ fn take_whole<I: Read>(input: &mut BufReader<I>, line: &mut Vec<u8>) -> io::Resu
     ensures line { result ≡ Ok true →
         Consumes (reader_remaining I.remaining input.old) (reader_remaining I.remaining input.new) (line.new.items ++ newline ∷ []) }
     ensures nothing { result ≡ Ok false → input.new ≡ input.old }
+    ensures held { result ≡ Ok false → All (λ b. b ≢ newline) (reader_buffer input.old) }
+    ensures unasked { reader_inner input.new ≡ reader_inner input.old }
 {
     let held = input.buffer();
-    let place = newline_place(held);
+    let place = first(&Is(b'\n'), held);
     if place == held.len() {
         return Ok(false);
     }
@@ -285,42 +187,61 @@ fn take_whole<I: Read>(input: &mut BufReader<I>, line: &mut Vec<u8>) -> io::Resu
     Ok(true)
 }
 
-/// Reads the next line as [`read_line`] does. If the reader does not hold it whole, more input may be
-/// waited for: what the writer has gathered goes out first. A writer that fails then keeps what it
-/// has gathered, and fails again when it is full, or at the end.
+/// Writes what the writer has gathered. An error is kept for the end of the work, unless there is an
+/// earlier one: the writer keeps what it could not write, and tries again when it is full, or at the
+/// end.
+fn write_due<O: Write>(out: &mut O, written: &mut io::Result<()>)
+    ensures { IsErr written.old → written.new ≡ written.old }
+{
+    let flushed = out.flush();
+    if written.is_ok() {
+        *written = flushed;
+    }
+}
+
+/// Reads the next line as [`read_line`] does. A line that the reader holds whole is taken at once, and
+/// copied in one piece. If it holds no whole line, more input may be waited for, and what is due is
+/// written first.
 #[tactic(auto, using(crate::proofs::LineLemmas::taken_line))]
-fn next_line<I: Read, O: Write>(
+pub fn next_line<I: Read, O: Write>(
     input: &mut BufReader<I>,
     line: &mut Vec<u8>,
     out: &mut O,
+    written: &mut io::Result<()>,
 ) -> io::Result<bool>
     ensures line { OnOk result (IfSome (reader_remaining I.remaining input.old) (λ bytes. line.new.items ≡ first_piece newline bytes)) }
     ensures rest { OnOk result (DropsThrough (reader_remaining I.remaining input.old) (reader_remaining I.remaining input.new) newline) }
     ensures end { IfOk result (λ is_line. is_line ≡ false → IsAtEnd (reader_remaining I.remaining input.old)) }
     ensures some { IfOk result (λ is_line. is_line ≡ true → IfSome (reader_remaining I.remaining input.old) (λ bytes. 0 < length bytes)) }
+    ensures unasked { Contains (reader_buffer input.old) newline → (reader_inner input.new ≡ reader_inner input.old) × (out.new ≡ out.old) }
+    ensures kept { IsErr written.old → written.new ≡ written.old }
 {
     line.clear();
     if take_whole(input, line)? {
         return Ok(true);
     }
-    let _ = out.flush();
+    write_due(out, written);
     read_line(input, line)
 }
 
-/// Does the task for each line, and returns the worst outcome.
+/// Does the task for each line, and returns the worst outcome. `written` gets the first error of a
+/// write before a wait.
 fn do_lines<I: Read, O: Write, E: Write>(
     alloc: Global,
     explains: bool,
     task: &Task<'_>,
     input: &mut BufReader<I>,
     out: &mut O,
+    written: &mut io::Result<()>,
     err: &mut E,
-) -> Result<Outcome, Failure> {
+) -> Result<Outcome, Failure>
+    ensures { IsErr written.old → written.new ≡ written.old }
+{
     let mut worst = Outcome::Done;
     let mut line = Vec::new(alloc);
     let mut buffer = Vec::new(alloc);
-    for number in 1..u64::MAX {
-        if !next_line(input, &mut line, out)? {
+    'lines: for number in 1..u64::MAX {
+        if !next_line(input, &mut line, out, written)? {
             break;
         }
         let outcome = do_line(alloc, explains, task, &mut buffer, number, &line, out, err)?;
@@ -330,6 +251,7 @@ fn do_lines<I: Read, O: Write, E: Write>(
 }
 
 /// Does the task for each line with buffered output, which is written even if the work ends early.
+/// Of several errors the first is returned.
 fn do_buffered<I: Read, O: Write, E: Write>(
     alloc: Global,
     explains: bool,
@@ -340,10 +262,12 @@ fn do_buffered<I: Read, O: Write, E: Write>(
 ) -> Result<Outcome, Failure> {
     let mut out = BufWriter::with_capacity(alloc, CAPACITY, out)?;
     let mut err = BufWriter::with_capacity(alloc, CAPACITY, err)?;
-    let worst = do_lines(alloc, explains, task, input, &mut out, &mut err);
+    let mut written = Ok(());
+    let worst = do_lines(alloc, explains, task, input, &mut out, &mut written, &mut err);
     let flushed = out.flush();
     // The status reports rejections that can't be written either.
     let _ = err.flush();
+    written?;
     let worst = worst?;
     flushed?;
     Ok(worst)

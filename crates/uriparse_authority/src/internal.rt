@@ -1,7 +1,7 @@
 //! What the crates above build on. Users do not need it.
-ghost use Rattle.std.specs.Prelude.{◌≡◌, ◌≤◌, ◌⊎◌, ◌↔◌, IsTrue, length};
+ghost use Rattle.std.specs.Prelude.{◌≡◌, ◌≤◌, ◌⊎◌, length};
 ghost use Rattle.uriparse_text.specs.Ends.{Puts};
-ghost use Rattle.uriparse_authority.specs.Authority.{Spells, print};
+ghost use Rattle.uriparse_authority.specs.Authority.{print};
 ghost use Rattle.uriparse_authority.specs.Ends.{formed_authority};
 
 use crate::authority::Authority;
@@ -25,12 +25,4 @@ pub fn put_authority(authority: &Authority<'_>, form: Form, out: &mut [u8], len:
     ensures puts { Puts (print (formed_authority form authority.now)) out.old len out.new result }
 {
     authority.put(form, out, len)
-}
-
-/// Whether the authority prints the text, from which it was read.
-pub fn is_printed_authority(authority: &Authority<'_>, text: &[u8]) -> bool
-    requires { Spells text.now authority.now }
-    ensures { IsTrue result ↔ (print authority.now ≡ text.now) }
-{
-    authority.is_printed(text)
 }

@@ -77,6 +77,7 @@ pub(super) fn without_triples(m: u64, first: u64, later: u64) -> u64
 
 /// Whether `later` has a bit right above one of `first`.
 #[inline(always)]
+#[tactic(auto, using(crate::proofs::lemmas::scans::BitLemmas::none_adjacent))]
 pub fn has_adjacent(first: u64, later: u64) -> bool
     ensures { result ≡ false → (k : ℕ) → bit_at first k ≡ 1 → bit_at later (1 + k) ≡ 0 }
 {

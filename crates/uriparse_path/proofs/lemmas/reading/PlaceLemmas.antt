@@ -223,6 +223,16 @@ place_of_byte n (b ∷ t) h = by_mark (b == question_mark) refl (place_of_byte n
         ∙ sym (ap (λ x. place_within n (x ∷ t)) mark ∙ place-faulty n question_mark t (no_mark t) refl)
     by_mark false e same less = by_plain (is_plain Segment b) refl e same less
 
+-- what precedes the first question mark of the faultless front
+pub place_of_front : (n place : ℕ) (t fine front : List ℕ) → front ≡ up_to (λ c. c == question_mark) fine → fine ≡ take place t
+    → place ≡ text_place.fault_place Query t → length t ≤ n → length front ≡ place_within n t
+place_of_front n place t fine front up cut is h =
+    ap length up
+    ∙ ap (λ u. length (up_to (λ c. c == question_mark) u)) cut
+    ∙ ap (λ k. length (up_to (λ c. c == question_mark) (take k t))) is
+    ∙ place_up_to t
+    ∙ place_of_byte n t h
+
 -- ---- a path with a fault has it before its end
 
 pub before_end_within : (n : ℕ) (t : List ℕ) (e : PathError) → fault_within (n + 1) (slice_split is_slash t) ≡ Some e → place_within n t < length t

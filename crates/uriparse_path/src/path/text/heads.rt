@@ -80,6 +80,7 @@ pub(super) fn lacks_dots(text: &[u8]) -> bool
 
 /// Whether the text is known to have neither an escape nor a segment that begins with a dot. Then
 /// each segment is canonical, and none is a dot segment.
+#[tactic(auto, using(crate::proofs::lemmas::reading::NoEscapeLemmas::each_unescaped))]
 pub(super) fn is_plain(text: &[u8]) -> bool
     ensures { result ≡ true → (has_dot_segment (slice_split is_slash text.now) ≡ false) × (list_all is_canonical (slice_split is_slash text.now) ≡ true) }
 {

@@ -1,19 +1,17 @@
-use Rattle.std.proofs.Common.{◌≡◌, ◌∙◌, ap, length, take, arith, length-take-le}
+use Rattle.std.proofs.Common.{◌≡◌, ap, length, take, arith, rules, length-take-le}
 use Rattle.std.specs.Prelude.{◌==◌}
-use Rattle.uriparse_text.specs.declared.internal.class.Class.TheVariants.{Query}
 use Rattle.uriparse_text.specs.Bytes.{question_mark}
 use Rattle.uriparse_text.specs.Cuts.{up_to}
-use Rattle.uriparse_text.specs.Place.{fault_place}
-use Rattle.uriparse_path.proofs.lemmas.reading.PlaceLemmas.{place_of_byte, place_up_to, up_to-shorter}
+use Rattle.uriparse_path.specs.Place.{place_within}
+use Rattle.uriparse_path.proofs.lemmas.reading.PlaceLemmas.{place_of_front, up_to-shorter}
 use Rattle.uriparse_path.proofs.path.place.place_of_byte.Goals as goal
 
 pub returns-clause-place : goal.returns-clause-place
 returns-clause-place c = λ n h.
-    ap length c.split_at_mark.ensures.front
-    ∙ ap (λ u. length (up_to (λ b. b == question_mark) u)) c.split_at.ensures.front
-    ∙ ap (λ k. length (up_to (λ b. b == question_mark) (take k c.args.text.now))) c.place_of_fault.ensures.place
-    ∙ place_up_to c.args.text.now
-    ∙ place_of_byte n c.args.text.now h
+    let front : length c.split_at_mark.result.0.now ≡ place_within n c.args.text.now =
+    place_of_front n c.place_of_fault.result c.args.text.now c.split_at.result.0.now c.split_at_mark.result.0.now
+        c.split_at_mark.ensures.front c.split_at.ensures.front c.place_of_fault.ensures.place h in
+    search rules
 
 pub returns-clause-within : goal.returns-clause-within
 returns-clause-within c =
