@@ -13,17 +13,20 @@ use Rattle.std.proofs.lemmas.List.Sums.{prefix_len-le-length, fails_before_first
 use Rattle.std.proofs.lemmas.Bool.{and_from, false≢true}
 use Rattle.uri_commands.specs.Lines.{newline}
 
-pub place_within : (text : List ℕ) → position_or_len (λ b. b == newline) text ≤ length text
-place_within text = prefix_len-le-length (λ b. not (b == newline)) text
-
 -- no byte before the first newline is one
 pub none_before : (text : List ℕ) (place : ℕ) → place ≡ position_or_len (λ b. b == newline) text → All (λ b. b ≢ newline) (take place text)
 none_before text place is = λ k d h e.
-    let within : place ≤ length text = omega (arith, place_within text) in
+    let within : place ≤ length text = omega (arith, prefix_len-le-length (λ b. not (b == newline)) text) in
     let short : k < place = omega (arith, length-take-le place text within) in
     let same : get_or text k d ≡ newline = sym (get_or-take place text k d short) ∙ e in
     let fails = fails_before_first (λ b. b == newline) text k d (omega arith) in
     false≢true (sym fails ∙ eq-eqb _ _ same)
+
+-- where there is no newline, no byte is one
+pub none_held : (text : List ℕ) (place : ℕ) → place ≡ position_or_len (λ b. b == newline) text → place ≡ length text → All (λ b. b ≢ newline) text
+none_held text place is end = λ k d h e.
+    let fails = fails_before_first (λ b. b == newline) text k d (omega (arith, is, end, h)) in
+    false≢true (sym fails ∙ eq-eqb _ _ e)
 
 -- the bytes through the first newline
 pub through_newline : (text : List ℕ) (place : ℕ) → place ≡ position_or_len (λ b. b == newline) text → place < length text
@@ -69,10 +72,3 @@ taken_line (Some x) (Some y) line p lacks =
     let taken : take_through newline x ≡ line ++ newline ∷ [] = ap (take_through newline) whole ∙ take_through-append newline line (newline ∷ y) lacks in
     let dropped : drop_through newline x ≡ y = ap (drop_through newline) whole ∙ drop_through-append newline line (newline ∷ y) lacks in
     (sym (ap (strip_last newline) taken ∙ stripped line), ap Some (sym dropped))
-
--- a piece of a line without its newline, and what follows it
-pub through_append : (piece rest : List ℕ) → All (λ b. b ≢ newline) piece → take_through newline (piece ++ rest) ≡ piece ++ take_through newline rest
-through_append piece rest lacks = take_through-append newline piece rest lacks
-
-pub after_append : (piece rest : List ℕ) → All (λ b. b ≢ newline) piece → drop_through newline (piece ++ rest) ≡ drop_through newline rest
-after_append piece rest lacks = drop_through-append newline piece rest lacks

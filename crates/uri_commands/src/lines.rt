@@ -1,6 +1,6 @@
 //! `uri --lines COMMAND`: a command for each line of the standard input.
 
-ghost use Rattle.std.specs.Prelude.{◌≡◌, ◌≢◌, [], ◌∷◌, ◌++◌, ◌<◌, ◌≤◌, All, Contains, IsErr, Ok, false, length, take, true, IfOk, IfSome, OnErr, OnOk};
+ghost use Rattle.std.specs.Prelude.{◌≡◌, ◌≢◌, [], ◌∷◌, ◌++◌, ◌<◌, ◌≤◌, All, Contains, IsErr, IsOk, Ok, false, length, take, true, IfOk, IfSome, OnErr, OnOk};
 ghost use Rattle.std.specs.Io.BufRead.{DropsThrough, first_piece, strip_last};
 ghost use Rattle.std.specs.Io.Buffered.{reader_buffer, reader_inner, reader_remaining};
 ghost use Rattle.std.specs.Io.KnownBytes.{Consumes, IsAtEnd};
@@ -187,21 +187,20 @@ fn take_whole<I: Read>(input: &mut BufReader<I>, line: &mut Vec<u8>) -> io::Resu
     Ok(true)
 }
 
-/// Writes what the writer has gathered. An error is kept for the end of the work, unless there is an
-/// earlier one: the writer keeps what it could not write, and tries again when it is full, or at the
-/// end.
-fn write_due<O: Write>(out: &mut O, written: &mut io::Result<()>)
-    ensures { IsErr written.old → written.new ≡ written.old }
+/// Keeps the first error of several writes.
+fn keep_first(written: &mut io::Result<()>, next: io::Result<()>)
+    ensures first { IsErr written.old → written.new ≡ written.old }
+    ensures next { IsOk written.old → written.new ≡ next }
 {
-    let flushed = out.flush();
     if written.is_ok() {
-        *written = flushed;
+        *written = next;
     }
 }
 
 /// Reads the next line as [`read_line`] does. A line that the reader holds whole is taken at once, and
 /// copied in one piece. If it holds no whole line, more input may be waited for, and what is due is
-/// written first.
+/// written first. An error of that is kept, and the work goes on: the writer keeps what it could not
+/// write, and tries again when it is full, or at the end.
 #[tactic(auto, using(crate::proofs::LineLemmas::taken_line))]
 pub fn next_line<I: Read, O: Write>(
     input: &mut BufReader<I>,
@@ -220,7 +219,7 @@ pub fn next_line<I: Read, O: Write>(
     if take_whole(input, line)? {
         return Ok(true);
     }
-    write_due(out, written);
+    keep_first(written, out.flush());
     read_line(input, line)
 }
 
@@ -263,7 +262,15 @@ fn do_buffered<I: Read, O: Write, E: Write>(
     let mut out = BufWriter::with_capacity(alloc, CAPACITY, out)?;
     let mut err = BufWriter::with_capacity(alloc, CAPACITY, err)?;
     let mut written = Ok(());
-    let worst = do_lines(alloc, explains, task, input, &mut out, &mut written, &mut err);
+    let worst = do_lines(
+        alloc,
+        explains,
+        task,
+        input,
+        &mut out,
+        &mut written,
+        &mut err,
+    );
     let flushed = out.flush();
     // The status reports rejections that can't be written either.
     let _ = err.flush();

@@ -1,0 +1,10 @@
+use Rattle.std.proofs.Common.{◌≡◌, ◌≢◌, All, subst, arith}
+use Rattle.uri_commands.specs.Lines.{newline}
+use Rattle.uri_commands.proofs.LineLemmas.{none_held}
+use Rattle.uri_commands.proofs.lines.take_whole.Goals as goal
+
+pub returns-then-place-held-clause-held : goal.returns-then-place-held-clause-held
+returns-then-place-held-clause-held g c = λ _.
+    let held = c.buffer-held.result.now in
+    let none : All (λ b. b ≢ newline) held = none_held held c.first-place.result c.first-place.ensures.place (omega (arith, c.if-place-held.true)) in
+    subst (λ t. All (λ b. b ≢ newline) t) c.buffer-held.ensures none
