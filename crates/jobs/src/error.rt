@@ -3,7 +3,7 @@
 use std::alloc::{AllocError, AllocFailed};
 use std::io;
 use thiserror::Error;
-use uriparse::{BufferError, QueryError, URIError, URIReferenceError};
+use uriparse::{BufferError, QueryError, TooSmall, URIError, URIReferenceError};
 
 /// Why a job ends before its end.
 #[derive(Debug, Drop, Error)]
@@ -22,6 +22,8 @@ pub enum JobError {
     Query(#[from] QueryError),
     #[error(transparent)]
     Buffer(#[from] BufferError),
+    #[error(transparent)]
+    Size(#[from] TooSmall),
 }
 
 impl<T: Drop> From<AllocFailed<T>> for JobError {

@@ -1,12 +1,15 @@
 //! The jobs that the benchmark times, on texts that they make from a seed: `jobs JOB COUNT SEED`
 //! prints a digest of all results. COUNT says how much is made: pages of 100 links, identifiers,
-//! requests, lines for each command, or texts of each awkward form. The job `all` is all of them.
+//! requests, lines for each command, texts of each awkward form, or pages in many languages of 20
+//! links. The job `all` prints the digest of all jobs but `texts` together, and then that of `texts`.
 #![tactic(auto)]
 
 mod awkward;
 mod buffers;
 mod digest;
 mod error;
+mod languages;
+mod letters;
 mod lines;
 mod links;
 mod make;
@@ -19,6 +22,7 @@ use awkward::awkward;
 use buffers::buffers;
 use digest::Digest;
 use error::JobError;
+use languages::languages;
 use lines::lines;
 use links::links;
 use random::Random;
@@ -43,11 +47,12 @@ fn run_job(
         "lines" => lines(alloc, count, random, digest),
         "buffers" => buffers(alloc, count, random, digest),
         "awkward" => awkward(alloc, count, random, digest),
+        "texts" => languages(alloc, count, random, digest),
         _ => Err(JobError::Usage),
     }
 }
 
-/// Runs the job of this name, or all of them, and returns the digest of the results.
+/// Runs the job of this name, or all but `texts`, and returns the digest of the results.
 fn run(alloc: Global, job: &str, count: u64, seed: u64) -> Result<u64, JobError> {
     let mut random = Random::new(seed);
     let mut digest = Digest::new();
@@ -63,15 +68,25 @@ fn run(alloc: Global, job: &str, count: u64, seed: u64) -> Result<u64, JobError>
     Ok(digest.sum())
 }
 
-/// Reads the count and the seed, and runs the job.
-fn run_words(alloc: Global, words: &[String]) -> Result<u64, JobError> {
+/// Reads the count and the seed, runs the job, and returns the digests to print.
+fn run_words(alloc: Global, words: &[String]) -> Result<Vec<u64>, JobError> {
     let [_, job, count, seed] = words else {
         return Err(JobError::Usage);
     };
     match (count.as_str().parse::<u64>(), seed.as_str().parse::<u64>()) {
-        (Ok(count), Ok(seed)) => run(alloc, job.as_str(), count, seed),
+        (Ok(count), Ok(seed)) => run_all(alloc, job.as_str(), count, seed),
         _ => Err(JobError::Usage),
     }
+}
+
+/// Runs the job of this name, and `texts` after the others if that is `all`.
+fn run_all(alloc: Global, job: &str, count: u64, seed: u64) -> Result<Vec<u64>, JobError> {
+    let mut digests = Vec::new(alloc);
+    digests.push(run(alloc, job, count, seed)?)?;
+    if job == "all" {
+        digests.push(run(alloc, "texts", count, seed)?)?;
+    }
+    Ok(digests)
 }
 
 fn main(rt: HostRuntime) -> io::Result<ExitCode> {
@@ -80,8 +95,10 @@ fn main(rt: HostRuntime) -> io::Result<ExitCode> {
         words.push(word)?;
     }
     match run_words(rt.alloc(), &words) {
-        Ok(digest) => {
-            println!(rt; "{digest:016x}")?;
+        Ok(digests) => {
+            for digest in &digests {
+                println!(rt; "{digest:016x}")?;
+            }
             Ok(ExitCode::from(0))
         }
         Err(error) => {
