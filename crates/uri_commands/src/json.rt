@@ -5,15 +5,23 @@
 //! The port is a number and the segments are a list; all else is a string, or `null` if it is
 //! absent.
 
-ghost use Rattle.std.specs.Prelude.{◌≡◌, ◌<◌, IfSome, OnOk, length, true};
+ghost use Rattle.std.specs.Prelude.{◌≡◌, ◌<◌, ◌∷◌, ◌++◌, ℕ, List, [], IfSome, OnOk, codes, length, true};
 ghost use Rattle.std.specs.Io.KnownBytes.{Appends};
 ghost use Rattle.std.specs.List.{list_all};
 ghost use Rattle.std.specs.Option.{option_copied, option_map};
+ghost use Rattle.uriparse.specs.Host as spec;
+ghost use Rattle.uriparse.specs.Reading.{fault};
+ghost use Rattle.uriparse.specs.Reference.{Parts, Spells};
 ghost use Rattle.uriparse.specs.Scheme as scheme;
-ghost use Rattle.uri_commands.specs.Json.{escaped, escaped_byte, is_plain, is_special};
+ghost use Rattle.uriparse.specs.URIReferenceError.{URIReferenceError};
+ghost use Rattle.uri_commands.specs.Json.{back_members, escaped, followers, front_members, host_members, is_plain, kind_name, member, member_text, name_of, object, opening, port_members, segment_members, string_or_null};
+ghost use Rattle.uri_commands.specs.Json as json;
+ghost use Rattle.uri_commands.specs.Lines.{newline};
+ghost use Rattle.uri_commands.specs.declared.failure.Failure.TheVariants as failures;
+
+mod laws;
 
 use crate::failure::Failure;
-use crate::marks::marks_of;
 use crate::topic::Topic;
 use std::io;
 use std::io::Write;
@@ -54,90 +62,9 @@ prints
 ",
 };
 
-/// Writes text between the quotes of a JSON string, with a `\` before each `"` and each `\`. A
-/// reference is ASCII text without control characters, and JSON escapes nothing else.
-#[derive(Drop)]
-struct Escaping<'o, O> {
-    out: &'o mut O,
-}
-
-impl<'o, O: Write> Write for Escaping<'o, O> {
-    fn write(&mut self, buf: &[u8]) -> io::Result<usize> {
-        write_escaped(buf, self.out)?;
-        Ok(buf.len())
-    }
-
-    fn flush(&mut self) -> io::Result<()> {
-        self.out.flush()
-    }
-}
-
-/// Whether a JSON string has this byte only after a `\`.
-fn is_special(b: u8) -> bool
-    ensures { result ≡ is_special b }
-{
-    matches!(b, b'"' | b'\\')
-}
-
-/// Whether a JSON string holds these bytes unchanged.
-#[inline(always)]
-fn is_plain_run(run: &[u8; 16]) -> bool
-    ensures { result ≡ true → list_all is_plain run.now ≡ true }
-{
-    let quotes = marks_of(b'"', run);
-    let backslashes = marks_of(b'\\', run);
-    quotes == 0 && backslashes == 0
-}
-
-/// Whether a JSON string holds the text unchanged, byte by byte.
-fn is_plain_end(text: &[u8]) -> bool
-    ensures { result ≡ list_all is_plain text.now }
-{
-    text.iter().all(|b| !is_special(*b))
-}
-
-/// Whether a JSON string is known to hold the text unchanged. Tests sixteen bytes at a time.
-fn is_plain(text: &[u8]) -> bool
-    ensures { result ≡ true → list_all is_plain text.now ≡ true }
-{
-    let mut rest = text;
-    'runs: while let Some((run, later)) = rest.split_first_chunk::<16>() {
-        if !is_plain_run(run) {
-            return false;
-        }
-        rest = later;
-    }
-    is_plain_end(rest)
-}
-
-/// Writes the byte, after a `\` if it is special.
-fn write_byte<O: Write>(b: u8, out: &mut O) -> io::Result<()>
-    ensures { OnOk result (Appends (O.contents out.old) (O.contents out.new) (escaped_byte b)) }
-{
-    if is_special(b) {
-        out.write_all(&[b'\\', b])
-    } else {
-        out.write_all(&[b])
-    }
-}
-
-/// Writes a `\` before each special byte. A text without one is written in one piece.
-#[tactic(auto, using(crate::proofs::JsonLemmas::escaped_plain))]
-fn write_escaped<O: Write>(text: &[u8], out: &mut O) -> io::Result<()>
-    ensures { OnOk result (Appends (O.contents out.old) (O.contents out.new) (escaped text.now)) }
-{
-    if is_plain(text) {
-        return out.write_all(text);
-    }
-    for b in text {
-        write_byte(*b, out)?;
-    }
-    Ok(())
-}
-
-/// Writes a text that a JSON string holds unchanged, as each text of a reference. Tests no byte,
-/// and writes what `write_escaped` would: each byte of a reference is unreserved, reserved or a
-/// percent sign, and none of these is a quote or a backslash (RFC 3986, section 2).
+/// Writes a text that a JSON string holds unchanged, as each text of a reference and each address: a
+/// `\` stands before a quote and a `\` only, and none of these bytes is one (RFC 3986, section 2). So
+/// no byte is tested.
 #[tactic(auto, using(crate::proofs::JsonLemmas::escaped_plain))]
 fn write_plain<O: Write>(text: &[u8], out: &mut O) -> io::Result<()>
     requires { list_all is_plain text.now ≡ true }
@@ -146,29 +73,66 @@ fn write_plain<O: Write>(text: &[u8], out: &mut O) -> io::Result<()>
     out.write_all(text)
 }
 
-/// Writes a member that isn't the first and whose value is a string or absent: the text after
-/// `open`, which ends with the quote before it, or else `absent`, the whole member.
-fn write_member<O: Write>(
-    open: &[u8],
-    absent: &[u8],
-    text: Option<&[u8]>,
-    out: &mut O,
-) -> io::Result<()>
-    requires { IfSome text (λ t. list_all is_plain t.now ≡ true) }
-{
-    match text {
-        Some(text) => {
-            out.write_all(open)?;
-            write_plain(text, out)?;
-            out.write_all(b"\"")
+/// A member that isn't the first and whose value is a string or absent.
+#[derive(Clone, Copy, Drop)]
+enum Name {
+    Scheme,
+    Username,
+    Password,
+    Path,
+    Query,
+    Fragment,
+}
+
+impl Name {
+    /// What precedes the text: the name, and the quote that begins the text.
+    fn opening(self) -> &'static [u8]
+        ensures { result.now ≡ opening (name_of self) }
+    {
+        match self {
+            Name::Scheme => b",\"scheme\":\"",
+            Name::Username => b",\"username\":\"",
+            Name::Password => b",\"password\":\"",
+            Name::Path => b",\"path\":\"",
+            Name::Query => b",\"query\":\"",
+            Name::Fragment => b",\"fragment\":\"",
         }
-        None => out.write_all(absent),
+    }
+
+    /// The whole member, if the value is absent.
+    fn absent(self) -> &'static [u8]
+        ensures { result.now ≡ followers (member (name_of self) json.Null ∷ []) }
+    {
+        match self {
+            Name::Scheme => b",\"scheme\":null",
+            Name::Username => b",\"username\":null",
+            Name::Password => b",\"password\":null",
+            Name::Path => b",\"path\":null",
+            Name::Query => b",\"query\":null",
+            Name::Fragment => b",\"fragment\":null",
+        }
     }
 }
 
-/// Writes the member `text`, the first.
+/// Writes the member of this name, in three pieces, or in one if it is absent.
+fn write_member<O: Write>(name: Name, text: Option<&[u8]>, out: &mut O) -> io::Result<()>
+    requires { IfSome text (λ t. list_all is_plain t.now ≡ true) }
+    ensures { OnOk result (Appends (O.contents out.old) (O.contents out.new) (followers (member (name_of name) (string_or_null (option_copied text.entry)) ∷ []))) }
+{
+    match text {
+        Some(text) => {
+            out.write_all(name.opening())?;
+            write_plain(text, out)?;
+            out.write_all(b"\"")
+        }
+        None => out.write_all(name.absent()),
+    }
+}
+
+/// Writes the member `text`, the first, after the brace.
 fn write_text<O: Write>(text: &[u8], out: &mut O) -> io::Result<()>
     requires { list_all is_plain text.now ≡ true }
+    ensures { OnOk result (Appends (O.contents out.old) (O.contents out.new) (codes "{" ++ member_text (member (codes "text") (json.String text.now)))) }
 {
     out.write_all(b"{\"text\":\"")?;
     write_plain(text, out)?;
@@ -199,20 +163,25 @@ fn text_bytes<'c, K: TextKind>(found: Option<&'c Text<'_, K>>) -> Option<&'c [u8
 }
 
 /// Writes the members `scheme`, `username` and `password`.
-fn write_front<O: Write>(reference: &ReferenceView<'_>, out: &mut O) -> io::Result<()> {
+fn write_front<O: Write>(reference: &ReferenceView<'_>, out: &mut O) -> io::Result<()>
+    ensures { OnOk result (Appends (O.contents out.old) (O.contents out.new) (followers (front_members reference.now.parts))) }
+{
     let scheme = reference.scheme();
     let scheme = scheme_bytes(scheme.as_ref());
-    write_member(b",\"scheme\":\"", b",\"scheme\":null", scheme, out)?;
+    write_member(Name::Scheme, scheme, out)?;
     let username = reference.username();
     let username = text_bytes(username.as_ref());
-    write_member(b",\"username\":\"", b",\"username\":null", username, out)?;
+    write_member(Name::Username, username, out)?;
     let password = reference.password();
     let password = text_bytes(password.as_ref());
-    write_member(b",\"password\":\"", b",\"password\":null", password, out)
+    write_member(Name::Password, password, out)
 }
 
 /// What the object calls a host of this kind.
-fn host_kind(host: &Host<'_>) -> &'static str {
+fn host_kind(host: &Host<'_>) -> &'static str
+    ensures value { result.now ≡ kind_name (spec.kind host.now) }
+    ensures plain { list_all is_plain result.now ≡ true }
+{
     match host {
         Host::IPv4Address(_) => "ipv4",
         Host::IPv6Address(_) => "ipv6",
@@ -221,29 +190,43 @@ fn host_kind(host: &Host<'_>) -> &'static str {
     }
 }
 
-/// Writes a host that is present, with the brackets that it has in the text. A name is text that is
-/// written without formatting.
-fn write_host_text<O: Write>(host: &Host<'_>, out: &mut O) -> io::Result<()> {
+/// Writes a host that is present, with the brackets that it has in the text. Only IPv4 and IPv6
+/// addresses are formatted.
+fn write_host_text<O: Write>(host: &Host<'_>, out: &mut O) -> io::Result<()>
+    ensures { OnOk result (Appends (O.contents out.old) (O.contents out.new) (escaped (spec.text host.now))) }
+{
     match host {
+        Host::IPv4Address(address) => write!(out, "{address}"),
+        Host::IPv6Address(address) => write!(out, "[{address}]"),
+        Host::IPvFuture(address) => {
+            out.write_all(b"[")?;
+            write_plain(address.as_bytes(), out)?;
+            out.write_all(b"]")
+        }
         Host::RegisteredName(name) => write_plain(name.as_bytes(), out),
-        _ => write!(Escaping { out }, "{host}"),
     }
 }
 
 /// Writes the members `host` and `host_kind`.
-fn write_host<O: Write>(host: Option<&Host<'_>>, out: &mut O) -> io::Result<()> {
-    let Some(host) = host else {
-        return out.write_all(b",\"host\":null,\"host_kind\":null");
-    };
-    out.write_all(b",\"host\":\"")?;
-    write_host_text(host, out)?;
-    out.write_all(b"\",\"host_kind\":\"")?;
-    out.write_all(host_kind(host).as_bytes())?;
-    out.write_all(b"\"")
+fn write_host<O: Write>(host: Option<&Host<'_>>, out: &mut O) -> io::Result<()>
+    ensures { OnOk result (Appends (O.contents out.old) (O.contents out.new) (followers (host_members (option_copied host.entry)))) }
+{
+    match host {
+        Some(host) => {
+            out.write_all(b",\"host\":\"")?;
+            write_host_text(host, out)?;
+            out.write_all(b"\",\"host_kind\":\"")?;
+            write_plain(host_kind(host).as_bytes(), out)?;
+            out.write_all(b"\"")
+        }
+        None => out.write_all(b",\"host\":null,\"host_kind\":null"),
+    }
 }
 
 /// Writes the member `port`, a number.
-fn write_port<O: Write>(port: Option<u16>, out: &mut O) -> io::Result<()> {
+fn write_port<O: Write>(port: Option<u16>, out: &mut O) -> io::Result<()>
+    ensures { OnOk result (Appends (O.contents out.old) (O.contents out.new) (followers (port_members port))) }
+{
     match port {
         Some(port) => write!(out, ",\"port\":{port}"),
         None => out.write_all(b",\"port\":null"),
@@ -253,6 +236,7 @@ fn write_port<O: Write>(port: Option<u16>, out: &mut O) -> io::Result<()> {
 /// Writes the member `segments`, a list of at least one text.
 fn write_segments<O: Write>(segments: Segments<'_>, out: &mut O) -> io::Result<()>
     requires { 0 < length segments }
+    ensures { OnOk result (Appends (O.contents out.old) (O.contents out.new) (followers (segment_members segments.entry))) }
 {
     let mut separator: &[u8] = b",\"segments\":[\"";
     for segment in segments {
@@ -265,34 +249,43 @@ fn write_segments<O: Write>(segments: Segments<'_>, out: &mut O) -> io::Result<(
 
 /// Writes the members of the path, the query and the fragment.
 #[tactic(auto, using(crate::proofs::JsonLemmas::plain_path))]
-fn write_back<O: Write>(reference: &ReferenceView<'_>, out: &mut O) -> io::Result<()> {
+fn write_back<O: Write>(reference: &ReferenceView<'_>, out: &mut O) -> io::Result<()>
+    ensures { OnOk result (Appends (O.contents out.old) (O.contents out.new) (followers (back_members reference.now.parts))) }
+{
     let path = Some(reference.path().as_bytes());
-    write_member(b",\"path\":\"", b",\"path\":null", path, out)?;
+    write_member(Name::Path, path, out)?;
     let query = reference.query();
     let query = text_bytes(query.as_ref());
-    write_member(b",\"query\":\"", b",\"query\":null", query, out)?;
+    write_member(Name::Query, query, out)?;
     let fragment = reference.fragment();
     let fragment = text_bytes(fragment.as_ref());
-    write_member(b",\"fragment\":\"", b",\"fragment\":null", fragment, out)?;
-    write_segments(reference.segments(), out)
+    write_member(Name::Fragment, fragment, out)
 }
 
 /// Writes the object, and a newline.
-fn write_object<O: Write>(text: &[u8], reference: &ReferenceView<'_>, out: &mut O) -> io::Result<()>
-    requires { list_all is_plain text.now ≡ true }
+fn write_object<O: Write>(reference: &ReferenceView<'_>, out: &mut O) -> io::Result<()>
+    ensures { OnOk result (Appends (O.contents out.old) (O.contents out.new) (object reference.now.text reference.now.parts ++ newline ∷ [])) }
 {
-    write_text(text, out)?;
+    write_text(reference.as_str().as_bytes(), out)?;
     write_front(reference, out)?;
     write_host(reference.host().as_ref(), out)?;
     write_port(reference.port(), out)?;
     write_back(reference, out)?;
+    write_segments(reference.segments(), out)?;
     out.write_all(b"}\n")
 }
 
 /// Prints the reference that the text spells as a JSON object, with the text as it was given. Does
 /// not allocate.
-#[tactic(auto, using(crate::proofs::JsonLemmas::plain_spelled))]
-pub fn parse_json<O: Write>(text: &[u8], out: &mut O) -> Result<(), Failure> {
-    let reference = ReferenceView::try_from_bytes(text)?;
-    write_object(text, &reference, out).map_err(Failure::Io)
+pub fn parse_json<O: Write>(text: &[u8], out: &mut O) -> Result<(), Failure>
+    // What is printed is the object of the text and of the components that it spells.
+    ensures object { OnOk result ((p : Parts) × Spells text.now p × Appends (O.contents out.old) (O.contents out.new) (object text.now p ++ newline ∷ [])) }
+
+    // Any other text is rejected with its fault, and nothing is printed.
+    ensures fault { (e : URIReferenceError) → fault text.now ≡ Some e → (result ≡ Err (failures.Reference e)) × (out.new ≡ out.old) }
+{
+    match ReferenceView::try_from_bytes(text) {
+        Ok(reference) => write_object(&reference, out).map_err(Failure::Io),
+        Err(error) => Err(Failure::Reference(error)),
+    }
 }
