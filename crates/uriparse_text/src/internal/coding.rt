@@ -1,21 +1,23 @@
 //! Decoding texts to bytes, encoding bytes as texts, and escaping what a text may not have: RFC
 //! 3986, section 2.
-ghost use Rattle.std.specs.Prelude.{◌≡◌, ◌++◌, ◌∷◌, ◌<◌, ◌||◌, [], bytes_eq, IfOk, OnOk, if◌then◌else◌, true};
+ghost use Rattle.std.specs.Prelude.{◌≡◌, ◌++◌, ◌∷◌, ◌<◌, ◌||◌, ◌==◌, [], bytes_eq, IfOk, OnOk, if◌then◌else◌, true};
 ghost use Rattle.std.specs.Cmp.Lexicographic.{slice_cmp};
 ghost use Rattle.std.specs.Ordering.{nat_cmp};
 ghost use Rattle.uriparse_text.specs.Alike.{upper_digit_of};
+ghost use Rattle.uriparse_text.specs.Bytes.{percent, plus_sign};
 ghost use Rattle.uriparse_text.specs.Coding.{are_bytes, decoded, encoded, encoded_without, escape_of, escaped_in, form_decoded, form_value_of, may_stand, token_for, token_without, value_of};
 ghost use Rattle.uriparse_text.specs.Tokens.{has_digits, is_escape as begins_escape, spell};
 
 use super::canonical::{Case, push_token};
 use super::class::Class;
-use super::cut::split_at_mark;
 use super::digit::{hex_value, upper_digit};
-use super::scan::{Outside, next_marks};
+use super::rewrite::{Rewriting, push_rewritten};
+use super::scan::{ByteTest, Is, Outside, next_marks};
 use super::settled::split_settled;
-use super::token::{Token, is_escape, split_token};
+use super::token::{Token, first_token, is_escape, split_token};
 use std::alloc::{AllocError, Global};
 use std::cmp::Ordering;
+use std::simd::prelude::*;
 
 impl Token {
     /// The byte that the token represents.
@@ -81,32 +83,40 @@ impl Token {
     }
 }
 
-/// The bytes that follow a token up to the next `%`, and the rest. After an escape nothing is searched
-/// for, since often another one follows it.
-#[inline(always)]
-fn split_bytes_after(token: Token, text: &[u8]) -> (&[u8], &[u8])
-    ensures whole { text.now ≡ result.0.now ++ result.1.now }
-    ensures decoded { decoded text.now ≡ result.0.now ++ decoded result.1.now }
-{
-    match token {
-        Token::Byte(_) => split_at_mark(text, b'%'),
-        Token::Escape(_, _) => (b"", text),
+/// Decoding: an escape becomes the byte that it represents.
+#[derive(Clone, Copy, Debug)]
+pub(super) struct Decoding;
+
+impl ByteTest for Decoding {
+    ghost passes = { λ _ b. b == percent };
+
+    #[inline(always)]
+    fn has(&self, b: u8) -> bool {
+        b == b'%'
+    }
+
+    #[inline(always)]
+    fn marks(&self, lanes: u8x16) -> u64 {
+        Is(b'%').marks(lanes)
     }
 }
 
-/// The bytes that the text's tokens represent. Walks the text once and reserves capacity once. Bytes
-/// up to the next `%` are copied whole.
+impl Rewriting for Decoding {
+    ghost rewritten = { λ _ text. decoded text };
+
+    #[inline(always)]
+    fn token(&self, b: u8, after: &[u8]) -> (Token, usize) {
+        let (token, more) = first_token(b, after);
+        (Token::Byte(token.value()), more)
+    }
+}
+
+/// The bytes that the text's tokens represent. Walks the text once and reserves capacity once.
 pub fn decoded_bytes(alloc: Global, text: &[u8]) -> Result<Vec<u8>, AllocError>
     ensures { IfOk result (λ v. v.items ≡ decoded text.now) }
 {
     let mut bytes = Vec::with_capacity(alloc, text.len())?;
-    let mut rest = text;
-    'tokens: while let Some((token, after)) = split_token(rest) {
-        bytes.push(token.value())?;
-        let (run, later) = split_bytes_after(token, after);
-        bytes.extend_from_slice(run)?;
-        rest = later;
-    }
+    push_rewritten(&mut bytes, &Decoding, text)?;
     Ok(bytes)
 }
 
@@ -169,16 +179,40 @@ pub(super) fn encoded_bytes(
     Ok(text)
 }
 
+/// Decoding of the text of a form: a `+` becomes a space, too.
+#[derive(Clone, Copy, Debug)]
+struct FormDecoding;
+
+impl ByteTest for FormDecoding {
+    ghost passes = { λ _ b. b == percent || b == plus_sign };
+
+    #[inline(always)]
+    fn has(&self, b: u8) -> bool {
+        b == b'%' || b == b'+'
+    }
+
+    #[inline(always)]
+    fn marks(&self, lanes: u8x16) -> u64 {
+        Is(b'%').marks(lanes) | Is(b'+').marks(lanes)
+    }
+}
+
+impl Rewriting for FormDecoding {
+    ghost rewritten = { λ _ text. form_decoded text };
+
+    #[inline(always)]
+    fn token(&self, b: u8, after: &[u8]) -> (Token, usize) {
+        let (token, more) = first_token(b, after);
+        (Token::Byte(token.form_value()), more)
+    }
+}
+
 /// Like [`decoded_bytes`], for the text of a form: a `+` is a space.
 pub fn form_decoded_bytes(alloc: Global, text: &[u8]) -> Result<Vec<u8>, AllocError>
     ensures { IfOk result (λ v. v.items ≡ form_decoded text.now) }
 {
     let mut bytes = Vec::with_capacity(alloc, text.len())?;
-    let mut rest = text;
-    'tokens: while let Some((token, after)) = split_token(rest) {
-        bytes.push(token.form_value())?;
-        rest = after;
-    }
+    push_rewritten(&mut bytes, &FormDecoding, text)?;
     Ok(bytes)
 }
 

@@ -14,7 +14,7 @@ bytes-preserved c =
     writing_next _ _ _ (spell c.standing.result) _ _ _ _ _ _ c.bytes.invariant
     (ap (escaped_in c.args.class c.args.more.now) cut
     ∙ ap (λ l. l ++ escaped_in c.args.class c.args.more.now c.in-Some.after.now) (sym c.standing.ensures))
-    c.append_token-total.ensures.appends c.append_token-total.ensures.room
+    c.append_token-total.ensures.appends c.append_token-total.ensures.room c.append_token-total.ensures.rest
 
 pub returns-clause-room : goal.returns-clause-room
 returns-clause-room c = c.bytes.invariant.room
