@@ -1,6 +1,6 @@
 //! Texts that are rewritten in one walk, piece by piece: a run of bytes that stay, then a token that
 //! something is written for, and so on.
-ghost use Rattle.std.specs.Prelude.{◌≡◌, ◌≤◌, ◌++◌, ◌∷◌, ℕ, List, OnOk, drop, false, length, true};
+ghost use Rattle.std.specs.Prelude.{◌≡◌, ◌≤◌, ◌++◌, ◌∷◌, ℕ, List, ◌<◌, OnOk, drop, false, length, slice_index, true};
 ghost use Rattle.std.specs.List.{position_or_len};
 ghost use Rattle.uriparse_text.specs.Cuts.{from_first, up_to};
 ghost use Rattle.uriparse_text.specs.Pieces.{Keeps};
@@ -22,18 +22,21 @@ pub(super) trait Rewriting: ByteTest {
         ensures written { rewritten self.now (b ∷ after.now) ≡ spell result.0 ++ rewritten self.now (drop result.1 after.now) };
 }
 
-/// How many bytes of a run are looked at one by one before it is searched sixteen at a time, since
-/// many runs are short, and how many are copied one by one, which takes a test and a call less.
-const FEW: usize = 3;
+/// How many bytes of a run are looked at one by one. A run of less is also copied one by one, which
+/// takes a test and a call less.
+const FEW: usize = 4;
 
-/// The length of the run of bytes that the text begins with: the place of the first byte that
-/// passes, or the text's length.
+/// The place of the first byte that passes, or the length. A few bytes are looked at one by one
+/// before the others are searched sixteen at a time, since many runs are short.
 #[inline(always)]
 fn run_len<T: ByteTest>(test: &T, text: &[u8]) -> usize
+    requires some { 0 < length text.now }
+    requires first { T.passes test.now (slice_index text.now 0) ≡ false }
     ensures place { result ≡ position_or_len (T.passes test.now) text.now }
+    ensures some { 0 < result }
     ensures within { result ≤ length text.now }
 {
-    let mut at = 0;
+    let mut at = 1;
     'few: while at < FEW {
         if at == text.len() || test.has(text[at]) {
             return at;
@@ -46,11 +49,13 @@ fn run_len<T: ByteTest>(test: &T, text: &[u8]) -> usize
 /// Cuts a text at the end of the run that it begins with. The run stays as it is.
 #[inline(always)]
 pub(super) fn split_run<'t, R: Rewriting>(way: &R, text: &'t [u8]) -> (&'t [u8], &'t [u8])
-    requires { Keeps (R.passes way.now) (R.rewritten way.now) }
+    requires keeps { Keeps (R.passes way.now) (R.rewritten way.now) }
+    requires some { 0 < length text.now }
+    requires first { R.passes way.now (slice_index text.now 0) ≡ false }
     ensures run { result.0.now ≡ up_to (R.passes way.now) text.now }
     ensures rest { result.1.now ≡ from_first (R.passes way.now) text.now }
     ensures kept { R.rewritten way.now text.now ≡ result.0.now ++ R.rewritten way.now result.1.now }
-    ensures shorter { (b : ℕ) (t : List ℕ) → text.now ≡ b ∷ t → R.passes way.now b ≡ false → length result.1.now ≤ length t }
+    ensures shorter { length result.1.now < length text.now }
 {
     text.split_at(run_len(way, text))
 }
@@ -60,7 +65,7 @@ pub(super) fn split_run<'t, R: Rewriting>(way: &R, text: &'t [u8]) -> (&'t [u8],
 fn push_run(bytes: &mut Vec<u8>, run: &[u8]) -> Result<(), AllocError>
     ensures { OnOk result (bytes.new.items ≡ bytes.old.items ++ run.now) }
 {
-    if run.len() > FEW {
+    if run.len() >= FEW {
         return bytes.extend_from_slice(run);
     }
     for &b in run {

@@ -1,13 +1,13 @@
 //! A text that is written to the start of a buffer. If it is longer than the buffer, only its length
 //! is counted.
-ghost use Rattle.std.specs.Prelude.{◌≡◌, ◌≤◌, length, true};
+ghost use Rattle.std.specs.Prelude.{◌≡◌, ◌≤◌, ◌∷◌, [], length, true};
 ghost use Rattle.uriparse_text.specs.Coding.{decoded, encoded, escaped_in};
 ghost use Rattle.uriparse_text.specs.Pieces.{Keeps};
 ghost use Rattle.uriparse_text.specs.Starts.{Appends, LeavesRest, Writes};
 ghost use Rattle.uriparse_text.specs.Tokens as tokens;
 
 use super::class::Class;
-use super::coding::Decoding;
+use super::coding::{Decoding, Encoding, Escaping};
 use super::rewrite::{Rewriting, split_run};
 use super::token::Token;
 use thiserror::Error;
@@ -57,6 +57,20 @@ pub fn append(bytes: &[u8], out: &mut [u8], len: usize) -> usize
     total
 }
 
+/// Appends a byte.
+#[inline(always)]
+fn append_byte(b: u8, out: &mut [u8], len: usize) -> usize
+    ensures room { length out.new ≡ length out.old }
+    ensures appends { Appends (b ∷ []) out.old len out.new result }
+    ensures rest { LeavesRest out.old len out.new result }
+{
+    if len < out.len() {
+        out[len] = b;
+        return len + 1;
+    }
+    len.saturating_add(1)
+}
+
 /// Appends a token.
 #[inline(always)]
 fn append_token(token: Token, out: &mut [u8], len: usize) -> usize
@@ -65,7 +79,7 @@ fn append_token(token: Token, out: &mut [u8], len: usize) -> usize
     ensures rest { LeavesRest out.old len out.new result }
 {
     match token {
-        Token::Byte(b) => append(&[b], out, len),
+        Token::Byte(b) => append_byte(b, out, len),
         Token::Escape(high, low) => append(&[b'%', high, low], out, len),
     }
 }
@@ -116,31 +130,14 @@ fn write_rewritten<R: Rewriting>(
     Ok(append_rewritten(way, text, out, 0))
 }
 
-/// Appends the text of the class that represents the bytes. Walks them once.
-pub fn append_encoded(class: Class, bytes: &[u8], out: &mut [u8], len: usize) -> usize
-    ensures room { length out.new ≡ length out.old }
-    ensures appends { Appends (encoded class bytes.now) out.old len out.new result }
-{
-    let mut total = len;
-    for &b in bytes {
-        total = append_token(Token::writing(class, b), out, total);
-    }
-    total
-}
-
 /// Appends the text with an escape for each byte that is neither in the class nor one of `more`,
 /// and begins no escape. Walks the text once.
 pub fn append_escaped(class: Class, more: &[u8], text: &[u8], out: &mut [u8], len: usize) -> usize
     ensures room { length out.new ≡ length out.old }
     ensures appends { Appends (escaped_in class more.now text.now) out.old len out.new result }
+    ensures rest { LeavesRest out.old len out.new result }
 {
-    let mut total = len;
-    let mut rest = text;
-    'bytes: while let Some((&b, after)) = rest.split_first() {
-        total = append_token(Token::standing(class, more, b, after), out, total);
-        rest = after;
-    }
-    total
+    append_rewritten(&Escaping(class, more), text, out, len)
 }
 
 /// Writes the bytes that the text's tokens represent to the start of the buffer, if it has room for
@@ -152,13 +149,10 @@ pub(super) fn decode_into(text: &[u8], out: &mut [u8]) -> Result<usize, TooSmall
 }
 
 /// Writes the text of the class that represents the bytes to the start of the buffer, if it has room
-/// for it, and returns its length.
+/// for it, and returns its length. That is at most three times the number of bytes.
 pub fn encode_into(class: Class, bytes: &[u8], out: &mut [u8]) -> Result<usize, TooSmall>
     ensures { Writes (encoded class bytes.now) result out.old out.new }
 {
-    let needed = append_encoded(class, bytes, &mut [], 0);
-    if needed > out.len() {
-        return Err(TooSmall { needed });
-    }
-    Ok(append_encoded(class, bytes, &mut out[..needed], 0))
+    let fits = bytes.len() <= out.len() / 3;
+    write_rewritten(&Encoding(class), bytes, fits, out)
 }

@@ -2,7 +2,7 @@
 ghost use Rattle.std.specs.Prelude.{◌≡◌, ◌≤◌, ◌++◌, ◌∷◌, [], true, drop, length, MatchOption, IfSome};
 ghost use Rattle.uriparse_text.specs.Tokens as spec;
 
-use super::digit::is_hex_digit;
+use super::digit::are_hex_digits;
 
 /// A single byte, or an escape by its two digits.
 #[derive(Clone, Copy, Debug, PartialEq, Eq)]
@@ -20,7 +20,7 @@ pub fn is_escape(b: u8, after: &[u8]) -> bool
         return false;
     }
     match after {
-        [high, low, ..] => is_hex_digit(*high) && is_hex_digit(*low),
+        [high, low, ..] => are_hex_digits(*high, *low),
         _ => false,
     }
 }

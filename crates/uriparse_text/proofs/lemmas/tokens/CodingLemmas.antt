@@ -176,7 +176,7 @@ encoded_push class bytes b =
     ∙ flat_map-append spell (map (token_for class) bytes) (token_for class b ∷ [])
     ∙ ap (λ u. flat_map spell (map (token_for class) bytes) ++ u) (append-nil (spell (token_for class b)))
 
-range_byte : (b : ℕ) → b < 256 → is_in_range 0 255 b ≡ true
+pub range_byte : (b : ℕ) → b < 256 → is_in_range 0 255 b ≡ true
 range_byte b h = grind (arith, nat_tests)
 
 -- the byte at a place more

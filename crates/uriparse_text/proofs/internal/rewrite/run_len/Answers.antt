@@ -5,6 +5,6 @@ use Rattle.uriparse_text.proofs.internal.rewrite.run_len.Goals.{then-at-text-via
 
 pub returns-then-at-text-clause-place : goal.returns-then-at-text-clause-place
 returns-then-at-text-clause-place g c = elim c.then-at-text.branch [
-  | then-at-text-via-then-at-text w ↦ found_nowhere (g.T.ByteTest.passes c.args.test.now) c.args.text.now c.few.at c.few.invariant (omega arith)
-  | then-at-text-via-else-at-text+then-has w ↦ found_here (g.T.ByteTest.passes c.args.test.now) c.args.text.now c.few.at c.few.invariant (cc)
+  | then-at-text-via-then-at-text w ↦ found_nowhere (g.T.ByteTest.passes c.args.test.now) c.args.text.now c.few.at c.few.invariant.0 (omega arith)
+  | then-at-text-via-else-at-text+then-has w ↦ found_here (g.T.ByteTest.passes c.args.test.now) c.args.text.now c.few.at c.few.invariant.0 (cc)
 ]

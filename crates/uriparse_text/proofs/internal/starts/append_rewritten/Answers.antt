@@ -1,4 +1,4 @@
-use Rattle.std.proofs.Common.{◌≡◌, ◌∷◌, ◌∙◌, ap, arith, rules}
+use Rattle.std.proofs.Common.{◌≡◌, ◌∷◌, ◌∙◌, ap, rules}
 use Rattle.std.proofs.lemmas.List.{take_rest}
 use Rattle.uriparse_text.specs.Tokens.{spell}
 use Rattle.uriparse_text.proofs.lemmas.tokens.StartLemmas.{writing_next}
@@ -16,9 +16,3 @@ pub pieces-preserved : goal.pieces-preserved
 pieces-preserved g c =
     writing_next _ _ _ c.split_run.result.0.now _ _ _ _ _ _ c.pieces.invariant c.split_run.ensures.kept c.append-total.ensures.appends
     c.append-total.ensures.room c.append-total.ensures.rest
-
-pub pieces-smaller : goal.pieces-smaller
-pieces-smaller g c =
-    let cut : c.pieces.rest.now ≡ c.in-Some.field-0-0.now ∷ c.in-Some.after.now = search rules in
-    let shorter = c.split_run.ensures.shorter c.in-Some.field-0-0.now c.in-Some.after.now cut (search rules) in
-    grind arith
