@@ -1,7 +1,9 @@
 -- Any text as that of a reference, with escapes for the bytes that may not stand where they do: RFC 3986, section 2.1, and RFC 3987, section 3.1.
-use Rattle.std.specs.Prelude.{ℕ, List, [], Option, is_some, codes, length}
+use Rattle.std.specs.Prelude.{ℕ, List, [], ◌++◌, Option, is_some, codes, length}
 use Rattle.std.specs.Option.{option_map, option_and_then, option_or}
 use Rattle.uriparse_text.specs.declared.internal.class.Class.TheVariants.{UserInfo, Segment, Query}
+use Rattle.uriparse_text.specs.Bytes.{number_sign}
+use Rattle.uriparse_text.specs.Cuts.{after, before, behind}
 use Rattle.uriparse_text.specs.Coding.{escaped_in}
 use Rattle.uriparse_path.specs.Path.{max_segments, pieces}
 use Rattle.uriparse_path.specs.Faults.{length_fault}
@@ -28,6 +30,11 @@ unfoldable pub escaped : List ℕ → List ℕ
 escaped t =
     joined (scheme_text t) (option_map escaped_authority (authority_text t)) (escaped_path (path_text t)) (option_map escaped_component (query_text t))
     (option_map escaped_component (fragment_text t))
+
+-- What follows the authority, escaped: the path and the query are escaped as one, since a `?` may stand in a query. A word of private functions'
+-- clauses alone.
+abbrev pub escaped_end : List ℕ → List ℕ
+escaped_end u = escaped_component (before number_sign u) ++ behind number_sign (option_map escaped_component (after number_sign u))
 
 -- The fault of the text after that: the authority's, too many segments, or the colon rule.
 abbrev pub fault_left : List ℕ → Option URIReferenceError

@@ -17,6 +17,7 @@ pub mod Found
 pub mod Escapes
 pub mod Spelling
 pub mod Coding
+pub mod Pieces
 pub mod Pairs
 pub mod Written
 pub mod Link

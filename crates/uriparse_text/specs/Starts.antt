@@ -28,3 +28,8 @@ pub record StartsWith (buffer : List ℕ) (len : ℕ) (t : List ℕ) : Type 0 wh
 -- these bytes are put behind any text that the buffer starts with
 abbrev pub Appends : List ℕ → List ℕ → ℕ → List ℕ → ℕ → Type 0
 Appends bytes old len new result = (t : List ℕ) → StartsWith old len t → StartsWith new result (t ++ bytes)
+
+-- what the buffer has behind the text stays as it was: the text had `len` bytes, and has `result` now
+pub record LeavesRest (old : List ℕ) (len : ℕ) (new : List ℕ) (result : ℕ) : Type 0 where
+  pub longer : len ≤ result
+  pub same : drop result new ≡ drop result old

@@ -14,6 +14,7 @@ mod pairs;
 mod place;
 mod print;
 mod printed;
+mod rewrite;
 mod run;
 mod scan;
 mod settled;

@@ -14,3 +14,4 @@ pub mod EscapedPathLemmas
 pub mod EscapedAuthorityLemmas
 pub mod EscapedTokenLemmas
 pub mod EscapedLemmas
+pub mod EscapedEndLemmas

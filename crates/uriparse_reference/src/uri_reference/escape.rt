@@ -3,8 +3,8 @@
 ghost use Rattle.std.specs.Prelude.{◌≡◌, ◌++◌, ◌≤◌, IfOk, None, OnOk, length, string_bytes, true};
 ghost use Rattle.std.specs.List.{position_or_len};
 ghost use Rattle.std.specs.Option.{option_copied, option_map};
-ghost use Rattle.uriparse_text.specs.Bytes.{colon, question_mark};
-ghost use Rattle.uriparse_text.specs.Cuts.{ahead, behind, from_first, lacks, up_to};
+ghost use Rattle.uriparse_text.specs.Bytes.{colon};
+ghost use Rattle.uriparse_text.specs.Cuts.{ahead, behind, from_first, up_to};
 ghost use Rattle.uriparse_text.specs.Tokens.{is_well_formed};
 ghost use Rattle.uriparse_authority.specs.Authority as authority;
 ghost use Rattle.uriparse_scheme.specs.Cuts.{if_some};
@@ -20,7 +20,8 @@ pub use into::escape_invalid_into;
 use std::alloc::{AllocError, Global};
 use uriparse_scheme::internal::split_scheme;
 use uriparse_text::internal::{
-    Class, IsAny, first, most_escaped_bytes, push_escaped, split_at_mark, without_mark,
+    Case, Class, IsAny, first, most_escaped_bytes, push_escaped, split_at_mark, split_settled,
+    without_mark,
 };
 
 /// Where the first `/`, `?` or `#` is, which ends an authority, or the length.
@@ -75,15 +76,6 @@ fn push_authority(escaped: &mut Vec<u8>, authority: Option<&[u8]>) -> Result<(),
     Ok(())
 }
 
-/// Appends the escaped path. It has no `?`, so each byte of a query may stand in it, and its slashes
-/// end no run.
-fn push_path(escaped: &mut Vec<u8>, path: &[u8]) -> Result<(), AllocError>
-    requires { lacks question_mark path.now ≡ true }
-    ensures { OnOk result (escaped.new.items ≡ escaped.old.items ++ spec.escaped_path path.now) }
-{
-    push_escaped(escaped, Class::Query, b"", path)
-}
-
 /// Appends a delimiter and the escaped component that follows it, if it is present.
 fn push_behind(escaped: &mut Vec<u8>, mark: u8, component: Option<&[u8]>) -> Result<(), AllocError>
     ensures { OnOk result (escaped.new.items ≡ escaped.old.items ++ behind mark (option_map spec.escaped_component (option_copied component.entry))) }
@@ -95,19 +87,28 @@ fn push_behind(escaped: &mut Vec<u8>, mark: u8, component: Option<&[u8]>) -> Res
     Ok(())
 }
 
+/// Appends the escaped path, query and fragment. Most are bytes that a query may have: these are found
+/// and copied at once, and no `#` is among them. A `?` may stand in a query, so path and query are
+/// escaped as one.
+fn push_end(escaped: &mut Vec<u8>, end: &[u8]) -> Result<(), AllocError>
+    ensures { OnOk result (escaped.new.items ≡ escaped.old.items ++ spec.escaped_end end.now) }
+{
+    let (plain, later) = split_settled(Class::Query, Case::Kept, end);
+    escaped.extend_from_slice(plain)?;
+    let (front, fragment) = split_at_mark(later, b'#');
+    push_escaped(escaped, Class::Query, b"", front)?;
+    push_behind(escaped, b'#', without_mark(fragment))
+}
+
 /// Appends the text with its components escaped.
 fn push_components(escaped: &mut Vec<u8>, text: &[u8]) -> Result<(), AllocError>
     ensures { OnOk result (escaped.new.items ≡ escaped.old.items ++ spec.escaped text.now) }
 {
     let cut = split_scheme(text);
     let (authority, rest) = split_authority(cut.rest);
-    let (front, fragment) = split_at_mark(rest, b'#');
-    let (path, query) = split_at_mark(front, b'?');
     push_scheme(escaped, cut.scheme)?;
     push_authority(escaped, authority)?;
-    push_path(escaped, path)?;
-    push_behind(escaped, b'?', without_mark(query))?;
-    push_behind(escaped, b'#', without_mark(fragment))
+    push_end(escaped, rest)
 }
 
 /// The text of a reference, made of any text: each byte that RFC 3986 does not allow where it

@@ -3,3 +3,4 @@ pub mod UnescapedLemmas
 pub mod CodingLemmas
 pub mod EscapingLemmas
 pub mod StartLemmas
+pub mod PieceLemmas

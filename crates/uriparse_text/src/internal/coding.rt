@@ -1,21 +1,21 @@
 //! Decoding texts to bytes, encoding bytes as texts, and escaping what a text may not have: RFC
 //! 3986, section 2.
-ghost use Rattle.std.specs.Prelude.{◌≡◌, ◌++◌, ◌∷◌, ◌<◌, ◌||◌, [], bytes_eq, IfOk, OnOk, if◌then◌else◌, true};
+ghost use Rattle.std.specs.Prelude.{◌≡◌, ◌++◌, ◌||◌, ◌==◌, bytes_eq, not, IfOk, OnOk, true};
 ghost use Rattle.std.specs.Cmp.Lexicographic.{slice_cmp};
 ghost use Rattle.std.specs.Ordering.{nat_cmp};
-ghost use Rattle.uriparse_text.specs.Alike.{upper_digit_of};
-ghost use Rattle.uriparse_text.specs.Coding.{are_bytes, decoded, encoded, encoded_without, escape_of, escaped_in, form_decoded, form_value_of, may_stand, token_for, token_without, value_of};
-ghost use Rattle.uriparse_text.specs.Tokens.{has_digits, is_escape as begins_escape, spell};
+ghost use Rattle.uriparse_text.specs.Bytes.{is_among, percent, plus_sign};
+ghost use Rattle.uriparse_text.specs.Classes.{is_plain};
+ghost use Rattle.uriparse_text.specs.Coding.{are_bytes, decoded, encoded, encoded_without, escape_of, escaped_in, form_decoded, form_value_of, value_of};
+ghost use Rattle.uriparse_text.specs.Tokens.{has_digits};
 
-use super::canonical::{Case, push_token};
 use super::class::Class;
-use super::cut::split_at_mark;
 use super::digit::{hex_value, upper_digit};
-use super::scan::{Outside, next_marks};
-use super::settled::split_settled;
-use super::token::{Token, is_escape, split_token};
+use super::rewrite::{Rewriting, push_rewritten};
+use super::scan::{ByteTest, Is, Outside, next_marks};
+use super::token::{Token, first_token, is_escape, split_token};
 use std::alloc::{AllocError, Global};
 use std::cmp::Ordering;
+use std::simd::prelude::*;
 
 impl Token {
     /// The byte that the token represents.
@@ -27,18 +27,6 @@ impl Token {
         match self {
             Token::Byte(b) => b,
             Token::Escape(high, low) => 16 * hex_value(high) + hex_value(low),
-        }
-    }
-
-    /// The token that represents a byte: the byte itself if the class has it, else an escape.
-    #[inline]
-    pub(super) fn writing(class: Class, b: u8) -> Token
-        ensures { result ≡ token_for class b }
-    {
-        if class.has(b) {
-            Token::Byte(b)
-        } else {
-            Token::Escape(upper_digit(b / 16), upper_digit(b % 16))
         }
     }
 
@@ -54,59 +42,49 @@ impl Token {
         }
     }
 
-    /// The token that represents a byte: the byte itself if the class has it and it is none of
-    /// `without`, else an escape.
+    /// The escape that represents a byte, in upper case.
     #[inline]
-    fn writing_without(class: Class, without: &[u8], b: u8) -> Token
-        ensures { result ≡ token_without class without.now b }
+    fn escaping(b: u8) -> Token
+        ensures { result ≡ escape_of b }
     {
-        if class.has(b) && !without.contains(&b) {
-            Token::Byte(b)
-        } else {
-            Token::Escape(upper_digit(b / 16), upper_digit(b % 16))
-        }
-    }
-
-    /// The token that stands for a byte of any text: the byte itself if it may stand there or
-    /// begins an escape, else its escape.
-    #[inline]
-    pub(super) fn standing(class: Class, more: &[u8], b: u8, after: &[u8]) -> Token
-        ensures { spell result ≡ (if may_stand class more.now b || begins_escape b after.now then b ∷ [] else spell (escape_of b)) }
-    {
-        if more.contains(&b) || is_escape(b, after) {
-            Token::Byte(b)
-        } else {
-            Token::writing(class, b)
-        }
+        Token::Escape(upper_digit(b / 16), upper_digit(b % 16))
     }
 }
 
-/// The bytes that follow a token up to the next `%`, and the rest. After an escape nothing is searched
-/// for, since often another one follows it.
-#[inline(always)]
-fn split_bytes_after(token: Token, text: &[u8]) -> (&[u8], &[u8])
-    ensures whole { text.now ≡ result.0.now ++ result.1.now }
-    ensures decoded { decoded text.now ≡ result.0.now ++ decoded result.1.now }
-{
-    match token {
-        Token::Byte(_) => split_at_mark(text, b'%'),
-        Token::Escape(_, _) => (b"", text),
+/// Decoding: an escape becomes the byte that it represents.
+#[derive(Clone, Copy, Debug)]
+pub(super) struct Decoding;
+
+impl ByteTest for Decoding {
+    ghost passes = { λ _ b. b == percent };
+
+    #[inline(always)]
+    fn has(&self, b: u8) -> bool {
+        b == b'%'
+    }
+
+    #[inline(always)]
+    fn marks(&self, lanes: u8x16) -> u64 {
+        Is(b'%').marks(lanes)
     }
 }
 
-/// The bytes that the text's tokens represent. Walks the text once and reserves capacity once. Bytes
-/// up to the next `%` are copied whole.
+impl Rewriting for Decoding {
+    ghost rewritten = { λ _ text. decoded text };
+
+    #[inline(always)]
+    fn token(&self, b: u8, after: &[u8]) -> (Token, usize) {
+        let (token, more) = first_token(b, after);
+        (Token::Byte(token.value()), more)
+    }
+}
+
+/// The bytes that the text's tokens represent. Walks the text once and reserves capacity once.
 pub fn decoded_bytes(alloc: Global, text: &[u8]) -> Result<Vec<u8>, AllocError>
     ensures { IfOk result (λ v. v.items ≡ decoded text.now) }
 {
     let mut bytes = Vec::with_capacity(alloc, text.len())?;
-    let mut rest = text;
-    'tokens: while let Some((token, after)) = split_token(rest) {
-        bytes.push(token.value())?;
-        let (run, later) = split_bytes_after(token, after);
-        bytes.extend_from_slice(run)?;
-        rest = later;
-    }
+    push_rewritten(&mut bytes, &Decoding, text)?;
     Ok(bytes)
 }
 
@@ -152,6 +130,33 @@ pub fn compare_represented(text: &[u8], other: &[u8]) -> Ordering
     }
 }
 
+/// Encoding: a byte that is not in the class becomes an escape.
+#[derive(Clone, Copy, Debug)]
+pub(super) struct Encoding(pub(super) Class);
+
+impl ByteTest for Encoding {
+    ghost passes = { λ s b. not (is_plain s.0 b) };
+
+    #[inline(always)]
+    fn has(&self, b: u8) -> bool {
+        !self.0.has(b)
+    }
+
+    #[inline(always)]
+    fn marks(&self, lanes: u8x16) -> u64 {
+        Outside(self.0).marks(lanes)
+    }
+}
+
+impl Rewriting for Encoding {
+    ghost rewritten = { λ s bytes. encoded s.0 bytes };
+
+    #[inline(always)]
+    fn token(&self, b: u8, _: &[u8]) -> (Token, usize) {
+        (Token::escaping(b), 0)
+    }
+}
+
 /// The text that represents the bytes. Walks them once and reserves capacity once: three bytes for
 /// each, as an escape needs.
 pub(super) fn encoded_bytes(
@@ -163,10 +168,36 @@ pub(super) fn encoded_bytes(
     ensures bytes { IfOk result (λ _. are_bytes bytes.now ≡ true) }
 {
     let mut text = Vec::with_capacity(alloc, bytes.len().saturating_mul(3))?;
-    for &b in bytes {
-        push_token(&mut text, Token::writing(class, b))?;
-    }
+    push_rewritten(&mut text, &Encoding(class), bytes)?;
     Ok(text)
+}
+
+/// Decoding of the text of a form: a `+` becomes a space, too.
+#[derive(Clone, Copy, Debug)]
+struct FormDecoding;
+
+impl ByteTest for FormDecoding {
+    ghost passes = { λ _ b. b == percent || b == plus_sign };
+
+    #[inline(always)]
+    fn has(&self, b: u8) -> bool {
+        b == b'%' || b == b'+'
+    }
+
+    #[inline(always)]
+    fn marks(&self, lanes: u8x16) -> u64 {
+        Is(b'%').marks(lanes) | Is(b'+').marks(lanes)
+    }
+}
+
+impl Rewriting for FormDecoding {
+    ghost rewritten = { λ _ text. form_decoded text };
+
+    #[inline(always)]
+    fn token(&self, b: u8, after: &[u8]) -> (Token, usize) {
+        let (token, more) = first_token(b, after);
+        (Token::Byte(token.form_value()), more)
+    }
 }
 
 /// Like [`decoded_bytes`], for the text of a form: a `+` is a space.
@@ -174,16 +205,44 @@ pub fn form_decoded_bytes(alloc: Global, text: &[u8]) -> Result<Vec<u8>, AllocEr
     ensures { IfOk result (λ v. v.items ≡ form_decoded text.now) }
 {
     let mut bytes = Vec::with_capacity(alloc, text.len())?;
-    let mut rest = text;
-    'tokens: while let Some((token, after)) = split_token(rest) {
-        bytes.push(token.form_value())?;
-        rest = after;
-    }
+    push_rewritten(&mut bytes, &FormDecoding, text)?;
     Ok(bytes)
+}
+
+/// Encoding for which some bytes of the class become escapes, too.
+#[derive(Clone, Copy, Debug)]
+struct EncodingWithout<'w>(Class, &'w [u8]);
+
+impl<'w> ByteTest for EncodingWithout<'w> {
+    ghost passes = { λ s b. not (is_plain s.0 b) || is_among s.1.now b };
+
+    #[inline(always)]
+    fn has(&self, b: u8) -> bool {
+        !self.0.has(b) || self.1.contains(&b)
+    }
+
+    #[inline(always)]
+    fn marks(&self, lanes: u8x16) -> u64 {
+        let mut marks = Outside(self.0).marks(lanes);
+        for &b in self.1 {
+            marks |= Is(b).marks(lanes);
+        }
+        marks
+    }
+}
+
+impl<'w> Rewriting for EncodingWithout<'w> {
+    ghost rewritten = { λ s bytes. encoded_without s.0 s.1.now bytes };
+
+    #[inline(always)]
+    fn token(&self, b: u8, _: &[u8]) -> (Token, usize) {
+        (Token::escaping(b), 0)
+    }
 }
 
 /// Appends the text that represents the bytes. A byte of the class stays unless it is one of
 /// `without`; any other becomes an escape. Walks them once.
+#[inline(always)]
 pub fn push_encoded(
     text: &mut Vec<u8>,
     class: Class,
@@ -193,14 +252,45 @@ pub fn push_encoded(
     ensures text { OnOk result (text.new.items ≡ text.old.items ++ encoded_without class without.now bytes.now) }
     ensures bytes { OnOk result (are_bytes bytes.now ≡ true) }
 {
-    for &b in bytes {
-        push_token(text, Token::writing_without(class, without, b))?;
+    push_rewritten(text, &EncodingWithout(class, without), bytes)
+}
+
+/// Escaping: a byte that is neither in the class nor one of these becomes an escape, unless it
+/// begins one.
+#[derive(Clone, Copy, Debug)]
+pub(super) struct Escaping<'m>(pub(super) Class, pub(super) &'m [u8]);
+
+impl<'m> ByteTest for Escaping<'m> {
+    ghost passes = { λ s b. not (is_plain s.0 b) };
+
+    #[inline(always)]
+    fn has(&self, b: u8) -> bool {
+        !self.0.has(b)
     }
-    Ok(())
+
+    #[inline(always)]
+    fn marks(&self, lanes: u8x16) -> u64 {
+        Outside(self.0).marks(lanes)
+    }
+}
+
+impl<'m> Rewriting for Escaping<'m> {
+    ghost rewritten = { λ s text. escaped_in s.0 s.1.now text };
+
+    #[inline(always)]
+    fn token(&self, b: u8, after: &[u8]) -> (Token, usize) {
+        if self.1.contains(&b) {
+            (Token::Byte(b), 0)
+        } else if is_escape(b, after) {
+            (Token::Escape(after[0], after[1]), 2)
+        } else {
+            (Token::escaping(b), 0)
+        }
+    }
 }
 
 /// Appends the text with an escape for each byte that is neither in the class nor one of `more`,
-/// and begins no escape. Walks the text once. Runs of bytes of the class are copied whole.
+/// and begins no escape. Walks the text once.
 pub fn push_escaped(
     escaped: &mut Vec<u8>,
     class: Class,
@@ -209,14 +299,7 @@ pub fn push_escaped(
 ) -> Result<(), AllocError>
     ensures { OnOk result (escaped.new.items ≡ escaped.old.items ++ escaped_in class more.now text.now) }
 {
-    let mut rest = text;
-    'bytes: while let Some((&b, after)) = rest.split_first() {
-        push_token(escaped, Token::standing(class, more, b, after))?;
-        let (run, later) = split_settled(class, Case::Kept, after);
-        escaped.extend_from_slice(run)?;
-        rest = later;
-    }
-    Ok(())
+    push_rewritten(escaped, &Escaping(class, more), text)
 }
 
 /// The number of bytes that the text has with an escape for each byte outside the class, or

@@ -1,12 +1,15 @@
 //! A text that is written to the start of a buffer. If it is longer than the buffer, only its length
 //! is counted.
-ghost use Rattle.std.specs.Prelude.{◌≡◌, length};
+ghost use Rattle.std.specs.Prelude.{◌≡◌, ◌≤◌, ◌∷◌, [], length, true};
 ghost use Rattle.uriparse_text.specs.Coding.{decoded, encoded, escaped_in};
-ghost use Rattle.uriparse_text.specs.Starts.{Appends, Writes};
+ghost use Rattle.uriparse_text.specs.Pieces.{Keeps};
+ghost use Rattle.uriparse_text.specs.Starts.{Appends, LeavesRest, Writes};
 ghost use Rattle.uriparse_text.specs.Tokens as tokens;
 
 use super::class::Class;
-use super::token::{Token, split_token};
+use super::coding::{Decoding, Encoding, Escaping};
+use super::rewrite::{Rewriting, split_run};
+use super::token::Token;
 use thiserror::Error;
 
 /// A buffer has too little room for a text, and is unchanged.
@@ -17,53 +20,114 @@ pub struct TooSmall {
     pub needed: usize,
 }
 
+/// Copies a run over bytes of its length. Many runs are short, and are copied byte by byte, which
+/// takes a test and a call less.
+#[inline(always)]
+fn copy_run(run: &[u8], out: &mut [u8])
+    requires { length out.old ≡ length run.now }
+    ensures { out.new ≡ run.now }
+{
+    match run {
+        [] => {}
+        [a] => out[0] = *a,
+        [a, b] => {
+            out[0] = *a;
+            out[1] = *b;
+        }
+        [a, b, c] => {
+            out[0] = *a;
+            out[1] = *b;
+            out[2] = *c;
+        }
+        _ => out.copy_from_slice(run),
+    }
+}
+
 /// Appends bytes to a text of `len` bytes. Returns the length of both.
+#[inline(always)]
 pub fn append(bytes: &[u8], out: &mut [u8], len: usize) -> usize
     ensures room { length out.new ≡ length out.old }
     ensures appends { Appends bytes.now out.old len out.new result }
+    ensures rest { LeavesRest out.old len out.new result }
 {
     let total = len.saturating_add(bytes.len());
     if total <= out.len() {
-        out[len..total].copy_from_slice(bytes);
+        copy_run(bytes, &mut out[len..total]);
     }
     total
 }
 
+/// Appends a byte.
+#[inline(always)]
+fn append_byte(b: u8, out: &mut [u8], len: usize) -> usize
+    ensures room { length out.new ≡ length out.old }
+    ensures appends { Appends (b ∷ []) out.old len out.new result }
+    ensures rest { LeavesRest out.old len out.new result }
+{
+    if len < out.len() {
+        out[len] = b;
+        return len + 1;
+    }
+    len.saturating_add(1)
+}
+
 /// Appends a token.
+#[inline(always)]
 fn append_token(token: Token, out: &mut [u8], len: usize) -> usize
     ensures room { length out.new ≡ length out.old }
     ensures appends { Appends (tokens.spell token) out.old len out.new result }
+    ensures rest { LeavesRest out.old len out.new result }
 {
     match token {
-        Token::Byte(b) => append(&[b], out, len),
+        Token::Byte(b) => append_byte(b, out, len),
         Token::Escape(high, low) => append(&[b'%', high, low], out, len),
     }
 }
 
-/// Appends the bytes that the text's tokens represent. Walks the text once.
-pub fn append_decoded(text: &[u8], out: &mut [u8], len: usize) -> usize
+/// Appends the rewritten text. Walks the text once.
+#[inline(always)]
+fn append_rewritten<R: Rewriting>(way: &R, text: &[u8], out: &mut [u8], len: usize) -> usize
+    requires { Keeps (R.passes way.now) (R.rewritten way.now) }
     ensures room { length out.new ≡ length out.old }
-    ensures appends { Appends (decoded text.now) out.old len out.new result }
+    ensures appends { Appends (R.rewritten way.now text.now) out.old len out.new result }
+    ensures rest { LeavesRest out.old len out.new result }
 {
     let mut total = len;
     let mut rest = text;
-    'tokens: while let Some((token, after)) = split_token(rest) {
-        total = append(&[token.value()], out, total);
-        rest = after;
+    'pieces: while let Some((&b, after)) = rest.split_first() {
+        if way.has(b) {
+            let (token, more) = way.token(b, after);
+            total = append_token(token, out, total);
+            rest = &after[more..];
+        } else {
+            let (run, later) = split_run(way, rest);
+            total = append(run, out, total);
+            rest = later;
+        }
     }
     total
 }
 
-/// Appends the text of the class that represents the bytes. Walks them once.
-pub fn append_encoded(class: Class, bytes: &[u8], out: &mut [u8], len: usize) -> usize
-    ensures room { length out.new ≡ length out.old }
-    ensures appends { Appends (encoded class bytes.now) out.old len out.new result }
+/// Writes the rewritten text to the start of the buffer, if it has room for it, and returns its
+/// length. `fits` says that there surely is room, which saves the walk that counts.
+#[inline(always)]
+fn write_rewritten<R: Rewriting>(
+    way: &R,
+    text: &[u8],
+    fits: bool,
+    out: &mut [u8],
+) -> Result<usize, TooSmall>
+    requires keeps { Keeps (R.passes way.now) (R.rewritten way.now) }
+    requires fits { fits ≡ true → length (R.rewritten way.now text.now) ≤ length out.old }
+    ensures { Writes (R.rewritten way.now text.now) result out.old out.new }
 {
-    let mut total = len;
-    for &b in bytes {
-        total = append_token(Token::writing(class, b), out, total);
+    if !fits {
+        let needed = append_rewritten(way, text, &mut [], 0);
+        if needed > out.len() {
+            return Err(TooSmall { needed });
+        }
     }
-    total
+    Ok(append_rewritten(way, text, out, 0))
 }
 
 /// Appends the text with an escape for each byte that is neither in the class nor one of `more`,
@@ -71,36 +135,24 @@ pub fn append_encoded(class: Class, bytes: &[u8], out: &mut [u8], len: usize) ->
 pub fn append_escaped(class: Class, more: &[u8], text: &[u8], out: &mut [u8], len: usize) -> usize
     ensures room { length out.new ≡ length out.old }
     ensures appends { Appends (escaped_in class more.now text.now) out.old len out.new result }
+    ensures rest { LeavesRest out.old len out.new result }
 {
-    let mut total = len;
-    let mut rest = text;
-    'bytes: while let Some((&b, after)) = rest.split_first() {
-        total = append_token(Token::standing(class, more, b, after), out, total);
-        rest = after;
-    }
-    total
+    append_rewritten(&Escaping(class, more), text, out, len)
 }
 
 /// Writes the bytes that the text's tokens represent to the start of the buffer, if it has room for
-/// them, and returns their number.
+/// them, and returns their number. They are no more than the text's bytes.
 pub(super) fn decode_into(text: &[u8], out: &mut [u8]) -> Result<usize, TooSmall>
     ensures { Writes (decoded text.now) result out.old out.new }
 {
-    let needed = append_decoded(text, &mut [], 0);
-    if needed > out.len() {
-        return Err(TooSmall { needed });
-    }
-    Ok(append_decoded(text, &mut out[..needed], 0))
+    write_rewritten(&Decoding, text, text.len() <= out.len(), out)
 }
 
 /// Writes the text of the class that represents the bytes to the start of the buffer, if it has room
-/// for it, and returns its length.
+/// for it, and returns its length. That is at most three times the number of bytes.
 pub fn encode_into(class: Class, bytes: &[u8], out: &mut [u8]) -> Result<usize, TooSmall>
     ensures { Writes (encoded class bytes.now) result out.old out.new }
 {
-    let needed = append_encoded(class, bytes, &mut [], 0);
-    if needed > out.len() {
-        return Err(TooSmall { needed });
-    }
-    Ok(append_encoded(class, bytes, &mut out[..needed], 0))
+    let fits = bytes.len() <= out.len() / 3;
+    write_rewritten(&Encoding(class), bytes, fits, out)
 }

@@ -1,6 +1,8 @@
 //! Tokens, single bytes and escapes: RFC 3986, section 2.1.
-ghost use Rattle.std.specs.Prelude.{◌≡◌, ◌++◌, ◌∷◌, [], true, MatchOption, IfSome};
+ghost use Rattle.std.specs.Prelude.{◌≡◌, ◌≤◌, ◌++◌, ◌∷◌, [], true, drop, length, MatchOption, IfSome};
 ghost use Rattle.uriparse_text.specs.Tokens as spec;
+
+use super::digit::are_hex_digits;
 
 /// A single byte, or an escape by its two digits.
 #[derive(Clone, Copy, Debug, PartialEq, Eq)]
@@ -18,8 +20,22 @@ pub fn is_escape(b: u8, after: &[u8]) -> bool
         return false;
     }
     match after {
-        [high, low, ..] => high.is_ascii_hexdigit() && low.is_ascii_hexdigit(),
+        [high, low, ..] => are_hex_digits(*high, *low),
         _ => false,
+    }
+}
+
+/// The token that begins with `b`, and how many of the bytes after it the token has.
+#[inline(always)]
+pub(super) fn first_token(b: u8, after: &[u8]) -> (Token, usize)
+    ensures cut { spec.tokens (b ∷ after.now) ≡ result.0 ∷ spec.tokens (drop result.1 after.now) }
+    ensures digits { spec.has_digits result.0 ≡ true }
+    ensures within { result.1 ≤ length after.now }
+{
+    if is_escape(b, after) {
+        (Token::Escape(after[0], after[1]), 2)
+    } else {
+        (Token::Byte(b), 0)
     }
 }
 

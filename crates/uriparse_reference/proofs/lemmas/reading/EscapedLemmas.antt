@@ -393,27 +393,3 @@ utf8-escaped t =
     (low-append (escaped_path (path_text t)) _ (low_escaped Segment (codes "/") low_slash (path_text t))
     (low-append (behind question_mark (option_map escaped_component (query_text t))) _ (low_behind question_mark refl (query_text t))
     (low_behind number_sign refl (fragment_text t))))))
-
--- ---- writing the components one after another
-
-in_a_row : (o s a h q f : List ℕ) → ((((o ++ s) ++ a) ++ h) ++ q) ++ f ≡ o ++ (s ++ (a ++ (h ++ (q ++ f))))
-in_a_row o s a h q f =
-    append_assoc (((o ++ s) ++ a) ++ h) q f ∙ append_assoc ((o ++ s) ++ a) h (q ++ f) ∙ append_assoc (o ++ s) a (h ++ (q ++ f))
-    ∙ append_assoc o s (a ++ (h ++ (q ++ f)))
-
--- the text that was there, and then each component of t with escapes
-pub pushed : (t old : List ℕ) (s a : Option (List ℕ)) (h : List ℕ) (q f : Option (List ℕ)) (by_scheme by_authority by_path by_query : List ℕ)
-    → s ≡ scheme_text t → a ≡ authority_text t → h ≡ path_text t → q ≡ query_text t → f ≡ fragment_text t → by_scheme ≡ old ++ ahead colon s
-    → by_authority ≡ by_scheme ++ behind_slashes (option_map escaped_authority a) → by_path ≡ by_authority ++ escaped_path h
-    → by_query ≡ by_path ++ behind question_mark (option_map escaped_component q)
-    → by_query ++ behind number_sign (option_map escaped_component f) ≡ old ++ escaped t
-unfolding escaped
-pushed t old s a h q f by_scheme by_authority by_path by_query e g i j k l m n o =
-    ap (λ u. u ++ behind number_sign (option_map escaped_component f)) (o ∙ ap (λ u. u ++ behind question_mark (option_map escaped_component q))
-    (n ∙ ap (λ u. u ++ escaped_path h) (m ∙ ap (λ u. u ++ behind_slashes (option_map escaped_authority a)) l)))
-    ∙ in_a_row old (ahead colon s) (behind_slashes (option_map escaped_authority a)) (escaped_path h) (behind question_mark (option_map escaped_component q))
-    (behind number_sign (option_map escaped_component f))
-    ∙ ap (λ u. old ++ u) (joined_same s (option_map escaped_authority a) (escaped_path h) (option_map escaped_component q) (option_map escaped_component f)
-    (scheme_text t) (option_map escaped_authority (authority_text t)) (escaped_path (path_text t)) (option_map escaped_component (query_text t))
-    (option_map escaped_component (fragment_text t)) e (ap (option_map escaped_authority) g) (ap escaped_path i) (ap (option_map escaped_component) j)
-    (ap (option_map escaped_component) k))

@@ -1,9 +1,9 @@
 //! Escaping into a buffer of the caller, without memory.
-ghost use Rattle.std.specs.Prelude.{◌≡◌, length, true};
+ghost use Rattle.std.specs.Prelude.{◌≡◌, length};
 ghost use Rattle.std.specs.Option.{option_copied, option_map};
-ghost use Rattle.uriparse_text.specs.Bytes.{colon, question_mark};
-ghost use Rattle.uriparse_text.specs.Cuts.{ahead, behind, lacks};
-ghost use Rattle.uriparse_text.specs.Starts.{Appends, StartsWith, Writes};
+ghost use Rattle.uriparse_text.specs.Bytes.{colon};
+ghost use Rattle.uriparse_text.specs.Cuts.{ahead, behind};
+ghost use Rattle.uriparse_text.specs.Starts.{Appends, LeavesRest, StartsWith, Writes};
 ghost use Rattle.uriparse_scheme.specs.Cuts.{if_some};
 ghost use Rattle.uriparse_reference.specs.Escaped as spec;
 ghost use Rattle.uriparse_reference.specs.Reference.{behind_slashes};
@@ -11,13 +11,14 @@ ghost use Rattle.uriparse_reference.specs.Reference.{behind_slashes};
 use super::split_authority;
 use uriparse_scheme::internal::split_scheme;
 use uriparse_text::internal::{
-    Class, TooSmall, append, append_escaped, split_at_mark, without_mark,
+    Case, Class, TooSmall, append, append_escaped, split_at_mark, split_settled, without_mark,
 };
 
 /// Appends the scheme and its colon, if it is present: its text is not empty.
 fn append_scheme(scheme: &[u8], out: &mut [u8], len: usize) -> usize
     ensures room { length out.new ≡ length out.old }
     ensures appends { Appends (ahead colon (if_some scheme.now)) out.old len out.new result }
+    ensures rest { LeavesRest out.old len out.new result }
 {
     if scheme.is_empty() {
         return len;
@@ -30,6 +31,7 @@ fn append_scheme(scheme: &[u8], out: &mut [u8], len: usize) -> usize
 fn append_authority(authority: Option<&[u8]>, out: &mut [u8], len: usize) -> usize
     ensures room { length out.new ≡ length out.old }
     ensures appends { Appends (behind_slashes (option_map spec.escaped_authority (option_copied authority.entry))) out.old len out.new result }
+    ensures rest { LeavesRest out.old len out.new result }
 {
     match authority {
         Some(authority) => {
@@ -40,19 +42,11 @@ fn append_authority(authority: Option<&[u8]>, out: &mut [u8], len: usize) -> usi
     }
 }
 
-/// Appends the escaped path. It has no `?`, so each byte of a query may stand in it.
-fn append_path(path: &[u8], out: &mut [u8], len: usize) -> usize
-    requires { lacks question_mark path.now ≡ true }
-    ensures room { length out.new ≡ length out.old }
-    ensures appends { Appends (spec.escaped_path path.now) out.old len out.new result }
-{
-    append_escaped(Class::Query, b"", path, out, len)
-}
-
 /// Appends a delimiter and the escaped component that follows it, if it is present.
 fn append_behind(mark: u8, component: Option<&[u8]>, out: &mut [u8], len: usize) -> usize
     ensures room { length out.new ≡ length out.old }
     ensures appends { Appends (behind mark (option_map spec.escaped_component (option_copied component.entry))) out.old len out.new result }
+    ensures rest { LeavesRest out.old len out.new result }
 {
     match component {
         Some(component) => {
@@ -63,21 +57,33 @@ fn append_behind(mark: u8, component: Option<&[u8]>, out: &mut [u8], len: usize)
     }
 }
 
+/// Appends the escaped path, query and fragment. Most are bytes that a query may have: these are found
+/// and copied at once, and no `#` is among them. A `?` may stand in a query, so path and query are
+/// escaped as one.
+fn append_end(end: &[u8], out: &mut [u8], len: usize) -> usize
+    ensures room { length out.new ≡ length out.old }
+    ensures appends { Appends (spec.escaped_end end.now) out.old len out.new result }
+    ensures rest { LeavesRest out.old len out.new result }
+{
+    let (plain, later) = split_settled(Class::Query, Case::Kept, end);
+    let len = append(plain, out, len);
+    let (front, fragment) = split_at_mark(later, b'#');
+    let len = append_escaped(Class::Query, b"", front, out, len);
+    append_behind(b'#', without_mark(fragment), out, len)
+}
+
 /// Writes the text with its components escaped to the start of the buffer. Returns its length. If
 /// there is no room, only the length is counted.
 fn write_components(text: &[u8], out: &mut [u8]) -> usize
     ensures room { length out.new ≡ length out.old }
     ensures starts { StartsWith out.new result (spec.escaped text.now) }
+    ensures rest { LeavesRest out.old 0 out.new result }
 {
     let cut = split_scheme(text);
     let (authority, rest) = split_authority(cut.rest);
-    let (front, fragment) = split_at_mark(rest, b'#');
-    let (path, query) = split_at_mark(front, b'?');
     let len = append_scheme(cut.scheme, out, 0);
     let len = append_authority(authority, out, len);
-    let len = append_path(path, out, len);
-    let len = append_behind(b'?', without_mark(query), out, len);
-    append_behind(b'#', without_mark(fragment), out, len)
+    append_end(rest, out, len)
 }
 
 /// Writes the text that [`escape_invalid`](super::escape_invalid) returns to the start of the buffer
@@ -95,9 +101,12 @@ fn write_components(text: &[u8], out: &mut [u8]) -> usize
 pub fn escape_invalid_into(text: &[u8], out: &mut [u8]) -> Result<usize, TooSmall>
     ensures { Writes (spec.escaped text.now) result out.old out.new }
 {
-    let needed = write_components(text, &mut []);
-    if needed > out.len() {
-        return Err(TooSmall { needed });
+    // With three times as many bytes as the text has there surely is room.
+    if text.len() > out.len() / 3 {
+        let needed = write_components(text, &mut []);
+        if needed > out.len() {
+            return Err(TooSmall { needed });
+        }
     }
-    Ok(write_components(text, &mut out[..needed]))
+    Ok(write_components(text, out))
 }

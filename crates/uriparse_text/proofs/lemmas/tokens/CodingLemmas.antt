@@ -1,5 +1,5 @@
 -- Bytes that are written as a text, and the bytes that a text stands for.
-use Rattle.std.proofs.Common.{◌≡◌, ℕ, ◌<◌, Bool, true, false, cond, List, [], ◌∷◌, ◌++◌, map, refl, sym, ap, ◌∙◌, arith, append_assoc, append-nil, ◌+◌, length, take, get_or, suc}
+use Rattle.std.proofs.Common.{◌≡◌, ℕ, ◌<◌, Bool, true, false, List, [], ◌∷◌, ◌++◌, map, refl, sym, ap, ◌∙◌, arith, append_assoc, append-nil, ◌+◌, length, take, get_or, suc}
 use Rattle.std.specs.Prelude.{◌==◌, ◌&&◌, ◌/◌, ◌%◌, bytes_eq}
 use Rattle.std.specs.Cmp.Lexicographic.{slice_cmp}
 use Rattle.std.specs.Ordering.{nat_cmp, ordering_then}
@@ -20,7 +20,6 @@ use Rattle.uriparse_text.specs.declared.internal.class.Class.{Class}
 use Rattle.uriparse_text.specs.declared.internal.canonical.Case.{Case}
 use Rattle.uriparse_text.specs.declared.internal.canonical.Case.TheVariants.{Kept}
 use Rattle.uriparse_text.specs.Bytes.{is_hex, is_unreserved, percent}
-use Rattle.uriparse_text.specs.Cuts.{up_to, from_first}
 use Rattle.uriparse_text.specs.Classes.{is_plain}
 use Rattle.uriparse_text.specs.Tokens.{tokens, spell, is_token, has_digits, is_well_formed}
 use Rattle.uriparse_text.specs.Faults.{allows, IsIn}
@@ -162,38 +161,8 @@ pub decoded-cons : (rest after : List ℕ) (t : Token) → tokens rest ≡ t ∷
 unfolding decoded
 decoded-cons rest after t e = ap (map value_of) e
 
--- a token more
-pub decoded_more : (done rest after : List ℕ) (t : Token) (whole : List ℕ) → tokens rest ≡ t ∷ tokens after → done ++ decoded rest ≡ whole
-    → (done ++ value_of t ∷ []) ++ decoded after ≡ whole
-decoded_more done rest after t whole e h =
-    append_assoc done (value_of t ∷ []) (decoded after) ∙ ap (λ u. done ++ u) (sym (decoded-cons rest after t e)) ∙ h
-
-decoded-byte : (b : ℕ) (t : List ℕ) → (b == percent) ≡ false → decoded (b ∷ t) ≡ b ∷ decoded t
+pub decoded-byte : (b : ℕ) (t : List ℕ) → (b == percent) ≡ false → decoded (b ∷ t) ≡ b ∷ decoded t
 decoded-byte b t h = decoded-cons (b ∷ t) t (Byte b) (tokens-byte b t (no_escape b t h))
-
--- the bytes before the first percent sign stand for themselves
-pub decoded-run : (t : List ℕ) → decoded t ≡ up_to (λ b. b == percent) t ++ decoded (from_first (λ b. b == percent) t)
-decoded-run [] = refl
-decoded-run (b ∷ t) = by_first (b == percent) refl (decoded-run t)
-  where
-    by_first : (v : Bool) → (b == percent) ≡ v → decoded t ≡ up_to (λ b. b == percent) t ++ decoded (from_first (λ b. b == percent) t)
-        → decoded (b ∷ t) ≡ cond v [] (b ∷ up_to (λ b. b == percent) t) ++ decoded (cond v (b ∷ t) (from_first (λ b. b == percent) t))
-    by_first true e h = refl
-    by_first false e h = decoded-byte b t e ∙ ap (λ u. b ∷ u) h
-
--- a cut at the first percent sign
-pub cut_whole : (p : ℕ → Bool) (t : List ℕ) → t ≡ up_to p t ++ from_first p t
-cut_whole p [] = refl
-cut_whole p (b ∷ t) = by_first (p b) (cut_whole p t)
-  where
-    by_first : (v : Bool) → t ≡ up_to p t ++ from_first p t → b ∷ t ≡ cond v [] (b ∷ up_to p t) ++ cond v (b ∷ t) (from_first p t)
-    by_first true h = refl
-    by_first false h = ap (λ u. b ∷ u) h
-
--- a token and the bytes after it
-pub decoded_run_more : (done run rest later whole : List ℕ) → done ++ decoded rest ≡ whole → decoded rest ≡ run ++ decoded later
-    → (done ++ run) ++ decoded later ≡ whole
-decoded_run_more done run rest later whole h e = append_assoc done run (decoded later) ∙ ap (λ u. done ++ u) (sym e) ∙ h
 
 pub encoded-nil : (class : Class) → encoded class [] ≡ []
 unfolding encoded
@@ -207,7 +176,7 @@ encoded_push class bytes b =
     ∙ flat_map-append spell (map (token_for class) bytes) (token_for class b ∷ [])
     ∙ ap (λ u. flat_map spell (map (token_for class) bytes) ++ u) (append-nil (spell (token_for class b)))
 
-range_byte : (b : ℕ) → b < 256 → is_in_range 0 255 b ≡ true
+pub range_byte : (b : ℕ) → b < 256 → is_in_range 0 255 b ≡ true
 range_byte b h = grind (arith, nat_tests)
 
 -- the byte at a place more
@@ -227,12 +196,6 @@ written_more class bytes done new i b h e small is f = (
 
 pub form_decoded-nil : (text : List ℕ) → text ≡ [] → form_decoded text ≡ []
 form_decoded-nil text e = ap (λ t. map form_value_of (tokens t)) e ∙ ap (map form_value_of) tokens-nil
-
--- a token more
-pub form_decoded_more : (done rest after : List ℕ) (t : Token) (whole : List ℕ) → tokens rest ≡ t ∷ tokens after → done ++ form_decoded rest ≡ whole
-    → (done ++ form_value_of t ∷ []) ++ form_decoded after ≡ whole
-form_decoded_more done rest after t whole e h =
-    append_assoc done (form_value_of t ∷ []) (form_decoded after) ∙ ap (λ u. done ++ u) (sym (ap (map form_value_of) e)) ∙ h
 
 encoded_without_push : (class : Class) (without bytes : List ℕ) (b : ℕ)
     → encoded_without class without (bytes ++ b ∷ []) ≡ encoded_without class without bytes ++ spell (token_without class without b)

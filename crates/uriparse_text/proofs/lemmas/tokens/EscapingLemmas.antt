@@ -1,5 +1,5 @@
 -- Texts with escapes for the bytes that may not stand in them.
-use Rattle.std.proofs.Common.{◌≡◌, ℕ, ◌<◌, Bool, true, false, not, cond, ◌&&◌, ◌||◌, List, [], ◌∷◌, ◌++◌, drop, map, None, nat_lt, All, IsUtf8, refl, sym, ap, ◌∙◌, append-nil, append_assoc, arith}
+use Rattle.std.proofs.Common.{◌≡◌, ℕ, ◌<◌, Bool, true, false, not, cond, ◌&&◌, ◌||◌, List, [], ◌∷◌, ◌++◌, drop, map, None, nat_lt, All, IsUtf8, refl, sym, ap, ◌∙◌, append-nil, arith}
 use Rattle.std.specs.Prelude.{◌==◌, ◌/◌, ◌%◌}
 use Rattle.std.specs.Int.{is_in_range}
 use Rattle.std.specs.List.{list_all, slice_split, onto_first}
@@ -8,7 +8,6 @@ use Rattle.std.proofs.lemmas.List.Splits.{slice_split-cons_yes, slice_split-cons
 use Rattle.std.proofs.lemmas.List.Elements.{All-nil, All-cons}
 use Rattle.std.proofs.lemmas.Str.{IsUtf8-from_ascii}
 use Rattle.std.proofs.lemmas.Str.Ascii.{IsAscii-from_all}
-use Rattle.uriparse_text.specs.declared.internal.token.Token.{Token}
 use Rattle.uriparse_text.specs.declared.internal.token.Token.TheVariants.{Byte, Escape}
 use Rattle.uriparse_text.specs.declared.internal.class.Class.{Class}
 use Rattle.uriparse_text.specs.Alike.{upper_digit_of}
@@ -51,7 +50,7 @@ written_value : (b : ℕ) → b < 256 → escaped_byte (high_digit b) (low_digit
 written_value b small =
     eqb-true _ _ (agree_below_at (λ b. escaped_byte (high_digit b) (low_digit b) == b) (λ b. true) 256 b refl small)
 
-or_true : (v : Bool) → (v || true) ≡ true
+pub or_true : (v : Bool) → (v || true) ≡ true
 or_true true = refl
 or_true false = refl
 
@@ -80,7 +79,7 @@ module _ (class : Class) (more : List ℕ) where
   pub stays_escape : (b : ℕ) (t : List ℕ) → is_escape b t ≡ true → escaped_in class more (b ∷ t) ≡ b ∷ escaped_in class more t
   stays_escape b t h = stays b t (ap (λ v. may_stand class more b || v) h ∙ or_true (may_stand class more b))
 
-  stay_digits : (high low : ℕ) (t : List ℕ) → is_hex high ≡ true → is_hex low ≡ true
+  pub stay_digits : (high low : ℕ) (t : List ℕ) → is_hex high ≡ true → is_hex low ≡ true
       → escaped_in class more (high ∷ low ∷ t) ≡ high ∷ low ∷ escaped_in class more t
   stay_digits high low t h k = stays_plain high (low ∷ t) (hex_plain class high h) ∙ ap (λ u. high ∷ u) (stays_plain low t (hex_plain class low k))
 
@@ -120,19 +119,6 @@ module _ (class : Class) (more : List ℕ) where
 
   pub escaped-IsIn-nil : (t : List ℕ) → IsIn class t → escaped_in class more t ≡ t
   escaped-IsIn-nil t h = ap (escaped_in class more) (sym (append-nil t)) ∙ escaped-IsIn class own_class t [] h ∙ append-nil t
-
-  -- a byte, and a run of bytes of the class, more
-  pub escaped_more : (items pushed extended run later after rest : List ℕ) (b : ℕ) (token : Token) (whole : List ℕ) → rest ≡ b ∷ after
-      → spell token ≡ cond (may_stand class more b || is_escape b after) (b ∷ []) (spell (escape_of b)) → pushed ≡ items ++ spell token
-      → extended ≡ pushed ++ run → run ++ later ≡ after → IsIn class run → items ++ escaped_in class more rest ≡ whole
-      → extended ++ escaped_in class more later ≡ whole
-  escaped_more items pushed extended run later after rest b token whole cut is push extend split inside h =
-      ap (λ l. l ++ escaped_in class more later) extend
-      ∙ append_assoc pushed run (escaped_in class more later)
-      ∙ ap (λ l. pushed ++ l) (sym (escaped-IsIn class own_class run later inside) ∙ ap (escaped_in class more) split)
-      ∙ ap (λ l. l ++ escaped_in class more after) (push ∙ ap (λ l. items ++ l) is)
-      ∙ append_assoc items (cond (may_stand class more b || is_escape b after) (b ∷ []) (spell (escape_of b))) (escaped_in class more after)
-      ∙ ap (λ l. items ++ escaped_in class more l) (sym cut) ∙ h
 
   pub escaped-allowed : (t u : List ℕ) → list_all (may_stand class more) t ≡ true → escaped_in class more (t ++ u) ≡ t ++ escaped_in class more u
   escaped-allowed [] u h = refl

@@ -1,11 +1,11 @@
 -- Texts that are written to the start of a buffer, piece by piece.
-use Rattle.std.proofs.Common.{◌≡◌, ℕ, ◌+◌, ◌<◌, List, [], ◌∷◌, ◌++◌, length, take, drop, get_or, Result, Ok, Err, refl, sym, ap, subst, ◌∙◌, append-nil, append_assoc, arith, suc}
+use Rattle.std.proofs.Common.{◌≡◌, ℕ, ◌+◌, ◌-◌, ◌^◌, ◌<◌, ◌≤◌, List, [], ◌∷◌, ◌++◌, length, take, drop, get_or, Result, Ok, Err, refl, sym, ap, subst, ◌∙◌, append-nil, append_assoc, arith, suc}
 use Rattle.std.proofs.Math.Seq.{take-suc}
-use Rattle.std.proofs.lemmas.List.{length-append}
+use Rattle.std.proofs.lemmas.List.{drop-drop, length-append, take-append-drop}
 use Rattle.uriparse_text.specs.declared.internal.starts.TooSmall.{TooSmall}
 use Rattle.uriparse_text.specs.declared.internal.class.Class.{Class}
 use Rattle.uriparse_text.specs.Coding.{encoded, token_for}
-use Rattle.uriparse_text.specs.Starts.{Appends, StartsWith, Writes}
+use Rattle.uriparse_text.specs.Starts.{Appends, LeavesRest, StartsWith, Writes}
 use Rattle.uriparse_text.specs.Tokens.{spell}
 use Rattle.uriparse_text.proofs.lemmas.tokens.CodingLemmas.{encoded_push}
 
@@ -19,23 +19,51 @@ appends_both s u first mid last l m r one other = λ t h. subst (StartsWith last
 pub starts_none : (buffer : List ℕ) → StartsWith buffer 0 []
 starts_none buffer = record { size = refl; fits = λ _. refl }
 
+pub leaves_none : (out : List ℕ) (len : ℕ) → LeavesRest out len out len
+leaves_none out len = record { longer = omega arith; same = refl }
+
+pub leaves_both : (first mid last : List ℕ) (l m r : ℕ) → LeavesRest first l mid m → LeavesRest mid m last r → LeavesRest first l last r
+leaves_both first mid last l m r one other =
+    let one_longer = one.longer in
+    let other_longer = other.longer in
+    let sum : m + (r - m) ≡ r = omega arith in
+    record {
+      longer = omega arith;
+      same = other.same ∙ ap (λ n. drop n mid) (sym sum) ∙ sym (drop-drop (r - m) m mid) ∙ ap (drop (r - m)) one.same
+          ∙ drop-drop (r - m) m first ∙ ap (λ n. drop n first) sum;
+    }
+
+-- a text for which there is room, and what follows it
+pub writes_whole : (t old new : List ℕ) (n : ℕ) → StartsWith new n t → length new ≡ length old → LeavesRest old 0 new n → length t ≤ length old
+    → length old < 2 ^ 64 → (n ≡ length t) × (new ≡ t ++ drop (length t) old)
+writes_whole t old new n starts room rest fits small =
+    let starts_size = starts.size in
+    let is : n ≡ length t = omega arith in (
+      is,
+      sym (take-append-drop (length t) new)
+          ∙ ap (λ u. u ++ drop (length t) new) (starts.fits (omega arith))
+          ∙ ap (λ u. t ++ u) (ap (λ k. drop k new) (sym is) ∙ rest.same ∙ ap (λ k. drop k old) is),
+    )
+
 -- a text of which this is still to be written
 pub record Writing (whole left first : List ℕ) (begin : ℕ) (out : List ℕ) (len : ℕ) : Type 0 where
   pub written : List ℕ
   pub later : written ++ left ≡ whole
   pub appended : Appends written first begin out len
   pub room : length out ≡ length first
+  pub rest : LeavesRest first begin out len
 
 pub writing_first : (whole first : List ℕ) (begin : ℕ) → Writing whole whole first begin first begin
-writing_first whole first begin = record { written = []; later = refl; appended = appends_none first begin; room = refl }
+writing_first whole first begin = record { written = []; later = refl; appended = appends_none first begin; room = refl; rest = leaves_none first begin }
 
 pub writing_next : (whole left more piece first out new : List ℕ) (begin len next : ℕ) → Writing whole left first begin out len → left ≡ piece ++ more
-    → Appends piece out len new next → length new ≡ length out → Writing whole more first begin new next
-writing_next whole left more piece first out new begin len next w cut appends room = record {
+    → Appends piece out len new next → length new ≡ length out → LeavesRest out len new next → Writing whole more first begin new next
+writing_next whole left more piece first out new begin len next w cut appends room rest = record {
   written = w.written ++ piece;
   later = append_assoc w.written piece more ∙ ap (λ l. w.written ++ l) (sym cut) ∙ w.later;
   appended = appends_both w.written piece first out new begin len next w.appended appends;
   room = room ∙ w.room;
+  rest = leaves_both first out new begin len next w.rest rest;
 }
 
 pub writing_last : (whole left first out : List ℕ) (begin len : ℕ) → Writing whole left first begin out len → left ≡ []

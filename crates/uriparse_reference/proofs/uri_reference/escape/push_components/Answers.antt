@@ -1,28 +1,13 @@
-use Rattle.std.proofs.Common.{◌≡◌, sym, ap, subst, ◌∙◌}
+use Rattle.std.proofs.Common.{◌≡◌, ap, subst, ◌∙◌}
 use Rattle.std.specs.Prelude.{OnOk}
-use Rattle.uriparse_text.specs.Bytes.{question_mark, number_sign}
-use Rattle.uriparse_text.specs.Cuts.{before, after, part}
-use Rattle.uriparse_text.proofs.lemmas.readings.CutLemmas.{before-lacks}
-use Rattle.uriparse_reference.specs.Cuts.{cut_authority, without_authority, after_authority, path_text}
-use Rattle.uriparse_reference.proofs.lemmas.reading.CutLemmas.{path_cut}
-use Rattle.uriparse_reference.proofs.lemmas.reading.EscapedLemmas.{pushed}
+use Rattle.uriparse_reference.specs.Cuts.{cut_authority, without_authority}
+use Rattle.uriparse_reference.proofs.lemmas.reading.EscapedEndLemmas.{pushed}
 use Rattle.uriparse_reference.proofs.uri_reference.escape.push_components.Goals as goal
-
-pub push_path-requires : goal.push_path-requires
-push_path-requires c = rw c.split_at_mark-2.ensures.front (before-lacks question_mark c.split_at_mark.result.0.now)
 
 pub returns : goal.returns
 returns c =
-    let t = c.args.text.now in
-    let rest : c.split_authority.result.1.now ≡ after_authority t =
-    c.split_authority.ensures.rest ∙ ap without_authority c.split_scheme-cut.ensures.rest in
-    let front : c.split_at_mark.result.0.now ≡ before number_sign (after_authority t) = c.split_at_mark.ensures.front ∙ ap (before number_sign) rest in
-    let path : c.split_at_mark-2.result.0.now ≡ path_text t =
-    c.split_at_mark-2.ensures.front ∙ ap (before question_mark) front ∙ sym (path_cut (after_authority t)) in
-    subst (λ u. OnOk c.push_behind-2.result (c.push_behind-2.new.escaped.items ≡ u))
-    (pushed t c.args.escaped.now.items _ _ _ _ _ _ _ _ _ c.split_scheme-cut.ensures.scheme
-    (c.split_authority.ensures.authority ∙ ap cut_authority c.split_scheme-cut.ensures.rest) path
-    (c.without_mark.ensures ∙ ap part c.split_at_mark-2.ensures.rest ∙ ap (after question_mark) front)
-    (c.without_mark-2.ensures ∙ ap part c.split_at_mark.ensures.rest ∙ ap (after number_sign) rest)
-    c.in_ok-push_scheme.ensures c.in_ok-push_authority.ensures c.in_ok-push_path.ensures c.in_ok-push_behind.ensures)
-    c.push_behind-2.ensures
+    subst (λ u. OnOk c.push_end.result (c.push_end.new.escaped.items ≡ u))
+    (pushed c.args.text.now c.args.escaped.now.items _ _ _ _ _ c.split_scheme-cut.ensures.scheme
+    (c.split_authority.ensures.authority ∙ ap cut_authority c.split_scheme-cut.ensures.rest)
+    (c.split_authority.ensures.rest ∙ ap without_authority c.split_scheme-cut.ensures.rest) c.in_ok-push_scheme.ensures c.in_ok-push_authority.ensures)
+    c.push_end.ensures

@@ -1,14 +1,9 @@
-use Rattle.std.proofs.Common.{get_or, ap, sym, ◌∙◌, refl, arith}
-use Rattle.std.specs.Prelude.{◌++◌}
-use Rattle.uriparse_text.specs.Tokens.{spell}
-use Rattle.uriparse_text.proofs.lemmas.tokens.CodingLemmas.{encoded-nil, written_more}
+use Rattle.std.proofs.Common.{arith}
+use Rattle.uriparse_text.proofs.lemmas.tokens.PieceLemmas.{each_byte, encoding_keeps}
 use Rattle.uriparse_text.proofs.internal.coding.encoded_bytes.Goals as goal
 
-pub loop-b-init : goal.loop-b-init
-loop-b-init c = (c.in_ok-text.ensures.items ∙ sym (encoded-nil c.args.class), refl)
+pub push_rewritten-requires : goal.push_rewritten-requires
+push_rewritten-requires c = encoding_keeps c.args.class
 
-pub loop-b-preserved : goal.loop-b-preserved
-loop-b-preserved c =
-    written_more c.args.class c.args.bytes.now c.loop-b.text.items c.push_token.new.bytes.items c.loop-b.b-index
-    (get_or c.args.bytes.now c.loop-b.b-index 0) (omega arith) refl (omega arith) c.loop-b.invariant
-    (c.in_ok-push_token.ensures ∙ ap (λ t. c.loop-b.text.items ++ spell t) c.writing.ensures)
+pub returns-clause-bytes : goal.returns-clause-bytes
+returns-clause-bytes c = each_byte c.args.bytes.now (λ k l. omega (arith, c.type_inv.bytes k))
