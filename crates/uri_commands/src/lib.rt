@@ -20,7 +20,6 @@ mod help;
 pub mod internal;
 mod json;
 mod lines;
-mod marks;
 mod normalize;
 mod options;
 mod pairs;
