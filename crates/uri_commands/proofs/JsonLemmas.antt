@@ -1,5 +1,5 @@
 -- The texts of a reference stand in JSON strings as they are, and what is written of its object is the object.
-use Rattle.std.proofs.Common.{◌≡◌, ℕ, zero, suc, ◌<◌, ◌≤◌, ◌+◌, ◌/◌, ◌%◌, Bool, true, false, not, List, [], ◌∷◌, ◌++◌, map, drop, length, get_or, Option, Some, None, Result, Ok, Err, if◌then◌else◌, refl, sym, ap, subst, ◌∙◌, arith, append_assoc, append-nil, add-one, drop-cons}
+use Rattle.std.proofs.Common.{◌≡◌, ℕ, zero, suc, ◌<◌, ◌+◌, ◌/◌, ◌%◌, Bool, true, false, not, List, [], ◌∷◌, ◌++◌, map, drop, length, Option, Some, None, Result, Ok, Err, if◌then◌else◌, refl, sym, ap, subst, ◌∙◌, arith, append_assoc, append-nil}
 use Rattle.std.specs.Prelude.{OnOk, ◌==◌, bytes_eq, codes, decimal, flat_map, nat_lt, slice_index, take}
 use Rattle.std.specs.declared.io.Error.{Error}
 use Rattle.std.specs.Char.{digit_char}
@@ -11,7 +11,7 @@ use Rattle.std.specs.Net.Text.{groups_text, hex, hex_groups_text, ipv4_text, ipv
 use Rattle.std.proofs.KnownBytes.{Appends-nil, Appends-trans}
 use Rattle.std.proofs.lemmas.Bool.{and_parts, and_from, false≢true}
 use Rattle.std.proofs.lemmas.Bool.Decides.{nat_tests}
-use Rattle.std.proofs.lemmas.Grind.{common_steps, flat_map-append}
+use Rattle.std.proofs.lemmas.Grind.{flat_map-append}
 use Rattle.std.proofs.lemmas.List.Folds.{list_all-append}
 use Rattle.uriparse.specs.Class.{Class}
 use Rattle.uriparse.specs.Class.TheVariants as class
@@ -313,7 +313,8 @@ writing_next a b c d separator whole segment text now left first same w p q =
       written = Appends-trans a b d w.done step w.written (Appends-trans b c d separator (escaped segment) p written);
       rest =
           append_assoc w.done step more ∙ ap (λ l. w.done ++ l) (append_assoc separator (escaped segment) more)
-          ∙ ap (λ l. w.done ++ left_to_write separator l) (sym first) ∙ w.rest }
+          ∙ ap (λ l. w.done ++ left_to_write separator l) (sym first) ∙ w.rest;
+    }
 
 pub writing_end : (r : Result (Unit {0}) Error) (a b c : Option (List ℕ)) (separator : List ℕ) (segments left : List (List ℕ)) → left ≡ []
     → Writing a b separator left (followers (segment_members segments)) → OnOk r (Appends b c (codes "\"]"))

@@ -5,7 +5,8 @@
 //! The port is a number and the segments are a list; all else is a string, or `null` if it is
 //! absent.
 
-ghost use Rattle.std.specs.Prelude.{◌≡◌, ◌<◌, ◌∷◌, ◌++◌, ℕ, List, [], IfSome, OnOk, codes, length, true};
+ghost use Rattle.std.specs.Prelude.{◌≡◌, ◌<◌, ◌∷◌, ◌++◌, ℕ, List, [], IfErr, IfSome, OnOk, codes, length, true};
+ghost use Rattle.std.specs.declared.io.Error.{Error};
 ghost use Rattle.std.specs.Io.KnownBytes.{Appends};
 ghost use Rattle.std.specs.List.{list_all};
 ghost use Rattle.std.specs.Option.{option_copied, option_map};
@@ -280,6 +281,9 @@ fn write_object<O: Write>(reference: &ReferenceView<'_>, out: &mut O) -> io::Res
 pub fn parse_json<O: Write>(text: &[u8], out: &mut O) -> Result<(), Failure>
     // What is printed is the object of the text and of the components that it spells.
     ensures object { OnOk result ((p : Parts) × Spells text.now p × Appends (O.contents out.old) (O.contents out.new) (object text.now p ++ newline ∷ [])) }
+
+    // Such a text fails only if a write does.
+    ensures only { (p : Parts) → Spells text.now p → IfErr result (λ f. (e : Error) × (f ≡ failures.Io e)) }
 
     // Any other text is rejected with its fault, and nothing is printed.
     ensures fault { (e : URIReferenceError) → fault text.now ≡ Some e → (result ≡ Err (failures.Reference e)) × (out.new ≡ out.old) }

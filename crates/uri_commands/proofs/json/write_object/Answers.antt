@@ -17,6 +17,17 @@ returns g c =
     let text : c.as_bytes.result.now ≡ reference.text = search rules in
     let host : option_copied c.as_ref.result ≡ host_of reference.parts = search rules in
     let first = c.in_ok-write_text.ensures in
-    search
-    (object_written reference.text reference.parts, text, host, c.port.ensures, c.segments.ensures.value, first, c.in_ok-write_front.ensures,
-    c.in_ok-write_host.ensures, c.in_ok-write_port.ensures, c.in_ok-write_back.ensures, c.in_ok-write_segments.ensures, c.write_all.ensures.bytes)
+    search (
+      object_written reference.text reference.parts,
+      text,
+      host,
+      c.port.ensures,
+      c.segments.ensures.value,
+      first,
+      c.in_ok-write_front.ensures,
+      c.in_ok-write_host.ensures,
+      c.in_ok-write_port.ensures,
+      c.in_ok-write_back.ensures,
+      c.in_ok-write_segments.ensures,
+      c.write_all.ensures.bytes,
+    )

@@ -10,7 +10,7 @@ pub returns-clause-place : goal.returns-clause-place
 returns-clause-place c = λ n h.
     let front : length c.split_at_mark.result.0.now ≡ place_within n c.args.text.now =
     place_of_front n c.place_of_fault.result c.args.text.now c.split_at.result.0.now c.split_at_mark.result.0.now
-        c.split_at_mark.ensures.front c.split_at.ensures.front c.place_of_fault.ensures.place h in
+    c.split_at_mark.ensures.front c.split_at.ensures.front c.place_of_fault.ensures.place h in
     search rules
 
 pub returns-clause-within : goal.returns-clause-within
