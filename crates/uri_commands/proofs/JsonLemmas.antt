@@ -1,5 +1,5 @@
 -- The texts of a reference stand in JSON strings as they are, and what is written of its object is the object.
-use Rattle.std.proofs.Common.{◌≡◌, ℕ, zero, suc, ◌<◌, ◌+◌, ◌/◌, ◌%◌, Bool, true, false, not, List, [], ◌∷◌, ◌++◌, map, drop, length, Option, Some, None, Result, Ok, Err, if◌then◌else◌, refl, sym, ap, subst, ◌∙◌, arith, append_assoc, append-nil}
+use Rattle.std.proofs.Common.{◌≡◌, ℕ, zero, suc, ◌<◌, ◌+◌, ◌/◌, ◌%◌, Bool, true, false, not, ◌||◌, List, [], ◌∷◌, ◌++◌, map, drop, length, Option, Some, None, Result, Ok, Err, if◌then◌else◌, refl, sym, ap, subst, ◌∙◌, arith, append_assoc, append-nil}
 use Rattle.std.specs.Prelude.{OnOk, ◌==◌, bytes_eq, codes, decimal, flat_map, nat_lt, slice_index, take}
 use Rattle.std.specs.declared.io.Error.{Error}
 use Rattle.std.specs.Char.{digit_char}
@@ -27,23 +27,25 @@ use Rattle.uriparse.specs.SchemeGrammar.{is_scheme}
 use Rattle.uriparse.specs.Path.{IsPath}
 use Rattle.uriparse.specs.Reference.{Parts, Spells, host_of, port_of}
 use Rattle.uriparse.proofs.lemmas.CharacterLemmas.{AreUriBytes, is_uri_byte, uri_bytes-in_class, uri_bytes-path, uri_bytes-scheme, uri_bytes-spelled}
-use Rattle.uri_commands.specs.Json.{Member, back_members, comma, escaped, escaped_byte, followers, front_members, host_members, is_plain, is_special, kind_name, member, member_text, object, object_text, port_members, quote, segment_members, string, string_or_null}
+use Rattle.uri_commands.specs.Json.{Member, back_members, comma, escaped, escaped_byte, followers, front_members, host_members, is_control, is_plain, is_special, kind_name, member, member_text, object, object_text, port_members, quote, segment_members, string, string_or_null}
 use Rattle.uri_commands.specs.Json.{String}
 use Rattle.uri_commands.specs.Lines.{newline}
 
-plain_one : (b : ℕ) (special : Bool) → not special ≡ true → (if special then 92 ∷ b ∷ [] else b ∷ []) ≡ b ∷ []
-plain_one b true h = absurd (false≢true h)
-plain_one b false h = refl
+plain_one : (b : ℕ) (code : List ℕ) (control special : Bool) → not (control || special) ≡ true
+    → (if control then code else if special then 92 ∷ b ∷ [] else b ∷ []) ≡ b ∷ []
+plain_one b code true special h = absurd (false≢true h)
+plain_one b code false true h = absurd (false≢true h)
+plain_one b code false false h = refl
 
 pub escaped_plain : (text : List ℕ) → list_all is_plain text ≡ true → escaped text ≡ text
 escaped_plain [] h = refl
 escaped_plain (b ∷ text) h =
-    let both = and_parts _ _ h in
-    ap (λ l. l ++ escaped text) (plain_one b (is_special b) both.0) ∙ ap (λ l. b ∷ l) (escaped_plain text both.1)
+    let each = and_parts _ _ h in
+    ap (λ l. l ++ escaped text) (plain_one b _ (is_control b) (is_special b) each.0) ∙ ap (λ l. b ∷ l) (escaped_plain text each.1)
 
 -- ---- the texts of a reference
 
--- a quote and a backslash are neither unreserved nor reserved
+-- a quote, a backslash and a control character are neither unreserved nor reserved
 plain_byte : (b : ℕ) → is_uri_byte b ≡ true → is_plain b ≡ true
 unfolding is_unreserved is_sub_delim
 plain_byte b h = grind (arith, nat_tests)
@@ -73,6 +75,9 @@ plain_spelled text p h = uri_bytes text (uri_bytes-spelled text p h)
 record Plain (text : List ℕ) : Type 0 where
   each : list_all is_plain text ≡ true
 
+none : Plain []
+none = record { each = refl }
+
 both : {t u : List ℕ} → Plain t → Plain u → Plain (t ++ u)
 both {t = t} {u = u} h k = record { each = list_all-append is_plain t u ∙ and_from _ _ h.each k.each }
 
@@ -94,7 +99,7 @@ plain_digits (suc k) n t h =
 
 plain_decimal : (n : ℕ) → Plain (decimal n)
 unfolding digits
-plain_decimal n = plain_digits 64 n [] (record { each = refl })
+plain_decimal n = plain_digits 64 n [] none
 
 plain_dotted : (o : List ℕ) → Plain (ipv4_text o)
 plain_dotted o =
@@ -110,15 +115,15 @@ plain_drop (suc k) (b ∷ t) h = plain_drop k t (record { each = (and_parts _ _ 
 plain_hex : (n : ℕ) → Plain (hex n)
 unfolding hex
 plain_hex n =
-    let last = one _ (glyph (n / 0x10 % 16)) (one _ (glyph (n % 16)) (record { each = refl })) in
+    let last = one _ (glyph (n / 0x10 % 16)) (one _ (glyph (n % 16)) none) in
     plain_drop (leading_zero_digits n) _ (one _ (glyph (n / 0x1000)) (one _ (glyph (n / 0x100 % 16)) last))
 
 plain_more : (groups : List ℕ) → Plain (flat_map (λ t. codes ":" ++ hex t) groups)
-plain_more [] = record { each = refl }
+plain_more [] = none
 plain_more (n ∷ groups) = both (one 58 refl (plain_hex n)) (plain_more groups)
 
 plain_groups : (groups : List ℕ) → Plain (groups_text groups)
-plain_groups [] = record { each = refl }
+plain_groups [] = none
 plain_groups (n ∷ groups) = both (plain_hex n) (plain_more groups)
 
 plain_colons : (groups : List ℕ) → Plain (ipv6_text groups)
@@ -152,7 +157,7 @@ plain_future text f =
     subst Plain (sym f.whole) (both version (one dot refl address))
 
 plain_brackets : {text : List ℕ} → Plain text → Plain (bracketed text)
-plain_brackets h = one left_bracket refl (both h (one right_bracket refl (record { each = refl })))
+plain_brackets h = one left_bracket refl (both h (one right_bracket refl none))
 
 pub plain_in_future : (text : List ℕ) → IsFuture text → list_all is_plain text ≡ true
 plain_in_future text f = (plain_future text f).each
@@ -320,6 +325,6 @@ pub writing_end : (r : Result (Unit {0}) Error) (a b c : Option (List ℕ)) (sep
     → Writing a b separator left (followers (segment_members segments)) → OnOk r (Appends b c (codes "\"]"))
     → OnOk r (Appends a c (followers (segment_members segments)))
 unfolding left_to_write
-writing_end (Err e) a b c separator segments left none w p = tt
-writing_end (Ok v) a b c separator segments left none w p =
-    subst (Appends a c) (ap (λ l. w.done ++ left_to_write separator l) (sym none) ∙ w.rest) (Appends-trans a b c w.done (codes "\"]") w.written p)
+writing_end (Err e) a b c separator segments left ended w p = tt
+writing_end (Ok v) a b c separator segments left ended w p =
+    subst (Appends a c) (ap (λ l. w.done ++ left_to_write separator l) (sym ended) ∙ w.rest) (Appends-trans a b c w.done (codes "\"]") w.written p)

@@ -1,7 +1,9 @@
 -- JSON texts (RFC 8259), and a reference as a JSON object.
-use Rattle.std.specs.Prelude.{ℕ, Bool, List, [], ◌∷◌, ◌++◌, map, ◌||◌, ◌==◌, not, if◌then◌else◌, Option, Some, None, Result, Ok, codes, decimal}
+use Rattle.std.specs.Prelude.{ℕ, ◌/◌, ◌%◌, Bool, ◌||◌, ◌==◌, nat_lt, not, if◌then◌else◌, List, [], ◌∷◌, ◌++◌, map, Option, Some, None, Result, Ok, codes, decimal}
+use Rattle.std.specs.Char.{digit_char}
 use Rattle.std.specs.List.{flat_map, join_with_byte}
 use Rattle.std.specs.Option.{option_map}
+use Rattle.uriparse.specs.Bytes.{colon}
 use Rattle.uriparse.specs.HostValue.{Host}
 use Rattle.uriparse.specs.Host as host
 use Rattle.uriparse.specs.Host.{Kind}
@@ -23,22 +25,26 @@ backslash = 92
 abbrev pub comma : ℕ
 comma = 44
 
-abbrev pub colon : ℕ
-colon = 58
-
 -- ---- strings: section 7
 
--- a quote or a backslash, before which a string has a backslash
+-- a quote or a backslash
 abbrev pub is_special : ℕ → Bool
 is_special b = b == quote || b == backslash
 
--- any other byte
-abbrev pub is_plain : ℕ → Bool
-is_plain b = not (is_special b)
+-- a control character
+abbrev pub is_control : ℕ → Bool
+is_control b = nat_lt b 32
 
--- what a byte of a text is written as, if it is no control character
+-- a byte that a string has as it is
+abbrev pub is_plain : ℕ → Bool
+is_plain b = not (is_control b || is_special b)
+
+-- what a byte of a text is written as: after a backslash a quote or a backslash, or `u` and the four digits of a control character
 abbrev pub escaped_byte : ℕ → List ℕ
-escaped_byte b = if is_special b then backslash ∷ b ∷ [] else b ∷ []
+escaped_byte b =
+    if is_control b then backslash ∷ (codes "u00" ++ digit_char (b / 16) ∷ digit_char (b % 16) ∷ [])
+    else if is_special b then backslash ∷ b ∷ []
+    else b ∷ []
 
 -- what a text is written as
 abbrev pub escaped : List ℕ → List ℕ

@@ -63,9 +63,8 @@ prints
 ",
 };
 
-/// Writes a text that a JSON string holds unchanged, as each text of a reference and each address: a
-/// `\` stands before a quote and a `\` only, and none of these bytes is one (RFC 3986, section 2). So
-/// no byte is tested.
+/// Writes a text that a JSON string holds unchanged, as each text of a reference and each address:
+/// none has a quote, a `\` or a control character (RFC 3986, section 2). So no byte is tested.
 #[tactic(auto, using(crate::proofs::JsonLemmas::escaped_plain))]
 fn write_plain<O: Write>(text: &[u8], out: &mut O) -> io::Result<()>
     requires { list_all is_plain text.now ≡ true }

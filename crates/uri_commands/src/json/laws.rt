@@ -10,7 +10,7 @@ ghost use Rattle.uriparse.specs.SchemeGrammar.{is_scheme};
 ghost use Rattle.uriparse.specs.TextFaults.{IsIn};
 ghost use Rattle.uri_commands.specs.Json.{escaped, object_of};
 
-/// No byte of a reference's text, or of one of its components, needs a `\` in a JSON string.
+/// A JSON string has each byte of a reference, and of its components and printed host, as it is.
 #[tactic(auto, using(crate::proofs::JsonLemmas::escaped_plain, crate::proofs::JsonLemmas::escaped_host, crate::proofs::JsonLemmas::plain_spelled, crate::proofs::JsonLemmas::plain_scheme, crate::proofs::JsonLemmas::plain_in_class, crate::proofs::JsonLemmas::plain_path))]
 pub fn one_string()
     ensures reference { (t : List ℕ) (p : Parts) → Spells t p → escaped t ≡ t }
