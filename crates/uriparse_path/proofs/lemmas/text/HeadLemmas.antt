@@ -1,8 +1,9 @@
 -- Segments that begin neither with a dot nor with a percent sign are no dot segments.
-use Rattle.std.proofs.Common.{◌≡◌, ℕ, zero, suc, ◌+◌, ◌-◌, ◌<◌, ◌≤◌, Bool, true, false, ◌&&◌, ◌||◌, List, [], ◌∷◌, length, get_or, drop, refl, sym, ap, subst, ◌∙◌, arith, inl, inr}
+use Rattle.std.proofs.Common.{◌≡◌, ℕ, zero, suc, ◌+◌, ◌-◌, ◌<◌, ◌≤◌, Bool, true, false, ◌&&◌, ◌||◌, List, [], ◌∷◌, length, get_or, get_or-take, length-take-le, take, drop, refl, sym, ap, subst, ◌∙◌, arith, inl, inr}
 use Rattle.std.specs.Prelude.{◌==◌}
 use Rattle.std.specs.List.{slice_split}
 use Rattle.std.specs.Int.{bit_at}
+use Rattle.std.proofs.Math.Seq.{take-length}
 use Rattle.std.proofs.lemmas.Bool.{false≢true, cases_lt}
 use Rattle.std.proofs.lemmas.Nat.Bits.{bit_at-lt}
 use Rattle.uriparse_text.specs.Bytes.{dot, percent}
@@ -110,3 +111,23 @@ module _ (t : List ℕ) (at n slashes heads : ℕ) (are : AreMarks is_slash t at
 -- a walk to the end
 pub no_heads_left : (t : List ℕ) (at : ℕ) → length t ≤ at → NoHeads true t at → has_dot_segment (slice_split is_slash t) ≡ false
 no_heads_left t at h none = (no_heads true t (λ j k. none j (omega arith))).all refl
+
+-- a front of the text, as far as a walk has come or less
+pub no_heads_front : (t : List ℕ) (at : ℕ) → at ≤ length t → NoHeads true t at → (k : ℕ) → k ≤ at → has_dot_segment (slice_split is_slash (take k t)) ≡ false
+no_heads_front t at within none k h = (no_heads true (take k t) front).all refl
+  where
+    same : (j : ℕ) → j < k → (begins true (take k t) j && is_head (get_or (take k t) j 0)) ≡ (begins true t j && is_head (get_or t j 0))
+    same zero i = ap is_head (get_or-take k t 0 0 i)
+    same (suc j) i =
+        ap (λ b. is_slash b && is_head (get_or (take k t) (suc j) 0)) (get_or-take k t j 0 (omega arith))
+        ∙ ap (λ b. is_slash (get_or t j 0) && is_head b) (get_or-take k t (suc j) 0 i)
+
+    front : NoHeads true (take k t) (length (take k t))
+    front j i =
+        let inside : j < k = omega (arith, length-take-le k t (omega arith)) in
+        same j inside ∙ none j (omega arith)
+
+-- the whole text, if a walk has come to its end
+pub no_heads_in_all : (t : List ℕ) (n : ℕ) → n ≡ length t → ((k : ℕ) → k ≤ n → has_dot_segment (slice_split is_slash (take k t)) ≡ false)
+    → has_dot_segment (slice_split is_slash t) ≡ false
+no_heads_in_all t n e none = subst (λ u. has_dot_segment (slice_split is_slash u) ≡ false) (take-length t) (none (length t) (omega arith))
