@@ -4,12 +4,13 @@ ghost use Rattle.std.specs.Prelude.{◌≡◌, ◌≤◌, ◌==◌, ◌&&◌, �
 ghost use Rattle.std.specs.List.{list_all, slice_split};
 ghost use Rattle.uriparse_text.specs.Bytes.{dot, percent};
 ghost use Rattle.uriparse_text.specs.Cuts.{lacks};
+ghost use Rattle.uriparse_text.specs.Segment.{is_segment};
 ghost use Rattle.uriparse_path.specs.Path.{IsPath, is_slash, pieces};
 ghost use Rattle.uriparse_path.specs.Dots.{has_dot_segment};
 ghost use Rattle.uriparse_path.specs.Normal.{is_canonical};
 
 use super::normal::lack_dots;
-use super::segments_of;
+use super::Segments;
 use crate::path::read::split_root;
 use uriparse_text::internal::{Is, IsAny, first, has_adjacent, next_marks_by_two};
 
@@ -82,21 +83,28 @@ fn lacks_heads_in(plain: bool, text: &[u8]) -> bool
     len_without_heads(plain, text) == text.len()
 }
 
-/// Whether no segment of the text begins with a dot or a percent sign. Then none is a dot segment.
-pub(super) fn lacks_heads(text: &[u8]) -> bool
-    ensures { result ≡ true → has_dot_segment (slice_split is_slash text.now) ≡ false }
+/// The segments of a text from one on before which none is a dot segment. Most segments precede the
+/// first run of sixteen bytes with one that begins like a dot segment, and are not looked at.
+fn segments_in_doubt(text: &[u8]) -> Segments<'_>
+    requires { list_all is_segment (slice_split is_slash text.now) ≡ true }
+    ensures { has_dot_segment result ≡ has_dot_segment (slice_split is_slash text.now) }
 {
-    lacks_heads_in(false, text)
+    let undotted = &text[..len_without_dots(text)];
+    match undotted.iter().rposition(|&b| b == b'/') {
+        Some(at) => Segments {
+            rest: Some(&text[at + 1..]),
+        },
+        None => Segments { rest: Some(text) },
+    }
 }
 
-/// Whether no segment of the text is a dot segment. Most texts have none that begins like one; each
-/// segment of the others is looked at.
+/// Whether no segment of the text is a dot segment.
 pub(super) fn lacks_dots(text: &[u8]) -> bool
     requires { IsPath text.now }
     ensures { result ≡ not (has_dot_segment (pieces text.now)) }
 {
     let (_, rest) = split_root(text);
-    lacks_heads(rest) || lack_dots(segments_of(text))
+    lack_dots(segments_in_doubt(rest))
 }
 
 /// Whether the text is known to have neither an escape nor a segment that begins with a dot. Then
