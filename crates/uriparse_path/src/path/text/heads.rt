@@ -9,8 +9,8 @@ ghost use Rattle.uriparse_path.specs.Path.{IsPath, is_slash, pieces};
 ghost use Rattle.uriparse_path.specs.Dots.{has_dot_segment};
 ghost use Rattle.uriparse_path.specs.Normal.{is_canonical};
 
-use super::normal::lack_dots;
 use super::Segments;
+use super::normal::lack_dots;
 use crate::path::read::split_root;
 use uriparse_text::internal::{Is, IsAny, first, has_adjacent, next_marks_by_two};
 
