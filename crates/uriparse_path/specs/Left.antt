@@ -8,7 +8,7 @@ use Rattle.uriparse_text.specs.Bytes.{dot, slash}
 use Rattle.uriparse_text.specs.Ends.{EndsWith, formed}
 use Rattle.uriparse_path.specs.declared.path.text.ending.Placed.{Placed}
 use Rattle.uriparse_path.specs.declared.path.text.ending.Ending.{Ending}
-use Rattle.uriparse_path.specs.Path.{is_rooted, has_two_slashes}
+use Rattle.uriparse_path.specs.Path.{is_rooted, is_slash, has_two_slashes, root}
 use Rattle.uriparse_path.specs.Dots.{is_single_dot, is_double_dot}
 use Rattle.uriparse_path.specs.Relative.{is_first, has_colon}
 
@@ -80,6 +80,11 @@ relative_text had_colon ended l =
     led l.climbs (is_more l.kept) (is_rooted t || (is_first has_colon l.kept && not had_colon)) t
 
 -- ---- buffers
+
+-- the text begins with two slashes before one that begins with a slash, or with two, if the flags say so
+abbrev pub is_twice : List ℕ → Bool → Bool → Bool
+is_twice [] rooted twice = twice
+is_twice (b ∷ s) rooted twice = is_slash b && is_rooted (s ++ root rooted)
 
 -- the text u is at the end of the buffer, before the text t
 pub record IsPlaced (p : Placed) (buffer u t : List ℕ) : Type 0 where

@@ -1,5 +1,6 @@
 pub mod EndingLemmas
 pub mod LeftLemmas
 pub mod UndottedLemmas
+pub mod KeptLemmas
 pub mod RelativeLeftLemmas
 pub mod NormalTextLemmas

@@ -2,6 +2,7 @@ pub mod SplitLemmas
 pub mod PathTextLemmas
 pub mod BeginningLemmas
 pub mod CanonicalTextLemmas
+pub mod CanonicalPiecesLemmas
 pub mod SpelledAlikeLemmas
 pub mod HashLemmas
 pub mod TextWalkLemmas

@@ -11,7 +11,7 @@ use super::bits::lowest;
 use super::canonical::Case;
 use super::class::is_unreserved;
 use super::digit::hex_value;
-use super::token::is_escape;
+use super::token::begins_escape;
 use std::simd::prelude::*;
 
 /// Whether the bytes are tokens whose canonical spelling is that of the text.
@@ -138,7 +138,7 @@ fn split_code(case: Case, text: &[u8]) -> Option<(u16, &[u8])>
 fn escaped_byte(b: u8, after: &[u8]) -> Option<u8>
     ensures { result ≡ (if tokens.is_escape b after.now then Some (spec.escaped_byte (slice_index after.now 0) (slice_index after.now 1)) else None) }
 {
-    if is_escape(b, after) {
+    if begins_escape(b, after) {
         Some(16 * hex_value(after[0]) + hex_value(after[1]))
     } else {
         None

@@ -1,12 +1,13 @@
 //! Canonical spelling: RFC 3986, sections 6.2.2.1 and 6.2.2.2.
-ghost use Rattle.std.specs.Prelude.{◌≡◌, ◌++◌, ◌∷◌, ◌↔◌, ◌<◌, ℕ, List, IsTrue, IfOk, OnOk, true, fold, take};
+ghost use Rattle.std.specs.Prelude.{◌≡◌, ◌++◌, ◌∷◌, ◌↔◌, ◌<◌, ℕ, List, IsTrue, IfOk, true, fold, take};
 ghost use Rattle.uriparse_text.specs.Tokens.{has_digits, spell};
 ghost use Rattle.uriparse_text.specs.Canonical as spec;
 
 use super::class::is_unreserved;
 use super::digit::hex_value;
 use super::pairs::is_canonical_escape;
-use super::run::split_run;
+use super::rewrite::push_rewritten;
+use super::run::{MayChange, split_run};
 use super::token::{Token, split_token};
 use std::alloc::{AllocError, Global};
 use std::hash::Hasher;
@@ -190,28 +191,12 @@ fn begins_canonical(case: Case, text: &[u8]) -> bool
     true
 }
 
-/// Appends the bytes of a token.
-pub(super) fn push_token(bytes: &mut Vec<u8>, token: Token) -> Result<(), AllocError>
-    ensures { OnOk result (bytes.new.items ≡ bytes.old.items ++ spell token) }
-{
-    match token {
-        Token::Byte(b) => Ok(bytes.push(b)?),
-        Token::Escape(high, low) => bytes.extend_from_slice(&[b'%', high, low]),
-    }
-}
-
 /// The canonical spelling of a text. Reserves capacity once. Runs that do not change are copied
 /// whole.
 pub fn canonical_bytes(alloc: Global, case: Case, text: &[u8]) -> Result<Vec<u8>, AllocError>
     ensures { IfOk result (λ v. v.items ≡ spec.canonical_in case text.now) }
 {
     let mut bytes = Vec::with_capacity(alloc, text.len())?;
-    let mut rest = text;
-    'tokens: while let Some((token, after)) = split_token(rest) {
-        push_token(&mut bytes, token.canonical(case))?;
-        let (run, later) = split_run(case, after);
-        bytes.extend_from_slice(run)?;
-        rest = later;
-    }
+    push_rewritten(&mut bytes, &MayChange(case), text)?;
     Ok(bytes)
 }

@@ -12,7 +12,7 @@ use super::class::Class;
 use super::digit::{hex_value, upper_digit};
 use super::rewrite::{Rewriting, push_rewritten};
 use super::scan::{ByteTest, Is, Outside, next_marks};
-use super::token::{Token, first_token, is_escape, split_token};
+use super::token::{Token, begins_escape, first_token, split_token};
 use std::alloc::{AllocError, Global};
 use std::cmp::Ordering;
 use std::simd::prelude::*;
@@ -281,7 +281,7 @@ impl<'m> Rewriting for Escaping<'m> {
     fn token(&self, b: u8, after: &[u8]) -> (Token, usize) {
         if self.1.contains(&b) {
             (Token::Byte(b), 0)
-        } else if is_escape(b, after) {
+        } else if begins_escape(b, after) {
             (Token::Escape(after[0], after[1]), 2)
         } else {
             (Token::escaping(b), 0)

@@ -1,15 +1,15 @@
 //! A text that is put together from its end, in the last bytes of a buffer. If it is longer than
 //! the buffer, only its length is counted.
-ghost use Rattle.std.specs.Prelude.{◌≡◌, ◌++◌, ◌+◌, ◌≤◌, length, take, drop};
+ghost use Rattle.std.specs.Prelude.{◌≡◌, length};
 ghost use Rattle.std.specs.Option.{option_map};
-ghost use Rattle.uriparse_text.specs.Tokens as tokens;
 ghost use Rattle.uriparse_text.specs.Canonical.{canonical_in};
 ghost use Rattle.uriparse_text.specs.Cuts.{behind};
 ghost use Rattle.uriparse_text.specs.Ends.{Puts, formed};
 
 use super::canonical::{Case, is_canonical};
+use super::run::MayChange;
+use super::starts::append_rewritten;
 use super::text::{Text, TextKind};
-use super::token::{Token, split_token};
 
 /// Whether texts are put as they are or in canonical spelling.
 #[derive(Clone, Copy, Debug, PartialEq, Eq)]
@@ -31,61 +31,20 @@ pub fn put(bytes: &[u8], out: &mut [u8], len: usize) -> usize
     total
 }
 
-/// The number of bytes of a token.
-fn token_len(token: Token) -> usize
-    ensures { result ≡ length (tokens.spell token) }
-{
-    match token {
-        Token::Byte(_) => 1,
-        Token::Escape(_, _) => 3,
-    }
-}
-
-/// The length of the text's canonical spelling.
+/// The length of the text's canonical spelling. The case of letters does not change it.
 fn spelling_len(case: Case, text: &[u8]) -> usize
     ensures { result ≡ length (canonical_in case text.now) }
 {
-    let mut len: usize = 0;
-    let mut rest = text;
-    'tokens: while let Some((token, after)) = split_token(rest) {
-        len += token_len(token.canonical(case));
-        rest = after;
-    }
-    len
+    append_rewritten(&MayChange(case), text, &mut [], 0)
 }
 
-/// Writes a token to the buffer's bytes from `at` on. Returns where it ends.
-fn write_token(token: Token, out: &mut [u8], at: usize) -> usize
-    requires { at + length (tokens.spell token) ≤ length out.old }
-    ensures end { result ≡ at + length (tokens.spell token) }
-    ensures room { length out.new ≡ length out.old }
-    ensures written { take result out.new ≡ take at out.old ++ tokens.spell token }
-{
-    match token {
-        Token::Byte(b) => {
-            out[at] = b;
-            at + 1
-        }
-        Token::Escape(high, low) => {
-            out[at] = b'%';
-            out[at + 1] = high;
-            out[at + 2] = low;
-            at + 3
-        }
-    }
-}
-
-/// Writes the text's canonical spelling to a buffer of its length.
+/// Writes the text's canonical spelling to a buffer of its length. Runs that do not change are
+/// copied whole.
 fn write_spelling(case: Case, text: &[u8], out: &mut [u8])
     requires { length out.old ≡ length (canonical_in case text.now) }
     ensures { out.new ≡ canonical_in case text.now }
 {
-    let mut at: usize = 0;
-    let mut rest = text;
-    'tokens: while let Some((token, after)) = split_token(rest) {
-        at = write_token(token.canonical(case), out, at);
-        rest = after;
-    }
+    let _ = append_rewritten(&MayChange(case), text, out, 0);
 }
 
 /// Puts the text's canonical spelling. Most texts are their own, and are copied whole.
@@ -99,7 +58,7 @@ pub fn put_spelling(case: Case, text: &[u8], out: &mut [u8], len: usize) -> usiz
     put_respelled(case, text, out, len)
 }
 
-/// Puts the canonical spelling of any text, token by token.
+/// Puts the canonical spelling of any text.
 fn put_respelled(case: Case, text: &[u8], out: &mut [u8], len: usize) -> usize
     ensures room { length out.new ≡ length out.old }
     ensures puts { Puts (canonical_in case text.now) out.old len out.new result }

@@ -4,7 +4,9 @@ ghost use Rattle.std.specs.List.{position_or_len};
 ghost use Rattle.uriparse_text.specs.Canonical as spec;
 
 use super::canonical::Case;
+use super::rewrite::Rewriting;
 use super::scan::{ByteTest, Is, by_high, by_low, first};
+use super::token::{Token, first_token};
 use std::simd::prelude::*;
 
 /// The byte may change in a canonical spelling.
@@ -34,6 +36,16 @@ impl ByteTest for MayChange {
                 found.simd_ne(u8x16::splat(0)).to_bitmask()
             }
         }
+    }
+}
+
+impl Rewriting for MayChange {
+    ghost rewritten = { λ s text. spec.canonical_in s.0 text };
+
+    #[inline(always)]
+    fn token(&self, b: u8, after: &[u8]) -> (Token, usize) {
+        let (token, more) = first_token(b, after);
+        (token.canonical(self.0), more)
     }
 }
 

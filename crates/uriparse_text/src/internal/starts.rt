@@ -86,7 +86,12 @@ fn append_token(token: Token, out: &mut [u8], len: usize) -> usize
 
 /// Appends the rewritten text. Walks the text once.
 #[inline(always)]
-fn append_rewritten<R: Rewriting>(way: &R, text: &[u8], out: &mut [u8], len: usize) -> usize
+pub(super) fn append_rewritten<R: Rewriting>(
+    way: &R,
+    text: &[u8],
+    out: &mut [u8],
+    len: usize,
+) -> usize
     requires { Keeps (R.passes way.now) (R.rewritten way.now) }
     ensures room { length out.new ≡ length out.old }
     ensures appends { Appends (R.rewritten way.now text.now) out.old len out.new result }

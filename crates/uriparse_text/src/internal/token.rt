@@ -11,9 +11,24 @@ pub enum Token {
     Escape(u8, u8),
 }
 
-/// Whether `b` and the bytes `after` it begin with an escape.
+/// Whether `b` and the bytes `after` it begin with an escape. For readers, which ask it seldom, and
+/// whose loops stay small without a table.
 #[inline]
 pub fn is_escape(b: u8, after: &[u8]) -> bool
+    ensures { result ≡ spec.is_escape b after.now }
+{
+    if b != b'%' {
+        return false;
+    }
+    match after {
+        [high, low, ..] => high.is_ascii_hexdigit() && low.is_ascii_hexdigit(),
+        _ => false,
+    }
+}
+
+/// Like [`is_escape`], by a table. For walks from token to token, which ask it of each escape.
+#[inline(always)]
+pub(super) fn begins_escape(b: u8, after: &[u8]) -> bool
     ensures { result ≡ spec.is_escape b after.now }
 {
     if b != b'%' {
@@ -32,7 +47,7 @@ pub(super) fn first_token(b: u8, after: &[u8]) -> (Token, usize)
     ensures digits { spec.has_digits result.0 ≡ true }
     ensures within { result.1 ≤ length after.now }
 {
-    if is_escape(b, after) {
+    if begins_escape(b, after) {
         (Token::Escape(after[0], after[1]), 2)
     } else {
         (Token::Byte(b), 0)
@@ -48,7 +63,7 @@ pub fn split_token(text: &[u8]) -> Option<(Token, &[u8])>
     ensures digits { IfSome result (λ x. spec.has_digits x.0 ≡ true) }
 {
     let (&b, after) = text.split_first()?;
-    if is_escape(b, after) {
+    if begins_escape(b, after) {
         Some((Token::Escape(after[0], after[1]), &after[2..]))
     } else {
         Some((Token::Byte(b), after))

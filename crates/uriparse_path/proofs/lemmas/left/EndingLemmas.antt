@@ -1,10 +1,9 @@
 -- The text of what dot segments leave, put together from its end in a buffer.
-use Rattle.std.proofs.Common.{◌≡◌, ◌≢◌, ℕ, ◌+◌, ◌<◌, ◌≤◌, Bool, true, false, not, List, [], ◌∷◌, ◌++◌, length, get_or, take, drop, All, refl, sym, ap, ◌∙◌, subst, arith, append-nil, append_assoc, length-drop, ◌&&◌, ◌||◌}
+use Rattle.std.proofs.Common.{◌≡◌, ◌≢◌, ℕ, ◌+◌, ◌<◌, ◌≤◌, Bool, true, false, not, List, [], ◌∷◌, ◌++◌, length, get_or, take, take-take, drop, All, IfSome, Option, Some, None, inl, inr, refl, sym, ap, ◌∙◌, subst, arith, append-nil, append_assoc, length-drop, ◌&&◌, ◌||◌}
 use Rattle.std.specs.Prelude.{◌==◌}
 use Rattle.std.specs.List.{list_all, slice_split}
-use Rattle.std.proofs.lemmas.Bool.{and_parts, and_from, not-true, ne_eqb}
-use Rattle.std.proofs.lemmas.Bool.Decides.{nat_tests}
-use Rattle.std.proofs.lemmas.List.{take-append-drop, drop_more, get_or-drop}
+use Rattle.std.proofs.lemmas.Bool.{and_parts, and_from, cases_lt, ne_eqb, eqb-true}
+use Rattle.std.proofs.lemmas.List.{take_all, take-append-drop, drop_more, get_or-drop}
 use Rattle.std.proofs.lemmas.List.Folds.{list_all-append}
 use Rattle.std.proofs.lemmas.List.Elements.{All-head, All-tail, All-from_get_or}
 use Rattle.uriparse_text.specs.declared.internal.canonical.Case.TheVariants.{Kept}
@@ -17,41 +16,50 @@ use Rattle.uriparse_path.specs.declared.path.text.ending.Ending.{Ending}
 use Rattle.uriparse_text.specs.Segment.{is_segment}
 use Rattle.uriparse_path.specs.Path.{is_rooted, unrooted, has_two_slashes, is_slash, root}
 use Rattle.uriparse_path.specs.Dots.{LacksSlash}
-use Rattle.uriparse_path.specs.Left.{Left, back, backs, kept_text, is_more, IsPlaced, IsEnding}
+use Rattle.uriparse_path.specs.Left.{Left, back, backs, kept_text, is_more, is_twice, IsPlaced, IsEnding}
 use Rattle.uriparse_path.proofs.lemmas.reading.LengthFaultLemmas.{split-append}
 use Rattle.uriparse_path.proofs.lemmas.text.SplitLemmas.{pieces-piece}
 use Rattle.uriparse_text.proofs.lemmas.canonical.DotLemmas.{canonical-nil}
-use Rattle.uriparse_path.proofs.lemmas.text.CanonicalTextLemmas.{rooted-front}
+use Rattle.uriparse_path.proofs.lemmas.text.CanonicalTextLemmas.{canonical-slash, rooted-front}
 
--- ---- a segment before a text
+-- ---- a text before a text
 
-some_bytes : (b : ℕ) (s : List ℕ) → (length (b ∷ s) == 0) ≡ false
-some_bytes b s = grind (arith, nat_tests)
+rooted_root : (v : Bool) → is_rooted (root v) ≡ v
+rooted_root true = refl
+rooted_root false = refl
 
--- an empty segment changes nothing, any other one hides what follows it
-rooted-formed : (form : Form) (s u : List ℕ) → LacksSlash s → is_rooted (formed form Kept s ++ u) ≡ ((length s == 0) && is_rooted u)
-rooted-formed AsIs [] u h = refl
-rooted-formed AsIs (b ∷ s) u h = not-true (is_slash b) (and_parts _ _ h).0 ∙ sym (ap (λ v. v && is_rooted u) (some_bytes b s))
-rooted-formed Canonical [] u h = ap (λ x. is_rooted (x ++ u)) canonical-nil
-rooted-formed Canonical (b ∷ s) u h =
-    rooted-front b s u ∙ not-true (is_slash b) (and_parts _ _ h).0 ∙ sym (ap (λ v. v && is_rooted u) (some_bytes b s))
+-- an empty text changes nothing, any other one hides what follows it
+pub rooted-formed : (form : Form) (s u : List ℕ) → is_rooted (formed form Kept s ++ u) ≡ is_rooted (s ++ root (is_rooted u))
+rooted-formed AsIs [] u = sym (rooted_root (is_rooted u))
+rooted-formed AsIs (b ∷ s) u = refl
+rooted-formed Canonical [] u = ap (λ x. is_rooted (x ++ u)) canonical-nil ∙ sym (rooted_root (is_rooted u))
+rooted-formed Canonical (b ∷ s) u = rooted-front b s u
 
 no_slash : (t : List ℕ) → is_rooted t ≡ false → has_two_slashes t ≡ false
 no_slash t e = ap (λ v. v && is_rooted (unrooted t)) e
 
-twice-formed : (form : Form) (s u : List ℕ) → LacksSlash s → has_two_slashes (formed form Kept s ++ u) ≡ ((length s == 0) && has_two_slashes u)
-twice-formed AsIs [] u h = refl
-twice-formed Canonical [] u h = ap (λ x. has_two_slashes (x ++ u)) canonical-nil
-twice-formed form (b ∷ s) u h =
-    no_slash (formed form Kept (b ∷ s) ++ u) (rooted-formed form (b ∷ s) u h ∙ ap (λ v. v && is_rooted u) (some_bytes b s))
-    ∙ sym (ap (λ v. v && has_two_slashes u) (some_bytes b s))
+formed-slash : (form : Form) (s : List ℕ) → formed form Kept (slash ∷ s) ≡ slash ∷ formed form Kept s
+formed-slash AsIs s = refl
+formed-slash Canonical s = canonical-slash s
 
-pub placed_segment : (form : Form) (s u t old new : List ℕ) (p q : Placed) (len : ℕ) → LacksSlash s → IsPlaced p old u t
-    → q.rooted ≡ ((length s == 0) && p.rooted) → q.twice ≡ ((length s == 0) && p.twice) → Puts (formed form Kept s) old p.len new q.len
+pub twice-formed : (form : Form) (s u : List ℕ) → has_two_slashes (formed form Kept s ++ u) ≡ is_twice s (is_rooted u) (has_two_slashes u)
+twice-formed AsIs [] u = refl
+twice-formed Canonical [] u = ap (λ x. has_two_slashes (x ++ u)) canonical-nil
+twice-formed form (b ∷ s) u = by_slash (is_slash b) refl
+  where
+    by_slash : (v : Bool) → is_slash b ≡ v → has_two_slashes (formed form Kept (b ∷ s) ++ u) ≡ (v && is_rooted (s ++ root (is_rooted u)))
+    by_slash false e = no_slash (formed form Kept (b ∷ s) ++ u) (rooted-formed form (b ∷ s) u ∙ e)
+    by_slash true e =
+        ap (λ x. has_two_slashes (formed form Kept (x ∷ s) ++ u)) (eqb-true b slash e)
+        ∙ ap (λ x. has_two_slashes (x ++ u)) (formed-slash form s)
+        ∙ rooted-formed form s u
+
+pub placed_text : (form : Form) (s u t old new : List ℕ) (p q : Placed) → IsPlaced p old u t
+    → q.rooted ≡ is_rooted (s ++ root p.rooted) → q.twice ≡ is_twice s p.rooted p.twice → Puts (formed form Kept s) old p.len new q.len
     → IsPlaced q new (formed form Kept s ++ u) t
-placed_segment form s u t old new p q len h is e f puts = record {
-  rooted = e ∙ ap (λ v. (length s == 0) && v) is.rooted ∙ sym (rooted-formed form s u h);
-  twice = f ∙ ap (λ v. (length s == 0) && v) is.twice ∙ sym (twice-formed form s u h);
+placed_text form s u t old new p q is e f puts = record {
+  rooted = e ∙ ap (λ v. is_rooted (s ++ root v)) is.rooted ∙ sym (rooted-formed form s u);
+  twice = f ∙ ap (λ v. is_twice s v p.twice) is.rooted ∙ ap (λ v. is_twice s (is_rooted u) v) is.twice ∙ sym (twice-formed form s u);
   ends = subst (EndsWith new q.len) (sym (append_assoc (formed form Kept s) u t)) (puts (u ++ t) is.ends);
 }
 
@@ -135,3 +143,14 @@ walked_more form ended all rest front s first now next old out new w e few room 
 pub backs-append : (a b : List (List ℕ)) (l : Left) → backs (a ++ b) l ≡ backs a (backs b l)
 backs-append [] b l = refl
 backs-append (s ∷ a) b l = ap (back s) (backs-append a b l)
+
+-- a front of a front is one
+pub front_more : (o : Option (List ℕ)) (t whole : List ℕ) → t ≡ take (length t) whole → IfSome o (λ f. f ≡ take (length f) t)
+    → IfSome o (λ f. f ≡ take (length f) whole)
+front_more None t whole e h = tt
+front_more (Some f) t whole e h = elim (cases_lt (length t) (length f)) [
+  | inl longer ↦
+      let same : length f ≡ length t = ap length (h ∙ take_all (length f) t (omega arith)) in
+      absurd (omega arith)
+  | inr not_longer ↦ h ∙ ap (take (length f)) e ∙ take-take (length f) (length t) whole (omega arith)
+]

@@ -30,7 +30,7 @@ pub map_canonical : (ss : List (List ℕ)) → map (formed Canonical Kept) ss �
 map_canonical [] = refl
 map_canonical (s ∷ ss) = ap (λ u. canonical s ∷ u) (map_canonical ss)
 
-map_as_is : (ss : List (List ℕ)) → map (formed AsIs Kept) ss ≡ ss
+pub map_as_is : (ss : List (List ℕ)) → map (formed AsIs Kept) ss ≡ ss
 map_as_is [] = refl
 map_as_is (s ∷ ss) = ap (λ u. s ∷ u) (map_as_is ss)
 

@@ -30,7 +30,7 @@ pub canonical-slash : (t : List ℕ) → canonical (slash ∷ t) ≡ slash ∷ c
 unfolding canonical_in tokens
 canonical-slash t = canonical_in-append Kept (slash ∷ []) t refl
 
-canonical-root : (a : Bool) (t : List ℕ) → canonical (root a ++ t) ≡ root a ++ canonical t
+pub canonical-root : (a : Bool) (t : List ℕ) → canonical (root a ++ t) ≡ root a ++ canonical t
 canonical-root true t = canonical-slash t
 canonical-root false t = refl
 

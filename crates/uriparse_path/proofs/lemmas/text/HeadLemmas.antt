@@ -1,16 +1,21 @@
 -- Segments that begin neither with a dot nor with a percent sign are no dot segments.
-use Rattle.std.proofs.Common.{◌≡◌, ℕ, zero, suc, ◌+◌, ◌-◌, ◌<◌, ◌≤◌, Bool, true, false, ◌&&◌, ◌||◌, List, [], ◌∷◌, length, get_or, drop, refl, sym, ap, subst, ◌∙◌, arith, inl, inr}
+use Rattle.std.proofs.Common.{◌≡◌, ℕ, zero, suc, ◌+◌, ◌-◌, ◌<◌, ◌≤◌, Bool, true, false, ◌&&◌, ◌||◌, List, [], ◌∷◌, ◌++◌, length, get_or, get_or-take, length-take-le, take, drop, refl, sym, ap, subst, ◌∙◌, arith, inl, inr}
 use Rattle.std.specs.Prelude.{◌==◌}
-use Rattle.std.specs.List.{slice_split}
+use Rattle.std.specs.List.{list_all, slice_split}
 use Rattle.std.specs.Int.{bit_at}
-use Rattle.std.proofs.lemmas.Bool.{false≢true, cases_lt}
+use Rattle.std.proofs.Math.Seq.{take-length}
+use Rattle.std.proofs.lemmas.Bool.{and_parts, false≢true, cases_lt}
+use Rattle.std.proofs.lemmas.List.{take-append-drop, drop_more}
+use Rattle.std.proofs.lemmas.List.Folds.{list_all-append, list_any-append}
 use Rattle.std.proofs.lemmas.Nat.Bits.{bit_at-lt}
-use Rattle.uriparse_text.specs.Bytes.{dot, percent}
+use Rattle.uriparse_text.specs.Bytes.{dot, percent, slash}
 use Rattle.uriparse_text.specs.Marks.{AreMarks}
+use Rattle.uriparse_text.specs.Segment.{is_segment}
 use Rattle.uriparse_text.proofs.lemmas.canonical.DotLemmas.{empty_no_dot, dots_begin}
 use Rattle.uriparse_text.proofs.lemmas.scans.MarkLemmas.{marked, unmarked}
 use Rattle.uriparse_path.specs.Path.{is_slash}
 use Rattle.uriparse_path.specs.Dots.{is_dot_segment, has_dot_segment}
+use Rattle.uriparse_path.proofs.lemmas.reading.LengthFaultLemmas.{split-append}
 use Rattle.uriparse_path.proofs.lemmas.text.SplitLemmas.{cut, pieces-slash, pieces-byte}
 
 -- a byte that a dot segment begins with
@@ -110,3 +115,49 @@ module _ (t : List ℕ) (at n slashes heads : ℕ) (are : AreMarks is_slash t at
 -- a walk to the end
 pub no_heads_left : (t : List ℕ) (at : ℕ) → length t ≤ at → NoHeads true t at → has_dot_segment (slice_split is_slash t) ≡ false
 no_heads_left t at h none = (no_heads true t (λ j k. none j (omega arith))).all refl
+
+-- a front of the text, as far as a walk has come or less
+pub no_heads_front : (t : List ℕ) (at : ℕ) → at ≤ length t → NoHeads true t at → (k : ℕ) → k ≤ at → has_dot_segment (slice_split is_slash (take k t)) ≡ false
+no_heads_front t at within none k h = (no_heads true (take k t) front).all refl
+  where
+    same : (j : ℕ) → j < k → (begins true (take k t) j && is_head (get_or (take k t) j 0)) ≡ (begins true t j && is_head (get_or t j 0))
+    same zero i = ap is_head (get_or-take k t 0 0 i)
+    same (suc j) i =
+        ap (λ b. is_slash b && is_head (get_or (take k t) (suc j) 0)) (get_or-take k t j 0 (omega arith))
+        ∙ ap (λ b. is_slash (get_or t j 0) && is_head b) (get_or-take k t (suc j) 0 i)
+
+    front : NoHeads true (take k t) (length (take k t))
+    front j i =
+        let inside : j < k = omega (arith, length-take-le k t (omega arith)) in
+        same j inside ∙ none j (omega arith)
+
+-- the whole text, if a walk has come to its end
+pub no_heads_in_all : (t : List ℕ) (n : ℕ) → n ≡ length t → ((k : ℕ) → k ≤ n → has_dot_segment (slice_split is_slash (take k t)) ≡ false)
+    → has_dot_segment (slice_split is_slash t) ≡ false
+no_heads_in_all t n e none = subst (λ u. has_dot_segment (slice_split is_slash u) ≡ false) (take-length t) (none (length t) (omega arith))
+
+-- the segments before a slash, and those after it
+pub cut_at : (t : List ℕ) (at : ℕ) → at < length t → get_or t at 0 ≡ slash
+    → slice_split is_slash t ≡ slice_split is_slash (take at t) ++ slice_split is_slash (drop (at + 1) t)
+cut_at t at inside here =
+    ap (slice_split is_slash) (sym (take-append-drop at t) ∙ ap (λ l. take at t ++ l) (drop_more t at 0 inside ∙ ap (λ b. b ∷ drop (at + 1) t) here))
+    ∙ split-append (take at t) (drop (at + 1) t)
+
+-- a dot segment follows a slash before which there is none
+pub dots_after : (t : List ℕ) (n at : ℕ) → n ≤ length t → ((k : ℕ) → k ≤ n → has_dot_segment (slice_split is_slash (take k t)) ≡ false)
+    → at < length (take n t) → get_or (take n t) at 0 ≡ slash → has_dot_segment (slice_split is_slash (drop (at + 1) t)) ≡ has_dot_segment (slice_split is_slash t)
+dots_after t n at within none inside here =
+    let below : at < n = omega (arith, length-take-le n t within) in
+    let there : get_or t at 0 ≡ slash = sym (get_or-take n t at 0 below) ∙ here in
+    sym (ap has_dot_segment (cut_at t at (omega arith) there)
+    ∙ list_any-append is_dot_segment (slice_split is_slash (take at t)) (slice_split is_slash (drop (at + 1) t))
+    ∙ ap (λ v. v || has_dot_segment (slice_split is_slash (drop (at + 1) t))) (none at (omega arith)))
+
+-- the segments after a slash are segments
+pub segments_after : (t : List ℕ) (n at : ℕ) → n ≤ length t → at < length (take n t) → get_or (take n t) at 0 ≡ slash
+    → list_all is_segment (slice_split is_slash t) ≡ true → list_all is_segment (slice_split is_slash (drop (at + 1) t)) ≡ true
+segments_after t n at within inside here each =
+    let below : at < n = omega (arith, length-take-le n t within) in
+    let there : get_or t at 0 ≡ slash = sym (get_or-take n t at 0 below) ∙ here in
+    (and_parts _ _ (sym (list_all-append is_segment (slice_split is_slash (take at t)) (slice_split is_slash (drop (at + 1) t)))
+    ∙ ap (list_all is_segment) (sym (cut_at t at (omega arith) there)) ∙ each)).1

@@ -1,22 +1,23 @@
 //! What dot segments leave of a path's text, put together from its end in the last bytes of a
 //! buffer: RFC 3986, section 5.2.4. Read from the last segment to the first, a segment is kept or
 //! removed for good: nothing that is written is ever taken back.
-ghost use Rattle.std.specs.Prelude.{◌≡◌, ℕ, Bool, ◌+◌, ◌<◌, ◌≤◌, ◌++◌, ◌∷◌, [], List, length, true, false};
+ghost use Rattle.std.specs.Prelude.{◌≡◌, ℕ, Bool, ◌+◌, ◌<◌, ◌≤◌, ◌++◌, ◌∷◌, [], IfSome, List, length, take, true, false};
 ghost use Rattle.std.specs.List.{list_all, slice_split};
 ghost use Rattle.std.specs.Option.{option_copied};
 ghost use Rattle.uriparse_text.specs.declared.internal.canonical.Case.TheVariants as case;
 ghost use Rattle.uriparse_text.specs.declared.internal.ends.Form.{Form};
 ghost use Rattle.uriparse_text.specs.Ends.{EndsWith, formed};
 ghost use Rattle.uriparse_text.specs.Segment.{is_segment};
-ghost use Rattle.uriparse_path.specs.Path.{is_slash, root};
+ghost use Rattle.uriparse_path.specs.Path.{is_rooted, is_slash, root};
 ghost use Rattle.uriparse_path.specs.Relative.{is_last};
-ghost use Rattle.uriparse_path.specs.Dots.{all_but_last, is_dot_segment};
+ghost use Rattle.uriparse_path.specs.Dots.{all_but_last, has_dot_segment, is_dot_segment};
 ghost use Rattle.uriparse_path.specs.Text.{pieces_left};
 ghost use Rattle.uriparse_path.specs.Left as spec;
 
+use super::heads::len_without_dots;
 use crate::path::Segment;
 use crate::path::segment::has_colon;
-use uriparse_text::internal::{Case, Form, kept_text, put, put_formed};
+use uriparse_text::internal::{Case, Form, kept_text, put, put_formed, split_at_mark};
 
 /// A text at the end of a buffer, before what follows it there.
 #[derive(Clone, Copy)]
@@ -56,18 +57,36 @@ impl Placed {
         }
     }
 
-    /// Puts a segment, without a slash.
-    fn put_segment(self, form: Form, segment: &Segment<'_>, out: &mut [u8]) -> Placed
+    /// Puts a text.
+    fn put_text(self, form: Form, text: &[u8], out: &mut [u8]) -> Placed
         ensures room { length out.new ≡ length out.old }
-        ensures placed { (u t : List ℕ) → spec.IsPlaced self out.old u t → spec.IsPlaced result out.new (formed form case.Kept segment.now ++ u) t }
+        ensures placed { (u t : List ℕ) → spec.IsPlaced self out.old u t → spec.IsPlaced result out.new (formed form case.Kept text.now ++ u) t }
     {
-        let piece = segment.as_bytes();
-        let empty = piece.is_empty();
         Placed {
-            rooted: empty && self.rooted,
-            twice: empty && self.twice,
-            len: put_formed(form, Case::Kept, piece, out, self.len),
+            rooted: begins_with_slash(text, self.rooted),
+            twice: begins_with_two(text, self),
+            len: put_formed(form, Case::Kept, text, out, self.len),
         }
+    }
+}
+
+/// Whether the text begins with a slash, or what follows it if it is empty.
+fn begins_with_slash(text: &[u8], follows: bool) -> bool
+    ensures { result ≡ is_rooted (text.now ++ root follows) }
+{
+    match text.first() {
+        Some(b) => *b == b'/',
+        None => follows,
+    }
+}
+
+/// Whether the text begins with two slashes before what is placed.
+fn begins_with_two(text: &[u8], placed: Placed) -> bool
+    ensures { result ≡ spec.is_twice text.now placed.rooted placed.twice }
+{
+    match text.split_first() {
+        Some((b, rest)) => *b == b'/' && begins_with_slash(rest, placed.rooted),
+        None => placed.twice,
     }
 }
 
@@ -114,7 +133,28 @@ impl Ending {
             kept: true,
             removed: false,
             colon: has_colon(segment.as_bytes()),
-            text: text.put_segment(form, segment, out),
+            text: text.put_text(form, segment.as_bytes(), out),
+        }
+    }
+
+    /// Keeps all segments of a text, of which none is a dot segment: puts the text in one piece, since
+    /// nothing is removed of it, and a slash if anything of the path follows.
+    fn keep_all(self, form: Form, ended: bool, text: &[u8], out: &mut [u8]) -> Ending
+        requires none { self.climbs ≡ 0 }
+        requires segments { list_all is_segment (slice_split is_slash text.now) ≡ true }
+        requires dots { has_dot_segment (slice_split is_slash text.now) ≡ false }
+        ensures room { length out.new ≡ length out.old }
+        ensures climbs { result.climbs ≡ 0 }
+        ensures is { (l : spec.Left) (t : List ℕ) → spec.IsEnding form ended l self out.old t → spec.IsEnding form ended (spec.backs (slice_split is_slash text.now) l) result out.new t }
+    {
+        let (first, _) = split_at_mark(text, b'/');
+        let placed = self.text.put_root(self.kept || ended, out);
+        Ending {
+            climbs: 0,
+            kept: true,
+            removed: false,
+            colon: has_colon(first),
+            text: placed.put_text(form, text, out),
         }
     }
 
@@ -145,7 +185,8 @@ impl Ending {
     }
 
     /// All segments of a text, from the last one to the first. `ended` says that an empty segment
-    /// follows those that are kept.
+    /// follows those that are kept. Most segments precede the first dot segment: they are kept as one
+    /// text once no `..` is left to remove one of them.
     pub(super) fn walk(self, form: Form, ended: bool, text: &[u8], out: &mut [u8]) -> Ending
         requires few { self.climbs + length (slice_split is_slash text.now) ≤ usize.MAX }
         requires segments { list_all is_segment (slice_split is_slash text.now) ≡ true }
@@ -153,9 +194,13 @@ impl Ending {
         ensures climbs { result.climbs ≤ self.climbs + length (slice_split is_slash text.now) }
         ensures is { (l : spec.Left) (t : List ℕ) → spec.IsEnding form ended l self out.old t → spec.IsEnding form ended (spec.backs (slice_split is_slash text.now) l) result out.new t }
     {
+        let undotted = len_without_dots(text);
         let mut ending = self;
         let mut rest = Some(text);
         'segments: while let Some(text) = rest {
+            if ending.climbs == 0 && text.len() <= undotted {
+                return ending.keep_all(form, ended, text, out);
+            }
             let (front, segment) = split_last(text);
             ending = ending.step(form, ended, &segment, out);
             rest = front;
@@ -189,6 +234,7 @@ impl Ending {
 pub(super) fn split_last(text: &[u8]) -> (Option<&[u8]>, Segment<'_>)
     requires { list_all is_segment (slice_split is_slash text.now) ≡ true }
     ensures cut { slice_split is_slash text.now ≡ pieces_left (option_copied result.0) ++ result.1 ∷ [] }
+    ensures front { IfSome (option_copied result.0) (λ f. f ≡ take (length f) text.now) }
 {
     match text.iter().rposition(|&b| b == b'/') {
         Some(at) => (Some(&text[..at]), kept_text(&text[at + 1..], false)),

@@ -8,12 +8,12 @@ ghost use Rattle.uriparse_path.specs.Dots.{has_dot_segment};
 ghost use Rattle.uriparse_path.specs.Relative as relative;
 ghost use Rattle.uriparse_path.specs.Normal as spec;
 
-use super::heads::is_plain;
+use super::heads::{is_plain, lacks_dots};
 use super::{Segments, segments_of};
 use crate::path::normal::Place;
 use crate::path::read::split_root;
 use crate::path::segment::has_colon;
-use uriparse_text::internal::split_at_mark;
+use uriparse_text::internal::{Case, is_canonical, split_at_mark};
 
 impl<'p> Segments<'p> {
     /// Whether the first of the segments that are left is empty and others follow it.
@@ -41,18 +41,6 @@ impl<'p> Segments<'p> {
             None => false,
         }
     }
-}
-
-/// Whether each segment is canonical.
-fn are_canonical(segments: Segments<'_>) -> bool
-    ensures { result ≡ list_all spec.is_canonical segments.entry }
-{
-    for segment in segments {
-        if !segment.is_normalized() {
-            return false;
-        }
-    }
-    true
 }
 
 /// Whether none of the segments is a dot segment.
@@ -105,17 +93,28 @@ fn are_guarded(segments: Segments<'_>) -> bool
     first.is_single_dot_segment() && climb_first(later) && needed
 }
 
+/// Whether each segment of the text is canonical. Tests the text as a whole, by runs: its canonical
+/// spelling is that of its segments.
+fn is_canonical_text(text: &[u8]) -> bool
+    requires { IsPath text.now }
+    ensures { result ≡ list_all spec.is_canonical (pieces text.now) }
+{
+    is_canonical(Case::Kept, text)
+}
+
 /// Whether the segments of a text are in normal form, for a path that stays relative or for
-/// another. Looks at each segment.
+/// another.
 fn is_each_normal(stays_relative: bool, text: &[u8]) -> bool
     requires { IsPath text.now }
     ensures { result ≡ spec.are_normal stays_relative (pieces text.now) }
 {
-    if !stays_relative {
-        return are_settled(segments_of(text));
+    if !is_canonical_text(text) {
+        return false;
     }
-    are_canonical(segments_of(text))
-        && (climb_first(segments_of(text)) || are_guarded(segments_of(text)))
+    if !stays_relative {
+        return lacks_dots(text);
+    }
+    climb_first(segments_of(text)) || are_guarded(segments_of(text))
 }
 
 /// Whether the segments of a text are in normal form, as [`is_each_normal`] says. A text with no

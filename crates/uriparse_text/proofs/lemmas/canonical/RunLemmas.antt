@@ -1,5 +1,5 @@
 -- The front of a text that stays as it is in the canonical spelling.
-use Rattle.std.proofs.Common.{◌≡◌, ℕ, Bool, true, false, ◌&&◌, not, cond, List, [], ◌∷◌, ◌++◌, refl, sym, ap, ◌∙◌, append_assoc}
+use Rattle.std.proofs.Common.{◌≡◌, ℕ, Bool, true, false, ◌&&◌, not, cond, List, [], ◌∷◌, ◌++◌, refl, ap, ◌∙◌}
 use Rattle.std.specs.Prelude.{◌==◌}
 use Rattle.std.proofs.lemmas.Bool.{or_parts, not-false, eqb-true}
 use Rattle.uriparse_text.specs.declared.internal.token.Token.TheVariants.{Byte}
@@ -8,8 +8,9 @@ use Rattle.uriparse_text.specs.Bytes.{percent, is_hex}
 use Rattle.uriparse_text.specs.Tokens.{is_escape}
 use Rattle.uriparse_text.specs.Canonical.{in_case, may_change, canonical_in}
 use Rattle.uriparse_text.specs.Cuts.{up_to, from_first}
+use Rattle.uriparse_text.specs.Pieces.{Keeps}
 use Rattle.uriparse_text.proofs.lemmas.tokens.TokenLemmas.{tokens-byte}
-use Rattle.uriparse_text.proofs.lemmas.canonical.CanonicalLemmas.{canonical_in-cons}
+use Rattle.uriparse_text.proofs.lemmas.canonical.CanonicalLemmas.{canonical_in-cons, canonical_in-nil}
 
 pub no_escape : (b : ℕ) (after : List ℕ) → (b == percent) ≡ false → is_escape b after ≡ false
 no_escape b [] h = refl
@@ -34,7 +35,6 @@ canonical_in-run case (b ∷ t) = by_first (may_change case b) refl (canonical_i
     by_first true e h = refl
     by_first false e h = canonical_in-stays case b t e ∙ ap (λ u. b ∷ u) h
 
--- a token and the run after it are written
-pub spelled_run : (case : Case) (done front rest later whole : List ℕ) → (done ++ canonical_in case rest ≡ whole)
-    → canonical_in case rest ≡ front ++ canonical_in case later → (done ++ front) ++ canonical_in case later ≡ whole
-spelled_run case done front rest later whole h e = append_assoc done front (canonical_in case later) ∙ ap (λ u. done ++ u) (sym e) ∙ h
+-- a canonical spelling keeps each byte that doesn't change
+pub spelling_keeps : (case : Case) → Keeps (may_change case) (canonical_in case)
+spelling_keeps case = record { nothing = canonical_in-nil case; stays = canonical_in-stays case }

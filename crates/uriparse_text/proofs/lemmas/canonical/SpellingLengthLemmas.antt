@@ -1,11 +1,13 @@
 -- The length of a canonical spelling.
-use Rattle.std.proofs.Common.{◌≡◌, ℕ, ◌+◌, ◌<◌, ◌≤◌, List, [], ◌∷◌, ◌++◌, length, ap, ◌∙◌, arith, length-append}
+use Rattle.std.proofs.Common.{◌≡◌, ℕ, ◌+◌, ◌<◌, ◌≤◌, List, [], ◌∷◌, ◌++◌, length, map, subst, ap, ◌∙◌, arith, length-append}
+use Rattle.std.specs.List.{flat_map}
 use Rattle.uriparse_text.specs.declared.internal.token.Token.{Token}
 use Rattle.uriparse_text.specs.declared.internal.token.Token.TheVariants.{Byte, Escape}
 use Rattle.uriparse_text.specs.declared.internal.canonical.Case.{Case}
 use Rattle.uriparse_text.specs.Tokens.{tokens, spell}
 use Rattle.uriparse_text.specs.Canonical.{canonical_token, canonical_in}
 use Rattle.uriparse_text.proofs.lemmas.canonical.CanonicalLemmas.{by_escaped, canonical_in-cons, canonical_in-nil}
+use Rattle.uriparse_text.proofs.lemmas.tokens.TokenLemmas.{spell-tokens}
 
 -- a token's canonical form is no longer
 pub no_longer : (case : Case) (t : Token) → length (spell (canonical_token case t)) ≤ length (spell t)
@@ -30,3 +32,17 @@ length_run whole run rest e = ap length e ∙ length-append run rest
 
 pub length_none : (case : Case) (rest : List ℕ) → rest ≡ [] → length (canonical_in case rest) ≡ 0
 length_none case rest e = ap (λ u. length (canonical_in case u)) e ∙ ap length (canonical_in-nil case)
+
+-- a canonical spelling is no longer than the text
+pub spelled_no_longer : (case : Case) (text : List ℕ) → length (canonical_in case text) ≤ length text
+unfolding canonical_in
+spelled_no_longer case text = subst (λ n. length (canonical_in case text) ≤ n) (ap length (spell-tokens text)) (along (tokens text))
+  where
+    along : (ts : List Token) → length (flat_map spell (map (canonical_token case) ts)) ≤ length (flat_map spell ts)
+    along [] = omega arith
+    along (t ∷ ts) =
+        let one = no_longer case t in
+        let others = along ts in
+        let left = length-append (spell (canonical_token case t)) (flat_map spell (map (canonical_token case) ts)) in
+        let right = length-append (spell t) (flat_map spell ts) in
+        omega arith

@@ -1,23 +1,14 @@
-use Rattle.std.proofs.Common.{◌≡◌, length, ap, arith}
-use Rattle.uriparse_text.specs.Canonical as spec
-use Rattle.uriparse_text.specs.Tokens.{spell}
-use Rattle.uriparse_text.proofs.lemmas.canonical.SpellingLengthLemmas.{no_longer, length_more, length_behind, length_none}
+use Rattle.std.proofs.Common.{[], arith}
+use Rattle.uriparse_text.proofs.lemmas.canonical.RunLemmas.{spelling_keeps}
+use Rattle.uriparse_text.proofs.lemmas.canonical.SpellingLengthLemmas.{spelled_no_longer}
+use Rattle.uriparse_text.proofs.lemmas.tokens.StartLemmas.{starts_none}
 use Rattle.uriparse_text.proofs.internal.ends.spelling_len.Goals as goal
 
-pub overflow_add-len : goal.overflow_add-len
-overflow_add-len c =
-    let shorter = no_longer c.args.case c.in-Some.token in
-    let token : length (spell c.canonical.result) ≡ length (spell (spec.canonical_token c.args.case c.in-Some.token)) = ap (λ t. length (spell t)) c.canonical.ensures in
-    let cut = length_behind c.tokens.rest.now c.in-Some.after.now c.in-Some.token c.in-Some.ensures.spelled in
-    omega arith
-
-pub tokens-preserved : goal.tokens-preserved
-tokens-preserved c =
-    let shorter = no_longer c.args.case c.in-Some.token in
-    let token : length (spell c.canonical.result) ≡ length (spell (spec.canonical_token c.args.case c.in-Some.token)) = ap (λ t. length (spell t)) c.canonical.ensures in
-    let cut = length_behind c.tokens.rest.now c.in-Some.after.now c.in-Some.token c.in-Some.ensures.spelled in
-    let more = length_more c.args.case c.tokens.rest.now c.in-Some.after.now c.in-Some.token c.in-Some.ensures.cut in
-    record { sum = omega arith; within = omega arith }
+pub append_rewritten-requires : goal.append_rewritten-requires
+append_rewritten-requires c = spelling_keeps c.args.case
 
 pub returns : goal.returns
-returns c = let none = length_none c.args.case c.tokens.rest.now c.in_default.ensures.cut in omega arith
+returns c =
+    let counted = (c.append_rewritten.ensures.appends [] (starts_none [])).size in
+    let within = spelled_no_longer c.args.case c.args.text.now in
+    omega arith

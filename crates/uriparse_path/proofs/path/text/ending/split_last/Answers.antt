@@ -1,4 +1,4 @@
-use Rattle.std.proofs.Common.{◌≡◌, ◌++◌, ◌∷◌, [], ◌∙◌, ◌+◌, take, drop, true, sym, ap, subst, rules}
+use Rattle.std.proofs.Common.{◌≡◌, ◌<◌, ◌++◌, ◌∷◌, [], ◌∙◌, ◌+◌, length, length-take-le, take, drop, true, sym, ap, subst, arith, rules}
 use Rattle.std.specs.List.{slice_split}
 use Rattle.std.proofs.lemmas.Bool.{false≢true}
 use Rattle.std.proofs.lemmas.List.{take_rest}
@@ -12,6 +12,11 @@ use Rattle.uriparse_path.proofs.path.text.ending.split_last.Goals as goal
 cut-some : (c : In-Some)
     → slice_split is_slash c.args.text.now ≡ slice_split is_slash (take c.in-Some.at c.args.text.now) ++ drop (c.in-Some.at + 1) c.args.text.now ∷ []
 cut-some c = cut_last c.args.text.now c.in-Some.at (search rules) (search rules) (search rules)
+
+front-some : (c : In-Some) → take c.in-Some.at c.args.text.now ≡ take (length (take c.in-Some.at c.args.text.now)) c.args.text.now
+front-some c =
+    let inside : c.in-Some.at < length c.args.text.now = search rules in
+    ap (λ n. take n c.args.text.now) (sym (length-take-le c.in-Some.at c.args.text.now (omega arith)))
 
 cut-none : (c : In-None) → slice_split is_slash c.args.text.now ≡ c.args.text.now ∷ []
 cut-none c = pieces-piece c.args.text.now (none_slash c.args.text.now (search rules))
@@ -39,7 +44,8 @@ returns-in-Some c =
     record {
       cut = cut-some (goal.at.returns-in-Some c).In-Some
           ∙ ap (λ s. slice_split is_slash (take at t) ++ s ∷ []) (sym (c.kept_text.ensures ∙ take_rest t (at + 1)));
+      front = front-some (goal.at.returns-in-Some c).In-Some;
     }
 
 pub returns-in-None : goal.returns-in-None
-returns-in-None c = record { cut = cut-none (goal.at.returns-in-None c).In-None ∙ ap (λ s. s ∷ []) (sym c.kept_text-in-None.ensures) }
+returns-in-None c = record { cut = cut-none (goal.at.returns-in-None c).In-None ∙ ap (λ s. s ∷ []) (sym c.kept_text-in-None.ensures); front = tt }

@@ -1,31 +1,16 @@
-use Rattle.std.proofs.Common.{◌≡◌, ◌+◌, ◌-◌, true, false, ◌&&◌, take, drop, sym, ap, subst, ◌∙◌, arith, slice_index_or}
+use Rattle.std.proofs.Common.{◌≡◌, true, take, length, subst, ◌∙◌}
+use Rattle.std.proofs.Math.Seq.{take-length}
+use Rattle.std.proofs.lemmas.Bool.{eqb-true}
 use Rattle.uriparse_text.specs.Bytes.{percent}
 use Rattle.uriparse_text.specs.Cuts.{lacks}
-use Rattle.uriparse_path.proofs.lemmas.text.HeadLemmas.{is_head, begins_after, more_heads, no_heads_left}
-use Rattle.uriparse_path.proofs.lemmas.reading.NoEscapeLemmas.{lacks_more, lacks_all}
+use Rattle.uriparse_path.proofs.lemmas.text.HeadLemmas.{no_heads_in_all}
 use Rattle.uriparse_path.proofs.path.text.heads.lacks_heads_in.Goals as goal
 
-pub runs-preserved : goal.runs-preserved
-runs-preserved c =
-    let t = c.args.text.now in
-    let at = c.runs.at in
-    let len = c.next_marks_by_two-slashes.result.2 in
-    let marks = c.next_marks_by_two-slashes.ensures in
-    let first : (c.runs.begins && is_head (slice_index_or t at 0)) ≡ false = sym c.is_head.ensures ∙ c.if-is_head.false in
-    let long : at + len - at ≡ len = omega arith in
-    let free : c.args.plain ≡ true → lacks percent (take len (drop at t)) ≡ true =
-    λ h. subst (λ n. lacks percent (take n (drop at t)) ≡ true) long (c.is_escaped.ensures c.if-is_escaped.false h) in
-    record {
-      within = marks.room;
-      begins = sym (begins_after t (at + len) (omega (arith, marks.some c.runs-test.true)));
-      none = more_heads t at len c.next_marks_by_two-slashes.result.0 c.next_marks_by_two-slashes.result.1 marks.marks marks.others
-          (c.has_adjacent.ensures c.if-has_adjacent.false) c.runs.invariant.none
-          (ap (λ v. v && is_head (slice_index_or t at 0)) (sym c.runs.invariant.begins) ∙ first);
-      escapes = λ h. lacks_more t at len (c.runs.invariant.escapes h) (free h);
-    }
-
 pub returns-clause-dots : goal.returns-clause-dots
-returns-clause-dots c _ = no_heads_left c.args.text.now c.runs.at (omega (arith, c.runs-test.false)) c.runs.invariant.none
+returns-clause-dots c whole =
+    no_heads_in_all c.args.text.now c.len_without_heads.result (eqb-true _ _ whole) c.len_without_heads.ensures.dots
 
 pub returns-clause-escapes : goal.returns-clause-escapes
-returns-clause-escapes c _ h = lacks_all c.args.text.now c.runs.at (omega (arith, c.runs-test.false)) (c.runs.invariant.escapes h)
+returns-clause-escapes c whole plain =
+    subst (λ u. lacks percent u ≡ true) (take-length c.args.text.now)
+    (subst (λ n. lacks percent (take n c.args.text.now) ≡ true) (eqb-true _ _ whole) (c.len_without_heads.ensures.escapes plain))

@@ -19,7 +19,8 @@ returns-clause-is c = λ l t is.
       removed = refl;
       kept = refl;
       colon = c.has_colon.ensures ∙ ap has_colon c.as_bytes.ensures.value;
-      placed = subst (λ u. IsPlaced c.put_segment.result c.put_segment.new.out u t)
-          (ap (λ v. formed form Kept s ++ (root v ++ text)) more ∙ sym (kept_more form c.args.ended s l.kept))
-          (c.put_segment.ensures.placed (root c.if-self.put_root ++ text) t (c.put_root-text.ensures.placed text t is.placed));
+      placed = subst (λ u. IsPlaced c.put_text.result c.put_text.new.out u t)
+          (ap (λ x. formed form Kept x ++ (root c.if-self.put_root ++ text)) c.as_bytes-2.ensures.value
+          ∙ ap (λ v. formed form Kept s ++ (root v ++ text)) more ∙ sym (kept_more form c.args.ended s l.kept))
+          (c.put_text.ensures.placed (root c.if-self.put_root ++ text) t (c.put_root-text.ensures.placed text t is.placed));
     }

@@ -2,7 +2,7 @@ use Rattle.std.proofs.Common.{◌≡◌, true, ◌-◌, ◌≤◌, length, take}
 use Rattle.uriparse_text.specs.Bytes.{percent}
 use Rattle.uriparse_text.specs.Cuts.{lacks}
 use Rattle.uriparse_path.proofs.lemmas.text.HeadLemmas.{begins, NoHeads}
-use Rattle.uriparse_path.proofs.path.text.heads.lacks_heads_in.Given as goal
+use Rattle.uriparse_path.proofs.path.text.heads.len_without_heads.Given as goal
 
 abbrev pub invariant-runs : goal.invariant-runs
 invariant-runs l = record {

@@ -1,9 +1,0 @@
-use Rattle.std.proofs.Common.{◌≡◌, ◌++◌, length}
-use Rattle.uriparse_text.specs.Canonical as spec
-use Rattle.uriparse_text.proofs.internal.canonical.canonical_bytes.Given as goal
-
-abbrev pub invariant-tokens : goal.invariant-tokens
-invariant-tokens l = l.bytes.items ++ spec.canonical_in l.case l.rest ≡ spec.canonical_in l.case l.text
-
-abbrev pub decreases-tokens : goal.decreases-tokens
-decreases-tokens l = length l.rest
