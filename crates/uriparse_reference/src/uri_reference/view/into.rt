@@ -94,6 +94,12 @@ fn copy_into(text: &[u8], out: &mut [u8]) -> Result<usize, BufferError>
 /// The number of bytes of a block in which a text is put together before its length is known.
 pub(super) const BLOCK: usize = 256;
 
+/// Whether a block serves a text that is put together from texts of `len` bytes: it is to be written,
+/// not only measured, and is not likely to be longer than the block.
+pub(super) fn serves_block(len: usize, out: &[u8]) -> bool {
+    len <= BLOCK && !out.is_empty()
+}
+
 /// Copies the text of `len` bytes that the block ends with to the start of the buffer, and returns
 /// its length, if there is room.
 pub(super) fn copy_end(
@@ -149,15 +155,19 @@ impl<'t> ReferenceView<'t> {
     }
 
     /// Writes the text of the normal form to the start of the buffer. A short text is put together
-    /// in a block and copied; only a longer one is put together again, once its length is known.
+    /// once, in a block, and copied; a longer one, or one whose length alone is wanted, is measured
+    /// first, without a block. Both put the same text, of which the block shows only the end.
     fn write_normal(&self, out: &mut [u8]) -> Result<usize, BufferError>
         ensures { spec.Writes (print (normal self.now.parts)) result out.old out.new }
     {
-        let mut block = [0; BLOCK];
-        let needed = self.put_normal(&mut block);
-        if needed <= BLOCK {
-            return copy_end(&block, needed, out);
+        if serves_block(self.text.len(), out) {
+            let mut block = [0; BLOCK];
+            let needed = self.put_normal(&mut block);
+            if needed <= BLOCK {
+                return copy_end(&block, needed, out);
+            }
         }
+        let needed = self.put_normal(&mut []);
         if needed > out.len() {
             return Err(BufferError::TooSmall(needed));
         }

@@ -11,7 +11,7 @@ ghost use Rattle.uriparse_reference.specs.Into as spec;
 
 use super::super::error::BufferError;
 use super::ReferenceView;
-use super::into::{BLOCK, copy_end, put_end, put_front};
+use super::into::{BLOCK, copy_end, put_end, put_front, serves_block};
 use uriparse_path::internal::{put_merged, put_undotted};
 use uriparse_path::path::MAX_SEGMENTS;
 use uriparse_text::internal::{Form, put};
@@ -149,8 +149,19 @@ impl<'t> ReferenceView<'t> {
         put_front(Form::AsIs, &self.scheme(), &self.authority(), out, len)
     }
 
-    /// Writes the text of the target to the start of the buffer. A short text is put together in a
-    /// block and copied; only a longer one is put together again, once its length is known.
+    /// The number of bytes of the texts that the target is put together from: those of the reference,
+    /// and of this base if the reference has no scheme; or the largest number.
+    fn source_len(&self, reference: &ReferenceView<'_>) -> usize {
+        if reference.has_scheme() {
+            reference.text.len()
+        } else {
+            self.text.len().saturating_add(reference.text.len())
+        }
+    }
+
+    /// Writes the text of the target to the start of the buffer. A short text is put together once,
+    /// in a block, and copied; a longer one, or one whose length alone is wanted, is measured first,
+    /// without a block. Both put the same text, of which the block shows only the end.
     fn write_target(
         &self,
         reference: &ReferenceView<'_>,
@@ -159,11 +170,14 @@ impl<'t> ReferenceView<'t> {
         requires { is_merged reference.now.parts ≡ true → length (pieces (merge self.now.parts reference.now.parts)) ≤ max_segments }
         ensures { spec.Writes (spec.print_if (target self.now.parts reference.now.parts)) result out.old out.new }
     {
-        let mut block = [0; BLOCK];
-        let needed = self.put_target(reference, &mut block);
-        if needed <= BLOCK {
-            return copy_end(&block, needed, out);
+        if serves_block(self.source_len(reference), out) {
+            let mut block = [0; BLOCK];
+            let needed = self.put_target(reference, &mut block);
+            if needed <= BLOCK {
+                return copy_end(&block, needed, out);
+            }
         }
+        let needed = self.put_target(reference, &mut []);
         if needed > out.len() {
             return Err(BufferError::TooSmall(needed));
         }
