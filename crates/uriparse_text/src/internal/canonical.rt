@@ -5,7 +5,7 @@ ghost use Rattle.uriparse_text.specs.Canonical as spec;
 
 use super::class::is_unreserved;
 use super::digit::hex_value;
-use super::pairs::is_canonical_escape;
+use super::pairs::{is_canonical_escape, lacks_changes};
 use super::rewrite::push_rewritten;
 use super::run::{MayChange, split_run};
 use super::token::{Token, split_token};
@@ -174,10 +174,30 @@ pub fn is_canonical(case: Case, text: &[u8]) -> bool
 }
 
 /// Whether the text, which may begin with a token that isn't canonical, is its own canonical
-/// spelling. Walks it up to the first such token. A separate call keeps the inlined test before it
-/// small.
+/// spelling. Most escapes are canonical, so all are tested at once before they are walked. A
+/// separate call keeps the inlined test before it small.
 #[inline(never)]
 fn begins_canonical(case: Case, text: &[u8]) -> bool
+    ensures { IsTrue result ↔ (spec.canonical_in case text.now ≡ text.now) }
+{
+    is_kept_whole(case, text) || walks_canonical(case, text)
+}
+
+/// Whether a text whose letters keep their case surely has no escape that changes. Short texts are
+/// walked as quickly.
+#[inline(always)]
+fn is_kept_whole(case: Case, text: &[u8]) -> bool
+    ensures { result ≡ true → spec.canonical_in case text.now ≡ text.now }
+{
+    match case {
+        Case::Kept => text.len() >= 18 && lacks_changes(text),
+        Case::Lowered => false,
+    }
+}
+
+/// Whether the text is its own canonical spelling, token by token up to the first that isn't.
+#[inline(always)]
+fn walks_canonical(case: Case, text: &[u8]) -> bool
     ensures { IsTrue result ↔ (spec.canonical_in case text.now ≡ text.now) }
 {
     let mut rest = text;

@@ -83,14 +83,18 @@ fn lacks_heads_in(plain: bool, text: &[u8]) -> bool
     len_without_heads(plain, text) == text.len()
 }
 
-/// The segments of a text from one on before which none is a dot segment. Most segments precede the
-/// first run of sixteen bytes with one that begins like a dot segment, and are not looked at.
+/// The segments of a text from one on before which none is a dot segment; none at all if no segment
+/// begins like one. Most segments precede the first run of sixteen bytes with such a segment, and are
+/// not looked at.
 fn segments_in_doubt(text: &[u8]) -> Segments<'_>
     requires { list_all is_segment (slice_split is_slash text.now) ≡ true }
     ensures { has_dot_segment result ≡ has_dot_segment (slice_split is_slash text.now) }
 {
-    let undotted = &text[..len_without_dots(text)];
-    match undotted.iter().rposition(|&b| b == b'/') {
+    let len = len_without_dots(text);
+    if len == text.len() {
+        return Segments { rest: None };
+    }
+    match text[..len].iter().rposition(|&b| b == b'/') {
         Some(at) => Segments {
             rest: Some(&text[at + 1..]),
         },

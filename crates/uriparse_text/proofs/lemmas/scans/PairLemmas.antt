@@ -8,13 +8,13 @@ use Rattle.uriparse_text.specs.Escapes.{is_canonical_escape}
 
 -- ---- the kinds of two digits
 
-abbrev first_kinds : ℕ → ℕ
+abbrev pub first_kinds : ℕ → ℕ
 first_kinds b = bit_and (get_or FIRST_LOW (bit_and b 15) 0) (get_or FIRST_HIGH (b / 16) 0)
 
-abbrev second_kinds : ℕ → ℕ
+abbrev pub second_kinds : ℕ → ℕ
 second_kinds b = bit_and (get_or SECOND_LOW (bit_and b 15) 0) (get_or SECOND_HIGH (b / 16) 0)
 
-abbrev shares_none : ℕ → ℕ → Bool
+abbrev pub shares_none : ℕ → ℕ → Bool
 shares_none high low = eqb (bit_and (first_kinds high) (second_kinds low)) 0
 
 -- they tell of each second digit

@@ -1,6 +1,6 @@
 use Rattle.std.proofs.Common.{◌≡◌, ◌↔◌, length}
 use Rattle.uriparse_text.specs.Canonical as spec
-use Rattle.uriparse_text.proofs.internal.canonical.begins_canonical.Given as goal
+use Rattle.uriparse_text.proofs.internal.canonical.walks_canonical.Given as goal
 
 abbrev pub invariant-tokens : goal.invariant-tokens
 invariant-tokens l = (spec.canonical_in l.case l.rest ≡ l.rest) ↔ (spec.canonical_in l.case l.text ≡ l.text)

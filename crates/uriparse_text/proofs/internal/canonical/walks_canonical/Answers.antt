@@ -2,7 +2,7 @@ use Rattle.std.proofs.Common.{◌≡◌, [], refl, sym, ap, ◌∙◌}
 use Rattle.std.proofs.lemmas.Bool.{false≢true}
 use Rattle.uriparse_text.specs.Canonical as spec
 use Rattle.uriparse_text.proofs.lemmas.canonical.CanonicalLemmas.{canonical_in-nil, canonical_behind, canonical_more, canonical_never}
-use Rattle.uriparse_text.proofs.internal.canonical.begins_canonical.Goals as goal
+use Rattle.uriparse_text.proofs.internal.canonical.walks_canonical.Goals as goal
 
 pub returns-then-not-is_canonical : goal.returns-then-not-is_canonical
 returns-then-not-is_canonical c =
