@@ -49,7 +49,7 @@ pub use edit::Edit;
 pub use error::{BufferError, TargetError, URIReferenceError};
 pub use escape::{escape_invalid, escape_invalid_into};
 pub use masked::WithoutPassword;
-use place::place_of;
+use place::{front_fault, place_of};
 use print::{len_of_scheme, most_of_authority, write_authority, write_back, write_scheme};
 use read::{find_pieces, make_path};
 pub use view::ReferenceView;
@@ -193,6 +193,9 @@ impl<'r> URIReference<'r> {
         ensures fault { result ≡ first_fault bytes.now }
         ensures within { IfSome result (λ f. f.0 < length bytes.now) }
     {
+        if let Some(error) = front_fault(bytes) {
+            return Some((0, URIReferenceError::Path(error)));
+        }
         match URIReference::check(bytes) {
             Ok(()) => None,
             Err(error) => Some((place_of(&error, bytes), error)),

@@ -15,3 +15,4 @@ pub mod EscapedAuthorityLemmas
 pub mod EscapedTokenLemmas
 pub mod EscapedLemmas
 pub mod EscapedEndLemmas
+pub mod FrontFaultLemmas

@@ -1,10 +1,14 @@
 //! Where the fault of a text is.
-ghost use Rattle.std.specs.Prelude.{◌≡◌, ◌≤◌, length};
+ghost use Rattle.std.specs.Prelude.{◌≡◌, ◌<◌, ◌≤◌, ◌||◌, ◌==◌, IfSome, Some, length};
 ghost use Rattle.uriparse_text.specs.declared.internal.class.Class.TheVariants as class;
+ghost use Rattle.uriparse_text.specs.Bytes.{number_sign};
+ghost use Rattle.uriparse_text.specs.Classes.{is_plain};
 ghost use Rattle.uriparse_text.specs.Cuts.{part};
 ghost use Rattle.uriparse_text.specs.Place as text_place;
 ghost use Rattle.uriparse_text.specs.Place.{place_behind};
+ghost use Rattle.uriparse_text.specs.Tokens.{is_escape};
 ghost use Rattle.uriparse_authority.specs.Place as authority;
+ghost use Rattle.uriparse_reference.specs.declared.uri_reference.error.URIReferenceError.TheVariants as errors;
 ghost use Rattle.uriparse_reference.specs.Cuts.{cut_authority};
 ghost use Rattle.uriparse_reference.specs.Place as spec;
 
@@ -13,8 +17,34 @@ use super::escape::split_authority;
 use uriparse_authority::authority::AuthorityError;
 use uriparse_authority::internal::place_in_authority;
 use uriparse_path::internal::place_of_path_fault;
+use uriparse_path::path::PathError;
 use uriparse_scheme::internal::split_scheme;
-use uriparse_text::internal::{Class, place_of_fault, split_at_mark, without_mark};
+use uriparse_text::internal::{
+    Class, TextKind, is_escape, place_of_fault, split_at_mark, without_mark,
+};
+use uriparse_text::segment::SegmentKind;
+
+/// Whether a byte, before these, may be right as the first of a text: a path has it, or an escape
+/// begins with it, or it is a delimiter.
+fn may_come_first(b: u8, after: &[u8]) -> bool
+    ensures { result ≡ (is_plain class.Query b || (b == number_sign || is_escape b after.now)) }
+{
+    Class::Query.has(b) || b == b'#' || is_escape(b, after)
+}
+
+/// The fault of a text that is wrong at its first byte, which is found before the search for a scheme
+/// walks the text. Neither a scheme nor an authority begins with such a byte, so it is the first of
+/// the path, and the first fault is there whatever follows.
+pub(super) fn front_fault(text: &[u8]) -> Option<PathError>
+    ensures place { IfSome result (λ e. spec.first_fault text.now ≡ Some (0, errors.Path e)) }
+    ensures some { IfSome result (λ _. 0 < length text.now) }
+{
+    let (b, after) = text.split_first()?;
+    match may_come_first(*b, after) {
+        true => None,
+        false => Some(SegmentKind::error_of(*b)),
+    }
+}
 
 /// The place of this error in what follows a scheme.
 fn authority_place(error: &AuthorityError, text: &[u8]) -> usize
