@@ -44,13 +44,7 @@ fn saved(token: Token) -> usize
 {
     match token {
         Token::Byte(_) => 0,
-        Token::Escape(_, _) => {
-            if is_unreserved(token.value()) {
-                2
-            } else {
-                0
-            }
-        }
+        Token::Escape(_, _) => { if is_unreserved(token.value()) { 2 } else { 0 } }
     }
 }
 
