@@ -1,5 +1,5 @@
 -- The canonical spelling, token by token.
-use Rattle.std.proofs.Common.{◌≡◌, ◌↔◌, ℕ, true, false, not, ◌&&◌, List, [], ◌∷◌, ◌++◌, map, refl, sym, ap, ◌∙◌, arith, append_assoc}
+use Rattle.std.proofs.Common.{◌≡◌, ◌↔◌, ℕ, true, false, not, ◌&&◌, List, [], ◌∷◌, ◌++◌, map, refl, sym, ap, ◌∙◌, arith}
 use Rattle.std.specs.Prelude.{◌==◌}
 use Rattle.std.specs.List.{flat_map, list_all}
 use Rattle.std.specs.Char.{digit_value, to_ascii_uppercase}
@@ -190,10 +190,3 @@ pub canonical_never : (case : Case) (rest after : List ℕ) (t : Token) → toke
     (canonical_token case t ≡ t → ⊥)
     → canonical_in case rest ≡ rest → ⊥
 canonical_never case rest after t e f n h = token_differs case t (canonical_in case after) after n (sym (canonical_in-cons case rest after t e) ∙ h ∙ f)
-
--- the end of a text that is spelled token by token
-pub spelled_more : (case : Case) (done rest after : List ℕ) (t : Token) (whole : List ℕ) → tokens rest ≡ t ∷ tokens after →
-    done ++ canonical_in case rest ≡ whole
-    → (done ++ spell (canonical_token case t)) ++ canonical_in case after ≡ whole
-spelled_more case done rest after t whole e h =
-    append_assoc done (spell (canonical_token case t)) (canonical_in case after) ∙ ap (λ u. done ++ u) (sym (canonical_in-cons case rest after t e)) ∙ h
