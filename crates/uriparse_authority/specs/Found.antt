@@ -1,6 +1,10 @@
 -- What a reader found.
-use Rattle.std.specs.Prelude.{◌≡◌, ℕ, ◌==◌, List, length, if◌then◌else◌}
+use Rattle.std.specs.Prelude.{◌≡◌, ◌≤◌, ℕ, Bool, ◌==◌, List, Option, None, length, take, if◌then◌else◌}
 use Rattle.uriparse_text.specs.Canonical.{canonical_lowered}
+use Rattle.uriparse_text.specs.Spelling.{IsKept}
+use Rattle.uriparse_text.specs.declared.internal.class.Class.TheVariants as class
+use Rattle.uriparse_text.specs.declared.internal.canonical.Case.TheVariants as case
+use Rattle.uriparse_authority.specs.Authority.{AuthorityParts}
 use Rattle.uriparse_authority.specs.declared.authority.host.Host.{Host}
 use Rattle.uriparse_authority.specs.declared.authority.host.Host.TheVariants.{IPv4Address, IPv6Address, IPvFuture, RegisteredName}
 
@@ -18,3 +22,16 @@ IsCanonicalName (IPv4Address a) len = ⊥
 IsCanonicalName (IPv6Address a) len = ⊥
 IsCanonicalName (IPvFuture f) len = ⊥
 IsCanonicalName (RegisteredName n) len = (length n ≡ len) × (canonical_lowered n ≡ n)
+
+-- a name of this many bytes, canonical if so marked
+abbrev pub IsNameOf : ℕ → Bool → Host → Type 0
+IsNameOf len canonical (IPv4Address a) = ⊥
+IsNameOf len canonical (IPv6Address a) = ⊥
+IsNameOf len canonical (IPvFuture f) = ⊥
+IsNameOf len canonical (RegisteredName n) = (length n ≡ len) × IsKept class.Name case.Lowered canonical n
+
+-- The authority of a text is a name, its first bytes, so many, and at most a port.
+pub record IsNamed (len : ℕ) (canonical : Bool) (text : List ℕ) (a : AuthorityParts) : Type 0 where
+  pub within : len ≤ length text
+  pub is_name : a ≡ record { username = None; password = None; host = RegisteredName (take len text); port = a.port }
+  pub is_kept : IsKept class.Name case.Lowered canonical (take len text)

@@ -7,6 +7,7 @@ pub mod Key
 pub mod Reading
 pub mod Place
 pub mod View
+pub mod OwnedText
 pub mod Escaped
 pub mod Normal
 pub mod Target

@@ -42,16 +42,18 @@ pub(crate) mod read;
 pub(crate) mod relate;
 pub(crate) mod resolve;
 mod segment;
+mod text;
 mod view;
 
 pub use builder::URIReferenceBuilder;
 pub use edit::Edit;
-pub use error::{BufferError, TargetError, URIReferenceError};
+pub use error::{BufferError, RejectedText, TargetError, URIReferenceError};
 pub use escape::{escape_invalid, escape_invalid_into};
 pub use masked::WithoutPassword;
 use place::{front_fault, place_of};
 use print::{len_of_scheme, most_of_authority, write_authority, write_back, write_scheme};
 use read::{find_pieces, make_path};
+pub use text::ReferenceText;
 pub use view::ReferenceView;
 
 /// A URI reference by its five components: a URI or a relative reference. RFC 3986, section 4.1.

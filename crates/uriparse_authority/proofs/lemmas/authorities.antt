@@ -10,3 +10,4 @@ pub mod FaultLemmas
 pub mod PlaceLemmas
 pub mod EndLemmas
 pub mod SameTextLemmas
+pub mod NamedLemmas

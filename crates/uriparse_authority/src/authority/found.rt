@@ -1,16 +1,21 @@
 //! An authority that a reader found: plain words that need no drop.
-ghost use Rattle.std.specs.Prelude.{◌≡◌, ◌↔◌, IsTrue};
+ghost use Rattle.std.specs.Prelude.{◌≡◌, ◌↔◌, ℕ, IfSome, IsTrue, List, None, Ok};
 ghost use Rattle.uriparse_authority.specs.Authority as spec;
 ghost use Rattle.uriparse_authority.specs.Host.{kind_code};
 ghost use Rattle.uriparse_authority.specs.Normal.{canonical_authority};
+ghost use Rattle.uriparse_authority.specs.Found.{IsNamed};
+ghost use Rattle.uriparse_authority.specs.declared.authority.host.Host.TheVariants as hosts;
 ghost use Rattle.uriparse_text.specs.Found.{if_there};
+ghost use Rattle.uriparse_text.specs.Spelling.{IsKept};
+ghost use Rattle.uriparse_text.specs.declared.internal.class.Class.TheVariants as class;
+ghost use Rattle.uriparse_text.specs.declared.internal.canonical.Case.TheVariants as case;
 
 use super::Authority;
-use super::host::found::FoundHost;
+use super::host::found::{FoundHost, found_name};
 use super::password::PasswordKind;
 use super::username::UsernameKind;
 use std::marker::Model;
-use uriparse_text::internal::Found;
+use uriparse_text::internal::{Found, no_text};
 
 /// The components of an authority, borrowed from its bytes. Contracts see it as the authority.
 #[derive(Drop)]
@@ -32,6 +37,16 @@ impl<'a> Model for FoundAuthority<'a> {
     ghost view = { λ f. record { username = f.username; password = f.password; host = f.host; port = if_there f.has_port f.port } };
 
     ghost invariant = { λ f. Valid (record { username = f.username; password = f.password; host = f.host; port = if_there f.has_port f.port }) };
+}
+
+/// The authority that is a name with these bytes, canonical if so marked, and at most a port: what
+/// [`name_words`](FoundAuthority::name_words) told of it.
+#[inline(always)]
+pub fn found_named(bytes: &[u8], canonical: bool, port: Option<u16>) -> FoundAuthority<'_>
+    requires { IsKept class.Name case.Lowered canonical bytes.now }
+    ensures { result ≡ record { username = None; password = None; host = hosts.RegisteredName bytes.now; port = port } }
+{
+    found_authority(no_text(), no_text(), found_name(bytes, canonical), port)
 }
 
 /// The port as two words: whether there is one, and its number.
@@ -76,6 +91,20 @@ impl<'a> FoundAuthority<'a> {
             None
         } else {
             Some(self.port as u16)
+        }
+    }
+
+    /// What [`found_named`] finds the authority by without reading it: the length of the name that
+    /// its text begins with, and whether that is known to be canonical. `None` if there is user
+    /// information or the host is an address.
+    #[inline(always)]
+    pub fn name_words(&self) -> Option<(usize, bool)>
+        ensures { IfSome result (λ w. (text : List ℕ) → spec.reading text ≡ Ok self.now → IsNamed w.0 w.1 text self.now) }
+    {
+        if self.username.is_none() {
+            self.host.name_words()
+        } else {
+            None
         }
     }
 

@@ -8,6 +8,7 @@ pub mod SpellingLemmas
 pub mod PrintedLemmas
 pub mod LengthLemmas
 pub mod ViewLemmas
+pub mod OwnedTextLemmas
 pub mod CharacterLemmas
 pub mod AsciiLemmas
 pub mod EscapedPathLemmas

@@ -42,6 +42,14 @@ pub enum URIReferenceError {
     Scheme(SchemeError),
 }
 
+/// A text that was given away to be read, and its fault: both come back.
+pub struct RejectedText<E> {
+    /// The text, as it was given.
+    pub text: String,
+    /// Why it was rejected.
+    pub error: E,
+}
+
 /// Why a text is not written to a buffer, which is then unchanged.
 #[derive(Clone, Copy, Debug, PartialEq, Eq, Hash, Error)]
 pub enum BufferError {

@@ -21,6 +21,7 @@ use uriparse_text::fragment::Fragment;
 use uriparse_text::query::Query;
 
 mod compare;
+pub(in crate::uri_reference) mod cuts;
 mod into;
 mod kind;
 mod normal;

@@ -1,9 +1,10 @@
 //! What a reader found in a text, before a component is built from it: plain words that need no
 //! drop, so a reader can still reject what follows.
-ghost use Rattle.std.specs.Prelude.{◌≡◌, MatchResult, None, Ok, Err, Some};
+ghost use Rattle.std.specs.Prelude.{◌≡◌, ◌==◌, MatchResult, None, Ok, Err, Some, is_none};
 ghost use Rattle.std.specs.Option.{option_copied};
 ghost use Rattle.uriparse_text.specs.Cuts.{after, before};
 ghost use Rattle.uriparse_text.specs.Faults.{EndsClass};
+ghost use Rattle.uriparse_text.specs.Found.{AreWords, if_there};
 ghost use Rattle.uriparse_text.specs.Readings.{if_present, reading_in};
 ghost use Rattle.uriparse_text.specs.Spelling.{IsKept};
 
@@ -70,6 +71,40 @@ impl<'t, K: TextKind> Found<'t, K> {
         } else {
             Some(kept_text(self.bytes, self.present == 2))
         }
+    }
+
+    /// Whether there is none.
+    #[inline(always)]
+    pub fn is_none(&self) -> bool
+        ensures { result ≡ is_none self.now }
+    {
+        self.present == 0
+    }
+
+    /// What [`found_again`] finds the text by without reading it: 0 if there is none, 2 if it is known
+    /// to be canonical, else 1; and its length.
+    #[inline(always)]
+    pub fn words(&self) -> (u8, usize)
+        ensures { AreWords K.class K.case result.0 result.1 self.now }
+    {
+        match self.present {
+            0 => (0, 0),
+            2 => (2, self.bytes.len()),
+            _ => (1, self.bytes.len()),
+        }
+    }
+}
+
+/// The text of these bytes, of which [`words`](Found::words) said whether it is there and canonical.
+#[inline(always)]
+pub fn found_again<K: TextKind>(present: u8, bytes: &[u8]) -> Found<'_, K>
+    requires { IsKept K.class K.case (present == 2) bytes.now }
+    ensures { result ≡ if_there present bytes.now }
+{
+    Found {
+        present: usize::from(present),
+        bytes,
+        kind: PhantomData,
     }
 }
 

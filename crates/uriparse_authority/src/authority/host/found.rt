@@ -1,11 +1,11 @@
 //! A host that a reader found: plain words that need no drop.
-ghost use Rattle.std.specs.Prelude.{◌≡◌, ◌==◌, IsTrue, false};
+ghost use Rattle.std.specs.Prelude.{◌≡◌, ◌==◌, IfSome, IsTrue, false};
 ghost use Rattle.uriparse_authority.specs.declared.authority.host.Host.TheVariants as hosts;
 ghost use Rattle.uriparse_text.specs.declared.internal.class.Class.TheVariants as class;
 ghost use Rattle.uriparse_text.specs.declared.internal.canonical.Case.TheVariants as case;
 ghost use Rattle.uriparse_text.specs.Spelling.{IsKept};
 ghost use Rattle.uriparse_authority.specs.Future.{IsFuture};
-ghost use Rattle.uriparse_authority.specs.Found.{IsCanonicalName, found_host};
+ghost use Rattle.uriparse_authority.specs.Found.{IsCanonicalName, IsNameOf, found_host};
 ghost use Rattle.uriparse_authority.specs.Host.{Valid, kind, kind_code};
 
 use super::super::future::IPvFuture;
@@ -105,6 +105,18 @@ impl<'h> FoundHost<'h> {
         ensures { IsTrue result → IsCanonicalName self.now len }
     {
         self.kind == 0 && self.canonical == 1 && self.text.len() == len
+    }
+
+    /// The length of the name and whether it is known to be canonical, if this is a name.
+    #[inline(always)]
+    pub(in crate::authority) fn name_words(&self) -> Option<(usize, bool)>
+        ensures { IfSome result (λ w. IsNameOf w.0 w.1 self.now) }
+    {
+        if self.kind == 0 {
+            Some((self.text.len(), self.canonical == 1))
+        } else {
+            None
+        }
     }
 
     /// The number of the host's kind: 1 for a name, and 4, 6 or 7 for an address of that version.
