@@ -11,3 +11,4 @@ pub mod PlaceLemmas
 pub mod EndLemmas
 pub mod SameTextLemmas
 pub mod NamedLemmas
+pub mod ReadBackLemmas

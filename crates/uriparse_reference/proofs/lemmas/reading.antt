@@ -9,6 +9,7 @@ pub mod PrintedLemmas
 pub mod LengthLemmas
 pub mod ViewLemmas
 pub mod OwnedTextLemmas
+pub mod ReadBackLemmas
 pub mod CharacterLemmas
 pub mod AsciiLemmas
 pub mod EscapedPathLemmas

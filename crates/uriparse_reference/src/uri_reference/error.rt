@@ -43,6 +43,7 @@ pub enum URIReferenceError {
 }
 
 /// A text that was given away to be read, and its fault: both come back.
+#[derive(Drop)]
 pub struct RejectedText<E> {
     /// The text, as it was given.
     pub text: String,

@@ -21,6 +21,8 @@ use std::hash::{Hash, Hasher};
 use std::marker::Model;
 use uriparse_path::path::PathError;
 
+mod make;
+
 /// A URI reference in a text that it owns: a URI or a relative reference, with numbers that say where
 /// its components lie. RFC 3986, section 4.1.
 ///
@@ -34,6 +36,7 @@ use uriparse_path::path::PathError;
 /// assert!(text.as_view().path() == "/a" && text.as_str() == "http://example.com/a?q");
 /// assert!(text == ReferenceText::try_from_str(alloc, "HTTP://EXAMPLE.com/%61?q")?);
 /// ```
+#[derive(Drop)]
 pub struct ReferenceText {
     text: String,
     // `None` if the text has 4 GiB or more: it is read again then.

@@ -460,7 +460,7 @@ valid a p s =
 no_digits : port.Spells [] None
 no_digits = record { digits = refl; in_range = omega arith; value = refl }
 
-port_back : (n : Option ℕ) → IfSome n port.IsPort → port.Spells (unwrap_or (option_map port.text n) []) n
+pub port_back : (n : Option ℕ) → IfSome n port.IsPort → port.Spells (unwrap_or (option_map port.text n) []) n
 port_back None h = no_digits
 port_back (Some n) h = port_printed n h
 

@@ -1,0 +1,106 @@
+//! Normal forms, targets and printed references, each in a text of its own: RFC 3986, sections 5.2,
+//! 5.3 and 6.2.2.
+ghost use Rattle.std.specs.Prelude.{◌≡◌, Err, IfOk, IsOk, MatchOption, MatchResult, is_some, string_bytes, true, false};
+ghost use Rattle.uriparse_reference.specs.Normal.{normal};
+ghost use Rattle.uriparse_reference.specs.OwnedText.{IsReference, viewed_in};
+ghost use Rattle.uriparse_reference.specs.Reference.{ReadsBack, print};
+ghost use Rattle.uriparse_reference.specs.Target.{target};
+ghost use Rattle.uriparse_reference.specs.declared.uri_reference.error.TargetError.TheVariants as targets;
+
+use super::super::URIReference;
+use super::super::error::TargetError;
+use super::super::view::ReferenceView;
+use super::{ReferenceText, find_cuts};
+use std::alloc::{AllocError, Global};
+
+/// The reference of this text, which is known to be one. The text is walked once, to find where its
+/// components lie.
+fn checked_text(text: String) -> ReferenceText
+    requires { IsReference (string_bytes text) }
+    ensures { result ≡ viewed_in (string_bytes text) }
+{
+    let cuts = match find_cuts(text.as_bytes()) {
+        Ok(cuts) => cuts,
+        Err(_) => None,
+    };
+    ReferenceText { text, cuts }
+}
+
+impl ReferenceText {
+    /// The text of the normal form, if it is another one than this.
+    fn other_normal_text(&self, alloc: Global) -> Result<Option<String>, AllocError>
+        ensures other { IfOk result (λ o. MatchOption o (print (normal self.now.parts) ≡ self.now.text) (λ s. string_bytes s ≡ print (normal self.now.parts))) }
+        ensures takes_no_memory { print (normal self.now.parts) ≡ self.now.text → IsOk result }
+        ensures normal { IsReference (print (normal self.now.parts)) }
+    {
+        let view = self.as_view();
+        if view.is_normalized_text() {
+            return Ok(None);
+        }
+        Ok(Some(view.normalize_to_string(alloc)?))
+    }
+
+    /// Replaces the text by that of the normal form: RFC 3986, section 6.2.2. Allocates once, exactly
+    /// its length, and not at all if the text is that already. If memory runs out, the text is
+    /// unchanged.
+    ///
+    /// A host that is a name may read as an IPv4 address then: `//%31.2.3.4` becomes `//1.2.3.4`.
+    ///
+    /// ```
+    /// let mut text = ReferenceText::try_from_str(alloc, "HTTP://Example.com/a/../%7e")?;
+    /// text.normalize(alloc)?;
+    /// assert!(text.as_str() == "http://example.com/~" && text.as_view().path() == "/~");
+    /// ```
+    pub fn normalize(&mut self, alloc: Global) -> Result<(), AllocError>
+        ensures text { MatchResult result (λ _. self.new.text ≡ print (normal self.old.parts)) (λ _. self.new ≡ self.old) }
+        ensures takes_no_memory { print (normal self.old.parts) ≡ self.old.text → IsOk result }
+    {
+        if let Some(text) = self.other_normal_text(alloc)? {
+            *self = checked_text(text);
+        }
+        Ok(())
+    }
+}
+
+impl<'t> ReferenceView<'t> {
+    /// Resolves a reference against this base, and returns the target in a text of its own, as
+    /// [`resolve_to_string`](ReferenceView::resolve_to_string) returns its text: same errors, in the
+    /// same order. Allocates once, exactly its length. RFC 3986, section 5.2.
+    ///
+    /// ```
+    /// let base = ReferenceText::try_from_str(alloc, "http://a/b/c/d;p?q")?;
+    /// let reference = ReferenceView::try_from_str("../g?y")?;
+    /// let target = base.as_view().resolve_to_text(alloc, &reference)?;
+    /// assert!(target.as_str() == "http://a/b/g?y" && target.as_view().has_query());
+    /// ```
+    pub fn resolve_to_text(
+        &self,
+        alloc: Global,
+        reference: &ReferenceView<'_>,
+    ) -> Result<ReferenceText, TargetError>
+        // A base without a scheme is rejected.
+        ensures base { is_some self.now.parts.scheme ≡ false → result ≡ Err targets.RelativeBase }
+
+        // Else the result is the target, if there is one, in its printed text, unless memory runs out.
+        ensures target { is_some self.now.parts.scheme ≡ true → MatchOption (target self.now.parts reference.now.parts) (result ≡ Err targets.TooManySegments) (λ t. MatchResult result (λ v. v ≡ record { text = print t; parts = t }) (λ e. e ≡ targets.OutOfMemory)) }
+    {
+        let (_base, _reference) = (self.as_str(), reference.as_str());
+        match self.resolve_to_string(alloc, reference) {
+            Ok(text) => Ok(checked_text(text)),
+            Err(error) => Err(error),
+        }
+    }
+}
+
+impl<'r> URIReference<'r> {
+    /// What the reference prints, as a text that is owned. Allocates.
+    ///
+    /// It reads back as an equal reference, unless the host is a name that spells an IPv4 address.
+    pub fn to_text(&self, alloc: Global) -> Result<ReferenceText, AllocError>
+        ensures text { IfOk result (λ v. v.text ≡ print self.now) }
+        ensures parts { ReadsBack self.now → IfOk result (λ v. v.parts ≡ self.now) }
+    {
+        let _path = self.path();
+        Ok(checked_text(self.to_string(alloc)?))
+    }
+}
