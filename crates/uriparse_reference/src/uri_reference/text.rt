@@ -242,6 +242,8 @@ impl fmt::Display for ReferenceText {
 
 impl fmt::Debug for ReferenceText {
     fn fmt<W: fmt::Write>(&self, f: &mut fmt::Formatter<W>) -> fmt::Result {
-        f.debug_tuple("ReferenceText").field(&self.as_view()).finish()
+        f.debug_tuple("ReferenceText")
+            .field(&self.as_view())
+            .finish()
     }
 }
