@@ -8,6 +8,7 @@ pub mod Reading
 pub mod Place
 pub mod View
 pub mod OwnedText
+pub mod TextKey
 pub mod Escaped
 pub mod Normal
 pub mod Target

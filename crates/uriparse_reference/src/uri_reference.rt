@@ -53,7 +53,7 @@ pub use masked::WithoutPassword;
 use place::{front_fault, place_of};
 use print::{len_of_scheme, most_of_authority, write_authority, write_back, write_scheme};
 use read::{find_pieces, make_path};
-pub use text::ReferenceText;
+pub use text::{ReferenceKey, ReferenceText};
 pub use view::ReferenceView;
 
 /// A URI reference by its five components: a URI or a relative reference. RFC 3986, section 4.1.

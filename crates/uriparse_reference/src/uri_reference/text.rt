@@ -21,7 +21,10 @@ use std::hash::{Hash, Hasher};
 use std::marker::Model;
 use uriparse_path::path::PathError;
 
+mod key;
 mod make;
+
+pub use key::ReferenceKey;
 
 /// A URI reference in a text that it owns: a URI or a relative reference, with numbers that say where
 /// its components lie. RFC 3986, section 4.1.
