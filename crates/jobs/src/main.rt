@@ -16,6 +16,7 @@ mod make;
 mod random;
 mod registry;
 mod requests;
+mod store;
 mod texts;
 
 use awkward::awkward;
@@ -30,6 +31,7 @@ use registry::registry;
 use requests::requests;
 use std::alloc::Global;
 use std::process::ExitCode;
+use store::store;
 use std::{env, io};
 
 /// Runs the job of this name.
@@ -47,6 +49,7 @@ fn run_job(
         "lines" => lines(alloc, count, random, digest),
         "buffers" => buffers(alloc, count, random, digest),
         "awkward" => awkward(alloc, count, random, digest),
+        "store" => store(alloc, count, random, digest),
         "texts" => languages(alloc, count, random, digest),
         _ => Err(JobError::Usage),
     }

@@ -20,6 +20,16 @@ pub fn registry(
     random: &mut Random,
     digest: &mut Digest,
 ) -> Result<(), JobError> {
+    let (names, links) = make_schemas(alloc, count, random)?;
+    look_up_all(alloc, &names, &links, digest)
+}
+
+/// Makes so many identifiers, and as many references.
+pub fn make_schemas(
+    alloc: Global,
+    count: u64,
+    random: &mut Random,
+) -> Result<(Texts, Texts), AllocError> {
     let seed = random.next();
     let stems = name_stems(alloc, random)?;
     let mut names = Texts::new(alloc);
@@ -29,7 +39,7 @@ pub fn registry(
         put_reference(seed ^ number, &stems, &mut links)?;
         links.end()?;
     }
-    look_up_all(alloc, &names, &links, digest)
+    Ok((names, links))
 }
 
 /// What identifiers begin with: half of them are schemas of one host.

@@ -7,7 +7,7 @@
 //! Some types are aliases of a more general one, whose docs list their calls: [`Query`],
 //! [`Fragment`], [`Segment`], [`Username`] and [`Password`] are each a [`Text`], [`Path`] is a
 //! [`PathOf`], [`URI`] and [`RelativeReference`] are each a [`ReferenceOf`], their builders a [`BuilderOf`],
-//! and their views a [`ViewOf`]. A function over all texts takes a `Text<'_, K>` of any
+//! their views a [`ViewOf`], and their owned texts a [`TextOf`]. A function over all texts takes a `Text<'_, K>` of any
 //! `K: TextKind`.
 #![tactic(auto)]
 
@@ -17,15 +17,18 @@ mod kind;
 pub mod laws;
 mod reference_of;
 pub mod relative_reference;
+mod text_of;
 pub mod uri;
 mod view_of;
 
 pub use builder_of::BuilderOf;
 pub use reference_of::ReferenceOf;
 pub use relative_reference::{
-    RelativeReference, RelativeReferenceBuilder, RelativeReferenceError, RelativeReferenceView,
+    RelativeReference, RelativeReferenceBuilder, RelativeReferenceError, RelativeReferenceText,
+    RelativeReferenceView,
 };
-pub use uri::{Origin, URI, URIBuilder, URIError, URIView};
+pub use text_of::TextOf;
+pub use uri::{Origin, URI, URIBuilder, URIError, URIText, URIView};
 pub use uriparse_authority::authority;
 pub use uriparse_authority::authority::{
     Authority, AuthorityError, Host, HostError, IPvFuture, IpAddr, Ipv4Addr, Ipv6Addr, Password,
@@ -35,8 +38,9 @@ pub use uriparse_path::path;
 pub use uriparse_path::path::{Path, PathError, PathOf, Segment, Segments};
 pub use uriparse_reference::uri_reference;
 pub use uriparse_reference::uri_reference::{
-    BufferError, Edit, ReferenceView, TargetError, URIReference, URIReferenceBuilder,
-    URIReferenceError, WithoutPassword, escape_invalid, escape_invalid_into,
+    BufferError, Edit, ReferenceKey, ReferenceText, ReferenceView, RejectedText, TargetError,
+    URIReference, URIReferenceBuilder, URIReferenceError, WithoutPassword, escape_invalid,
+    escape_invalid_into,
 };
 pub use uriparse_scheme::scheme;
 pub use uriparse_scheme::scheme::{Scheme, SchemeError, SchemeStatus, UnregisteredScheme};

@@ -8,6 +8,7 @@ ghost use Rattle.uriparse.specs.RelativeReference as spec;
 use crate::builder_of::BuilderOf;
 use crate::kind::ReferenceKind;
 use crate::reference_of::ReferenceOf;
+use crate::text_of::TextOf;
 use crate::view_of::ViewOf;
 use std::alloc::{AllocError, Global};
 use uriparse_authority::authority::Authority;
@@ -86,6 +87,16 @@ pub type RelativeReferenceBuilder<'b> = BuilderOf<'b, WithoutScheme>;
 /// assert!(RelativeReferenceView::try_from_str("s:a").is_err());
 /// ```
 pub type RelativeReferenceView<'r> = ViewOf<'r, WithoutScheme>;
+
+/// A relative reference in a text that it owns: a [`ReferenceText`](crate::ReferenceText) without a
+/// scheme. The calls that it shares with texts of URIs are those of [`TextOf`].
+///
+/// ```
+/// let text = RelativeReferenceText::try_from_str(alloc, "../a?q")?;
+/// assert!(text.as_view().as_reference_view().path() == "../a" && text.as_str() == "../a?q");
+/// assert!(RelativeReferenceText::try_from_str(alloc, "s:a").is_err());
+/// ```
+pub type RelativeReferenceText = TextOf<WithoutScheme>;
 
 impl<'r> RelativeReferenceView<'r> {
     /// The relative reference, whose components borrow the text. Allocates only for the list of the

@@ -20,10 +20,12 @@ mod error;
 mod origin;
 mod relate;
 mod resolve;
+mod text;
 mod view;
 
 pub use error::URIError;
 pub use origin::Origin;
+pub use text::URIText;
 pub use view::URIView;
 
 /// The kind of reference that a URI is.

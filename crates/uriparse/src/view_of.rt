@@ -47,6 +47,17 @@ impl<'t, K: ReferenceKind> Model for ViewOf<'t, K> {
 impl<'t, K: ReferenceKind> ViewOf<'t, K> {
     ghost use Rattle.uriparse_reference.specs.Reference.{Parts, Spells};
 
+    /// Wraps a view that is known to be of this kind.
+    pub(crate) fn of_checked(view: ReferenceView<'t>) -> ViewOf<'t, K>
+        requires { IsOfKind K.has_scheme view.parts }
+        ensures { result ≡ view.entry }
+    {
+        ViewOf {
+            view,
+            kind: PhantomData,
+        }
+    }
+
     /// The view, if its reference is of this kind.
     fn of(view: ReferenceView<'t>) -> Result<ViewOf<'t, K>, K::Error>
         ensures { result ≡ (if beq (is_some view.entry.parts.scheme) K.has_scheme then Ok view.entry else Err K.other) }

@@ -1,0 +1,44 @@
+//! A URI in a text that it owns: RFC 3986, sections 3 and 5.2.
+ghost use Rattle.std.specs.Prelude.{◌≡◌, Err, MatchOption, MatchResult, Some};
+ghost use Rattle.uriparse_reference.specs.Reference.{print};
+ghost use Rattle.uriparse_reference.specs.Target.{target};
+ghost use Rattle.uriparse_reference.specs.declared.uri_reference.error.TargetError.TheVariants as targets;
+
+use super::WithScheme;
+use super::view::URIView;
+use crate::text_of::TextOf;
+use std::alloc::Global;
+use uriparse_reference::uri_reference::{ReferenceView, TargetError};
+
+/// A URI in a text that it owns, with numbers that say where its components lie: a
+/// [`ReferenceText`](crate::ReferenceText) with a scheme. The calls that it shares with texts of
+/// relative references are those of [`TextOf`].
+///
+/// ```
+/// let uri = URIText::try_from_str(alloc, "http://example.com/schemas/a.json")?;
+/// let reference = ReferenceView::try_from_str("b.json#x")?;
+/// let target = uri.as_view().resolve_to_text(alloc, &reference)?;
+/// assert_eq!(target.as_str(), "http://example.com/schemas/b.json#x");
+/// ```
+pub type URIText = TextOf<WithScheme>;
+
+impl<'u> URIView<'u> {
+    /// Resolves a reference against this URI, and returns the target in a text of its own. Allocates
+    /// once, exactly its length.
+    ///
+    /// The error is [`TooManySegments`](TargetError::TooManySegments) if the merged paths have more
+    /// segments than a path may have, even if memory has run out, else
+    /// [`OutOfMemory`](TargetError::OutOfMemory) if memory runs out.
+    pub fn resolve_to_text(
+        &self,
+        alloc: Global,
+        reference: &ReferenceView<'_>,
+    ) -> Result<URIText, TargetError>
+        ensures { MatchOption (target self.now.parts reference.now.parts) (result ≡ Err targets.TooManySegments) (λ t. MatchResult result (λ v. v ≡ record { text = print t; parts = t }) (λ e. e ≡ targets.OutOfMemory)) }
+    {
+        match self.as_reference_view().resolve_to_text(alloc, reference) {
+            Ok(text) => Ok(TextOf::of_checked(text)),
+            Err(error) => Err(error),
+        }
+    }
+}
