@@ -5,4 +5,5 @@ pub mod ChangedLemmas
 pub mod SettledLemmas
 pub mod ComparisonLemmas
 pub mod SpellingLengthLemmas
+pub mod RaiseLemmas
 pub mod DotLemmas

@@ -4,7 +4,7 @@ use Rattle.std.specs.Prelude.{◌==◌}
 use Rattle.std.specs.Char.{to_ascii_uppercase}
 use Rattle.std.specs.Int.{bit_at}
 use Rattle.std.specs.Simd.Lanes.{zip2, mask_l, top, chunk}
-use Rattle.std.proofs.lemmas.Bool.{and_parts, eqb-true, not-true, false≢true, cases_lt}
+use Rattle.std.proofs.lemmas.Bool.{and_from, and_parts, eqb-true, not-true, false≢true, cases_lt}
 use Rattle.std.proofs.lemmas.List.{get_or-drop, get_or-map, length-map}
 use Rattle.std.proofs.lemmas.Simd.{bitmask_splat, length-chunk, get_or-chunk, length-zip2, get_or-zip2, bit_mask_l}
 use Rattle.std.proofs.lemmas.Bool.Decides.{nat_tests}
@@ -14,7 +14,7 @@ use Rattle.uriparse_text.specs.declared.internal.canonical.Case.TheVariants.{Kep
 use Rattle.uriparse_text.specs.Bytes.{percent, is_hex}
 use Rattle.uriparse_text.specs.Tokens.{is_escape}
 use Rattle.uriparse_text.specs.Canonical.{canonical_in, canonical_token}
-use Rattle.uriparse_text.specs.Escapes.{is_canonical_escape, begins_changed}
+use Rattle.uriparse_text.specs.Escapes.{is_canonical_escape, begins_changed, NoneChanged}
 use Rattle.uriparse_text.proofs.lemmas.scans.PairLemmas.{first_kinds, second_kinds, pair_kind}
 use Rattle.uriparse_text.proofs.lemmas.tokens.TokenLemmas.{tokens-byte, tokens-escape, escape_at}
 use Rattle.uriparse_text.proofs.lemmas.canonical.CanonicalLemmas.{by_escaped, canonical_in-nil, canonical_in-cons}
@@ -57,9 +57,10 @@ short_never (b ∷ []) h = refl
 short_never (b ∷ c ∷ []) h = refl
 short_never (b ∷ c ∷ d ∷ t) h = absurd (omega arith)
 
--- no escape that changes begins before this place
-abbrev pub NoneChanged : List ℕ → ℕ → Type 0
-NoneChanged text at = (k : ℕ) → k < at → begins_changed (drop k text) ≡ false
+-- sixteen places without a mark
+pub none_marked : (text : List ℕ) (at marks : ℕ) → ((k : ℕ) → k < 16 → bit_at marks k ≡ 0 → begins_changed (drop (at + k) text) ≡ false) → marks ≡ 0
+    → (k : ℕ) → k < 16 → begins_changed (drop (at + k) text) ≡ false
+none_marked text at marks are none k h = are k h (ap (λ m. bit_at m k) none ∙ bit_at-zero k)
 
 -- sixteen places more
 pub none_more : (text : List ℕ) (seen at : ℕ) → NoneChanged text seen → at ≤ seen → ((k : ℕ) → k < 16 → begins_changed (drop (at + k) text) ≡ false)
@@ -79,13 +80,13 @@ none_at_all text at before end = unchanged text (λ k. elim (cases_lt k at) [
 -- ---- the marks of sixteen places
 
 -- a text that begins with an escape that changes, by its first three bytes
-record Changed (t : List ℕ) : Type 0 where
-  sign : get_or t 0 0 ≡ percent
-  high : is_hex (get_or t 1 0) ≡ true
-  low : is_hex (get_or t 2 0) ≡ true
-  changed : is_canonical_escape (get_or t 1 0) (get_or t 2 0) ≡ false
+pub record Changed (t : List ℕ) : Type 0 where
+  pub sign : get_or t 0 0 ≡ percent
+  pub high : is_hex (get_or t 1 0) ≡ true
+  pub low : is_hex (get_or t 2 0) ≡ true
+  pub changed : is_canonical_escape (get_or t 1 0) (get_or t 2 0) ≡ false
 
-changed_bytes : (t : List ℕ) → begins_changed t ≡ true → Changed t
+pub changed_bytes : (t : List ℕ) → begins_changed t ≡ true → Changed t
 changed_bytes [] h = absurd (false≢true h)
 changed_bytes (b ∷ []) h = absurd (false≢true h)
 changed_bytes (b ∷ c ∷ []) h = absurd (false≢true h)
@@ -94,6 +95,14 @@ changed_bytes (b ∷ high ∷ low ∷ rest) h =
     let escape = escape_at b (high ∷ low ∷ rest) both.0 in
     let digits = and_parts (is_hex high) (is_hex low) escape.digits in
     record { sign = escape.sign; high = digits.0; low = digits.1; changed = not-true _ both.1 }
+
+pub changed_from : (t : List ℕ) → Changed t → begins_changed t ≡ true
+changed_from [] is = absurd (false≢true is.high)
+changed_from (b ∷ []) is = absurd (false≢true is.high)
+changed_from (b ∷ c ∷ []) is = absurd (false≢true is.low)
+changed_from (b ∷ high ∷ low ∷ rest) is =
+    let sign : (b == percent) ≡ true = ap (λ x. x == percent) is.sign in
+    and_from _ _ (and_from _ _ (and_from _ _ sign is.high) is.low) (ap not is.changed)
 
 marked : (p : ℕ → Bool) (lanes : List ℕ) (k : ℕ) → k < length lanes → p (get_or lanes k 0) ≡ true → bit_at (mask_l (map p lanes)) k ≡ 1
 marked p lanes k h e = bit_mask_l (map p lanes) k ∙ ap (λ v. cond v 1 0) (get_or-map p lanes k 0 false h ∙ e)
@@ -105,8 +114,8 @@ pub no_mark : (text : List ℕ) (at : ℕ) → at + 18 ≤ length text → (firs
     → firsts ≡ map first_kinds (chunk (at + 1) 16 text) → seconds ≡ map second_kinds (chunk (at + 2) 16 text)
     → (signs kinds : ℕ) → signs ≡ mask_l (map (λ b. b == percent) (chunk at 16 text))
     → kinds ≡ mask_l (map (top 7) (zip2 (λ a b. cond (not (eqb a b)) 255 0) (zip2 bit_and firsts seconds) (replicate 16 0))) % 2 ^ 64
-    → bit_and signs kinds ≡ 0 → (k : ℕ) → k < 16 → begins_changed (drop (at + k) text) ≡ false
-no_mark text at room firsts seconds f s signs kinds e g none k h = by_value (begins_changed (drop (at + k) text)) refl
+    → (k : ℕ) → k < 16 → bit_at (bit_and signs kinds) k ≡ 0 → begins_changed (drop (at + k) text) ≡ false
+no_mark text at room firsts seconds f s signs kinds e g k h clear = by_value (begins_changed (drop (at + k) text)) refl
   where
     long : (i : ℕ) → i + 16 ≤ length text → length (chunk i 16 text) ≡ 16
     long i fits = length-chunk i 16 text fits
@@ -150,5 +159,4 @@ no_mark text at room firsts seconds f s signs kinds e g none k h = by_value (beg
         let sign_set : bit_at signs k ≡ 1 =
         ap (λ m. bit_at m k) e ∙ marked (λ b. b == percent) (chunk at 16 text) k (omega (arith, long at (omega arith)))
         (ap (λ b. b == percent) (get_or-chunk at 16 text k 0 h ∙ sign)) in
-        let clear : bit_at (bit_and signs kinds) k ≡ 0 = ap (λ m. bit_at m k) none ∙ bit_at-zero k in
         absurd (omega (arith, bit_at_and signs kinds k, sign_set, kinds_set, clear))
