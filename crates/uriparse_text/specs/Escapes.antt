@@ -1,5 +1,5 @@
 -- Escapes in canonical spelling: RFC 3986, sections 6.2.2.1 and 6.2.2.2. Words of private functions' clauses alone.
-use Rattle.std.specs.Prelude.{◌≡◌, ℕ, ◌+◌, ◌-◌, ◌<◌, ◌≤◌, Bool, true, false, not, ◌&&◌, ◌==◌, List, [], ◌∷◌, length, drop, slice_index}
+use Rattle.std.specs.Prelude.{◌≡◌, ℕ, ◌+◌, ◌-◌, ◌<◌, ◌≤◌, Bool, true, false, not, ◌&&◌, ◌==◌, List, [], ◌∷◌, length, drop, slice_index, if◌then◌else◌}
 use Rattle.std.specs.Int.{bit_at}
 use Rattle.std.specs.Char.{to_ascii_uppercase}
 use Rattle.uriparse_text.specs.declared.internal.canonical.Case.TheVariants.{Kept}
@@ -16,6 +16,16 @@ is_canonical_escape high low =
 abbrev pub begins_changed : List ℕ → Bool
 begins_changed [] = false
 begins_changed (b ∷ after) = is_escape b after && not (is_canonical_escape (slice_index after 0) (slice_index after 1))
+
+-- the text begins with an escape of an unreserved byte
+abbrev pub begins_shrunk : List ℕ → Bool
+begins_shrunk [] = false
+begins_shrunk (b ∷ after) = is_escape b after && is_unreserved (escaped_byte (slice_index after 0) (slice_index after 1))
+
+-- how many places of the text such an escape begins at
+unfoldable pub shrunk_count : List ℕ → ℕ
+shrunk_count [] = 0
+shrunk_count (b ∷ after) = (if begins_shrunk (b ∷ after) then 1 else 0) + shrunk_count after
 
 -- no escape that isn't canonical begins before this place
 abbrev pub NoneChanged : List ℕ → ℕ → Type 0

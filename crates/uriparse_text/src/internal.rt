@@ -20,6 +20,7 @@ mod rewrite;
 mod run;
 mod scan;
 mod settled;
+mod shrunk;
 mod spelling;
 mod starts;
 mod text;

@@ -6,4 +6,5 @@ pub mod SettledLemmas
 pub mod ComparisonLemmas
 pub mod SpellingLengthLemmas
 pub mod RaiseLemmas
+pub mod ShrunkLemmas
 pub mod DotLemmas

@@ -8,6 +8,7 @@ use super::canonical::Case;
 use super::class::is_unreserved;
 use super::rewrite::split_run;
 use super::run::MayChange;
+use super::shrunk::shrunk_count;
 use super::token::{Token, first_token};
 
 /// How many bytes fewer the canonical form of a token has: an escape of an unreserved byte becomes
@@ -24,8 +25,20 @@ fn saved(token: Token) -> usize
 }
 
 /// The length of the text's canonical spelling. The case of letters does not change it, so only
-/// escapes are looked at.
+/// escapes of unreserved bytes are counted.
 pub(super) fn spelling_len(case: Case, text: &[u8]) -> usize
+    ensures { result ≡ length (canonical_in case text.now) }
+{
+    if text.len() < 18 {
+        short_spelling_len(case, text)
+    } else {
+        text.len() - 2 * shrunk_count(text)
+    }
+}
+
+/// The length of a short text's canonical spelling, escape by escape.
+#[inline(always)]
+fn short_spelling_len(case: Case, text: &[u8]) -> usize
     ensures { result ≡ length (canonical_in case text.now) }
 {
     let mut len = text.len();

@@ -16,6 +16,8 @@ use Rattle.uriparse_text.specs.Tokens.{is_escape}
 use Rattle.uriparse_text.specs.Canonical.{canonical_in, canonical_token}
 use Rattle.uriparse_text.specs.Escapes.{is_canonical_escape, begins_changed, NoneChanged}
 use Rattle.uriparse_text.proofs.lemmas.scans.PairLemmas.{first_kinds, second_kinds, pair_kind}
+use Rattle.uriparse_text.proofs.lemmas.scans.PairMarkLemmas.{both_at}
+use Rattle.uriparse_text.proofs.lemmas.scans.MarkLemmas.{is_unset}
 use Rattle.uriparse_text.proofs.lemmas.tokens.TokenLemmas.{tokens-byte, tokens-escape, escape_at}
 use Rattle.uriparse_text.proofs.lemmas.canonical.CanonicalLemmas.{by_escaped, canonical_in-nil, canonical_in-cons}
 
@@ -104,9 +106,6 @@ changed_from (b ∷ high ∷ low ∷ rest) is =
     let sign : (b == percent) ≡ true = ap (λ x. x == percent) is.sign in
     and_from _ _ (and_from _ _ (and_from _ _ sign is.high) is.low) (ap not is.changed)
 
-marked : (p : ℕ → Bool) (lanes : List ℕ) (k : ℕ) → k < length lanes → p (get_or lanes k 0) ≡ true → bit_at (mask_l (map p lanes)) k ≡ 1
-marked p lanes k h e = bit_mask_l (map p lanes) k ∙ ap (λ v. cond v 1 0) (get_or-map p lanes k 0 false h ∙ e)
-
 hex_small : (b : ℕ) → is_hex b ≡ true → b < 256
 hex_small b h = grind (arith, nat_tests)
 
@@ -117,22 +116,6 @@ pub no_mark : (text : List ℕ) (at : ℕ) → at + 18 ≤ length text → (firs
     → (k : ℕ) → k < 16 → bit_at (bit_and signs kinds) k ≡ 0 → begins_changed (drop (at + k) text) ≡ false
 no_mark text at room firsts seconds f s signs kinds e g k h clear = by_value (begins_changed (drop (at + k) text)) refl
   where
-    long : (i : ℕ) → i + 16 ≤ length text → length (chunk i 16 text) ≡ 16
-    long i fits = length-chunk i 16 text fits
-
-    kinds_at : (p : ℕ → ℕ) (i : ℕ) (l : List ℕ) → i + 16 ≤ length text → l ≡ map p (chunk i 16 text) → get_or l k 0 ≡ p (get_or text (i + k) 0)
-    kinds_at p i l fits is =
-        ap (λ u. get_or u k 0) is ∙ get_or-map p (chunk i 16 text) k 0 0 (omega (arith, long i fits)) ∙ ap p (get_or-chunk i 16 text k 0 h)
-
-    long_firsts : length firsts ≡ 16
-    long_firsts = ap length f ∙ length-map (chunk (at + 1) 16 text) first_kinds ∙ long (at + 1) (omega arith)
-
-    long_seconds : length seconds ≡ 16
-    long_seconds = ap length s ∙ length-map (chunk (at + 2) 16 text) second_kinds ∙ long (at + 2) (omega arith)
-
-    long_both : length (zip2 bit_and firsts seconds) ≡ 16
-    long_both = length-zip2 bit_and firsts seconds (long_firsts ∙ sym long_seconds) ∙ long_firsts
-
     byte_at : (j : ℕ) → get_or (drop (at + k) text) j 0 ≡ get_or text (at + j + k) 0
     byte_at j = let place : at + k + j ≡ at + j + k = omega arith in get_or-drop (at + k) text j 0 ∙ ap (λ i. get_or text i 0) place
 
@@ -140,23 +123,15 @@ no_mark text at room firsts seconds f s signs kinds e g k h clear = by_value (be
     by_value false _ = refl
     by_value true is =
         let it = changed_bytes (drop (at + k) text) is in
+        let first = get_or text (at + 1 + k) 0 in
+        let second = get_or text (at + 2 + k) 0 in
         let sign : get_or text (at + k) 0 ≡ percent = sym (ap (λ i. get_or text (i + k) 0) (let none : at + 0 ≡ at = omega arith in none)) ∙ sym (byte_at 0) ∙ it.sign in
-        let high : is_hex (get_or text (at + 1 + k) 0) ≡ true = ap is_hex (sym (byte_at 1)) ∙ it.high in
-        let low : is_hex (get_or text (at + 2 + k) 0) ≡ true = ap is_hex (sym (byte_at 2)) ∙ it.low in
-        let never : is_canonical_escape (get_or text (at + 1 + k) 0) (get_or text (at + 2 + k) 0) ≡ false =
-        ap (λ b. is_canonical_escape b (get_or text (at + 2 + k) 0)) (sym (byte_at 1))
-        ∙ ap (λ b. is_canonical_escape (get_or (drop (at + k) text) 1 0) b) (sym (byte_at 2)) ∙ it.changed in
-        let shared : eqb (bit_and (first_kinds (get_or text (at + 1 + k) 0)) (second_kinds (get_or text (at + 2 + k) 0))) 0 ≡ false =
-        pair_kind (get_or text (at + 1 + k) 0) (get_or text (at + 2 + k) 0) (hex_small (get_or text (at + 1 + k) 0) high)
-        (hex_small (get_or text (at + 2 + k) 0) low) high low ∙ never in
-        let both : get_or (zip2 bit_and firsts seconds) k 0 ≡ bit_and (first_kinds (get_or text (at + 1 + k) 0)) (second_kinds (get_or text (at + 2 + k) 0)) =
-        get_or-zip2 bit_and firsts seconds k 0 0 0 (omega (arith, long_firsts)) (omega (arith, long_seconds))
-        ∙ ap (λ u. bit_and u (get_or seconds k 0)) (kinds_at first_kinds (at + 1) firsts (omega arith) f)
-        ∙ ap (λ u. bit_and (first_kinds (get_or text (at + 1 + k) 0)) u) (kinds_at second_kinds (at + 2) seconds (omega arith) s) in
-        let kinds_set : bit_at kinds k ≡ 1 =
-        ap (λ m. bit_at m k) (g ∙ bitmask_splat w8 (λ a b. not (eqb a b)) (zip2 bit_and firsts seconds) 16 0 long_both (omega arith))
-        ∙ marked (λ x. not (eqb x 0)) (zip2 bit_and firsts seconds) k (omega (arith, long_both)) (ap (λ x. not (eqb x 0)) both ∙ ap not shared) in
-        let sign_set : bit_at signs k ≡ 1 =
-        ap (λ m. bit_at m k) e ∙ marked (λ b. b == percent) (chunk at 16 text) k (omega (arith, long at (omega arith)))
-        (ap (λ b. b == percent) (get_or-chunk at 16 text k 0 h ∙ sign)) in
-        absurd (omega (arith, bit_at_and signs kinds k, sign_set, kinds_set, clear))
+        let high : is_hex first ≡ true = ap is_hex (sym (byte_at 1)) ∙ it.high in
+        let low : is_hex second ≡ true = ap is_hex (sym (byte_at 2)) ∙ it.low in
+        let never : is_canonical_escape first second ≡ false =
+        ap (λ b. is_canonical_escape b second) (sym (byte_at 1)) ∙ ap (λ b. is_canonical_escape (get_or (drop (at + k) text) 1 0) b) (sym (byte_at 2)) ∙ it.changed in
+        let shared : eqb (bit_and (first_kinds first) (second_kinds second)) 0 ≡ false =
+        pair_kind first second (hex_small first high) (hex_small second low) high low ∙ never in
+        let none : (get_or text (at + k) 0 == percent && not (eqb (bit_and (first_kinds first) (second_kinds second)) 0)) ≡ false =
+        is_unset _ (sym (both_at first_kinds second_kinds text at room firsts seconds f s signs kinds e g k h) ∙ clear) in
+        absurd (false≢true (sym none ∙ and_from _ _ (ap (λ b. b == percent) sign) (ap not shared)))

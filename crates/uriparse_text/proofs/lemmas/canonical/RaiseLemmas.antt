@@ -7,7 +7,7 @@ use Rattle.std.specs.Int.{bit_at}
 use Rattle.std.proofs.lemmas.Bool.{and_parts, and_from, eq-eqb, false≢true, cases_lt}
 use Rattle.std.proofs.lemmas.Bool.Decides.{nat_tests}
 use Rattle.std.proofs.lemmas.Grind.{flat_map-append}
-use Rattle.std.proofs.lemmas.List.{map-append, drop_more, drop-set-lt, take-set-le, take-append-drop, get_or-drop, get_or-set_same, get_or-set_other, length-set, length-drop, length-take}
+use Rattle.std.proofs.lemmas.List.{map-append, drop-set-lt, take-set-le, take-append-drop, get_or-drop, get_or-set_same, get_or-set_other, length-set, length-drop, length-take}
 use Rattle.std.proofs.lemmas.Nat.Bits.{bit_at-lt, bit_at-zero}
 use Rattle.uriparse_text.specs.declared.internal.token.Token.TheVariants.{Byte, Escape}
 use Rattle.uriparse_text.specs.declared.internal.canonical.Case.{Case}
@@ -16,6 +16,7 @@ use Rattle.uriparse_text.specs.Bytes.{percent, is_hex, is_unreserved}
 use Rattle.uriparse_text.specs.Tokens.{tokens, spell, is_escape}
 use Rattle.uriparse_text.specs.Canonical.{canonical_in, canonical_token, escaped_byte, in_case}
 use Rattle.uriparse_text.specs.Escapes.{is_canonical_escape, begins_changed, NoneChanged, AreMarked, Raises}
+use Rattle.uriparse_text.proofs.lemmas.scans.PairMarkLemmas.{three}
 use Rattle.uriparse_text.proofs.lemmas.tokens.TokenLemmas.{tokens-border, tokens-escape, escape_at}
 use Rattle.uriparse_text.proofs.lemmas.canonical.CanonicalLemmas.{by_escaped, canonical_in-cons, upper_digit, upper_twice, upper_value}
 use Rattle.uriparse_text.proofs.lemmas.canonical.ChangedLemmas.{Changed, changed_bytes, changed_from}
@@ -100,17 +101,8 @@ module _ (text : List ℕ) (k : ℕ) where
     pub first : is_hex (get_or text (k + 1) 0) ≡ true
     pub second : is_hex (get_or text (k + 2) 0) ≡ true
 
-  three : (t : List ℕ) → k + 2 < length t → drop k t ≡ get_or t k 0 ∷ get_or t (k + 1) 0 ∷ get_or t (k + 2) 0 ∷ drop (k + 3) t
-  three t h =
-      let next : k + 1 + 1 ≡ k + 2 = omega arith in
-      let last : k + 2 + 1 ≡ k + 3 = omega arith in
-      drop_more t k 0 (omega arith)
-      ∙ ap (λ u. get_or t k 0 ∷ u) (drop_more t (k + 1) 0 (omega arith)
-      ∙ ap (λ i. get_or t (k + 1) 0 ∷ drop i t) next
-      ∙ ap (λ u. get_or t (k + 1) 0 ∷ u) (drop_more t (k + 2) 0 h ∙ ap (λ i. get_or t (k + 2) 0 ∷ drop i t) last))
-
   cut : (t : List ℕ) → k + 2 < length t → t ≡ take k t ++ get_or t k 0 ∷ get_or t (k + 1) 0 ∷ get_or t (k + 2) 0 ∷ drop (k + 3) t
-  cut t h = sym (take-append-drop k t) ∙ ap (λ u. take k t ++ u) (three t h)
+  cut t h = sym (take-append-drop k t) ∙ ap (λ u. take k t ++ u) (three k t h)
 
   size : length raised ≡ length text
   size = length-set (set text (k + 1) (to_ascii_uppercase high)) (k + 2) (to_ascii_uppercase low) ∙ length-set text (k + 1) (to_ascii_uppercase high)
