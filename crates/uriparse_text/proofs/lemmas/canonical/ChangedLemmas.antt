@@ -1,14 +1,13 @@
 -- Texts without an escape that isn't canonical.
-use Rattle.std.proofs.Common.{◌≡◌, ℕ, suc, ◌+◌, ◌-◌, ◌%◌, ◌^◌, ◌<◌, ◌≤◌, Bool, true, false, cond, eqb, not, ◌&&◌, List, [], ◌∷◌, map, length, get_or, drop, bit_and, replicate, refl, sym, ap, ◌∙◌, arith, inl, inr, length-drop, w8}
+use Rattle.std.proofs.Common.{◌≡◌, ℕ, suc, ◌+◌, ◌-◌, ◌%◌, ◌^◌, ◌<◌, ◌≤◌, Bool, true, false, cond, eqb, not, ◌&&◌, List, [], ◌∷◌, map, length, get_or, drop, bit_and, replicate, refl, sym, ap, ◌∙◌, arith, inl, inr, length-drop}
 use Rattle.std.specs.Prelude.{◌==◌}
 use Rattle.std.specs.Char.{to_ascii_uppercase}
 use Rattle.std.specs.Int.{bit_at}
 use Rattle.std.specs.Simd.Lanes.{zip2, mask_l, top, chunk}
 use Rattle.std.proofs.lemmas.Bool.{and_from, and_parts, eqb-true, not-true, false≢true, cases_lt}
-use Rattle.std.proofs.lemmas.List.{get_or-drop, get_or-map, length-map}
-use Rattle.std.proofs.lemmas.Simd.{bitmask_splat, length-chunk, get_or-chunk, length-zip2, get_or-zip2, bit_mask_l}
+use Rattle.std.proofs.lemmas.List.{get_or-drop}
 use Rattle.std.proofs.lemmas.Bool.Decides.{nat_tests}
-use Rattle.std.proofs.lemmas.Nat.Bits.{bit_at_and, bit_at-zero}
+use Rattle.std.proofs.lemmas.Nat.Bits.{bit_at-zero}
 use Rattle.uriparse_text.specs.declared.internal.token.Token.TheVariants.{Byte, Escape}
 use Rattle.uriparse_text.specs.declared.internal.canonical.Case.TheVariants.{Kept}
 use Rattle.uriparse_text.specs.Bytes.{percent, is_hex}

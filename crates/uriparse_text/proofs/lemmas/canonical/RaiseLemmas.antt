@@ -1,13 +1,11 @@
 -- Digits of escapes that are made large.
-use Rattle.std.proofs.Common.{◌≡◌, ◌≢◌, ℕ, zero, suc, ◌+◌, ◌-◌, ◌<◌, ◌≤◌, Bool, true, false, cond, not, ◌&&◌, List, [], ◌∷◌, ◌++◌, map, length, length-append, get_or, set, take, drop, refl, sym, ap, subst, ◌∙◌, arith, inl, inr}
-use Rattle.std.specs.Prelude.{◌==◌}
+use Rattle.std.proofs.Common.{◌≡◌, ◌≢◌, ℕ, zero, suc, ◌+◌, ◌-◌, ◌<◌, ◌≤◌, Bool, true, false, cond, not, List, ◌∷◌, ◌++◌, map, length, length-append, get_or, set, take, drop, refl, sym, ap, subst, ◌∙◌, arith, inl, inr}
 use Rattle.std.specs.List.{flat_map}
-use Rattle.std.specs.Char.{digit_value, to_ascii_uppercase}
+use Rattle.std.specs.Char.{to_ascii_uppercase}
 use Rattle.std.specs.Int.{bit_at}
 use Rattle.std.proofs.lemmas.Bool.{and_parts, and_from, eq-eqb, false≢true, cases_lt}
-use Rattle.std.proofs.lemmas.Bool.Decides.{nat_tests}
 use Rattle.std.proofs.lemmas.Grind.{flat_map-append}
-use Rattle.std.proofs.lemmas.List.{map-append, drop-set-lt, take-set-le, take-append-drop, get_or-drop, get_or-set_same, get_or-set_other, length-set, length-drop, length-take}
+use Rattle.std.proofs.lemmas.List.{map-append, drop-set-lt, take-set-le, take-append-drop, get_or-drop, get_or-set_same, get_or-set_other, length-set, length-drop}
 use Rattle.std.proofs.lemmas.Nat.Bits.{bit_at-lt, bit_at-zero}
 use Rattle.uriparse_text.specs.declared.internal.token.Token.TheVariants.{Byte, Escape}
 use Rattle.uriparse_text.specs.declared.internal.canonical.Case.{Case}
@@ -18,7 +16,7 @@ use Rattle.uriparse_text.specs.Canonical.{canonical_in, canonical_token, escaped
 use Rattle.uriparse_text.specs.Escapes.{is_canonical_escape, begins_changed, NoneChanged, AreMarked, Raises}
 use Rattle.uriparse_text.proofs.lemmas.scans.PairMarkLemmas.{three}
 use Rattle.uriparse_text.proofs.lemmas.tokens.TokenLemmas.{tokens-border, tokens-escape, escape_at}
-use Rattle.uriparse_text.proofs.lemmas.canonical.CanonicalLemmas.{by_escaped, canonical_in-cons, upper_digit, upper_twice, upper_value}
+use Rattle.uriparse_text.proofs.lemmas.canonical.CanonicalLemmas.{canonical_in-cons, upper_digit, upper_twice, upper_value}
 use Rattle.uriparse_text.proofs.lemmas.canonical.ChangedLemmas.{Changed, changed_bytes, changed_from}
 use Rattle.uriparse_text.proofs.lemmas.canonical.SpellingLengthLemmas.{spelled_no_longer}
 

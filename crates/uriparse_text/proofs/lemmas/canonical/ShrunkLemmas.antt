@@ -1,5 +1,5 @@
 -- Escapes of unreserved bytes, and how much shorter they make canonical spellings.
-use Rattle.std.proofs.Common.{◌≡◌, ℕ, zero, suc, ◌+◌, ◌-◌, ◌*◌, ◌/◌, ◌%◌, ◌^◌, ◌<◌, ◌≤◌, Bool, true, false, cond, eqb, not, ◌&&◌, List, [], ◌∷◌, ◌++◌, map, length, length-append, get_or, drop, bit_and, count_ones, min, replicate, refl, sym, ap, ◌∙◌, arith, inl, inr, length-drop, w8}
+use Rattle.std.proofs.Common.{◌≡◌, ℕ, zero, suc, ◌+◌, ◌-◌, ◌*◌, ◌/◌, ◌%◌, ◌^◌, ◌<◌, ◌≤◌, Bool, true, false, cond, eqb, not, ◌&&◌, List, [], ◌∷◌, map, length, length-append, get_or, drop, bit_and, count_ones, replicate, refl, sym, ap, ◌∙◌, arith, inl, inr, length-drop}
 use Rattle.std.specs.Prelude.{◌==◌}
 use Rattle.std.specs.Char.{to_ascii_uppercase}
 use Rattle.std.specs.Int.{bit_at}
@@ -7,9 +7,7 @@ use Rattle.std.specs.Int.Bits.{and_zero_l, and_zero_r}
 use Rattle.std.specs.Simd.Lanes.{zip2, mask_l, top, chunk}
 use Rattle.std.proofs.lemmas.Bool.{agree_below, agree_below_at, and_parts, eqb-true, false≢true, cases_lt}
 use Rattle.std.proofs.lemmas.Bool.Decides.{nat_tests}
-use Rattle.std.proofs.lemmas.List.{drop_more, get_or-drop, get_or-map, get_or_past, length-map}
-use Rattle.std.proofs.lemmas.Nat.Bits.{bit_at_and, bit_at-lt, bit_at-zero}
-use Rattle.std.proofs.lemmas.Simd.{bitmask_splat, length-chunk, get_or-chunk, length-zip2, get_or-zip2, bit_mask_l}
+use Rattle.std.proofs.lemmas.List.{drop_more, get_or_past}
 use Rattle.uriparse_text.specs.declared.internal.token.Token.TheVariants.{Byte, Escape}
 use Rattle.uriparse_text.specs.declared.internal.canonical.Case.{Case}
 use Rattle.uriparse_text.specs.declared.internal.canonical.Case.TheVariants.{Kept}
@@ -21,7 +19,7 @@ use Rattle.uriparse_text.specs.Escapes.{begins_shrunk, shrunk_count}
 use Rattle.uriparse_text.proofs.lemmas.scans.PairMarkLemmas.{both_at, both_past, three}
 use Rattle.uriparse_text.proofs.lemmas.scans.BitLemmas.{ones_none, ones_next, ones_whole}
 use Rattle.uriparse_text.proofs.lemmas.tokens.TokenLemmas.{tokens-byte, tokens-escape, escape_at}
-use Rattle.uriparse_text.proofs.lemmas.canonical.CanonicalLemmas.{by_escaped, canonical_in-nil, canonical_in-cons}
+use Rattle.uriparse_text.proofs.lemmas.canonical.CanonicalLemmas.{canonical_in-nil, canonical_in-cons}
 use Rattle.uriparse_text.proofs.lemmas.canonical.SpellingLengthLemmas.{length_in_case}
 
 -- ---- how much shorter

@@ -1,4 +1,4 @@
-use Rattle.std.proofs.Common.{◌≡◌, ◌+◌, ◌-◌, length, sym, ◌∙◌, arith, rules}
+use Rattle.std.proofs.Common.{◌+◌, ◌-◌, length, sym, ◌∙◌, arith, rules}
 use Rattle.uriparse_text.specs.Escapes.{NoneChanged, Raises}
 use Rattle.uriparse_text.proofs.lemmas.canonical.ChangedLemmas.{none_at_all}
 use Rattle.uriparse_text.proofs.internal.raise.raise_digits.Goals as goal

@@ -1,4 +1,4 @@
-use Rattle.std.proofs.Common.{◌≡◌, ◌+◌, ◌≤◌, drop, length, count_ones, arith}
+use Rattle.std.proofs.Common.{◌≡◌, ◌+◌, drop, count_ones, arith}
 use Rattle.uriparse_text.specs.Escapes.{shrunk_count}
 use Rattle.uriparse_text.proofs.lemmas.canonical.ShrunkLemmas.{counted, counted_last, shrunk_few}
 use Rattle.uriparse_text.proofs.internal.shrunk.shrunk_count.Goals as goal
