@@ -34,6 +34,9 @@ fn marks_of_shrunk(text: &[u8], at: usize) -> u64
     ensures few { (k : ℕ) → 16 ≤ k → bit_at result k ≡ 0 }
 {
     let signs = Is(b'%').marks(u8x16::from_slice(&text[at..]));
+    if signs == 0 {
+        return 0;
+    }
     let high = u8x16::from_slice(&text[at + 1..]);
     let low = u8x16::from_slice(&text[at + 2..]);
     let first = by_low(FIRST_LOW, high) & by_high(FIRST_HIGH, high);

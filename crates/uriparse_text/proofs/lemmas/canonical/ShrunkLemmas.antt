@@ -176,6 +176,16 @@ module _ (text : List ℕ) (at : ℕ) (room : at + 18 ≤ length text) (firsts s
   pub mark_past : (k : ℕ) → 16 ≤ k → bit_at (bit_and signs kinds) k ≡ 0
   mark_past = both_past first_kinds second_kinds text at room firsts seconds f s signs kinds e g
 
+-- without a `%` there is no mark
+pub none_shrunk : (text : List ℕ) (at signs : ℕ) → at + 18 ≤ length text → signs ≡ mask_l (map (λ b. b == percent) (chunk at 16 text)) → signs ≡ 0
+    → (k : ℕ) → k < 16 → bit_at 0 k ≡ cond (begins_shrunk (drop (at + k) text)) 1 0
+none_shrunk text at signs room e none k h =
+    let firsts = map first_kinds (chunk (at + 1) 16 text) in
+    let seconds = map second_kinds (chunk (at + 2) 16 text) in
+    let kinds = mask_l (map (top 7) (zip2 (λ a b. cond (not (eqb a b)) 255 0) (zip2 bit_and firsts seconds) (replicate 16 0))) % 2 ^ 64 in
+    sym (ap (λ m. bit_at m k) (ap (λ m. bit_and m kinds) none ∙ and_zero_l kinds))
+    ∙ mark_shrunk text at room firsts seconds refl refl signs kinds e refl k h
+
 -- ---- counted by marks
 
 short_none : (t : List ℕ) → length t < 3 → shrunk_count t ≡ 0
