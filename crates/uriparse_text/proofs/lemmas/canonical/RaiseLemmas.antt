@@ -37,7 +37,7 @@ same_canonical : (case : Case) (high low : ℕ) → is_hex high ≡ true → is_
     → canonical_token case (Escape (to_ascii_uppercase high) (to_ascii_uppercase low)) ≡ canonical_token case (Escape high low)
 same_canonical case high low h l =
     ap (λ v. cond (is_unreserved v) (Byte (in_case case v))
-        (Escape (to_ascii_uppercase (to_ascii_uppercase high)) (to_ascii_uppercase (to_ascii_uppercase low)))) (same_value high low h l)
+    (Escape (to_ascii_uppercase (to_ascii_uppercase high)) (to_ascii_uppercase (to_ascii_uppercase low)))) (same_value high low h l)
     ∙ ap (λ x. cond (is_unreserved (escaped_byte high low)) (Byte (in_case case (escaped_byte high low))) (Escape x (to_ascii_uppercase (to_ascii_uppercase low))))
     (upper_twice high)
     ∙ ap (λ x. cond (is_unreserved (escaped_byte high low)) (Byte (in_case case (escaped_byte high low))) (Escape (to_ascii_uppercase high) x))
@@ -264,12 +264,15 @@ pub marks_first : (text : List ℕ) (seen at marks : ℕ) → NoneChanged text s
     → ((k : ℕ) → k < 16 → bit_at marks k ≡ 0 → begins_changed (drop (at + k) text) ≡ false) → AreMarked text at marks
 marks_first text seen at marks before from are k h changed = elim (cases_lt k at) [
   | inl is ↦ absurd (false≢true (sym (before k (omega arith)) ∙ changed))
-  | inr past ↦ (past, elim (cases_lt (bit_at marks (k - at)) 1) [
-    | inl unset ↦
-        let place : at + (k - at) ≡ k = omega arith in
-        absurd (false≢true (sym (ap (λ i. begins_changed (drop i text)) (sym place) ∙ are (k - at) (omega arith) (omega arith)) ∙ changed))
-    | inr set ↦ omega (arith, bit_at-lt marks (k - at))
-  ])
+  | inr past ↦ (
+    past,
+    elim (cases_lt (bit_at marks (k - at)) 1) [
+      | inl unset ↦
+          let place : at + (k - at) ≡ k = omega arith in
+          absurd (false≢true (sym (ap (λ i. begins_changed (drop i text)) (sym place) ∙ are (k - at) (omega arith) (omega arith)) ∙ changed))
+      | inr set ↦ omega (arith, bit_at-lt marks (k - at))
+    ],
+  )
 ]
 
 -- the lowest mark's escape is raised

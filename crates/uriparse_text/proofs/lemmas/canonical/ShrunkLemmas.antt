@@ -75,8 +75,18 @@ shorter (b ∷ high ∷ low ∷ rest) =
         ap (λ v. cond (v && is_unreserved (escaped_byte high low)) 1 0) e in
         let second : ◌≡◌ {A = ℕ} (cond (begins_shrunk (high ∷ low ∷ rest)) 1 0) 0 = ap (λ v. cond v 1 0) (hex_begins_none high (low ∷ rest) digits.0) in
         let third : ◌≡◌ {A = ℕ} (cond (begins_shrunk (low ∷ rest)) 1 0) 0 = ap (λ v. cond v 1 0) (hex_begins_none low rest digits.1) in
-        omega (arith, spelled, f, first, second, third, escape_length high low, shrunk_cons b (high ∷ low ∷ rest), shrunk_cons high (low ∷ rest),
-          shrunk_cons low rest)
+        omega (
+          arith,
+          spelled,
+          f,
+          first,
+          second,
+          third,
+          escape_length high low,
+          shrunk_cons b (high ∷ low ∷ rest),
+          shrunk_cons high (low ∷ rest),
+          shrunk_cons low rest,
+        )
     by_first false e f g =
         let spelled : length (canonical_in Kept (b ∷ high ∷ low ∷ rest)) ≡ suc (length (canonical_in Kept (high ∷ low ∷ rest))) =
         ap length (canonical_in-cons Kept (b ∷ high ∷ low ∷ rest) (high ∷ low ∷ rest) (Byte b) (tokens-byte b (high ∷ low ∷ rest) e)) in
