@@ -50,9 +50,6 @@ pub(super) fn marks_of_changed(text: &[u8], at: usize) -> u64
     ensures { (k : ℕ) → k < 16 → bit_at result k ≡ 0 → spec.begins_changed (drop (at + k) text.now) ≡ false }
 {
     let signs = Is(b'%').marks(u8x16::from_slice(&text[at..]));
-    if signs == 0 {
-        return 0;
-    }
     let high = u8x16::from_slice(&text[at + 1..]);
     let low = u8x16::from_slice(&text[at + 2..]);
     let first = by_low(FIRST_LOW, high) & by_high(FIRST_HIGH, high);

@@ -3,7 +3,6 @@ use Rattle.std.proofs.Common.{◌≡◌, ℕ, suc, ◌+◌, ◌-◌, ◌%◌, �
 use Rattle.std.specs.Prelude.{◌==◌}
 use Rattle.std.specs.Char.{to_ascii_uppercase}
 use Rattle.std.specs.Int.{bit_at}
-use Rattle.std.specs.Int.Bits.{and_zero_l}
 use Rattle.std.specs.Simd.Lanes.{zip2, mask_l, top, chunk}
 use Rattle.std.proofs.lemmas.Bool.{and_from, and_parts, eqb-true, not-true, false≢true, cases_lt}
 use Rattle.std.proofs.lemmas.List.{get_or-drop}
@@ -135,13 +134,3 @@ no_mark text at room firsts seconds f s signs kinds e g k h clear = by_value (be
         let none : (get_or text (at + k) 0 == percent && not (eqb (bit_and (first_kinds first) (second_kinds second)) 0)) ≡ false =
         is_unset _ (sym (both_at first_kinds second_kinds text at room firsts seconds f s signs kinds e g k h) ∙ clear) in
         absurd (false≢true (sym none ∙ and_from _ _ (ap (λ b. b == percent) sign) (ap not shared)))
-
--- without a `%` there is no mark
-pub no_sign : (text : List ℕ) (at signs : ℕ) → at + 18 ≤ length text → signs ≡ mask_l (map (λ b. b == percent) (chunk at 16 text)) → signs ≡ 0
-    → (k : ℕ) → k < 16 → begins_changed (drop (at + k) text) ≡ false
-no_sign text at signs room e none k h =
-    let firsts = map first_kinds (chunk (at + 1) 16 text) in
-    let seconds = map second_kinds (chunk (at + 2) 16 text) in
-    let kinds = mask_l (map (top 7) (zip2 (λ a b. cond (not (eqb a b)) 255 0) (zip2 bit_and firsts seconds) (replicate 16 0))) % 2 ^ 64 in
-    no_mark text at room firsts seconds refl refl signs kinds e refl k h
-    (ap (λ m. bit_at m k) (ap (λ m. bit_and m kinds) none ∙ and_zero_l kinds) ∙ bit_at-zero k)

@@ -2,7 +2,7 @@ use Rattle.std.proofs.Common.{◌+◌, ◌/◌, get_or, bit_and, refl}
 use Rattle.std.specs.Simd.Lanes.{zip2, chunk}
 use Rattle.std.proofs.lemmas.Simd.{zip2_of_maps}
 use Rattle.uriparse_text.specs.declared.internal.pairs.TheConstants.{FIRST_LOW, FIRST_HIGH, SECOND_LOW, SECOND_HIGH}
-use Rattle.uriparse_text.proofs.lemmas.canonical.ChangedLemmas.{no_mark, no_sign}
+use Rattle.uriparse_text.proofs.lemmas.canonical.ChangedLemmas.{no_mark}
 use Rattle.uriparse_text.proofs.internal.pairs.marks_of_changed.Goals as goal
 
 pub returns : goal.returns
@@ -13,6 +13,3 @@ returns c k h clear =
     (zip2_of_maps bit_and (λ b. get_or FIRST_LOW (bit_and b 15) 0) (λ b. get_or FIRST_HIGH (b / 16) 0) (chunk (at + 1) 16 text) c.by_low.ensures c.by_high.ensures)
     (zip2_of_maps bit_and (λ b. get_or SECOND_LOW (bit_and b 15) 0) (λ b. get_or SECOND_HIGH (b / 16) 0) (chunk (at + 2) 16 text) c.by_low-2.ensures c.by_high-2.ensures)
     c.marks-signs.result _ c.marks-signs.ensures refl k h clear
-
-pub returns-then-signs-eq0 : goal.returns-then-signs-eq0
-returns-then-signs-eq0 c k h _ = no_sign c.args.text.now c.args.at c.marks-signs.result c.requires c.marks-signs.ensures c.if-signs-eq0.true k h
