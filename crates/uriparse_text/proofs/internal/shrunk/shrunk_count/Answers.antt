@@ -15,13 +15,10 @@ overflow_add-count c = omega (arith, more c, shrunk_few c.args.text.now)
 pub runs-preserved : goal.runs-preserved
 runs-preserved c = (more c, omega arith)
 
-all : (c : goal.After-shifted_down-last) → c.runs.count + count_ones c.shifted_down-last.result ≡ shrunk_count c.args.text.now
-all c =
+pub returns : goal.returns
+returns c =
     counted_last c.args.text.now c.runs.count c.runs.at c.marks_of_shrunk-2.result c.shifted_down-last.result (omega arith) c.runs.invariant.1
     (omega arith) c.runs.invariant.0 c.marks_of_shrunk-2.ensures.marks c.marks_of_shrunk-2.ensures.few c.shifted_down-last.ensures
 
 pub overflow_add-result : goal.overflow_add-result
-overflow_add-result c = omega (arith, all c, shrunk_few c.args.text.now)
-
-pub returns : goal.returns
-returns c = all c
+overflow_add-result c = omega (arith, returns c, shrunk_few c.args.text.now)
