@@ -1,14 +1,15 @@
 -- Texts without an escape that isn't canonical.
-use Rattle.std.proofs.Common.{◌≡◌, ℕ, suc, ◌+◌, ◌-◌, ◌%◌, ◌^◌, ◌<◌, ◌≤◌, Bool, true, false, cond, eqb, not, ◌&&◌, List, [], ◌∷◌, map, length, get_or, drop, bit_and, replicate, refl, sym, ap, ◌∙◌, arith, inl, inr, length-drop}
+use Rattle.std.proofs.Common.{◌≡◌, ◌↔◌, ℕ, suc, ◌+◌, ◌-◌, ◌%◌, ◌^◌, ◌<◌, ◌≤◌, Bool, true, false, cond, eqb, not, ◌&&◌, List, [], ◌∷◌, map, length, get_or, drop, bit_and, replicate, refl, sym, ap, ◌∙◌, arith, inl, inr, length-drop}
 use Rattle.std.specs.Prelude.{◌==◌}
 use Rattle.std.specs.Char.{to_ascii_uppercase}
 use Rattle.std.specs.Int.{bit_at}
 use Rattle.std.specs.Simd.Lanes.{zip2, mask_l, top, chunk}
-use Rattle.std.proofs.lemmas.Bool.{and_from, and_parts, eqb-true, not-true, false≢true, cases_lt}
+use Rattle.std.proofs.lemmas.Bool.{and_from, and_parts, eq-eqb, eqb-true, not-true, false≢true, cases_lt}
 use Rattle.std.proofs.lemmas.List.{get_or-drop}
 use Rattle.std.proofs.lemmas.Bool.Decides.{nat_tests}
 use Rattle.std.proofs.lemmas.Nat.Bits.{bit_at-zero}
 use Rattle.uriparse_text.specs.declared.internal.token.Token.TheVariants.{Byte, Escape}
+use Rattle.uriparse_text.specs.declared.internal.canonical.Case.{Case}
 use Rattle.uriparse_text.specs.declared.internal.canonical.Case.TheVariants.{Kept}
 use Rattle.uriparse_text.specs.Bytes.{percent, is_hex}
 use Rattle.uriparse_text.specs.Tokens.{is_escape}
@@ -20,13 +21,27 @@ use Rattle.uriparse_text.proofs.lemmas.scans.MarkLemmas.{is_unset}
 use Rattle.uriparse_text.proofs.lemmas.tokens.TokenLemmas.{tokens-byte, tokens-escape, escape_at}
 use Rattle.uriparse_text.proofs.lemmas.canonical.CanonicalLemmas.{by_escaped, canonical_in-nil, canonical_in-cons}
 
-same_token : (high low : ℕ) → is_canonical_escape high low ≡ true → canonical_token Kept (Escape high low) ≡ Escape high low
-same_token high low h =
-    let first = and_parts _ _ h in
-    let second = and_parts _ _ first.1 in
-    by_escaped Kept high low (λ t. t ≡ Escape high low)
-    (λ e. absurd (false≢true (sym (ap not e) ∙ second.1)))
-    (λ e. rw (eqb-true (to_ascii_uppercase high) high first.0, eqb-true (to_ascii_uppercase low) low second.0) refl)
+-- an escape is its own canonical form exactly if the test says so
+pub canonical_escape : (case : Case) (high low : ℕ) (r : Bool) → r ≡ is_canonical_escape high low
+    → (r ≡ true) ↔ (canonical_token case (Escape high low) ≡ Escape high low)
+canonical_escape case high low r e = (λ h. forward (sym e ∙ h), λ h. e ∙ backward h)
+  where
+    forward : is_canonical_escape high low ≡ true → canonical_token case (Escape high low) ≡ Escape high low
+    forward h =
+        let first = and_parts _ _ h in
+        let second = and_parts _ _ first.1 in
+        by_escaped case high low (λ t. t ≡ Escape high low)
+        (λ e. absurd (false≢true (sym (ap not e) ∙ second.1)))
+        (λ e. rw (eqb-true (to_ascii_uppercase high) high first.0, eqb-true (to_ascii_uppercase low) low second.0) refl)
+
+    backward : canonical_token case (Escape high low) ≡ Escape high low → is_canonical_escape high low ≡ true
+    backward =
+        by_escaped case high low (λ t. t ≡ Escape high low → is_canonical_escape high low ≡ true)
+        (λ e k. cc)
+        (λ e k.
+            let first : to_ascii_uppercase high ≡ high = cc in
+            let second : to_ascii_uppercase low ≡ low = cc in
+            and_from _ _ (eq-eqb (to_ascii_uppercase high) high first) (and_from _ _ (eq-eqb (to_ascii_uppercase low) low second) (ap not e)))
 
 escape_kept : (v w : Bool) → v ≡ true → (v && not w) ≡ false → w ≡ true
 escape_kept true true h k = refl
@@ -47,7 +62,7 @@ unchanged (b ∷ high ∷ low ∷ rest) h =
     by_first true e f g =
         let canonical = escape_kept _ (is_canonical_escape high low) e (h 0) in
         canonical_in-cons Kept (b ∷ high ∷ low ∷ rest) rest (Escape high low) (tokens-escape b (high ∷ low ∷ rest) e)
-        ∙ rw (same_token high low canonical, f) (ap (λ x. x ∷ high ∷ low ∷ rest) (sym (escape_at b (high ∷ low ∷ rest) e).sign))
+        ∙ rw ((canonical_escape Kept high low true (sym canonical)).0 refl, f) (ap (λ x. x ∷ high ∷ low ∷ rest) (sym (escape_at b (high ∷ low ∷ rest) e).sign))
     by_first false e f g =
         canonical_in-cons Kept (b ∷ high ∷ low ∷ rest) (high ∷ low ∷ rest) (Byte b) (tokens-byte b (high ∷ low ∷ rest) e) ∙ ap (λ u. b ∷ u) g
 
