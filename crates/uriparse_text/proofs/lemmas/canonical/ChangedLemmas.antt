@@ -39,9 +39,9 @@ canonical_escape case high low r e = (λ h. forward (sym e ∙ h), λ h. e ∙ b
         by_escaped case high low (λ t. t ≡ Escape high low → is_canonical_escape high low ≡ true)
         (λ e k. cc)
         (λ e k.
-            let first : to_ascii_uppercase high ≡ high = cc in
-            let second : to_ascii_uppercase low ≡ low = cc in
-            and_from _ _ (eq-eqb (to_ascii_uppercase high) high first) (and_from _ _ (eq-eqb (to_ascii_uppercase low) low second) (ap not e)))
+        let first : to_ascii_uppercase high ≡ high = cc in
+        let second : to_ascii_uppercase low ≡ low = cc in
+        and_from _ _ (eq-eqb (to_ascii_uppercase high) high first) (and_from _ _ (eq-eqb (to_ascii_uppercase low) low second) (ap not e)))
 
 escape_kept : (v w : Bool) → v ≡ true → (v && not w) ≡ false → w ≡ true
 escape_kept true true h k = refl
