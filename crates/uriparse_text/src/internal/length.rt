@@ -56,8 +56,8 @@ fn short_spelling_len(case: Case, text: &[u8]) -> usize
     len
 }
 
-/// Whether the canonical spelling, which has `len` bytes, only has larger digits than the text, which
-/// is not short.
+/// Whether the text, which is not short, differs from its canonical spelling of `len` bytes in small
+/// digits alone: letters keep their case, and no escape becomes a byte.
 #[inline(always)]
 pub(super) fn only_raises(case: Case, text: &[u8], len: usize) -> bool
     ensures case { result ≡ true → case ≡ Kept }
