@@ -8,9 +8,8 @@ use super::digit::hex_value;
 use super::length::{only_raises, spelling_len};
 use super::pairs::{is_canonical_escape, lacks_changes};
 use super::raise::raise_digits;
-use super::rewrite::{self, Rewriting, push_rewritten};
+use super::rewrite::push_rewritten;
 use super::run::{MayChange, split_run};
-use super::scan::ByteTest;
 use super::token::{Token, split_token};
 use std::alloc::{AllocError, Global};
 use std::hash::Hasher;
@@ -117,40 +116,17 @@ fn hold_token<H: Hasher>(token: Token, block: &mut [u8; BLOCK], len: usize, stat
     }
 }
 
-/// Appends the bytes of a run to those that wait in the block, as [`hold`] does with a byte.
-#[inline]
-fn hold_run<H: Hasher>(run: &[u8], block: &mut [u8; BLOCK], len: usize, state: &mut H) -> usize
-    requires { len < 64 }
-    ensures few { result < 64 }
-    ensures fed { (later : List ℕ) → fold H.write state.new (spec.fed_bytes (take result block.new ++ later)) ≡ fold H.write state.old (spec.fed_bytes (take len block.old ++ (run.now ++ later))) }
-{
-    let mut len = len;
-    for &b in run {
-        len = hold(b, block, len, state);
-    }
-    len
-}
-
-/// Feeds the bytes of a text's canonical spelling to the hasher. Runs that do not change are not cut
-/// at their tokens.
+/// Feeds the bytes of a text's canonical spelling to the hasher, token by token.
 #[inline(never)]
-fn feed_pieces<H: Hasher>(case: Case, text: &[u8], state: &mut H)
+fn feed_tokens<H: Hasher>(case: Case, text: &[u8], state: &mut H)
     ensures { state.new ≡ fold H.write state.old (spec.fed_bytes (spec.canonical_in case text.now)) }
 {
     let mut block = [0u8; BLOCK];
     let mut len = 0;
-    let way = MayChange(case);
     let mut rest = text;
-    'pieces: while let Some((&b, after)) = rest.split_first() {
-        if way.has(b) {
-            let (token, more) = way.token(b, after);
-            len = hold_token(token, &mut block, len, state);
-            rest = &after[more..];
-        } else {
-            let (run, later) = rewrite::split_run(&way, rest);
-            len = hold_run(run, &mut block, len, state);
-            rest = later;
-        }
+    'tokens: while let Some((token, after)) = split_token(rest) {
+        len = hold_token(token.canonical(case), &mut block, len, state);
+        rest = after;
     }
     state.write(&block[..len]);
 }
@@ -164,7 +140,7 @@ pub fn feed_spelling<H: Hasher>(case: Case, text: &[u8], state: &mut H)
     if is_canonical(case, text) {
         feed_bytes(text, state);
     } else {
-        feed_pieces(case, text, state);
+        feed_tokens(case, text, state);
     }
 }
 

@@ -7,9 +7,11 @@ use Rattle.std.proofs.lemmas.Bool.{and_parts, eqb-true}
 use Rattle.std.proofs.lemmas.Grind.{fold-append}
 use Rattle.std.proofs.Math.Seq.{take-length, take-append_seam, drop-append_seam}
 use Rattle.std.proofs.lemmas.List.{drop-drop, length-append, length-set, length-take, take_more_set}
+use Rattle.uriparse_text.specs.declared.internal.token.Token.{Token}
 use Rattle.uriparse_text.specs.declared.internal.canonical.Case.{Case}
-use Rattle.uriparse_text.specs.Canonical.{canonical_in, fed_bytes}
-use Rattle.uriparse_text.proofs.lemmas.canonical.CanonicalLemmas.{canonical_in-nil}
+use Rattle.uriparse_text.specs.Tokens.{tokens, spell}
+use Rattle.uriparse_text.specs.Canonical.{canonical_token, canonical_in, fed_bytes}
+use Rattle.uriparse_text.proofs.lemmas.canonical.CanonicalLemmas.{canonical_in-nil, canonical_in-cons}
 
 -- what fills no block is fed whole
 fed_last : (bytes : List ℕ) → length bytes < 64 → fed_bytes bytes ≡ bytes ∷ []
@@ -65,6 +67,11 @@ module _ {S : Type 0} (write : S → List ℕ → S) where
       let all : take (n + 1) (set block n b) ≡ set block n b = ap (λ m. take m (set block n b)) (h ∙ sym whole) ∙ take-length (set block n b) in
       sym (ap (fold write s) (fed_first (set block n b) later whole))
       ∙ ap (λ w. fold write s (fed_bytes w)) (ap (λ w. w ++ later) (sym all) ∙ held block n b later (omega (arith, h, k)))
+
+  -- a token more
+  pub feeds_token : (s : S) (waiting : List ℕ) (case : Case) (rest after : List ℕ) (t : Token) → tokens rest ≡ t ∷ tokens after
+      → fold write s (fed_bytes (waiting ++ (spell (canonical_token case t) ++ canonical_in case after))) ≡ fold write s (fed_bytes (waiting ++ canonical_in case rest))
+  feeds_token s waiting case rest after t e = sym (ap (λ u. fold write s (fed_bytes (waiting ++ u))) (canonical_in-cons case rest after t e))
 
   -- no token is left, and fewer bytes than a block has
   pub feeds_waiting : (s : S) (block : List ℕ) (n : ℕ) (case : Case) (rest : List ℕ) → n < 64 → rest ≡ []
