@@ -219,7 +219,7 @@ pub fn canonical_bytes(alloc: Global, case: Case, text: &[u8]) -> Result<Vec<u8>
     ensures { IfOk result (λ v. v.items ≡ spec.canonical_in case text.now) }
 {
     let mut bytes = Vec::with_capacity(alloc, text.len())?;
-    if only_raises(case, text, spelling_len(case, text)) {
+    if case == Case::Kept && only_raises(case, text, spelling_len(case, text)) {
         bytes.extend_from_slice(text)?;
         raise_digits(&mut bytes);
     } else {
