@@ -5,4 +5,6 @@ pub mod ChangedLemmas
 pub mod SettledLemmas
 pub mod ComparisonLemmas
 pub mod SpellingLengthLemmas
+pub mod RaiseLemmas
+pub mod ShrunkLemmas
 pub mod DotLemmas

@@ -1,10 +1,13 @@
 //! Whether two texts have one canonical spelling: RFC 3986, sections 6.2.2.1 and 6.2.2.2. Equal
 //! bytes are skipped sixteen at a time; tokens are read only where the texts differ.
-ghost use Rattle.std.specs.Prelude.{◌≡◌, ◌↔◌, ◌+◌, ◌<◌, ◌≤◌, ◌∷◌, ◌==◌, [], ℕ, IsTrue, IfSome, MatchOption, Some, None, true, false, if◌then◌else◌, length, slice_index};
+ghost use Rattle.std.specs.Prelude.{◌≡◌, ◌↔◌, ◌+◌, ◌<◌, ◌≤◌, ◌∷◌, ◌==◌, [], ℕ, IsTrue, IfSome, MatchOption, Some, None, true, false, if◌then◌else◌, bytes_eq, length, slice_index};
+ghost use Rattle.std.specs.Cmp.Lexicographic.{slice_cmp};
 ghost use Rattle.std.specs.Int.{bit_at};
+ghost use Rattle.std.specs.Ordering.{nat_cmp};
 ghost use Rattle.uriparse_text.specs.Bytes.{percent};
 ghost use Rattle.uriparse_text.specs.Tokens as tokens;
 ghost use Rattle.uriparse_text.specs.Canonical as spec;
+ghost use Rattle.uriparse_text.specs.Coding.{decoded};
 ghost use Rattle.uriparse_text.specs.Alike.{AreCommon, token_of};
 
 use super::bits::lowest;
@@ -43,12 +46,18 @@ fn same_tokens(case: Case, bytes: &[u8], text: &[u8]) -> bool
     right.is_empty()
 }
 
-/// What follows the bytes that two texts have in common.
+/// What follows the bytes that two texts have in common and that are no `%`. If escapes follow one
+/// another there is nothing to compare.
 #[inline(always)]
-fn behind_common<'l, 'r>(left: &'l [u8], right: &'r [u8]) -> (&'l [u8], &'r [u8])
+pub(super) fn behind_common<'l, 'r>(left: &'l [u8], right: &'r [u8]) -> (&'l [u8], &'r [u8])
     ensures same { (case : Case) → (spec.canonical_tokens case result.0.now ≡ spec.canonical_tokens case result.1.now) ↔ (spec.canonical_tokens case left.now ≡ spec.canonical_tokens case right.now) }
+    ensures represents { bytes_eq (decoded result.0.now) result.1.now ≡ bytes_eq (decoded left.now) right.now }
+    ensures compared { slice_cmp nat_cmp (decoded result.0.now) (decoded result.1.now) ≡ slice_cmp nat_cmp (decoded left.now) (decoded right.now) }
     ensures shorter { length result.0.now ≤ length left.now }
 {
+    if left.first() == Some(&b'%') {
+        return (left, right);
+    }
     let common = common_run(left, right);
     (&left[common..], &right[common..])
 }

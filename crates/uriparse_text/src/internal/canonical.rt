@@ -5,7 +5,9 @@ ghost use Rattle.uriparse_text.specs.Canonical as spec;
 
 use super::class::is_unreserved;
 use super::digit::hex_value;
+use super::length::{only_raises, spelling_len};
 use super::pairs::{is_canonical_escape, lacks_changes};
+use super::raise::raise_digits;
 use super::rewrite::push_rewritten;
 use super::run::{MayChange, split_run};
 use super::token::{Token, split_token};
@@ -211,12 +213,17 @@ fn walks_canonical(case: Case, text: &[u8]) -> bool
     true
 }
 
-/// The canonical spelling of a text. Reserves capacity once. Runs that do not change are copied
-/// whole.
+/// The canonical spelling of a text. Reserves capacity once. A text that only has small digits is
+/// copied whole, and of others the runs that do not change.
 pub fn canonical_bytes(alloc: Global, case: Case, text: &[u8]) -> Result<Vec<u8>, AllocError>
     ensures { IfOk result (λ v. v.items ≡ spec.canonical_in case text.now) }
 {
     let mut bytes = Vec::with_capacity(alloc, text.len())?;
-    push_rewritten(&mut bytes, &MayChange(case), text)?;
+    if case == Case::Kept && only_raises(case, text, spelling_len(case, text)) {
+        bytes.extend_from_slice(text)?;
+        raise_digits(&mut bytes);
+    } else {
+        push_rewritten(&mut bytes, &MayChange(case), text)?;
+    }
     Ok(bytes)
 }

@@ -8,6 +8,7 @@ ghost use Rattle.uriparse_text.specs.Classes.{is_plain};
 ghost use Rattle.uriparse_text.specs.Coding.{are_bytes, decoded, encoded, encoded_without, escape_of, escaped_in, form_decoded, form_value_of, value_of};
 ghost use Rattle.uriparse_text.specs.Tokens.{has_digits};
 
+use super::alike::behind_common;
 use super::class::Class;
 use super::digit::{hex_value, upper_digit};
 use super::rewrite::{Rewriting, push_rewritten};
@@ -88,12 +89,12 @@ pub fn decoded_bytes(alloc: Global, text: &[u8]) -> Result<Vec<u8>, AllocError>
     Ok(bytes)
 }
 
-/// Whether the text's tokens represent these bytes. Walks both once.
+/// Whether the text's tokens represent these bytes. Walks both once; bytes that they have in common
+/// are passed sixteen at a time.
 pub fn represents(text: &[u8], bytes: &[u8]) -> bool
     ensures { result ≡ bytes_eq (decoded text.now) bytes.now }
 {
-    let mut rest = text;
-    let mut left = bytes;
+    let (mut rest, mut left) = behind_common(text, bytes);
     'tokens: while let Some((token, after)) = split_token(rest) {
         let Some((&b, later)) = left.split_first() else {
             return false;
@@ -101,18 +102,19 @@ pub fn represents(text: &[u8], bytes: &[u8]) -> bool
         if token.value() != b {
             return false;
         }
-        left = later;
-        rest = after;
+        let (after_both, later_both) = behind_common(after, later);
+        rest = after_both;
+        left = later_both;
     }
     left.is_empty()
 }
 
-/// Compares the bytes that two texts represent. Walks both once.
+/// Compares the bytes that two texts represent. Walks both once; bytes that they have in common are
+/// passed sixteen at a time.
 pub fn compare_represented(text: &[u8], other: &[u8]) -> Ordering
     ensures { result ≡ slice_cmp nat_cmp (decoded text.now) (decoded other.now) }
 {
-    let mut rest = text;
-    let mut left = other;
+    let (mut rest, mut left) = behind_common(text, other);
     'tokens: while let Some((token, after)) = split_token(rest) {
         let Some((next, later)) = split_token(left) else {
             return Ordering::Greater;
@@ -121,8 +123,9 @@ pub fn compare_represented(text: &[u8], other: &[u8]) -> Ordering
             Ordering::Equal => {}
             order => return order,
         }
-        left = later;
-        rest = after;
+        let (after_both, later_both) = behind_common(after, later);
+        rest = after_both;
+        left = later_both;
     }
     match split_token(left) {
         None => Ordering::Equal,

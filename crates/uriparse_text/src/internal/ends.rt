@@ -1,19 +1,17 @@
 //! A text that is put together from its end, in the last bytes of a buffer. If it is longer than
 //! the buffer, only its length is counted.
-ghost use Rattle.std.specs.Prelude.{◌≡◌, ◌+◌, length, true};
+ghost use Rattle.std.specs.Prelude.{◌≡◌, length};
 ghost use Rattle.std.specs.Option.{option_map};
-ghost use Rattle.uriparse_text.specs.Canonical.{canonical_in, canonical_token};
+ghost use Rattle.uriparse_text.specs.Canonical.{canonical_in};
 ghost use Rattle.uriparse_text.specs.Cuts.{behind};
-ghost use Rattle.uriparse_text.specs.Tokens.{has_digits, spell};
 ghost use Rattle.uriparse_text.specs.Ends.{Puts, formed};
 
 use super::canonical::{Case, is_canonical};
-use super::class::is_unreserved;
-use super::rewrite::split_run;
+use super::length::{only_raises, spelling_len};
+use super::raise::raise_digits;
 use super::run::MayChange;
 use super::starts::append_rewritten;
 use super::text::{Text, TextKind};
-use super::token::{Token, first_token};
 
 /// Whether texts are put as they are or in canonical spelling.
 #[derive(Clone, Copy, Debug, PartialEq, Eq)]
@@ -35,46 +33,18 @@ pub fn put(bytes: &[u8], out: &mut [u8], len: usize) -> usize
     total
 }
 
-/// How many bytes fewer the canonical form of a token has: an escape of an unreserved byte becomes
-/// that byte.
-#[inline(always)]
-fn saved(token: Token) -> usize
-    requires { has_digits token ≡ true }
-    ensures { (case : Case) → result + length (spell (canonical_token case token)) ≡ length (spell token) }
-{
-    match token {
-        Token::Byte(_) => 0,
-        Token::Escape(_, _) => { if is_unreserved(token.value()) { 2 } else { 0 } }
-    }
-}
-
-/// The length of the text's canonical spelling. The case of letters does not change it, so only
-/// escapes are looked at.
-fn spelling_len(case: Case, text: &[u8]) -> usize
-    ensures { result ≡ length (canonical_in case text.now) }
-{
-    let mut len = text.len();
-    let mut rest = text;
-    'pieces: while let Some((&b, after)) = rest.split_first() {
-        if b == b'%' {
-            let (token, more) = first_token(b, after);
-            len -= saved(token);
-            rest = &after[more..];
-        } else {
-            let (_, later) = split_run(&MayChange(Case::Kept), rest);
-            rest = later;
-        }
-    }
-    len
-}
-
-/// Writes the text's canonical spelling to a buffer of its length. Runs that do not change are
-/// copied whole.
+/// Writes the text's canonical spelling to a buffer of its length. A text that only has small digits
+/// is copied whole, and of others the runs that do not change.
 fn write_spelling(case: Case, text: &[u8], out: &mut [u8])
     requires { length out.old ≡ length (canonical_in case text.now) }
     ensures { out.new ≡ canonical_in case text.now }
 {
-    let _ = append_rewritten(&MayChange(case), text, out, 0);
+    if only_raises(case, text, out.len()) {
+        out.copy_from_slice(text);
+        raise_digits(out);
+    } else {
+        let _ = append_rewritten(&MayChange(case), text, out, 0);
+    }
 }
 
 /// Puts the text's canonical spelling. Most texts are their own, and are copied whole.

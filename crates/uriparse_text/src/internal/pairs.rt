@@ -1,5 +1,6 @@
 //! Which two digits make an escape that isn't canonical, and whether a text has such an escape.
 ghost use Rattle.std.specs.Prelude.{◌≡◌, ◌≤◌, ◌<◌, ◌+◌, ℕ, drop, false, length, true};
+ghost use Rattle.std.specs.Int.{bit_at};
 ghost use Rattle.uriparse_text.specs.Bytes.{is_hex};
 ghost use Rattle.uriparse_text.specs.Canonical.{canonical_in};
 ghost use Rattle.uriparse_text.specs.declared.internal.canonical.Case.TheVariants.{Kept};
@@ -44,9 +45,9 @@ pub(super) fn is_canonical_escape(high: u8, low: u8) -> bool
 /// Marks those of the sixteen bytes from `at` on that may begin an escape which isn't canonical. A
 /// `%` that begins no escape may have a mark, too. Reads the two bytes after them.
 #[inline(always)]
-fn marks_of_changed(text: &[u8], at: usize) -> u64
+pub(super) fn marks_of_changed(text: &[u8], at: usize) -> u64
     requires { at + 18 ≤ length text.now }
-    ensures { result ≡ 0 → (k : ℕ) → k < 16 → spec.begins_changed (drop (at + k) text.now) ≡ false }
+    ensures { (k : ℕ) → k < 16 → bit_at result k ≡ 0 → spec.begins_changed (drop (at + k) text.now) ≡ false }
 {
     let signs = Is(b'%').marks(u8x16::from_slice(&text[at..]));
     let high = u8x16::from_slice(&text[at + 1..]);

@@ -27,7 +27,7 @@ upper_digit b h = grind (arith, nat_tests)
 pub upper_value : (b : ℕ) → is_hex b ≡ true → digit_value (to_ascii_uppercase b) ≡ digit_value b
 upper_value b h = grind (arith, nat_tests)
 
-upper_twice : (b : ℕ) → to_ascii_uppercase (to_ascii_uppercase b) ≡ to_ascii_uppercase b
+pub upper_twice : (b : ℕ) → to_ascii_uppercase (to_ascii_uppercase b) ≡ to_ascii_uppercase b
 upper_twice b = grind (arith, nat_tests)
 
 in_case_twice : (case : Case) (b : ℕ) → in_case case (in_case case b) ≡ in_case case b

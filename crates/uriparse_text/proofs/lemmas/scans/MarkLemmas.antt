@@ -23,6 +23,10 @@ above_lowest left next k below no_more cleared j e = elim (cases_lt k j) [
   ]
 ]
 
+pub is_unset : (v : Bool) → ◌≡◌ {A = ℕ} (cond v 1 0) 0 → v ≡ false
+is_unset true h = absurd (omega arith)
+is_unset false h = refl
+
 module _ (p : ℕ → Bool) where
   lane_bit : (lanes : List ℕ) (k : ℕ) → k < length lanes → bit_at (mask_l (map p lanes)) k ≡ cond (p (get_or lanes k 0)) 1 0
   lane_bit lanes k h = bit_mask_l (map p lanes) k ∙ ap (λ v. cond v 1 0) (get_or-map p lanes k 0 false h)
@@ -125,10 +129,6 @@ module _ (p : ℕ → Bool) where
     | inl h ↦ (h, is_set (p (get_or text (at + k) 0)) (sym (are.0 k h) ∙ set))
     | inr h ↦ absurd (omega (arith, are.1 k h, set))
   ]
-
-  is_unset : (v : Bool) → ◌≡◌ {A = ℕ} (cond v 1 0) 0 → v ≡ false
-  is_unset true h = absurd (omega arith)
-  is_unset false h = refl
 
   -- a byte without one doesn't
   pub unmarked : (text : List ℕ) (at n m : ℕ) → AreMarks p text at n m → (k : ℕ) → k < n → bit_at m k ≡ 0 → p (get_or text (at + k) 0) ≡ false

@@ -1,14 +1,15 @@
 -- Bytes that are written as a text, and the bytes that a text stands for.
-use Rattle.std.proofs.Common.{◌≡◌, ℕ, ◌<◌, Bool, true, false, List, [], ◌∷◌, ◌++◌, map, refl, sym, ap, ◌∙◌, arith, append_assoc, append-nil, ◌+◌, length, take, get_or, suc}
+use Rattle.std.proofs.Common.{◌≡◌, ℕ, ◌<◌, ◌≤◌, Bool, true, false, List, [], ◌∷◌, ◌++◌, map, refl, sym, ap, ◌∙◌, arith, append_assoc, append-nil, ◌+◌, length, take, drop, get_or, zero, suc}
 use Rattle.std.specs.Prelude.{◌==◌, ◌&&◌, ◌/◌, ◌%◌, bytes_eq}
 use Rattle.std.specs.Cmp.Lexicographic.{slice_cmp}
+use Rattle.std.specs.Cmp.{nat_cmp_is}
 use Rattle.std.specs.Ordering.{nat_cmp, ordering_then}
 use Rattle.std.specs.declared.cmp.Ordering.{Ordering}
 use Rattle.std.specs.declared.cmp.Ordering.TheVariants.{Less, Equal, Greater}
 use Rattle.std.specs.List.{flat_map, list_all}
 use Rattle.std.specs.Int.{is_in_range}
 use Rattle.std.specs.Char.{to_ascii_uppercase}
-use Rattle.std.proofs.lemmas.Bool.{agree_below_at, and_from, and_parts, cond_both, cond-false, eqb-true}
+use Rattle.std.proofs.lemmas.Bool.{agree_below_at, and_from, and_parts, cond_both, cond-false, eq-eqb, eqb-true}
 use Rattle.std.proofs.lemmas.Bool.Decides.{nat_tests}
 use Rattle.std.proofs.lemmas.List.{map-append}
 use Rattle.std.proofs.lemmas.Grind.{flat_map-append}
@@ -24,7 +25,7 @@ use Rattle.uriparse_text.specs.Classes.{is_plain}
 use Rattle.uriparse_text.specs.Tokens.{tokens, spell, is_token, has_digits, is_well_formed}
 use Rattle.uriparse_text.specs.Faults.{allows, IsIn}
 use Rattle.uriparse_text.specs.Canonical.{canonical_token, canonical_in, escaped_byte}
-use Rattle.uriparse_text.specs.Alike.{upper_digit_of}
+use Rattle.uriparse_text.specs.Alike.{AreCommon, upper_digit_of}
 use Rattle.uriparse_text.specs.Coding.{value_of, decoded, token_for, encoded, are_bytes, form_value_of, form_decoded, token_without, encoded_without}
 use Rattle.uriparse_text.proofs.lemmas.canonical.RunLemmas.{no_escape}
 use Rattle.uriparse_text.proofs.lemmas.tokens.TokenLemmas.{tokens-byte, tokens-nil, tokens_of_concatenation, digits-tokens}
@@ -285,3 +286,30 @@ pub compared_other : (o whole : Ordering) (rest : Ordering) → (o ≡ Equal →
 compared_other Less whole rest other h = h
 compared_other Greater whole rest other h = h
 compared_other Equal whole rest other h = absurd (other refl)
+
+-- ---- what two texts have in common
+
+same_order : (x y : ℕ) → x ≡ y → nat_cmp x y ≡ Equal
+same_order x y e = sym (nat_cmp_is x y Equal e)
+
+pub behind_represented : (n : ℕ) (left right : List ℕ) → AreCommon left right n → n ≤ length left → n ≤ length right
+    → bytes_eq (decoded (drop n left)) (drop n right) ≡ bytes_eq (decoded left) right
+behind_represented zero left right are h k = refl
+behind_represented (suc n) [] right are h k = absurd (omega arith)
+behind_represented (suc n) (x ∷ left) [] are h k = absurd (omega arith)
+behind_represented (suc n) (x ∷ left) (y ∷ right) are h k =
+    let first = are 0 (omega arith) in
+    behind_represented n left right (λ i l. are (suc i) (omega arith)) (omega arith) (omega arith)
+    ∙ sym (ap (λ u. bytes_eq u (y ∷ right)) (decoded-byte x left first.1) ∙ ap (λ v. v && bytes_eq (decoded left) right) (eq-eqb x y first.0))
+
+pub behind_compared : (n : ℕ) (left right : List ℕ) → AreCommon left right n → n ≤ length left → n ≤ length right
+    → slice_cmp nat_cmp (decoded (drop n left)) (decoded (drop n right)) ≡ slice_cmp nat_cmp (decoded left) (decoded right)
+behind_compared zero left right are h k = refl
+behind_compared (suc n) [] right are h k = absurd (omega arith)
+behind_compared (suc n) (x ∷ left) [] are h k = absurd (omega arith)
+behind_compared (suc n) (x ∷ left) (y ∷ right) are h k =
+    let first = are 0 (omega arith) in
+    behind_compared n left right (λ i l. are (suc i) (omega arith)) (omega arith) (omega arith)
+    ∙ sym (ap (λ u. slice_cmp nat_cmp u (decoded (y ∷ right))) (decoded-byte x left first.1)
+    ∙ ap (slice_cmp nat_cmp (x ∷ decoded left)) (decoded-byte y right (ap (λ b. b == percent) (sym first.0) ∙ first.1))
+    ∙ ap (λ o. ordering_then o (slice_cmp nat_cmp (decoded left) (decoded right))) (same_order x y first.0))

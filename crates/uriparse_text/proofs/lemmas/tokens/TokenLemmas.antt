@@ -69,24 +69,28 @@ no_escape_with b mark (c ∷ u) h = rw h (rw (and-false (b == percent)) refl)
 pub no_escape_across : (b c mark : ℕ) (u : List ℕ) → is_hex mark ≡ false → is_escape b (c ∷ mark ∷ u) ≡ false
 no_escape_across b c mark u h = rw h (and-false (b == percent && is_hex c))
 
--- a byte that stands in no escape is a token by itself, whatever is before it
-pub tokens-mark : (mark : ℕ) → is_hex mark ≡ false → not (mark == percent) ≡ true → (t u : List ℕ)
-    → tokens (t ++ mark ∷ u) ≡ tokens t ++ Byte mark ∷ tokens u
+-- a byte that is no digit begins a token, whatever is before it
+pub tokens-border : (mark : ℕ) → is_hex mark ≡ false → (t u : List ℕ) → tokens (t ++ mark ∷ u) ≡ tokens t ++ tokens (mark ∷ u)
 unfolding tokens
-tokens-mark mark digit sign [] u = tokens-byte mark u (not_percent mark u sign)
-tokens-mark mark digit sign (b ∷ []) u =
-    tokens-byte b (mark ∷ u) (no_escape_with b mark u digit) ∙ ap (λ ts. Byte b ∷ ts) (tokens-mark mark digit sign [] u)
-tokens-mark mark digit sign (b ∷ c ∷ []) u =
-    tokens-byte b (c ∷ mark ∷ u) (no_escape_across b c mark u digit) ∙ ap (λ ts. Byte b ∷ ts) (tokens-mark mark digit sign (c ∷ []) u)
-tokens-mark mark digit sign (b ∷ high ∷ low ∷ rest) u =
-    at_front (is_escape b (high ∷ low ∷ rest)) (tokens-mark mark digit sign rest u) (tokens-mark mark digit sign (high ∷ low ∷ rest) u)
+tokens-border mark digit [] u = refl
+tokens-border mark digit (b ∷ []) u =
+    tokens-byte b (mark ∷ u) (no_escape_with b mark u digit) ∙ ap (λ ts. Byte b ∷ ts) (tokens-border mark digit [] u)
+tokens-border mark digit (b ∷ c ∷ []) u =
+    tokens-byte b (c ∷ mark ∷ u) (no_escape_across b c mark u digit) ∙ ap (λ ts. Byte b ∷ ts) (tokens-border mark digit (c ∷ []) u)
+tokens-border mark digit (b ∷ high ∷ low ∷ rest) u =
+    at_front (is_escape b (high ∷ low ∷ rest)) (tokens-border mark digit rest u) (tokens-border mark digit (high ∷ low ∷ rest) u)
   where
-    at_front : (v : Bool) → tokens (rest ++ mark ∷ u) ≡ tokens rest ++ Byte mark ∷ tokens u
-        → tokens (high ∷ low ∷ rest ++ mark ∷ u) ≡ tokens (high ∷ low ∷ rest) ++ Byte mark ∷ tokens u
+    at_front : (v : Bool) → tokens (rest ++ mark ∷ u) ≡ tokens rest ++ tokens (mark ∷ u)
+        → tokens (high ∷ low ∷ rest ++ mark ∷ u) ≡ tokens (high ∷ low ∷ rest) ++ tokens (mark ∷ u)
         → cond v (Escape high low ∷ tokens (rest ++ mark ∷ u)) (Byte b ∷ tokens (high ∷ low ∷ rest ++ mark ∷ u))
-        ≡ cond v (Escape high low ∷ tokens rest) (Byte b ∷ tokens (high ∷ low ∷ rest)) ++ Byte mark ∷ tokens u
+        ≡ cond v (Escape high low ∷ tokens rest) (Byte b ∷ tokens (high ∷ low ∷ rest)) ++ tokens (mark ∷ u)
     at_front true f g = ap (λ ts. Escape high low ∷ ts) f
     at_front false f g = ap (λ ts. Byte b ∷ ts) g
+
+-- and is one by itself, if it begins no escape either
+pub tokens-mark : (mark : ℕ) → is_hex mark ≡ false → not (mark == percent) ≡ true → (t u : List ℕ)
+    → tokens (t ++ mark ∷ u) ≡ tokens t ++ Byte mark ∷ tokens u
+tokens-mark mark digit sign t u = tokens-border mark digit t u ∙ ap (λ ts. tokens t ++ ts) (tokens-byte mark u (not_percent mark u sign))
 
 -- tokens put together are cut as they were put together
 pub tokens-flat_map : (ts : List Token) (rest : List ℕ) → list_all is_token ts ≡ true → tokens (flat_map spell ts ++ rest) ≡ ts ++ tokens rest

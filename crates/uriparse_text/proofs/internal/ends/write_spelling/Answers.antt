@@ -7,8 +7,8 @@ use Rattle.uriparse_text.proofs.internal.ends.write_spelling.Goals as goal
 pub append_rewritten-requires : goal.append_rewritten-requires
 append_rewritten-requires c = spelling_keeps c.args.case
 
-pub returns : goal.returns
-returns c =
+pub returns-else-only_raises : goal.returns-else-only_raises
+returns-else-only_raises c =
     let starts = c.append_rewritten.ensures.appends [] (starts_none c.args.out.now) in
     let room = c.append_rewritten.ensures.room in
     let given = c.requires in

@@ -1,5 +1,5 @@
 use Rattle.std.proofs.Common.{◌≤◌, ◌-◌, length}
-use Rattle.uriparse_text.proofs.lemmas.canonical.ChangedLemmas.{NoneChanged}
+use Rattle.uriparse_text.specs.Escapes.{NoneChanged}
 use Rattle.uriparse_text.proofs.internal.pairs.lacks_changes.Given as goal
 
 abbrev pub invariant-runs : goal.invariant-runs

@@ -7,7 +7,7 @@ use Rattle.uriparse_text.specs.Tokens.{tokens}
 use Rattle.uriparse_text.proofs.lemmas.canonical.RunLemmas.{spelling_keeps}
 use Rattle.uriparse_text.proofs.lemmas.canonical.SpellingLengthLemmas.{counted_token, counted_run, counted_all}
 use Rattle.uriparse_text.proofs.lemmas.readings.CutLemmas.{cut-whole}
-use Rattle.uriparse_text.proofs.internal.ends.spelling_len.Goals as goal
+use Rattle.uriparse_text.proofs.internal.length.short_spelling_len.Goals as goal
 
 pub split_run-requires-clause-keeps : goal.split_run-requires-clause-keeps
 split_run-requires-clause-keeps c = spelling_keeps Kept
