@@ -127,6 +127,7 @@ impl<K: ReferenceKind> TextOf<K> {
     fn of(text: ReferenceText) -> Result<TextOf<K>, RejectedText<K::Error>>
         ensures kind { IfOk result (λ v. IsOfKind K.has_scheme v.parts) }
         ensures same { IfOk result (λ v. v ≡ text) }
+        ensures only { IsOfKind K.has_scheme text.parts → IsOk result }
         ensures other { IfErr result (λ r. (string_bytes r.text ≡ text.text) × (r.error ≡ K.other) × (IsOfKind K.has_scheme text.parts → ⊥)) }
     {
         if text.as_view().has_scheme() == K::has_scheme() {
