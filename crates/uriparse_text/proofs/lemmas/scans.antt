@@ -3,3 +3,4 @@ pub mod LaneLemmas
 pub mod PairLemmas
 pub mod MarkLemmas
 pub mod ScanLemmas
+pub mod NeighbourLemmas
