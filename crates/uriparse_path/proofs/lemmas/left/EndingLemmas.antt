@@ -1,6 +1,5 @@
 -- The text of what dot segments leave, put together from its end in a buffer.
 use Rattle.std.proofs.Common.{◌≡◌, ◌≢◌, ℕ, suc, ◌+◌, ◌<◌, ◌≤◌, Bool, true, false, cond, not, List, [], ◌∷◌, ◌++◌, length, get_or, take, drop, All, refl, sym, ap, ◌∙◌, subst, arith, append-nil, append_assoc, length-drop, length-append, ◌&&◌, ◌||◌}
-use Rattle.std.specs.Prelude.{◌==◌}
 use Rattle.std.specs.List.{list_all, slice_split}
 use Rattle.std.proofs.lemmas.Bool.{and_parts, and_from, or_parts, ne_eqb, eqb-true}
 use Rattle.std.proofs.lemmas.List.{take-append-drop, drop_more, get_or-drop}

@@ -1,4 +1,4 @@
-use Rattle.std.proofs.Common.{◌≡◌, true, length, take, subst, ◌∙◌, sym}
+use Rattle.std.proofs.Common.{◌≡◌, true, length, take, subst}
 use Rattle.std.proofs.Math.Seq.{take-length}
 use Rattle.std.proofs.lemmas.Bool.{eqb-true}
 use Rattle.uriparse_text.specs.Bytes.{percent}
