@@ -13,3 +13,4 @@ pub mod Counts
 pub mod List
 pub mod ListLends
 pub mod Left
+pub mod Last

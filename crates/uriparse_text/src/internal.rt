@@ -4,6 +4,7 @@ mod alike;
 mod bits;
 mod canonical;
 mod class;
+mod clear;
 mod coding;
 mod copy;
 mod cut;
@@ -30,6 +31,7 @@ pub use alike::same_spelling;
 pub use bits::{count_below, has_adjacent, lowest, without, without_lowest};
 pub use canonical::{Case, canonical_bytes, feed_spelling, feed_text, is_canonical};
 pub use class::Class;
+pub use clear::has_pair;
 pub use coding::{
     compare_represented, form_decoded_bytes, most_escaped_bytes, push_encoded, push_escaped,
     represents,

@@ -7,3 +7,4 @@ pub mod SpelledAlikeLemmas
 pub mod HashLemmas
 pub mod TextWalkLemmas
 pub mod HeadLemmas
+pub mod LastLemmas

@@ -4,6 +4,7 @@ ghost use Rattle.std.proofs.Common.{rules};
 ghost use Rattle.std.specs.List.{list_all};
 ghost use Rattle.uriparse_text.specs.Bytes.{dot};
 ghost use Rattle.uriparse_text.specs.Segment.{is_segment};
+ghost use Rattle.uriparse_path.specs.Dots.{is_dot_segment, is_double_dot};
 ghost use Rattle.uriparse_path.specs.Relative as relative;
 
 use super::counts::Dotted;
@@ -43,4 +44,37 @@ pub(super) fn has_colon(bytes: &[u8]) -> bool
     ensures { result ≡ relative.has_colon bytes.now }
 {
     bytes.contains(&b':')
+}
+
+/// Whether a segment is `..`, unescaped.
+#[inline(always)]
+fn is_two_dots(segment: &[u8]) -> bool
+    ensures { result ≡ true → is_double_dot segment.now ≡ true }
+{
+    matches!(segment, [b'.', b'.'])
+}
+
+/// Whether the text of a segment is that of `.` or `..`. Each dot may be escaped; most are not.
+pub(super) fn is_dots(segment: &[u8]) -> bool
+    requires { is_segment segment.now ≡ true }
+    ensures { result ≡ is_dot_segment segment.now }
+{
+    is_two_dots(segment) || kept_segment(segment).is_dot_segment()
+}
+
+/// Whether the text of a segment is that of `..`. Each dot may be escaped; most are not.
+pub(super) fn is_double_dots(segment: &[u8]) -> bool
+    requires { is_segment segment.now ≡ true }
+    ensures { result ≡ is_double_dot segment.now }
+{
+    is_two_dots(segment) || kept_segment(segment).is_double_dot_segment()
+}
+
+/// The segment of a checked text.
+#[inline(always)]
+fn kept_segment(text: &[u8]) -> Segment<'_>
+    requires { is_segment text.now ≡ true }
+    ensures { result ≡ text.now }
+{
+    kept_text(text, false)
 }

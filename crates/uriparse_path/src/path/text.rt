@@ -13,6 +13,7 @@ use uriparse_text::internal::{Case, kept_text, same_spelling, split_at_mark, wit
 mod ending;
 mod heads;
 pub(crate) mod into;
+mod last;
 pub(crate) mod normal;
 
 /// The segments of a path's text, in order; each borrows the text. Does not allocate.

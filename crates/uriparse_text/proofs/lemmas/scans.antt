@@ -4,3 +4,4 @@ pub mod PairLemmas
 pub mod PairMarkLemmas
 pub mod MarkLemmas
 pub mod ScanLemmas
+pub mod NeighbourLemmas

@@ -1,10 +1,9 @@
 -- The text of what dot segments leave, put together from its end in a buffer.
-use Rattle.std.proofs.Common.{◌≡◌, ◌≢◌, ℕ, ◌+◌, ◌<◌, ◌≤◌, Bool, true, false, not, List, [], ◌∷◌, ◌++◌, length, get_or, take, take-take, drop, All, IfSome, Option, Some, None, inl, inr, refl, sym, ap, ◌∙◌, subst, arith, append-nil, append_assoc, length-drop, ◌&&◌, ◌||◌}
-use Rattle.std.specs.Prelude.{◌==◌}
+use Rattle.std.proofs.Common.{◌≡◌, ◌≢◌, ℕ, suc, ◌+◌, ◌<◌, ◌≤◌, Bool, true, false, cond, not, List, [], ◌∷◌, ◌++◌, length, get_or, take, drop, All, refl, sym, ap, ◌∙◌, subst, arith, append-nil, append_assoc, length-drop, length-append, ◌&&◌, ◌||◌}
 use Rattle.std.specs.List.{list_all, slice_split}
-use Rattle.std.proofs.lemmas.Bool.{and_parts, and_from, cases_lt, ne_eqb, eqb-true}
-use Rattle.std.proofs.lemmas.List.{take_all, take-append-drop, drop_more, get_or-drop}
-use Rattle.std.proofs.lemmas.List.Folds.{list_all-append}
+use Rattle.std.proofs.lemmas.Bool.{and_parts, and_from, or_parts, ne_eqb, eqb-true}
+use Rattle.std.proofs.lemmas.List.{take-append-drop, drop_more, get_or-drop}
+use Rattle.std.proofs.lemmas.List.Folds.{list_all-append, list_any-append}
 use Rattle.std.proofs.lemmas.List.Elements.{All-head, All-tail, All-from_get_or}
 use Rattle.uriparse_text.specs.declared.internal.canonical.Case.TheVariants.{Kept}
 use Rattle.uriparse_text.specs.declared.internal.ends.Form.{Form}
@@ -15,11 +14,11 @@ use Rattle.uriparse_path.specs.declared.path.text.ending.Placed.{Placed}
 use Rattle.uriparse_path.specs.declared.path.text.ending.Ending.{Ending}
 use Rattle.uriparse_text.specs.Segment.{is_segment}
 use Rattle.uriparse_path.specs.Path.{is_rooted, unrooted, has_two_slashes, is_slash, root}
-use Rattle.uriparse_path.specs.Dots.{LacksSlash}
-use Rattle.uriparse_path.specs.Left.{Left, back, backs, kept_text, is_more, is_twice, IsPlaced, IsEnding}
+use Rattle.uriparse_path.specs.Dots.{LacksSlash, has_dot_segment, is_dot_segment, is_double_dot, is_single_dot}
+use Rattle.uriparse_path.specs.Left.{Left, back, backs, kept_text, reached, is_more, is_twice, IsPlaced, IsEnding}
 use Rattle.uriparse_path.proofs.lemmas.reading.LengthFaultLemmas.{split-append}
 use Rattle.uriparse_path.proofs.lemmas.text.SplitLemmas.{pieces-piece}
-use Rattle.uriparse_text.proofs.lemmas.canonical.DotLemmas.{canonical-nil}
+use Rattle.uriparse_text.proofs.lemmas.canonical.DotLemmas.{canonical-nil, double_is, single_is}
 use Rattle.uriparse_path.proofs.lemmas.text.CanonicalTextLemmas.{canonical-slash, rooted-front}
 
 -- ---- a text before a text
@@ -109,13 +108,24 @@ cut_last t at inside here after =
         All-from_get_or IsOther (drop (at + 1) t) 0 (λ k inside. subst IsOther (sym (get_or-drop (at + 1) t k 0)) (after (at + 1 + k) (omega arith)
         (omega (arith, length-drop (at + 1) t))))
 
--- the last of the segments is one, and so are those before it
-pub parts_each : (front : List (List ℕ)) (s : List ℕ) (all : List (List ℕ)) → all ≡ front ++ s ∷ [] → list_all is_segment all ≡ true
-    → (list_all is_segment front ≡ true) × (is_segment s ≡ true)
-parts_each front s all e h =
-    let both = and_parts (list_all is_segment front) (list_all is_segment (s ∷ []))
-    (sym (list_all-append is_segment front (s ∷ [])) ∙ ap (list_all is_segment) (sym e) ∙ h) in
-    (both.0, (and_parts (is_segment s) true both.1).0)
+pub undotted_parts : (front : List (List ℕ)) (s : List ℕ) (all : List (List ℕ)) → all ≡ front ++ s ∷ [] → has_dot_segment all ≡ false
+    → (has_dot_segment front ≡ false) × (is_dot_segment s ≡ false)
+undotted_parts front s all e h =
+    let both = or_parts (has_dot_segment front) (has_dot_segment (s ∷ []))
+    (sym (list_any-append is_dot_segment front (s ∷ [])) ∙ ap has_dot_segment (sym e) ∙ h) in
+    (both.0, (or_parts (is_dot_segment s) false both.1).0)
+
+-- ---- a dot segment
+
+pub back_double : (s : List ℕ) (l : Left) → is_double_dot s ≡ true → back s l ≡ record { climbs = suc l.climbs; kept = l.kept; removed = l.removed }
+back_double s l h = by_single (is_single_dot s) refl
+  where
+    more : Left
+    more = record { climbs = suc l.climbs; kept = l.kept; removed = l.removed }
+
+    by_single : (v : Bool) → is_single_dot s ≡ v → cond v l (cond (is_double_dot s) more (reached s l.climbs l)) ≡ more
+    by_single true e = absurd (omega (arith, ap length (sym (single_is s e) ∙ double_is s h)))
+    by_single false e = ap (λ w. cond w more (reached s l.climbs l)) h
 
 -- ---- the walk
 
@@ -127,30 +137,33 @@ pub record Walked (form : Form) (ended : Bool) (all : List (List ℕ)) (rest : L
   pub each : list_all is_segment rest ≡ true
   pub is : (l : Left) (t : List ℕ) → IsEnding form ended l first old t → IsEnding form ended (backs done l) now out t
 
-pub walked_more : (form : Form) (ended : Bool) (all rest front : List (List ℕ)) (s : List ℕ) (first now next : Ending) (old out new : List ℕ)
-    → Walked form ended all rest first now old out → rest ≡ front ++ s ∷ [] → next.climbs ≤ now.climbs + 1 → length new ≡ length out
-    → ((l : Left) (t : List ℕ) → IsEnding form ended l now out t → IsEnding form ended (back s l) next new t)
-    → Walked form ended all front first next old new
-walked_more form ended all rest front s first now next old out new w e few room step = record {
-  done = s ∷ w.done;
-  cut = w.cut ∙ ap (λ u. u ++ w.done) e ∙ append_assoc front (s ∷ []) w.done;
-  few = let before = w.few in omega arith;
-  room = room ∙ w.room;
-  each = (parts_each front s rest e w.each).0;
-  is = λ l t h. step (backs w.done l) t (w.is l t h);
-}
-
 pub backs-append : (a b : List (List ℕ)) (l : Left) → backs (a ++ b) l ≡ backs a (backs b l)
 backs-append [] b l = refl
 backs-append (s ∷ a) b l = ap (back s) (backs-append a b l)
 
--- a front of a front is one
-pub front_more : (o : Option (List ℕ)) (t whole : List ℕ) → t ≡ take (length t) whole → IfSome o (λ f. f ≡ take (length f) t)
-    → IfSome o (λ f. f ≡ take (length f) whole)
-front_more None t whole e h = tt
-front_more (Some f) t whole e h = elim (cases_lt (length t) (length f)) [
-  | inl longer ↦
-      let same : length f ≡ length t = ap length (h ∙ take_all (length f) t (omega arith)) in
-      absurd (omega arith)
-  | inr not_longer ↦ h ∙ ap (take (length f)) e ∙ take-take (length f) (length t) whole (omega arith)
-]
+-- segments more, from a front on
+pub walked_run : (form : Form) (ended : Bool) (all rest front more : List (List ℕ)) (first now next : Ending) (old out new : List ℕ)
+    → Walked form ended all rest first now old out → rest ≡ front ++ more → 0 < length more → next.climbs ≤ now.climbs + 1 → length new ≡ length out
+    → ((l : Left) (t : List ℕ) → IsEnding form ended l now out t → IsEnding form ended (backs more l) next new t)
+    → Walked form ended all front first next old new
+walked_run form ended all rest front more first now next old out new w e some few room step = record {
+  done = more ++ w.done;
+  cut = w.cut ∙ ap (λ u. u ++ w.done) e ∙ append_assoc front more w.done;
+  few = let before = w.few in omega (arith, length-append more w.done);
+  room = room ∙ w.room;
+  each = (and_parts _ _ (sym (list_all-append is_segment front more) ∙ ap (list_all is_segment) (sym e) ∙ w.each)).0;
+  is = λ l t h. subst (λ k. IsEnding form ended k next new t) (sym (backs-append more w.done l)) (step (backs w.done l) t (w.is l t h));
+}
+
+-- all segments, once those that are left are walked too
+pub walked_all : (form : Form) (ended : Bool) (all rest : List (List ℕ)) (first now last : Ending) (old out new : List ℕ) (l : Left) (t : List ℕ)
+    → (w : Walked form ended all rest first now old out)
+    → ((l : Left) (t : List ℕ) → IsEnding form ended l now out t → IsEnding form ended (backs rest l) last new t)
+    → IsEnding form ended l first old t → IsEnding form ended (backs all l) last new t
+walked_all form ended all rest first now last old out new l t w step h =
+    subst (λ k. IsEnding form ended k last new t) (sym (ap (λ ss. backs ss l) w.cut ∙ backs-append rest w.done l)) (step (backs w.done l) t (w.is l t h))
+
+pub walked_end : (form : Form) (ended : Bool) (all rest : List (List ℕ)) (first now : Ending) (old out : List ℕ) (l : Left) (t : List ℕ)
+    → Walked form ended all rest first now old out → rest ≡ [] → IsEnding form ended l first old t → IsEnding form ended (backs all l) now out t
+walked_end form ended all rest first now old out l t w none h =
+    subst (λ ss. IsEnding form ended (backs ss l) now out t) (sym (w.cut ∙ ap (λ u. u ++ w.done) none)) (w.is l t h)

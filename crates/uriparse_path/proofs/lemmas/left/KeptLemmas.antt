@@ -1,5 +1,5 @@
 -- Segments that are kept as one text, put together from the end of a path.
-use Rattle.std.proofs.Common.{◌≡◌, ℕ, zero, suc, ◌<◌, Bool, true, false, cond, ◌||◌, List, [], ◌∷◌, ◌++◌, length, map, flat_map, refl, sym, ap, ◌∙◌, subst, arith, append_assoc}
+use Rattle.std.proofs.Common.{◌≡◌, ℕ, suc, ◌<◌, Bool, true, false, cond, ◌||◌, List, [], ◌∷◌, ◌++◌, length, map, flat_map, refl, sym, ap, ◌∙◌, subst, arith, append_assoc}
 use Rattle.std.specs.List.{join_with_byte, list_all, slice_split}
 use Rattle.std.proofs.lemmas.Bool.{and_parts, or_parts, false≢true}
 use Rattle.uriparse_text.specs.declared.internal.canonical.Case.TheVariants.{Kept}
@@ -56,15 +56,19 @@ kept_before form ended text kept h = by_pieces (slice_split is_slash text) refl 
         ∙ ap (λ u. u ++ (root (is_more kept || ended) ++ kept_text form ended kept))
         (formed_joined form s ss each ∙ ap (λ l. formed form Kept (join_with_byte slash l)) (sym e) ∙ ap (formed form Kept) (joined-pieces text))
 
--- a segment that is no dot segment, where no ".." waits
-back_kept : (s : List ℕ) (l : Left) → l.climbs ≡ 0 → is_dot_segment s ≡ false → back s l ≡ record { climbs = 0; kept = s ∷ l.kept; removed = false }
-back_kept s l none h = by_test (is_single_dot s) (is_double_dot s) h ∙ ap (λ n. reached s n l) none
+-- a segment that is no dot segment
+back_reached : (s : List ℕ) (l : Left) → is_dot_segment s ≡ false → back s l ≡ reached s l.climbs l
+back_reached s l h = by_test (is_single_dot s) (is_double_dot s) h
   where
     by_test : (v w : Bool) → (v || w) ≡ false
         → cond v l (cond w (record { climbs = suc l.climbs; kept = l.kept; removed = l.removed }) (reached s l.climbs l)) ≡ reached s l.climbs l
     by_test true w e = absurd (false≢true (sym e))
     by_test false true e = absurd (false≢true (sym e))
     by_test false false e = refl
+
+-- where no ".." waits
+back_kept : (s : List ℕ) (l : Left) → l.climbs ≡ 0 → is_dot_segment s ≡ false → back s l ≡ record { climbs = 0; kept = s ∷ l.kept; removed = false }
+back_kept s l none h = back_reached s l h ∙ ap (λ n. reached s n l) none
 
 -- segments of which none is a dot segment
 pub backs_kept : (s : List ℕ) (ss : List (List ℕ)) (l : Left) → l.climbs ≡ 0 → has_dot_segment (s ∷ ss) ≡ false

@@ -1,20 +1,24 @@
 -- A path's text is canonical exactly if each of its segments is.
-use Rattle.std.proofs.Common.{◌≡◌, ℕ, Bool, true, false, List, [], ◌∷◌, ◌++◌, ◌<◌, ◌↔◌, length, map, flat_map, drop, refl, sym, ap, subst, ◌∙◌, arith}
+use Rattle.std.proofs.Common.{◌≡◌, ℕ, Bool, true, List, [], ◌∷◌, ◌++◌, ◌<◌, ◌↔◌, length, map, flat_map, take, drop, refl, sym, ap, ◌∙◌, arith}
 use Rattle.std.specs.List.{join_with_byte, list_all, slice_split}
 use Rattle.std.proofs.lemmas.Bool.{and_parts}
 use Rattle.std.proofs.lemmas.Bool.Decides.{same_from_decides}
 use Rattle.uriparse_text.specs.declared.internal.class.Class.TheVariants.{Segment}
 use Rattle.uriparse_text.specs.declared.internal.canonical.Case.TheVariants.{Kept}
-use Rattle.uriparse_text.specs.Bytes.{slash}
+use Rattle.std.proofs.lemmas.List.{append_cancel_left, take-append-drop}
+use Rattle.uriparse_text.specs.Bytes.{percent, slash}
+use Rattle.uriparse_text.specs.Cuts.{lacks}
 use Rattle.uriparse_text.specs.Canonical.{canonical}
 use Rattle.uriparse_text.specs.Segment.{is_segment}
 use Rattle.uriparse_text.proofs.lemmas.canonical.CanonicalLemmas.{canonical_in-append}
 use Rattle.uriparse_text.proofs.lemmas.classes.ClassLemmas.{well_formed-in_class}
-use Rattle.uriparse_path.specs.Path.{IsPath, is_rooted, is_slash, pieces, root, unrooted}
+use Rattle.uriparse_text.proofs.lemmas.tokens.UnescapedLemmas.{well_formed-plain}
+use Rattle.uriparse_path.proofs.lemmas.list.SegmentCountLemmas.{unescaped_stays}
+use Rattle.uriparse_path.specs.Path.{is_slash}
 use Rattle.uriparse_path.specs.Normal.{is_canonical}
 use Rattle.uriparse_path.proofs.lemmas.normal.RelativeFormLemmas.{all_canonical_same}
-use Rattle.uriparse_path.proofs.lemmas.text.CanonicalTextLemmas.{canonical-behind, canonical-root, each-canonical, each_is_canonical}
-use Rattle.uriparse_path.proofs.lemmas.text.PathTextLemmas.{pieces-segments, root-unrooted}
+use Rattle.uriparse_path.proofs.lemmas.text.CanonicalTextLemmas.{canonical-behind, each-canonical, each_is_canonical}
+use Rattle.uriparse_path.proofs.lemmas.text.PathTextLemmas.{pieces-segments}
 use Rattle.uriparse_path.proofs.lemmas.text.SplitLemmas.{joined-behind, joined-pieces, some_pieces}
 
 canonical-joined : (s : List ℕ) (ss : List (List ℕ)) → list_all is_segment (s ∷ ss) ≡ true
@@ -26,11 +30,7 @@ canonical-joined s ss h =
     ∙ ap (λ u. canonical s ++ u) (canonical-behind ss each.1)
     ∙ sym (joined-behind (canonical s) (map canonical ss))
 
-same_behind : (a : Bool) (u v : List ℕ) → root a ++ u ≡ root a ++ v → u ≡ v
-same_behind true u v e = ap (drop 1) e
-same_behind false u v e = e
-
--- a text without its leading slash
+-- a text and its segments
 unrooted_pieces : (u : List ℕ) (ss : List (List ℕ)) → slice_split is_slash u ≡ ss → list_all is_segment ss ≡ true → 0 < length ss
     → ((canonical u ≡ u) → map canonical ss ≡ ss) × ((map canonical ss ≡ ss) → canonical u ≡ u)
 unrooted_pieces u [] e h some = absurd (omega (arith, some))
@@ -41,12 +41,27 @@ unrooted_pieces u (s ∷ ss) e h some =
       λ each. spelled ∙ ap (join_with_byte slash) each ∙ joined,
     )
 
-pub canonical_pieces : (t : List ℕ) (r : Bool) → IsPath t → ((r ≡ true) ↔ (canonical t ≡ t)) → r ≡ list_all is_canonical (pieces t)
-canonical_pieces t r is iff =
-    let whole : root (is_rooted t) ++ unrooted t ≡ t = root-unrooted t in
-    let spelled : canonical t ≡ root (is_rooted t) ++ canonical (unrooted t) = ap canonical (sym whole) ∙ canonical-root (is_rooted t) (unrooted t) in
-    let both = unrooted_pieces (unrooted t) (pieces t) refl is.each (some_pieces (unrooted t)) in
-    sym (same_from_decides (list_all is_canonical (pieces t)) r (
-      λ all. spelled ∙ ap (λ u. root (is_rooted t) ++ u) (both.1 (all_canonical_same (pieces t) all)) ∙ whole,
-      λ same. each_is_canonical (pieces t) (both.0 (same_behind (is_rooted t) (canonical (unrooted t)) (unrooted t) (sym spelled ∙ same ∙ sym whole))),
+pub canonical_split : (u : List ℕ) (r : Bool) → list_all is_segment (slice_split is_slash u) ≡ true → ((r ≡ true) ↔ (canonical u ≡ u))
+    → r ≡ list_all is_canonical (slice_split is_slash u)
+canonical_split u r each iff =
+    let both = unrooted_pieces u (slice_split is_slash u) refl each (some_pieces u) in
+    sym (same_from_decides (list_all is_canonical (slice_split is_slash u)) r (
+      λ all. both.1 (all_canonical_same (slice_split is_slash u) all),
+      λ same. each_is_canonical (slice_split is_slash u) (both.0 same),
     ) (iff.0, iff.1))
+
+-- bytes without an escape in front stay
+canonical-front : (t : List ℕ) (len : ℕ) → lacks percent (take len t) ≡ true → canonical t ≡ take len t ++ canonical (drop len t)
+canonical-front t len h =
+    ap canonical (sym (take-append-drop len t))
+    ∙ canonical_in-append Kept (take len t) (drop len t) (well_formed-plain (take len t) h)
+    ∙ ap (λ u. u ++ canonical (drop len t)) (unescaped_stays (take len t) h)
+
+pub canonical_after : (t : List ℕ) (len : ℕ) (r : Bool) → list_all is_segment (slice_split is_slash t) ≡ true → lacks percent (take len t) ≡ true
+    → ((r ≡ true) ↔ (canonical (drop len t) ≡ drop len t)) → r ≡ list_all is_canonical (slice_split is_slash t)
+canonical_after t len r each h iff =
+    let front = canonical-front t len h in
+    canonical_split t r each (
+      λ e. front ∙ ap (λ u. take len t ++ u) (iff.0 e) ∙ take-append-drop len t,
+      λ same. iff.1 (append_cancel_left (take len t) (canonical (drop len t)) (drop len t) (sym front ∙ same ∙ sym (take-append-drop len t))),
+    )

@@ -1,7 +1,7 @@
 //! What dot segments leave of a path's text, put together from its end in the last bytes of a
 //! buffer: RFC 3986, section 5.2.4. Read from the last segment to the first, a segment is kept or
 //! removed for good: nothing that is written is ever taken back.
-ghost use Rattle.std.specs.Prelude.{◌≡◌, ℕ, Bool, ◌+◌, ◌<◌, ◌≤◌, ◌++◌, ◌∷◌, [], IfSome, List, length, take, true, false};
+ghost use Rattle.std.specs.Prelude.{◌≡◌, ℕ, Bool, ◌+◌, ◌<◌, ◌≤◌, ◌++◌, ◌∷◌, [], List, drop, length, true, false};
 ghost use Rattle.std.specs.List.{list_all, slice_split};
 ghost use Rattle.std.specs.Option.{option_copied};
 ghost use Rattle.uriparse_text.specs.declared.internal.canonical.Case.TheVariants as case;
@@ -9,15 +9,15 @@ ghost use Rattle.uriparse_text.specs.declared.internal.ends.Form.{Form};
 ghost use Rattle.uriparse_text.specs.Ends.{EndsWith, formed};
 ghost use Rattle.uriparse_text.specs.Segment.{is_segment};
 ghost use Rattle.uriparse_path.specs.Path.{is_rooted, is_slash, root};
-ghost use Rattle.uriparse_path.specs.Relative.{is_last};
+ghost use Rattle.uriparse_path.specs.Relative.{is_first};
+ghost use Rattle.uriparse_path.specs.Last.{IsLast};
 ghost use Rattle.uriparse_path.specs.Dots.{all_but_last, has_dot_segment, is_dot_segment};
 ghost use Rattle.uriparse_path.specs.Text.{pieces_left};
 ghost use Rattle.uriparse_path.specs.Left as spec;
 
-use super::heads::len_without_dots;
-use crate::path::Segment;
-use crate::path::segment::has_colon;
-use uriparse_text::internal::{Case, Form, kept_text, put, put_formed, split_at_mark};
+use super::last::last_dots;
+use crate::path::segment::{has_colon, is_double_dots};
+use uriparse_text::internal::{Case, Form, put, put_formed, split_at_mark, without_mark};
 
 /// A text at the end of a buffer, before what follows it there.
 #[derive(Clone, Copy)]
@@ -120,26 +120,9 @@ impl Ending {
         }
     }
 
-    /// Keeps a segment: puts it, and a slash if anything of the path follows.
-    fn keep(self, form: Form, ended: bool, segment: &Segment<'_>, out: &mut [u8]) -> Ending
-        requires { self.climbs ≡ 0 }
-        ensures room { length out.new ≡ length out.old }
-        ensures climbs { result.climbs ≡ 0 }
-        ensures is { (l : spec.Left) (t : List ℕ) → spec.IsEnding form ended l self out.old t → spec.IsEnding form ended (spec.reached segment.now 0 l) result out.new t }
-    {
-        let text = self.text.put_root(self.kept || ended, out);
-        Ending {
-            climbs: 0,
-            kept: true,
-            removed: false,
-            colon: has_colon(segment.as_bytes()),
-            text: text.put_text(form, segment.as_bytes(), out),
-        }
-    }
-
     /// Keeps all segments of a text, of which none is a dot segment: puts the text in one piece, since
     /// nothing is removed of it, and a slash if anything of the path follows.
-    fn keep_all(self, form: Form, ended: bool, text: &[u8], out: &mut [u8]) -> Ending
+    fn keep(self, form: Form, ended: bool, text: &[u8], out: &mut [u8]) -> Ending
         requires none { self.climbs ≡ 0 }
         requires segments { list_all is_segment (slice_split is_slash text.now) ≡ true }
         requires dots { has_dot_segment (slice_split is_slash text.now) ≡ false }
@@ -158,54 +141,105 @@ impl Ending {
         }
     }
 
-    /// One segment, which precedes those that were read.
-    fn step(self, form: Form, ended: bool, segment: &Segment<'_>, out: &mut [u8]) -> Ending
-        requires { self.climbs < usize.MAX }
-        ensures room { length out.new ≡ length out.old }
-        ensures climbs { result.climbs ≤ self.climbs + 1 }
-        ensures is { (l : spec.Left) (t : List ℕ) → spec.IsEnding form ended l self out.old t → spec.IsEnding form ended (spec.back segment.now l) result out.new t }
+    /// A segment that is no dot segment, before a `..` that removes it.
+    fn remove(self) -> Ending
+        requires { 0 < self.climbs }
+        ensures climbs { result.climbs + 1 ≡ self.climbs }
+        ensures is { (form : Form) (ended : Bool) (l : spec.Left) (s buffer t : List ℕ) → is_dot_segment s ≡ false → spec.IsEnding form ended l self buffer t → spec.IsEnding form ended (spec.back s l) result buffer t }
     {
-        if segment.is_single_dot_segment() {
+        Ending {
+            climbs: self.climbs - 1,
+            removed: true,
+            ..self
+        }
+    }
+
+    /// A dot segment, before those that were read: a `..` removes a segment before it.
+    fn climb(self, segment: &[u8]) -> Ending
+        requires few { self.climbs < usize.MAX }
+        requires segment { is_segment segment.now ≡ true }
+        requires dots { is_dot_segment segment.now ≡ true }
+        ensures climbs { result.climbs ≤ self.climbs + 1 }
+        ensures is { (form : Form) (ended : Bool) (l : spec.Left) (buffer t : List ℕ) → spec.IsEnding form ended l self buffer t → spec.IsEnding form ended (spec.back segment.now l) result buffer t }
+    {
+        if !is_double_dots(segment) {
             return self;
         }
-        if segment.is_double_dot_segment() {
-            return Ending {
-                climbs: self.climbs + 1,
-                ..self
-            };
+        Ending {
+            climbs: self.climbs + 1,
+            ..self
         }
-        if self.climbs > 0 {
-            return Ending {
-                climbs: self.climbs - 1,
-                removed: true,
-                ..self
-            };
+    }
+
+    /// Segments of which none is a dot segment, before those that were read. Each `..` that is left
+    /// removes the last of them; the others are kept as one text.
+    fn stretch(self, form: Form, ended: bool, text: &[u8], out: &mut [u8]) -> Ending
+        requires segments { list_all is_segment (slice_split is_slash text.now) ≡ true }
+        requires dots { has_dot_segment (slice_split is_slash text.now) ≡ false }
+        ensures room { length out.new ≡ length out.old }
+        ensures climbs { result.climbs ≤ self.climbs }
+        ensures is { (l : spec.Left) (t : List ℕ) → spec.IsEnding form ended l self out.old t → spec.IsEnding form ended (spec.backs (slice_split is_slash text.now) l) result out.new t }
+    {
+        let mut ending = self;
+        let mut rest = text;
+        'removed: while ending.climbs > 0 {
+            ending = ending.remove();
+            let (front, _) = split_last(rest);
+            match front {
+                Some(front) => rest = front,
+                None => return ending,
+            }
         }
-        self.keep(form, ended, segment, out)
+        ending.keep(form, ended, rest, out)
+    }
+
+    /// Segments of which the first is a dot segment and no other is, before those that were read.
+    fn step(self, form: Form, ended: bool, text: &[u8], out: &mut [u8]) -> Ending
+        requires few { self.climbs < usize.MAX }
+        requires segments { list_all is_segment (slice_split is_slash text.now) ≡ true }
+        requires first { is_first is_dot_segment (slice_split is_slash text.now) ≡ true }
+        requires later { has_dot_segment (drop 1 (slice_split is_slash text.now)) ≡ false }
+        ensures room { length out.new ≡ length out.old }
+        ensures climbs { result.climbs ≤ self.climbs + 1 }
+        ensures is { (l : spec.Left) (t : List ℕ) → spec.IsEnding form ended l self out.old t → spec.IsEnding form ended (spec.backs (slice_split is_slash text.now) l) result out.new t }
+    {
+        let (first, behind) = split_at_mark(text, b'/');
+        match without_mark(behind) {
+            Some(later) => self.stretch(form, ended, later, out).climb(first),
+            None => self.climb(first),
+        }
     }
 
     /// All segments of a text, from the last one to the first. `ended` says that an empty segment
-    /// follows those that are kept. Most segments precede the first dot segment: they are kept as one
-    /// text once no `..` is left to remove one of them.
-    pub(super) fn walk(self, form: Form, ended: bool, text: &[u8], out: &mut [u8]) -> Ending
+    /// follows those that are kept, `last` where the last dot segment begins. The segments between dot
+    /// segments are looked at one by one only as long as a `..` is left to remove one of them.
+    pub(super) fn walk(
+        self,
+        form: Form,
+        ended: bool,
+        text: &[u8],
+        last: Option<usize>,
+        out: &mut [u8],
+    ) -> Ending
         requires few { self.climbs + length (slice_split is_slash text.now) ≤ usize.MAX }
         requires segments { list_all is_segment (slice_split is_slash text.now) ≡ true }
+        requires last { IsLast last text.now }
         ensures room { length out.new ≡ length out.old }
         ensures climbs { result.climbs ≤ self.climbs + length (slice_split is_slash text.now) }
         ensures is { (l : spec.Left) (t : List ℕ) → spec.IsEnding form ended l self out.old t → spec.IsEnding form ended (spec.backs (slice_split is_slash text.now) l) result out.new t }
     {
-        let undotted = len_without_dots(text);
         let mut ending = self;
-        let mut rest = Some(text);
-        'segments: while let Some(text) = rest {
-            if ending.climbs == 0 && text.len() <= undotted {
-                return ending.keep_all(form, ended, text, out);
+        let mut rest = text;
+        let mut last = last;
+        'dots: while let Some(at) = last {
+            ending = ending.step(form, ended, &rest[at..], out);
+            if at == 0 {
+                return ending;
             }
-            let (front, segment) = split_last(text);
-            ending = ending.step(form, ended, &segment, out);
-            rest = front;
+            rest = &rest[..at - 1];
+            last = last_dots(rest);
         }
-        ending
+        ending.stretch(form, ended, rest, out)
     }
 
     /// All segments of a text but the last one, from the last of these to the first, as
@@ -224,29 +258,18 @@ impl Ending {
     {
         let (front, _) = split_last(text);
         match front {
-            Some(front) => self.walk(form, ended, front, out),
+            Some(front) => self.walk(form, ended, front, last_dots(front), out),
             None => self,
         }
     }
 }
 
 /// Cuts off the last segment: what precedes the last slash, if there is one, and what follows it.
-pub(super) fn split_last(text: &[u8]) -> (Option<&[u8]>, Segment<'_>)
-    requires { list_all is_segment (slice_split is_slash text.now) ≡ true }
-    ensures cut { slice_split is_slash text.now ≡ pieces_left (option_copied result.0) ++ result.1 ∷ [] }
-    ensures front { IfSome (option_copied result.0) (λ f. f ≡ take (length f) text.now) }
+fn split_last(text: &[u8]) -> (Option<&[u8]>, &[u8])
+    ensures { slice_split is_slash text.now ≡ pieces_left (option_copied result.0) ++ result.1.now ∷ [] }
 {
     match text.iter().rposition(|&b| b == b'/') {
-        Some(at) => (Some(&text[..at]), kept_text(&text[at + 1..], false)),
-        None => (None, kept_text(text, false)),
+        Some(at) => (Some(&text[..at]), &text[at + 1..]),
+        None => (None, text),
     }
-}
-
-/// Whether the last segment of a text is a dot segment.
-pub(super) fn ends_in_dots(text: &[u8]) -> bool
-    requires { list_all is_segment (slice_split is_slash text.now) ≡ true }
-    ensures { result ≡ is_last is_dot_segment (slice_split is_slash text.now) }
-{
-    let (_, last) = split_last(text);
-    last.is_dot_segment()
 }

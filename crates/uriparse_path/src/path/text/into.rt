@@ -8,16 +8,17 @@ ghost use Rattle.uriparse_text.specs.declared.internal.ends.Form.TheVariants.{Ca
 ghost use Rattle.uriparse_text.specs.Bytes.{slash};
 ghost use Rattle.uriparse_text.specs.Ends.{EndsWith, Puts, formed};
 ghost use Rattle.uriparse_path.specs.Path as path;
-ghost use Rattle.uriparse_path.specs.Path.{IsPath, is_rooted, is_slash, max_segments, root, spelled};
+ghost use Rattle.uriparse_path.specs.Path.{IsPath, is_rooted, is_slash, max_segments, root, spelled, unrooted};
 ghost use Rattle.uriparse_path.specs.Dots.{has_dot_segment, replayed, undot};
+ghost use Rattle.uriparse_path.specs.Last.{IsLast};
 ghost use Rattle.uriparse_path.specs.Edits.{shield_unless};
 ghost use Rattle.uriparse_path.specs.Merge.{merged};
 ghost use Rattle.uriparse_path.specs.Relative.{relative_normal};
 ghost use Rattle.uriparse_path.specs.Normal.{normal_at};
 ghost use Rattle.uriparse_path.specs.Left as spec;
 
-use super::ending::{Ending, ends_in_dots};
-use super::heads::lacks_dots;
+use super::ending::Ending;
+use super::last::{ends_in_dots, last_dots};
 use crate::path::normal::Place;
 use crate::path::read::split_root;
 use crate::path::segment::has_colon;
@@ -44,13 +45,17 @@ fn needs_no_shield(has_authority: bool, text: &[u8]) -> bool
     has_authority || !matches!(text, [b'/', b'/', ..])
 }
 
-/// Whether the removal of dot segments keeps the text as it is.
-fn is_kept(has_authority: bool, text: &[u8]) -> bool
-    requires { IsPath text.now }
+/// Whether the removal of dot segments keeps the text as it is. `last` says where the last one begins
+/// in what follows the root.
+fn is_kept(has_authority: bool, last: Option<usize>, text: &[u8]) -> bool
+    requires { IsLast last (unrooted text.now) }
     ensures shield { result ≡ true → (not has_authority && path.has_two_slashes text.now) ≡ false }
     ensures dots { result ≡ true → has_dot_segment (path.pieces text.now) ≡ false }
 {
-    needs_no_shield(has_authority, text) && lacks_dots(text)
+    match last {
+        Some(_) => false,
+        None => needs_no_shield(has_authority, text),
+    }
 }
 
 /// Puts the text without its dot segments. Without an authority, a text that would start with `//`
@@ -66,11 +71,13 @@ pub fn put_undotted(
     ensures room { length out.new ≡ length out.old }
     ensures puts { Puts (path.text (shield_unless has_authority (spelled (formed form case.Kept (undot text.now))))) out.old len out.new result }
 {
-    if is_kept(has_authority, text) {
+    let (rooted, rest) = split_root(text);
+    let last = last_dots(rest);
+    if is_kept(has_authority, last, text) {
         return put_formed(form, Case::Kept, text, out, len);
     }
-    let (rooted, rest) = split_root(text);
-    let ending = Ending::none(len).walk(form, ends_in_dots(rest), rest, out);
+    let ended = ends_in_dots(last, rest);
+    let ending = Ending::none(len).walk(form, ended, rest, last, out);
     put_front(ending, rooted, has_authority, out)
 }
 
@@ -91,8 +98,9 @@ pub fn put_merged(
     ensures puts { Puts (path.text (shield_unless has_authority (spelled (path.text (replayed (merged (spelled base.now) (spelled reference.now))))))) out.old len out.new result }
 {
     let (rooted, rest) = split_root(base);
-    let ended = ends_in_dots(reference);
-    let ending = Ending::none(len).walk(Form::AsIs, ended, reference, out);
+    let last = last_dots(reference);
+    let ended = ends_in_dots(last, reference);
+    let ending = Ending::none(len).walk(Form::AsIs, ended, reference, last, out);
     let ending = ending.walk_directory(Form::AsIs, ended, rest, out);
     put_front(ending, rooted, has_authority, out)
 }
@@ -144,7 +152,9 @@ fn put_relative(text: &[u8], out: &mut [u8], len: usize) -> usize
     ensures puts { Puts (join_with_byte slash (relative_normal (slice_split is_slash text.now))) out.old len out.new result }
 {
     let (first, _) = split_at_mark(text, b'/');
-    let ending = Ending::none(len).walk(Form::Canonical, ends_in_dots(text), text, out);
+    let last = last_dots(text);
+    let ended = ends_in_dots(last, text);
+    let ending = Ending::none(len).walk(Form::Canonical, ended, text, last, out);
     put_relative_front(ending, has_colon(first), out)
 }
 

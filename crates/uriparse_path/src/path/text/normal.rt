@@ -1,14 +1,19 @@
 //! Whether the text of a path is that of its normal form, without a list of its segments: RFC
 //! 3986, sections 4.2 and 6.2.2.
-ghost use Rattle.std.specs.Prelude.{◌≡◌, false, not};
-ghost use Rattle.std.specs.List.{list_all};
+ghost use Rattle.std.specs.Prelude.{◌≡◌, ◌≤◌, false, length, not, take, true};
+ghost use Rattle.std.specs.List.{list_all, slice_split};
+ghost use Rattle.uriparse_text.specs.Bytes.{percent};
+ghost use Rattle.uriparse_text.specs.Cuts.{lacks};
+ghost use Rattle.uriparse_text.specs.Segment.{is_segment};
 ghost use Rattle.uriparse_path.specs.Path as path;
-ghost use Rattle.uriparse_path.specs.Path.{IsPath, is_rooted, pieces, spelled};
+ghost use Rattle.uriparse_path.specs.Path.{IsPath, is_rooted, is_slash, pieces, spelled};
 ghost use Rattle.uriparse_path.specs.Dots.{has_dot_segment};
+ghost use Rattle.uriparse_path.specs.Last.{LacksHeads};
 ghost use Rattle.uriparse_path.specs.Relative as relative;
 ghost use Rattle.uriparse_path.specs.Normal as spec;
 
-use super::heads::{is_plain, lacks_dots};
+use super::heads::plain_len;
+use super::last::{last_dots, last_dots_after};
 use super::{Segments, segments_of};
 use crate::path::normal::Place;
 use crate::path::read::split_root;
@@ -41,18 +46,6 @@ impl<'p> Segments<'p> {
             None => false,
         }
     }
-}
-
-/// Whether none of the segments is a dot segment.
-pub(super) fn lack_dots(segments: Segments<'_>) -> bool
-    ensures { result ≡ not (has_dot_segment segments.entry) }
-{
-    for segment in segments {
-        if segment.is_dot_segment() {
-            return false;
-        }
-    }
-    true
 }
 
 /// Whether each segment is canonical and none is a dot segment.
@@ -93,38 +86,71 @@ fn are_guarded(segments: Segments<'_>) -> bool
     first.is_single_dot_segment() && climb_first(later) && needed
 }
 
-/// Whether each segment of the text is canonical. Tests the text as a whole, by runs: its canonical
-/// spelling is that of its segments.
-fn is_canonical_text(text: &[u8]) -> bool
-    requires { IsPath text.now }
-    ensures { result ≡ list_all spec.is_canonical (pieces text.now) }
+/// Whether no segment of a text is a dot segment, if none of those that begin among the first `len`
+/// bytes begins like one.
+fn lacks_dots(len: usize, text: &[u8]) -> bool
+    requires segments { list_all is_segment (slice_split is_slash text.now) ≡ true }
+    requires within { len ≤ length text.now }
+    requires heads { LacksHeads len text.now }
+    ensures { result ≡ not (has_dot_segment (slice_split is_slash text.now)) }
 {
-    is_canonical(Case::Kept, text)
+    if len == 0 {
+        return last_dots(text).is_none();
+    }
+    last_dots_after(len - 1, text).is_none()
 }
 
-/// Whether the segments of a text are in normal form, for a path that stays relative or for
-/// another.
-fn is_each_normal(stays_relative: bool, text: &[u8]) -> bool
-    requires { IsPath text.now }
-    ensures { result ≡ spec.are_normal stays_relative (pieces text.now) }
+/// Whether each segment of a text is canonical, if its first `len` bytes have no escape. Tests the
+/// text as a whole, by runs: its canonical spelling is that of its segments.
+fn is_canonical_after(len: usize, text: &[u8]) -> bool
+    requires segments { list_all is_segment (slice_split is_slash text.now) ≡ true }
+    requires within { len ≤ length text.now }
+    requires escapes { lacks percent (take len text.now) ≡ true }
+    ensures { result ≡ list_all spec.is_canonical (slice_split is_slash text.now) }
 {
-    if !is_canonical_text(text) {
+    is_canonical(Case::Kept, &text[len..])
+}
+
+/// Whether the segments of a text are in normal form, for a path that stays relative or for another.
+/// Its first `len` bytes have no escape, and no segment that begins like a dot segment.
+#[inline(never)]
+fn is_normal_after(stays_relative: bool, len: usize, text: &[u8]) -> bool
+    requires segments { list_all is_segment (slice_split is_slash text.now) ≡ true }
+    requires within { len ≤ length text.now }
+    requires heads { LacksHeads len text.now }
+    requires escapes { lacks percent (take len text.now) ≡ true }
+    ensures { result ≡ spec.are_normal stays_relative (slice_split is_slash text.now) }
+{
+    if !is_canonical_after(len, text) {
         return false;
     }
     if !stays_relative {
-        return lacks_dots(text);
+        return lacks_dots(len, text);
     }
-    climb_first(segments_of(text)) || are_guarded(segments_of(text))
+    climb_first(Segments { rest: Some(text) }) || are_guarded(Segments { rest: Some(text) })
 }
 
-/// Whether the segments of a text are in normal form, as [`is_each_normal`] says. A text with no
-/// escape and no segment that begins with a dot is, and most are such.
+/// Whether this many bytes are all of a text. If these have no escape, and no segment that begins like
+/// a dot segment, then each segment is canonical, and none is a dot segment.
+#[inline(always)]
+fn is_all(len: usize, text: &[u8]) -> bool
+    requires heads { LacksHeads len text.now }
+    requires escapes { lacks percent (take len text.now) ≡ true }
+    ensures { result ≡ true → (has_dot_segment (slice_split is_slash text.now) ≡ false) × (list_all spec.is_canonical (slice_split is_slash text.now) ≡ true) }
+{
+    len == text.len()
+}
+
+/// Whether the segments of a text are in normal form, for a path that stays relative or for another.
+/// A text with no escape and no segment that begins with a dot is, and most are such. The tests of the
+/// others begin where that was found.
 fn is_normal(stays_relative: bool, text: &[u8]) -> bool
     requires { IsPath text.now }
     ensures { result ≡ spec.are_normal stays_relative (pieces text.now) }
 {
     let (_, rest) = split_root(text);
-    is_plain(rest) || is_each_normal(stays_relative, text)
+    let len = plain_len(rest);
+    is_all(len, rest) || is_normal_after(stays_relative, len, rest)
 }
 
 /// Whether the text is that of an absolute path that is normal except for a leading `.`, which is

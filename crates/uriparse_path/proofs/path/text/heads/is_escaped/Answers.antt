@@ -3,8 +3,8 @@ use Rattle.std.proofs.lemmas.Bool.{ltb-false}
 use Rattle.uriparse_path.proofs.lemmas.reading.NoEscapeLemmas.{none_escaped}
 use Rattle.uriparse_path.proofs.path.text.heads.is_escaped.Goals as goal
 
-pub returns-then-asked : goal.returns-then-asked
-returns-then-asked c h _ =
+pub returns : goal.returns
+returns c h =
     let bytes = c.args.bytes.now in
     let past = ltb-false c.first.result (length bytes) h in
     let all : c.first.result ≡ length bytes = omega (arith, past, c.first.ensures.within) in

@@ -23,12 +23,12 @@ walk-ending-requires-clause-few c =
 pub returns-clause-puts : goal.returns-clause-puts
 returns-clause-puts c = λ t h.
     let ss = slice_split is_slash c.args.text.now in
-    let ended = c.ends_in_dots.result in
+    let ended = c.ends_in_dots-ended.result in
     let end = c.put_relative_front.ensures.puts ended (left_of ss) t (c.walk-ending.ensures.is nothing t (c.none.ensures.is Canonical ended c.args.out.now t h)) in
     let colon : c.has_colon.result ≡ is_first has_colon ss =
     c.has_colon.ensures ∙ ap has_colon c.split_at_mark.ensures.front ∙ sym (first_colon-pieces c.args.text.now) in
     subst (λ x. EndsWith c.put_relative_front.new.out c.put_relative_front.result (x ++ t))
     (ap (λ v. relative_text v ended (left_of ss)) colon
-    ∙ ap (λ v. relative_text (is_first has_colon ss) v (left_of ss)) c.ends_in_dots.ensures
+    ∙ ap (λ v. relative_text (is_first has_colon ss) v (left_of ss)) c.ends_in_dots-ended.ensures
     ∙ relative_left ss (pieces_of_path c.args.text.now c.requires.path))
     end

@@ -6,6 +6,7 @@ use Rattle.uriparse_path.specs.Path.{is_slash, max_segments, pieces, root, spell
 use Rattle.uriparse_path.specs.Dots.{is_dot_segment, undot}
 use Rattle.uriparse_path.specs.Edits.{shield_unless}
 use Rattle.uriparse_path.specs.Relative.{is_last}
+use Rattle.uriparse_path.specs.Last.{IsLast}
 use Rattle.uriparse_path.specs.Left.{kept_text, left_of, nothing}
 use Rattle.uriparse_path.proofs.lemmas.left.UndottedLemmas.{kept_whole, undotted_text}
 use Rattle.uriparse_path.proofs.path.text.into.put_undotted.Goals as goal
@@ -19,18 +20,21 @@ walk-ending-requires-clause-few c =
     let none = c.none.ensures.climbs in
     omega arith
 
+pub is_kept-requires : goal.is_kept-requires
+is_kept-requires c = subst (IsLast c.last_dots-last.result) c.split_root-rooted.ensures.rest c.last_dots-last.ensures
+
 pub returns-clause-puts : goal.returns-clause-puts
 returns-clause-puts c = λ t h.
     let form = c.args.form in
     let u = c.args.text.now in
-    let ended = c.ends_in_dots.result in
+    let ended = c.ends_in_dots-ended.result in
     let rest = c.split_root-rooted.result.1.now in
     let end = c.put_front.ensures.puts form ended (left_of (slice_split is_slash rest)) t
     (c.walk-ending.ensures.is nothing t (c.none.ensures.is form ended c.args.out.now t h)) in
     let same : root (c.split_root-rooted.result.0 || (left_of (slice_split is_slash rest)).removed) ++ kept_text form ended (left_of (slice_split is_slash rest)).kept
     ≡ formed form Kept (undot u) =
     ap (λ v. root (c.split_root-rooted.result.0 || (left_of (slice_split is_slash rest)).removed) ++ kept_text form v (left_of (slice_split is_slash rest)).kept)
-    c.ends_in_dots.ensures
+    c.ends_in_dots-ended.ensures
     ∙ ap (λ x. root (c.split_root-rooted.result.0 || (left_of (slice_split is_slash x)).removed)
     ++ kept_text form (is_last is_dot_segment (slice_split is_slash x)) (left_of (slice_split is_slash x)).kept) c.split_root-rooted.ensures.rest
     ∙ ap (λ v. root (v || (left_of (pieces u)).removed) ++ kept_text form (is_last is_dot_segment (pieces u)) (left_of (pieces u)).kept)

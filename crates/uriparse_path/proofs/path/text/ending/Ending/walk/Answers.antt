@@ -1,49 +1,63 @@
-use Rattle.std.proofs.Common.{◌≡◌, ◌++◌, ◌∷◌, [], ◌∙◌, IfSome, length, take, sym, ap, subst}
-use Rattle.std.specs.List.{slice_split}
-use Rattle.std.specs.Option.{option_copied}
+use Rattle.std.proofs.Common.{◌≡◌, ◌∙◌, true, drop, ap, sym, subst, arith}
+use Rattle.std.specs.List.{list_all, slice_split}
+use Rattle.std.proofs.lemmas.List.{take_rest}
+use Rattle.uriparse_text.specs.Segment.{is_segment}
 use Rattle.uriparse_path.specs.Path.{is_slash}
-use Rattle.uriparse_path.specs.Text.{pieces_left}
+use Rattle.uriparse_path.specs.Last.{IsLast, IsLastDots}
 use Rattle.uriparse_path.specs.Left.{IsEnding, backs}
-use Rattle.uriparse_path.proofs.lemmas.left.EndingLemmas.{Walked, backs-append, front_more, walked_more}
-use Rattle.uriparse_path.proofs.path.text.ending.Ending.walk.Goals.{After-step-ending}
+use Rattle.uriparse_path.proofs.lemmas.left.EndingLemmas.{Walked, walked_all, walked_end, walked_run}
+use Rattle.uriparse_path.proofs.lemmas.text.HeadLemmas.{before, before_less, begun, segments_from}
+use Rattle.uriparse_path.proofs.lemmas.text.SplitLemmas.{some_pieces}
+use Rattle.uriparse_path.proofs.path.text.ending.Ending.walk.Goals.{In-Some, After-step-ending}
 use Rattle.uriparse_path.proofs.path.text.ending.Ending.walk.Goals as goal
 
-left : (c : After-step-ending)
-    → pieces_left (option_copied c.segments.rest) ≡ pieces_left (option_copied c.split_last-segment.result.0) ++ c.split_last-segment.result.1 ∷ []
-left c = ap (λ o. pieces_left (option_copied o)) c.in-Some.is ∙ c.split_last-segment.ensures.cut
+last : (c : In-Some) → IsLastDots c.in-Some.at c.dots.rest.now
+last c = subst (λ o. IsLast o c.dots.rest.now) c.in-Some.is c.dots.invariant.last
 
 walked : (c : After-step-ending)
-    → Walked c.args.form c.args.ended (slice_split is_slash c.args.text.now) (pieces_left (option_copied c.split_last-segment.result.0)) c.args.self
+    → IsLastDots c.in-Some.at c.dots.rest.now
+    → Walked c.args.form c.args.ended (slice_split is_slash c.args.text.now) (before c.in-Some.at c.dots.rest.now) c.args.self
     c.step-ending.result c.args.out.now c.step-ending.new.out
-walked c =
-    walked_more c.args.form c.args.ended (slice_split is_slash c.args.text.now) (pieces_left (option_copied c.segments.rest))
-    (pieces_left (option_copied c.split_last-segment.result.0)) c.split_last-segment.result.1 c.args.self c.segments.ending c.step-ending.result
-    c.args.out.now c.segments.out c.step-ending.new.out c.segments.invariant.walked (left c)
-    c.step-ending.ensures.climbs c.step-ending.ensures.room c.step-ending.ensures.is
+walked c is =
+    let rest = c.dots.rest.now in
+    let at = c.in-Some.at in
+    walked_run c.args.form c.args.ended (slice_split is_slash c.args.text.now) (slice_split is_slash rest)
+    (before at rest) (slice_split is_slash (drop at rest)) c.args.self c.dots.ending c.step-ending.result
+    c.args.out.now c.dots.out c.step-ending.new.out c.dots.invariant.walked (begun rest at is.begins is.within) (some_pieces (drop at rest))
+    c.step-ending.ensures.climbs c.step-ending.ensures.room
+    (λ l t h. subst (λ u. IsEnding c.args.form c.args.ended (backs (slice_split is_slash u) l) c.step-ending.result c.step-ending.new.out t)
+    (take_rest rest at) (c.step-ending.ensures.is l t h))
 
-front : (c : After-step-ending) → IfSome (option_copied c.split_last-segment.result.0) (λ t. t ≡ take (length t) c.args.text.now)
-front c =
-    front_more (option_copied c.split_last-segment.result.0) c.in-Some.text.now c.args.text.now
-    (subst (λ o. IfSome (option_copied o) (λ t. t ≡ take (length t) c.args.text.now)) c.in-Some.is c.segments.invariant.front)
-    c.split_last-segment.ensures.front
+pub step-ending-requires-clause-segments : goal.step-ending-requires-clause-segments
+step-ending-requires-clause-segments c =
+    let is = last (goal.at.step-ending-requires-clause-segments c).In-Some in
+    subst (λ u. list_all is_segment (slice_split is_slash u) ≡ true) (sym (take_rest c.dots.rest.now c.in-Some.at))
+    (segments_from c.dots.rest.now c.in-Some.at is.begins is.within c.dots.invariant.walked.each).1
 
-pub segments-preserved-else-ending-eq0 : goal.segments-preserved-else-ending-eq0
-segments-preserved-else-ending-eq0 c =
-    let at = (goal.at.segments-preserved-else-ending-eq0 c).After-step-ending in record { walked = walked at; front = front at }
+pub returns-then-at-eq0-clause-is : goal.returns-then-at-eq0-clause-is
+returns-then-at-eq0-clause-is c = λ l t h.
+    let is = last (goal.at.returns-then-at-eq0-clause-is c).In-Some in
+    walked_end c.args.form c.args.ended (slice_split is_slash c.args.text.now) (before c.in-Some.at c.dots.rest.now) c.args.self
+    c.step-ending.result c.args.out.now c.step-ending.new.out l t (walked (goal.at.returns-then-at-eq0-clause-is c).After-step-ending is)
+    (ap (λ n. before n c.dots.rest.now) c.if-at-eq0.true) h
 
-pub segments-preserved-else-ending-eq0-2 : goal.segments-preserved-else-ending-eq0-2
-segments-preserved-else-ending-eq0-2 c =
-    let at = (goal.at.segments-preserved-else-ending-eq0-2 c).After-step-ending in record { walked = walked at; front = front at }
+pub last_dots-last-requires : goal.last_dots-last-requires
+last_dots-last-requires c =
+    let is = last (goal.at.last_dots-last-requires c).In-Some in
+    sym (ap (list_all is_segment) (before_less c.dots.rest.now c.in-Some.at (omega (arith, c.if-at-eq0.false))))
+    ∙ (segments_from c.dots.rest.now c.in-Some.at is.begins is.within c.dots.invariant.walked.each).0
 
-pub segments-preserved : goal.segments-preserved
-segments-preserved c = let at = (goal.at.segments-preserved c).After-step-ending in record { walked = walked at; front = front at }
+pub dots-preserved : goal.dots-preserved
+dots-preserved c =
+    let is = last (goal.at.dots-preserved c).In-Some in
+    record {
+      walked = subst (λ ss. Walked c.args.form c.args.ended (slice_split is_slash c.args.text.now) ss c.args.self c.step-ending.result
+          c.args.out.now c.step-ending.new.out)
+          (before_less c.dots.rest.now c.in-Some.at (omega (arith, c.if-at-eq0.false))) (walked (goal.at.dots-preserved c).After-step-ending is);
+      last = c.last_dots-last.ensures;
+    }
 
-pub returns-then-text-undotted-clause-is : goal.returns-then-text-undotted-clause-is
-returns-then-text-undotted-clause-is c = λ l t h.
-    let so_far = c.segments.invariant.walked in
-    let rest = slice_split is_slash c.in-Some.text.now in
-    let all : slice_split is_slash c.args.text.now ≡ rest ++ so_far.done =
-    so_far.cut ∙ ap (λ o. pieces_left (option_copied o) ++ so_far.done) c.in-Some.is in
-    subst (λ k. IsEnding c.args.form c.args.ended k c.keep_all.result c.keep_all.new.out t)
-    (sym (ap (λ ss. backs ss l) all ∙ backs-append rest so_far.done l))
-    (c.keep_all.ensures.is (backs so_far.done l) t (so_far.is l t h))
+pub returns-clause-is : goal.returns-clause-is
+returns-clause-is c = λ l t h.
+    walked_all c.args.form c.args.ended (slice_split is_slash c.args.text.now) (slice_split is_slash c.dots.rest.now) c.args.self c.dots.ending
+    c.stretch.result c.args.out.now c.dots.out c.stretch.new.out l t c.dots.invariant.walked c.stretch.ensures.is h

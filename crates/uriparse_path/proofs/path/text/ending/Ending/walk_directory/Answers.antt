@@ -12,6 +12,6 @@ pub returns-in-Some-clause-is : goal.returns-in-Some-clause-is
 returns-in-Some-clause-is c = λ l t is.
     let front = slice_split is_slash c.in-Some.front.now in
     let directory : all_but_last (slice_split is_slash c.args.text.now) ≡ front =
-    ap all_but_last (c.split_last.ensures.cut ∙ ap (λ o. pieces_left (option_copied o) ++ c.split_last.result.1 ∷ []) c.in-Some.is)
-    ∙ all_but_last_push front c.split_last.result.1 in
+    ap all_but_last (c.split_last.ensures ∙ ap (λ o. pieces_left (option_copied o) ++ c.split_last.result.1.now ∷ []) c.in-Some.is)
+    ∙ all_but_last_push front c.split_last.result.1.now in
     subst (λ ss. IsEnding c.args.form c.args.ended (backs ss l) c.walk.result c.walk.new.out t) (sym directory) (c.walk.ensures.is l t is)

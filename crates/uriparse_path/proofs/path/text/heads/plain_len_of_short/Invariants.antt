@@ -1,15 +1,15 @@
 use Rattle.std.proofs.Common.{◌≡◌, true, ◌-◌, ◌≤◌, length, take}
 use Rattle.uriparse_text.specs.Bytes.{percent}
 use Rattle.uriparse_text.specs.Cuts.{lacks}
-use Rattle.uriparse_path.proofs.lemmas.text.HeadLemmas.{begins, NoHeads}
-use Rattle.uriparse_path.proofs.path.text.heads.len_without_heads.Given as goal
+use Rattle.uriparse_path.specs.Last.{begins_segment, LacksHeads}
+use Rattle.uriparse_path.proofs.path.text.heads.plain_len_of_short.Given as goal
 
 abbrev pub invariant-runs : goal.invariant-runs
 invariant-runs l = record {
   within : l.at ≤ length l.text;
-  begins : l.begins ≡ begins true l.text l.at;
-  none : NoHeads true l.text l.at;
-  escapes : l.plain ≡ true → lacks percent (take l.at l.text) ≡ true;
+  begins : l.begins ≡ begins_segment l.at l.text;
+  none : LacksHeads l.at l.text;
+  escapes : lacks percent (take l.at l.text) ≡ true;
 }
 
 abbrev pub decreases-runs : goal.decreases-runs

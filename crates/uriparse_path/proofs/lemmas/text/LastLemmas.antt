@@ -1,0 +1,83 @@
+-- The last dot segment of a text.
+use Rattle.std.proofs.Common.{◌≡◌, ℕ, suc, ◌+◌, ◌-◌, ◌<◌, ◌≤◌, Bool, true, false, not, ◌&&◌, List, [], ◌∷◌, ◌++◌, length, get_or, drop, refl, sym, ap, subst, ◌∙◌, arith, nat_eq, Option, Some, None, MatchOption, is_some}
+use Rattle.std.specs.List.{slice_split}
+use Rattle.std.proofs.lemmas.Bool.{or_parts}
+use Rattle.std.proofs.lemmas.Bool.Decides.{nat_tests}
+use Rattle.uriparse_text.specs.Bytes.{dot}
+use Rattle.uriparse_text.specs.Cuts.{up_to, from_first, part}
+use Rattle.uriparse_text.proofs.lemmas.canonical.DotLemmas.{double_of, canonical-dots}
+use Rattle.uriparse_path.specs.Path.{is_slash}
+use Rattle.uriparse_path.specs.Dots.{is_dot_segment, is_double_dot, has_dot_segment}
+use Rattle.uriparse_path.specs.Relative.{is_first, is_last}
+use Rattle.uriparse_path.specs.Text.{pieces_left}
+use Rattle.uriparse_path.specs.Last.{is_head, LacksDotsAfter, LacksHeads, IsLast, IsLastDots}
+use Rattle.uriparse_path.proofs.lemmas.left.LeftLemmas.{last_behind}
+use Rattle.uriparse_path.proofs.lemmas.text.HeadLemmas.{before, begun, has_dots, lacks_all_dots, lower_run}
+use Rattle.uriparse_path.proofs.lemmas.text.SplitLemmas.{cut}
+use Rattle.uriparse_path.proofs.lemmas.text.TextWalkLemmas.{pieces_cut}
+
+pub two_dots : (s : List ℕ) → length s ≡ 2 → get_or s 0 0 ≡ dot → get_or s 1 0 ≡ dot → is_double_dot s ≡ true
+two_dots [] n e f = absurd (omega (arith, n))
+two_dots (b ∷ []) n e f = absurd (omega (arith, n))
+two_dots (b ∷ c ∷ []) n e f =
+    ap (λ x. is_double_dot (x ∷ c ∷ [])) e ∙ ap (λ x. is_double_dot (dot ∷ x ∷ [])) f ∙ double_of (dot ∷ dot ∷ []) canonical-dots
+two_dots (b ∷ c ∷ d ∷ s) n e f = absurd (omega (arith, n))
+
+-- a run of sixteen bytes lower
+pub lower_sixteen : (t : List ℕ) (end at : ℕ) → at + 16 ≡ end → 0 < at → end ≤ length t
+    → ((k : ℕ) → k < 16 → (is_slash (get_or t (at - 1 + k) 0) && is_head (get_or t (at + k) 0)) ≡ false)
+    → LacksDotsAfter (end - 1) t → LacksDotsAfter (at - 1) t
+lower_sixteen t end at e some within apart later =
+    lower_run t (at - 1) 16 (omega (arith, e)) next (subst (λ i. LacksDotsAfter i t) top later)
+  where
+    top : end - 1 ≡ at - 1 + 16
+    top = omega (arith, e)
+
+    next : (k : ℕ) → k < 16 → (is_slash (get_or t (at - 1 + k) 0) && is_head (get_or t (at - 1 + k + 1) 0)) ≡ false
+    next k h =
+        let same : at - 1 + k + 1 ≡ at + k = omega arith in
+        ap (λ i. is_slash (get_or t (at - 1 + k) 0) && is_head (get_or t i 0)) same ∙ apart k h
+
+-- ---- the last segment
+
+pub last_undotted : (ss : List (List ℕ)) → has_dot_segment ss ≡ false → is_last is_dot_segment ss ≡ false
+last_undotted [] h = refl
+last_undotted (s ∷ []) h = (or_parts _ _ h).0
+last_undotted (s ∷ r ∷ ss) h = last_undotted (r ∷ ss) (or_parts (is_dot_segment s) _ h).1
+
+not_none : (n : ℕ) → nat_eq (suc n) 0 ≡ false
+not_none n = grind (arith, nat_tests)
+
+ends : (s r : List ℕ) → is_dot_segment s ≡ true → has_dot_segment (pieces_left (part r)) ≡ false
+    → nat_eq (length r) 0 ≡ is_last is_dot_segment (s ∷ pieces_left (part r))
+ends s [] h k = sym h
+ends s (b ∷ r) h k =
+    let is = cut r in
+    not_none (length r) ∙ sym (ap (λ l. is_last is_dot_segment (s ∷ l)) is.pieces ∙ last_undotted (is.first ∷ is.others) (sym (ap has_dot_segment is.pieces) ∙ k))
+
+-- the last dot segment is the last segment exactly if no slash follows it
+pub ends_at : (t : List ℕ) (at : ℕ) → IsLastDots at t → nat_eq (length (from_first is_slash (drop at t))) 0 ≡ is_last is_dot_segment (slice_split is_slash t)
+ends_at t at is =
+    let u = drop at t in
+    let rest = from_first is_slash u in
+    ends (up_to is_slash u) rest (sym (ap (is_first is_dot_segment) (pieces_cut u)) ∙ is.dots)
+    (sym (ap (λ l. has_dot_segment (drop 1 l)) (pieces_cut u)) ∙ is.later)
+    ∙ sym (ap (is_last is_dot_segment) (begun t at is.begins is.within ∙ ap (λ l. before at t ++ l) (pieces_cut u))
+    ∙ last_behind is_dot_segment (before at t) (up_to is_slash u) (pieces_left (part rest)))
+
+-- ---- whether there is one
+
+told : (r s d : Bool) → s ≡ not r → s ≡ d → r ≡ not d
+told true s d e f = ap not (sym e ∙ f)
+told false s d e f = ap not (sym e ∙ f)
+
+pub none_last : (t : List ℕ) (o : Option ℕ) (r : Bool) → IsLast o t → is_some o ≡ not r → r ≡ not (has_dot_segment (slice_split is_slash t))
+none_last t None r h e = told r false (has_dot_segment (slice_split is_slash t)) e (sym h)
+none_last t (Some at) r is e = told r true (has_dot_segment (slice_split is_slash t)) e (sym (has_dots t at is))
+
+pub none_after : (t : List ℕ) (len : ℕ) (o : Option ℕ) (r : Bool) → 0 < len → len ≤ length t → LacksHeads len t
+    → MatchOption o (LacksDotsAfter (len - 1) t) (λ at. IsLastDots at t) → is_some o ≡ not r → r ≡ not (has_dot_segment (slice_split is_slash t))
+none_after t len None r some within heads later e =
+    told r false (has_dot_segment (slice_split is_slash t)) e (sym (lacks_all_dots t len some within heads later))
+none_after t len (Some at) r some within heads is e =
+    told r true (has_dot_segment (slice_split is_slash t)) e (sym (has_dots t at is))

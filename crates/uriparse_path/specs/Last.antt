@@ -1,0 +1,39 @@
+-- The last dot segment of a path's text.
+use Rattle.std.specs.Prelude.{◌≡◌, ℕ, zero, suc, ◌<◌, ◌≤◌, ◌==◌, ◌||◌, ◌&&◌, Bool, true, false, List, [], ◌∷◌, Option, MatchOption, drop, slice_index, length}
+use Rattle.std.specs.List.{slice_split}
+use Rattle.uriparse_text.specs.Bytes.{dot, percent}
+use Rattle.uriparse_path.specs.Path.{is_slash}
+use Rattle.uriparse_path.specs.Dots.{has_dot_segment, is_dot_segment}
+use Rattle.uriparse_path.specs.Relative.{is_first}
+
+-- a byte that a dot segment begins with
+abbrev pub is_head : ℕ → Bool
+is_head b = b == dot || b == percent || b == percent
+
+abbrev pub begins_with_head : List ℕ → Bool
+begins_with_head [] = false
+begins_with_head (b ∷ t) = is_head b
+
+-- a segment begins at this place
+abbrev pub begins_segment : ℕ → List ℕ → Bool
+begins_segment zero t = true
+begins_segment (suc at) t = is_slash (slice_index t at)
+
+-- none of the segments that begin after this place is a dot segment
+abbrev pub LacksDotsAfter : ℕ → List ℕ → Type 0
+LacksDotsAfter at t = has_dot_segment (drop 1 (slice_split is_slash (drop at t))) ≡ false
+
+-- the last dot segment begins at this place
+pub record IsLastDots (at : ℕ) (t : List ℕ) : Type 0 where
+  pub within : at ≤ length t
+  pub begins : begins_segment at t ≡ true
+  pub dots : is_first is_dot_segment (slice_split is_slash (drop at t)) ≡ true
+  pub later : LacksDotsAfter at t
+
+-- this is the place of the last dot segment, if there is one
+abbrev pub IsLast : Option ℕ → List ℕ → Type 0
+IsLast last t = MatchOption last (has_dot_segment (slice_split is_slash t) ≡ false) (λ at. IsLastDots at t)
+
+-- no segment that begins before this place begins like a dot segment
+abbrev pub LacksHeads : ℕ → List ℕ → Type 0
+LacksHeads n t = (at : ℕ) → at < n → (begins_segment at t && is_head (slice_index t at)) ≡ false

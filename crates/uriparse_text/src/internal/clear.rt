@@ -1,0 +1,16 @@
+//! Pairs of neighbouring bytes, looked for in sixteen places at once.
+ghost use Rattle.std.specs.Prelude.{◌≡◌, ◌+◌, ◌-◌, ◌<◌, ◌≤◌, ◌&&◌, ℕ, false, length, slice_index};
+
+use super::scan::{ByteTest, marks_of_run};
+
+/// Whether one of the sixteen bytes from `at` on passes `later` right after a byte that passes
+/// `earlier`. Without one of these, the others are not tested.
+#[inline(always)]
+pub fn has_pair<T: ByteTest, U: ByteTest>(earlier: &T, later: &U, text: &[u8], at: usize) -> bool
+    requires after { 0 < at }
+    requires room { at + 16 ≤ length text.now }
+    ensures { result ≡ false → (k : ℕ) → k < 16 → (T.passes earlier.now (slice_index text.now (at - 1 + k)) && U.passes later.now (slice_index text.now (at + k))) ≡ false }
+{
+    let before = marks_of_run(earlier, text, at - 1, at - 1);
+    before != 0 && before & marks_of_run(later, text, at, at) != 0
+}
