@@ -31,8 +31,8 @@ use registry::registry;
 use requests::requests;
 use std::alloc::Global;
 use std::process::ExitCode;
-use store::store;
 use std::{env, io};
+use store::store;
 
 /// Runs the job of this name.
 fn run_job(
