@@ -76,7 +76,7 @@ first_pair q = ap (map pair_of) (first_piece ampersand q) ∙ ap (λ ps. pair_of
 
 -- ---- the pieces of a query, joined, are the query
 
-piece_back : (s : List ℕ) → piece_of (pair_of s) ≡ s
+pub piece_back : (s : List ℕ) → piece_of (pair_of s) ≡ s
 piece_back s = before_after equals_sign s
 
 pieces_back : (ss : List (List ℕ)) → map piece_of (map pair_of ss) ≡ ss
@@ -224,12 +224,14 @@ decoded_value : (o : Option (List ℕ)) → are_bytes (unwrap_or o []) ≡ true 
 decoded_value None h = refl
 decoded_value (Some t) h = ap Some (decoded-encoded_without Query (codes "&=+") t h)
 
+pub pair_decoded : (p : Pair) → are_pair_bytes p ≡ true → decoded_pair (encoded_pair p) ≡ p
+pair_decoded p h =
+    let bytes = and_parts (are_bytes p.0) (are_bytes (unwrap_or p.1 [])) h in
+    rw (decoded-encoded_without Query (codes "&=+") p.0 bytes.0, decoded_value p.1 bytes.1) refl
+
 all_decoded : (ps : List Pair) → list_all are_pair_bytes ps ≡ true → map decoded_pair (map encoded_pair ps) ≡ ps
 all_decoded [] h = refl
-all_decoded (p ∷ ps) h =
-    let both = and_parts _ _ h in
-    let bytes = and_parts (are_bytes p.0) (are_bytes (unwrap_or p.1 [])) both.0 in
-    rw (decoded-encoded_without Query (codes "&=+") p.0 bytes.0, decoded_value p.1 bytes.1, all_decoded ps both.1) refl
+all_decoded (p ∷ ps) h = let both = and_parts _ _ h in rw (pair_decoded p both.0, all_decoded ps both.1) refl
 
 pub written_back : (ps : List Pair) → 0 < length ps → list_all are_pair_bytes ps ≡ true → map decoded_pair (pairs (joined_pairs (map encoded_pair ps))) ≡ ps
 written_back ps some bytes = ap (map decoded_pair) (pairs-joined ps some) ∙ all_decoded ps bytes
