@@ -9,7 +9,7 @@ use Rattle.std.specs.Ordering.{is_lt, nat_cmp}
 use Rattle.uriparse_text.specs.declared.internal.class.Class.TheVariants.{Query}
 use Rattle.uriparse_text.specs.Bytes.{ampersand, equals_sign}
 use Rattle.uriparse_text.specs.Cuts.{behind, before, after}
-use Rattle.uriparse_text.specs.Coding.{are_bytes, decoded, encoded_without}
+use Rattle.uriparse_text.specs.Coding.{are_bytes, decoded, encoded_without, form_decoded}
 
 -- a name, and a value if there is one
 abbrev pub Pair : Type 0
@@ -98,6 +98,10 @@ sorted_pairs (p ∷ ps) = insert_pair p (sorted_pairs ps)
 -- the bytes that the name and the value stand for
 abbrev pub decoded_pair : Pair → Pair
 decoded_pair p = (decoded p.0, option_map decoded p.1)
+
+-- the same if they are those of a form
+abbrev pub form_decoded_pair : Pair → Pair
+form_decoded_pair p = (form_decoded p.0, option_map form_decoded p.1)
 
 -- The text that stands for the bytes of a name or a value. A "+" is escaped, since forms read it as a space.
 abbrev pub encoded_in_pair : List ℕ → List ℕ

@@ -14,10 +14,10 @@ ghost use Rattle.uriparse_text.specs.Tokens.{is_well_formed, spell, IsConcatenat
 ghost use Rattle.uriparse_text.specs.Faults.{fault, IsIn, IsOfClass, HasFaultAt};
 ghost use Rattle.uriparse_text.specs.Place.{fault_place};
 ghost use Rattle.uriparse_text.specs.Canonical.{canonical_token, canonical_in, fed_bytes};
-ghost use Rattle.uriparse_text.specs.Coding.{are_bytes, decoded, escaped_in, form_decoded};
+ghost use Rattle.uriparse_text.specs.Coding.{are_bytes, decoded, encoded, escaped_in, form_decoded};
 ghost use Rattle.uriparse_text.specs.Cuts.{lacks, none_pass};
 ghost use Rattle.uriparse_text.specs.Link.{in_brackets, less_than, link, trimmed};
-ghost use Rattle.uriparse_text.specs.Pairs.{Pair, are_pair_bytes, decoded_pair, encoded_pair, has_less_name, is_named, joined_pairs, pairs, sorted_pairs, with_pair, without_empty_end, without_name};
+ghost use Rattle.uriparse_text.specs.Pairs.{Pair, are_pair_bytes, decoded_pair, encoded_in_pair, encoded_pair, form_decoded_pair, has_less_name, is_named, joined_pairs, pairs, sorted_pairs, with_pair, without_empty_end, without_name};
 ghost use Rattle.uriparse_text.specs.Starts.{Writes, too_small};
 ghost use Rattle.uriparse_text.specs.declared.internal.starts.TooSmall.{TooSmall};
 ghost use Rattle.uriparse_text.specs.Address.{IsOctets, IsSegments, SpellsIpv4, SpellsIpv6, ipv4_text, ipv6_text, ipv4_reading, ipv6_reading, IsPrintedIpv6, is_ipv4_byte, is_ipv6_byte};
@@ -115,12 +115,30 @@ pub fn one_escaping()
     ensures twice { (class : Class) (more text : List ℕ) → escaped_in class more (escaped_in class more text) ≡ escaped_in class more text }
 {}
 
+/// The text that bytes are written as is of the class and its own canonical spelling, and stands for
+/// these bytes.
+pub fn one_encoding()
+    ensures class { (class : Class) (bytes : List ℕ) → are_bytes bytes ≡ true → IsIn class (encoded class bytes) }
+    ensures back { (class : Class) (bytes : List ℕ) → are_bytes bytes ≡ true → decoded (encoded class bytes) ≡ bytes }
+    ensures canonical { (class : Class) (bytes : List ℕ) → are_bytes bytes ≡ true → canonical_in case.Kept (encoded class bytes) ≡ encoded class bytes }
+{}
+
+/// What a text of a class is made of and what it stands for are bytes, so the premises of other laws
+/// hold of them.
+pub fn texts_are_bytes()
+    ensures text { (class : Class) (text : List ℕ) → IsIn class text → are_bytes text ≡ true }
+    ensures decoded { (class : Class) (text : List ℕ) → IsIn class text → are_bytes (decoded text) ≡ true }
+    ensures form { (class : Class) (text : List ℕ) → IsIn class text → are_bytes (form_decoded text) ≡ true }
+{}
+
 /// The pieces of a query, joined, are the query again. The pairs of a query that was made of pairs
-/// are these, each escaped and, decoded, as they were.
+/// are these, each escaped and, decoded, as they were; decoded as those of a form too.
 pub fn one_list_of_pairs()
     ensures joined { (q : List ℕ) → joined_pairs (pairs q) ≡ q }
     ensures encoded { (ps : List Pair) → 0 < length ps → pairs (joined_pairs (map encoded_pair ps)) ≡ map encoded_pair ps }
     ensures decoded { (ps : List Pair) → 0 < length ps → list_all are_pair_bytes ps ≡ true → map decoded_pair (pairs (joined_pairs (map encoded_pair ps))) ≡ ps }
+    ensures form { (ps : List Pair) → 0 < length ps → list_all are_pair_bytes ps ≡ true → map form_decoded_pair (pairs (joined_pairs (map encoded_pair ps))) ≡ ps }
+    ensures form_text { (bytes : List ℕ) → are_bytes bytes ≡ true → form_decoded (encoded_in_pair bytes) ≡ bytes }
 {}
 
 /// Once a pair of a name is set, it is the only one of the name. The others are as before if there was

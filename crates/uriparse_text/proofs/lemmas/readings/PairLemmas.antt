@@ -115,7 +115,7 @@ joined_behind mark s (r ∷ ss) = ap (λ x. s ++ mark ∷ x) (joined_behind mark
 -- ---- the bytes of a name or a value
 
 -- what holds of both outcomes holds of a byte's token
-by_kept : (class : Class) (without : List ℕ) (b : ℕ) (P : Token → Type 0) → ((is_plain class b && not (is_among without b)) ≡ true → P (Byte b))
+pub by_kept : (class : Class) (without : List ℕ) (b : ℕ) (P : Token → Type 0) → ((is_plain class b && not (is_among without b)) ≡ true → P (Byte b))
     → P (escape_of b) → P (token_without class without b)
 by_kept class without b P f g = cond_both (is_plain class b && not (is_among without b)) (Byte b) (escape_of b) P f (λ _. g)
 
@@ -129,7 +129,7 @@ module _ (class : Class) (without : List ℕ) where
   all_allowed [] = refl
   all_allowed (b ∷ bytes) = and_from _ _ (allows-token_without b) (all_allowed bytes)
 
-  tokens-encoded_without : (bytes : List ℕ) → tokens (encoded_without class without bytes) ≡ map (token_without class without) bytes
+  pub tokens-encoded_without : (bytes : List ℕ) → tokens (encoded_without class without bytes) ≡ map (token_without class without) bytes
   tokens-encoded_without bytes =
       tokens_of_concatenation (map (token_without class without) bytes)
       (all_tokens-allowed class (map (token_without class without) bytes) (all_allowed bytes))
@@ -137,7 +137,7 @@ module _ (class : Class) (without : List ℕ) where
   pub IsIn-encoded_without : (bytes : List ℕ) → IsIn class (encoded_without class without bytes)
   IsIn-encoded_without bytes = ap (list_all (allows class)) (tokens-encoded_without bytes) ∙ all_allowed bytes
 
-  value_without : (b : ℕ) → b < 256 → value_of (token_without class without b) ≡ b
+  pub value_without : (b : ℕ) → b < 256 → value_of (token_without class without b) ≡ b
   value_without b small =
       by_kept class without b (λ t. value_of t ≡ b) (λ h. refl)
       (eqb-true _ _ (agree_below_at (λ b. value_of (escape_of b) == b) (λ b. true) 256 b refl small))
@@ -164,7 +164,7 @@ module _ (class : Class) (without : List ℕ) where
         by_test true e = absurd (false≢true (sym (other b e) ∙ h))
         by_test false e = refl
 
-    kept_lacks : (b : ℕ) → (is_plain class b && not (is_among without b)) ≡ true → not (b == mark) ≡ true
+    pub kept_lacks : (b : ℕ) → (is_plain class b && not (is_among without b)) ≡ true → not (b == mark) ≡ true
     kept_lacks b h = by_test (b == mark) refl
       where
         by_test : (v : Bool) → (b == mark) ≡ v → not v ≡ true
