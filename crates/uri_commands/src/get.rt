@@ -73,23 +73,13 @@ pub fn read_part(name: &str) -> Result<Part, Failure> {
 
 /// Prints the component of this name, or fails with `Failure::Absent` if the reference has none.
 /// The name is checked before the text is read. Allocates only the text of an origin.
-pub fn get<O: Write>(
-    alloc: Global,
-    name: &str,
-    text: &[u8],
-    out: &mut O,
-) -> Result<(), Failure> {
+pub fn get<O: Write>(alloc: Global, name: &str, text: &[u8], out: &mut O) -> Result<(), Failure> {
     let part = read_part(name)?;
     get_part(alloc, part, text, out)
 }
 
 /// Reads the text, and prints the component, or fails with `Failure::Absent`.
-fn get_part<O: Write>(
-    alloc: Global,
-    part: Part,
-    text: &[u8],
-    out: &mut O,
-) -> Result<(), Failure> {
+fn get_part<O: Write>(alloc: Global, part: Part, text: &[u8], out: &mut O) -> Result<(), Failure> {
     let reference = ReferenceView::try_from_bytes(text)?;
     if print_part_of(alloc, &reference, part, out)? {
         Ok(())
