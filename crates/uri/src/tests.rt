@@ -16,7 +16,7 @@ use std::{io, str};
 const USAGE: &str = "usage: uri COMMAND TEXT..\nuri help lists the commands\n";
 
 // (the words separated by bars, the status, the output, the message on standard error)
-static ROWS: [(&str, u8, &str, &str); 99] = [
+static ROWS: [(&str, u8, &str, &str); 111] = [
     ("help|parse|a", 2, "", USAGE),
     ("parse|--help", 0, "--help\npath=--help\n", ""),
     (
