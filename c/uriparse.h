@@ -127,7 +127,7 @@ bool uriparse_is_uri(const uint8_t *text, size_t len);
 /* Writes to `*equal` whether two references are equal: whether their hosts, if they have any, are of one kind, and
  * their texts, in the form that calls write (see `uriparse_normalize`), differ at most by case in schemes, hosts and
  * hexadecimal digits and by percent-encoding of unreserved characters ("%7e" and "~", but not "%2F" and "/"). Dot
- * segments count: normalize first if they shouldn't. If both texts are faulty, the error is the left one's. Does not
+ * segments count: normalize first if they shouldn't, but see the warning at `uriparse_normalize`. If both texts are faulty, the error is the left one's. Does not
  * allocate.
  *
  * The caller ensures: each text is readable for its length; `equal` is writable. */
@@ -147,6 +147,11 @@ uint32_t uriparse_hash(const uint8_t *text, size_t len, uint64_t *hash);
  * In each text that is written, also by `uriparse_resolve`, a registered scheme is in lower case, a port has no leading
  * zeros, an empty port is left out, an IPv6 address is as RFC 5952 writes it, and an empty path after an authority is
  * "/".
+ *
+ * A text doesn't keep the kind of a host. "//%31.2.3.4" has a name, which `uriparse_equal` tells from the address 1.2.3.4;
+ * the text of its normal form is "//1.2.3.4", which has the address. So texts of normal forms may be equal where their
+ * references are not. To tell such hosts apart, keep the text that was read. Any other text that is written is read back
+ * as what it was written for.
  *
  * The caller ensures: `text` is readable for `len` bytes; `out` is writable for `room` bytes; `needed` is writable. */
 uint32_t uriparse_normalize(const uint8_t *text, size_t len, uint8_t *out, size_t room, size_t *needed);
@@ -189,9 +194,9 @@ uint32_t uriparse_encode(uint32_t component, const uint8_t *bytes, size_t len, u
                          size_t *needed);
 
 /* Writes to `out` the text of a reference, made of any text, as `uriparse_decode` writes: each byte that RFC 3986 doesn't
- * allow where it stands becomes an escape, and all else stays. So the text of a reference stays, an IRI in
- * UTF-8 becomes its URI (RFC 3987, section 3.1), and a second call changes nothing. A '%' that two hexadecimal digits
- * don't follow becomes "%25". What is written may still be rejected: for its authority, which keeps its delimiters, for
+ * allow where it stands becomes an escape, but for the delimiters of an authority, and all else stays. So the text of a
+ * reference stays, and a second call changes nothing. Bytes that aren't ASCII become escapes, as RFC 3987, section 3.1,
+ * has it for IRIs in UTF-8, also in the name of a host. A '%' that two hexadecimal digits don't follow becomes "%25". What is written may still be rejected: for its authority, which keeps its delimiters, for
  * too many segments, or by the colon rule. Does not allocate.
  *
  * The caller ensures: `text` is readable for `len` bytes; `out` is writable for `room` bytes; `needed` is writable. */

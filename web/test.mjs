@@ -81,7 +81,7 @@ await test("each component and its place", () => {
   assert.deepEqual(uris.parse("").segments, [""]);
 });
 
-// The place of the first wrong character, and its component.
+// The place of the character that the error is about, and its component.
 const FAULTS = [
   ["http://h/a b", 10, "path"],
   ["http://h/%4", 9, "path"],

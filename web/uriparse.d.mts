@@ -22,7 +22,7 @@ export interface Parts {
   places: Record<Component, Place>;
 }
 
-/** Why a text is no reference, and the index of its first wrong character. */
+/** Why a text is no reference, and the index of the character that this is about. */
 export interface Fault {
   code: number;
   component: Component | null;

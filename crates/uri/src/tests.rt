@@ -16,7 +16,7 @@ use std::{io, str};
 const USAGE: &str = "usage: uri COMMAND TEXT..\nuri help lists the commands\n";
 
 // (the words separated by bars, the status, the output, the message on standard error)
-static ROWS: [(&str, u8, &str, &str); 99] = [
+static ROWS: [(&str, u8, &str, &str); 111] = [
     ("help|parse|a", 2, "", USAGE),
     ("parse|--help", 0, "--help\npath=--help\n", ""),
     (
@@ -181,7 +181,24 @@ static ROWS: [(&str, u8, &str, &str); 99] = [
     ("get|query|//u:p@h:8/a?q#f", 0, "q\n", ""),
     ("get|fragment|//u:p@h:8/a?q#f", 0, "f\n", ""),
     ("get|origin|HTTPS://u@h:8/a?q#f", 0, "https://h:8\n", ""),
-    ("get|origin|s://h:/a", 0, "s://h\n", ""),
+    ("get|origin|file:///a", 3, "", ""),
+    ("get|origin|x-y://h", 3, "", ""),
+    ("get|origin|https://h", 0, "https://h\n", ""),
+    ("get|origin|HTTPS://H:443", 0, "https://h\n", ""),
+    ("get|origin|mailto:y", 3, "", ""),
+    ("get|origin|http://h:443/", 0, "http://h:443\n", ""),
+    ("get|origin|ftp://H:21/a", 0, "ftp://h\n", ""),
+    ("get|origin|http://1.2.3.4/", 0, "http://1.2.3.4\n", ""),
+    ("get|origin|wss://%48:443", 0, "wss://h\n", ""),
+    ("get|origin|http://h:0080/", 0, "http://h\n", ""),
+    ("get|origin|X-Y://%48:08/a", 0, "x-y://h:8\n", ""),
+    ("get|origin|s://h:/a", 3, "", ""),
+    (
+        "get|origin|ws://[::FFFF:1.2.3.4]:80",
+        0,
+        "ws://[::ffff:1.2.3.4]\n",
+        "",
+    ),
     ("get|origin|//h/a", 3, "", ""),
     ("get|origin|mailto:a@b", 3, "", ""),
     // Absent is not the same as empty.

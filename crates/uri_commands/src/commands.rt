@@ -73,7 +73,7 @@ pub fn run_texts<O: Write>(
         (Manner::Quiet, ["parse", text]) => check(text.as_bytes()),
         (Manner::Plain, ["tail", text]) => tail(alloc, text, out),
         (Manner::Plain, ["get", "file", uri]) => get_file(alloc, uri.as_bytes(), out),
-        (Manner::Plain, ["get", part, text]) => get(part, text.as_bytes(), out),
+        (Manner::Plain, ["get", part, text]) => get(alloc, part, text.as_bytes(), out),
         (Manner::Plain, ["normalize", text]) => normalize(alloc, text.as_bytes(), out),
         (Manner::DropDefaultPort, ["normalize", text]) => {
             normalize_port(alloc, text.as_bytes(), out)
@@ -155,7 +155,7 @@ impl<'w> Task<'w> {
         match self {
             Task::Parse => parse_json(line, out),
             Task::Check => check(line),
-            Task::Get(part) => get_or_empty(*part, line, out),
+            Task::Get(part) => get_or_empty(alloc, *part, line, out),
             Task::Normalize => normalize_with(buffer, line, out),
             Task::NormalizePort => normalize_port(alloc, line, out),
             Task::Equal => equal_pair(line, out),

@@ -23,7 +23,7 @@ authority V, path V, query V or fragment V, which set a part, drop-scheme,
 drop-authority, drop-query or drop-fragment, which remove it, drop-pair NAME,
 which leaves out the query's pairs of this name, or normalize. The name is
 compared by the bytes that it stands for, so %61 is a; without a pair left there
-is no query.
+is no query. Without an edit the reference is printed as by uri parse.
 
 Exit status: 0 on success, 1 if a text or an edit is rejected, 2 on a usage
 error.

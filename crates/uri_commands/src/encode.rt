@@ -21,7 +21,7 @@ query, fragment, username or password. A byte that the component can't have is
 written as an escape: a space as %20, and a slash in a segment as %2F. A `%` is
 always %25, so encode a text once. A query keeps its `&` and `=`.
 
-Exit status: 0 on success, 2 on a usage error.
+Exit status: 0 on success, 1 if the text is not UTF-8, 2 on a usage error.
 
 Example:
     uri encode segment 'a/b c'

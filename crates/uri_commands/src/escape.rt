@@ -28,7 +28,7 @@ port is still rejected by the other commands. Lines are bytes of any encoding: a
 carriage return becomes %0D. For links with white space or brackets round them
 see uri help --trim.
 
-Exit status: 0 on success, 2 on a usage error.
+Exit status: 0 on success, 1 if the text is not UTF-8, 2 on a usage error.
 
 Example:
     uri escape 'http://h/a b?q=100%#[x]'
@@ -52,7 +52,7 @@ space at both ends, so also a carriage return at the end of a line; then a pair
 of angle brackets, a URL: that follows the first, and the white space at the
 ends of what they hold. One bracket alone stays, and is escaped.
 
-Exit status: 0 on success, 2 on a usage error.
+Exit status: 0 on success, 1 if the text is not UTF-8, 2 on a usage error.
 
 Example:
     uri --trim escape ' <URL:http://h/a b> '

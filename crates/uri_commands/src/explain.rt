@@ -12,7 +12,7 @@ pub const ABOUT: Topic = Topic {
     summary: "\
 uri --explain parse TEXT, uri --explain resolve BASE REF
                       the same, but a rejected text is shown with a caret
-                      under its first wrong byte
+                      under the byte that its error is about
 ",
     page: "\
 uri --explain parse TEXT
@@ -22,12 +22,13 @@ uri --lines --explain parse
 uri --lines --explain resolve BASE
 
 Explains on the standard error why a text is rejected, in three lines: the text,
-a caret under the first byte that is wrong, and the error with the component and
-the number of bytes before that byte. An address of a wrong form, too large a
-port and a path with a colon that is taken for a scheme's are wrong where they
-begin. Of a long text 72 bytes are shown; a byte that is not printable ASCII is
-shown as a dot. With resolve the third line says which text is wrong, with
---lines on which line.
+a caret under the byte that its error is about, and the error with the component
+and the number of bytes before that byte. An address of a wrong form, too large
+a port and a path with a colon that is taken for a scheme's are wrong where they
+begin. Of several faults the error is the one of the first component; a path's
+own bytes come before such a colon. Of a long text 72 bytes are shown; a byte
+that is not printable ASCII is shown as a dot. With resolve the third line says
+which text is wrong, with --lines on which line.
 
 Exit status: 0 on success, 1 if a text is rejected, 2 on a usage error.
 
@@ -163,8 +164,8 @@ fn explain_words<E: Write>(words: &[&str], err: &mut E) -> io::Result<bool> {
 }
 
 /// Writes three lines on the text that the command of these words rejects: the text, a caret under
-/// its first wrong byte, and its fault. If the command fails for another reason, only that is
-/// written.
+/// the byte that its fault is about, and the fault. If the command fails for another reason, only
+/// that is written.
 pub fn explain<E: Write>(words: &[&str], failure: &Failure, err: &mut E) -> io::Result<()> {
     if explain_words(words, err)? {
         return Ok(());

@@ -1,12 +1,12 @@
 //! `uri get PART TEXT`: one component of a reference, alone.
 
 use crate::failure::Failure;
-use crate::print::print_line;
+use crate::print::{print_bytes, print_line};
 use crate::topic::Topic;
+use std::alloc::Global;
 use std::fmt::Display;
-use std::io;
 use std::io::Write;
-use uriparse::ReferenceView;
+use uriparse::{ReferenceView, URIView};
 
 pub const ABOUT: Topic = Topic {
     name: "get",
@@ -19,9 +19,15 @@ uri get PART TEXT
 uri --lines get PART
 
 Prints one part of the reference: scheme, authority, username, password, host,
-port, path, query, fragment or origin. The origin is scheme, host and port. An
-IPv6 address has its brackets. With --lines an absent part is an empty line,
-and the status is 0. For `uri get file URI` see uri help file.
+port, path, query, fragment or origin. An IPv6 address has its brackets. With
+--lines an absent part is an empty line, and the status is 0. For
+`uri get file URI` see uri help file.
+
+The origin is scheme, host and port, by which RFC 6454 compares URIs, in one
+spelling: scheme and host in lower case, with no escape that isn't needed, and
+without a port that is the scheme's default one. It is absent without a host,
+or if neither the URI names a port nor its scheme has a default one, as file.
+`uri get authority` prints host and port as the text names them.
 
 Exit status: 0 on success, 1 if a text is no reference, 2 on a usage error,
 3 if the part is absent; nothing is printed then.
@@ -66,25 +72,30 @@ pub fn read_part(name: &str) -> Result<Part, Failure> {
 }
 
 /// Prints the component of this name, or fails with `Failure::Absent` if the reference has none.
-/// The name is checked before the text is read. Does not allocate.
-pub fn get<O: Write>(name: &str, text: &[u8], out: &mut O) -> Result<(), Failure> {
+/// The name is checked before the text is read. Allocates only the text of an origin.
+pub fn get<O: Write>(alloc: Global, name: &str, text: &[u8], out: &mut O) -> Result<(), Failure> {
     let part = read_part(name)?;
-    get_part(part, text, out)
+    get_part(alloc, part, text, out)
 }
 
 /// Reads the text, and prints the component, or fails with `Failure::Absent`.
-fn get_part<O: Write>(part: Part, text: &[u8], out: &mut O) -> Result<(), Failure> {
+fn get_part<O: Write>(alloc: Global, part: Part, text: &[u8], out: &mut O) -> Result<(), Failure> {
     let reference = ReferenceView::try_from_bytes(text)?;
-    match print_part_of(&reference, part, out) {
-        Ok(true) => Ok(()),
-        Ok(false) => Err(Failure::Absent),
-        Err(error) => Err(Failure::Io(error)),
+    if print_part_of(alloc, &reference, part, out)? {
+        Ok(())
+    } else {
+        Err(Failure::Absent)
     }
 }
 
 /// Prints the component of a line's reference, or an empty line if it is absent.
-pub fn get_or_empty<O: Write>(part: Part, line: &[u8], out: &mut O) -> Result<(), Failure> {
-    match get_part(part, line, out) {
+pub fn get_or_empty<O: Write>(
+    alloc: Global,
+    part: Part,
+    line: &[u8],
+    out: &mut O,
+) -> Result<(), Failure> {
+    match get_part(alloc, part, line, out) {
         Err(Failure::Absent) => out.write_all(b"\n").map_err(Failure::Io),
         result => result,
     }
@@ -92,10 +103,11 @@ pub fn get_or_empty<O: Write>(part: Part, line: &[u8], out: &mut O) -> Result<()
 
 /// Prints the component, and returns whether it is present.
 fn print_part_of<O: Write>(
+    alloc: Global,
     reference: &ReferenceView<'_>,
     part: Part,
     out: &mut O,
-) -> io::Result<bool> {
+) -> Result<bool, Failure> {
     match part {
         Part::Scheme => print_present(reference.scheme().as_ref(), out),
         Part::Authority => print_present(reference.authority().as_ref(), out),
@@ -106,12 +118,12 @@ fn print_part_of<O: Write>(
         Part::Path => print_present(Some(&reference.path()), out),
         Part::Query => print_present(reference.query().as_ref(), out),
         Part::Fragment => print_present(reference.fragment().as_ref(), out),
-        Part::Origin => print_origin(reference, out),
+        Part::Origin => print_origin(alloc, reference, out),
     }
 }
 
 /// Prints the value if it is present, and returns whether it is.
-fn print_present<T: Display, O: Write>(value: Option<&T>, out: &mut O) -> io::Result<bool> {
+fn print_present<T: Display, O: Write>(value: Option<&T>, out: &mut O) -> Result<bool, Failure> {
     match value {
         Some(value) => {
             print_line(value, out)?;
@@ -121,15 +133,21 @@ fn print_present<T: Display, O: Write>(value: Option<&T>, out: &mut O) -> io::Re
     }
 }
 
-/// Prints scheme, host and port if scheme and host are present, and returns whether they are. The
-/// port is that of the text: one that the scheme implies is neither added nor removed.
-fn print_origin<O: Write>(reference: &ReferenceView<'_>, out: &mut O) -> io::Result<bool> {
-    let (Some(scheme), Some(host)) = (reference.scheme(), reference.host()) else {
+/// Prints the origin if the reference is a URI that has one, and returns whether it is.
+fn print_origin<O: Write>(
+    alloc: Global,
+    reference: &ReferenceView<'_>,
+    out: &mut O,
+) -> Result<bool, Failure> {
+    let Ok(uri) = URIView::try_from_str(reference.as_str()) else {
         return Ok(false);
     };
-    match reference.port() {
-        Some(port) => writeln!(out, "{scheme}://{host}:{port}")?,
-        None => writeln!(out, "{scheme}://{host}")?,
+    match uri.origin() {
+        Some(origin) => {
+            let text = origin.to_string(alloc)?;
+            print_bytes(text.as_bytes(), out)?;
+            Ok(true)
+        }
+        None => Ok(false),
     }
-    Ok(true)
 }

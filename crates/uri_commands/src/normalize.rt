@@ -45,8 +45,8 @@ uri --drop-default-port normalize TEXT
 uri --lines --drop-default-port normalize
 
 Prints the normal form of the reference without its port if that is the default
-port of the scheme, as 443 of https: RFC 3986, section 6.2.3. A scheme whose
-registration names no default port keeps each port.
+port of the scheme, as 443 of https: RFC 3986, section 6.2.3. A scheme without
+a default port keeps each port.
 
 Exit status: 0 on success, 1 if a text is no reference, 2 on a usage error.
 

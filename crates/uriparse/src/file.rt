@@ -151,6 +151,9 @@ fn push_name(alloc: Global, path: &mut Vec<u8>, segment: &Segment<'_>) -> Result
 
 /// The path of the file that a URI names on this machine, as the bytes of a POSIX system: the bytes
 /// that each segment stands for, each after a slash. RFC 8089, sections 2 and 3. Dot segments stay.
+/// Paths that this RFC's grammar has none of are accepted: the empty one of `file://`, which is `/`,
+/// and those that begin with an empty segment, as `file:////a//`. A port of no digits, as in
+/// `file://:/a`, is no port; an empty user name, as in `file://@/a`, is one.
 ///
 /// The scheme is `file` in any case, and the host absent, empty or `localhost`. Fails with the first
 /// of [`NotFile`](FileError::NotFile), [`HasUsername`](FileError::HasUsername),

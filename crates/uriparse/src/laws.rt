@@ -1,6 +1,6 @@
 //! Laws of the definitions that contracts cite. Each function does nothing: its contract is the
 //! law.
-ghost use Rattle.std.specs.Prelude.{◌≡◌, ◌∷◌, [], ℕ, List, Err, Ok, Some, codes, false, true};
+ghost use Rattle.std.specs.Prelude.{◌≡◌, ◌↔◌, ◌∷◌, [], ℕ, List, Err, Ok, Some, None, codes, false, true};
 ghost use Rattle.uriparse_text.specs.Bytes.{slash};
 ghost use Rattle.uriparse_text.specs.Coding.{are_bytes};
 ghost use Rattle.uriparse_reference.specs.Builder.{held};
@@ -10,7 +10,10 @@ ghost use Rattle.uriparse_reference.specs.Reference.{Parts, Valid, print};
 ghost use Rattle.uriparse.specs.File.{file_uri, path_named, path_of_uri, uri_of_path};
 ghost use Rattle.uriparse.specs.declared.file.error.FileError.TheVariants as errors;
 ghost use Rattle.uriparse.specs.Kinds.{IsOfKind, told_of};
-ghost use Rattle.uriparse.specs.Origin.{origin};
+ghost use Rattle.uriparse.specs.Origin.{are_alike, fed, have_same_origin, origin, printed_origin, share_origin};
+ghost use Rattle.uriparse.specs.declared.uri.origin.Origin.{Origin};
+ghost use Rattle.uriparse_authority.specs.Host as host;
+ghost use Rattle.uriparse_scheme.specs.Scheme as scheme;
 ghost use Rattle.uriparse.specs.RelativeReference as relative;
 ghost use Rattle.uriparse.specs.Uri as uri;
 
@@ -27,15 +30,42 @@ pub fn one_relative_reference()
     ensures built { (p : Parts) → Valid p → IsOfKind false p → relative.relative_built (held p) ≡ Ok p }
 {}
 
-/// A URI has the origin that it has without its scheme's default port.
+/// A URI has the origin that it has without its scheme's default port. Two URIs have the same origin
+/// if both have one, and these are alike: in the canonical spelling of their schemes, in the kind and
+/// the canonical spelling of their hosts, and in their ports. A hasher is fed the same for both then.
 pub fn one_origin()
-    ensures { (p : Parts) → origin (without_default_port p) ≡ origin p }
+    ensures port { (p : Parts) → origin (without_default_port p) ≡ origin p }
+    ensures none { (p q : Parts) → origin p ≡ None → (have_same_origin p q ≡ false) × (have_same_origin q p ≡ false) }
+    ensures same { (p q : Parts) (a b : Origin) → origin p ≡ Some a → origin q ≡ Some b → have_same_origin p q ≡ are_alike a b }
+    ensures parts { (a b : Origin) → (are_alike a b ≡ true) ↔ ((scheme.canonical_text a.scheme ≡ scheme.canonical_text b.scheme) × (host.key a.host ≡ host.key b.host) × (a.port ≡ b.port)) }
+    ensures hash { (a b : Origin) → are_alike a b ≡ true → fed a ≡ fed b }
 {}
 
-/// The URI of a path names the path. The path that a URI names has a URI.
+/// Origins: of one spelling each, and of URIs that have none.
+pub fn examples_of_origins()
+    ensures plain { printed_origin (codes "https://h") ≡ Some (codes "https://h") }
+    ensures spelled { printed_origin (codes "HTTPS://u@%48:443/a?b#c") ≡ Some (codes "https://h") }
+    ensures other_port { printed_origin (codes "http://h:443") ≡ Some (codes "http://h:443") }
+    ensures address { printed_origin (codes "ws://[::FFFF:1.2.3.4]:80") ≡ Some (codes "ws://[::ffff:1.2.3.4]") }
+    ensures unregistered { printed_origin (codes "X-Y://h:1") ≡ Some (codes "x-y://h:1") }
+    ensures no_port { printed_origin (codes "x-y://h") ≡ None }
+    ensures file { printed_origin (codes "file:///a") ≡ None }
+    ensures no_authority { printed_origin (codes "mailto:y") ≡ None }
+    ensures one { share_origin (codes "https://h/a") (codes "HTTPS://%48:443") ≡ Some true }
+    ensures two_without { share_origin (codes "file:///x") (codes "mailto:y") ≡ Some false }
+    ensures one_without { share_origin (codes "file:///x") (codes "file:///x") ≡ Some false }
+    ensures two_schemes { share_origin (codes "http://h:1") (codes "https://h:1") ≡ Some false }
+    ensures two_hosts { share_origin (codes "http://h") (codes "http://h.") ≡ Some false }
+    ensures two_kinds { share_origin (codes "http://1.2.3.4") (codes "http://%31.2.3.4") ≡ Some false }
+    ensures two_ports { share_origin (codes "http://h") (codes "http://h:8080") ≡ Some false }
+{}
+
+/// The URI of a path names the path. The path that a URI names has a URI, which names it too.
 pub fn one_file_path()
     ensures back { (path : List ℕ) (u : Parts) → are_bytes path ≡ true → uri_of_path path ≡ Ok u → path_of_uri u ≡ Ok path }
     ensures forth { (u : Parts) (path : List ℕ) → Valid u → path_of_uri u ≡ Ok path → uri_of_path path ≡ Ok (file_uri path) }
+    ensures again { (u : Parts) (path : List ℕ) → Valid u → path_of_uri u ≡ Ok path → path_of_uri (file_uri path) ≡ Ok path }
+    ensures bytes { (u : Parts) (path : List ℕ) → Valid u → path_of_uri u ≡ Ok path → are_bytes path ≡ true }
 {}
 
 /// Paths and the texts of their URIs, and URIs and the paths that they name: RFC 8089, section 2 and

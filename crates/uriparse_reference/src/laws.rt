@@ -129,6 +129,15 @@ pub fn reading_back()
     ensures one { (p q : Parts) → Valid p → Valid q → print p ≡ print q → (p ≡ q) ⊎ OneHidesAddress p q }
 {}
 
+/// What is written is read back. The text of a valid reference spells one with this text. The text of
+/// a normal form spells a reference whose normal form has this text. The text of a target spells the
+/// target, if the texts of base and reference spell them, as they do if both were read.
+pub fn reading_what_is_written()
+    ensures text { (p : Parts) → Valid p → (q : Parts) × Spells (print p) q × (print q ≡ print p) }
+    ensures normal { (p : Parts) → Valid p → (q : Parts) × Spells (print (normal p)) q × (print (normal q) ≡ print (normal p)) }
+    ensures target { (b r t : Parts) → Valid b → Valid r → ReadsBack b → ReadsBack r → is_some b.scheme ≡ true → target b r ≡ Some t → Spells (print t) t }
+{}
+
 /// Two references have the same key if and only if they are the same: their canonical texts agree,
 /// and they have no host or hosts of one kind. For a valid reference the key alone determines what
 /// a `Hasher` is fed, component by component.

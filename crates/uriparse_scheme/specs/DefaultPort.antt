@@ -5,7 +5,7 @@ use Rattle.uriparse_scheme.specs.declared.scheme.registered.RegisteredScheme.The
 use Rattle.uriparse_scheme.specs.declared.scheme.Scheme.{Scheme}
 use Rattle.uriparse_scheme.specs.declared.scheme.Scheme.TheVariants.{Registered, Unregistered}
 
--- the default port of a registered scheme, if its registration names one
+-- the default port of a registered scheme, if this list has one
 unfoldable pub registered_port : RegisteredScheme → Option ℕ
 -- schemes.tsv: ports
 registered_port scheme.AAA = Some 3868

@@ -1,5 +1,5 @@
 -- The pairs of a query: RFC 3986, section 3.4.
-use Rattle.std.specs.Prelude.{ℕ, Bool, ◌==◌, ◌&&◌, not, if◌then◌else◌, List, [], ◌∷◌, ◌++◌, map, bytes_eq, codes, Option, Some, None, unwrap_or}
+use Rattle.std.specs.Prelude.{ℕ, Bool, ◌==◌, ◌&&◌, not, if◌then◌else◌, false, List, [], ◌∷◌, ◌++◌, map, bytes_eq, codes, Option, Some, None, unwrap_or}
 use Rattle.std.specs.Borrow.{Bor}
 use Rattle.std.specs.Option.{option_map, option_copied}
 use Rattle.std.specs.List.{filter, slice_split, join_with_byte}
@@ -9,7 +9,7 @@ use Rattle.std.specs.Ordering.{is_lt, nat_cmp}
 use Rattle.uriparse_text.specs.declared.internal.class.Class.TheVariants.{Query}
 use Rattle.uriparse_text.specs.Bytes.{ampersand, equals_sign}
 use Rattle.uriparse_text.specs.Cuts.{behind, before, after}
-use Rattle.uriparse_text.specs.Coding.{are_bytes, decoded, encoded_without}
+use Rattle.uriparse_text.specs.Coding.{are_bytes, decoded, encoded_without, form_decoded}
 
 -- a name, and a value if there is one
 abbrev pub Pair : Type 0
@@ -59,10 +59,23 @@ is_named name p = bytes_eq (decoded p.0) name
 abbrev pub without_name : List ℕ → List Pair → List Pair
 without_name name ps = filter (λ p. not (is_named name p)) ps
 
--- The first pair of the name becomes this one, and the others of the name are left out; if there is none, it follows all others.
+-- one pair alone, that of an empty piece: an empty name without a value
+abbrev pub is_empty_end : List Pair → Bool
+is_empty_end [] = false
+is_empty_end (p ∷ []) = bytes_eq (piece_of p) []
+is_empty_end (p ∷ q ∷ ps) = false
+
+-- the pairs without that of an empty piece at the end
+abbrev pub without_empty_end : List Pair → List Pair
+without_empty_end [] = []
+without_empty_end (p ∷ ps) = if is_empty_end (p ∷ ps) then [] else p ∷ without_empty_end ps
+
+-- The first pair of the name becomes this one, and the others of the name are left out; if there is none, it follows all others, in the place of an
+-- empty piece at the end.
 abbrev pub with_pair : List ℕ → Pair → List Pair → List Pair
 with_pair name new [] = new ∷ []
-with_pair name new (p ∷ ps) = if is_named name p then new ∷ without_name name ps else p ∷ with_pair name new ps
+with_pair name new (p ∷ ps) =
+    if is_named name p then new ∷ without_name name ps else if is_empty_end (p ∷ ps) then new ∷ [] else p ∷ with_pair name new ps
 
 -- ---- pairs in the order of their names
 
@@ -85,6 +98,10 @@ sorted_pairs (p ∷ ps) = insert_pair p (sorted_pairs ps)
 -- the bytes that the name and the value stand for
 abbrev pub decoded_pair : Pair → Pair
 decoded_pair p = (decoded p.0, option_map decoded p.1)
+
+-- the same if they are those of a form
+abbrev pub form_decoded_pair : Pair → Pair
+form_decoded_pair p = (form_decoded p.0, option_map form_decoded p.1)
 
 -- The text that stands for the bytes of a name or a value. A "+" is escaped, since forms read it as a space.
 abbrev pub encoded_in_pair : List ℕ → List ℕ

@@ -1,5 +1,5 @@
 -- How pieces of a query are written one after another. No public contract cites these words.
-use Rattle.std.specs.Prelude.{ℕ, Bool, ◌≡◌, ◌&&◌, true, if◌then◌else◌, List, [], ◌∷◌, ◌++◌, flat_map}
+use Rattle.std.specs.Prelude.{ℕ, Bool, ◌≡◌, ◌&&◌, ◌||◌, not, bytes_eq, true, if◌then◌else◌, List, [], ◌∷◌, ◌++◌, flat_map}
 use Rattle.std.specs.List.{list_all, slice_split}
 use Rattle.uriparse_text.specs.declared.internal.class.Class.TheVariants.{Query}
 use Rattle.uriparse_text.specs.Bytes.{ampersand}
@@ -12,9 +12,14 @@ use Rattle.uriparse_text.specs.Pairs.{pair_of, is_ampersand, is_named}
 abbrev pub is_piece : List ℕ → Bool
 is_piece s = lacks ampersand s && list_all (allows Query) (tokens s)
 
--- what a piece becomes where the pair of this piece is set: the name's first piece that one, and its others none
-abbrev pub next_pieces : List ℕ → List ℕ → Bool → List ℕ → List (List ℕ)
-next_pieces name new done s = if is_named name (pair_of s) then (if done then [] else new ∷ []) else s ∷ []
+-- the piece makes room for the pair that is set: it is of the name, or an empty one at the end
+abbrev pub makes_room : List ℕ → Bool → List ℕ → Bool
+makes_room name last s = is_named name (pair_of s) || (last && bytes_eq s [])
+
+-- what a piece becomes where the pair of this piece is set: the first that makes room that one, and the name's others none
+abbrev pub next_pieces : List ℕ → List ℕ → Bool → Bool → List ℕ → List (List ℕ)
+next_pieces name new done last s =
+    if not done && makes_room name last s then new ∷ [] else if is_named name (pair_of s) then [] else s ∷ []
 
 -- the pieces, each with a "&" after it
 abbrev pub ended : List (List ℕ) → List ℕ

@@ -2,7 +2,7 @@
 //! law.
 ghost use Rattle.std.specs.Prelude.{◌≡◌, ◌==◌, ◌↔◌, ◌<◌, ◌∷◌, ◌++◌, ℕ, List, [], Result, Ok, Err, Some, None, true, false, flat_map, length, map, not, codes, drop, take, slice_get};
 ghost use Rattle.std.specs.Char.{is_ascii_whitespace};
-ghost use Rattle.std.specs.List.{filter, list_all};
+ghost use Rattle.std.specs.List.{filter, list_all, list_any};
 ghost use Rattle.std.specs.List.Sorted.{IsPermutation, IsSortedBy};
 ghost use Rattle.uriparse_text.specs.declared.internal.token.Token.{Token};
 ghost use Rattle.uriparse_text.specs.declared.internal.class.Class.{Class};
@@ -14,10 +14,10 @@ ghost use Rattle.uriparse_text.specs.Tokens.{is_well_formed, spell, IsConcatenat
 ghost use Rattle.uriparse_text.specs.Faults.{fault, IsIn, IsOfClass, HasFaultAt};
 ghost use Rattle.uriparse_text.specs.Place.{fault_place};
 ghost use Rattle.uriparse_text.specs.Canonical.{canonical_token, canonical_in, fed_bytes};
-ghost use Rattle.uriparse_text.specs.Coding.{are_bytes, decoded, escaped_in, form_decoded};
+ghost use Rattle.uriparse_text.specs.Coding.{are_bytes, decoded, encoded, escaped_in, form_decoded};
 ghost use Rattle.uriparse_text.specs.Cuts.{lacks, none_pass};
 ghost use Rattle.uriparse_text.specs.Link.{in_brackets, less_than, link, trimmed};
-ghost use Rattle.uriparse_text.specs.Pairs.{Pair, are_pair_bytes, decoded_pair, encoded_pair, has_less_name, is_named, joined_pairs, pairs, sorted_pairs, with_pair, without_name};
+ghost use Rattle.uriparse_text.specs.Pairs.{Pair, are_pair_bytes, decoded_pair, encoded_in_pair, encoded_pair, form_decoded_pair, has_less_name, is_named, joined_pairs, pairs, sorted_pairs, with_pair, without_empty_end, without_name};
 ghost use Rattle.uriparse_text.specs.Starts.{Writes, too_small};
 ghost use Rattle.uriparse_text.specs.declared.internal.starts.TooSmall.{TooSmall};
 ghost use Rattle.uriparse_text.specs.Address.{IsOctets, IsSegments, SpellsIpv4, SpellsIpv6, ipv4_text, ipv6_text, ipv4_reading, ipv6_reading, IsPrintedIpv6, is_ipv4_byte, is_ipv6_byte};
@@ -115,28 +115,50 @@ pub fn one_escaping()
     ensures twice { (class : Class) (more text : List ℕ) → escaped_in class more (escaped_in class more text) ≡ escaped_in class more text }
 {}
 
+/// The text that bytes are written as is of the class and its own canonical spelling, and stands for
+/// these bytes.
+pub fn one_encoding()
+    ensures class { (class : Class) (bytes : List ℕ) → are_bytes bytes ≡ true → IsIn class (encoded class bytes) }
+    ensures back { (class : Class) (bytes : List ℕ) → are_bytes bytes ≡ true → decoded (encoded class bytes) ≡ bytes }
+    ensures canonical { (class : Class) (bytes : List ℕ) → are_bytes bytes ≡ true → canonical_in case.Kept (encoded class bytes) ≡ encoded class bytes }
+{}
+
+/// What a text of a class is made of and what it stands for are bytes, so the premises of other laws
+/// hold of them.
+pub fn texts_are_bytes()
+    ensures text { (class : Class) (text : List ℕ) → IsIn class text → are_bytes text ≡ true }
+    ensures decoded { (class : Class) (text : List ℕ) → IsIn class text → are_bytes (decoded text) ≡ true }
+    ensures form { (class : Class) (text : List ℕ) → IsIn class text → are_bytes (form_decoded text) ≡ true }
+{}
+
 /// The pieces of a query, joined, are the query again. The pairs of a query that was made of pairs
-/// are these, each escaped and, decoded, as they were.
+/// are these, each escaped and, decoded, as they were; decoded as those of a form too.
 pub fn one_list_of_pairs()
     ensures joined { (q : List ℕ) → joined_pairs (pairs q) ≡ q }
     ensures encoded { (ps : List Pair) → 0 < length ps → pairs (joined_pairs (map encoded_pair ps)) ≡ map encoded_pair ps }
     ensures decoded { (ps : List Pair) → 0 < length ps → list_all are_pair_bytes ps ≡ true → map decoded_pair (pairs (joined_pairs (map encoded_pair ps))) ≡ ps }
+    ensures form { (ps : List Pair) → 0 < length ps → list_all are_pair_bytes ps ≡ true → map form_decoded_pair (pairs (joined_pairs (map encoded_pair ps))) ≡ ps }
+    ensures form_text { (bytes : List ℕ) → are_bytes bytes ≡ true → form_decoded (encoded_in_pair bytes) ≡ bytes }
 {}
 
-/// Once a pair of a name is set, it is the only one of the name, and the others are as before.
+/// Once a pair of a name is set, it is the only one of the name. The others are as before if there was
+/// one of the name; else the pair follows them, in the place of an empty piece at the end. Setting it
+/// again changes nothing.
 pub fn one_pair_of_a_name()
     ensures one { (name : List ℕ) (new : Pair) (ps : List Pair) → is_named name new ≡ true → filter (is_named name) (with_pair name new ps) ≡ new ∷ [] }
-    ensures others { (name : List ℕ) (new : Pair) (ps : List Pair) → is_named name new ≡ true → without_name name (with_pair name new ps) ≡ without_name name ps }
+    ensures others { (name : List ℕ) (new : Pair) (ps : List Pair) → is_named name new ≡ true → list_any (is_named name) ps ≡ true → without_name name (with_pair name new ps) ≡ without_name name ps }
+    ensures last { (name : List ℕ) (new : Pair) (ps : List Pair) → list_any (is_named name) ps ≡ false → with_pair name new ps ≡ without_empty_end ps ++ new ∷ [] }
+    ensures twice { (name : List ℕ) (new : Pair) (ps : List Pair) → is_named name new ≡ true → with_pair name new (with_pair name new ps) ≡ with_pair name new ps }
 {}
 
 /// Once the pairs of a name are left out, there is none of the name, and leaving them out again
-/// changes nothing. Pairs of which none has the name stay, and setting a pair of the name first
-/// makes no difference.
+/// changes nothing. Pairs of which none has the name stay, and setting a pair of a name that is there
+/// first makes no difference.
 pub fn no_pair_of_a_name()
     ensures none { (name : List ℕ) (ps : List Pair) → filter (is_named name) (without_name name ps) ≡ [] }
     ensures twice { (name : List ℕ) (ps : List Pair) → without_name name (without_name name ps) ≡ without_name name ps }
     ensures kept { (name : List ℕ) (ps : List Pair) → filter (is_named name) ps ≡ [] → without_name name ps ≡ ps }
-    ensures set { (name : List ℕ) (new : Pair) (ps : List Pair) → is_named name new ≡ true → without_name name (with_pair name new ps) ≡ without_name name ps }
+    ensures set { (name : List ℕ) (new : Pair) (ps : List Pair) → is_named name new ≡ true → list_any (is_named name) ps ≡ true → without_name name (with_pair name new ps) ≡ without_name name ps }
 {}
 
 /// What is written to a buffer, and what is reported, is determined by the text and the buffer.
@@ -173,6 +195,10 @@ pub fn examples_of_pairs()
     ensures set { with_pair (codes "a") (codes "a", Some (codes "3")) (pairs (codes "b&%61=1&c=%2f&a=2")) ≡ pairs (codes "b&a=3&c=%2f") }
     ensures set_last { with_pair (codes "d") (codes "d", None) (pairs (codes "b&c=d")) ≡ pairs (codes "b&c=d&d") }
     ensures set_empty { with_pair [] ([], Some []) (pairs []) ≡ pairs (codes "=") }
+    ensures set_alone { with_pair (codes "b") (codes "b", Some (codes "2")) (pairs []) ≡ pairs (codes "b=2") }
+    ensures set_at_end { with_pair (codes "b") (codes "b", Some (codes "2")) (pairs (codes "a=1&&c&")) ≡ pairs (codes "a=1&&c&b=2") }
+    ensures set_in_place { with_pair (codes "a") (codes "a", Some (codes "2")) (pairs (codes "a=1&")) ≡ pairs (codes "a=2&") }
+    ensures set_after_value { with_pair (codes "b") (codes "b", None) (pairs (codes "a&=")) ≡ pairs (codes "a&=&b") }
     ensures without { without_name (codes "a") (pairs (codes "a=1&%61&b=%2f&A=a")) ≡ pairs (codes "b=%2f&A=a") }
     ensures sorted { sorted_pairs (pairs (codes "z=1&b=2&a&%62=1&ab&")) ≡ pairs (codes "&a&ab&b=2&%62=1&z=1") }
     ensures sorted_case { sorted_pairs (pairs (codes "a=2&B&%C3%A4&a=1&+")) ≡ pairs (codes "+&B&a=2&a=1&%C3%A4") }

@@ -19,6 +19,7 @@ use Rattle.uriparse_text.proofs.lemmas.readings.PairLemmas.{first_piece, pieces_
 use Rattle.uriparse_text.proofs.lemmas.readings.WithoutLemmas.{left_of}
 use Rattle.uriparse_text.specs.Coding.{are_bytes, decoded, encoded}
 use Rattle.uriparse_text.proofs.lemmas.tokens.CodingLemmas.{decoded-encoded}
+use Rattle.uriparse_text.proofs.lemmas.tokens.BackLemmas.{are_bytes-decoded}
 use Rattle.uriparse_text.specs.declared.internal.canonical.Case.TheVariants as case
 use Rattle.uriparse_text.specs.Canonical.{SpellsAlike, canonical_in, canonical_lowered}
 use Rattle.uriparse_text.specs.Tokens.{is_well_formed, tokens}
@@ -394,6 +395,23 @@ path_has_uri u path listed is =
     let got = of_ok _ (joined_names (names_of u.path.segments)) path is in
     let none = (none_none (parts_fault u) (names_fault (names_of u.path.segments)) got.0).1 in
     subst (λ p. uri_of_path p ≡ Ok (file_uri p)) (sym got.1) (names_path u.path.segments listed none)
+
+-- ---- what a URI names, its own URI names
+
+names_bytes : (ss : List (List ℕ)) → list_all is_segment ss ≡ true → are_bytes (joined_names (names_of ss)) ≡ true
+names_bytes [] h = refl
+names_bytes (s ∷ ss) h =
+    let both = and_parts (is_segment s) (list_all is_segment ss) h in
+    list_all-append (is_in_range 0 255) (slash ∷ decoded s) (joined_names (names_of ss))
+    ∙ and_from _ _ (and_from _ _ refl (are_bytes-decoded class.Segment s both.0)) (names_bytes ss both.1)
+
+pub named_bytes : (u : Parts) (path : List ℕ) → IsListed u.path.segments → path_of_uri u ≡ Ok path → are_bytes path ≡ true
+named_bytes u path listed is =
+    let got = of_ok _ (joined_names (names_of u.path.segments)) path is in
+    ap are_bytes got.1 ∙ names_bytes u.path.segments listed.each
+
+pub named_by_own : (u : Parts) (path : List ℕ) → IsListed u.path.segments → path_of_uri u ≡ Ok path → path_of_uri (file_uri path) ≡ Ok path
+named_by_own u path listed is = named_again path (file_uri path) (named_bytes u path listed is) (path_has_uri u path listed is)
 
 -- why the components around the path are rejected, as the answer of the URI
 pub checked_err : (u : Parts) (e : FileError) → unless_fault {A = Unit {0}} (parts_fault u) tt ≡ Err e → path_of_uri u ≡ Err e

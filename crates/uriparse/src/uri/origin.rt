@@ -1,23 +1,37 @@
-//! The origin of a URI, and its port: RFC 3986, sections 3.2.3 and 6.2.3; RFC 6454, section 4.
-ghost use Rattle.std.specs.Prelude.{◌≡◌};
+//! The origin of a URI, and its port: RFC 3986, sections 3.2.3 and 6.2.3; RFC 6454, sections 4 to 6.
+ghost use Rattle.std.specs.Prelude.{◌≡◌, ◌++◌, IfOk, OnOk, fold, string_bytes};
+ghost use Rattle.std.specs.Option.{option_map};
+ghost use Rattle.std.proofs.Common.{rules};
+ghost use Rattle.std.specs.Cmp.Rules.{comparing, hashing};
+ghost use Rattle.uriparse_text.specs.Bytes.{colon};
+ghost use Rattle.uriparse_text.specs.Cuts.{behind};
+ghost use Rattle.uriparse_authority.specs.Port as ports;
 ghost use Rattle.uriparse_reference.specs.Ports.{port_or_default, without_default_port};
+ghost use Rattle.uriparse.specs.Origin as spec;
 
-use super::URI;
+use super::{URI, URIView};
+use std::alloc::{AllocError, Global};
+use std::fmt::Write;
+use std::hash::{Hash, Hasher};
 use uriparse_authority::authority::Host;
 use uriparse_scheme::scheme::Scheme;
 
 /// The origin of a URI: its scheme, its host, and its port or the scheme's default port. RFC 6454,
 /// section 4. It borrows the texts of the URI.
 ///
-/// Two origins are equal, and then hash alike, if their schemes, their hosts and their ports are, so
-/// however the URIs are spelled, and whether or not they name the default port.
+/// Two origins are equal, and then hash alike, if their schemes, their hosts and their ports are:
+/// letters may be of either case and escaped, and the default port may be named or not. To compare
+/// the origins of two URIs use [`same_origin`](URI::same_origin), since URIs that have none have
+/// none in common.
 ///
 /// ```
 /// let page = URI::try_from_str(alloc, "https://example.com/a")?;
 /// let link = URI::try_from_str(alloc, "HTTPS://EXAMPLE.com:443/b?c")?;
-/// assert!(page.origin().is_some() && page.origin() == link.origin());
+/// assert!(page.same_origin(&link) && page.origin() == link.origin());
+/// let mail = URI::try_from_str(alloc, "mailto:a@example.com")?;
+/// assert!(mail.origin().is_none() && !mail.same_origin(&mail));
 /// ```
-#[derive(Debug, Drop, PartialEq, Eq, Hash)]
+#[derive(Debug, Drop)]
 pub struct Origin<'o> {
     scheme: Scheme<'o>,
     host: Host<'o>,
@@ -45,11 +59,95 @@ impl<'o> Origin<'o> {
     {
         self.port
     }
+
+    /// The text of the origin, the same for equal origins: `scheme://host` in canonical spelling, and
+    /// `:port` unless that is the scheme's default port. RFC 6454, section 6.2. The name of a host is
+    /// printed as it is, without IDNA. Allocates the text, and each of its parts that is spelled
+    /// otherwise.
+    ///
+    /// ```
+    /// let uri = URI::try_from_str(alloc, "HTTPS://EXAMPLE.com:443/b?c")?;
+    /// let origin = uri.origin().unwrap();
+    /// assert_eq!(origin.to_string(alloc)?.as_str(), "https://example.com");
+    /// ```
+    pub fn to_string(&self, alloc: Global) -> Result<String, AllocError>
+        ensures { IfOk result (λ s. string_bytes s ≡ spec.text self.now) }
+    {
+        let mut scheme = self.scheme.as_borrowed();
+        scheme.normalize(alloc)?;
+        let mut host = self.host.as_borrowed();
+        host.normalize(alloc)?;
+        let mut text = String::new(alloc);
+        write!(text, "{scheme}://{host}")?;
+        push_port(&mut text, self.named_port())?;
+        Ok(text)
+    }
+
+    /// The port, unless it is the scheme's default port.
+    fn named_port(&self) -> Option<u16>
+        ensures { result ≡ spec.named_port self.now }
+    {
+        let port = Some(self.port);
+        if port == self.scheme.default_port() {
+            None
+        } else {
+            port
+        }
+    }
+}
+
+impl<'o> PartialEq for Origin<'o> {
+    ghost eq = { spec.are_alike };
+
+    ghost laws = { Prim.search (comparing, rules) };
+
+    fn eq(&self, other: &Origin<'o>) -> bool {
+        self.scheme == other.scheme && self.host == other.host && self.port == other.port
+    }
+}
+
+impl<'o> Eq for Origin<'o> {
+    ghost laws = { Prim.search (comparing, rules) };
+}
+
+impl<'o> Hash for Origin<'o> {
+    ghost hash_input = { spec.fed };
+
+    ghost respects_eq = { Prim.search (hashing, rules) };
+
+    fn hash<H: Hasher>(&self, state: &mut H)
+        ensures { state.new ≡ fold H.write state.old (spec.fed self.now) }
+    {
+        self.scheme.hash(state);
+        self.host.hash(state);
+        self.port.hash(state);
+    }
+}
+
+/// Appends a colon and the port, if there is one.
+fn push_port(text: &mut String, port: Option<u16>) -> Result<(), AllocError>
+    ensures { OnOk result (string_bytes text.new ≡ string_bytes text.old ++ behind colon (option_map ports.text port)) }
+{
+    if let Some(port) = port {
+        write!(text, ":{port}")?;
+    }
+    Ok(())
+}
+
+/// Whether both are there, and are equal.
+fn are_both(own: Option<Origin<'_>>, other: Option<Origin<'_>>) -> bool
+    ensures { result ≡ spec.are_both own.entry other.entry }
+{
+    match own {
+        Some(own) => match other {
+            Some(other) => own == other,
+            None => false,
+        },
+        None => false,
+    }
 }
 
 impl<'u> URI<'u> {
-    ghost use Rattle.uriparse.specs.Origin.{origin};
-
     /// The port, or the scheme's default port if the authority names none. `None` without an
     /// authority, or if the scheme has no default port. RFC 3986, section 3.2.3. Does not allocate.
     pub fn port_or_default(&self) -> Option<u16>
@@ -68,9 +166,9 @@ impl<'u> URI<'u> {
 
     /// The origin: RFC 6454, section 4. `None` without an authority, or if neither the authority
     /// names a port nor the scheme has a default one; such a URI has an origin of its own, which no
-    /// other has. Does not allocate.
+    /// other has, so compare origins by [`same_origin`](URI::same_origin). Does not allocate.
     pub fn origin(&self) -> Option<Origin<'_>>
-        ensures { result ≡ origin self.now }
+        ensures { result ≡ spec.origin self.now }
     {
         let host = self.reference.host()?;
         let port = self.reference.port_or_default()?;
@@ -79,5 +177,41 @@ impl<'u> URI<'u> {
             host: host.as_borrowed(),
             port,
         })
+    }
+
+    /// Whether this URI and the other one have the same origin: RFC 6454, section 5. A URI without
+    /// an [`origin`](URI::origin) has it in common with no URI. Does not allocate.
+    ///
+    /// ```
+    /// let page = URI::try_from_str(alloc, "http://example.com/a")?;
+    /// let link = URI::try_from_str(alloc, "http://%65xample.com:80")?;
+    /// assert!(page.same_origin(&link));
+    /// let file = URI::try_from_str(alloc, "file:///a")?;
+    /// assert!(!file.same_origin(&file) && !file.same_origin(&page));
+    /// ```
+    pub fn same_origin(&self, other: &URI<'_>) -> bool
+        ensures { result ≡ spec.have_same_origin self.now other.now }
+    {
+        are_both(self.origin(), other.origin())
+    }
+}
+
+impl<'u> URIView<'u> {
+    /// The origin, as that of the [`URI`](URI::origin). Does not allocate.
+    pub fn origin(&self) -> Option<Origin<'u>>
+        ensures { result ≡ spec.origin self.now.parts }
+    {
+        let scheme = self.scheme();
+        let (_, _, host, port) = self.view.authority()?.into_parts();
+        let port = port.or(scheme.default_port())?;
+        Some(Origin { scheme, host, port })
+    }
+
+    /// Whether this URI and the other one have the same origin, as that of the
+    /// [`URI`](URI::same_origin). Does not allocate.
+    pub fn same_origin(&self, other: &URIView<'_>) -> bool
+        ensures { result ≡ spec.have_same_origin self.now.parts other.now.parts }
+    {
+        are_both(self.origin(), other.origin())
     }
 }

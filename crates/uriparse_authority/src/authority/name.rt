@@ -10,6 +10,7 @@ ghost use Rattle.uriparse_text.specs.Coding.{decoded};
 ghost use Rattle.uriparse_text.specs.Tokens.{is_well_formed};
 ghost use Rattle.uriparse_text.specs.Readings.{reading_in};
 ghost use Rattle.uriparse_text.specs.Spelling.{IsKept};
+ghost use Rattle.uriparse_text.specs.Starts.{Writes};
 ghost use Rattle.uriparse_authority.specs.Name as spec;
 
 use super::error::RegisteredNameError;
@@ -18,7 +19,7 @@ use std::fmt;
 use std::hash::{Hash, Hasher};
 use std::marker::Model;
 use uriparse_text::address::Ipv4Addr;
-use uriparse_text::internal::{Case, Class, Text, TextKind, kept_text, normalized_text};
+use uriparse_text::internal::{Case, Class, Text, TextKind, TooSmall, kept_text, normalized_text};
 
 /// The kind of text that a name is.
 struct NameKind;
@@ -140,6 +141,22 @@ impl<'n> RegisteredName<'n> {
         ensures { IfOk result (λ v. v.items ≡ decoded self.now) }
     {
         self.text.decode(alloc)
+    }
+
+    /// Writes the bytes that [`decode`](RegisteredName::decode) returns to the start of the buffer
+    /// and returns their number; what follows them is unchanged. If the buffer is too small, it is
+    /// unchanged, and the error has the number of bytes needed. Does not allocate.
+    ///
+    /// ```
+    /// let name = RegisteredName::try_from_str("a%7Eb")?;
+    /// let mut buffer = [0; 8];
+    /// let len = name.decode_into(&mut buffer)?;
+    /// assert!(&buffer[..len] == b"a~b".as_slice());
+    /// ```
+    pub fn decode_into(&self, out: &mut [u8]) -> Result<usize, TooSmall>
+        ensures { Writes (decoded self.now) result out.old out.new }
+    {
+        self.text.decode_into(out)
     }
 
     /// The same name, borrowed from this one.

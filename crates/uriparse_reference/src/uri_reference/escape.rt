@@ -112,9 +112,10 @@ fn push_components(escaped: &mut Vec<u8>, text: &[u8]) -> Result<(), AllocError>
 }
 
 /// The text of a reference, made of any text: each byte that RFC 3986 does not allow where it
-/// stands becomes an escape with upper-case digits, and all else stays byte for byte.
-/// So a text without a fault stays as it is, an IRI in UTF-8 becomes its URI (RFC 3987, section
-/// 3.1), and a second call changes nothing. Reserves capacity once.
+/// stands becomes an escape with upper-case digits, but for the delimiters of an authority, and all
+/// else stays byte for byte. So a text without a fault stays as it is, and a second call changes
+/// nothing. Bytes that aren't ASCII become escapes, as RFC 3987, section 3.1, has it for IRIs in
+/// UTF-8, also in the name of a host, which is not turned into Punycode. Reserves capacity once.
 ///
 /// The text is cut at its delimiters like any reference's. Spaces, `"`, `<`, `>`, `\`, `^`, `` ` ``,
 /// `{`, `|`, `}`, control characters and bytes above 127 are escaped everywhere, `[` and `]` outside

@@ -5,7 +5,7 @@ ghost use Rattle.uriparse_reference.specs.Ports as spec;
 use super::URIReference;
 
 impl<'r> URIReference<'r> {
-    /// The default port of the scheme, if there is a scheme and its registration names one.
+    /// The default port of the scheme, if there is a scheme and the list of default ports has one.
     fn default_port(&self) -> Option<u16>
         ensures { result ≡ spec.default_port_of self.now }
     {

@@ -6,8 +6,8 @@ use super::Scheme;
 use super::registered::RegisteredScheme;
 
 impl RegisteredScheme {
-    /// The port of this scheme's URIs that name none, if the registration names one: RFC 3986,
-    /// section 3.2.3. Does not allocate.
+    /// The port of this scheme's URIs that name none, if the list of default ports has one: RFC
+    /// 3986, section 3.2.3. Does not allocate.
     ///
     /// ```
     /// assert_eq!(RegisteredScheme::HTTPS.default_port(), Some(443));
@@ -72,7 +72,7 @@ impl RegisteredScheme {
 }
 
 impl<'s> Scheme<'s> {
-    /// The default port of the scheme: that of a registered scheme, if its registration names one.
+    /// The default port of the scheme: that of a registered scheme, if the list of default ports has one.
     /// RFC 3986, section 3.2.3. Does not allocate.
     pub fn default_port(&self) -> Option<u16>
         ensures { result ≡ spec.default_port self.now }

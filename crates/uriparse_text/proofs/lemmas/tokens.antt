@@ -4,3 +4,4 @@ pub mod CodingLemmas
 pub mod EscapingLemmas
 pub mod StartLemmas
 pub mod PieceLemmas
+pub mod BackLemmas

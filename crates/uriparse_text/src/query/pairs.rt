@@ -147,6 +147,7 @@ impl<'q> Query<'q> {
     ) -> Result<Query<'static>, AllocError>
         ensures text { IfOk result (λ q. q ≡ spec.joined_pairs (map spec.encoded_pair (map spec.given pairs.now))) }
         ensures back { 0 < length pairs.now → IfOk result (λ q. map spec.decoded_pair (spec.pairs q) ≡ map spec.given pairs.now) }
+        ensures form_back { 0 < length pairs.now → IfOk result (λ q. map spec.form_decoded_pair (spec.pairs q) ≡ map spec.given pairs.now) }
     {
         let mut text = Vec::with_capacity(alloc, most_pair_bytes(pairs))?;
         push_pairs(&mut text, pairs)?;

@@ -1,6 +1,7 @@
 //! Queries with their pairs in the order of their names: RFC 3986, section 3.4.
 ghost use Rattle.std.specs.Prelude.{◌≡◌, IfOk, map};
 ghost use Rattle.std.specs.Cmp.Lexicographic.{slice_cmp};
+ghost use Rattle.std.specs.List.Sorted.{IsPermutation};
 ghost use Rattle.std.specs.Ordering.{nat_cmp};
 ghost use Rattle.uriparse_text.specs.Coding.{decoded};
 ghost use Rattle.uriparse_text.specs.Cuts.{before};
@@ -56,14 +57,18 @@ impl<'q> Query<'q> {
     /// one name stay in order, as by `URLSearchParams.sort` of browsers, and each pair stays byte
     /// for byte. Allocates a list of the pairs, room to sort it, and the text.
     ///
-    /// Names are compared by the bytes that they stand for, so `%61` is `a`; a prefix comes first.
+    /// Names are compared by the bytes that they stand for, so `%61` is `a`, and `+` is no space,
+    /// as it is for browsers; a prefix comes first.
     ///
     /// ```
     /// let query = Query::try_from_str("z=1&b=2&a&%62=1")?;
     /// assert_eq!(query.sorted_pairs(alloc)?.as_str(), "a&b=2&%62=1&z=1");
     /// ```
     pub fn sorted_pairs(&self, alloc: Global) -> Result<Query<'static>, AllocError>
-        ensures { IfOk result (λ q. spec.pairs q ≡ spec.sorted_pairs (spec.pairs self.now)) }
+        ensures pairs { IfOk result (λ q. spec.pairs q ≡ spec.sorted_pairs (spec.pairs self.now)) }
+
+        // Decoded, the pairs are the same ones, in an order that exchanges reach.
+        ensures back { IfOk result (λ q. IsPermutation (map spec.decoded_pair (spec.pairs self.now)) (map spec.decoded_pair (spec.pairs q))) }
     {
         let query = self.as_bytes();
         let mut pieces = pieces(alloc, query)?;

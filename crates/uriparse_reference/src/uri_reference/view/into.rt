@@ -134,6 +134,9 @@ impl<'t> ReferenceView<'t> {
     /// [`URIReference::normalize`](crate::uri_reference::URIReference::normalize). RFC 3986,
     /// section 6.2.2.
     ///
+    /// A text doesn't keep the kind of a host: the name in `//%31.2.3.4` is written as `1.2.3.4`,
+    /// which is read as an address. Any other text that is written is read as the normal form.
+    ///
     /// If the buffer is too small, it is unchanged, and the error is
     /// [`TooSmall`](BufferError::TooSmall) with the length needed; so a call with an empty buffer
     /// returns the length. Does not allocate.

@@ -76,7 +76,7 @@ first_pair q = ap (map pair_of) (first_piece ampersand q) ∙ ap (λ ps. pair_of
 
 -- ---- the pieces of a query, joined, are the query
 
-piece_back : (s : List ℕ) → piece_of (pair_of s) ≡ s
+pub piece_back : (s : List ℕ) → piece_of (pair_of s) ≡ s
 piece_back s = before_after equals_sign s
 
 pieces_back : (ss : List (List ℕ)) → map piece_of (map pair_of ss) ≡ ss
@@ -115,7 +115,7 @@ joined_behind mark s (r ∷ ss) = ap (λ x. s ++ mark ∷ x) (joined_behind mark
 -- ---- the bytes of a name or a value
 
 -- what holds of both outcomes holds of a byte's token
-by_kept : (class : Class) (without : List ℕ) (b : ℕ) (P : Token → Type 0) → ((is_plain class b && not (is_among without b)) ≡ true → P (Byte b))
+pub by_kept : (class : Class) (without : List ℕ) (b : ℕ) (P : Token → Type 0) → ((is_plain class b && not (is_among without b)) ≡ true → P (Byte b))
     → P (escape_of b) → P (token_without class without b)
 by_kept class without b P f g = cond_both (is_plain class b && not (is_among without b)) (Byte b) (escape_of b) P f (λ _. g)
 
@@ -129,7 +129,7 @@ module _ (class : Class) (without : List ℕ) where
   all_allowed [] = refl
   all_allowed (b ∷ bytes) = and_from _ _ (allows-token_without b) (all_allowed bytes)
 
-  tokens-encoded_without : (bytes : List ℕ) → tokens (encoded_without class without bytes) ≡ map (token_without class without) bytes
+  pub tokens-encoded_without : (bytes : List ℕ) → tokens (encoded_without class without bytes) ≡ map (token_without class without) bytes
   tokens-encoded_without bytes =
       tokens_of_concatenation (map (token_without class without) bytes)
       (all_tokens-allowed class (map (token_without class without) bytes) (all_allowed bytes))
@@ -137,7 +137,7 @@ module _ (class : Class) (without : List ℕ) where
   pub IsIn-encoded_without : (bytes : List ℕ) → IsIn class (encoded_without class without bytes)
   IsIn-encoded_without bytes = ap (list_all (allows class)) (tokens-encoded_without bytes) ∙ all_allowed bytes
 
-  value_without : (b : ℕ) → b < 256 → value_of (token_without class without b) ≡ b
+  pub value_without : (b : ℕ) → b < 256 → value_of (token_without class without b) ≡ b
   value_without b small =
       by_kept class without b (λ t. value_of t ≡ b) (λ h. refl)
       (eqb-true _ _ (agree_below_at (λ b. value_of (escape_of b) == b) (λ b. true) 256 b refl small))
@@ -164,7 +164,7 @@ module _ (class : Class) (without : List ℕ) where
         by_test true e = absurd (false≢true (sym (other b e) ∙ h))
         by_test false e = refl
 
-    kept_lacks : (b : ℕ) → (is_plain class b && not (is_among without b)) ≡ true → not (b == mark) ≡ true
+    pub kept_lacks : (b : ℕ) → (is_plain class b && not (is_among without b)) ≡ true → not (b == mark) ≡ true
     kept_lacks b h = by_test (b == mark) refl
       where
         by_test : (v : Bool) → (b == mark) ≡ v → not v ≡ true
@@ -224,12 +224,14 @@ decoded_value : (o : Option (List ℕ)) → are_bytes (unwrap_or o []) ≡ true 
 decoded_value None h = refl
 decoded_value (Some t) h = ap Some (decoded-encoded_without Query (codes "&=+") t h)
 
+pub pair_decoded : (p : Pair) → are_pair_bytes p ≡ true → decoded_pair (encoded_pair p) ≡ p
+pair_decoded p h =
+    let bytes = and_parts (are_bytes p.0) (are_bytes (unwrap_or p.1 [])) h in
+    rw (decoded-encoded_without Query (codes "&=+") p.0 bytes.0, decoded_value p.1 bytes.1) refl
+
 all_decoded : (ps : List Pair) → list_all are_pair_bytes ps ≡ true → map decoded_pair (map encoded_pair ps) ≡ ps
 all_decoded [] h = refl
-all_decoded (p ∷ ps) h =
-    let both = and_parts _ _ h in
-    let bytes = and_parts (are_bytes p.0) (are_bytes (unwrap_or p.1 [])) both.0 in
-    rw (decoded-encoded_without Query (codes "&=+") p.0 bytes.0, decoded_value p.1 bytes.1, all_decoded ps both.1) refl
+all_decoded (p ∷ ps) h = let both = and_parts _ _ h in rw (pair_decoded p both.0, all_decoded ps both.1) refl
 
 pub written_back : (ps : List Pair) → 0 < length ps → list_all are_pair_bytes ps ≡ true → map decoded_pair (pairs (joined_pairs (map encoded_pair ps))) ≡ ps
 written_back ps some bytes = ap (map decoded_pair) (pairs-joined ps some) ∙ all_decoded ps bytes

@@ -10,7 +10,7 @@ use Rattle.std.proofs.lemmas.Cmp.{nat_list_cmp_total, tied_itself}
 use Rattle.std.proofs.lemmas.Map.Text.{is_eq-slice_cmp}
 use Rattle.std.proofs.lemmas.Slice.Eq.{bytes_eq-Decides}
 use Rattle.std.proofs.lemmas.List.MinMax.{ranks_by}
-use Rattle.std.proofs.lemmas.List.Sorted.{All-permutation, IsPermutation-cons, IsPermutation-middle, IsPermutation-refl, IsPermutation-sym, IsPermutation-trans, length_permutation, sorted_far}
+use Rattle.std.proofs.lemmas.List.Sorted.{All-permutation, IsPermutation-cons, IsPermutation-map, IsPermutation-middle, IsPermutation-refl, IsPermutation-sym, IsPermutation-trans, length_permutation, sorted_far}
 use Rattle.std.specs.List.{filter, list_all, slice_split}
 use Rattle.std.specs.List.Sorted.{IsSortedBy, IsStableBy, IsPermutation, ties}
 use Rattle.std.proofs.lemmas.Bool.{and_from, and_parts, false≢true, not-true}
@@ -22,7 +22,7 @@ use Rattle.uriparse_text.specs.Bytes.{ampersand, equals_sign}
 use Rattle.uriparse_text.specs.Cuts.{before, after}
 use Rattle.uriparse_text.specs.Query.{IsQuery}
 use Rattle.uriparse_text.specs.Coding.{decoded}
-use Rattle.uriparse_text.specs.Pairs.{Pair, is_ampersand, pair_of, pairs, is_named, has_less_name, insert_pair, sorted_pairs}
+use Rattle.uriparse_text.specs.Pairs.{Pair, is_ampersand, pair_of, pairs, decoded_pair, is_named, has_less_name, insert_pair, sorted_pairs}
 use Rattle.uriparse_text.specs.Written.{is_piece, ArePieces}
 use Rattle.uriparse_text.proofs.lemmas.readings.CutLemmas.{up_to-none}
 use Rattle.uriparse_text.proofs.lemmas.readings.PairLemmas.{first_piece, pieces_left, query_pieces}
@@ -287,6 +287,9 @@ moved-insert_pair p (q ∷ qs) = by_name (has_less_name q p) (moved-insert_pair 
 pub moved-sorted_pairs : (ps : List Pair) → IsPermutation ps (sorted_pairs ps)
 moved-sorted_pairs [] = IsPermutation-refl []
 moved-sorted_pairs (p ∷ ps) = IsPermutation-trans _ _ _ (IsPermutation-cons p _ _ (moved-sorted_pairs ps)) (moved-insert_pair p (sorted_pairs ps))
+
+pub sorted_back : (ps qs : List Pair) → qs ≡ sorted_pairs ps → IsPermutation (map decoded_pair ps) (map decoded_pair qs)
+sorted_back ps qs e = IsPermutation-map decoded_pair ps qs (subst (IsPermutation ps) (sym e) (moved-sorted_pairs ps))
 
 pub ascending-sorted_pairs : (ps : List Pair) → IsSortedBy has_less_name (sorted_pairs ps)
 ascending-sorted_pairs ps = sorted_from_rises pair_name (sorted_pairs ps) (rises-sorted_pairs ps)

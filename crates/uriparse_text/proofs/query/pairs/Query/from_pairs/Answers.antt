@@ -1,8 +1,9 @@
 use Rattle.std.proofs.Common.{◌≡◌, ◌<◌, ◌++◌, map, sym, ap, subst, ◌∙◌}
 use Rattle.std.proofs.lemmas.List.{length-map}
 use Rattle.uriparse_text.specs.Query.{IsQuery}
-use Rattle.uriparse_text.specs.Pairs.{pairs, decoded_pair, encoded_pair, joined_pairs, given}
+use Rattle.uriparse_text.specs.Pairs.{pairs, decoded_pair, form_decoded_pair, encoded_pair, joined_pairs, given}
 use Rattle.uriparse_text.proofs.lemmas.readings.PairLemmas.{joined_query, written_back}
+use Rattle.uriparse_text.proofs.lemmas.tokens.BackLemmas.{form_back}
 use Rattle.uriparse_text.proofs.query.pairs.Query.from_pairs.Goals as goal
 
 pub made_text-requires : goal.made_text-requires
@@ -18,3 +19,11 @@ returns-clause-back c = λ some.
     ∙ ap (λ l. l ++ joined_pairs (map encoded_pair (map given c.args.pairs.now))) c.in_ok-text.ensures.items in
     ap (λ q. map decoded_pair (pairs q)) is
     ∙ written_back (map given c.args.pairs.now) (subst (λ n. 0 < n) (sym (length-map c.args.pairs.now given)) some) c.in_ok-push_pairs.ensures.bytes
+
+pub returns-clause-form_back : goal.returns-clause-form_back
+returns-clause-form_back c = λ some.
+    let is : c.made_text.result ≡ joined_pairs (map encoded_pair (map given c.args.pairs.now)) =
+    c.made_text.ensures ∙ c.in_ok-push_pairs.ensures.text
+    ∙ ap (λ l. l ++ joined_pairs (map encoded_pair (map given c.args.pairs.now))) c.in_ok-text.ensures.items in
+    ap (λ q. map form_decoded_pair (pairs q)) is
+    ∙ form_back (map given c.args.pairs.now) (subst (λ n. 0 < n) (sym (length-map c.args.pairs.now given)) some) c.in_ok-push_pairs.ensures.bytes
