@@ -1,7 +1,8 @@
 //! The jobs that the benchmark times, on texts that they make from a seed: `jobs JOB COUNT SEED`
 //! prints a digest of all results. COUNT says how much is made: pages of 100 links, identifiers,
 //! requests, lines for each command, texts of each awkward form, or pages in many languages of 20
-//! links. The job `all` prints the digest of all jobs but `texts` together, and then that of `texts`.
+//! links; `store` keeps what `registry` keeps, as owned texts. The job `all` prints the digest of all
+//! jobs but `texts` and `store` together, and then that of `texts`.
 #![tactic(auto)]
 
 mod awkward;

@@ -25,7 +25,7 @@ pub fn store(
     for index in 0..links.count() {
         let link = ReferenceView::try_from_bytes(links.text(index))?;
         let len = schema.resolve_into(&link, &mut buffer)?;
-        let target = ReferenceView::try_from_bytes(&buffer[..len])?;
+        let target = ReferenceView::try_from_bytes(buffer.get(..len).unwrap_or(&[]))?;
         digest.add(u64::from(known.contains(&ReferenceKey::View(&target))));
     }
     Ok(())
