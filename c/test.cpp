@@ -3,6 +3,7 @@
 
 #include <cstdio>
 #include <string>
+#include <vector>
 
 static int passed, failed;
 
@@ -39,6 +40,41 @@ static std::string encode(uint32_t component, const std::string &bytes) {
   return out;
 }
 
+bool wrapped_is_uri(const char *text, size_t len);
+
+// A name is one like any other: it may be qualified, its address taken, and another class may have it.
+struct reader {
+  bool uriparse_is_uri(const std::string &text) const { return ::uriparse_is_uri(text.data(), text.size()); }
+};
+
+static void check_names() {
+  uint32_t (*hash)(const void *, size_t, uint64_t *) = &uriparse_hash;
+  uint32_t (*of_c)(const uint8_t *, size_t, uint64_t *) = uriparse_c::uriparse_hash;
+  const uint8_t byte = 'a';
+  uint64_t one = 1, other = 2;
+  check(hash(&byte, 1, &one) == URIPARSE_OK && of_c(&byte, 1, &other) == URIPARSE_OK && one == other, "addresses");
+  check(::uriparse_is_uri("a:", 2) && reader().uriparse_is_uri("a:") && wrapped_is_uri("a:", 2), "qualified names");
+}
+
+// An empty text and an empty buffer may be null, of any type.
+static void check_null() {
+  const std::vector<uint8_t> none;
+  uriparse_parts parts;
+  bool equal = false;
+  uint64_t hash;
+  size_t needed = 7;
+  check(uriparse_parse(none.data(), 0, &parts) == URIPARSE_OK && uriparse_parse(nullptr, 0, &parts) == URIPARSE_OK, "parse null");
+  check(uriparse_first_fault(nullptr, 0, &needed) == URIPARSE_OK && needed == 7, "first_fault null");
+  check(!uriparse_is_uri(none.data(), 0) && !uriparse_is_uri(nullptr, 0), "is_uri null");
+  check(uriparse_equal(nullptr, 0, none.data(), 0, &equal) == URIPARSE_OK && equal, "equal null");
+  check(uriparse_hash(nullptr, 0, &hash) == URIPARSE_OK, "hash null");
+  check(uriparse_normalize(nullptr, 0, nullptr, 0, &needed) == URIPARSE_OK && needed == 0, "normalize null");
+  check(uriparse_resolve("s:", 2, nullptr, 0, nullptr, 0, &needed) == URIPARSE_NO_ROOM && needed == 2, "resolve null");
+  check(uriparse_decode(nullptr, 0, nullptr, 0, &needed) == URIPARSE_OK && needed == 0, "decode null");
+  check(uriparse_encode(URIPARSE_QUERY, nullptr, 0, nullptr, 0, &needed) == URIPARSE_OK && needed == 0, "encode null");
+  check(uriparse_escape(nullptr, 0, nullptr, 0, &needed) == URIPARSE_OK && needed == 0, "escape null");
+}
+
 int main() {
   const std::string text = "http://user@example.com:80/a?q#f";
   uriparse_parts parts;
@@ -62,6 +98,9 @@ int main() {
   check(uriparse_decode("a%2Fb", 5, out, sizeof out, &needed) == URIPARSE_OK && std::string(out, needed) == "a/b", "decode");
   check(uriparse_decode("a b", 3, out, sizeof out, &needed) == URIPARSE_QUERY_BYTE && needed == 0, "decode rejects");
   check(uriparse_escape("a b%", 4, out, sizeof out, &needed) == URIPARSE_OK && std::string(out, needed) == "a%20b%25", "escape");
+  check(std::string(uriparse_error_text(URIPARSE_IN_BASE | URIPARSE_PORT_RANGE)) == "the port is above 65535", "text");
+  check_names();
+  check_null();
   std::printf("%d passed, %d failed\n", passed, failed);
   return failed != 0;
 }

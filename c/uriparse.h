@@ -30,10 +30,6 @@
 
 #define URIPARSE_VERSION "0.2.0"
 
-#ifdef __cplusplus
-extern "C" {
-#endif
-
 /* What a call returns. The error of a text is its first one: of the authority (user name, password, host, port), then
  * of the path, the colon rule, the query, the fragment; and within each of these the leftmost one. `code & 0xf0` names
  * the component, unless it is 0, and `code & URIPARSE_IN_BASE` is set if `uriparse_resolve` rejects the base. Later
@@ -100,6 +96,20 @@ struct uriparse_parts {
   uint32_t host_kind;   /* one of uriparse_host_kind */
   uint32_t port_number; /* 0 to 65535; 0 if there are no digits */
 };
+
+/* What `uriparse_encode` writes. */
+enum uriparse_component {
+  URIPARSE_USERNAME = 0x10,
+  URIPARSE_PASSWORD = 0x20,
+  URIPARSE_SEGMENT = 0x50, /* of a path: a '/' becomes "%2F" */
+  URIPARSE_QUERY = 0x60,
+  URIPARSE_FRAGMENT = 0x70
+};
+
+#ifdef __cplusplus
+namespace uriparse_c {
+extern "C" {
+#endif
 
 /* Reads a URI or a relative reference (RFC 3986, section 4.1), and writes to `*parts` where its components are. The text
  * is a URI if `parts->scheme.present`. Returns URIPARSE_OK or the text's error. Does not allocate.
@@ -175,15 +185,6 @@ uint32_t uriparse_resolve(const uint8_t *base, size_t base_len, const uint8_t *t
  * The caller ensures: `text` is readable for `len` bytes; `out` is writable for `room` bytes; `needed` is writable. */
 uint32_t uriparse_decode(const uint8_t *text, size_t len, uint8_t *out, size_t room, size_t *needed);
 
-/* What `uriparse_encode` writes. */
-enum uriparse_component {
-  URIPARSE_USERNAME = 0x10,
-  URIPARSE_PASSWORD = 0x20,
-  URIPARSE_SEGMENT = 0x50, /* of a path: a '/' becomes "%2F" */
-  URIPARSE_QUERY = 0x60,
-  URIPARSE_FRAGMENT = 0x70
-};
-
 /* Writes to `out` any bytes as the text of a component, one of uriparse_component, as `uriparse_decode` writes: a byte
  * that the component may have stays, and each other becomes an escape with upper-case digits, '%' too.
  * `uriparse_decode` returns the bytes again. In a query '&', '=' and '+' stay. Returns URIPARSE_NO_COMPONENT for another
@@ -203,9 +204,69 @@ uint32_t uriparse_encode(uint32_t component, const uint8_t *bytes, size_t len, u
 uint32_t uriparse_escape(const uint8_t *text, size_t len, uint8_t *out, size_t room, size_t *needed);
 
 #ifdef __cplusplus
-}
+} // extern "C"
+} // namespace uriparse_c
 #endif
 
+/* The functions themselves accept no NULL. With what follows, inline functions in C++ and macros in C, each call accepts
+ * NULL with length 0, and a text of any byte type, such as `const char *`. In C++ the functions themselves are in the
+ * namespace `uriparse_c`. */
+#ifdef __cplusplus
+extern "C++" {
+
+/* A pointer for a text, or for a buffer, that isn't NULL. */
+inline const uint8_t *uriparse_text(const void *text) { return static_cast<const uint8_t *>(text ? text : ""); }
+
+inline uint8_t *uriparse_room(void *out) {
+  static uint8_t none;
+  return out ? static_cast<uint8_t *>(out) : &none;
+}
+
+inline uint32_t uriparse_parse(const void *text, size_t len, uriparse_parts *parts) {
+  return uriparse_c::uriparse_parse(uriparse_text(text), len, parts);
+}
+
+inline uint32_t uriparse_first_fault(const void *text, size_t len, size_t *place) {
+  return uriparse_c::uriparse_first_fault(uriparse_text(text), len, place);
+}
+
+inline bool uriparse_is_uri(const void *text, size_t len) {
+  return uriparse_c::uriparse_is_uri(uriparse_text(text), len);
+}
+
+inline uint32_t uriparse_equal(const void *left, size_t left_len, const void *right, size_t right_len, bool *equal) {
+  return uriparse_c::uriparse_equal(uriparse_text(left), left_len, uriparse_text(right), right_len, equal);
+}
+
+inline uint32_t uriparse_hash(const void *text, size_t len, uint64_t *hash) {
+  return uriparse_c::uriparse_hash(uriparse_text(text), len, hash);
+}
+
+inline uint32_t uriparse_normalize(const void *text, size_t len, void *out, size_t room, size_t *needed) {
+  return uriparse_c::uriparse_normalize(uriparse_text(text), len, uriparse_room(out), room, needed);
+}
+
+inline uint32_t uriparse_resolve(const void *base, size_t base_len, const void *text, size_t len, void *out, size_t room,
+                                 size_t *needed) {
+  return uriparse_c::uriparse_resolve(uriparse_text(base), base_len, uriparse_text(text), len, uriparse_room(out), room,
+                                      needed);
+}
+
+inline uint32_t uriparse_decode(const void *text, size_t len, void *out, size_t room, size_t *needed) {
+  return uriparse_c::uriparse_decode(uriparse_text(text), len, uriparse_room(out), room, needed);
+}
+
+inline uint32_t uriparse_encode(uint32_t component, const void *bytes, size_t len, void *out, size_t room,
+                                size_t *needed) {
+  return uriparse_c::uriparse_encode(component, uriparse_text(bytes), len, uriparse_room(out), room, needed);
+}
+
+inline uint32_t uriparse_escape(const void *text, size_t len, void *out, size_t room, size_t *needed) {
+  return uriparse_c::uriparse_escape(uriparse_text(text), len, uriparse_room(out), room, needed);
+}
+
+} // extern "C++"
+#else
 /* A pointer for a text, or for a buffer, that isn't NULL. */
 static inline const uint8_t *uriparse_text(const void *text) { return (const uint8_t *)(text ? text : ""); }
 
@@ -214,8 +275,6 @@ static inline uint8_t *uriparse_room(void *out) {
   return out ? (uint8_t *)out : &none;
 }
 
-/* The functions themselves accept no NULL. With these macros each call accepts NULL with length 0, and a text of any
- * byte type, such as `const char *`. */
 #define uriparse_parse(text, len, parts) (uriparse_parse)(uriparse_text(text), len, parts)
 #define uriparse_first_fault(text, len, place) (uriparse_first_fault)(uriparse_text(text), len, place)
 #define uriparse_is_uri(text, len) (uriparse_is_uri)(uriparse_text(text), len)
@@ -232,10 +291,11 @@ static inline uint8_t *uriparse_room(void *out) {
   (uriparse_encode)(component, uriparse_text(bytes), len, uriparse_room(out), room, needed)
 #define uriparse_escape(text, len, out, room, needed)                                                                  \
   (uriparse_escape)(uriparse_text(text), len, uriparse_room(out), room, needed)
+#endif
 
 /* What a code means, in English. */
 static inline const char *uriparse_error_text(uint32_t code) {
-  switch (code & ~(uint32_t)URIPARSE_IN_BASE) {
+  switch (code & ~(0u | URIPARSE_IN_BASE)) {
   case URIPARSE_OK: return "no error";
   case URIPARSE_OUT_OF_MEMORY: return "out of memory";
   case URIPARSE_NO_ROOM: return "the buffer is too small";
