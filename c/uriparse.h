@@ -1,7 +1,7 @@
 /* URIs and URI references of RFC 3986: read, compare, hash, normalize, resolve, decode, encode and escape them. The code
  * behind these calls is proved: it is safe, it terminates, and it computes what this header says of results, codes and
- * what is written. That no call allocates is only tested. Neither proved nor tested is what it says of threads and
- * signal handlers, which follows from this. README.md says more.
+ * what is written. That no call allocates, and what it says of threads, signal handlers and the stack, is only tested.
+ * README.md says more.
  *
  * The library is for Linux on x86-64 processors of level x86-64-v2 or later, those with SSE4.2 and POPCNT. It doesn't
  * check the processor.
@@ -18,7 +18,9 @@
  * `*needed`, which becomes 0, or with URIPARSE_NO_ROOM the length of the text, and `*place`.
  *
  * There is no state between calls, so calls may run concurrently in any threads. No call allocates, so each may be called
- * in a signal handler, and in the forked child of a process with threads.
+ * in a signal handler, and in the forked child of a process with threads. A call takes at most 4,096 bytes of stack,
+ * however long its texts are. Not counted is what the dynamic linker takes if it binds a function at its first call: link
+ * with `-Wl,-z,now` to have it bind at the start.
  *
  * Limits: a path has at most 1,000,000 segments, a port is at most 65535. */
 #ifndef URIPARSE_H

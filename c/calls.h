@@ -1,0 +1,34 @@
+/* Each call by its number, for tests of all of them. `ROOM` is defined before: how many bytes a call may write. */
+#include "uriparse.h"
+
+#include <string.h>
+
+enum { CALLS = 10 };
+
+static const char *const names[CALLS] = {"parse",     "is_uri", "equal",  "hash",   "first_fault",
+                                         "normalize", "decode", "encode", "escape", "resolve"};
+
+/* What a call writes. */
+struct written {
+  uint8_t out[ROOM];
+  size_t needed;
+  size_t place;
+  uint64_t hash;
+  struct uriparse_parts parts;
+  bool equal;
+};
+
+static uint32_t call(int which, const char *base, size_t base_len, const char *text, size_t len, struct written *to) {
+  switch (which) {
+  case 0: return uriparse_parse(text, len, &to->parts);
+  case 1: return uriparse_is_uri(text, len) ? URIPARSE_OK : URIPARSE_NO_SCHEME;
+  case 2: return uriparse_equal(base, base_len, text, len, &to->equal);
+  case 3: return uriparse_hash(text, len, &to->hash);
+  case 4: return uriparse_first_fault(text, len, &to->place);
+  case 5: return uriparse_normalize(text, len, to->out, ROOM, &to->needed);
+  case 6: return uriparse_decode(text, len, to->out, ROOM, &to->needed);
+  case 7: return uriparse_encode(URIPARSE_SEGMENT, text, len, to->out, ROOM, &to->needed);
+  case 8: return uriparse_escape(text, len, to->out, ROOM, &to->needed);
+  default: return uriparse_resolve(base, base_len, text, len, to->out, ROOM, &to->needed);
+  }
+}
