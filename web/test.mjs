@@ -4,6 +4,8 @@
 import assert from "node:assert/strict";
 import { readFile } from "node:fs/promises";
 import { pathToFileURL } from "node:url";
+import { setFlagsFromString } from "node:v8";
+import { runInNewContext } from "node:vm";
 import { load, isSupported, URIParseError } from "./uriparse.mjs";
 
 let passed = 0;
@@ -112,17 +114,48 @@ await test("the messages are those of the header", async () => {
   const texts = [...header.matchAll(/case URIPARSE_(\w+): return "(.*)";/g)].map(([, name, text]) => [codes.get(name), text]);
   assert.equal(texts.length, 24);
   for (const [code, text] of texts.filter(([code]) => code > 2)) {
-    assert.equal(new URIParseError(code, 0, "").message, text);
+    assert.equal(new URIParseError(code, null, "").message, text);
   }
 });
 
 await test("no fault", () => assert.equal(uris.fault("http://h/a"), null));
-await test("a base without a scheme", () => assert.throws(() => uris.resolve("/a", "b"), { inBase: true, component: "scheme", code: 0x103 }));
-await test("the base's error comes first", () => assert.throws(() => uris.resolve("s:%", "%"), { inBase: true, text: "s:%" }));
-await test("the reference's error", () => assert.throws(() => uris.resolve("s:a", "%"), { inBase: false, text: "%", place: 0 }));
-await test("the right one's error", () => assert.throws(() => uris.equal("a", "b c"), { text: "b c", place: 1 }));
-await test("a lone surrogate", () => assert.equal(uris.fault("a\ud800").place, 1));
-await test("a value that is no string", () => assert.equal(uris.normalize(new URL("http://h/%7Ea")), "http://h/~a"));
+await test("a base without a scheme", () => assert.throws(() => uris.resolve("/a", "b"), { inBase: true, argument: "base", component: "scheme", code: 0x103, place: 0, message: "the base has no scheme" }));
+await test("the base's error comes first", () => assert.throws(() => uris.resolve("s:%", "%"), { inBase: true, argument: "base", text: "s:%" }));
+await test("the reference's error", () => assert.throws(() => uris.resolve("s:a", "%"), { inBase: false, argument: "reference", text: "%", place: 0 }));
+await test("the merged path has too many segments", () => {
+  const half = "a/".repeat(600000);
+  assert.throws(() => uris.resolve(`s:/${half}`, half), { code: 5, argument: "reference", place: 0, message: "reference: the path has too many segments" });
+});
+await test("the left one's error", () => assert.throws(() => uris.equal("b c", "b c"), { argument: "left", text: "b c", place: 1 }));
+await test("the right one's error", () => assert.throws(() => uris.equal("a", "b c"), { argument: "right", text: "b c", place: 1 }));
+await test("the message names the text and the place", () => {
+  assert.throws(() => uris.parse("http://h/a b"), { argument: "text", message: "invalid byte in the path, at index 10" });
+  assert.throws(() => uris.decode("a%2"), { message: "invalid percent-encoding in the query, at index 1" });
+  assert.throws(() => uris.resolve("s:%", ""), { message: "base: invalid percent-encoding in the path, at index 2" });
+  assert.throws(() => uris.resolve("s:", "a b"), { message: "reference: invalid byte in the path, at index 1" });
+  assert.throws(() => uris.equal("b c", ""), { message: "left: invalid byte in the path, at index 1" });
+  assert.throws(() => uris.equal("", "b c"), { message: "right: invalid byte in the path, at index 1" });
+});
+await test("a lone surrogate", () => {
+  assert.equal(uris.fault("a\ud800").place, 1);
+  for (const call of [uris.escape, (text) => uris.encode("query", text)]) {
+    assert.throws(() => call.call(uris, "a\ud800"), { name: "TypeError", message: "a lone surrogate at index 1" });
+  }
+  assert.equal(uris.encode("query", "😀"), "%F0%9F%98%80");
+});
+await test("a URL", () => assert.equal(uris.normalize(new URL("http://h/%7Ea")), "http://h/~a"));
+await test("a value that is no text", () => {
+  for (const value of [undefined, null, 1, true, ["a"], {}, Symbol("a")]) {
+    for (const name of ["parse", "fault", "isURI", "hash", "normalize", "escape", "decode"]) {
+      assert.throws(() => uris[name](value), TypeError, name);
+    }
+    for (const call of [(one) => uris.equal("a", one), (one) => uris.equal(one, "a"), (one) => uris.resolve("s:", one),
+      (one) => uris.resolve(one, "a"), (one) => uris.encode("query", one)]) {
+      assert.throws(() => call(value), TypeError);
+    }
+  }
+  assert.throws(() => uris.parse(), { message: "a text is a string or a URL, not undefined" });
+});
 await test("kinds", () => assert.deepEqual([uris.isURI("s:"), uris.isURI("a"), uris.isURI("%")], [true, false, false]));
 await test("hashes", () => {
   assert.equal(uris.hash("http://h/%7e"), uris.hash("HTTP://H/~"));
@@ -147,6 +180,23 @@ await test("a long text", () => {
   const text = `http://h/${"%41/../".repeat(200000)}`;
   assert.equal(uris.normalize(text), "http://h/");
   assert.equal(uris.parse(text).segments.length, 400001);
+});
+await test("the memory of a long text is given back", async () => {
+  setFlagsFromString("--expose-gc");
+  const collect = runInNewContext("gc");
+  const used = async () => {
+    for (let round = 0; round < 5; round += 1) {
+      await new Promise((resolve) => setTimeout(resolve, 10));
+      collect();
+    }
+    return process.memoryUsage().external;
+  };
+  uris.isURI("a");
+  const before = await used();
+  assert.equal(uris.isURI(`http://h/${"a".repeat(50_000_000)}`), true);
+  assert(await used() - before > 100_000_000);
+  assert.equal(uris.normalize("HTTP://h"), "http://h/");
+  assert(await used() - before < 1_000_000);
 });
 await test("many segments", () => assert.equal(uris.fault("a/".repeat(1000001)).code, 5));
 

@@ -1,8 +1,8 @@
-// A user of the types, which `web/run` has the TypeScript compiler check.
+// A user of the types, which `web/run` has the TypeScript compiler check without the types of the DOM.
 import { load, isSupported, URIParseError, type Encoded, type Fault, type Parts, type Place, type URIs } from "./uriparse.mjs";
 
 async function told(text: string): Promise<string> {
-  const uris: URIs = await load(new URL("uriparse.wasm", import.meta.url));
+  const uris: URIs = await load("uriparse.wasm");
   const fault: Fault | null = uris.fault(text);
   if (fault) {
     return `${fault.component ?? "the whole"}: ${fault.message} at ${fault.place.toFixed()}, ${fault.code.toFixed()}`;
@@ -21,13 +21,23 @@ async function told(text: string): Promise<string> {
 // @ts-expect-error no component is encoded as a path
 const wrong: Encoded = "path";
 
-const sources: Parameters<typeof load>[] = [[], ["uriparse.wasm"], [fetch("uriparse.wasm")], [new Uint8Array()], [new WebAssembly.Module(new Uint8Array())]];
+// @ts-expect-error no text is a number
+const number: Parameters<URIs["parse"]> = [1];
 
-if (isSupported()) {
-  told("http://h").catch((error: unknown) => {
+// @ts-expect-error no module is a number
+const none: Parameters<typeof load> = [1];
+
+const sources: Parameters<typeof load>[] = [[], ["uriparse.wasm"], [new Uint8Array()], [new ArrayBuffer(0)]];
+
+export async function main(): Promise<string> {
+  try {
+    return isSupported() ? await told("http://h") : `${sources.length}`;
+  } catch (error: unknown) {
     if (error instanceof URIParseError) {
       const inBase: boolean = error.inBase;
-      console.log(error.code.toFixed(), error.component, error.place.toFixed(), error.text, error.message, inBase, wrong, sources.length);
+      const argument: "text" | "base" | "reference" | "left" | "right" = error.argument;
+      return [error.code.toFixed(), error.component, error.place.toFixed(), error.text, error.message, argument, inBase, wrong, number, none].join();
     }
-  });
+    throw error;
+  }
 }

@@ -30,14 +30,18 @@ export interface Fault {
   place: number;
 }
 
-/** Why a text is rejected. */
+/** Why a text is rejected. Its message says why and where. */
 export class URIParseError extends Error {
+  private constructor();
   /** A code of `uriparse.h`. */
   readonly code: number;
   readonly component: Component | null;
+  /** An index into the text; 0 if no character of it is wrong, as in a base without a scheme. */
   readonly place: number;
   /** The text that is rejected. */
   readonly text: string;
+  /** Which text of the call it is. */
+  readonly argument: "text" | "base" | "reference" | "left" | "right";
   /** Whether it is the base of `resolve`. */
   readonly inBase: boolean;
 }
@@ -45,24 +49,34 @@ export class URIParseError extends Error {
 /** What bytes are encoded as. */
 export type Encoded = "username" | "password" | "segment" | "query" | "fragment";
 
+/** A string, or an object that has one, such as a `URL`. Another value is a `TypeError`. */
+export type Input = string | { readonly href: string };
+
 export interface URIs {
-  parse(text: string): Parts;
-  fault(text: string): Fault | null;
-  isURI(text: string): boolean;
-  equal(left: string, right: string): boolean;
-  hash(text: string): bigint;
-  normalize(text: string): string;
-  resolve(base: string, reference: string): string;
-  escape(text: string): string;
-  encode(component: Encoded, text: string): string;
-  decode(text: string): Uint8Array;
+  parse(text: Input): Parts;
+  fault(text: Input): Fault | null;
+  isURI(text: Input): boolean;
+  equal(left: Input, right: Input): boolean;
+  hash(text: Input): bigint;
+  normalize(text: Input): string;
+  resolve(base: Input, reference: Input): string;
+  /** A lone surrogate is a `TypeError`. */
+  escape(text: Input): string;
+  /** A lone surrogate is a `TypeError`. */
+  encode(component: Encoded, text: Input): string;
+  decode(text: Input): Uint8Array;
 }
 
 /** Whether there are 64-bit WebAssembly memories here. */
 export function isSupported(): boolean;
 
+// The types of the platform, if the program has them: not every one has those of the DOM.
+type Response = typeof globalThis extends { Response: { prototype: infer It } } ? It : never;
+type URL = typeof globalThis extends { URL: { prototype: infer It } } ? It : never;
+type Module = typeof globalThis extends { WebAssembly: { Module: { prototype: infer It } } } ? It : never;
+
 /** What the module is loaded from: its URL, a response with it, its bytes, or the module itself. */
-export type Source = URL | string | Response | BufferSource | WebAssembly.Module;
+export type Source = string | URL | Response | ArrayBuffer | ArrayBufferView | Module;
 
 /** Loads the module, by default `uriparse.wasm` beside this file. */
 export function load(source?: Source | Promise<Source>): Promise<URIs>;

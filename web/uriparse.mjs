@@ -50,6 +50,9 @@ const PARTS = 4 * (PORT + 1);
 const WORD = 16;
 const PAGE = 65536;
 
+// A memory of more bytes is given up before the next call that needs fewer.
+const LARGE = 2 ** 24;
+
 // The smallest module with a memory of 64-bit addresses.
 const PROBE = new Uint8Array([0, 97, 115, 109, 1, 0, 0, 0, 5, 3, 1, 4, 1]);
 
@@ -60,15 +63,17 @@ function meaning(code) {
 
 /** Why a text is rejected. */
 export class URIParseError extends Error {
-  constructor(code, place, text) {
+  constructor(code, place, text, argument = "text") {
     const [component, message] = meaning(code);
-    super(code & IN_BASE && (code & ~IN_BASE) !== NO_SCHEME ? `base: ${message}` : message);
+    const one = argument === "text" || (code & ~IN_BASE) === NO_SCHEME ? "" : `${argument}: `;
+    super(`${one}${message}${place === null ? "" : `, at index ${place}`}`);
     this.name = "URIParseError";
     this.code = code;
     this.component = component;
-    this.place = place;
+    this.place = place ?? 0;
     this.text = text;
-    this.inBase = (code & IN_BASE) !== 0;
+    this.argument = argument;
+    this.inBase = argument === "base";
   }
 }
 
@@ -77,12 +82,32 @@ export function isSupported() {
   return typeof WebAssembly === "object" && WebAssembly.validate(PROBE);
 }
 
+// A text as a string: that of a URL is its `href`.
+function textOf(value) {
+  const text = value?.href ?? value;
+  if (typeof text !== "string") {
+    throw new TypeError(`a text is a string or a URL, not ${value === null ? "null" : typeof value}`);
+  }
+  return text;
+}
+
+// A text that UTF-8 can encode.
+function wellFormed(value) {
+  const text = textOf(value);
+  const place = text.search(/\p{Surrogate}/u);
+  if (place >= 0) {
+    throw new TypeError(`a lone surrogate at index ${place}`);
+  }
+  return text;
+}
+
 async function bytesOf(source) {
   if (source instanceof URL || typeof source === "string") {
-    const url = new URL(source, globalThis.document?.baseURI ?? import.meta.url);
-    if (url.protocol === "file:" && globalThis.process?.versions?.node) {
-      const { readFile } = await import("node:fs/promises");
-      return readFile(url);
+    const url = new URL(source, globalThis.document?.baseURI ?? globalThis.location?.href ?? import.meta.url);
+    // Node has no `fetch` of files. An import of its module would stop bundlers for browsers.
+    const files = url.protocol === "file:" && globalThis.process?.getBuiltinModule?.("node:fs/promises");
+    if (files) {
+      return files.readFile(url);
     }
     source = await fetch(url);
   }
@@ -95,19 +120,28 @@ async function bytesOf(source) {
   return source;
 }
 
-/** Loads the module: from a URL, a Response, its bytes, or a WebAssembly.Module. */
-export async function load(source = new URL("uriparse.wasm", import.meta.url)) {
-  if (!isSupported()) {
-    throw new Error("64-bit WebAssembly is not supported here");
+// The address of the module beside this file, which bundles that aren't modules don't know.
+function besideThis() {
+  if (!import.meta.url) {
+    throw new Error("this bundle doesn't know its own address: call load with that of uriparse.wasm");
   }
-  const bytes = await bytesOf(await source);
+  return new URL("./uriparse.wasm", import.meta.url);
+}
+
+/** Loads the module: from a URL, a Response, its bytes, or a WebAssembly.Module. */
+export async function load(source) {
+  if (!isSupported()) {
+    const flag = globalThis.process?.versions?.node ? ": start Node with --experimental-wasm-memory64" : "";
+    throw new Error(`64-bit WebAssembly is not supported here${flag}`);
+  }
+  const bytes = await bytesOf((await source) ?? besideThis());
   const module = bytes instanceof WebAssembly.Module ? bytes : await WebAssembly.compile(bytes);
-  const instance = await WebAssembly.instantiate(module, {});
-  return new URIs(instance.exports);
+  return new URIs(module, await WebAssembly.instantiate(module, {}));
 }
 
 /** The calls of a loaded module. Texts are strings; a place is an index into the string. */
 class URIs {
+  #module;
   #calls;
   #memory;
   #base;
@@ -116,7 +150,12 @@ class URIs {
   #encoder = new TextEncoder();
   #decoder = new TextDecoder("utf-8", { ignoreBOM: true });
 
-  constructor(exports) {
+  constructor(module, instance) {
+    this.#module = module;
+    this.#start(instance);
+  }
+
+  #start({ exports }) {
     this.#calls = exports;
     this.#memory = exports.memory;
     this.#base = rounded(Number(exports.__heap_base.value));
@@ -136,7 +175,11 @@ class URIs {
 
   // Writes texts one after another. Returns their places and lengths, and a place after them with room for numbers.
   #put(...texts) {
-    this.#view(this.#base + texts.reduce((sum, text) => sum + 3 * text.length, 2 * WORD + PARTS));
+    const end = this.#base + texts.reduce((sum, text) => sum + 3 * text.length, 2 * WORD + PARTS);
+    if (end < LARGE && this.#bytes.length > LARGE) {
+      this.#start(new WebAssembly.Instance(this.#module, {}));
+    }
+    this.#view(end);
     const spans = [];
     let next = this.#base;
     for (const text of texts) {
@@ -152,13 +195,13 @@ class URIs {
   }
 
   // The error of a text with this code: the place is that of its first fault, if the text alone is at fault.
-  #error(code, text) {
-    return new URIParseError(code, this.fault(text)?.place ?? 0, text);
+  #error(code, text, argument) {
+    return new URIParseError(code, this.fault(text)?.place ?? null, text, argument);
   }
 
   /** The components of a reference, as they stand in its text, and their places. Absent ones are null. */
   parse(text) {
-    text = String(text);
+    text = textOf(text);
     const { spans, next } = this.#put(text);
     const code = this.#calls.uriparse_parse(spans[0], spans[1], BigInt(next));
     if (code !== 0) {
@@ -193,7 +236,7 @@ class URIs {
 
   /** Why a text is no reference and where, or null if it is one. */
   fault(text) {
-    text = String(text);
+    text = textOf(text);
     const { spans, next } = this.#put(text);
     const code = this.#calls.uriparse_first_fault(spans[0], spans[1], BigInt(next));
     if (code === 0) {
@@ -206,25 +249,25 @@ class URIs {
 
   /** Whether a text is a URI: a reference with a scheme. */
   isURI(text) {
-    const { spans } = this.#put(String(text));
+    const { spans } = this.#put(textOf(text));
     return this.#calls.uriparse_is_uri(spans[0], spans[1]) !== 0;
   }
 
   /** Whether two references differ at most by percent-encoding and case where these mean nothing. */
   equal(left, right) {
-    left = String(left);
-    right = String(right);
+    left = textOf(left);
+    right = textOf(right);
     const { spans, next } = this.#put(left, right);
     const code = this.#calls.uriparse_equal(...spans, BigInt(next));
     if (code !== 0) {
-      throw this.#error(code, this.fault(left) ? left : right);
+      throw this.fault(left) ? this.#error(code, left, "left") : this.#error(code, right, "right");
     }
     return this.#bytes[next] !== 0;
   }
 
   /** A hash, as a BigInt: equal references have equal hashes, on every machine. */
   hash(text) {
-    text = String(text);
+    text = textOf(text);
     const { spans, next } = this.#put(text);
     const code = this.#calls.uriparse_hash(spans[0], spans[1], BigInt(next));
     if (code !== 0) {
@@ -234,13 +277,13 @@ class URIs {
   }
 
   // The bytes that a call writes for these texts, which stay until the next call, or the code that it returns.
-  #answer(call, ...texts) {
+  #answer(call, texts, ...first) {
     const { spans, next } = this.#put(...texts);
     const out = next + WORD;
     let room = 2 * texts.reduce((sum, text) => sum + text.length, 0) + 64;
     for (;;) {
       this.#view(out + room);
-      const code = call(...spans, BigInt(out), BigInt(room), BigInt(next));
+      const code = this.#calls[call](...first, ...spans, BigInt(out), BigInt(room), BigInt(next));
       const needed = this.#word(next);
       if (code !== NO_ROOM) {
         return { code, bytes: this.#bytes.subarray(out, out + needed) };
@@ -249,28 +292,29 @@ class URIs {
     }
   }
 
-  // The text that a call writes for these texts. A code of the first text alone, if there are two, is marked.
-  #written(call, ...texts) {
-    const { code, bytes } = this.#answer(call, ...texts);
+  // The text that a call writes for these texts.
+  #written(call, texts, ...first) {
+    const { code, bytes } = this.#answer(call, texts, ...first);
     if (code !== 0) {
-      throw this.#error(code, code & IN_BASE ? texts[0] : texts.at(-1));
+      const [text, argument] = texts.length === 1 ? texts : code & IN_BASE ? [texts[0], "base"] : [texts[1], "reference"];
+      throw this.#error(code, text, argument);
     }
     return this.#decoder.decode(bytes);
   }
 
   /** The text of the normal form: RFC 3986, section 6.2.2. */
   normalize(text) {
-    return this.#written(this.#calls.uriparse_normalize, String(text));
+    return this.#written("uriparse_normalize", [textOf(text)]);
   }
 
   /** The text of the target of a reference against a base: section 5.2.2. */
   resolve(base, reference) {
-    return this.#written(this.#calls.uriparse_resolve, String(base), String(reference));
+    return this.#written("uriparse_resolve", [textOf(base), textOf(reference)]);
   }
 
   /** The text of a reference, made of any text: with escapes for what may not stand where it does. */
   escape(text) {
-    return this.#written(this.#calls.uriparse_escape, String(text));
+    return this.#written("uriparse_escape", [wellFormed(text)]);
   }
 
   /** The UTF-8 of a string as the text of a component: "username", "password", "segment", "query" or "fragment". */
@@ -278,13 +322,13 @@ class URIs {
     if (!Object.hasOwn(ENCODED, component)) {
       throw new TypeError(`no component that is encoded is ${component}`);
     }
-    return this.#written((...words) => this.#calls.uriparse_encode(ENCODED[component], ...words), String(text));
+    return this.#written("uriparse_encode", [wellFormed(text)], ENCODED[component]);
   }
 
   /** The bytes that the text of a component stands for. */
   decode(text) {
-    text = String(text);
-    const { code, bytes } = this.#answer(this.#calls.uriparse_decode, text);
+    text = textOf(text);
+    const { code, bytes } = this.#answer("uriparse_decode", [text]);
     if (code !== 0) {
       const [query] = text.split("#");
       const fault = this.fault(`?${query}`);
