@@ -25,10 +25,16 @@ pub fn store(
     for index in 0..links.count() {
         let link = ReferenceView::try_from_bytes(links.text(index))?;
         let len = schema.resolve_into(&link, &mut buffer)?;
-        let target = ReferenceView::try_from_bytes(buffer.get(..len).unwrap_or(&[]))?;
-        digest.add(u64::from(known.contains(&ReferenceKey::View(&target))));
+        let target = buffer.get(..len).unwrap_or(&[]);
+        digest.add(u64::from(is_known(&known, target)?));
     }
     Ok(())
+}
+
+/// Whether the identifier with this text is kept.
+fn is_known(known: &HashSet<ReferenceKey<'static>>, text: &[u8]) -> Result<bool, JobError> {
+    let view = ReferenceView::try_from_bytes(text)?;
+    Ok(known.contains(&ReferenceKey::View(&view)))
 }
 
 /// The identifiers, each kept once.
