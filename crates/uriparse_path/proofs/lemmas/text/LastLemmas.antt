@@ -1,8 +1,8 @@
 -- The last dot segment of a text.
-use Rattle.std.proofs.Common.{◌≡◌, ℕ, suc, ◌+◌, ◌-◌, ◌<◌, ◌≤◌, Bool, true, false, not, ◌&&◌, if◌then◌else◌, List, [], ◌∷◌, ◌++◌, length, get_or, drop, refl, sym, ap, subst, ◌∙◌, arith, nat_eq, Option, Some, None, MatchOption, is_some}
+use Rattle.std.proofs.Common.{◌≡◌, ℕ, suc, ◌+◌, ◌-◌, ◌<◌, ◌≤◌, Bool, true, false, not, ◌&&◌, if◌then◌else◌, List, [], ◌∷◌, ◌++◌, length, get_or, drop, refl, sym, ap, subst, ◌∙◌, arith, nat_eq, Option, Some, None, MatchOption, is_some, inl, inr}
 use Rattle.std.specs.Int.{bit_at}
 use Rattle.std.specs.List.{slice_split}
-use Rattle.std.proofs.lemmas.Bool.{and_parts, or_parts}
+use Rattle.std.proofs.lemmas.Bool.{and_parts, cases_lt, or_parts}
 use Rattle.std.proofs.lemmas.Bool.Decides.{nat_tests}
 use Rattle.uriparse_text.specs.Bytes.{dot}
 use Rattle.uriparse_text.specs.Cuts.{up_to, from_first, part}
@@ -26,23 +26,27 @@ two_dots (b ∷ c ∷ d ∷ s) n e f = absurd (omega (arith, n))
 
 -- ---- by marks
 
-unset : (v : Bool) → (if v then 1 else 0) ≡ 0 → v ≡ false
-unset true h = absurd (omega (arith, h))
-unset false h = refl
+unset : (v : Bool) (bit : ℕ) → bit ≡ (if v then 1 else 0) → bit ≡ 0 → v ≡ false
+unset true bit e h = absurd (omega (arith, e, h))
+unset false bit e h = refl
 
-set : (v : Bool) → (if v then 1 else 0) ≡ 1 → v ≡ true
-set true h = refl
-set false h = absurd (omega (arith, h))
+set : (v : Bool) (bit : ℕ) → bit ≡ (if v then 1 else 0) → bit ≡ 1 → v ≡ true
+set true bit e h = refl
+set false bit e h = absurd (omega (arith, e, h))
 
-pub AreHeadMarks-first : (t : List ℕ) (at n m marks : ℕ) → m ≤ n → AreHeadMarks t at n marks → AreHeadMarks t at m marks
-AreHeadMarks-first t at n m marks few are k h = are k (omega arith)
+-- a bit that is set stands below those that are not
+pub below_unset : (m k end : ℕ) → bit_at m k ≡ 1 → ((j : ℕ) → end ≤ j → bit_at m j ≡ 0) → k < end
+below_unset m k end marked gone = elim (cases_lt k end) [
+  | inl below ↦ below
+  | inr past ↦ absurd (omega (arith, marked, gone k past))
+]
 
 -- a segment begins at a place with a mark
 pub begins_marked : (t : List ℕ) (at n marks k : ℕ) → 0 < at → AreHeadMarks t at n marks → k < n → bit_at marks k ≡ 1 → begins_segment (at + k) t ≡ true
 begins_marked t at n marks k some are h marked =
     let prior : at + k - 1 ≡ at - 1 + k = omega arith in
     begins_after t (at + k) (omega arith) ∙ ap (λ i. is_slash (get_or t i 0)) prior
-    ∙ (and_parts (is_slash (get_or t (at - 1 + k) 0)) (is_head (get_or t (at + k) 0)) (set _ (sym (are k h) ∙ marked))).0
+    ∙ (and_parts (is_slash (get_or t (at - 1 + k) 0)) (is_head (get_or t (at + k) 0)) (set _ (bit_at marks k) (are k h) marked)).0
 
 -- no dot segment begins at places without a mark
 pub lower_unmarked : (t : List ℕ) (at n marks k end : ℕ) → 0 < at → at + n ≤ length t → AreHeadMarks t at n marks → k ≤ end → end ≤ n
@@ -59,7 +63,7 @@ lower_unmarked t at n marks k end some within are order few none later =
         let here : at - 1 + k + j + 1 ≡ at + (k + j) = omega arith in
         ap (λ i. is_slash (get_or t i 0) && is_head (get_or t (at - 1 + k + j + 1) 0)) prior
         ∙ ap (λ i. is_slash (get_or t (at - 1 + (k + j)) 0) && is_head (get_or t i 0)) here
-        ∙ unset _ (sym (are (k + j) (omega arith)) ∙ none (k + j) (omega arith) (omega arith))
+        ∙ unset _ (bit_at marks (k + j)) (are (k + j) (omega arith)) (none (k + j) (omega arith) (omega arith))
 
 -- nor at a place that has the last of the marks, if none begins there
 pub lower_marked : (t : List ℕ) (at n marks k end : ℕ) → 0 < at → at + n ≤ length t → AreHeadMarks t at n marks → k < end → end ≤ n
