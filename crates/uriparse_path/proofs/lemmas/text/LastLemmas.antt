@@ -7,6 +7,7 @@ use Rattle.std.proofs.lemmas.Bool.Decides.{nat_tests}
 use Rattle.uriparse_text.specs.Bytes.{dot}
 use Rattle.uriparse_text.specs.Cuts.{up_to, from_first, part}
 use Rattle.uriparse_text.proofs.lemmas.canonical.DotLemmas.{double_of, canonical-dots}
+use Rattle.uriparse_text.proofs.lemmas.scans.NeighbourLemmas.{set_bit, unset_bit}
 use Rattle.uriparse_path.specs.Path.{is_slash}
 use Rattle.uriparse_path.specs.Dots.{is_dot_segment, is_double_dot, has_dot_segment}
 use Rattle.uriparse_path.specs.Relative.{is_first, is_last}
@@ -26,14 +27,6 @@ two_dots (b ∷ c ∷ d ∷ s) n e f = absurd (omega (arith, n))
 
 -- ---- by marks
 
-unset : (v : Bool) (bit : ℕ) → bit ≡ (if v then 1 else 0) → bit ≡ 0 → v ≡ false
-unset true bit e h = absurd (omega (arith, e, h))
-unset false bit e h = refl
-
-set : (v : Bool) (bit : ℕ) → bit ≡ (if v then 1 else 0) → bit ≡ 1 → v ≡ true
-set true bit e h = refl
-set false bit e h = absurd (omega (arith, e, h))
-
 -- a bit that is set stands below those that are not
 pub below_unset : (m k end : ℕ) → bit_at m k ≡ 1 → ((j : ℕ) → end ≤ j → bit_at m j ≡ 0) → k < end
 below_unset m k end marked gone = elim (cases_lt k end) [
@@ -46,7 +39,7 @@ pub begins_marked : (t : List ℕ) (at n marks k : ℕ) → 0 < at → AreHeadMa
 begins_marked t at n marks k some are h marked =
     let prior : at + k - 1 ≡ at - 1 + k = omega arith in
     begins_after t (at + k) (omega arith) ∙ ap (λ i. is_slash (get_or t i 0)) prior
-    ∙ (and_parts (is_slash (get_or t (at - 1 + k) 0)) (is_head (get_or t (at + k) 0)) (set _ (bit_at marks k) (are k h) marked)).0
+    ∙ (and_parts (is_slash (get_or t (at - 1 + k) 0)) (is_head (get_or t (at + k) 0)) (set_bit _ (bit_at marks k) (are k h) marked)).0
 
 -- no dot segment begins at places without a mark
 pub lower_unmarked : (t : List ℕ) (at n marks k end : ℕ) → 0 < at → at + n ≤ length t → AreHeadMarks t at n marks → k ≤ end → end ≤ n
@@ -63,7 +56,7 @@ lower_unmarked t at n marks k end some within are order few none later =
         let here : at - 1 + k + j + 1 ≡ at + (k + j) = omega arith in
         ap (λ i. is_slash (get_or t i 0) && is_head (get_or t (at - 1 + k + j + 1) 0)) prior
         ∙ ap (λ i. is_slash (get_or t (at - 1 + (k + j)) 0) && is_head (get_or t i 0)) here
-        ∙ unset _ (bit_at marks (k + j)) (are (k + j) (omega arith)) (none (k + j) (omega arith) (omega arith))
+        ∙ unset_bit _ (bit_at marks (k + j)) (are (k + j) (omega arith)) (none (k + j) (omega arith) (omega arith))
 
 -- nor at a place that has the last of the marks, if none begins there
 pub lower_marked : (t : List ℕ) (at n marks k end : ℕ) → 0 < at → at + n ≤ length t → AreHeadMarks t at n marks → k < end → end ≤ n

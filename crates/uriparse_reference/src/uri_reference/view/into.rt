@@ -1,5 +1,5 @@
 //! The text of a reference's normal form in a buffer of the caller: RFC 3986, section 6.2.2.
-ghost use Rattle.std.specs.Prelude.{◌≡◌, ℕ, ◌≤◌, List, ◌++◌, length};
+ghost use Rattle.std.specs.Prelude.{◌≡◌, ℕ, ◌≤◌, List, ◌++◌, MatchOption, length};
 ghost use Rattle.std.specs.Option.{option_map};
 ghost use Rattle.uriparse_text.specs.declared.internal.canonical.Case.TheVariants as case;
 ghost use Rattle.uriparse_text.specs.Bytes.{colon, number_sign, question_mark};
@@ -165,44 +165,44 @@ impl<'t> ReferenceView<'t> {
         ensures { spec.Writes (print (normal self.now.parts)) result out.old out.new }
     {
         let len = self.text.len();
-        if serves_block(BLOCK, len, out) {
+        let written = if serves_block(BLOCK, len, out) {
             self.write_normal_by(&mut [0; BLOCK], out)
         } else if serves_block(LONG_BLOCK, len, out) {
             self.write_long_normal(out)
         } else {
-            self.write_measured_normal(out)
+            None
+        };
+        if let Some(result) = written {
+            return result;
         }
-    }
-
-    /// Writes a longer text. Only its call takes the long block's room on the stack.
-    #[inline(never)]
-    fn write_long_normal(&self, out: &mut [u8]) -> Result<usize, BufferError>
-        ensures { spec.Writes (print (normal self.now.parts)) result out.old out.new }
-    {
-        self.write_normal_by(&mut [0; LONG_BLOCK], out)
-    }
-
-    /// Puts the text together in the block and copies it, if it fits; else it is measured first.
-    #[inline(always)]
-    fn write_normal_by(&self, block: &mut [u8], out: &mut [u8]) -> Result<usize, BufferError>
-        ensures { spec.Writes (print (normal self.now.parts)) result out.old out.new }
-    {
-        let needed = self.put_normal(block);
-        if needed <= block.len() {
-            return copy_end(block, needed, out);
-        }
-        self.write_measured_normal(out)
-    }
-
-    /// Measures the text, and puts it where it belongs, if there is room.
-    #[inline(never)]
-    fn write_measured_normal(&self, out: &mut [u8]) -> Result<usize, BufferError>
-        ensures { spec.Writes (print (normal self.now.parts)) result out.old out.new }
-    {
         let needed = self.put_normal(&mut []);
         if needed > out.len() {
             return Err(BufferError::TooSmall(needed));
         }
         Ok(self.put_normal(&mut out[..needed]))
+    }
+
+    /// Writes a longer text. Only this call takes the long block's room on the stack.
+    #[inline(never)]
+    fn write_long_normal(&self, out: &mut [u8]) -> Option<Result<usize, BufferError>>
+        ensures { MatchOption result (out.new ≡ out.old) (λ written. spec.Writes (print (normal self.now.parts)) written out.old out.new) }
+    {
+        self.write_normal_by(&mut [0; LONG_BLOCK], out)
+    }
+
+    /// Puts the text together in the block and copies it, or does nothing if it is longer.
+    #[inline(always)]
+    fn write_normal_by(
+        &self,
+        block: &mut [u8],
+        out: &mut [u8],
+    ) -> Option<Result<usize, BufferError>>
+        ensures { MatchOption result (out.new ≡ out.old) (λ written. spec.Writes (print (normal self.now.parts)) written out.old out.new) }
+    {
+        let needed = self.put_normal(block);
+        if needed > block.len() {
+            return None;
+        }
+        Some(copy_end(block, needed, out))
     }
 }

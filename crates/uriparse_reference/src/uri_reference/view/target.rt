@@ -171,61 +171,52 @@ impl<'t> ReferenceView<'t> {
         ensures { spec.Writes (spec.print_if (target self.now.parts reference.now.parts)) result out.old out.new }
     {
         let len = self.source_len(reference);
-        if serves_block(BLOCK, len, out) {
+        let written = if serves_block(BLOCK, len, out) {
             self.write_target_by(reference, &mut [0; BLOCK], out)
         } else if serves_block(LONG_BLOCK, len, out) {
             self.write_long_target(reference, out)
         } else {
-            self.write_measured_target(reference, out)
+            None
+        };
+        if let Some(result) = written {
+            return result;
         }
+        let needed = self.put_target(reference, &mut []);
+        if needed > out.len() {
+            return Err(BufferError::TooSmall(needed));
+        }
+        Ok(self.put_target(reference, &mut out[..needed]))
     }
 
-    /// Writes a longer text. Only its call takes the long block's room on the stack.
+    /// Writes a longer text. Only this call takes the long block's room on the stack.
     #[inline(never)]
     fn write_long_target(
         &self,
         reference: &ReferenceView<'_>,
         out: &mut [u8],
-    ) -> Result<usize, BufferError>
+    ) -> Option<Result<usize, BufferError>>
         requires { is_merged reference.now.parts ≡ true → length (pieces (merge self.now.parts reference.now.parts)) ≤ max_segments }
-        ensures { spec.Writes (spec.print_if (target self.now.parts reference.now.parts)) result out.old out.new }
+        ensures { MatchOption result (out.new ≡ out.old) (λ written. spec.Writes (spec.print_if (target self.now.parts reference.now.parts)) written out.old out.new) }
     {
         self.write_target_by(reference, &mut [0; LONG_BLOCK], out)
     }
 
-    /// Puts the text together in the block and copies it, if it fits; else it is measured first.
+    /// Puts the text together in the block and copies it, or does nothing if it is longer.
     #[inline(always)]
     fn write_target_by(
         &self,
         reference: &ReferenceView<'_>,
         block: &mut [u8],
         out: &mut [u8],
-    ) -> Result<usize, BufferError>
+    ) -> Option<Result<usize, BufferError>>
         requires { is_merged reference.now.parts ≡ true → length (pieces (merge self.now.parts reference.now.parts)) ≤ max_segments }
-        ensures { spec.Writes (spec.print_if (target self.now.parts reference.now.parts)) result out.old out.new }
+        ensures { MatchOption result (out.new ≡ out.old) (λ written. spec.Writes (spec.print_if (target self.now.parts reference.now.parts)) written out.old out.new) }
     {
         let needed = self.put_target(reference, block);
-        if needed <= block.len() {
-            return copy_end(block, needed, out);
+        if needed > block.len() {
+            return None;
         }
-        self.write_measured_target(reference, out)
-    }
-
-    /// Measures the text, and puts it where it belongs, if there is room.
-    #[inline(never)]
-    fn write_measured_target(
-        &self,
-        reference: &ReferenceView<'_>,
-        out: &mut [u8],
-    ) -> Result<usize, BufferError>
-        requires { is_merged reference.now.parts ≡ true → length (pieces (merge self.now.parts reference.now.parts)) ≤ max_segments }
-        ensures { spec.Writes (spec.print_if (target self.now.parts reference.now.parts)) result out.old out.new }
-    {
-        let needed = self.put_target(reference, &mut []);
-        if needed > out.len() {
-            return Err(BufferError::TooSmall(needed));
-        }
-        Ok(self.put_target(reference, &mut out[..needed]))
+        Some(copy_end(block, needed, out))
     }
 
     /// Resolves a reference against this base, writes the text of the target to the start of the
