@@ -28,10 +28,10 @@ mod text;
 mod token;
 
 pub use alike::same_spelling;
-pub use bits::{count_below, has_adjacent, lowest, without, without_lowest};
+pub use bits::{bits_below, count_below, has_adjacent, highest, lowest, without, without_lowest};
 pub use canonical::{Case, canonical_bytes, feed_spelling, feed_text, is_canonical};
 pub use class::Class;
-pub use clear::has_pair;
+pub use clear::{has_pair, marks_of_pairs};
 pub use coding::{
     compare_represented, form_decoded_bytes, most_escaped_bytes, push_encoded, push_escaped,
     represents,

@@ -35,6 +35,27 @@ pub fn without(m: u64, other: u64) -> u64
     m & !other
 }
 
+/// The place of the highest bit that is set.
+#[inline(always)]
+pub fn highest(m: u64) -> usize
+    requires { m ≢ 0 }
+    ensures bound { result < 64 }
+    ensures set { bit_at m result ≡ 1 }
+    ensures above { (k : ℕ) → result < k → bit_at m k ≡ 0 }
+{
+    63 - m.leading_zeros() as usize
+}
+
+/// The mask without the bits from a place on.
+#[inline(always)]
+pub fn bits_below(m: u64, place: usize) -> u64
+    requires { place < 64 }
+    ensures kept { (k : ℕ) → k < place → bit_at result k ≡ bit_at m k }
+    ensures gone { (k : ℕ) → place ≤ k → bit_at result k ≡ 0 }
+{
+    m % (1 << place)
+}
+
 /// How many bits are set below a place.
 #[inline(always)]
 pub fn count_below(m: u64, k: usize) -> usize

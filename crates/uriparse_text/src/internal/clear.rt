@@ -1,5 +1,6 @@
 //! Pairs of neighbouring bytes, looked for in sixteen places at once.
-ghost use Rattle.std.specs.Prelude.{◌≡◌, ◌+◌, ◌-◌, ◌<◌, ◌≤◌, ◌&&◌, ℕ, false, length, slice_index};
+ghost use Rattle.std.specs.Prelude.{◌≡◌, ◌+◌, ◌-◌, ◌<◌, ◌≤◌, ◌&&◌, if◌then◌else◌, ℕ, false, length, slice_index};
+ghost use Rattle.std.specs.Int.{bit_at};
 
 use super::scan::{ByteTest, marks_of_run};
 
@@ -13,4 +14,20 @@ pub fn has_pair<T: ByteTest, U: ByteTest>(earlier: &T, later: &U, text: &[u8], a
 {
     let before = marks_of_run(earlier, text, at - 1, at - 1);
     before != 0 && before & marks_of_run(later, text, at, at) != 0
+}
+
+/// Marks those of the sixteen bytes from `at` on that pass `later` right after a byte that passes
+/// `earlier`.
+#[inline(always)]
+pub fn marks_of_pairs<T: ByteTest, U: ByteTest>(
+    earlier: &T,
+    later: &U,
+    text: &[u8],
+    at: usize,
+) -> u64
+    requires after { 0 < at }
+    requires room { at + 16 ≤ length text.now }
+    ensures { (k : ℕ) → k < 16 → bit_at result k ≡ (if T.passes earlier.now (slice_index text.now (at - 1 + k)) && U.passes later.now (slice_index text.now (at + k)) then 1 else 0) }
+{
+    marks_of_run(earlier, text, at - 1, at - 1) & marks_of_run(later, text, at, at)
 }

@@ -1,7 +1,8 @@
 -- The last dot segment of a text.
-use Rattle.std.proofs.Common.{◌≡◌, ℕ, suc, ◌+◌, ◌-◌, ◌<◌, ◌≤◌, Bool, true, false, not, ◌&&◌, List, [], ◌∷◌, ◌++◌, length, get_or, drop, refl, sym, ap, subst, ◌∙◌, arith, nat_eq, Option, Some, None, MatchOption, is_some}
+use Rattle.std.proofs.Common.{◌≡◌, ℕ, suc, ◌+◌, ◌-◌, ◌<◌, ◌≤◌, Bool, true, false, not, ◌&&◌, if◌then◌else◌, List, [], ◌∷◌, ◌++◌, length, get_or, drop, refl, sym, ap, subst, ◌∙◌, arith, nat_eq, Option, Some, None, MatchOption, is_some, inl, inr}
+use Rattle.std.specs.Int.{bit_at}
 use Rattle.std.specs.List.{slice_split}
-use Rattle.std.proofs.lemmas.Bool.{or_parts}
+use Rattle.std.proofs.lemmas.Bool.{and_parts, cases_lt, or_parts}
 use Rattle.std.proofs.lemmas.Bool.Decides.{nat_tests}
 use Rattle.uriparse_text.specs.Bytes.{dot}
 use Rattle.uriparse_text.specs.Cuts.{up_to, from_first, part}
@@ -10,9 +11,9 @@ use Rattle.uriparse_path.specs.Path.{is_slash}
 use Rattle.uriparse_path.specs.Dots.{is_dot_segment, is_double_dot, has_dot_segment}
 use Rattle.uriparse_path.specs.Relative.{is_first, is_last}
 use Rattle.uriparse_path.specs.Text.{pieces_left}
-use Rattle.uriparse_path.specs.Last.{is_head, LacksDotsAfter, LacksHeads, IsLast, IsLastDots}
+use Rattle.uriparse_path.specs.Last.{AreHeadMarks, begins_segment, is_head, LacksDotsAfter, LacksHeads, IsLast, IsLastDots}
 use Rattle.uriparse_path.proofs.lemmas.left.LeftLemmas.{last_behind}
-use Rattle.uriparse_path.proofs.lemmas.text.HeadLemmas.{before, begun, has_dots, lacks_all_dots, lower_run}
+use Rattle.uriparse_path.proofs.lemmas.text.HeadLemmas.{before, begins_after, begun, has_dots, lacks_all_dots, lower, lower_run}
 use Rattle.uriparse_path.proofs.lemmas.text.SplitLemmas.{cut}
 use Rattle.uriparse_path.proofs.lemmas.text.TextWalkLemmas.{pieces_cut}
 
@@ -23,20 +24,67 @@ two_dots (b ∷ c ∷ []) n e f =
     ap (λ x. is_double_dot (x ∷ c ∷ [])) e ∙ ap (λ x. is_double_dot (dot ∷ x ∷ [])) f ∙ double_of (dot ∷ dot ∷ []) canonical-dots
 two_dots (b ∷ c ∷ d ∷ s) n e f = absurd (omega (arith, n))
 
--- a run of sixteen bytes lower
-pub lower_sixteen : (t : List ℕ) (end at : ℕ) → at + 16 ≡ end → 0 < at → end ≤ length t
-    → ((k : ℕ) → k < 16 → (is_slash (get_or t (at - 1 + k) 0) && is_head (get_or t (at + k) 0)) ≡ false)
-    → LacksDotsAfter (end - 1) t → LacksDotsAfter (at - 1) t
-lower_sixteen t end at e some within apart later =
-    lower_run t (at - 1) 16 (omega (arith, e)) next (subst (λ i. LacksDotsAfter i t) top later)
-  where
-    top : end - 1 ≡ at - 1 + 16
-    top = omega (arith, e)
+-- ---- by marks
 
-    next : (k : ℕ) → k < 16 → (is_slash (get_or t (at - 1 + k) 0) && is_head (get_or t (at - 1 + k + 1) 0)) ≡ false
-    next k h =
-        let same : at - 1 + k + 1 ≡ at + k = omega arith in
-        ap (λ i. is_slash (get_or t (at - 1 + k) 0) && is_head (get_or t i 0)) same ∙ apart k h
+unset : (v : Bool) (bit : ℕ) → bit ≡ (if v then 1 else 0) → bit ≡ 0 → v ≡ false
+unset true bit e h = absurd (omega (arith, e, h))
+unset false bit e h = refl
+
+set : (v : Bool) (bit : ℕ) → bit ≡ (if v then 1 else 0) → bit ≡ 1 → v ≡ true
+set true bit e h = refl
+set false bit e h = absurd (omega (arith, e, h))
+
+-- a bit that is set stands below those that are not
+pub below_unset : (m k end : ℕ) → bit_at m k ≡ 1 → ((j : ℕ) → end ≤ j → bit_at m j ≡ 0) → k < end
+below_unset m k end marked gone = elim (cases_lt k end) [
+  | inl below ↦ below
+  | inr past ↦ absurd (omega (arith, marked, gone k past))
+]
+
+-- a segment begins at a place with a mark
+pub begins_marked : (t : List ℕ) (at n marks k : ℕ) → 0 < at → AreHeadMarks t at n marks → k < n → bit_at marks k ≡ 1 → begins_segment (at + k) t ≡ true
+begins_marked t at n marks k some are h marked =
+    let prior : at + k - 1 ≡ at - 1 + k = omega arith in
+    begins_after t (at + k) (omega arith) ∙ ap (λ i. is_slash (get_or t i 0)) prior
+    ∙ (and_parts (is_slash (get_or t (at - 1 + k) 0)) (is_head (get_or t (at + k) 0)) (set _ (bit_at marks k) (are k h) marked)).0
+
+-- no dot segment begins at places without a mark
+pub lower_unmarked : (t : List ℕ) (at n marks k end : ℕ) → 0 < at → at + n ≤ length t → AreHeadMarks t at n marks → k ≤ end → end ≤ n
+    → ((j : ℕ) → k ≤ j → j < end → bit_at marks j ≡ 0) → LacksDotsAfter (at - 1 + end) t → LacksDotsAfter (at - 1 + k) t
+lower_unmarked t at n marks k end some within are order few none later =
+    lower_run t (at - 1 + k) (end - k) (omega arith) apart (subst (λ i. LacksDotsAfter i t) top later)
+  where
+    top : at - 1 + end ≡ at - 1 + k + (end - k)
+    top = omega arith
+
+    apart : (j : ℕ) → j < end - k → (is_slash (get_or t (at - 1 + k + j) 0) && is_head (get_or t (at - 1 + k + j + 1) 0)) ≡ false
+    apart j h =
+        let prior : at - 1 + k + j ≡ at - 1 + (k + j) = omega arith in
+        let here : at - 1 + k + j + 1 ≡ at + (k + j) = omega arith in
+        ap (λ i. is_slash (get_or t i 0) && is_head (get_or t (at - 1 + k + j + 1) 0)) prior
+        ∙ ap (λ i. is_slash (get_or t (at - 1 + (k + j)) 0) && is_head (get_or t i 0)) here
+        ∙ unset _ (bit_at marks (k + j)) (are (k + j) (omega arith)) (none (k + j) (omega arith) (omega arith))
+
+-- nor at a place that has the last of the marks, if none begins there
+pub lower_marked : (t : List ℕ) (at n marks k end : ℕ) → 0 < at → at + n ≤ length t → AreHeadMarks t at n marks → k < end → end ≤ n
+    → ((j : ℕ) → k < j → j < end → bit_at marks j ≡ 0) → LacksDotsAfter (at - 1 + end) t
+    → LacksDotsAfter (at + k) t × (is_first is_dot_segment (slice_split is_slash (drop (at + k) t)) ≡ false → LacksDotsAfter (at - 1 + k) t)
+lower_marked t at n marks k end some within are order few none later = (above, here)
+  where
+    next : at - 1 + (k + 1) ≡ at + k
+    next = omega arith
+
+    above : LacksDotsAfter (at + k) t
+    above =
+        subst (λ i. LacksDotsAfter i t) next
+        (lower_unmarked t at n marks (k + 1) end some within are (omega arith) few (λ j h i. none j (omega arith) i) later)
+
+    here : is_first is_dot_segment (slice_split is_slash (drop (at + k) t)) ≡ false → LacksDotsAfter (at - 1 + k) t
+    here first =
+        let step : at + k ≡ at - 1 + k + 1 = omega arith in
+        lower t (at - 1 + k) (omega arith)
+        (λ _. subst (λ i. is_first is_dot_segment (slice_split is_slash (drop i t)) ≡ false) step first)
+        (subst (λ i. LacksDotsAfter i t) step above)
 
 -- ---- the last segment
 

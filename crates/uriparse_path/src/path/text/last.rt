@@ -1,6 +1,6 @@
 //! The last dot segment of a path's text, looked for from its end, sixteen bytes at a time: RFC
 //! 3986, section 3.3.
-ghost use Rattle.std.specs.Prelude.{◌≡◌, ◌<◌, ◌≤◌, ◌+◌, ◌-◌, ◌&&◌, ℕ, MatchOption, drop, false, length, slice_index, true};
+ghost use Rattle.std.specs.Prelude.{◌≡◌, ◌<◌, ◌≤◌, ◌+◌, ◌-◌, MatchOption, drop, length, true};
 ghost use Rattle.std.specs.List.{list_all, slice_split};
 ghost use Rattle.uriparse_text.specs.Segment.{is_segment};
 ghost use Rattle.uriparse_path.specs.Path.{is_slash};
@@ -10,7 +10,7 @@ ghost use Rattle.uriparse_path.specs.Last as spec;
 
 use super::heads::is_head_first;
 use crate::path::segment::is_dots;
-use uriparse_text::internal::{Is, IsAny, has_pair, split_at_mark};
+use uriparse_text::internal::{Is, IsAny, bits_below, highest, marks_of_pairs, split_at_mark};
 
 /// Whether the first segment of a text, which begins like a dot segment, is one.
 #[inline(never)]
@@ -31,17 +31,15 @@ fn begins_with_dots(text: &[u8]) -> bool
     is_head_first(text) && has_dots_first(text)
 }
 
-/// The place of the last dot segment that follows one of the slashes from `from` on and before `end`,
-/// byte by byte. None follows a later slash.
+/// The place of the last dot segment of a short text that follows a slash, of those from `from` on,
+/// byte by byte.
 #[inline(never)]
-fn last_dots_among(text: &[u8], from: usize, end: usize) -> Option<usize>
+fn last_dots_of_short(from: usize, text: &[u8]) -> Option<usize>
     requires segments { list_all is_segment (slice_split is_slash text.now) ≡ true }
-    requires order { from ≤ end }
-    requires within { end ≤ length text.now }
-    requires later { spec.LacksDotsAfter end text.now }
+    requires within { from ≤ length text.now }
     ensures { MatchOption result (spec.LacksDotsAfter from text.now) (λ at. spec.IsLastDots at text.now) }
 {
-    let mut at = end;
+    let mut at = text.len();
     'bytes: while at > from {
         if text[at - 1] == b'/' && begins_with_dots(&text[at..]) {
             return Some(at);
@@ -51,36 +49,71 @@ fn last_dots_among(text: &[u8], from: usize, end: usize) -> Option<usize>
     None
 }
 
-/// Whether a segment that begins at one of the sixteen bytes from `at` on may be a dot segment.
+/// Marks those of the sixteen places from `at` on that follow a slash and hold a byte that a dot
+/// segment begins with.
 #[inline(always)]
-fn may_have_dots(text: &[u8], at: usize) -> bool
+fn marks_of_heads(text: &[u8], at: usize) -> u64
     requires after { 0 < at }
     requires room { at + 16 ≤ length text.now }
-    ensures { result ≡ false → (k : ℕ) → k < 16 → (is_slash (slice_index text.now (at - 1 + k)) && spec.is_head (slice_index text.now (at + k))) ≡ false }
+    ensures { spec.AreHeadMarks text.now at 16 result }
 {
-    has_pair(&Is(b'/'), &IsAny(b'.', b'%', b'%'), text, at)
+    marks_of_pairs(&Is(b'/'), &IsAny(b'.', b'%', b'%'), text, at)
 }
 
-/// The place of the last dot segment that follows a slash, of those from `from` on. Only runs of
-/// sixteen bytes in which a segment begins like a dot segment are looked at byte by byte, and the bytes
-/// before the first run.
+/// The place of the last dot segment among the `count` places from `at` on, if none begins later. Only
+/// the places with a mark are looked at, the last one first.
+#[inline(always)]
+fn last_dots_marked(text: &[u8], at: usize, count: usize, marks: u64) -> Option<usize>
+    requires segments { list_all is_segment (slice_split is_slash text.now) ≡ true }
+    requires after { 0 < at }
+    requires few { count ≤ 16 }
+    requires within { at + count ≤ length text.now }
+    requires marks { spec.AreHeadMarks text.now at count marks }
+    requires later { spec.LacksDotsAfter (at - 1 + count) text.now }
+    ensures { MatchOption result (spec.LacksDotsAfter (at - 1) text.now) (λ place. spec.IsLastDots place text.now) }
+{
+    let mut end = count;
+    let mut left = bits_below(marks, count);
+    'marks: while left != 0 {
+        end = highest(left);
+        if has_dots_first(&text[at + end..]) {
+            return Some(at + end);
+        }
+        left = bits_below(left, end);
+    }
+    None
+}
+
+/// The place of the last dot segment of a longer text that follows a slash, of those from `from` on.
+/// The first sixteen places may overlap those after them.
+fn last_dots_by_runs(from: usize, text: &[u8]) -> Option<usize>
+    requires segments { list_all is_segment (slice_split is_slash text.now) ≡ true }
+    requires long { from + 16 < length text.now }
+    ensures { MatchOption result (spec.LacksDotsAfter from text.now) (λ at. spec.IsLastDots at text.now) }
+{
+    let mut end = text.len();
+    'runs: while end - from > 16 {
+        end -= 16;
+        let found = last_dots_marked(text, end, 16, marks_of_heads(text, end));
+        if found.is_some() {
+            return found;
+        }
+    }
+    let marks = marks_of_heads(text, from + 1);
+    last_dots_marked(text, from + 1, end - from - 1, marks)
+}
+
+/// The place of the last dot segment that follows a slash, of those from `from` on.
 pub(super) fn last_dots_after(from: usize, text: &[u8]) -> Option<usize>
     requires segments { list_all is_segment (slice_split is_slash text.now) ≡ true }
     requires within { from ≤ length text.now }
     ensures { MatchOption result (spec.LacksDotsAfter from text.now) (λ at. spec.IsLastDots at text.now) }
 {
-    let mut end = text.len();
-    'runs: while end - from > 16 {
-        let at = end - 16;
-        if may_have_dots(text, at) {
-            let found = last_dots_among(text, at - 1, end - 1);
-            if found.is_some() {
-                return found;
-            }
-        }
-        end = at;
+    if text.len() - from > 16 {
+        last_dots_by_runs(from, text)
+    } else {
+        last_dots_of_short(from, text)
     }
-    last_dots_among(text, from, end)
 }
 
 /// The place of the last dot segment of a text.

@@ -91,26 +91,27 @@ fn copy_into(text: &[u8], out: &mut [u8]) -> Result<usize, BufferError>
     Ok(text.len())
 }
 
-/// The number of bytes of a block in which a text is put together before its length is known.
+/// The number of bytes of the block on the stack in which a short text is put together.
 pub(super) const BLOCK: usize = 256;
 
-/// Whether a block serves a text that is put together from texts of `len` bytes: it is to be written,
-/// not only measured, and is not likely to be longer than the block.
-pub(super) fn serves_block(len: usize, out: &[u8]) -> bool {
-    len <= BLOCK && !out.is_empty()
+/// The number of bytes of the block for a longer text.
+pub(super) const LONG_BLOCK: usize = 2_048;
+
+/// Whether a block of this length serves a text that is put together from texts of `len` bytes: it is
+/// to be written, not only measured, and is not likely to be longer than the block.
+#[inline(always)]
+pub(super) fn serves_block(block: usize, len: usize, out: &[u8]) -> bool {
+    len <= block && !out.is_empty()
 }
 
 /// Copies the text of `len` bytes that the block ends with to the start of the buffer, and returns
 /// its length, if there is room.
-pub(super) fn copy_end(
-    block: &[u8; BLOCK],
-    len: usize,
-    out: &mut [u8],
-) -> Result<usize, BufferError>
-    requires { len ≤ 256 }
+#[inline(always)]
+pub(super) fn copy_end(block: &[u8], len: usize, out: &mut [u8]) -> Result<usize, BufferError>
+    requires { len ≤ length block.now }
     ensures { (t : List ℕ) → EndsWith block.now len t → spec.Writes t result out.old out.new }
 {
-    copy_into(&block[BLOCK - len..], out)
+    copy_into(&block[block.len() - len..], out)
 }
 
 impl<'t> ReferenceView<'t> {
@@ -157,19 +158,47 @@ impl<'t> ReferenceView<'t> {
         self.write_normal(out)
     }
 
-    /// Writes the text of the normal form to the start of the buffer. A short text is put together
-    /// once, in a block, and copied; a longer one, or one whose length alone is wanted, is measured
-    /// first, without a block. Both put the same text, of which the block shows only the end.
+    /// Writes the text of the normal form to the start of the buffer. Most texts are put together once,
+    /// in a block whose end then has the text, and copied; a text that is longer, or whose length alone
+    /// is wanted, is measured first.
     fn write_normal(&self, out: &mut [u8]) -> Result<usize, BufferError>
         ensures { spec.Writes (print (normal self.now.parts)) result out.old out.new }
     {
-        if serves_block(self.text.len(), out) {
-            let mut block = [0; BLOCK];
-            let needed = self.put_normal(&mut block);
-            if needed <= BLOCK {
-                return copy_end(&block, needed, out);
-            }
+        let len = self.text.len();
+        if serves_block(BLOCK, len, out) {
+            self.write_normal_by(&mut [0; BLOCK], out)
+        } else if serves_block(LONG_BLOCK, len, out) {
+            self.write_long_normal(out)
+        } else {
+            self.write_measured_normal(out)
         }
+    }
+
+    /// Writes a longer text. Only its call takes the long block's room on the stack.
+    #[inline(never)]
+    fn write_long_normal(&self, out: &mut [u8]) -> Result<usize, BufferError>
+        ensures { spec.Writes (print (normal self.now.parts)) result out.old out.new }
+    {
+        self.write_normal_by(&mut [0; LONG_BLOCK], out)
+    }
+
+    /// Puts the text together in the block and copies it, if it fits; else it is measured first.
+    #[inline(always)]
+    fn write_normal_by(&self, block: &mut [u8], out: &mut [u8]) -> Result<usize, BufferError>
+        ensures { spec.Writes (print (normal self.now.parts)) result out.old out.new }
+    {
+        let needed = self.put_normal(block);
+        if needed <= block.len() {
+            return copy_end(block, needed, out);
+        }
+        self.write_measured_normal(out)
+    }
+
+    /// Measures the text, and puts it where it belongs, if there is room.
+    #[inline(never)]
+    fn write_measured_normal(&self, out: &mut [u8]) -> Result<usize, BufferError>
+        ensures { spec.Writes (print (normal self.now.parts)) result out.old out.new }
+    {
         let needed = self.put_normal(&mut []);
         if needed > out.len() {
             return Err(BufferError::TooSmall(needed));

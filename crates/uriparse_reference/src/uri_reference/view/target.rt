@@ -11,7 +11,7 @@ ghost use Rattle.uriparse_reference.specs.Into as spec;
 
 use super::super::error::BufferError;
 use super::ReferenceView;
-use super::into::{BLOCK, copy_end, put_end, put_front, serves_block};
+use super::into::{BLOCK, LONG_BLOCK, copy_end, put_end, put_front, serves_block};
 use uriparse_path::internal::{put_merged, put_undotted};
 use uriparse_path::path::MAX_SEGMENTS;
 use uriparse_text::internal::{Form, put};
@@ -159,9 +159,9 @@ impl<'t> ReferenceView<'t> {
         }
     }
 
-    /// Writes the text of the target to the start of the buffer. A short text is put together once,
-    /// in a block, and copied; a longer one, or one whose length alone is wanted, is measured first,
-    /// without a block. Both put the same text, of which the block shows only the end.
+    /// Writes the text of the target to the start of the buffer. Most texts are put together once, in a
+    /// block whose end then has the text, and copied; a text that is longer, or whose length alone is
+    /// wanted, is measured first.
     fn write_target(
         &self,
         reference: &ReferenceView<'_>,
@@ -170,13 +170,57 @@ impl<'t> ReferenceView<'t> {
         requires { is_merged reference.now.parts ≡ true → length (pieces (merge self.now.parts reference.now.parts)) ≤ max_segments }
         ensures { spec.Writes (spec.print_if (target self.now.parts reference.now.parts)) result out.old out.new }
     {
-        if serves_block(self.source_len(reference), out) {
-            let mut block = [0; BLOCK];
-            let needed = self.put_target(reference, &mut block);
-            if needed <= BLOCK {
-                return copy_end(&block, needed, out);
-            }
+        let len = self.source_len(reference);
+        if serves_block(BLOCK, len, out) {
+            self.write_target_by(reference, &mut [0; BLOCK], out)
+        } else if serves_block(LONG_BLOCK, len, out) {
+            self.write_long_target(reference, out)
+        } else {
+            self.write_measured_target(reference, out)
         }
+    }
+
+    /// Writes a longer text. Only its call takes the long block's room on the stack.
+    #[inline(never)]
+    fn write_long_target(
+        &self,
+        reference: &ReferenceView<'_>,
+        out: &mut [u8],
+    ) -> Result<usize, BufferError>
+        requires { is_merged reference.now.parts ≡ true → length (pieces (merge self.now.parts reference.now.parts)) ≤ max_segments }
+        ensures { spec.Writes (spec.print_if (target self.now.parts reference.now.parts)) result out.old out.new }
+    {
+        self.write_target_by(reference, &mut [0; LONG_BLOCK], out)
+    }
+
+    /// Puts the text together in the block and copies it, if it fits; else it is measured first.
+    #[inline(always)]
+    fn write_target_by(
+        &self,
+        reference: &ReferenceView<'_>,
+        block: &mut [u8],
+        out: &mut [u8],
+    ) -> Result<usize, BufferError>
+        requires { is_merged reference.now.parts ≡ true → length (pieces (merge self.now.parts reference.now.parts)) ≤ max_segments }
+        ensures { spec.Writes (spec.print_if (target self.now.parts reference.now.parts)) result out.old out.new }
+    {
+        let needed = self.put_target(reference, block);
+        if needed <= block.len() {
+            return copy_end(block, needed, out);
+        }
+        self.write_measured_target(reference, out)
+    }
+
+    /// Measures the text, and puts it where it belongs, if there is room.
+    #[inline(never)]
+    fn write_measured_target(
+        &self,
+        reference: &ReferenceView<'_>,
+        out: &mut [u8],
+    ) -> Result<usize, BufferError>
+        requires { is_merged reference.now.parts ≡ true → length (pieces (merge self.now.parts reference.now.parts)) ≤ max_segments }
+        ensures { spec.Writes (spec.print_if (target self.now.parts reference.now.parts)) result out.old out.new }
+    {
         let needed = self.put_target(reference, &mut []);
         if needed > out.len() {
             return Err(BufferError::TooSmall(needed));

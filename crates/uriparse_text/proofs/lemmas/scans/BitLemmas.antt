@@ -2,7 +2,7 @@
 use Rattle.std.proofs.Common.{◌≡◌, ℕ, zero, suc, ◌+◌, ◌-◌, ◌*◌, ◌/◌, ◌%◌, ◌^◌, ◌<◌, ◌≤◌, refl, sym, ap, ◌∙◌, arith, bit_and, count_ones}
 use Rattle.std.specs.Int.{bit_at}
 use Rattle.std.proofs.lemmas.Nat.{shr-shr, shr_split, mod-pow-add, ones_cat}
-use Rattle.std.proofs.lemmas.Nat.Bits.{bit_at_lowest, bit_at-suc, bit_at_cat_low, bit_at_cat_high, bit_at_and, bit_at-lt, bit_at-zero}
+use Rattle.std.proofs.lemmas.Nat.Bits.{bit_at_lowest, bit_at-suc, bit_at_above, bit_at_cat_low, bit_at_cat_high, bit_at_and, bit_at-lt, bit_at-zero}
 use Rattle.std.proofs.Math.Nat.{mod-lt, mod-eq_of_lt, two-pow-succ, pow-le-pow_right}
 use Rattle.std.proofs.Common.{pow_pos}
 
@@ -34,11 +34,24 @@ none_adjacent first later none k set =
     let unset : bit_at (bit_and first (later / 2 ^ 1)) k ≡ 0 = ap (λ m. bit_at m k) none ∙ bit_at-zero k in
     omega (arith, bit_at_and first (later / 2 ^ 1) k, bit_at-lt (later / 2 ^ 1) k, bit_at_shr later 1 k, set, unset)
 
+-- the bits of m below a place
+pub below-kept : (m p k : ℕ) → k < p → bit_at (m % 2 ^ p) k ≡ bit_at m k
+below-kept m p k h = sym (bit_at_cat_low (m / 2 ^ p) p (m % 2 ^ p) k h) ∙ ap (λ x. bit_at x k) (shr_split m p)
+
+pub below-gone : (m p k : ℕ) → p ≤ k → bit_at (m % 2 ^ p) k ≡ 0
+below-gone m p k h = bit_at_above (m % 2 ^ p) p k (mod-lt m (pow_pos p)) h
+
+-- the highest bit of m
+pub highest-set : (m k : ℕ) → 2 ^ k ≤ m → m < 2 ^ suc k → bit_at m k ≡ 1
+highest-set m k least most =
+    let whole : 1 * 2 ^ k + (m - 2 ^ k) ≡ m = omega (arith, least) in
+    let fits : m - 2 ^ k < 2 ^ k = omega (arith, least, most, two-pow-succ k) in
+    let none : k - k ≡ 0 = omega arith in
+    ap (λ x. bit_at x k) (sym whole) ∙ bit_at_cat_high 1 k (m - 2 ^ k) k fits (omega arith) ∙ ap (bit_at 1) none
+
 -- the bits of m from s on, over its lowest w bits
 pub joined-low : (m s w k : ℕ) → k < w → bit_at (m / 2 ^ s * 2 ^ w + m % 2 ^ w) k ≡ bit_at m k
-joined-low m s w k h =
-    bit_at_cat_low (m / 2 ^ s) w (m % 2 ^ w) k h
-    ∙ sym (bit_at_cat_low (m / 2 ^ w) w (m % 2 ^ w) k h) ∙ ap (λ x. bit_at x k) (shr_split m w)
+joined-low m s w k h = bit_at_cat_low (m / 2 ^ s) w (m % 2 ^ w) k h ∙ below-kept m w k h
 
 pub joined-high : (m s w k : ℕ) → w ≤ k → bit_at (m / 2 ^ s * 2 ^ w + m % 2 ^ w) k ≡ bit_at m (s + (k - w))
 joined-high m s w k h =

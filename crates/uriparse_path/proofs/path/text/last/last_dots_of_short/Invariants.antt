@@ -1,11 +1,11 @@
-use Rattle.std.proofs.Common.{◌-◌, ◌≤◌}
+use Rattle.std.proofs.Common.{◌-◌, ◌≤◌, length}
 use Rattle.uriparse_path.specs.Last.{LacksDotsAfter}
-use Rattle.uriparse_path.proofs.path.text.last.last_dots_among.Given as goal
+use Rattle.uriparse_path.proofs.path.text.last.last_dots_of_short.Given as goal
 
 abbrev pub invariant-bytes : goal.invariant-bytes
 invariant-bytes l = record {
   order : l.from ≤ l.at;
-  below : l.at ≤ l.end;
+  within : l.at ≤ length l.text;
   later : LacksDotsAfter l.at l.text;
 }
 

@@ -1,10 +1,10 @@
-use Rattle.std.proofs.Common.{◌-◌, ◌≤◌, length}
+use Rattle.std.proofs.Common.{◌-◌, ◌<◌, ◌≤◌, length}
 use Rattle.uriparse_path.specs.Last.{LacksDotsAfter}
-use Rattle.uriparse_path.proofs.path.text.last.last_dots_after.Given as goal
+use Rattle.uriparse_path.proofs.path.text.last.last_dots_by_runs.Given as goal
 
 abbrev pub invariant-runs : goal.invariant-runs
 invariant-runs l = record {
-  order : l.from ≤ l.end;
+  some : l.from < l.end;
   within : l.end ≤ length l.text;
   later : LacksDotsAfter (l.end - 1) l.text;
 }
