@@ -6,7 +6,7 @@ ghost use Rattle.std.specs.Io.Buffered.{reader_buffer, reader_inner, reader_rema
 ghost use Rattle.std.specs.Io.KnownBytes.{Consumes, IsAtEnd};
 ghost use Rattle.std.specs.Io.KnownBytes.{Appends};
 ghost use Rattle.uriparse_text.specs.Cuts.{lacks};
-ghost use Rattle.uri_commands.specs.Columns as columns;
+ghost use Rattle.uri_commands.specs.Columns as spec;
 ghost use Rattle.uri_commands.specs.Lines.{newline};
 
 use crate::columns::{Columns, write_line, write_row};
@@ -222,7 +222,7 @@ fn do_row<O: Write, E: Write>(
     err: &mut E,
 ) -> Result<Outcome, Failure>
     requires { 0 < work.now.width }
-    ensures row { OnOk result ((row : List ℕ) × columns.IsRow columns.first work.now.width columns.appends line.now row × Appends (O.contents out.old) (O.contents out.new) (row ++ newline ∷ [])) }
+    ensures row { OnOk result ((row : List ℕ) × spec.IsRow columns.first work.now.width columns.appends line.now row × Appends (O.contents out.old) (O.contents out.new) (row ++ newline ∷ [])) }
     ensures one { lacks newline line.now ≡ true → OnOk result ((row : List ℕ) × (lacks newline row ≡ true) × Appends (O.contents out.old) (O.contents out.new) (row ++ newline ∷ [])) }
 {
     let Some(cut) = columns.cut(line, work.width) else {
