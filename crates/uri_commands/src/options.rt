@@ -1,5 +1,7 @@
 //! The options that precede a command.
 
+ghost use Rattle.std.specs.Prelude.{◌<◌, ◌≤◌, IfSome, length};
+
 use crate::columns::Columns;
 
 /// What a command prints, and of which text, as the options say that exclude each other.
@@ -60,43 +62,40 @@ impl Options {
         Options { columns, ..self }
     }
 
-    /// The options with the one that the words begin with, and the words that follow it.
-    fn read<'w, 't>(self, words: &'w [&'t str]) -> Option<(Options, &'w [&'t str])> {
-        let (options, later) = match words {
-            ["--lines", later @ ..] => (
-                Options {
-                    reads_lines: true,
+    /// The options with the one that the words begin with, and how many words that is.
+    fn read(self, words: &[&str]) -> Option<(Options, usize)>
+        ensures { IfSome result (λ r. (0 < r.1) × (r.1 ≤ length words.now)) }
+    {
+        match words {
+            ["--lines", ..] => {
+                let reads_lines = true;
+                let more = Options {
+                    reads_lines,
                     ..self
-                },
-                later,
-            ),
-            ["--explain", later @ ..] => (
-                Options {
-                    explains: true,
-                    ..self
-                },
-                later,
-            ),
-            ["--json", later @ ..] => (self.with_manner(Manner::Json), later),
-            ["--quiet", later @ ..] => (self.with_manner(Manner::Quiet), later),
-            ["--trim", later @ ..] => (self.with_manner(Manner::Trim), later),
-            ["--drop-default-port", later @ ..] => {
-                (self.with_manner(Manner::DropDefaultPort), later)
+                };
+                Some((more, 1))
             }
-            ["--align", later @ ..] => (self.with_columns(self.columns_or_whole()), later),
-            ["--append", later @ ..] => {
+            ["--explain", ..] => {
+                let explains = true;
+                Some((Options { explains, ..self }, 1))
+            }
+            ["--json", ..] => Some((self.with_manner(Manner::Json), 1)),
+            ["--quiet", ..] => Some((self.with_manner(Manner::Quiet), 1)),
+            ["--trim", ..] => Some((self.with_manner(Manner::Trim), 1)),
+            ["--drop-default-port", ..] => Some((self.with_manner(Manner::DropDefaultPort), 1)),
+            ["--align", ..] => Some((self.with_columns(self.columns_or_whole()), 1)),
+            ["--append", ..] => {
                 let appends = true;
                 let columns = self.columns_or_whole();
-                (self.with_columns(Columns { appends, ..columns }), later)
+                Some((self.with_columns(Columns { appends, ..columns }), 1))
             }
-            ["--column", number, later @ ..] => {
+            ["--column", number, ..] => {
                 let first = Some(read_column(number)?);
                 let columns = self.columns_or_whole();
-                (self.with_columns(Columns { first, ..columns }), later)
+                Some((self.with_columns(Columns { first, ..columns }), 2))
             }
-            _ => return None,
-        };
-        Some((options, later))
+            _ => None,
+        }
     }
 }
 
@@ -115,10 +114,10 @@ pub fn split_options<'w, 't>(words: &'w [&'t str]) -> (Options, &'w [&'t str]) {
         columns: None,
         manner: Manner::Plain,
     };
-    let mut rest = words;
-    'options: while let Some((more, later)) = options.read(rest) {
+    let mut at = 0;
+    'options: while let Some((more, count)) = options.read(&words[at..]) {
         options = more;
-        rest = later;
+        at += count;
     }
-    (options, rest)
+    (options, &words[at..])
 }
