@@ -1,5 +1,6 @@
 //! The commands' output and statuses.
 
+mod columns;
 mod escapes;
 mod explain;
 mod files;

@@ -1,6 +1,8 @@
 //! The table of the commands: what `uri help` says of each, the words that it takes, and how it
 //! runs on the texts among its words and on each line of an input.
 
+ghost use Rattle.std.specs.Prelude.{◌<◌};
+
 use crate::decode::{self, decode};
 use crate::edit::{self, edit};
 use crate::encode::{self, encode};
@@ -8,7 +10,7 @@ use crate::equal::{self, equal, equal_pair};
 use crate::escape::{self, escape, escape_link};
 use crate::failure::Failure;
 use crate::file::{self, file, get_file};
-use crate::get::{self, Part, get, get_or_empty, read_part};
+use crate::get::{self, Part, get, get_or_empty, get_parts, read_part, read_parts};
 use crate::help::{self, help, help_on, version};
 use crate::json::{self, parse_json};
 use crate::normalize::{self, normalize, normalize_port, normalize_with};
@@ -20,13 +22,13 @@ use crate::relativize::{self, relativize};
 use crate::resolve::{self, resolve, resolve_with};
 use crate::tail::{self, tail};
 use crate::topic::Topic;
-use crate::{explain, lines};
+use crate::{columns, explain, lines};
 use std::alloc::Global;
 use std::io::Write;
 use uriparse::URIView;
 
 /// The commands and the options, in the order of `uri help`.
-pub static TOPICS: [Topic; 20] = [
+pub static TOPICS: [Topic; 22] = [
     parse::ABOUT,
     tail::ABOUT,
     get::ABOUT,
@@ -47,6 +49,8 @@ pub static TOPICS: [Topic; 20] = [
     normalize::ABOUT_DROP_DEFAULT_PORT,
     escape::ABOUT_TRIM,
     lines::ABOUT,
+    columns::ABOUT_ALIGN,
+    columns::ABOUT_COLUMN,
 ];
 
 /// Whether `--explain` is absent, or may precede the command of these words.
@@ -67,7 +71,7 @@ pub fn run_texts<O: Write>(
     out: &mut O,
 ) -> Result<(), Failure> {
     match (options.manner, words) {
-        _ if !may_explain(options, words) => Err(Failure::Usage),
+        _ if !may_explain(options, words) || options.columns.is_some() => Err(Failure::Usage),
         (Manner::Plain, ["parse", text]) => parse(alloc, text, out),
         (Manner::Json, ["parse", text]) => parse_json(text.as_bytes(), out),
         (Manner::Quiet, ["parse", text]) => check(text.as_bytes()),
@@ -109,6 +113,8 @@ pub enum Task<'w> {
     Check,
     /// Print this part of the reference, or an empty line if it is absent.
     Get(Part),
+    /// Print these parts of the reference, with tabs between them.
+    GetParts(Vec<Part>),
     /// Print the reference's normal form.
     Normalize,
     /// Print the normal form without a port that is the scheme's default one.
@@ -127,11 +133,15 @@ pub enum Task<'w> {
 
 impl<'w> Task<'w> {
     /// Reads a task from the words of the command. A base is read here, before any line.
-    pub fn read(options: Options, words: &[&'w str]) -> Result<Task<'w>, Failure> {
+    pub fn read(alloc: Global, options: Options, words: &[&'w str]) -> Result<Task<'w>, Failure> {
         match (options.manner, words) {
             _ if !may_explain(options, words) => Err(Failure::Usage),
+            (Manner::Quiet, _) if options.columns.is_some() => Err(Failure::Usage),
             (Manner::Plain | Manner::Json, ["parse"]) => Ok(Task::Parse),
             (Manner::Quiet, ["parse"]) => Ok(Task::Check),
+            (Manner::Plain, ["get", names]) if names.contains(',') => {
+                Ok(Task::GetParts(read_parts(alloc, names)?))
+            }
             (Manner::Plain, ["get", part]) => Ok(Task::Get(read_part(part)?)),
             (Manner::Plain, ["normalize"]) => Ok(Task::Normalize),
             (Manner::DropDefaultPort, ["normalize"]) => Ok(Task::NormalizePort),
@@ -156,6 +166,7 @@ impl<'w> Task<'w> {
             Task::Parse => parse_json(line, out),
             Task::Check => check(line),
             Task::Get(part) => get_or_empty(alloc, *part, line, out),
+            Task::GetParts(parts) => get_parts(alloc, parts, line, out),
             Task::Normalize => normalize_with(buffer, line, out),
             Task::NormalizePort => normalize_port(alloc, line, out),
             Task::Equal => equal_pair(line, out),
@@ -163,6 +174,24 @@ impl<'w> Task<'w> {
             Task::Resolve(base) => resolve_with(buffer, base, line, out),
             Task::Escape => escape(alloc, line, out),
             Task::EscapeLink => escape_link(alloc, line, out),
+        }
+    }
+
+    /// How many fields of a line the task reads.
+    pub fn width(&self) -> usize
+        ensures { 0 < result }
+    {
+        match self {
+            Task::Equal | Task::CheckEqual => 2,
+            _ => 1,
+        }
+    }
+
+    /// How many fields the task prints.
+    pub fn printed_fields(&self) -> usize {
+        match self {
+            Task::GetParts(parts) => parts.len(),
+            _ => 1,
         }
     }
 

@@ -35,6 +35,9 @@ pub enum Failure {
     /// A line that should hold two texts.
     #[error("no tab between two texts")]
     NoTab,
+    /// A line without the fields that a command reads.
+    #[error("too few fields")]
+    TooFewFields,
     /// A part that the reference doesn't have. The status alone reports it.
     #[error("absent")]
     Absent,

@@ -1,7 +1,6 @@
 //! `uri get PART TEXT`: one component of a reference, alone.
 
 use crate::failure::Failure;
-use crate::print::{print_bytes, print_line};
 use crate::topic::Topic;
 use std::alloc::Global;
 use std::fmt::Display;
@@ -16,12 +15,12 @@ uri get PART TEXT     that part alone: scheme, authority, username, password,
 ",
     page: "\
 uri get PART TEXT
-uri --lines get PART
+uri --lines get PART[,PART..]
 
 Prints one part of the reference: scheme, authority, username, password, host,
 port, path, query, fragment or origin. An IPv6 address has its brackets. With
---lines an absent part is an empty line, and the status is 0. For
-`uri get file URI` see uri help file.
+--lines an absent part is an empty line, and the status is 0; several parts are
+printed with tabs between them. For `uri get file URI` see uri help file.
 
 The origin is scheme, host and port, by which RFC 6454 compares URIs, in one
 spelling: scheme and host in lower case, with no escape that isn't needed, and
@@ -81,11 +80,10 @@ pub fn get<O: Write>(alloc: Global, name: &str, text: &[u8], out: &mut O) -> Res
 /// Reads the text, and prints the component, or fails with `Failure::Absent`.
 fn get_part<O: Write>(alloc: Global, part: Part, text: &[u8], out: &mut O) -> Result<(), Failure> {
     let reference = ReferenceView::try_from_bytes(text)?;
-    if print_part_of(alloc, &reference, part, out)? {
-        Ok(())
-    } else {
-        Err(Failure::Absent)
+    if !write_part(alloc, &reference, part, out)? {
+        return Err(Failure::Absent);
     }
+    out.write_all(b"\n").map_err(Failure::Io)
 }
 
 /// Prints the component of a line's reference, or an empty line if it is absent.
@@ -101,40 +99,66 @@ pub fn get_or_empty<O: Write>(
     }
 }
 
-/// Prints the component, and returns whether it is present.
-fn print_part_of<O: Write>(
+/// The components of these names, which commas separate.
+pub fn read_parts(alloc: Global, names: &str) -> Result<Vec<Part>, Failure> {
+    let mut parts = Vec::new(alloc);
+    for name in names.split(',') {
+        parts.push(read_part(name)?)?;
+    }
+    Ok(parts)
+}
+
+/// Prints the components of a line's reference, with tabs between them. One that is absent is empty.
+pub fn get_parts<O: Write>(
+    alloc: Global,
+    parts: &[Part],
+    line: &[u8],
+    out: &mut O,
+) -> Result<(), Failure> {
+    let reference = ReferenceView::try_from_bytes(line)?;
+    let mut separator: &[u8] = b"";
+    for part in parts {
+        out.write_all(separator)?;
+        write_part(alloc, &reference, *part, out)?;
+        separator = b"\t";
+    }
+    out.write_all(b"\n").map_err(Failure::Io)
+}
+
+/// Writes the component, and returns whether it is present.
+fn write_part<O: Write>(
     alloc: Global,
     reference: &ReferenceView<'_>,
     part: Part,
     out: &mut O,
 ) -> Result<bool, Failure> {
     match part {
-        Part::Scheme => print_present(reference.scheme().as_ref(), out),
-        Part::Authority => print_present(reference.authority().as_ref(), out),
-        Part::Username => print_present(reference.username().as_ref(), out),
-        Part::Password => print_present(reference.password().as_ref(), out),
-        Part::Host => print_present(reference.host().as_ref(), out),
-        Part::Port => print_present(reference.port().as_ref(), out),
-        Part::Path => print_present(Some(&reference.path()), out),
-        Part::Query => print_present(reference.query().as_ref(), out),
-        Part::Fragment => print_present(reference.fragment().as_ref(), out),
-        Part::Origin => print_origin(alloc, reference, out),
+        Part::Scheme => write_present(reference.scheme().as_ref(), out),
+        Part::Authority => write_present(reference.authority().as_ref(), out),
+        Part::Username => write_present(reference.username().as_ref(), out),
+        Part::Password => write_present(reference.password().as_ref(), out),
+        Part::Host => write_present(reference.host().as_ref(), out),
+        Part::Port => write_present(reference.port().as_ref(), out),
+        Part::Path => write_present(Some(&reference.path()), out),
+        Part::Query => write_present(reference.query().as_ref(), out),
+        Part::Fragment => write_present(reference.fragment().as_ref(), out),
+        Part::Origin => write_origin(alloc, reference, out),
     }
 }
 
-/// Prints the value if it is present, and returns whether it is.
-fn print_present<T: Display, O: Write>(value: Option<&T>, out: &mut O) -> Result<bool, Failure> {
+/// Writes the value if it is present, and returns whether it is.
+fn write_present<T: Display, O: Write>(value: Option<&T>, out: &mut O) -> Result<bool, Failure> {
     match value {
         Some(value) => {
-            print_line(value, out)?;
+            write!(out, "{value}")?;
             Ok(true)
         }
         None => Ok(false),
     }
 }
 
-/// Prints the origin if the reference is a URI that has one, and returns whether it is.
-fn print_origin<O: Write>(
+/// Writes the origin if the reference is a URI that has one, and returns whether it is.
+fn write_origin<O: Write>(
     alloc: Global,
     reference: &ReferenceView<'_>,
     out: &mut O,
@@ -145,7 +169,7 @@ fn print_origin<O: Write>(
     match uri.origin() {
         Some(origin) => {
             let text = origin.to_string(alloc)?;
-            print_bytes(text.as_bytes(), out)?;
+            out.write_all(text.as_bytes())?;
             Ok(true)
         }
         None => Ok(false),

@@ -18,8 +18,8 @@ uri help COMMAND
 uri --help
 
 Prints the commands, or more on one of them or on one of the options --json,
---quiet, --explain, --trim and --lines. Options come before the command, in any
-order: a word after the command is a text.
+--quiet, --explain, --trim, --lines, --align and --column. Options come before
+the command, in any order: a word after the command is a text.
 
 Exit status: 0 on success, 2 on a usage error. Every command ends with 1 if
 memory runs out, a read or a write fails, or an argument is not UTF-8.

@@ -1,11 +1,15 @@
 //! `uri --lines COMMAND`: a command for each line of the standard input.
 
-ghost use Rattle.std.specs.Prelude.{◌≡◌, ◌≢◌, [], ◌∷◌, ◌++◌, ◌<◌, ◌≤◌, All, Contains, IsErr, IsOk, Ok, false, length, take, true, IfOk, IfSome, OnErr, OnOk};
+ghost use Rattle.std.specs.Prelude.{◌≡◌, ◌≢◌, ℕ, List, [], ◌∷◌, ◌++◌, ◌<◌, ◌≤◌, All, Contains, IsErr, IsOk, Ok, false, length, take, true, IfOk, IfSome, OnErr, OnOk};
 ghost use Rattle.std.specs.Io.BufRead.{DropsThrough, first_piece, strip_last};
 ghost use Rattle.std.specs.Io.Buffered.{reader_buffer, reader_inner, reader_remaining};
 ghost use Rattle.std.specs.Io.KnownBytes.{Consumes, IsAtEnd};
+ghost use Rattle.std.specs.Io.KnownBytes.{Appends};
+ghost use Rattle.uriparse_text.specs.Cuts.{lacks};
+ghost use Rattle.uri_commands.specs.Columns as spec;
 ghost use Rattle.uri_commands.specs.Lines.{newline};
 
+use crate::columns::{Columns, write_line, write_row};
 use crate::commands::Task;
 use crate::explain::explain_line;
 use crate::failure::Failure;
@@ -20,7 +24,7 @@ pub const ABOUT: Topic = Topic {
     name: "--lines",
     summary: "\
 uri --lines parse, uri --lines normalize, uri --lines resolve BASE,
-uri --lines get PART, uri --lines equal, uri --lines escape,
+uri --lines get PART[,PART..], uri --lines equal, uri --lines escape,
 uri --lines --trim escape, uri --lines --drop-default-port normalize
                       the same for each line of the standard input;
                       parse prints JSON objects
@@ -29,7 +33,7 @@ uri --lines --trim escape, uri --lines --drop-default-port normalize
 uri --lines parse
 uri --lines normalize
 uri --lines resolve BASE
-uri --lines get PART
+uri --lines get PART[,PART..]
 uri --lines equal
 uri --lines escape
 uri --lines --trim escape
@@ -41,11 +45,15 @@ uri --lines --explain resolve BASE
 
 Runs the command for each line of the standard input, and prints one line for
 each, in order. A line is one text, or for equal two, separated by a tab; parse
-prints JSON objects. Lines are bytes and of any length, and end with a newline
+prints JSON objects; get with several parts prints them with tabs between them.
+Lines are bytes and of any length, and end with a newline
 alone: a carriage return is part of the text, which is rejected for it, or with
 escape is escaped, or taken off by --trim. A rejected line is reported as
 `line N: ERROR: TEXT` on the standard error, prints nothing else, and the work
 goes on. It ends early if memory runs out, or a read or a write fails.
+
+For a line of output for each line see uri help --align, and for lines of fields
+uri help --column.
 
 Exit status: 0 on success, 1 if a line is rejected or the work ends early, 2 on
 a usage error, 3 with --quiet if no line is rejected and two references differ.
@@ -121,6 +129,27 @@ pub fn read_line<I: BufRead>(input: &mut I, line: &mut Vec<u8>) -> io::Result<bo
     Ok(is_line)
 }
 
+/// What is done with each line.
+#[derive(Drop)]
+struct Work<'w> {
+    alloc: Global,
+    explains: bool,
+    task: Task<'w>,
+    /// A line goes out for each line, with these columns.
+    columns: Option<Columns>,
+    /// How many fields the task reads.
+    width: usize,
+}
+
+/// What the work on a line uses and the next line can use again.
+#[derive(Drop)]
+struct Buffers {
+    /// Normal forms and targets are put together here.
+    form: Vec<u8>,
+    /// What the task prints, before it goes out as part of a line.
+    printed: Vec<u8>,
+}
+
 /// Reports a rejected line. If `explains` is set and the line is no reference, three lines say where
 /// it is wrong.
 fn report<E: Write>(
@@ -141,27 +170,70 @@ fn report<E: Write>(
 /// Does the task for a line, and reports a rejection unless the task is quiet. Fails if memory runs
 /// out or a write fails.
 fn do_line<O: Write, E: Write>(
-    alloc: Global,
-    explains: bool,
-    task: &Task<'_>,
+    work: &Work<'_>,
     buffer: &mut Vec<u8>,
     number: u64,
     line: &[u8],
     out: &mut O,
     err: &mut E,
 ) -> Result<Outcome, Failure> {
-    match task.run(alloc, buffer, line, out) {
+    match work.task.run(work.alloc, buffer, line, out) {
         Ok(()) => Ok(Outcome::Done),
         Err(Failure::Different) => Ok(Outcome::Different),
         Err(failure) if failure.ends_work() => Err(failure),
         Err(failure) => {
-            if !task.is_quiet() {
+            if !work.task.is_quiet() {
                 // The status reports a rejection that can't be written either.
-                let _ = report(explains, number, &failure, line, err);
+                let _ = report(work.explains, number, &failure, line, err);
             }
             Ok(Outcome::Rejected)
         }
     }
+}
+
+/// Prints the result for a line's text to the buffer. A rejected text has as many fields, all empty.
+fn print_result<E: Write>(
+    work: &Work<'_>,
+    buffers: &mut Buffers,
+    number: u64,
+    text: &[u8],
+    err: &mut E,
+) -> Result<Outcome, Failure> {
+    let Buffers { form, printed } = buffers;
+    printed.clear();
+    let outcome = do_line(work, form, number, text, printed, err)?;
+    if outcome == Outcome::Rejected {
+        printed.clear();
+        printed.resize(work.task.printed_fields().saturating_sub(1), b'\t')?;
+    }
+    Ok(outcome)
+}
+
+/// Does the task for the text of a line, and writes the line with the result in place. A line with too
+/// few fields is reported, and written as it is. Exactly one line goes out.
+#[tactic(auto, using(crate::proofs::ColumnLemmas::row_lacks))]
+fn do_row<O: Write, E: Write>(
+    work: &Work<'_>,
+    columns: Columns,
+    buffers: &mut Buffers,
+    number: u64,
+    line: &[u8],
+    out: &mut O,
+    err: &mut E,
+) -> Result<Outcome, Failure>
+    requires { 0 < work.now.width }
+    ensures row { OnOk result ((row : List ℕ) × spec.IsRow columns.first work.now.width columns.appends line.now row × Appends (O.contents out.old) (O.contents out.new) (row ++ newline ∷ [])) }
+    ensures one { lacks newline line.now ≡ true → OnOk result ((row : List ℕ) × (lacks newline row ≡ true) × Appends (O.contents out.old) (O.contents out.new) (row ++ newline ∷ [])) }
+{
+    let Some(cut) = columns.cut(line, work.width) else {
+        // The status reports a rejection that can't be written either.
+        let _ = report(false, number, &Failure::TooFewFields, line, err);
+        write_line(line, out)?;
+        return Ok(Outcome::Rejected);
+    };
+    let outcome = print_result(work, buffers, number, cut.text, err)?;
+    write_row(&cut, columns.appends, &buffers.printed, out)?;
+    Ok(outcome)
 }
 
 /// Takes the next line, with its newline, from a reader that holds it whole, and copies it to the
@@ -223,27 +295,32 @@ pub fn next_line<I: Read, O: Write>(
     read_line(input, line)
 }
 
-/// Does the task for each line, and returns the worst outcome. `written` gets the first error of a
+/// Does the work on each line, and returns the worst outcome. `written` gets the first error of a
 /// write before a wait.
 fn do_lines<I: Read, O: Write, E: Write>(
-    alloc: Global,
-    explains: bool,
-    task: &Task<'_>,
+    work: &Work<'_>,
     input: &mut BufReader<I>,
     out: &mut O,
     written: &mut io::Result<()>,
     err: &mut E,
 ) -> Result<Outcome, Failure>
+    requires { 0 < work.now.width }
     ensures { IsErr written.old → written.new ≡ written.old }
 {
     let mut worst = Outcome::Done;
-    let mut line = Vec::new(alloc);
-    let mut buffer = Vec::new(alloc);
+    let mut line = Vec::new(work.alloc);
+    let mut buffers = Buffers {
+        form: Vec::new(work.alloc),
+        printed: Vec::new(work.alloc),
+    };
     'lines: for number in 1..u64::MAX {
         if !next_line(input, &mut line, out, written)? {
             break;
         }
-        let outcome = do_line(alloc, explains, task, &mut buffer, number, &line, out, err)?;
+        let outcome = match work.columns {
+            Some(columns) => do_row(work, columns, &mut buffers, number, &line, out, err)?,
+            None => do_line(work, &mut buffers.form, number, &line, out, err)?,
+        };
         worst = worst.max(outcome);
     }
     Ok(worst)
@@ -252,25 +329,17 @@ fn do_lines<I: Read, O: Write, E: Write>(
 /// Does the task for each line with buffered output, which is written even if the work ends early.
 /// Of several errors the first is returned.
 fn do_buffered<I: Read, O: Write, E: Write>(
-    alloc: Global,
-    explains: bool,
-    task: &Task<'_>,
+    work: &Work<'_>,
     input: &mut BufReader<I>,
     out: &mut O,
     err: &mut E,
-) -> Result<Outcome, Failure> {
-    let mut out = BufWriter::with_capacity(alloc, CAPACITY, out)?;
-    let mut err = BufWriter::with_capacity(alloc, CAPACITY, err)?;
+) -> Result<Outcome, Failure>
+    requires { 0 < work.now.width }
+{
+    let mut out = BufWriter::with_capacity(work.alloc, CAPACITY, out)?;
+    let mut err = BufWriter::with_capacity(work.alloc, CAPACITY, err)?;
     let mut written = Ok(());
-    let worst = do_lines(
-        alloc,
-        explains,
-        task,
-        input,
-        &mut out,
-        &mut written,
-        &mut err,
-    );
+    let worst = do_lines(work, input, &mut out, &mut written, &mut err);
     let flushed = out.flush();
     // The status reports rejections that can't be written either.
     let _ = err.flush();
@@ -296,8 +365,15 @@ pub fn lines<I: Read, O: Write, E: Write>(
 ) -> Result<u8, Failure>
     ensures { IfOk result (λ status. status ≤ 3) }
 {
-    let task = Task::read(options, words)?;
+    let task = Task::read(alloc, options, words)?;
+    let work = Work {
+        alloc,
+        explains: options.explains,
+        columns: options.columns,
+        width: task.width(),
+        task,
+    };
     let mut input = BufReader::with_capacity(alloc, CAPACITY, input)?;
-    let worst = do_buffered(alloc, options.explains, &task, &mut input, out, err)?;
+    let worst = do_buffered(&work, &mut input, out, err)?;
     Ok(worst.status())
 }

@@ -1,5 +1,9 @@
 //! The options that precede a command.
 
+ghost use Rattle.std.specs.Prelude.{◌<◌, ◌≤◌, IfSome, length};
+
+use crate::columns::Columns;
+
 /// What a command prints, and of which text, as the options say that exclude each other.
 #[derive(Clone, Copy, PartialEq, Eq)]
 pub enum Manner {
@@ -35,7 +39,69 @@ pub struct Options {
     pub reads_lines: bool,
     /// `--explain`: three lines say where a rejected text is wrong, and why.
     pub explains: bool,
+    /// `--align`, `--column K`, `--append`: a line goes out for each line, with these fields.
+    pub columns: Option<Columns>,
     pub manner: Manner,
+}
+
+impl Options {
+    /// The options with one more manner.
+    fn with_manner(self, manner: Manner) -> Options {
+        let manner = self.manner.with(manner);
+        Options { manner, ..self }
+    }
+
+    /// The columns that the options name so far.
+    fn columns_or_whole(self) -> Columns {
+        self.columns.unwrap_or(Columns::WHOLE)
+    }
+
+    /// The options with these columns.
+    fn with_columns(self, columns: Columns) -> Options {
+        let columns = Some(columns);
+        Options { columns, ..self }
+    }
+
+    /// The options with the one that the words begin with, and how many words that is.
+    fn read(self, words: &[&str]) -> Option<(Options, usize)>
+        ensures { IfSome result (λ r. (0 < r.1) × (r.1 ≤ length words.now)) }
+    {
+        match words {
+            ["--lines", ..] => {
+                let reads_lines = true;
+                let more = Options {
+                    reads_lines,
+                    ..self
+                };
+                Some((more, 1))
+            }
+            ["--explain", ..] => {
+                let explains = true;
+                Some((Options { explains, ..self }, 1))
+            }
+            ["--json", ..] => Some((self.with_manner(Manner::Json), 1)),
+            ["--quiet", ..] => Some((self.with_manner(Manner::Quiet), 1)),
+            ["--trim", ..] => Some((self.with_manner(Manner::Trim), 1)),
+            ["--drop-default-port", ..] => Some((self.with_manner(Manner::DropDefaultPort), 1)),
+            ["--align", ..] => Some((self.with_columns(self.columns_or_whole()), 1)),
+            ["--append", ..] => {
+                let appends = true;
+                let columns = self.columns_or_whole();
+                Some((self.with_columns(Columns { appends, ..columns }), 1))
+            }
+            ["--column", number, ..] => {
+                let first = Some(read_column(number)?);
+                let columns = self.columns_or_whole();
+                Some((self.with_columns(Columns { first, ..columns }), 2))
+            }
+            _ => None,
+        }
+    }
+}
+
+/// How many fields precede the column of this number, which counts from 1.
+fn read_column(number: &str) -> Option<usize> {
+    number.parse::<usize>().ok()?.checked_sub(1)
 }
 
 /// Splits the words into the options and the words of the command.
@@ -45,20 +111,13 @@ pub fn split_options<'w, 't>(words: &'w [&'t str]) -> (Options, &'w [&'t str]) {
     let mut options = Options {
         reads_lines: false,
         explains: false,
+        columns: None,
         manner: Manner::Plain,
     };
-    for at in 0..words.len() {
-        match words[at] {
-            "--lines" => options.reads_lines = true,
-            "--explain" => options.explains = true,
-            "--json" => options.manner = options.manner.with(Manner::Json),
-            "--quiet" => options.manner = options.manner.with(Manner::Quiet),
-            "--trim" => options.manner = options.manner.with(Manner::Trim),
-            "--drop-default-port" => {
-                options.manner = options.manner.with(Manner::DropDefaultPort);
-            }
-            _ => return (options, &words[at..]),
-        }
+    let mut at = 0;
+    'options: while let Some((more, count)) = options.read(&words[at..]) {
+        options = more;
+        at += count;
     }
-    (options, &[])
+    (options, &words[at..])
 }

@@ -1,0 +1,185 @@
+//! Lines of fields with tabs between them: which of them a command reads, and where its result stands in
+//! the line that goes out.
+
+ghost use Rattle.std.specs.Prelude.{◌≡◌, ◌<◌, ◌+◌, ◌++◌, ◌∷◌, [], MatchOption, OnOk};
+ghost use Rattle.std.specs.Io.KnownBytes.{Appends};
+ghost use Rattle.uriparse_text.specs.Cuts.{before};
+ghost use Rattle.uri_commands.specs.Columns as spec;
+ghost use Rattle.uri_commands.specs.Lines.{newline};
+
+use crate::topic::Topic;
+use std::io;
+use std::io::Write;
+use uriparse_text::internal::{split_at_mark, without_mark};
+
+pub const ABOUT_ALIGN: Topic = Topic {
+    name: "--align",
+    summary: "\
+uri --align --lines COMMAND
+                      one line for each line, an empty one if it is rejected
+",
+    page: "\
+uri --lines --align COMMAND
+
+Prints exactly one line for each line of the standard input, so that the output
+can be put beside the input, as by paste: an empty line for a rejected one. It
+is reported as without the option. Every command that --lines takes, but those
+with --quiet. For the command's words see uri help --lines.
+
+Exit status: 0 on success, 1 if a line is rejected or the work ends early, 2 on
+a usage error.
+
+Example:
+    printf 'HTTP://a\\nb c\\n//d\\n' | uri --lines --align normalize 2>/dev/null
+prints
+    http://a/
+
+    //d/
+",
+};
+
+pub const ABOUT_COLUMN: Topic = Topic {
+    name: "--column",
+    summary: "\
+uri --column K --lines COMMAND
+                      each line has fields with tabs between them: reads the
+                      K-th, and prints the line with the result in its place
+",
+    page: "\
+uri --lines --column K COMMAND
+uri --lines --column K --append COMMAND
+uri --lines --append COMMAND
+
+A line has fields with tabs between them. Reads the K-th, which counts from 1,
+and prints the line with the result in its place, or with --append behind its
+last field; the other fields stay as they are. equal reads the K-th and the
+next. A field that is rejected gives an empty result, and a line with too few
+fields is printed as it is; both are reported. Exactly one line is printed for
+each, as with --align. Without --column the whole line is the text.
+
+`get` takes several parts, with commas between them, and prints as many fields.
+One that is absent is empty.
+
+Exit status: 0 on success, 1 if a line is rejected or the work ends early, 2 on
+a usage error.
+
+Example:
+    printf 'a\\thttp://h:8/x\\n' | uri --lines --column 2 --append get host,port
+prints
+    a\thttp://h:8/x\th\t8
+",
+};
+
+/// Which fields of a line are read, and where the result stands.
+#[derive(Clone, Copy)]
+pub struct Columns {
+    /// How many fields precede the text that is read, or `None` if the whole line is.
+    pub first: Option<usize>,
+    /// The result follows the last field. Else it takes the text's place.
+    pub appends: bool,
+}
+
+/// A line, cut before and behind the text that is read.
+#[derive(Clone, Copy)]
+pub struct Cut<'l> {
+    pub front: &'l [u8],
+    pub text: &'l [u8],
+    pub back: &'l [u8],
+}
+
+/// The first fields of a line, each with the tab that ends it, and the rest, or `None` if fewer fields
+/// have one.
+fn split_fields(line: &[u8], count: usize) -> Option<(&[u8], &[u8])>
+    ensures { MatchOption result (spec.tabs line.now < count) (λ r. (line.now ≡ r.0.now ++ r.1.now) × spec.AreFields count r.0.now) }
+{
+    let mut rest = line;
+    let mut left = count;
+    'fields: while left > 0 {
+        let (_, behind) = split_at_mark(rest, b'\t');
+        let Some(later) = without_mark(behind) else {
+            return None;
+        };
+        rest = later;
+        left -= 1;
+    }
+    Some(line.split_at(line.len() - rest.len()))
+}
+
+/// Cuts a line around the text of so many fields that follows the first ones, or returns `None` if the
+/// line has too few.
+fn cut_line(line: &[u8], skipped: usize, width: usize) -> Option<Cut<'_>>
+    requires { 0 < width }
+    ensures { MatchOption result (spec.tabs line.now + 1 < skipped + width) (λ cut. spec.IsCut skipped width line.now cut.front.now cut.text.now cut.back.now) }
+{
+    let Some((front, rest)) = split_fields(line, skipped) else {
+        return None;
+    };
+    let Some((begun, last)) = split_fields(rest, width - 1) else {
+        return None;
+    };
+    let (field, _) = split_at_mark(last, b'\t');
+    let (text, back) = rest.split_at(begun.len() + field.len());
+    Some(Cut { front, text, back })
+}
+
+impl Columns {
+    /// The whole line is the text, and the result takes its place.
+    pub const WHOLE: Columns = Columns {
+        first: None,
+        appends: false,
+    };
+
+    /// Cuts a line around its text of so many fields, or returns `None` if the line has too few.
+    pub fn cut(self, line: &[u8], width: usize) -> Option<Cut<'_>>
+        requires { 0 < width }
+        ensures { MatchOption result (spec.LacksFields self.first width line.now) (λ cut. spec.IsRead self.first width line.now cut.front.now cut.text.now cut.back.now) }
+    {
+        match self.first {
+            Some(first) => cut_line(line, first, width),
+            None => Some(Cut {
+                front: b"",
+                text: line,
+                back: b"",
+            }),
+        }
+    }
+}
+
+/// What precedes the first newline: a command's result for a line, without the newline that ends it.
+fn first_line(output: &[u8]) -> &[u8]
+    ensures { result.now ≡ before newline output.now }
+{
+    let (line, _) = split_at_mark(output, b'\n');
+    line
+}
+
+/// Writes a line as it is.
+pub fn write_line<O: Write>(line: &[u8], out: &mut O) -> io::Result<()>
+    ensures { OnOk result (Appends (O.contents out.old) (O.contents out.new) (line.now ++ newline ∷ [])) }
+{
+    out.write_all(line)?;
+    out.write_all(b"\n")
+}
+
+/// Writes the line that goes out: the line that was read with the first line of the output in the place
+/// of its text, or behind its last field.
+pub fn write_row<O: Write>(
+    cut: &Cut<'_>,
+    appends: bool,
+    output: &[u8],
+    out: &mut O,
+) -> io::Result<()>
+    ensures { OnOk result (Appends (O.contents out.old) (O.contents out.new) (spec.row appends cut.now.front.now cut.now.text.now cut.now.back.now (before newline output.now) ++ newline ∷ [])) }
+{
+    out.write_all(cut.front)?;
+    if appends {
+        out.write_all(cut.text)?;
+        out.write_all(cut.back)?;
+        out.write_all(b"\t")?;
+    }
+    out.write_all(first_line(output))?;
+    if !appends {
+        out.write_all(cut.back)?;
+    }
+    out.write_all(b"\n")
+}
