@@ -285,25 +285,28 @@ module _ (a : List ℕ) where
 
 -- ---- the byte is a `%` exactly for the error of an escape
 
-pub username_sign : (o : Option ℕ) (e : UsernameError) → IsSomeAnd o (λ b. username.error_of b ≡ e) → (e ≡ username_errors.InvalidPercentEncoding) ↔ (o ≡ Some percent)
-username_sign None e h = absurd h
-username_sign (Some b) e h = (λ is. by_tests (b == percent) (b == colon) refl (h ∙ is), λ there. let byte : b ≡ percent = cc in sym h ∙ ap username.error_of byte)
+-- for errors of a byte, of which that of a `%` is no other byte's
+pub sign_exactly : {E : Type 0} (escape : E) (other : ℕ → E) (o : Option ℕ) (e : E) → ((b : ℕ) → other b ≡ escape → ⊥)
+    → IsSomeAnd o (λ b. cond (b == percent) escape (other b) ≡ e) → (e ≡ escape) ↔ (o ≡ Some percent)
+sign_exactly escape other None e apart h = absurd h
+sign_exactly {E = E} escape other (Some b) e apart h =
+    (λ is. by_test (b == percent) refl (h ∙ is), λ there. let byte : b ≡ percent = cc in sym h ∙ ap (λ c. cond (c == percent) escape (other c)) byte)
   where
-    by_tests : (v w : Bool) → (b == percent) ≡ v
-        → cond v username_errors.InvalidPercentEncoding (cond w username_errors.ContainsColon username_errors.InvalidCharacter) ≡ username_errors.InvalidPercentEncoding
-        → Some b ≡ Some percent
-    by_tests true w f k = ap Some (eqb-true b percent f)
-    by_tests false true f k = absurd (cc)
-    by_tests false false f k = absurd (cc)
+    by_test : (v : Bool) → (b == percent) ≡ v → ◌≡◌ {A = E} (cond v escape (other b)) escape → Some b ≡ Some percent
+    by_test true f k = ap Some (eqb-true b percent f)
+    by_test false f k = absurd (apart b k)
+
+pub username_sign : (o : Option ℕ) (e : UsernameError) → IsSomeAnd o (λ b. username.error_of b ≡ e) → (e ≡ username_errors.InvalidPercentEncoding) ↔ (o ≡ Some percent)
+username_sign o e h =
+    sign_exactly username_errors.InvalidPercentEncoding (λ b. cond (b == colon) username_errors.ContainsColon username_errors.InvalidCharacter) o e
+    (λ b. apart (b == colon)) h
+  where
+    apart : (v : Bool) → cond v username_errors.ContainsColon username_errors.InvalidCharacter ≡ username_errors.InvalidPercentEncoding → ⊥
+    apart true k = cc
+    apart false k = cc
 
 pub password_sign : (o : Option ℕ) (e : PasswordError) → IsSomeAnd o (λ b. password.error_of b ≡ e) → (e ≡ password_errors.InvalidPercentEncoding) ↔ (o ≡ Some percent)
-password_sign None e h = absurd h
-password_sign (Some b) e h = (λ is. by_test (b == percent) refl (h ∙ is), λ there. let byte : b ≡ percent = cc in sym h ∙ ap password.error_of byte)
-  where
-    by_test : (v : Bool) → (b == percent) ≡ v
-        → cond v password_errors.InvalidPercentEncoding password_errors.InvalidCharacter ≡ password_errors.InvalidPercentEncoding → Some b ≡ Some percent
-    by_test true f k = ap Some (eqb-true b percent f)
-    by_test false f k = absurd (cc)
+password_sign o e h = sign_exactly password_errors.InvalidPercentEncoding (λ _. password_errors.InvalidCharacter) o e (λ b k. cc) h
 
 pub username_escape : (a : List ℕ) (e : UsernameError) → fault a ≡ Some (errors.Username e)
     → (e ≡ username_errors.InvalidPercentEncoding) ↔ (slice_get a (fault_place (errors.Username e) a) ≡ Some percent)

@@ -410,7 +410,7 @@ fault_there (b ∷ t) = by_slash (is_slash b) refl
 
 -- ---- the byte is a `%` exactly for the error of an escape
 
-escape_of_byte : (o : Option ℕ) (e : PathError) → option_map error_of o ≡ Some e → (e ≡ InvalidPercentEncoding) ↔ (o ≡ Some percent)
+pub escape_of_byte : (o : Option ℕ) (e : PathError) → option_map error_of o ≡ Some e → (e ≡ InvalidPercentEncoding) ↔ (o ≡ Some percent)
 escape_of_byte None e h = absurd (cc)
 escape_of_byte (Some b) e h = (λ is. sign is, λ there. sym (of_sign there))
   where
