@@ -7,15 +7,17 @@
 //! it.
 #![tactic(auto)]
 
-ghost use Rattle.std.specs.Prelude.{◌≡◌, ◌↔◌, Err, IfOk, IsTrue, MatchOption, MatchResult, None, Ok, OnErr, OnOk, Some, bytes_eq, is_some, length, string_bytes, true};
-ghost use Rattle.uriparse_text.specs.Readings.{IsUnless, Settles};
+ghost use Rattle.std.specs.Prelude.{◌≡◌, ◌↔◌, Err, IfOk, IsTrue, MatchOption, MatchResult, None, Ok, OnErr, OnOk, Some, bytes_eq, false, is_some, length, string_bytes, true};
+ghost use Rattle.uriparse_text.specs.Readings.{IsUnless, Settles, SettlesUnless};
 ghost use Rattle.uriparse_text.specs.declared.segment.error.PathError.TheVariants.{OutOfMemory};
 ghost use Rattle.uriparse_scheme.specs.Scheme as schemes;
-ghost use Rattle.uriparse_reference.specs.Edits.{Run, edited};
+ghost use Rattle.uriparse_path.specs.Edits.{popped};
+ghost use Rattle.uriparse_reference.specs.Edits.{Run, edited, segment_pushed};
 ghost use Rattle.uriparse_reference.specs.declared.uri_reference.edit.Edit.TheVariants as edits;
 ghost use Rattle.uriparse_reference.specs.declared.uri_reference.error.URIReferenceError.{URIReferenceError};
 ghost use Rattle.uriparse_reference.specs.declared.uri_reference.error.URIReferenceError.TheVariants as errors;
 ghost use Rattle.uriparse_reference.specs.declared.uri_reference.error.BufferError.TheVariants as buffers;
+ghost use Rattle.uriparse_reference.specs.declared.uri_reference.error.TargetError.TheVariants as targets;
 ghost use Rattle.uriparse_reference.specs.Escaped.{escaped};
 ghost use Rattle.uriparse_reference.specs.Into.{Writes};
 ghost use Rattle.uriparse_reference.specs.Key.{key};
@@ -28,9 +30,9 @@ ghost use Rattle.uriparse_reference.specs.View.{viewed};
 
 use std::alloc::{AllocError, Global};
 use uriparse_authority::authority::Authority;
-use uriparse_path::path::Path;
+use uriparse_path::path::{Path, Segment};
 use uriparse_reference::uri_reference::{
-    BufferError, Edit, ReferenceView, URIReference, URIReferenceError, escape_invalid,
+    BufferError, Edit, ReferenceView, TargetError, URIReference, URIReferenceError, escape_invalid,
 };
 use uriparse_scheme::scheme::{Scheme, SchemeError};
 
@@ -85,6 +87,24 @@ pub fn apply_all<'r>(
     ensures { MatchResult result (λ _. Run reference.old edits.entry.items (length edits.entry.items) reference.new None) (λ e. Run reference.old edits.entry.items e.0 reference.new (Some e.1)) }
 {
     reference.apply_all(alloc, edits)
+}
+
+/// Appends a segment to a reference's path, or leaves the reference as it was.
+pub fn push_segment<'r>(
+    alloc: Global,
+    reference: &mut URIReference<'r>,
+    segment: Segment<'r>,
+) -> Result<(), URIReferenceError>
+    ensures { SettlesUnless (errors.Path OutOfMemory) reference.old reference.new result (segment_pushed reference.old segment.entry) }
+{
+    reference.push_segment(alloc, segment)
+}
+
+/// Removes the last segment of a reference's path.
+pub fn pop_segment(reference: &mut URIReference<'_>)
+    ensures { reference.new ≡ record reference.old { path = popped reference.old.path } }
+{
+    reference.pop_segment();
 }
 
 /// Brings a reference into its normal form, or leaves it as it was.
@@ -143,4 +163,16 @@ pub fn resolve_into(
     ensures { is_some base.now.parts.scheme ≡ true → MatchOption (target base.now.parts reference.now.parts) ((result ≡ Err buffers.TooManySegments) × (out.new ≡ out.old)) (λ t. Writes (print t) result out.old out.new) }
 {
     base.resolve_into(reference, out)
+}
+
+/// The text of the target, if the base has a scheme.
+pub fn resolve_to_string(
+    base: &ReferenceView<'_>,
+    alloc: Global,
+    reference: &ReferenceView<'_>,
+) -> Result<String, TargetError>
+    ensures base { is_some base.now.parts.scheme ≡ false → result ≡ Err targets.RelativeBase }
+    ensures target { is_some base.now.parts.scheme ≡ true → MatchOption (target base.now.parts reference.now.parts) (result ≡ Err targets.TooManySegments) (λ t. MatchResult result (λ s. string_bytes s ≡ print t) (λ e. e ≡ targets.OutOfMemory)) }
+{
+    base.resolve_to_string(alloc, reference)
 }

@@ -1,9 +1,10 @@
 -- Where the fault of an authority is: RFC 3986, section 3.2.
-use Rattle.std.specs.Prelude.{ℕ, Bool, not, ◌+◌, List, [], ◌++◌, length, unwrap_or}
+use Rattle.std.specs.Prelude.{◌≡◌, ℕ, Bool, true, false, not, ◌+◌, List, [], ◌++◌, length, unwrap_or}
 use Rattle.std.specs.List.{position_or_len}
 use Rattle.uriparse_text.specs.declared.internal.class.Class.TheVariants as class
 use Rattle.uriparse_text.specs.Address.{is_ipv6_byte}
-use Rattle.uriparse_text.specs.Bytes.{at_sign}
+use Rattle.uriparse_text.specs.Bytes.{at_sign, left_bracket}
+use Rattle.uriparse_text.specs.Classes.{is_plain}
 use Rattle.uriparse_text.specs.Cuts.{ahead}
 use Rattle.uriparse_text.specs.Place as text
 use Rattle.uriparse_text.specs.Place.{place_behind}
@@ -16,7 +17,9 @@ use Rattle.uriparse_authority.specs.declared.authority.error.PortError.TheVarian
 use Rattle.uriparse_authority.specs.Authority.{userinfo_text, username_text, password_text, host_text, port_text}
 use Rattle.uriparse_authority.specs.Future.{is_future_byte}
 use Rattle.uriparse_authority.specs.Host.{in_brackets}
+use Rattle.uriparse_authority.specs.Password as password
 use Rattle.uriparse_authority.specs.Port.{is_other}
+use Rattle.uriparse_authority.specs.Username as username
 
 -- the place of the first byte between brackets that doesn't pass
 abbrev pub literal_place : (ℕ → Bool) → List ℕ → ℕ
@@ -42,3 +45,26 @@ fault_place (errors.Username e) a = place_behind 0 (text.fault_place class.Name)
 fault_place (errors.Password e) a = length (unwrap_or (username_text a) []) + place_behind 1 (text.fault_place class.UserInfo) (password_text a)
 fault_place (errors.Host e) a = length (ahead at_sign (userinfo_text a)) + host_place e (host_text a)
 fault_place (errors.Port e) a = length (ahead at_sign (userinfo_text a) ++ host_text a) + place_behind 1 (port_place e) (port_text a)
+
+-- ---- the byte at the place
+
+-- A byte at which this error of a host may be: one that may not stand there, or the bracket before an address of a wrong form.
+abbrev pub IsHostByte : HostError → ℕ → Type 0
+IsHostByte host.InvalidIPv4OrRegisteredNameCharacter b = is_plain class.Name b ≡ false
+IsHostByte host.InvalidIPv6Character b = is_ipv6_byte b ≡ false
+IsHostByte host.InvalidIPv6Format b = b ≡ left_bracket
+IsHostByte host.InvalidIPvFutureCharacter b = is_future_byte b ≡ false
+IsHostByte host.InvalidIPvFutureFormat b = b ≡ left_bracket
+IsHostByte host.AddressMechanismNotSupported b = ⊥
+
+-- the same of a port: a byte that is no digit, or the first digit of too large a number
+abbrev pub IsPortByte : PortError → ℕ → Type 0
+IsPortByte port.InvalidCharacter b = is_other b ≡ true
+IsPortByte port.Overflow b = is_other b ≡ false
+
+-- the same of an authority
+abbrev pub IsWrongByte : AuthorityError → ℕ → Type 0
+IsWrongByte (errors.Username e) b = username.error_of b ≡ e
+IsWrongByte (errors.Password e) b = password.error_of b ≡ e
+IsWrongByte (errors.Host e) b = IsHostByte e b
+IsWrongByte (errors.Port e) b = IsPortByte e b

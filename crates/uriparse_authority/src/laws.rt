@@ -1,10 +1,12 @@
 //! Laws of the definitions that contracts cite. Each function does nothing: its contract is the
 //! law.
-ghost use Rattle.std.specs.Prelude.{◌≡◌, ◌↔◌, ◌⊎◌, ◌∷◌, ◌++◌, true, false, ℕ, ◌<◌, codes, length, IfSome, List, [], Err, None, Ok, Option, Some, decimal};
-ghost use Rattle.uriparse_text.specs.Bytes.{at_sign, colon, right_bracket};
+ghost use Rattle.std.specs.Prelude.{◌≡◌, ◌↔◌, ◌⊎◌, ◌∷◌, ◌++◌, true, false, ℕ, ◌<◌, codes, length, slice_get, IfSome, IsSomeAnd, List, [], Err, None, Ok, Option, Some, decimal};
+ghost use Rattle.uriparse_text.specs.Bytes.{at_sign, colon, percent, right_bracket};
 ghost use Rattle.uriparse_text.specs.Cuts.{lacks, none_pass};
 ghost use Rattle.uriparse_authority.specs.declared.authority.error.AuthorityError.{AuthorityError};
+ghost use Rattle.uriparse_authority.specs.declared.authority.error.PasswordError.{PasswordError};
 ghost use Rattle.uriparse_authority.specs.declared.authority.error.PortError.TheVariants.{InvalidCharacter, Overflow};
+ghost use Rattle.uriparse_authority.specs.declared.authority.error.UsernameError.{UsernameError};
 ghost use Rattle.uriparse_authority.specs.declared.authority.host.Host.{Host};
 ghost use Rattle.uriparse_authority.specs.declared.authority.host.Host.TheVariants.{IPv4Address, IPv6Address, IPvFuture, RegisteredName};
 ghost use Rattle.uriparse_authority.specs.declared.authority.error.AuthorityError.TheVariants as errors;
@@ -18,7 +20,7 @@ ghost use Rattle.uriparse_authority.specs.Future as future;
 ghost use Rattle.uriparse_authority.specs.Host as host;
 ghost use Rattle.uriparse_authority.specs.Port as port;
 ghost use Rattle.uriparse_authority.specs.Normal.{canonical_host, canonical_authority};
-ghost use Rattle.uriparse_authority.specs.Place.{fault_place};
+ghost use Rattle.uriparse_authority.specs.Place.{IsWrongByte, fault_place};
 ghost use Rattle.uriparse_authority.specs.Authority.{AuthorityParts, Spells, Valid, ReadsBack, canonical_text, ends_authority, fault, fed, fed_key, host_text, joined, key, kind, password_text, port_text, print, reading, rest_error, username_text, whole_reading};
 
 /// Reading returns exactly what a text spells: a host, a name by itself, an address of a later
@@ -53,9 +55,15 @@ pub fn first_fault()
     ensures colon { (a : List ℕ) → fault a ≡ Some (errors.Username username_errors.ContainsColon) → ⊥ }
 {}
 
-/// The place of an authority's fault precedes the end of the text.
+/// The place of an authority's fault precedes the end of the text, and the byte there is one at which
+/// the error may be: a byte that may not stand in its component, the bracket before an address of a
+/// wrong form, or the first digit of too large a port. For an error of the user name or the password
+/// it is a `%` exactly if the error is about a percent-encoding; for one of a host it may be one too.
 pub fn one_place_of_fault()
-    ensures { (a : List ℕ) (e : AuthorityError) → fault a ≡ Some e → fault_place e a < length a }
+    ensures byte { (a : List ℕ) (e : AuthorityError) → fault a ≡ Some e → IsSomeAnd (slice_get a (fault_place e a)) (IsWrongByte e) }
+    ensures username_escape { (a : List ℕ) (e : UsernameError) → fault a ≡ Some (errors.Username e) → (e ≡ username_errors.InvalidPercentEncoding) ↔ (slice_get a (fault_place (errors.Username e) a) ≡ Some percent) }
+    ensures password_escape { (a : List ℕ) (e : PasswordError) → fault a ≡ Some (errors.Password e) → (e ≡ password_errors.InvalidPercentEncoding) ↔ (slice_get a (fault_place (errors.Password e) a) ≡ Some percent) }
+    ensures within { (a : List ℕ) (e : AuthorityError) → fault a ≡ Some e → fault_place e a < length a }
 {}
 
 /// Every text is the concatenation of its components. The user name has none of the delimiters that

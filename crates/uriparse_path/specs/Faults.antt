@@ -8,7 +8,7 @@ use Rattle.uriparse_text.specs.Readings.{unless_fault}
 use Rattle.uriparse_text.specs.declared.segment.error.PathError.{PathError}
 use Rattle.uriparse_text.specs.declared.segment.error.PathError.TheVariants.{ExceededMaximumLength}
 use Rattle.uriparse_text.specs.Segment as segment
-use Rattle.uriparse_path.specs.Path.{PathParts, max_segments, pieces, spelled}
+use Rattle.uriparse_path.specs.Path.{PathParts, is_slash, max_segments, pieces, spelled}
 
 -- A path ends before a `?` or a `#`.
 abbrev pub ends_path : ℕ → Bool
@@ -17,6 +17,10 @@ ends_path b = b == question_mark || b == number_sign
 -- the path that a text begins with, or all of the text if it may not end before; for the clause of a private function
 abbrev pub path_front : Bool → List ℕ → List ℕ
 path_front ends t = up_to (λ b. ends && ends_path b) t
+
+-- the error of a fault at this byte: a segment's, or, of a slash, that one segment too many begins there
+abbrev pub error_of : ℕ → PathError
+error_of byte = if is_slash byte then ExceededMaximumLength else segment.error_of byte
 
 -- the number of segments, and the length; for clauses of private functions
 abbrev pub measured : Result (ℕ × ℕ × ℕ) PathError → Result (ℕ × ℕ) PathError

@@ -1,12 +1,13 @@
 //! Laws of the definitions that contracts cite. Each function does nothing: its contract is the
 //! law.
-ghost use Rattle.std.specs.Prelude.{◌≡◌, ◌<◌, ◌≤◌, ◌↔◌, ◌∷◌, [], ℕ, List, Bool, None, Some, Ok, Err, codes, length, map, take, true, false};
+ghost use Rattle.std.specs.Prelude.{◌≡◌, ◌<◌, ◌≤◌, ◌↔◌, ◌∷◌, [], ℕ, List, Bool, None, Some, Ok, Err, codes, length, map, slice_get, take, true, false};
 ghost use Rattle.std.specs.List.{list_all, slice_split, join_with_byte};
-ghost use Rattle.uriparse_text.specs.Bytes.{slash};
+ghost use Rattle.std.specs.Option.{option_map};
+ghost use Rattle.uriparse_text.specs.Bytes.{percent, slash};
 ghost use Rattle.uriparse_text.specs.Canonical.{canonical};
 ghost use Rattle.uriparse_text.specs.Segment.{is_segment};
 ghost use Rattle.uriparse_path.specs.Path.{PathParts, IsListed, IsPath, max_segments, is_slash, is_rooted, pieces, text, spelled, respelled};
-ghost use Rattle.uriparse_path.specs.Faults.{PassesLimit, fault};
+ghost use Rattle.uriparse_path.specs.Faults.{PassesLimit, error_of, fault};
 ghost use Rattle.uriparse_text.specs.declared.segment.error.PathError.{PathError};
 ghost use Rattle.uriparse_path.specs.Place.{fault_place};
 ghost use Rattle.uriparse_path.specs.Dots.{has_dot_segment, Step, Undots, replay, rooted_after, replayed, undot, without_dots};
@@ -40,8 +41,12 @@ pub fn length_fault()
     ensures { (t : List ℕ) → (fault t ≡ Some errors.ExceededMaximumLength) ↔ PassesLimit t }
 {}
 
-/// What precedes the place of a fault has none, and the place precedes the end of the text.
+/// A text's fault is that of the byte at its place: a slash there begins one segment too many. So the
+/// byte is a `%` exactly if the error is about a percent-encoding. What precedes the place has no
+/// fault, and the place precedes the end of the text.
 pub fn one_place_of_fault()
+    ensures byte { (t : List ℕ) → fault t ≡ option_map error_of (slice_get t (fault_place t)) }
+    ensures escape { (t : List ℕ) (e : PathError) → fault t ≡ Some e → (e ≡ errors.InvalidPercentEncoding) ↔ (slice_get t (fault_place t) ≡ Some percent) }
     ensures before { (t : List ℕ) → fault (take (fault_place t) t) ≡ None }
     ensures within { (t : List ℕ) (e : PathError) → fault t ≡ Some e → fault_place t < length t }
 {}

@@ -1,12 +1,16 @@
 -- Where the fault of a text is, as a number of bytes from its beginning.
-use Rattle.std.specs.Prelude.{ℕ, ◌+◌, List, ◌++◌, length, Option}
+use Rattle.std.specs.Prelude.{◌≡◌, ℕ, ◌+◌, false, List, ◌++◌, length, Option}
 use Rattle.std.specs.Option.{option_map}
 use Rattle.uriparse_text.specs.declared.internal.class.Class.TheVariants.{Query}
 use Rattle.uriparse_text.specs.Bytes.{colon, question_mark, number_sign}
 use Rattle.uriparse_text.specs.Cuts.{ahead, after, before, behind, up_to}
 use Rattle.uriparse_text.specs.Place as text
 use Rattle.uriparse_text.specs.Place.{place_behind}
+use Rattle.uriparse_text.specs.Fragment as fragment
+use Rattle.uriparse_text.specs.Query as query
+use Rattle.uriparse_path.specs.Faults as paths
 use Rattle.uriparse_path.specs.Faults.{ends_path}
+use Rattle.uriparse_path.specs.Path.{is_slash}
 use Rattle.uriparse_path.specs.Place as path
 use Rattle.uriparse_authority.specs.Place as authority
 use Rattle.uriparse_reference.specs.declared.uri_reference.error.URIReferenceError.{URIReferenceError}
@@ -40,6 +44,18 @@ fault_place (errors.Scheme e) t = 0
 -- the fault of a text, and where it is
 abbrev pub first_fault : List ℕ → Option (ℕ × URIReferenceError)
 first_fault t = option_map (λ e. (fault_place e t, e)) (fault t)
+
+-- A byte at which this error may be: one that may not stand in its component, or at which the path begins that may not follow what
+-- precedes it. Of the errors without a byte no text has one.
+abbrev pub IsWrongByte : URIReferenceError → ℕ → Type 0
+IsWrongByte (errors.Authority e) b = authority.IsWrongByte e b
+IsWrongByte (errors.Path e) b = paths.error_of b ≡ e
+IsWrongByte errors.AbsolutePathStartsWithTwoSlashes b = ⊥
+IsWrongByte errors.SchemelessPathStartsWithColonSegment b = is_slash b ≡ false
+IsWrongByte (errors.Query e) b = query.error_of b ≡ e
+IsWrongByte (errors.Fragment e) b = fragment.error_of b ≡ e
+IsWrongByte errors.MissingPath b = ⊥
+IsWrongByte (errors.Scheme e) b = ⊥
 
 -- ---- words of the clauses of private functions alone
 

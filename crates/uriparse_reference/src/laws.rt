@@ -1,7 +1,7 @@
 //! Laws about the definitions in `specs/`. The functions have no body: the contract is the law.
 ghost use Rattle.std.specs.Option.{option_map};
-ghost use Rattle.std.specs.Prelude.{◌≡◌, ◌↔◌, ◌⊎◌, ◌<◌, ◌≤◌, ◌∷◌, ◌++◌, ℕ, List, [], Option, None, Some, Ok, IfSome, is_some, length, true, false, codes};
-ghost use Rattle.uriparse_text.specs.Bytes.{slash, question_mark, number_sign};
+ghost use Rattle.std.specs.Prelude.{◌≡◌, ◌↔◌, ◌⊎◌, ◌<◌, ◌≤◌, ◌∷◌, ◌++◌, ℕ, List, [], Option, None, Some, Ok, IfSome, IsSomeAnd, is_some, length, slice_get, true, false, codes};
+ghost use Rattle.uriparse_text.specs.Bytes.{percent, slash, question_mark, number_sign};
 ghost use Rattle.uriparse_text.specs.Cuts.{lacks, none_pass};
 ghost use Rattle.uriparse_text.specs.Tokens.{is_well_formed};
 ghost use Rattle.uriparse_path.specs.Path.{max_segments, pieces, spelled, text};
@@ -10,7 +10,12 @@ ghost use Rattle.uriparse_path.specs.Dots.{LacksSlash};
 ghost use Rattle.uriparse_authority.specs.Authority.{ends_authority};
 ghost use Rattle.uriparse_authority.specs.declared.authority.error.AuthorityError.TheVariants as authority_errors;
 ghost use Rattle.uriparse_authority.specs.declared.authority.error.HostError.TheVariants.{AddressMechanismNotSupported};
+ghost use Rattle.uriparse_authority.specs.declared.authority.error.PasswordError.{PasswordError};
+ghost use Rattle.uriparse_authority.specs.declared.authority.error.UsernameError.{UsernameError};
 ghost use Rattle.uriparse_authority.specs.declared.authority.error.UsernameError.TheVariants.{ContainsColon};
+ghost use Rattle.uriparse_text.specs.declared.fragment.FragmentError.{FragmentError};
+ghost use Rattle.uriparse_text.specs.declared.query.QueryError.{QueryError};
+ghost use Rattle.uriparse_text.specs.declared.segment.error.PathError.{PathError};
 ghost use Rattle.uriparse_scheme.specs.Scheme.{is_scheme};
 ghost use Rattle.uriparse_scheme.specs.declared.scheme.error.SchemeError.{SchemeError};
 ghost use Rattle.uriparse_text.specs.declared.segment.error.PathError.TheVariants.{OutOfMemory};
@@ -26,7 +31,7 @@ ghost use Rattle.uriparse_reference.specs.declared.uri_reference.edit.Edit.{Edit
 ghost use Rattle.uriparse_reference.specs.declared.uri_reference.error.URIReferenceError.{URIReferenceError};
 ghost use Rattle.uriparse_reference.specs.declared.uri_reference.error.URIReferenceError.TheVariants as errors;
 ghost use Rattle.uriparse_reference.specs.Reading.{reading, fault};
-ghost use Rattle.uriparse_reference.specs.Place.{fault_place, first_fault};
+ghost use Rattle.uriparse_reference.specs.Place.{IsWrongByte, fault_place, first_fault};
 ghost use Rattle.uriparse_path.specs.Place.{place_within};
 ghost use Rattle.uriparse_text.specs.declared.segment.error.PathError.TheVariants as path_errors;
 ghost use Rattle.uriparse_text.specs.declared.query.QueryError.TheVariants as query_errors;
@@ -60,9 +65,18 @@ pub fn faults_of_reading()
     ensures colon { (t : List ℕ) → fault t ≡ Some (errors.Authority (authority_errors.Username ContainsColon)) → ⊥ }
 {}
 
-/// The place of a text's fault precedes the end of the text.
+/// The place of a text's fault precedes the end of the text, and the byte there is one at which the
+/// error may be, as the laws of the components say of theirs. For an error of a user name, a password,
+/// a path, a query or a fragment it is a `%` exactly if the error is about a percent-encoding; for one
+/// of a host, or of a path that needs a scheme before it, it may be one too.
 pub fn one_place_of_fault()
-    ensures { (t : List ℕ) (e : URIReferenceError) → fault t ≡ Some e → fault_place e t < length t }
+    ensures byte { (t : List ℕ) (e : URIReferenceError) → fault t ≡ Some e → IsSomeAnd (slice_get t (fault_place e t)) (IsWrongByte e) }
+    ensures username_escape { (t : List ℕ) (e : UsernameError) → fault t ≡ Some (errors.Authority (authority_errors.Username e)) → (e ≡ username_errors.InvalidPercentEncoding) ↔ (slice_get t (fault_place (errors.Authority (authority_errors.Username e)) t) ≡ Some percent) }
+    ensures password_escape { (t : List ℕ) (e : PasswordError) → fault t ≡ Some (errors.Authority (authority_errors.Password e)) → (e ≡ password_errors.InvalidPercentEncoding) ↔ (slice_get t (fault_place (errors.Authority (authority_errors.Password e)) t) ≡ Some percent) }
+    ensures path_escape { (t : List ℕ) (e : PathError) → fault t ≡ Some (errors.Path e) → (e ≡ path_errors.InvalidPercentEncoding) ↔ (slice_get t (fault_place (errors.Path e) t) ≡ Some percent) }
+    ensures query_escape { (t : List ℕ) (e : QueryError) → fault t ≡ Some (errors.Query e) → (e ≡ query_errors.InvalidPercentEncoding) ↔ (slice_get t (fault_place (errors.Query e) t) ≡ Some percent) }
+    ensures fragment_escape { (t : List ℕ) (e : FragmentError) → fault t ≡ Some (errors.Fragment e) → (e ≡ fragment_errors.InvalidPercentEncoding) ↔ (slice_get t (fault_place (errors.Fragment e) t) ≡ Some percent) }
+    ensures within { (t : List ℕ) (e : URIReferenceError) → fault t ≡ Some e → fault_place e t < length t }
 {}
 
 /// Where texts are wrong, and why: an example of each error that a text may have. The one that takes

@@ -10,6 +10,7 @@ unfoldable pub registered_port : RegisteredScheme → Option ℕ
 -- schemes.tsv: ports
 registered_port scheme.AAA = Some 3868
 registered_port scheme.ACAP = Some 674
+registered_port scheme.CAP = Some 1026
 registered_port scheme.CoAP = Some 5683
 registered_port scheme.CoAPTCP = Some 5683
 registered_port scheme.CoAPWS = Some 80
@@ -19,6 +20,7 @@ registered_port scheme.CoAPSWS = Some 443
 registered_port scheme.DICT = Some 2628
 registered_port scheme.DNS = Some 53
 registered_port scheme.FTP = Some 21
+registered_port scheme.Go = Some 1096
 registered_port scheme.Gopher = Some 70
 registered_port scheme.HTTP = Some 80
 registered_port scheme.HTTPS = Some 443
@@ -36,6 +38,7 @@ registered_port scheme.Prospero = Some 1525
 registered_port scheme.Redis = Some 6379
 registered_port scheme.RedisS = Some 6379
 registered_port scheme.RSync = Some 873
+registered_port scheme.RTMFP = Some 1935
 registered_port scheme.RTSP = Some 554
 registered_port scheme.RTSPS = Some 322
 registered_port scheme.RTSPU = Some 554

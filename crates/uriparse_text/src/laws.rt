@@ -116,10 +116,11 @@ pub fn one_escaping()
 {}
 
 /// The text that bytes are written as is of the class and its own canonical spelling, and stands for
-/// these bytes.
+/// these bytes; so does what a buffer begins with once that text is written there.
 pub fn one_encoding()
     ensures class { (class : Class) (bytes : List ℕ) → are_bytes bytes ≡ true → IsIn class (encoded class bytes) }
     ensures back { (class : Class) (bytes : List ℕ) → are_bytes bytes ≡ true → decoded (encoded class bytes) ≡ bytes }
+    ensures written { (class : Class) (bytes old new : List ℕ) (n : ℕ) → are_bytes bytes ≡ true → Writes (encoded class bytes) (Ok n) old new → decoded (take n new) ≡ bytes }
     ensures canonical { (class : Class) (bytes : List ℕ) → are_bytes bytes ≡ true → canonical_in case.Kept (encoded class bytes) ≡ encoded class bytes }
 {}
 

@@ -8,6 +8,7 @@ pub mod PieceLemmas
 pub mod LengthLemmas
 pub mod FaultLemmas
 pub mod PlaceLemmas
+pub mod PlaceByteLemmas
 pub mod EndLemmas
 pub mod SameTextLemmas
 pub mod NamedLemmas

@@ -4,6 +4,7 @@ pub mod TailLemmas
 pub mod ReadingLemmas
 pub mod FaultSourceLemmas
 pub mod PlaceLemmas
+pub mod PlaceByteLemmas
 pub mod SpellingLemmas
 pub mod PrintedLemmas
 pub mod LengthLemmas

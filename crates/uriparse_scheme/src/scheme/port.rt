@@ -21,6 +21,7 @@ impl RegisteredScheme {
             // schemes.tsv: ports
             RegisteredScheme::AAA => Some(3868),
             RegisteredScheme::ACAP => Some(674),
+            RegisteredScheme::CAP => Some(1026),
             RegisteredScheme::CoAP => Some(5683),
             RegisteredScheme::CoAPTCP => Some(5683),
             RegisteredScheme::CoAPWS => Some(80),
@@ -30,6 +31,7 @@ impl RegisteredScheme {
             RegisteredScheme::DICT => Some(2628),
             RegisteredScheme::DNS => Some(53),
             RegisteredScheme::FTP => Some(21),
+            RegisteredScheme::Go => Some(1096),
             RegisteredScheme::Gopher => Some(70),
             RegisteredScheme::HTTP => Some(80),
             RegisteredScheme::HTTPS => Some(443),
@@ -47,6 +49,7 @@ impl RegisteredScheme {
             RegisteredScheme::Redis => Some(6379),
             RegisteredScheme::RedisS => Some(6379),
             RegisteredScheme::RSync => Some(873),
+            RegisteredScheme::RTMFP => Some(1935),
             RegisteredScheme::RTSP => Some(554),
             RegisteredScheme::RTSPS => Some(322),
             RegisteredScheme::RTSPU => Some(554),

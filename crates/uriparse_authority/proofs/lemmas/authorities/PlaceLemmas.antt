@@ -62,7 +62,7 @@ user_lengths (Some i) =
     omega (arith, whole, long)
 
 -- what holds of the one error holds of the other
-as_told : {A E : Type 0} (P : E → Type 0) (x e : E) → P x → ◌≡◌ {A = Result A E} (Err x) (Err e) → P e
+pub as_told : {A E : Type 0} (P : E → Type 0) (x e : E) → P x → ◌≡◌ {A = Result A E} (Err x) (Err e) → P e
 as_told P x e is k = let same : x ≡ e = cc in subst P same is
 
 -- ---- hosts
@@ -145,7 +145,7 @@ present_port (Some t) e h = let s = port_before_end t e h in omega (arith, s)
 -- ---- the authority
 
 -- the error is that of one of four results in sequence
-one_has : {A B C D E : Type 0} (a : Result A AuthorityError) (b : Result B AuthorityError) (c : Result C AuthorityError) (d : Result D AuthorityError)
+pub one_has : {A B C D E : Type 0} (a : Result A AuthorityError) (b : Result B AuthorityError) (c : Result C AuthorityError) (d : Result D AuthorityError)
     (make : A → B → C → D → E) (e : AuthorityError) (P : Type 0) → (fault_in a ≡ Some e → P) → (fault_in b ≡ Some e → P) → (fault_in c ≡ Some e → P)
     → (fault_in d ≡ Some e → P) → fault_in (a >>= λ x. b >>= λ y. c >>= λ z. d >>= λ w. Ok (make x y z w)) ≡ Some e → P
 one_has (Err x) b c d make e P na nb nc nd k = na k
@@ -155,7 +155,7 @@ one_has (Ok a) (Ok b) (Ok c) (Err x) make e P na nb nc nd k = nd k
 one_has (Ok a) (Ok b) (Ok c) (Ok d) make e P na nb nc nd k = cc
 
 -- the error is that of a component
-told_by : {A E : Type 0} (told : E → AuthorityError) (r : Result A E) (e : AuthorityError) (P : AuthorityError → Type 0)
+pub told_by : {A E : Type 0} (told : E → AuthorityError) (r : Result A E) (e : AuthorityError) (P : AuthorityError → Type 0)
     → ((x : E) → r ≡ Err x → P (told x)) → fault_in (of_piece told r) ≡ Some e → P e
 told_by told (Ok a) e P is k = cc
 told_by told (Err x) e P is k = let same : told x ≡ e = cc in subst P same (is x refl)

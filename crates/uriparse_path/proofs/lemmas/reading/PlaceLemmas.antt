@@ -1,24 +1,27 @@
 -- The place of the leftmost fault of a path.
-use Rattle.std.proofs.Common.{◌≡◌, ◌≢◌, ℕ, zero, suc, ◌+◌, ◌-◌, ◌<◌, ◌≤◌, cond, Some, None, Bool, true, false, ◌&&◌, ◌||◌, List, [], ◌∷◌, length, take, refl, sym, ap, ◌∙◌, arith}
-use Rattle.std.specs.Prelude.{not, ◌==◌}
+use Rattle.std.proofs.Common.{◌≡◌, ◌≢◌, ℕ, zero, suc, ◌+◌, ◌-◌, ◌<◌, ◌≤◌, ◌↔◌, cond, Option, Some, None, Bool, true, false, ◌&&◌, ◌||◌, List, [], ◌∷◌, length, take, refl, sym, ap, ◌∙◌, arith}
+use Rattle.std.specs.Prelude.{not, ◌==◌, slice_get}
+use Rattle.std.specs.Option.{option_map}
 use Rattle.std.specs.List.{slice_split}
 use Rattle.std.proofs.lemmas.Bool.{and_parts, eqb-true, eqb-false, ne_eqb}
 use Rattle.uriparse_text.specs.declared.internal.class.Class.TheVariants.{Segment, Query}
-use Rattle.uriparse_text.specs.Bytes.{is_hex, is_unreserved, is_sub_delim, colon, at_sign, question_mark}
+use Rattle.uriparse_text.specs.Bytes.{is_hex, is_unreserved, is_sub_delim, colon, at_sign, percent, question_mark}
 use Rattle.uriparse_text.specs.Cuts.{up_to}
 use Rattle.uriparse_text.specs.Place as text_place
 use Rattle.uriparse_text.specs.Classes.{is_plain}
 use Rattle.uriparse_text.specs.Tokens.{is_escape}
 use Rattle.uriparse_text.specs.Faults.{begins_fine}
 use Rattle.uriparse_text.specs.declared.segment.error.PathError.{PathError}
+use Rattle.uriparse_text.specs.declared.segment.error.PathError.TheVariants.{ExceededMaximumLength, InvalidCharacter, InvalidPercentEncoding}
+use Rattle.uriparse_text.specs.Segment as segment
 use Rattle.uriparse_path.specs.Path.{is_rooted, is_slash, max_segments, root, unrooted}
-use Rattle.uriparse_path.specs.Faults.{fault, fault_within}
+use Rattle.uriparse_path.specs.Faults.{error_of, fault, fault_within}
 use Rattle.uriparse_path.specs.Place.{fault_place, place_within}
 use Rattle.uriparse_text.proofs.lemmas.tokens.TokenLemmas.{escape_at, no_escape_with, no_escape_across}
 use Rattle.uriparse_text.proofs.lemmas.canonical.RunLemmas.{no_escape}
 use Rattle.uriparse_text.proofs.lemmas.classes.FaultByByteLemmas.{fine_plain, fine_escape, hex_plain}
 use Rattle.uriparse_text.proofs.lemmas.classes.PlaceLemmas as text
-use Rattle.uriparse_path.proofs.lemmas.reading.FaultLemmas.{SameFrom, behind_plain, behind_sign, behind_slash, no_more}
+use Rattle.uriparse_path.proofs.lemmas.reading.FaultLemmas.{SameFrom, at_limit, behind_plain, behind_sign, behind_slash, faulty_byte, no_more}
 
 pub place-nil : (n : ℕ) → place_within n [] ≡ 0
 unfolding place_within
@@ -342,3 +345,88 @@ faultless_before (b ∷ t) = by_slash (is_slash b) refl
         ap (λ m. fault_within max_segments (slice_split is_slash (unrooted (take m (b ∷ t))))) k
         ∙ ap (λ u. fault_within max_segments (slice_split is_slash u)) (unrooted_front b (place_within (max_segments - 1) (b ∷ t)) t e)
         ∙ before_within (max_segments - 1) (b ∷ t)
+
+-- ---- the fault is that of the byte at the place
+
+byte_within : (n : ℕ) (t : List ℕ) → fault_within (n + 1) (slice_split is_slash t) ≡ option_map error_of (slice_get t (place_within n t))
+byte_within n [] = no_more n
+byte_within n (b ∷ t) = by_plain (is_plain Segment b) refl (byte_within n t) (byte_within (n - 1) t)
+  where
+    There : Type 0
+    There = fault_within (n + 1) (slice_split is_slash (b ∷ t)) ≡ option_map error_of (slice_get (b ∷ t) (place_within n (b ∷ t)))
+
+    Later : ℕ → Type 0
+    Later m = fault_within (m + 1) (slice_split is_slash t) ≡ option_map error_of (slice_get t (place_within m t))
+
+    here : place_within n (b ∷ t) ≡ 0 → fault_within (n + 1) (slice_split is_slash (b ∷ t)) ≡ Some (error_of b) → There
+    here none is = is ∙ sym (ap (λ k. option_map error_of (slice_get (b ∷ t) k)) none)
+
+    later : SameFrom n (b ∷ t) t → begins_fine Segment (b ∷ t) ≡ true → Later n → There
+    later same fine is = same.fault ∙ is ∙ sym (ap (λ k. option_map error_of (slice_get (b ∷ t) k)) (place-fine n b t fine))
+
+    error_is : (v : Bool) → is_slash b ≡ v → error_of b ≡ cond v ExceededMaximumLength (segment.error_of b)
+    error_is v f = ap (λ x. cond x ExceededMaximumLength (segment.error_of b)) f
+
+    by_slash : (u v : Bool) → is_slash b ≡ u → (n == 0) ≡ v → is_plain Segment b ≡ false → is_escape b t ≡ false → Later (n - 1) → There
+    by_slash true true f g plain never is =
+        let none = eqb-true n 0 g in
+        here (ap (λ m. place_within m (b ∷ t)) none ∙ place-full b t (rw (plain, never) refl))
+        (ap (λ m. fault_within (m + 1) (slice_split is_slash (b ∷ t))) none ∙ at_limit b t f ∙ sym (ap Some (error_is true f)))
+    by_slash true false f g plain never is =
+        let some = eqb-false n 0 g in
+        let one_less : n + 1 ≡ n - 1 + 1 + 1 = omega (arith, some) in
+        ap (λ m. fault_within m (slice_split is_slash (b ∷ t))) one_less
+        ∙ behind_slash (n - 1) b t f ∙ is
+        ∙ sym (ap (λ k. option_map error_of (slice_get (b ∷ t) k)) (place-slash n b t (rw (plain, never) refl) f some))
+    by_slash false v f g plain never is =
+        here (place-faulty n b t (rw (plain, never) refl) f) (faulty_byte n b t plain f never ∙ sym (ap Some (error_is false f)))
+
+    by_escape : (w : Bool) → is_escape b t ≡ w → is_plain Segment b ≡ false → Later n → Later (n - 1) → There
+    by_escape true f g is other = later (behind_sign n b t f) (rw (g, f) refl) is
+    by_escape false f g is other = by_slash (is_slash b) (n == 0) refl refl g f other
+
+    by_plain : (v : Bool) → is_plain Segment b ≡ v → Later n → Later (n - 1) → There
+    by_plain true f is other = later (behind_plain n b t f) (rw f refl) is
+    by_plain false f is other = by_escape (is_escape b t) refl f is other
+
+pub fault_there : (t : List ℕ) → fault t ≡ option_map error_of (slice_get t (fault_place t))
+unfolding fault max_segments
+fault_there [] = no_more (max_segments - 1)
+fault_there (b ∷ t) = by_slash (is_slash b) refl
+  where
+    by_slash : (v : Bool) → is_slash b ≡ v → fault (b ∷ t) ≡ option_map error_of (slice_get (b ∷ t) (fault_place (b ∷ t)))
+    by_slash true e =
+        let k : fault_place (b ∷ t) ≡ suc (place_within (max_segments - 1) t) =
+        ap (λ v. length (root v) + place_within (max_segments - 1) (cond v t (b ∷ t))) e ∙ (omega arith) in
+        ap (λ v. fault_within max_segments (slice_split is_slash (cond v t (b ∷ t)))) e
+        ∙ byte_within (max_segments - 1) t
+        ∙ sym (ap (λ m. option_map error_of (slice_get (b ∷ t) m)) k)
+    by_slash false e =
+        let k : fault_place (b ∷ t) ≡ place_within (max_segments - 1) (b ∷ t) =
+        ap (λ v. length (root v) + place_within (max_segments - 1) (cond v t (b ∷ t))) e ∙ (omega arith) in
+        ap (λ v. fault_within max_segments (slice_split is_slash (cond v t (b ∷ t)))) e
+        ∙ byte_within (max_segments - 1) (b ∷ t)
+        ∙ sym (ap (λ m. option_map error_of (slice_get (b ∷ t) m)) k)
+
+-- ---- the byte is a `%` exactly for the error of an escape
+
+pub escape_of_byte : (o : Option ℕ) (e : PathError) → option_map error_of o ≡ Some e → (e ≡ InvalidPercentEncoding) ↔ (o ≡ Some percent)
+escape_of_byte None e h = absurd (cc)
+escape_of_byte (Some b) e h = (λ is. sign is, λ there. sym (of_sign there))
+  where
+    same : error_of b ≡ e
+    same = cc
+
+    by_tests : (v w : Bool) → (b == percent) ≡ w → cond v ExceededMaximumLength (cond w InvalidPercentEncoding InvalidCharacter) ≡ InvalidPercentEncoding → Some b ≡ Some percent
+    by_tests true w f k = absurd (cc)
+    by_tests false true f k = ap Some (eqb-true b percent f)
+    by_tests false false f k = absurd (cc)
+
+    sign : e ≡ InvalidPercentEncoding → Some b ≡ Some percent
+    sign is = by_tests (is_slash b) (b == percent) refl (same ∙ is)
+
+    of_sign : Some b ≡ Some percent → InvalidPercentEncoding ≡ e
+    of_sign there = let byte : b ≡ percent = cc in sym (ap error_of byte) ∙ same
+
+pub escape_there : (t : List ℕ) (e : PathError) → fault t ≡ Some e → (e ≡ InvalidPercentEncoding) ↔ (slice_get t (fault_place t) ≡ Some percent)
+escape_there t e h = escape_of_byte (slice_get t (fault_place t)) e (sym (fault_there t) ∙ h)

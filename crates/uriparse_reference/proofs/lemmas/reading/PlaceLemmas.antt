@@ -74,7 +74,7 @@ begin_length t =
 -- ---- a fault is before the end
 
 -- the error is that of a component
-told_by : {A E : Type 0} (told : E → URIReferenceError) (r : Result A E) (e : URIReferenceError) (P : URIReferenceError → Type 0)
+pub told_by : {A E : Type 0} (told : E → URIReferenceError) (r : Result A E) (e : URIReferenceError) (P : URIReferenceError → Type 0)
     → ((x : E) → r ≡ Err x → P (told x)) → fault_in (of_piece told r) ≡ Some e → P e
 told_by told (Ok a) e P is k = cc
 told_by told (Err x) e P is k = let same : told x ≡ e = cc in subst P same (is x refl)
@@ -95,7 +95,7 @@ refused_some true false [] e k = cc
 refused_some false false [] e k = cc
 refused_some v false (b ∷ h) e k = omega arith
 
-refused_place : (v w : Bool) (t h : List ℕ) (e : URIReferenceError) → path_refusal v w h ≡ Some e → fault_place e t ≡ path_begin t
+pub refused_place : (v w : Bool) (t h : List ℕ) (e : URIReferenceError) → path_refusal v w h ≡ Some e → fault_place e t ≡ path_begin t
 refused_place v true t h e k = cc
 refused_place v false t h e k = by_tests (has_two_slashes h) (v || is_noscheme h) k
   where

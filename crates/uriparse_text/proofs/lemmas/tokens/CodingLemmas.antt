@@ -1,5 +1,5 @@
 -- Bytes that are written as a text, and the bytes that a text stands for.
-use Rattle.std.proofs.Common.{◌≡◌, ℕ, ◌<◌, ◌≤◌, Bool, true, false, List, [], ◌∷◌, ◌++◌, map, refl, sym, ap, ◌∙◌, arith, append_assoc, append-nil, ◌+◌, length, take, drop, get_or, zero, suc}
+use Rattle.std.proofs.Common.{◌≡◌, ℕ, ◌<◌, ◌≤◌, Bool, true, false, List, [], ◌∷◌, ◌++◌, map, refl, sym, ap, ◌∙◌, arith, append_assoc, append-nil, ◌+◌, length, take, drop, get_or, Ok, zero, suc}
 use Rattle.std.specs.Prelude.{◌==◌, ◌&&◌, ◌/◌, ◌%◌, bytes_eq}
 use Rattle.std.specs.Cmp.Lexicographic.{slice_cmp}
 use Rattle.std.specs.Cmp.{nat_cmp_is}
@@ -14,7 +14,7 @@ use Rattle.std.proofs.lemmas.Bool.Decides.{nat_tests}
 use Rattle.std.proofs.lemmas.List.{map-append}
 use Rattle.std.proofs.lemmas.Grind.{flat_map-append}
 use Rattle.std.proofs.lemmas.List.Folds.{list_all_more}
-use Rattle.std.proofs.Math.Seq.{take-suc}
+use Rattle.std.proofs.Math.Seq.{take-append_seam, take-suc}
 use Rattle.uriparse_text.specs.declared.internal.token.Token.{Token}
 use Rattle.uriparse_text.specs.declared.internal.token.Token.TheVariants.{Byte, Escape}
 use Rattle.uriparse_text.specs.declared.internal.class.Class.{Class}
@@ -27,6 +27,7 @@ use Rattle.uriparse_text.specs.Faults.{allows, IsIn}
 use Rattle.uriparse_text.specs.Canonical.{canonical_token, canonical_in, escaped_byte}
 use Rattle.uriparse_text.specs.Alike.{AreCommon, upper_digit_of}
 use Rattle.uriparse_text.specs.Coding.{value_of, decoded, token_for, encoded, are_bytes, form_value_of, form_decoded, token_without, encoded_without}
+use Rattle.uriparse_text.specs.Starts.{Writes}
 use Rattle.uriparse_text.proofs.lemmas.canonical.RunLemmas.{no_escape}
 use Rattle.uriparse_text.proofs.lemmas.tokens.TokenLemmas.{tokens-byte, tokens-nil, tokens_of_concatenation, digits-tokens}
 use Rattle.uriparse_text.proofs.lemmas.canonical.CanonicalLemmas.{by_escaped, upper_value, tokens-canonical_in}
@@ -109,6 +110,14 @@ values class (b ∷ bytes) h =
 pub decoded-encoded : (class : Class) (bytes : List ℕ) → are_bytes bytes ≡ true → decoded (encoded class bytes) ≡ bytes
 unfolding decoded
 decoded-encoded class bytes h = ap (map value_of) (tokens-encoded class bytes h) ∙ values class bytes h
+
+-- so does what a buffer begins with once the text is written there
+pub decoded-written : (class : Class) (bytes old new : List ℕ) (n : ℕ) → are_bytes bytes ≡ true → Writes (encoded class bytes) (Ok n) old new
+    → decoded (take n new) ≡ bytes
+decoded-written class bytes old new n h is =
+    let begins : take n new ≡ encoded class bytes =
+    ap (λ m. take m new) is.0 ∙ ap (take (length (encoded class bytes))) is.1 ∙ take-append_seam (encoded class bytes) (drop (length (encoded class bytes)) old) in
+    ap decoded begins ∙ decoded-encoded class bytes h
 
 kept : (class : Class) (bytes : List ℕ) → are_bytes bytes ≡ true → map (canonical_token Kept) (map (token_for class) bytes) ≡ map (token_for class) bytes
 kept class [] h = refl
