@@ -1,5 +1,5 @@
 //! A text whose tokens are in one class: what user names, segments, queries and the like share.
-ghost use Rattle.std.specs.Prelude.{◌≡◌, ◌↔◌, ℕ, List, [], IsTrue, IfOk, OnOk, OnErr, IsOk, Some, true, bytes_eq, length, string_bytes, unwrap_or};
+ghost use Rattle.std.specs.Prelude.{◌≡◌, ◌↔◌, ℕ, List, [], IsTrue, IfOk, OnOk, OnErr, IsOk, Some, true, bytes_eq, length, string_bytes, take, unwrap_or};
 ghost use Rattle.std.proofs.Common.{rules};
 ghost use Rattle.std.specs.Ordering.{on};
 ghost use Rattle.std.specs.Cmp.Rules.{comparing, hashing};
@@ -264,7 +264,8 @@ impl<'t, K: TextKind> Text<'t, K> {
     /// ```
     pub fn encode_into(bytes: &[u8], out: &mut [u8]) -> Result<usize, TooSmall>
         requires { K.case ≡ Kept }
-        ensures { Writes (encoded K.class bytes.now) result out.old out.new }
+        ensures text { Writes (encoded K.class bytes.now) result out.old out.new }
+        ensures back { IfOk result (λ n. decoded (take n out.new) ≡ bytes.now) }
     {
         starts::encode_into(K::class(), bytes, out)
     }
