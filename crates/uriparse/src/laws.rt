@@ -10,7 +10,7 @@ ghost use Rattle.uriparse_reference.specs.Reference.{Parts, Valid, print};
 ghost use Rattle.uriparse.specs.File.{file_uri, path_named, path_of_uri, uri_of_path};
 ghost use Rattle.uriparse.specs.declared.file.error.FileError.TheVariants as errors;
 ghost use Rattle.uriparse.specs.Kinds.{IsOfKind, told_of};
-ghost use Rattle.uriparse.specs.Origin.{are_alike, fed, have_same_origin, origin, printed_origin, share_origin};
+ghost use Rattle.uriparse.specs.Origin.{are_alike, fed, have_same_origin, origin, printed_origin, share_origin, text};
 ghost use Rattle.uriparse.specs.declared.uri.origin.Origin.{Origin};
 ghost use Rattle.uriparse_authority.specs.Host as host;
 ghost use Rattle.uriparse_scheme.specs.Scheme as scheme;
@@ -32,13 +32,15 @@ pub fn one_relative_reference()
 
 /// A URI has the origin that it has without its scheme's default port. Two URIs have the same origin
 /// if both have one, and these are alike: in the canonical spelling of their schemes, in the kind and
-/// the canonical spelling of their hosts, and in their ports. A hasher is fed the same for both then.
+/// the canonical spelling of their hosts, and in their ports. A hasher is fed the same for both then, and
+/// they have one text.
 pub fn one_origin()
     ensures port { (p : Parts) → origin (without_default_port p) ≡ origin p }
     ensures none { (p q : Parts) → origin p ≡ None → (have_same_origin p q ≡ false) × (have_same_origin q p ≡ false) }
     ensures same { (p q : Parts) (a b : Origin) → origin p ≡ Some a → origin q ≡ Some b → have_same_origin p q ≡ are_alike a b }
     ensures parts { (a b : Origin) → (are_alike a b ≡ true) ↔ ((scheme.canonical_text a.scheme ≡ scheme.canonical_text b.scheme) × (host.key a.host ≡ host.key b.host) × (a.port ≡ b.port)) }
     ensures hash { (a b : Origin) → are_alike a b ≡ true → fed a ≡ fed b }
+    ensures text { (p q : Parts) (a b : Origin) → Valid p → Valid q → origin p ≡ Some a → origin q ≡ Some b → are_alike a b ≡ true → text a ≡ text b }
 {}
 
 /// Origins: of one spelling each, and of URIs that have none.
