@@ -57,8 +57,8 @@ pub fn first_fault()
 
 /// The place of an authority's fault precedes the end of the text, and the byte there is one at which
 /// the error may be: a byte that may not stand in its component, the bracket before an address of a
-/// wrong form, or the first digit of too large a port. It is a `%` exactly if an error of the user
-/// name or the password is about a percent-encoding.
+/// wrong form, or the first digit of too large a port. For an error of the user name or the password
+/// it is a `%` exactly if the error is about a percent-encoding; for one of a host it may be one too.
 pub fn one_place_of_fault()
     ensures byte { (a : List ℕ) (e : AuthorityError) → fault a ≡ Some e → IsSomeAnd (slice_get a (fault_place e a)) (IsWrongByte e) }
     ensures username_escape { (a : List ℕ) (e : UsernameError) → fault a ≡ Some (errors.Username e) → (e ≡ username_errors.InvalidPercentEncoding) ↔ (slice_get a (fault_place (errors.Username e) a) ≡ Some percent) }

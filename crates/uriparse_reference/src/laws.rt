@@ -66,8 +66,9 @@ pub fn faults_of_reading()
 {}
 
 /// The place of a text's fault precedes the end of the text, and the byte there is one at which the
-/// error may be, as the laws of the components say of theirs. It is a `%` exactly if an error is about
-/// a percent-encoding; those of a host, and that a path needs a scheme before it, tell nothing of that.
+/// error may be, as the laws of the components say of theirs. For an error of a user name, a password,
+/// a path, a query or a fragment it is a `%` exactly if the error is about a percent-encoding; for one
+/// of a host, or of a path that needs a scheme before it, it may be one too.
 pub fn one_place_of_fault()
     ensures byte { (t : List ℕ) (e : URIReferenceError) → fault t ≡ Some e → IsSomeAnd (slice_get t (fault_place e t)) (IsWrongByte e) }
     ensures username_escape { (t : List ℕ) (e : UsernameError) → fault t ≡ Some (errors.Authority (authority_errors.Username e)) → (e ≡ username_errors.InvalidPercentEncoding) ↔ (slice_get t (fault_place (errors.Authority (authority_errors.Username e)) t) ≡ Some percent) }

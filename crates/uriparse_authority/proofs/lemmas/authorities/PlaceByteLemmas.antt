@@ -15,11 +15,11 @@ use Rattle.uriparse_text.specs.Faults as texts
 use Rattle.uriparse_text.specs.Faults.{begins_fine}
 use Rattle.uriparse_text.specs.Place as text_place
 use Rattle.uriparse_text.specs.Place.{place_behind}
-use Rattle.uriparse_text.specs.Readings.{◌>>=◌, fault_in, if_present, of_piece, reading_in, some_of, unless_fault}
+use Rattle.uriparse_text.specs.Readings.{if_present, of_piece, reading_in, some_of, unless_fault}
 use Rattle.uriparse_text.proofs.lemmas.readings.CutLemmas.{before_after, front_rest}
 use Rattle.uriparse_text.proofs.lemmas.classes.FaultLemmas.{fault-nil}
 use Rattle.uriparse_text.proofs.lemmas.classes.FaultByByteLemmas.{fault-begins_fine, fault_of_rest, fine_plain}
-use Rattle.uriparse_text.proofs.lemmas.classes.PlaceLemmas.{fault_before_end, fault_there}
+use Rattle.uriparse_text.proofs.lemmas.classes.PlaceLemmas.{fault_there}
 use Rattle.uriparse_authority.specs.declared.authority.error.AuthorityError.{AuthorityError}
 use Rattle.uriparse_authority.specs.declared.authority.error.AuthorityError.TheVariants as errors
 use Rattle.uriparse_authority.specs.declared.authority.error.HostError.{HostError}
@@ -38,7 +38,7 @@ use Rattle.uriparse_authority.specs.Port as port
 use Rattle.uriparse_authority.specs.Future.{begins_future, has_form, is_future_byte}
 use Rattle.uriparse_authority.specs.Host as host
 use Rattle.uriparse_authority.specs.Host.{in_brackets}
-use Rattle.uriparse_authority.specs.Authority.{cut_host, cut_port, fault, host_and_port_text, host_text, password_in, password_text, port_text, reading, userinfo_text, username_in, username_text}
+use Rattle.uriparse_authority.specs.Authority.{fault, host_and_port_text, host_text, password_in, password_text, port_text, reading, userinfo_text, username_in, username_text}
 use Rattle.uriparse_authority.specs.Place.{IsHostByte, IsPortByte, IsWrongByte, fault_place, host_place, literal_place, port_place}
 use Rattle.uriparse_authority.proofs.lemmas.hosts.HostLemmas.{brackets_exactly}
 use Rattle.uriparse_authority.proofs.lemmas.authorities.AuthorityLemmas.{right_is}

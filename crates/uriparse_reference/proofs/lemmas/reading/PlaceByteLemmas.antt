@@ -1,8 +1,7 @@
 -- The byte at the place of a text's fault.
 use Rattle.std.proofs.Common.{◌≡◌, ℕ, ◌+◌, ◌↔◌, Bool, true, false, cond, List, [], ◌∷◌, ◌++◌, length, Option, Some, None, Err, inl, inr, refl, sym, ap, ◌∙◌, subst, arith, append_assoc, append-nil, length-append}
-use Rattle.std.specs.Prelude.{◌⊎◌, ◌==◌, ◌||◌, IsSomeAnd, Result, is_some, slice_get}
+use Rattle.std.specs.Prelude.{◌⊎◌, ◌||◌, IsSomeAnd, is_some, slice_get}
 use Rattle.std.specs.Option.{option_map}
-use Rattle.std.proofs.lemmas.Bool.{eqb-true}
 use Rattle.uriparse_text.specs.declared.internal.class.Class.{Class}
 use Rattle.uriparse_text.specs.declared.internal.class.Class.TheVariants as class
 use Rattle.uriparse_text.specs.declared.fragment.FragmentError.{FragmentError}
@@ -18,7 +17,6 @@ use Rattle.uriparse_text.specs.Place as text_place
 use Rattle.uriparse_text.specs.Place.{place_behind}
 use Rattle.uriparse_text.specs.Query as query
 use Rattle.uriparse_text.specs.Readings.{◌>>=◌, fault_in, if_present, of_piece, reading_in, unless_fault}
-use Rattle.uriparse_text.specs.Segment as segment
 use Rattle.uriparse_path.specs.Path.{has_two_slashes, is_slash, spelled}
 use Rattle.uriparse_path.specs.Faults as path
 use Rattle.uriparse_path.specs.Place as path_place
