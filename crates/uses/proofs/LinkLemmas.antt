@@ -1,18 +1,21 @@
 -- Links that lead to URIs, one for each.
-use Rattle.std.proofs.Common.{◌≡◌, ◌<◌, ℕ, suc, ◌+◌, List, [], ◌∷◌, ◌++◌, Some, None, Ok, Err, inl, inr, length, take, get_or, sym, ap, subst, ◌∙◌, arith}
-use Rattle.std.specs.Prelude.{◌⊎◌, Result}
+use Rattle.std.proofs.Common.{◌≡◌, ◌<◌, ℕ, suc, ◌+◌, List, [], ◌∷◌, ◌++◌, Some, None, Ok, Err, inl, inr, length, take, get_or, refl, sym, ap, subst, ◌∙◌, arith}
+use Rattle.std.specs.Prelude.{◌⊎◌, IfErr, Result}
 use Rattle.std.proofs.Math.Seq.{take-suc}
 use Rattle.uriparse.specs.Readings.{IsUnless}
 use Rattle.uriparse.specs.PathError.TheVariants.{ExceededMaximumLength, OutOfMemory}
 use Rattle.uriparse.specs.URIReferenceError.{URIReferenceError}
 use Rattle.uriparse.specs.URIReferenceError.TheVariants as references
-use Rattle.uriparse.specs.Reference.{Parts}
+use Rattle.uriparse.specs.Reference.{Parts, Spells}
 use Rattle.uriparse.specs.Target.{target}
 use Rattle.uriparse.specs.Uri.{told}
 use Rattle.uriparse.specs.declared.uri.error.URIError.{URIError}
 use Rattle.uriparse.specs.declared.uri.error.URIError.TheVariants as uris
 use Rattle.uses.proofs.RedirectLemmas.{Resolves, unresolved}
-use Rattle.uses.specs.Links.{AreLinks, GainsLink, LinksTo}
+use Rattle.uriparse.specs.Escaped.{escaped}
+use Rattle.uriparse.specs.Link.{link}
+use Rattle.uriparse.specs.Reading.{fault}
+use Rattle.uses.specs.Links.{AreLinks, GainsLink, IsRejected, LinksTo}
 
 links_append : (base : Parts) (us ls : List Parts) (u l : Parts) → AreLinks base us ls → LinksTo base u l → AreLinks base (us ++ u ∷ []) (ls ++ l ∷ [])
 links_append base [] [] u l h k = (k, tt)
@@ -57,3 +60,24 @@ pub unread_link : (e : URIReferenceError) (p : Parts) → IsUnless (references.P
     → ◌≡◌ {A = Result Parts URIError} (Err (told e)) (Err (uris.Path OutOfMemory))
 unread_link e p (inl h) = absurd (cc)
 unread_link e p (inr h) = let same : e ≡ references.Path OutOfMemory = cc in ap (λ x. Err (told x)) same
+
+-- ---- why a link is rejected
+
+pub rejected : (base : Parts) (written : List ℕ) (e : URIError) (r : Result Parts URIError) → r ≡ Err e → IsRejected base written e
+    → IfErr r (λ x. IsRejected base written x)
+rejected base written e r is why = subst (λ x. IfErr x (λ y. IsRejected base written y)) (sym is) why
+
+-- its text has a fault
+pub rejected_text : (base : Parts) (written text : List ℕ) (e : URIReferenceError) → text ≡ escaped (link written)
+    → (fault text ≡ Some e) ⊎ (e ≡ references.Path OutOfMemory) → IsRejected base written (told e)
+rejected_text base written text e reads (inl is) = inl (e, sym (ap fault reads) ∙ is, refl)
+rejected_text base written text e reads (inr memory) = inr (inr (ap told memory))
+
+-- it has no target
+pub rejected_target : (base : Parts) (written : List ℕ) (r : Parts) (e : URIError) → Spells (escaped (link written)) r
+    → Resolves (target base r) (Err e) → IsRejected base written e
+rejected_target base written r e spells h = by_answer (unresolved (target base r) e h)
+  where
+    by_answer : ((target base r ≡ None) × (e ≡ uris.Path ExceededMaximumLength)) ⊎ (e ≡ uris.Path OutOfMemory) → IsRejected base written e
+    by_answer (inl none) = inr (inl (r, spells, none.0, none.1))
+    by_answer (inr memory) = inr (inr memory)

@@ -5,9 +5,12 @@ use Rattle.std.specs.Option.{IsSomeAnd}
 use Rattle.uriparse.specs.PathError.TheVariants.{ExceededMaximumLength, OutOfMemory}
 use Rattle.uriparse.specs.Escaped.{escaped}
 use Rattle.uriparse.specs.Link.{link}
+use Rattle.uriparse.specs.Reading.{fault}
 use Rattle.uriparse.specs.Reference.{Parts, Spells}
 use Rattle.uriparse.specs.Relate.{LeavesOut}
 use Rattle.uriparse.specs.Target.{target}
+use Rattle.uriparse.specs.URIReferenceError.{URIReferenceError}
+use Rattle.uriparse.specs.Uri.{told}
 use Rattle.uriparse.specs.declared.uri.error.URIError.{URIError}
 use Rattle.uriparse.specs.declared.uri.error.URIError.TheVariants.{Path}
 
@@ -22,6 +25,13 @@ Reaches base written u = (r : Parts) × Spells (escaped (link written)) r × (ta
 -- Why a link is rejected: it has no target, or memory ran out.
 abbrev pub IsRefusal : Parts → Parts → URIError → Type 0
 IsRefusal base link error = ((target base link ≡ None) × (error ≡ Path ExceededMaximumLength)) ⊎ (error ≡ Path OutOfMemory)
+
+-- Why a link that stands in a page as people write it is rejected: its text has this fault, it has no target, or memory ran out.
+abbrev pub IsRejected : Parts → List ℕ → URIError → Type 0
+IsRejected base written error =
+    ((e : URIReferenceError) × (fault (escaped (link written)) ≡ Some e) × (error ≡ told e))
+    ⊎ (((r : Parts) × Spells (escaped (link written)) r × (target base r ≡ None) × (error ≡ Path ExceededMaximumLength))
+    ⊎ (error ≡ Path OutOfMemory))
 
 -- each of these links has a target
 abbrev pub HaveTargets : Parts → List Parts → Type 0

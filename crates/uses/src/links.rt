@@ -5,7 +5,7 @@ ghost use Rattle.uriparse.specs.PathError.TheVariants.{OutOfMemory};
 ghost use Rattle.uriparse.specs.Readings.{IsUnless};
 ghost use Rattle.uriparse.specs.Reference.{Parts};
 ghost use Rattle.uriparse.specs.declared.uri.error.URIError.TheVariants as uris;
-ghost use Rattle.uses.specs.Links.{AreLinks, AreTargets, Gains, GainsLink, IsRefusal, IsRefused, Reaches};
+ghost use Rattle.uses.specs.Links.{AreLinks, AreTargets, Gains, GainsLink, IsRefusal, IsRefused, IsRejected, Reaches};
 
 use std::alloc::{AllocError, Global};
 use uriparse::{PathError, URI, URIError, URIReference, escape_invalid, trim_link};
@@ -13,7 +13,8 @@ use uriparse::{PathError, URI, URIError, URIReference, escape_invalid, trim_link
 /// The target of a link as people write it, against the page's base: the link is trimmed, escaped,
 /// read and resolved.
 ///
-/// Fails if the link is no reference even so, if it has no target, or if memory runs out.
+/// Fails with the fault of the text if the link is no reference even so, with the error of the length
+/// if it has no target, or if memory runs out.
 ///
 /// ```
 /// let base = URI::try_from_str(alloc, "http://a/b/c")?;
@@ -26,6 +27,9 @@ pub fn read_link(alloc: Global, base: &URI<'_>, link: &[u8]) -> Result<URI<'stat
 
     // A link that leads somewhere is followed, unless memory runs out.
     ensures only { (u : Parts) → Reaches base.now link.now u → IsUnless (uris.Path OutOfMemory) result (Ok u) }
+
+    // Each error has its own reason.
+    ensures refused { IfErr result (λ e. IsRejected base.now link.now e) }
 {
     let text = escape_invalid(alloc, trim_link(link))?;
     let reference = URIReference::try_from_str(alloc, text.as_str())?;

@@ -4,7 +4,7 @@ use Rattle.uriparse.specs.Link.{link}
 use Rattle.uriparse.specs.Reference.{Spells}
 use Rattle.uriparse.specs.Target.{target}
 use Rattle.uriparse.specs.Uri.{told}
-use Rattle.uses.proofs.LinkLemmas.{one_target, unread_link, untargeted_link}
+use Rattle.uses.proofs.LinkLemmas.{one_target, rejected, rejected_target, rejected_text, unread_link, untargeted_link}
 use Rattle.uses.proofs.RedirectLemmas.{resolved}
 use Rattle.uses.proofs.links.read_link.Goals as goal
 
@@ -43,3 +43,22 @@ returns-in_err-resolve-clause-only c u g =
     let is : c.from_residual-in_err-resolve.result ≡ Err e = search rules in
     inr (is ∙ untargeted_link c.args.base.now g.0 c.in_ok-reference.reference u e
     (c.in_ok-reference.ensures.only g.0 (subst (λ t. Spells t g.0) (sym reads) g.1)) g.2 c.in_err-resolve.ensures.answer)
+
+pub returns-in_err-reference-clause-refused : goal.returns-in_err-reference-clause-refused
+returns-in_err-reference-clause-refused c =
+    let reads : c.as_str.result.now ≡ escaped (link c.args.link.now) =
+    c.as_str.ensures.value ∙ c.in_ok-text.ensures.text ∙ ap escaped c.trim_link.ensures.link in
+    let e = c.in_err-reference.field-0.0 in
+    let is : c.from_residual-in_err-reference.result ≡ Err (told e) = search rules in
+    rejected c.args.base.now c.args.link.now (told e) c.from_residual-in_err-reference.result is
+    (rejected_text c.args.base.now c.args.link.now c.as_str.result.now e reads c.in_err-reference.ensures.fault)
+
+pub returns-in_err-resolve-clause-refused : goal.returns-in_err-resolve-clause-refused
+returns-in_err-resolve-clause-refused c =
+    let reads : c.as_str.result.now ≡ escaped (link c.args.link.now) =
+    c.as_str.ensures.value ∙ c.in_ok-text.ensures.text ∙ ap escaped c.trim_link.ensures.link in
+    let e = c.in_err-resolve.field-0.0 in
+    let is : c.from_residual-in_err-resolve.result ≡ Err e = search rules in
+    rejected c.args.base.now c.args.link.now e c.from_residual-in_err-resolve.result is
+    (rejected_target c.args.base.now c.args.link.now c.in_ok-reference.reference e
+    (subst (λ t. Spells t c.in_ok-reference.reference) reads c.in_ok-reference.ensures.found) c.in_err-resolve.ensures.answer)
