@@ -76,6 +76,8 @@ pub use Rattle.uriparse_reference.specs.Cuts
 pub use Rattle.uriparse_reference.specs.Reading
 pub use Rattle.uriparse_reference.specs.Place
 pub use Rattle.uriparse_reference.specs.View
+pub use Rattle.uriparse_reference.specs.OwnedText
+pub use Rattle.uriparse_reference.specs.TextEdits
 pub use Rattle.uriparse_reference.specs.Escaped
 pub use Rattle.uriparse_reference.specs.Into
 pub use Rattle.uriparse_reference.specs.Ports

@@ -64,6 +64,7 @@ impl<K: ReferenceKind> TextOf<K> {
     /// Fails as [`ViewOf::try_from_bytes`] does, even if memory has run out. If there is no such error
     /// but memory runs out, the error is the kind's `Path` of
     /// [`OutOfMemory`](uriparse_path::path::PathError::OutOfMemory).
+    #[tactic(auto, using(crate::proofs::lemmas::KindLemmas::faultless))]
     pub fn try_from_bytes(alloc: Global, bytes: &[u8]) -> Result<TextOf<K>, K::Error>
         // The result keeps the text, which spells its components, and is of the kind.
         ensures text { IfOk result (λ v. v.text ≡ bytes.now) }
@@ -75,6 +76,9 @@ impl<K: ReferenceKind> TextOf<K> {
 
         // An error is the text's fault, or that it is of the other kind, or out of memory.
         ensures fault { IfErr result (λ e. (fault_of K.has_scheme K.told K.other bytes.now ≡ Some e) ⊎ (e ≡ K.told (errors.Path OutOfMemory))) }
+
+        // A fault, or that it is of the other kind, is returned even if memory has run out.
+        ensures always { (e : K.Error) → fault_of K.has_scheme K.told K.other bytes.now ≡ Some e → result ≡ Err e }
     {
         match ViewOf::<K>::try_from_bytes(bytes) {
             Ok(view) => match view.to_text(alloc) {
@@ -92,6 +96,7 @@ impl<K: ReferenceKind> TextOf<K> {
         ensures kind { IfOk result (λ v. IsOfKind K.has_scheme v.parts) }
         ensures only { (p : Parts) → Spells text.now p → IsOfKind K.has_scheme p → IsUnless (K.told (errors.Path OutOfMemory)) result (Ok (record { text = text.now; parts = p })) }
         ensures fault { IfErr result (λ e. (fault_of K.has_scheme K.told K.other text.now ≡ Some e) ⊎ (e ≡ K.told (errors.Path OutOfMemory))) }
+        ensures always { (e : K.Error) → fault_of K.has_scheme K.told K.other text.now ≡ Some e → result ≡ Err e }
     {
         TextOf::try_from_bytes(alloc, text.as_bytes())
     }

@@ -9,6 +9,7 @@ pub mod Place
 pub mod View
 pub mod OwnedText
 pub mod TextKey
+pub mod TextEdits
 pub mod Escaped
 pub mod Normal
 pub mod Target

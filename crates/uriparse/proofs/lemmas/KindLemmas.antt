@@ -24,6 +24,11 @@ pub read_of : {E : Type 0} (v : Bool) (told : URIReferenceError → E) (other : 
     → reading_of v told other t ≡ of_kind v other p
 read_of v told other t p s = ap (λ r. told_of told r >>= of_kind v other) (again t p s)
 
+-- a text that spells a reference of the kind has no fault
+pub faultless : {E : Type 0} (v : Bool) (told : URIReferenceError → E) (other : E) (t : List ℕ) (p : Parts) → Spells t p → IsOfKind v p
+    → fault_of v told other t ≡ None
+faultless v told other t p s k = ap fault_in (read_of v told other t p s ∙ of_its_kind v other p k)
+
 -- what is taken is what was read
 taken_by : {E : Type 0} (other : E) (p q : Parts) (b : Bool) → ◌≡◌ {A = Result Parts E} (Ok p) (cond b (Ok q) (Err other))
     → ◌≡◌ {A = Result Parts URIReferenceError} (Ok q) (Ok p)

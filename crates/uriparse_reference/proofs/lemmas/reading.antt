@@ -19,3 +19,4 @@ pub mod EscapedTokenLemmas
 pub mod EscapedLemmas
 pub mod EscapedEndLemmas
 pub mod FrontFaultLemmas
+pub mod TextEditLemmas

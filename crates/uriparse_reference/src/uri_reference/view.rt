@@ -22,6 +22,7 @@ use uriparse_text::query::Query;
 
 mod compare;
 pub(in crate::uri_reference) mod cuts;
+mod end;
 mod into;
 mod kind;
 mod normal;

@@ -1,8 +1,8 @@
 //! Normal forms, targets and printed references, each in a text of its own: RFC 3986, sections 5.2,
 //! 5.3 and 6.2.2.
-ghost use Rattle.std.specs.Prelude.{◌≡◌, Err, IfOk, IsOk, MatchOption, MatchResult, is_some, string_bytes, true, false};
+ghost use Rattle.std.specs.Prelude.{◌≡◌, Err, IfOk, IfSome, IsOk, MatchOption, MatchResult, is_some, string_bytes, true, false};
 ghost use Rattle.uriparse_reference.specs.Normal.{normal};
-ghost use Rattle.uriparse_reference.specs.OwnedText.{IsReference, viewed_in};
+ghost use Rattle.uriparse_reference.specs.OwnedText.{AreCuts, IsReference, viewed_in};
 ghost use Rattle.uriparse_reference.specs.Reference.{ReadsBack, print};
 ghost use Rattle.uriparse_reference.specs.Target.{target};
 ghost use Rattle.uriparse_reference.specs.declared.uri_reference.error.TargetError.TheVariants as targets;
@@ -10,19 +10,28 @@ ghost use Rattle.uriparse_reference.specs.declared.uri_reference.error.TargetErr
 use super::super::URIReference;
 use super::super::error::TargetError;
 use super::super::view::ReferenceView;
+use super::super::view::cuts::Cuts;
 use super::{ReferenceText, find_cuts};
 use std::alloc::{AllocError, Global};
 
+/// Where the components lie of a text that is known to be a reference. The text is walked once.
+pub(super) fn known_cuts(text: &[u8]) -> Option<Cuts>
+    requires { IsReference text.now }
+    ensures { IfSome result (λ c. AreCuts text.now c) }
+{
+    match find_cuts(text) {
+        Ok(cuts) => cuts,
+        Err(_) => None,
+    }
+}
+
 /// The reference of this text, which is known to be one. The text is walked once, to find where its
 /// components lie.
-fn checked_text(text: String) -> ReferenceText
+pub(super) fn checked_text(text: String) -> ReferenceText
     requires { IsReference (string_bytes text) }
     ensures { result ≡ viewed_in (string_bytes text) }
 {
-    let cuts = match find_cuts(text.as_bytes()) {
-        Ok(cuts) => cuts,
-        Err(_) => None,
-    };
+    let cuts = known_cuts(text.as_bytes());
     ReferenceText { text, cuts }
 }
 

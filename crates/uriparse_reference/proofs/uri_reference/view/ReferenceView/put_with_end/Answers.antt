@@ -1,0 +1,10 @@
+use Rattle.std.proofs.Common.{subst}
+use Rattle.uriparse_text.specs.Ends.{EndsWith}
+use Rattle.uriparse_reference.proofs.lemmas.reading.TextEditLemmas.{put_whole}
+use Rattle.uriparse_reference.proofs.uri_reference.view.ReferenceView.put_with_end.Goals as goal
+
+pub returns-clause-ends : goal.returns-clause-ends
+returns-clause-ends c =
+    subst (EndsWith c.put.new.out c.put.result)
+    (put_whole c.args.self.now.text c.front.result.now c.args.query.now c.args.fragment.now c.front.ensures)
+    (c.put.ensures.puts _ c.put_end-len.ensures.ends)
