@@ -7,7 +7,7 @@
 #include <stdio.h>
 #include <ucontext.h>
 
-enum { STACK = 1 << 16, PAINT = 0xa5, SAID = 4096, LONG = 400000 };
+enum { STACK = 1 << 16, PAINT = 0xa5, SAID = 6144, LONG = 400000, MIDDLE = 1000 };
 
 struct text {
   const char *bytes;
@@ -43,11 +43,11 @@ static size_t depth(void) {
   return (size_t)(top - low);
 }
 
-/* A text that starts with `head`, repeats `piece`, and ends with `tail`. */
-static struct text repeat(char *out, const char *head, const char *piece, const char *tail) {
+/* A text that starts with `head`, repeats `piece` up to some `most` bytes, and ends with `tail`. */
+static struct text repeat(char *out, size_t most, const char *head, const char *piece, const char *tail) {
   size_t len = strlen(head);
   memcpy(out, head, len);
-  while (len + strlen(piece) <= LONG) {
+  while (len + strlen(piece) <= most) {
     memcpy(out + len, piece, strlen(piece));
     len += strlen(piece);
   }
@@ -65,12 +65,16 @@ int main(void) {
       {"", "a/", "b"}, {"http://h/", "a/../", "b?q#f"}, {"s:", "./..//", "%7e/."}, {"../", "../", "g"}, {"//", "%41a", ":1/x"},
       {"http://u", "%7e", ":p@h/"}, {"//u:", "p%4a", "@h"}, {"?", "a=%7e&", "#f"}, {"#", "%c3%bc", "x"}, {"x", "y-", "://[::1]/.."},
       {"//h:", "0", "80/"}, {"//[v1.", "a:", "]/"}, {"/", "a%2f\xc3\xbc ", "?#["}, {"http://h/", "%zz", "#"}, {"s://h/", "\\^", "?"}, {"/", "/", ""}};
-  enum { ROWS = sizeof rows / sizeof rows[0], LONG_ROWS = sizeof long_rows / sizeof long_rows[0], TEXTS = ROWS + LONG_ROWS };
-  static char room[LONG_ROWS][LONG + 100];
+  enum { ROWS = sizeof rows / sizeof rows[0], LONG_ROWS = sizeof long_rows / sizeof long_rows[0], TEXTS = ROWS + 2 * LONG_ROWS };
+  static char room[2 * LONG_ROWS][LONG + 100];
   static struct text texts[TEXTS];
   for (size_t i = 0; i < TEXTS; i++) {
-    texts[i] = i < ROWS ? (struct text){rows[i], strlen(rows[i])}
-                        : repeat(room[i - ROWS], long_rows[i - ROWS][0], long_rows[i - ROWS][1], long_rows[i - ROWS][2]);
+    if (i < ROWS) {
+      texts[i] = (struct text){rows[i], strlen(rows[i])};
+    } else {
+      const char *const *row = long_rows[(i - ROWS) / 2];
+      texts[i] = repeat(room[i - ROWS], i % 2 ? MIDDLE : LONG, row[0], row[1], row[2]);
+    }
   }
   size_t most = 0;
   for (which = 0; which < CALLS; which++) {

@@ -18,7 +18,7 @@
  * `*needed`, which becomes 0, or with URIPARSE_NO_ROOM the length of the text, and `*place`.
  *
  * There is no state between calls, so calls may run concurrently in any threads. No call allocates, so each may be called
- * in a signal handler, and in the forked child of a process with threads. A call takes at most 4,096 bytes of stack,
+ * in a signal handler, and in the forked child of a process with threads. A call takes at most 6,144 bytes of stack,
  * however long its texts are. Not counted is what the dynamic linker takes if it binds a function at its first call: link
  * with `-Wl,-z,now` to have it bind at the start.
  *
