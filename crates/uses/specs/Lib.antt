@@ -4,4 +4,5 @@ pub mod Links
 pub mod Proxy
 pub mod Redirects
 pub mod Registry
+pub mod SchemaStore
 pub mod Schemas
