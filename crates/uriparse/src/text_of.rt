@@ -20,6 +20,8 @@ use std::marker::{Model, PhantomData};
 use uriparse_path::path::PathError;
 use uriparse_reference::uri_reference::{ReferenceText, RejectedText, URIReferenceError};
 
+mod edit;
+
 /// A reference with a scheme or one without, by its kind, in a text that it owns. Users name it
 /// [`URIText`](crate::uri::URIText) or
 /// [`RelativeReferenceText`](crate::relative_reference::RelativeReferenceText). Contracts see it as
