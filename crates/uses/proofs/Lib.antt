@@ -3,3 +3,4 @@ pub mod ListLemmas
 pub mod ProxyLemmas
 pub mod RedirectLemmas
 pub mod RegistryLemmas
+pub mod SchemaStoreLemmas

@@ -6,8 +6,8 @@ use Rattle.std.specs.HashMap.{get_by, HashMap}
 use Rattle.uriparse.specs.Reference.{Parts}
 use Rattle.uriparse.specs.Target.{target}
 use Rattle.uriparse.specs.View.{Viewed}
-use Rattle.uriparse.specs.declared.uri_reference.error.TargetError.{TargetError}
-use Rattle.uriparse.specs.declared.uri_reference.error.TargetError.TheVariants.{TooManySegments, OutOfMemory}
+use Rattle.uriparse.specs.TargetError.{TargetError}
+use Rattle.uriparse.specs.TargetError.TheVariants.{TooManySegments, OutOfMemory}
 use Rattle.uses.specs.Equal.{is_equal}
 
 -- what `Schemas` names in Rust

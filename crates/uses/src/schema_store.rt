@@ -4,7 +4,7 @@ ghost use Rattle.std.specs.Prelude.{◌≡◌, ◌⊎◌, IfOk, IfErr, IsSome, O
 ghost use Rattle.uriparse.specs.Reference.{Parts};
 ghost use Rattle.uriparse.specs.Target.{target};
 ghost use Rattle.uriparse.specs.Uri.{base as without_fragment};
-ghost use Rattle.uriparse.specs.declared.uri_reference.error.TargetError.TheVariants as targets;
+ghost use Rattle.uriparse.specs.TargetError.TheVariants.{OutOfMemory};
 ghost use Rattle.uses.specs.Equal.{is_equal};
 ghost use Rattle.uses.specs.SchemaStore.{IsUntargeted, known};
 ghost use Rattle.uses.specs.declared.schema_store.SchemaError.TheVariants.{Taken, Memory, Target};
@@ -26,9 +26,17 @@ pub enum SchemaError {
     Taken,
     /// The identifier has no target against the base.
     #[error(transparent)]
-    Target(#[from] TargetError),
+    Target(TargetError),
     #[error("out of memory")]
     Memory,
+}
+
+impl From<TargetError> for SchemaError {
+    ghost from_gives = { λ x e. e ≡ Target x };
+
+    fn from(error: TargetError) -> SchemaError {
+        SchemaError::Target(error)
+    }
 }
 
 impl<T: Drop> From<AllocFailed<T>> for SchemaError {
@@ -98,7 +106,7 @@ pub fn add(
     ensures added { OnOk result ((t : Parts) × (target base.now.parts id.now.parts ≡ Some t) × (known schemas.old (without_fragment t) ≡ None)
         × ((p : Parts) → known schemas.new p ≡ (if is_equal (without_fragment t) p then Some index else known schemas.old p))) }
     ensures unchanged { OnErr result ((p : Parts) → known schemas.new p ≡ known schemas.old p) }
-    ensures taken { (t : Parts) → target base.now.parts id.now.parts ≡ Some t → IsSome (known schemas.old (without_fragment t)) → (result ≡ Err Taken) ⊎ (result ≡ Err (Target targets.OutOfMemory)) }
+    ensures taken { (t : Parts) → target base.now.parts id.now.parts ≡ Some t → IsSome (known schemas.old (without_fragment t)) → (result ≡ Err Taken) ⊎ (result ≡ Err (Target OutOfMemory)) }
 {
     let uri = resolve(alloc, base, id)?;
     if schemas.contains_key(&uri) {
