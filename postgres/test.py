@@ -141,9 +141,9 @@ def test_type() -> str:
     return "type: casts, keys and errors"
 
 
-def test_order(texts: List[bytes]) -> str:
+def test_order() -> str:
     """The operators are a total order, in which exactly the equal ones are level; the indexes agree with it."""
-    psql("ascii", "CREATE TABLE few (at int, x uri)", "INSERT INTO few SELECT at, x::uri FROM random WHERE uri_valid(x) AND at < 400",
+    psql("ascii", "CREATE TABLE few (at int, x uri)", "INSERT INTO few SELECT at, x::uri FROM random WHERE uri_valid(x) AND at < 220",
          "INSERT INTO few SELECT at + 1000, replace(x::text, 'a', '%61')::uri FROM few WHERE uri_valid(replace(x::text, 'a', '%61'))",
          "INSERT INTO few VALUES (5000, '//h'), (5001, '//h/'), (5002, '//%31.2.3.4'), (5003, '//1.2.3.4'), (5004, 'a/../b'), (5005, 'b')")
     # Each text's rank is how many texts precede it: the order is total if the ranks' order is the order of all pairs.
@@ -153,7 +153,7 @@ def test_order(texts: List[bytes]) -> str:
                " OR (a.x < b.x) <> (a.rank < b.rank) OR (a.x >= b.x) <> (a.rank >= b.rank) OR (a.x <= b.x) <> (a.rank <= b.rank)"
                " OR (a.x > b.x) <> (a.rank > b.rank)), count(*) FILTER (WHERE a.x = b.x AND a.at <> b.at) FROM ranks a, ranks b")[0][0]
     pairs, wrong, odd, level = map(int, row)  # type: ignore[arg-type]
-    assert wrong == odd == 0 and pairs > 100_000 and level > 100, row
+    assert wrong == odd == 0 and pairs > 40_000 and level > 100, row
     psql("ascii", "CREATE TABLE valid AS SELECT at, x::uri AS x FROM random WHERE uri_valid(x)", "CREATE INDEX by_order ON valid (x)",
          "CREATE INDEX by_hash ON valid USING hash (x)", "CREATE INDEX by_normal ON random (uri_normalize(x))", "ANALYZE valid",
          "CREATE EXTENSION IF NOT EXISTS amcheck", "SELECT bt_index_check('by_order', true)")
@@ -227,7 +227,7 @@ def main() -> None:
     print(test_random("ascii", texts))
     print(test_random("utf8", [text.decode("utf-8", "replace").encode() for text in texts[:2000]]))
     print(test_random("latin", texts[:2000]))
-    for found in (test_type(), test_order(texts), test_long(), test_cancelled()):
+    for found in (test_type(), test_order(), test_long(), test_cancelled()):
         print(found)
     psql("utf8", "DROP EXTENSION uri CASCADE")
 
