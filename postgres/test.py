@@ -145,7 +145,8 @@ def test_order() -> str:
     """The operators are a total order, in which exactly the equal ones are level; the indexes agree with it."""
     psql("ascii", "CREATE TABLE few (at int, x uri)", "INSERT INTO few SELECT at, x::uri FROM random WHERE uri_valid(x) AND at < 220",
          "INSERT INTO few SELECT at + 1000, replace(x::text, 'a', '%61')::uri FROM few WHERE uri_valid(replace(x::text, 'a', '%61'))",
-         "INSERT INTO few VALUES (5000, '//h'), (5001, '//h/'), (5002, '//%31.2.3.4'), (5003, '//1.2.3.4'), (5004, 'a/../b'), (5005, 'b')")
+         "INSERT INTO few VALUES (5000, '//h'), (5001, '//h/'), (5002, '//%31.2.3.4'), (5003, '//1.2.3.4'), (5004, 'a/../b'), (5005, 'b')",
+         "INSERT INTO few VALUES " + ", ".join("(%d, '%s')" % row for row in enumerate(rows.close_texts()[::2], 6000)))
     # Each text's rank is how many texts precede it: the order is total if the ranks' order is the order of all pairs.
     psql("ascii", "CREATE TABLE ranks AS SELECT a.at, a.x, (SELECT count(*) FROM few b WHERE b.x < a.x) AS rank FROM few a")
     row = psql("ascii", "SELECT count(*), count(*) FILTER (WHERE sign(uri_cmp(a.x, b.x)) <> sign(a.rank - b.rank)), count(*) FILTER ("

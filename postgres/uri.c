@@ -237,53 +237,28 @@ uri_check(PG_FUNCTION_ARGS)
 	PG_RETURN_DATUM(PG_GETARG_DATUM(0));
 }
 
-/* The key of a reference (order.h): in `room`, or allocated. */
-struct key {
-	char		room[SHORT];
-	char	   *at;
-	size_t		len;
-};
-
-/* Makes the key of a value of the type. Its text was checked when it came in. */
-static void
-make_key(struct bytes text, const struct uriparse_parts *parts, struct key *key)
+static void *
+allocate(size_t size)
 {
-	char		room[SHORT + ORDER_MORE],
-			   *copy = text.len <= SHORT ? room : palloc(text.len + ORDER_MORE);
-	size_t		len = order_text(text.at, text.len, parts, copy);
-	uint32_t	code = uriparse_normalize(copy, len, key->room, sizeof key->room, &key->len);
-
-	key->at = key->room;
-	if (code == URIPARSE_NO_ROOM)
-	{
-		key->at = palloc(key->len);
-		code = uriparse_normalize(copy, len, key->at, key->len, &key->len);
-	}
-	if (copy != room)
-		pfree(copy);
-	if (code != URIPARSE_OK)
-		elog(ERROR, "value of type uri has no key");
+	return palloc(size);
 }
 
-/* The sign of the order of two values' keys, then of their hosts' kinds. */
 static int
-compare_keys(const struct bytes *texts)
+compare_references(const struct bytes *texts)
 {
-	struct uriparse_parts parts[2];
-	struct key	keys[2];
+	struct order_text values[2];
 	int			order;
 
 	for (int i = 0; i < 2; i++)
 	{
-		if (!is_reference(texts[i], &parts[i]))
+		values[i].at = texts[i].at;
+		values[i].len = texts[i].len;
+		if (!is_reference(texts[i], &values[i].parts))
 			elog(ERROR, "value of type uri is no reference");
-		make_key(texts[i], &parts[i], &keys[i]);
 	}
-	order = order_bytes(keys[0].at, keys[0].len, keys[1].at, keys[1].len);
-	for (int i = 0; i < 2; i++)
-		if (keys[i].at != keys[i].room)
-			pfree(keys[i].at);
-	return order ? order : (parts[0].host_kind > parts[1].host_kind) - (parts[0].host_kind < parts[1].host_kind);
+	if (!order_references(&values[0], &values[1], allocate, pfree, &order))
+		elog(ERROR, "values of type uri have no order");
+	return order;
 }
 
 /* The sign of the order of two values. Equal texts are equal. */
@@ -294,7 +269,7 @@ compare(FunctionCallInfo fcinfo)
 	int			order = order_bytes(texts[0].at, texts[0].len, texts[1].at, texts[1].len);
 
 	if (order)
-		order = compare_keys(texts);
+		order = compare_references(texts);
 	release(fcinfo, 0, texts[0]);
 	release(fcinfo, 1, texts[1]);
 	return order;

@@ -51,3 +51,13 @@ def program_rows() -> List[Tuple[str, str, bool]]:
     with open(os.path.join(TOP, "crates/uri/src/tests.rt"), encoding="utf-8") as file:
         rows = re.findall(r'\(\s*"equal\|([^|"\\]*)\|([^|"\\]*)",\s*0,\s*"(equal|different)\\n"', file.read())
     return [(left, right, answer == "equal") for left, right, answer in rows]
+
+
+def close_texts() -> List[str]:
+    """References that differ late, with escapes round the ends of the pieces of a key, and with long authorities."""
+    texts = []
+    for size in (*range(120, 132), *range(250, 258)):
+        texts += [start + "b" * size + end for start in ("s:", "//h/") for end in ("%7Ea%2f", "~a%2F", "~a/", "~a", "%7ea?%7e#~", "")]
+    for size in (508, 509, 510, 700):
+        texts += ["//" + host * size + end for host in "hH" for end in ("", "/", ":", ":80/a", "/%61")]
+    return texts

@@ -157,6 +157,7 @@ def test_order(db: sqlite3.Connection) -> int:
     texts = [fuzz.some_text(draw).decode("utf-8", "replace").replace("\0", "0") for _ in range(120)]
     texts += [alike(draw, text) for text in texts] + ["//h", "//h/", "//h:", "//h:/", "//%31.2.3.4", "//1.2.3.4", "//1.2.3.4:",
                                                    "a/../b", "b", "a%2fb", "a%2Fb", "a/b", "a?b", "a%3fb", "a#b", "s:", "s:?"]
+    texts += rows.close_texts()
     db.execute("CREATE TABLE few (at INTEGER PRIMARY KEY, x TEXT COLLATE URI)")
     db.executemany("INSERT INTO few VALUES (?, ?)", enumerate(texts))
     size = len(texts)
@@ -178,7 +179,7 @@ def test_order(db: sqlite3.Connection) -> int:
                 is_equal = texts[left] == texts[right]
                 assert is_reference[left] == is_reference[right] or (sign < 0) == is_reference[left], (texts[left], texts[right])
             assert (sign == 0) == is_equal, (texts[left], texts[right])
-    assert level > 100 and 50 < sum(is_reference) < size - 20
+    assert level > 100 and 50 < sum(is_reference) < size - 20, level
     return size * size
 
 

@@ -158,58 +158,21 @@ static void escape(sqlite3_context *context, int count, sqlite3_value **values) 
   result_written(context, count, values, write_escaped);
 }
 
-/* The key of a reference (order.h): in `room`, or in memory that the caller frees. */
-struct key {
-  char room[SHORT];
-  char *at, *taken;
-  size_t len;
-};
+static void *allocate(size_t size) { return sqlite3_malloc64(size); }
 
-static bool make_key(const struct text *text, const struct uriparse_parts *parts, struct key *key) {
-  char room[SHORT + ORDER_MORE], *copy = text->len <= SHORT ? room : sqlite3_malloc64(text->len + ORDER_MORE);
-  size_t len;
-  uint32_t code;
-  key->at = key->room;
-  key->taken = NULL;
-  if (!copy) return false;
-  len = order_text(text->at, text->len, parts, copy);
-  code = uriparse_normalize(copy, len, key->at, sizeof key->room, &key->len);
-  if (code == URIPARSE_NO_ROOM) {
-    key->at = key->taken = sqlite3_malloc64(key->len);
-    if (key->at) code = uriparse_normalize(copy, len, key->at, key->len, &key->len);
-  }
-  if (copy != room) sqlite3_free(copy);
-  return code == URIPARSE_OK;
-}
+static void release(void *memory) { sqlite3_free(memory); }
 
-static int compare_references(sqlite3 *db, const struct text *texts, const struct uriparse_parts *parts) {
-  struct key left, right;
-  int order;
-  right.taken = NULL;
-  if (make_key(&texts[0], &parts[0], &left) && make_key(&texts[1], &parts[1], &right)) {
-    order = order_bytes(left.at, left.len, right.at, right.len);
-    if (!order) order = (parts[0].host_kind > parts[1].host_kind) - (parts[0].host_kind < parts[1].host_kind);
-  } else {
-    /* A collation can't return an error. */
-    sqlite3_interrupt(db);
-    order = order_bytes(texts[0].at, texts[0].len, texts[1].at, texts[1].len);
-  }
-  sqlite3_free(left.taken);
-  sqlite3_free(right.taken);
-  return order;
-}
-
-/* References by their keys, then all other texts by their bytes. */
+/* References by their order (order.h), then all other texts by their bytes. */
 static int collate(void *db, int left_len, const void *left, int right_len, const void *right) {
-  struct text texts[2] = {{left ? left : "", (size_t)left_len}, {right ? right : "", (size_t)right_len}};
-  struct uriparse_parts parts[2];
-  bool is_left, is_right;
+  struct order_text texts[2] = {{.at = left ? left : "", .len = (size_t)left_len}, {.at = right ? right : "", .len = (size_t)right_len}};
   int order = order_bytes(texts[0].at, texts[0].len, texts[1].at, texts[1].len);
+  bool is_left, is_right;
   if (!order) return 0;
-  is_left = uriparse_parse(texts[0].at, texts[0].len, &parts[0]) == URIPARSE_OK;
-  is_right = uriparse_parse(texts[1].at, texts[1].len, &parts[1]) == URIPARSE_OK;
-  if (is_left && is_right) return compare_references(db, texts, parts);
-  if (is_left || is_right) return is_left ? -1 : 1;
+  is_left = uriparse_parse(texts[0].at, texts[0].len, &texts[0].parts) == URIPARSE_OK;
+  is_right = uriparse_parse(texts[1].at, texts[1].len, &texts[1].parts) == URIPARSE_OK;
+  if (is_left != is_right) return is_left ? -1 : 1;
+  /* A collation can't return an error. */
+  if (is_left && !order_references(&texts[0], &texts[1], allocate, release, &order)) sqlite3_interrupt(db);
   return order;
 }
 
