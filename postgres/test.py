@@ -36,6 +36,11 @@ def psql(database: str, *commands: str, data: bytes = b"", check: bool = True) -
     return [[None if field == "\\N" else field for field in line.split("\t")] for line in lines], done.stderr.decode()
 
 
+def run(database: str, command: str) -> bytes:
+    """The bytes that a command prints."""
+    return subprocess.run(["psql", "-X", "-q", "-d", database, "-c", command], stdout=subprocess.PIPE, check=True).stdout
+
+
 def one(database: str, expression: str) -> Optional[str]:
     return psql(database, "SELECT " + expression)[0][0][0]
 
@@ -138,7 +143,13 @@ def test_type() -> str:
     assert psql("utf8", "SELECT " + nulls)[0] == [[None] * 13]
     assert one("utf8", "count(*) FROM pg_proc WHERE proname ~ '^uri' AND NOT (proisstrict AND provolatile = 'i' "
                "AND proparallel = 's')") == "0"
-    return "type: casts, keys and errors"
+    # Binary copies come in again, and are checked.
+    copied = run("utf8", "COPY ids TO STDOUT (FORMAT binary)")
+    psql("utf8", "CREATE TABLE again (LIKE ids)", "COPY again FROM STDIN (FORMAT binary)", data=copied)
+    assert one("utf8", "count(*) FROM again JOIN ids USING (url) WHERE again.url::text = ids.url::text") == "2"
+    wrong = psql("utf8", "COPY again FROM STDIN (FORMAT binary)", data=copied.replace(b"%7e", b"%7 "), check=False)[1]
+    assert "22P02" in wrong and "First wrong byte: 9." in wrong, wrong
+    return "type: casts, keys, binary copies and errors"
 
 
 def test_order() -> str:
@@ -193,13 +204,13 @@ def test_cancelled() -> str:
     psql("utf8", "CREATE TABLE many AS SELECT ('HTTP://h/%7e/../' || n)::uri AS x FROM generate_series(1, 200000) n")
     said: List[str] = []
 
-    def run() -> None:
+    def work() -> None:
         found, errors = psql(
             "utf8", "SET application_name = 'victim'", "SELECT count(uri_normalize(a.x)) FROM many a, many b",
             "SELECT pg_backend_pid() > 0, uri_normalize('HTTP://h/%7e')", check=False)
         said.extend((str(found), errors))
 
-    thread = threading.Thread(target=run)
+    thread = threading.Thread(target=work)
     thread.start()
     cancelled = None
     for _ in range(100):
