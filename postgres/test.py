@@ -193,7 +193,8 @@ def test_long() -> str:
                    "('S:' || x)::uri < ('s:' || x || 'a')::uri FROM long")[0]
         assert row == [["t"] * 8], (size, row)
     # Stored compressed, and out of line.
-    psql("utf8", "CREATE TABLE stored (x uri)", "INSERT INTO stored SELECT ('s:' || repeat('ab', n))::uri FROM generate_series(1, 9000, 900) n",
+    psql("utf8", "CREATE TABLE stored (x uri)",
+         "INSERT INTO stored SELECT ('s:' || repeat('ab', n))::uri FROM generate_series(1, 9000, 900) n",
          "INSERT INTO stored SELECT x FROM stored")
     assert one("utf8", "count(*) FROM (SELECT DISTINCT x FROM stored) d") == "10"
     return "texts of 0 to 10,000,000 bytes"

@@ -264,7 +264,7 @@ def _settled(made: Iterable[Tuple[List[bytes], Iterable[int], List[Any]]], error
     is_raising = _is_raising(errors)
     found: List[Any] = []
     for some, codes, results in made:
-        for at, code in enumerate(codes):
+        for at, code in enumerate(codes) if any(codes) else ():
             if code and is_raising:
                 _check(code, some[at])
             if code:
