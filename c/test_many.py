@@ -50,6 +50,9 @@ def test_sizes() -> None:
         compare([b"HTTP://h:080/%%7e%d" % number for number in range(count)], b"s:")
     long = b"A" * 700_000
     compare([b"", long + b":", b"%", b"/" + long, b"a b", b"?" + long, b""], b"s://" + b"%7e" * 100_000 + b"/")
+    # The targets need several buffers, and the last text needs one of its own.
+    texts = [b"g%d" % number for number in range(500)] + [b"%", b"", b"t:" + b"x" * 9_000_000]
+    compare(texts, b"s://h/" + b"y" * 100_000 + b"/")
     # IPv6 addresses may be longer as RFC 5952 writes them, and an empty path becomes "/".
     compare([b"//h", b"//[::1:2:3:4:5:6:7]"] * 3000, b"s:")
 

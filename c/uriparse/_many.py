@@ -13,6 +13,9 @@ from ._library import Buffer, Parts
 _TEXTS = 4096
 _BYTES = 1 << 20
 
+# A buffer for results has at most so many bytes more than the texts. If they need more, the rest is made in another one.
+_ROOM = 1 << 22
+
 # How many numbers of the size of a size_t Parts has: a component has three of them, and the first byte of the third tells
 # whether it is present.
 _NUMBERS = ctypes.sizeof(Parts) // ctypes.sizeof(ctypes.c_size_t)
@@ -106,7 +109,7 @@ def write(call: Any, base: Optional[bytes], texts: Iterable[Buffer]) -> Iterator
     for some in _slices(texts):
         while some:
             joined, kept = _joined(some)
-            room = max(needed.value, kept[-1] + (base_len + 16) * len(some))
+            room = max(needed.value, kept[-1] + min((base_len + 16) * len(some), _ROOM))
             codes, ends, out = _numbers("I", len(some)), _numbers("Q", len(some)), _numbers("B", room)
             done = _many.many_write(address, base, base_len, joined, _at(codes), _at(ends), _at(out), room, needed)
             whole = ctypes.string_at(_at(out), ends[done - 1] if done else 0)
