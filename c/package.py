@@ -14,8 +14,8 @@ import zipfile
 
 HERE = os.path.dirname(os.path.abspath(__file__))
 NAME = "uriparse_rattle"
-LIBRARY = "uriparse/liburiparse.so"
-MODULES = ("uriparse/__init__.py", "uriparse/_library.py", "uriparse/py.typed")
+LIBRARIES = ("uriparse/liburiparse.so", "uriparse/liburiparse_many.so")
+MODULES = ("uriparse/__init__.py", "uriparse/_library.py", "uriparse/_many.py", "uriparse/py.typed")
 
 
 def read(*path):
@@ -24,7 +24,7 @@ def read(*path):
 
 
 def in_sdist():
-    return os.path.exists(os.path.join(HERE, LIBRARY))
+    return os.path.exists(os.path.join(HERE, LIBRARIES[0]))
 
 
 def make(out):
@@ -35,12 +35,13 @@ def make(out):
         raise SystemExit("`make -C c` failed.")
 
 
-def library():
+def libraries():
+    """The libraries' contents, by their names."""
     if in_sdist():
-        return read(LIBRARY)
+        return {name: read(name) for name in LIBRARIES}
     with tempfile.TemporaryDirectory() as out:
         make(out)
-        return read(out, "liburiparse.so")
+        return {name: read(out, os.path.basename(name)) for name in LIBRARIES}
 
 
 def license_text():
@@ -63,7 +64,7 @@ def metadata():
 
 
 def tag(content):
-    """The tag of a wheel that has the library: the oldest glibc with the symbols that it takes. No name is older than 2.17."""
+    """The tag of a wheel that has libraries: the oldest glibc with the symbols that they take. No name is older than 2.17."""
     minors = [int(minor) for minor in re.findall(rb"GLIBC_2\.(\d+)", content)]
     return "py3-none-manylinux_2_%d_x86_64" % max(17, *minors) if minors else "py3-none-linux_x86_64"
 
@@ -93,8 +94,9 @@ def write_wheel(folder, files, wheel_tag):
 
 def build_wheel(wheel_directory, config_settings=None, metadata_directory=None):
     files = {name: read(name) for name in MODULES}
-    files[LIBRARY] = library()
-    return write_wheel(wheel_directory, files, tag(files[LIBRARY]))
+    built = libraries()
+    files.update(built)
+    return write_wheel(wheel_directory, files, tag(b"".join(built.values())))
 
 
 def build_editable(wheel_directory, config_settings=None, metadata_directory=None):
@@ -106,7 +108,7 @@ def build_editable(wheel_directory, config_settings=None, metadata_directory=Non
 
 def build_sdist(sdist_directory, config_settings=None):
     files = {name: read(name) for name in ("pyproject.toml", "package.py", "README.md", "test.py", *MODULES)}
-    files.update({"LICENSE": license_text(), LIBRARY: library(), "PKG-INFO": metadata()})
+    files.update({"LICENSE": license_text(), "PKG-INFO": metadata(), **libraries()})
     base = "%s-%s" % (NAME, version())
     with tarfile.open(os.path.join(sdist_directory, base + ".tar.gz"), "w:gz", format=tarfile.PAX_FORMAT) as archive:
         for name, content in files.items():

@@ -10,7 +10,7 @@ import re
 import sys
 import tracemalloc
 from concurrent.futures import ProcessPoolExecutor
-from typing import Any, Callable
+from typing import Any, Callable, List, Optional
 
 import uriparse
 
@@ -123,6 +123,21 @@ def test_buffers() -> None:
     rejects(0x103, 0, b"/a", uriparse.resolve, bytearray(b"/a"), memoryview(b"b"))
 
 
+def test_many() -> None:
+    """test_many.py has more."""
+    texts = [b"HTTP://h:80/%7e", b"a b", b"//1.2.3.4"]
+    normal: List[Optional[bytes]] = uriparse.normalize_many(texts)
+    assert normal == [b"http://h:80/~", None, b"//1.2.3.4/"]
+    raising: List[bytes] = uriparse.resolve_many(b"s:", texts[::2], errors="raise")
+    assert raising == [b"http://h:80/%7e", b"s://1.2.3.4/"]
+    assert uriparse.get_many("port", texts) == [b"80", None, None]
+    found = uriparse.parse_many(text for text in texts)
+    assert found == [uriparse.parse(texts[0]), None, uriparse.parse(texts[2])]
+    whole: List[uriparse.Components] = uriparse.parse_many(texts[:1], errors="raise")
+    assert vars(whole[0]) == vars(uriparse.parse(texts[0]))
+    rejects(0x51, 1, b"a b", uriparse.normalize_many, texts, "raise")
+
+
 def test_no_copy() -> None:
     long = bytearray(b"http://h/" + b"a" * 10_000_000)
     for text in (long, memoryview(long), memoryview(bytes(long))):
@@ -177,7 +192,7 @@ def test_header(path: str) -> None:
 
 def main() -> None:
     for test in (test_calls, test_rejected, test_components, test_messages, test_copied_errors, test_pool, test_buffers,
-                 test_no_copy, test_released, test_wrong_types, test_package):
+                 test_many, test_no_copy, test_released, test_wrong_types, test_package):
         test()
     for header in sys.argv[1:]:
         test_header(header)

@@ -8,15 +8,15 @@ from __future__ import annotations
 import ctypes
 import functools
 from dataclasses import dataclass
-from typing import Any, Callable, Dict, Iterator, Literal, Mapping, Optional, Tuple
+from typing import Any, Callable, Dict, Iterable, Iterator, List, Literal, Mapping, Optional, Tuple, Union, overload
 
 from . import _library
 from ._library import COMPONENTS, Buffer, Parts, Span, called
 
 __all__ = [
     "COMPONENTS", "ENCODED", "IN_BASE", "NO_ROOM", "Buffer", "Components", "Encodable", "HostKind", "Parts", "Span", "URIError",
-    "decode", "encode", "equal", "error_text", "escape", "first_fault", "hash_of", "is_uri", "normalize", "parse", "resolve",
-    "spans"]
+    "decode", "encode", "equal", "error_text", "escape", "first_fault", "get_many", "hash_of", "is_uri", "normalize",
+    "normalize_many", "parse", "parse_many", "resolve", "resolve_many", "spans"]
 __version__ = "0.2.0"
 
 Encodable = Literal["username", "password", "segment", "query", "fragment"]
@@ -152,14 +152,30 @@ class Components(Mapping[str, bytes]):
         return hash(tuple(self.items()))
 
 
+def _components(text: bytes, numbers: Tuple[int, ...]) -> Components:
+    """The components of a reference by the numbers of its Parts. It is written out, as most of `parse_many` is this."""
+    (a0, z0, scheme, a1, z1, authority, a2, z2, username, a3, z3, password, a4, z4, host, a5, z5, port, a6, z6, _,
+     a7, z7, query, a8, z8, fragment, host_kind, port_number) = numbers
+    found = object.__new__(Components)
+    found.__dict__.update(
+        scheme=text[a0:z0] if scheme else None,
+        authority=text[a1:z1] if authority else None,
+        username=text[a2:z2] if username else None,
+        password=text[a3:z3] if password else None,
+        host=text[a4:z4] if host else None,
+        port=text[a5:z5] if port else None,
+        path=text[a6:z6],
+        query=text[a7:z7] if query else None,
+        fragment=text[a8:z8] if fragment else None,
+        host_kind=_HOST_KINDS.get(host_kind),
+        port_number=port_number if a5 < z5 else None)
+    return found
+
+
 def parse(text: Buffer) -> Components:
     """The components of a reference, the kind of its host, and the number of its port, if it has digits."""
-    *places, host_kind, port_number = _library.PARTS.unpack_from(spans(text))
-    whole = text if isinstance(text, bytes) else memoryview(text)
-    found = [bytes(whole[begin:end]) if present else None for begin, end, present in zip(*[iter(places)] * 3)]
-    has_digits = found[COMPONENTS.index("port")]
-    values: Any = (*found, _HOST_KINDS.get(host_kind), port_number if has_digits else None)
-    return Components(*values)
+    numbers = _library.PARTS.unpack_from(spans(text))
+    return _components(bytes(text), numbers)
 
 
 def first_fault(text: Buffer) -> Optional[Tuple[int, int]]:
@@ -235,3 +251,72 @@ def encode(component: Encodable, data: Buffer) -> bytes:
 def escape(text: Buffer) -> bytes:
     """The text of a reference, made of any text: with escapes for what may not stand where it does."""
     return _written(_library.escape, text)
+
+
+def _is_raising(errors: str) -> bool:
+    if errors not in ("none", "raise"):
+        raise ValueError("no errors %r: it is one of none, raise" % errors)
+    return errors == "raise"
+
+
+def _settled(made: Iterable[Tuple[List[bytes], Iterable[int], List[Any]]], errors: str) -> List[Any]:
+    """What was made of the texts, but None for one that has a code, or its error raised."""
+    is_raising = _is_raising(errors)
+    found: List[Any] = []
+    for some, codes, results in made:
+        for at, code in enumerate(codes) if any(codes) else ():
+            if code and is_raising:
+                _check(code, some[at])
+            if code:
+                results[at] = None
+        found += results
+    return found
+
+
+@overload
+def normalize_many(texts: Iterable[Buffer], errors: Literal["none"] = "none") -> List[Optional[bytes]]: ...
+@overload
+def normalize_many(texts: Iterable[Buffer], errors: Literal["raise"]) -> List[bytes]: ...
+def normalize_many(texts: Iterable[Buffer], errors: str = "none") -> List[Any]:
+    """The text of the normal form of each text, or None for one that is rejected; with errors="raise" the first of these raises
+    its URIError."""
+    from . import _many
+    return _settled(_many.write(_library.normalize, None, texts), errors)
+
+
+@overload
+def resolve_many(base: Buffer, references: Iterable[Buffer], errors: Literal["none"] = "none") -> List[Optional[bytes]]: ...
+@overload
+def resolve_many(base: Buffer, references: Iterable[Buffer], errors: Literal["raise"]) -> List[bytes]: ...
+def resolve_many(base: Buffer, references: Iterable[Buffer], errors: str = "none") -> List[Any]:
+    """The text of the target of each reference against a base, or None for one that is rejected; with errors="raise" the first
+    of these raises its URIError. A rejected base always raises its own."""
+    from . import _many
+    resolve(base, b"")
+    return _settled(_many.write(_library.resolve, bytes(base), references), errors)
+
+
+@overload
+def parse_many(texts: Iterable[Buffer], errors: Literal["none"] = "none") -> List[Optional[Components]]: ...
+@overload
+def parse_many(texts: Iterable[Buffer], errors: Literal["raise"]) -> List[Components]: ...
+def parse_many(texts: Iterable[Buffer], errors: str = "none") -> List[Any]:
+    """The components of each text, or None for one that is rejected; with errors="raise" the first of these raises its
+    URIError."""
+    from . import _many
+    is_raising = _is_raising(errors)
+    found: List[Any] = []
+    for text, code, numbers in _many.parse(texts):
+        if code and is_raising:
+            _check(code, text)
+        found.append(None if code else _components(text, numbers))
+    return found
+
+
+def get_many(component: str, texts: Iterable[Buffer], errors: Literal["none", "raise"] = "none") -> List[Optional[bytes]]:
+    """A component of each text, one of the names in COMPONENTS, or None if it is absent or the text is rejected; with
+    errors="raise" the first rejected text raises its URIError. Takes less time than `parse_many`."""
+    from . import _many
+    if component not in COMPONENTS:
+        raise ValueError("no component %r: it is one of %s" % (component, ", ".join(COMPONENTS)))
+    return _settled(_many.find(COMPONENTS.index(component), texts), errors)

@@ -11,20 +11,25 @@ Buffer = Union[bytes, bytearray, memoryview]
 COMPONENTS = ("scheme", "authority", "username", "password", "host", "port", "path", "query", "fragment")
 
 _NAME = "liburiparse.so"
+_LOOPS = "liburiparse_many.so"
 _HERE = os.path.dirname(os.path.abspath(__file__))
 _TREE = os.path.dirname(_HERE)
 _MISSING = ("%s. To build the library, run `(cd crates/uriparse_c && rt lib)`, then `pip install ./c`, or `make -C c` to use "
             "it from the source tree. To use one that is built, name its file in LIBURIPARSE.")
 
 
-def _path() -> str:
-    """The library that LIBURIPARSE names, else the one in this folder, else what `make` built in the source tree, else the
-    system's."""
-    built = [os.path.join(_HERE, _NAME)]
+def _built(name: str) -> List[str]:
+    """Where a library may be that belongs to the package: in this folder, and where `make` built it in the source tree."""
+    built = [os.path.join(_HERE, name)]
     if os.path.exists(os.path.join(_TREE, "uriparse.h")):
-        built.append(os.path.join(_TREE, "out", _NAME))
+        built.append(os.path.join(_TREE, "out", name))
+    return built
+
+
+def _path() -> str:
+    """The library that LIBURIPARSE names, else the package's, else the system's."""
     named = os.environ.get("LIBURIPARSE")
-    return named if named else next(filter(os.path.isfile, built), _NAME)
+    return named if named else next(filter(os.path.isfile, _built(_NAME)), _NAME)
 
 
 # A call of a PyDLL keeps the interpreter's lock, so no thread changes a bytearray meanwhile.
@@ -32,6 +37,15 @@ try:
     _lib = ctypes.PyDLL(_path())
 except OSError as error:
     raise ImportError(_MISSING % error) from None
+
+
+def loops() -> ctypes.CDLL:
+    """What many.c has: beside the library, or else the package's. Its calls release the interpreter's lock."""
+    beside = os.path.join(os.path.dirname(_path()), _LOOPS)
+    found = next(filter(os.path.isfile, [beside, *_built(_LOOPS)]), None)
+    if not found:
+        raise ImportError(_MISSING % ("%s isn't built" % _LOOPS))
+    return ctypes.CDLL(os.path.abspath(found))
 
 
 class Span(ctypes.Structure):
@@ -81,7 +95,7 @@ _release_buffer.argtypes = (ctypes.POINTER(_Buffer),)
 _release_buffer.restype = None
 
 
-def _is_bytes(text: object) -> bool:
+def is_bytes(text: object) -> bool:
     """Whether it is a buffer whose items are bytes."""
     try:
         view = memoryview(text)  # type: ignore[arg-type]
@@ -99,7 +113,7 @@ def called(call: Callable[..., Any], texts: Tuple[Buffer, ...], *others: Any) ->
         for text in texts:
             if isinstance(text, bytes):
                 arguments += text, len(text)
-            elif _is_bytes(text):
+            elif is_bytes(text):
                 buffer = _Buffer()
                 _get_buffer(text, buffer, 0)
                 buffers.append(buffer)

@@ -1,0 +1,209 @@
+/* Functions and a collation for the URIs of RFC 3986 in SQLite, by the library for C. README.md lists them. */
+#include "sqlite3ext.h"
+SQLITE_EXTENSION_INIT1
+
+#include "order.h"
+#include "uriparse.h"
+
+/* Texts and results up to this length are held on the stack. */
+enum { SHORT = 1024 };
+
+struct text {
+  const char *at;
+  size_t len;
+};
+
+/* Reads an argument: a blob's bytes, or else the text in UTF-8. Returns whether it is there. If it isn't, the function's
+ * result has been set: NULL for NULL. */
+static bool read_text(sqlite3_context *context, sqlite3_value *value, struct text *text) {
+  int type = sqlite3_value_type(value);
+  if (type == SQLITE_NULL) return false;
+  text->at = type == SQLITE_BLOB ? sqlite3_value_blob(value) : (const char *)sqlite3_value_text(value);
+  text->len = (size_t)sqlite3_value_bytes(value);
+  if (text->at) return true;
+  text->at = "";
+  if (type == SQLITE_BLOB && !text->len) return true;
+  sqlite3_result_error_nomem(context);
+  return false;
+}
+
+/* Reads a reference, and its parts. Returns whether it is one; else the result stays NULL, or is an error. */
+static bool read_reference(sqlite3_context *context, sqlite3_value *value, struct text *text, struct uriparse_parts *parts) {
+  return read_text(context, value, text) && uriparse_parse(text->at, text->len, parts) == URIPARSE_OK;
+}
+
+static void result_span(sqlite3_context *context, const struct text *text, struct uriparse_span span) {
+  if (span.present)
+    sqlite3_result_text64(context, text->at + span.begin, span.end - span.begin, SQLITE_TRANSIENT, SQLITE_UTF8);
+}
+
+/* A component, by the place of its span in struct uriparse_parts, which is the function's user data. */
+static void component(sqlite3_context *context, int count, sqlite3_value **values) {
+  struct text text;
+  struct uriparse_parts parts;
+  (void)count;
+  if (read_reference(context, values[0], &text, &parts)) {
+    const char *place = (const char *)&parts + *(const size_t *)sqlite3_user_data(context);
+    result_span(context, &text, *(const struct uriparse_span *)(const void *)place);
+  }
+}
+
+static void port(sqlite3_context *context, int count, sqlite3_value **values) {
+  struct text text;
+  struct uriparse_parts parts;
+  (void)count;
+  if (read_reference(context, values[0], &text, &parts) && parts.port.end > parts.port.begin)
+    sqlite3_result_int64(context, parts.port_number);
+}
+
+static void valid(sqlite3_context *context, int count, sqlite3_value **values) {
+  struct text text;
+  size_t place;
+  (void)count;
+  if (read_text(context, values[0], &text))
+    sqlite3_result_int(context, uriparse_first_fault(text.at, text.len, &place) == URIPARSE_OK);
+}
+
+static void fault(sqlite3_context *context, int count, sqlite3_value **values) {
+  struct text text;
+  size_t place;
+  (void)count;
+  if (read_text(context, values[0], &text) && uriparse_first_fault(text.at, text.len, &place) != URIPARSE_OK)
+    sqlite3_result_int64(context, (sqlite3_int64)place);
+}
+
+/* The value itself, if it is a reference; else an error. */
+static void check(sqlite3_context *context, int count, sqlite3_value **values) {
+  struct text text;
+  size_t place = 0;
+  uint32_t code;
+  (void)count;
+  if (!read_text(context, values[0], &text)) return;
+  code = uriparse_first_fault(text.at, text.len, &place);
+  if (code == URIPARSE_OK) {
+    sqlite3_result_value(context, values[0]);
+    return;
+  }
+  char *message = sqlite3_mprintf("first wrong byte %llu: %s", (sqlite3_uint64)place, uriparse_error_text(code));
+  if (message)
+    sqlite3_result_error(context, message, -1);
+  else
+    sqlite3_result_error_nomem(context);
+  sqlite3_free(message);
+}
+
+static void hash(sqlite3_context *context, int count, sqlite3_value **values) {
+  struct text text;
+  uint64_t number;
+  sqlite3_int64 same;
+  (void)count;
+  if (!read_text(context, values[0], &text) || uriparse_hash(text.at, text.len, &number) != URIPARSE_OK) return;
+  memcpy(&same, &number, sizeof same);
+  sqlite3_result_int64(context, same);
+}
+
+static void equal(sqlite3_context *context, int count, sqlite3_value **values) {
+  struct text left, right;
+  bool is_equal;
+  (void)count;
+  if (read_text(context, values[0], &left) && read_text(context, values[1], &right) &&
+      uriparse_equal(left.at, left.len, right.at, right.len, &is_equal) == URIPARSE_OK)
+    sqlite3_result_int(context, is_equal);
+}
+
+/* A call of the library that writes a text, of one text or of two. */
+typedef uint32_t writer(const struct text *texts, char *out, size_t room, size_t *needed);
+
+static uint32_t write_normal(const struct text *texts, char *out, size_t room, size_t *needed) {
+  return uriparse_normalize(texts[0].at, texts[0].len, out, room, needed);
+}
+
+static uint32_t write_target(const struct text *texts, char *out, size_t room, size_t *needed) {
+  return uriparse_resolve(texts[0].at, texts[0].len, texts[1].at, texts[1].len, out, room, needed);
+}
+
+static uint32_t write_escaped(const struct text *texts, char *out, size_t room, size_t *needed) {
+  return uriparse_escape(texts[0].at, texts[0].len, out, room, needed);
+}
+
+/* What the call writes; NULL if it rejects a text. */
+static void result_written(sqlite3_context *context, int count, sqlite3_value **values, writer *write) {
+  struct text texts[2];
+  char room[SHORT], *out;
+  size_t needed;
+  uint32_t code;
+  for (int i = 0; i < count; i++)
+    if (!read_text(context, values[i], &texts[i])) return;
+  code = write(texts, room, sizeof room, &needed);
+  if (code == URIPARSE_OK) sqlite3_result_text64(context, room, needed, SQLITE_TRANSIENT, SQLITE_UTF8);
+  if (code != URIPARSE_NO_ROOM) return;
+  out = sqlite3_malloc64(needed);
+  if (!out)
+    sqlite3_result_error_nomem(context);
+  else if (write(texts, out, needed, &needed) == URIPARSE_OK)
+    sqlite3_result_text64(context, out, needed, sqlite3_free, SQLITE_UTF8);
+  else
+    sqlite3_free(out);
+}
+
+static void normalize(sqlite3_context *context, int count, sqlite3_value **values) {
+  result_written(context, count, values, write_normal);
+}
+
+static void resolve(sqlite3_context *context, int count, sqlite3_value **values) {
+  result_written(context, count, values, write_target);
+}
+
+static void escape(sqlite3_context *context, int count, sqlite3_value **values) {
+  result_written(context, count, values, write_escaped);
+}
+
+static void *allocate(size_t size) { return sqlite3_malloc64(size); }
+
+static void release(void *memory) { sqlite3_free(memory); }
+
+/* References by their order (order.h), then all other texts by their bytes. */
+static int collate(void *db, int left_len, const void *left, int right_len, const void *right) {
+  struct order_text texts[2] = {{.at = left ? left : "", .len = (size_t)left_len}, {.at = right ? right : "", .len = (size_t)right_len}};
+  int order = order_bytes(texts[0].at, texts[0].len, texts[1].at, texts[1].len);
+  bool is_left, is_right;
+  if (!order) return 0;
+  is_left = uriparse_parse(texts[0].at, texts[0].len, &texts[0].parts) == URIPARSE_OK;
+  is_right = uriparse_parse(texts[1].at, texts[1].len, &texts[1].parts) == URIPARSE_OK;
+  if (is_left != is_right) return is_left ? -1 : 1;
+  /* A collation can't return an error. */
+  if (is_left && !order_references(&texts[0], &texts[1], allocate, release, &order)) sqlite3_interrupt(db);
+  return order;
+}
+
+#define PLACE(name) offsetof(struct uriparse_parts, name)
+static const size_t PLACES[] = {PLACE(scheme), PLACE(authority), PLACE(host), PLACE(path), PLACE(query), PLACE(fragment)};
+
+static const struct {
+  const char *name;
+  int count;
+  void (*call)(sqlite3_context *, int, sqlite3_value **);
+  const size_t *place;
+} FUNCTIONS[] = {
+  {"uri_valid", 1, valid, NULL},           {"uri_fault", 1, fault, NULL},
+  {"uri_check", 1, check, NULL},           {"uri_scheme", 1, component, &PLACES[0]},
+  {"uri_authority", 1, component, &PLACES[1]}, {"uri_host", 1, component, &PLACES[2]},
+  {"uri_port", 1, port, NULL},             {"uri_path", 1, component, &PLACES[3]},
+  {"uri_query", 1, component, &PLACES[4]}, {"uri_fragment", 1, component, &PLACES[5]},
+  {"uri_normalize", 1, normalize, NULL},   {"uri_resolve", 2, resolve, NULL},
+  {"uri_equal", 2, equal, NULL},           {"uri_hash", 1, hash, NULL},
+  {"uri_escape", 1, escape, NULL},
+};
+
+__attribute__((visibility("default")))
+int sqlite3_uri_init(sqlite3 *db, char **message, const sqlite3_api_routines *api);
+
+int sqlite3_uri_init(sqlite3 *db, char **message, const sqlite3_api_routines *api) {
+  int code = SQLITE_OK, flags = SQLITE_UTF8 | SQLITE_DETERMINISTIC | SQLITE_INNOCUOUS;
+  (void)message;
+  SQLITE_EXTENSION_INIT2(api);
+  for (size_t i = 0; i < sizeof FUNCTIONS / sizeof *FUNCTIONS && code == SQLITE_OK; i++)
+    code = sqlite3_create_function_v2(db, FUNCTIONS[i].name, FUNCTIONS[i].count, flags, (void *)FUNCTIONS[i].place,
+                                      FUNCTIONS[i].call, NULL, NULL, NULL);
+  return code == SQLITE_OK ? sqlite3_create_collation_v2(db, "URI", SQLITE_UTF8, db, collate, NULL) : code;
+}
