@@ -8,7 +8,7 @@ use crate::authority::Authority;
 pub use crate::authority::found::{FoundAuthority, found_named};
 pub use crate::authority::normal::{CanonicalCopies, canonical_copies, put_copies};
 pub use crate::authority::place::place_in_authority;
-pub use crate::authority::read::{find_authority, split_port, split_userinfo};
+pub use crate::authority::read::{find_authority, split_before_path, split_port, split_userinfo};
 use uriparse_text::internal::Form;
 
 /// An upper bound on the number of bytes of the authority's text, or `usize::MAX`.

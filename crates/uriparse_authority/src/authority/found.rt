@@ -10,10 +10,10 @@ ghost use Rattle.uriparse_text.specs.Spelling.{IsKept};
 ghost use Rattle.uriparse_text.specs.declared.internal.class.Class.TheVariants as class;
 ghost use Rattle.uriparse_text.specs.declared.internal.canonical.Case.TheVariants as case;
 
-use super::Authority;
 use super::host::found::{FoundHost, found_name};
 use super::password::PasswordKind;
 use super::username::UsernameKind;
+use super::{Authority, Host, Password, Username};
 use std::marker::Model;
 use uriparse_text::internal::{Found, no_text};
 
@@ -82,6 +82,30 @@ pub(super) fn found_authority<'a>(
 }
 
 impl<'a> FoundAuthority<'a> {
+    /// The user name, if there is one.
+    #[inline(always)]
+    pub fn username(&self) -> Option<Username<'a>>
+        ensures { result ≡ self.now.username }
+    {
+        self.username.to_text()
+    }
+
+    /// The password, if there is one.
+    #[inline(always)]
+    pub fn password(&self) -> Option<Password<'a>>
+        ensures { result ≡ self.now.password }
+    {
+        self.password.to_text()
+    }
+
+    /// The host.
+    #[inline(always)]
+    pub fn host(&self) -> Host<'a>
+        ensures { result ≡ self.now.host }
+    {
+        self.host.to_host()
+    }
+
     /// The port, if there is one.
     #[inline(always)]
     pub fn port(&self) -> Option<u16>
@@ -121,9 +145,9 @@ impl<'a> FoundAuthority<'a> {
         ensures { result ≡ self.now }
     {
         Authority {
-            username: self.username.to_text(),
-            password: self.password.to_text(),
-            host: self.host.to_host(),
+            username: self.username(),
+            password: self.password(),
+            host: self.host(),
             port: self.port(),
         }
     }

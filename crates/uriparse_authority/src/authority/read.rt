@@ -121,7 +121,7 @@ fn end_of_authority(text: &[u8]) -> Option<usize>
 }
 
 /// The authority that the text begins with, up to a `/`, `?` or `#`, and what follows it.
-fn split_rest(text: &[u8]) -> (&[u8], &[u8])
+pub fn split_before_path(text: &[u8]) -> (&[u8], &[u8])
     ensures front { result.0.now ≡ up_to authority.ends_authority text.now }
     ensures rest { result.1.now ≡ from_first authority.ends_authority text.now }
 {
@@ -150,7 +150,7 @@ pub fn find_authority(text: &[u8]) -> Result<(FoundAuthority<'_>, &[u8]), Author
     if ends_before(rest) {
         return Ok((find_host_alone(name, true), rest));
     }
-    let (front, rest) = split_rest(text);
+    let (front, rest) = split_before_path(text);
     match find_any_authority(front) {
         Ok(found) => Ok((found, rest)),
         Err(error) => Err(error),

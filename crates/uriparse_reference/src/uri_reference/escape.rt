@@ -1,58 +1,24 @@
 //! Escaping what the text of a reference may not have: RFC 3986, section 2.1, and RFC 3987, section
 //! 3.1.
-ghost use Rattle.std.specs.Prelude.{◌≡◌, ◌++◌, ◌≤◌, IfOk, None, OnOk, length, string_bytes, true};
-ghost use Rattle.std.specs.List.{position_or_len};
+ghost use Rattle.std.specs.Prelude.{◌≡◌, ◌++◌, IfOk, None, OnOk, string_bytes, true};
 ghost use Rattle.std.specs.Option.{option_copied, option_map};
 ghost use Rattle.uriparse_text.specs.Bytes.{colon};
-ghost use Rattle.uriparse_text.specs.Cuts.{ahead, behind, from_first, up_to};
+ghost use Rattle.uriparse_text.specs.Cuts.{ahead, behind};
 ghost use Rattle.uriparse_text.specs.Tokens.{is_well_formed};
-ghost use Rattle.uriparse_authority.specs.Authority as authority;
 ghost use Rattle.uriparse_scheme.specs.Cuts.{if_some};
-ghost use Rattle.uriparse_reference.specs.Cuts.{cut_authority, without_authority};
 ghost use Rattle.uriparse_reference.specs.Escaped as spec;
 ghost use Rattle.uriparse_reference.specs.Reading.{fault};
 ghost use Rattle.uriparse_reference.specs.Reference.{behind_slashes};
 
 mod into;
 
-use super::read::behind_two_slashes;
+use super::read::split_authority;
 pub use into::escape_invalid_into;
 use std::alloc::{AllocError, Global};
 use uriparse_scheme::internal::split_scheme;
 use uriparse_text::internal::{
-    Case, Class, IsAny, first, most_escaped_bytes, push_escaped, split_at_mark, split_settled,
-    without_mark,
+    Case, Class, most_escaped_bytes, push_escaped, split_at_mark, split_settled, without_mark,
 };
-
-/// Where the first `/`, `?` or `#` is, which ends an authority, or the length.
-fn end_of_authority(text: &[u8]) -> usize
-    ensures place { result ≡ position_or_len authority.ends_authority text.now }
-    ensures within { result ≤ length text.now }
-{
-    first(&IsAny(b'/', b'?', b'#'), text)
-}
-
-/// The text up to that byte, and the rest.
-fn split_at_end(text: &[u8]) -> (&[u8], &[u8])
-    ensures front { result.0.now ≡ up_to authority.ends_authority text.now }
-    ensures rest { result.1.now ≡ from_first authority.ends_authority text.now }
-{
-    text.split_at(end_of_authority(text))
-}
-
-/// The authority that follows two leading slashes, and the rest; or none, and the whole text.
-pub(super) fn split_authority(text: &[u8]) -> (Option<&[u8]>, &[u8])
-    ensures authority { option_copied result.0 ≡ cut_authority text.now }
-    ensures rest { result.1.now ≡ without_authority text.now }
-{
-    match behind_two_slashes(text) {
-        Some(behind) => {
-            let (authority, rest) = split_at_end(behind);
-            (Some(authority), rest)
-        }
-        None => (None, text),
-    }
-}
 
 /// Appends the scheme and its colon, if it is present: its text is not empty.
 fn push_scheme(escaped: &mut Vec<u8>, scheme: &[u8]) -> Result<(), AllocError>

@@ -20,7 +20,7 @@ ghost use Rattle.uriparse_reference.specs.Reference.{is_noscheme, path_of, path_
 
 use super::error::URIReferenceError;
 use std::alloc::Global;
-use uriparse_authority::internal::{FoundAuthority, find_authority};
+use uriparse_authority::internal::{FoundAuthority, find_authority, split_before_path};
 use uriparse_path::internal::{counted_path, into_absolute, split_path};
 use uriparse_path::path::{Path, PathError};
 use uriparse_scheme::internal::split_scheme;
@@ -40,12 +40,26 @@ fn is_there(scheme: &[u8]) -> bool
 }
 
 /// What follows two leading slashes.
-pub(super) fn behind_two_slashes(text: &[u8]) -> Option<&[u8]>
+fn behind_two_slashes(text: &[u8]) -> Option<&[u8]>
     ensures { MatchOption result (has_two_slashes text.now ≡ false) (λ r. (has_two_slashes text.now ≡ true) × (r.now ≡ drop 2 text.now)) }
 {
     match text {
         [b'/', b'/', behind @ ..] => Some(behind),
         _ => None,
+    }
+}
+
+/// The authority that follows two leading slashes, and the rest; or none, and the whole text.
+pub(super) fn split_authority(text: &[u8]) -> (Option<&[u8]>, &[u8])
+    ensures authority { option_copied result.0 ≡ cut_authority text.now }
+    ensures rest { result.1.now ≡ without_authority text.now }
+{
+    match behind_two_slashes(text) {
+        Some(behind) => {
+            let (authority, rest) = split_before_path(behind);
+            (Some(authority), rest)
+        }
+        None => (None, text),
     }
 }
 

@@ -173,31 +173,28 @@ impl<'t> ReferenceView<'t> {
     pub fn username(&self) -> Option<Username<'t>>
         ensures { result ≡ username_of self.now.parts }
     {
-        let (username, _, _, _) = self.authority()?.into_parts();
-        username
+        self.pieces.authority.as_ref()?.username()
     }
 
     /// The password, if there is one.
     pub fn password(&self) -> Option<Password<'t>>
         ensures { result ≡ password_of self.now.parts }
     {
-        let (_, password, _, _) = self.authority()?.into_parts();
-        password
+        self.pieces.authority.as_ref()?.password()
     }
 
     /// The host, if there is an authority.
     pub fn host(&self) -> Option<Host<'t>>
         ensures { result ≡ host_of self.now.parts }
     {
-        let (_, _, host, _) = self.authority()?.into_parts();
-        Some(host)
+        Some(self.pieces.authority.as_ref()?.host())
     }
 
     /// The port, if there is one.
     pub fn port(&self) -> Option<u16>
         ensures { result ≡ port_of self.now.parts }
     {
-        self.authority()?.port()
+        self.pieces.authority.as_ref()?.port()
     }
 
     /// The path's text, which is `/` if it is empty after an authority.

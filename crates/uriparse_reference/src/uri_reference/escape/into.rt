@@ -8,7 +8,7 @@ ghost use Rattle.uriparse_scheme.specs.Cuts.{if_some};
 ghost use Rattle.uriparse_reference.specs.Escaped as spec;
 ghost use Rattle.uriparse_reference.specs.Reference.{behind_slashes};
 
-use super::split_authority;
+use super::super::read::split_authority;
 use uriparse_scheme::internal::split_scheme;
 use uriparse_text::internal::{
     Case, Class, TooSmall, append, append_escaped, split_at_mark, split_settled, without_mark,

@@ -86,6 +86,7 @@ impl<'t> ReferenceView<'t> {
         ensures key { result ≡ bytes_eq (key self.now.parts) (key reference.now) }
         ensures same { IsTrue result ↔ Same self.now.parts reference.now }
     {
+        // The view is valid, which is known once a field is read.
         let _text = &self.text;
         let _path = &reference.path;
         self.has_each_of(reference)

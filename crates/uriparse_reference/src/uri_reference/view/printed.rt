@@ -6,7 +6,7 @@ ghost use Rattle.uriparse_reference.specs.Cuts.{authority_text, path_text, schem
 ghost use Rattle.uriparse_reference.specs.Reference.{authority_part, print, scheme_part};
 ghost use Rattle.uriparse_reference.specs.Normal.{IsPrintedFront, normal};
 
-use super::super::escape::split_authority;
+use super::super::read::split_authority;
 use super::ReferenceView;
 use uriparse_scheme::internal::split_scheme;
 
@@ -33,6 +33,7 @@ impl<'t> ReferenceView<'t> {
     fn has_normal_authority_text(&self) -> bool
         ensures { IsTrue result ↔ (authority_part (normal self.now.parts) ≡ authority_text self.now.text) }
     {
+        // The view is valid, which is known once a field is read.
         let _text = &self.text;
         match &self.pieces.authority {
             Some(found) => found.is_normal_text(self.authority_bytes()),
@@ -69,6 +70,7 @@ impl<'t> ReferenceView<'t> {
     pub fn is_normalized_text(&self) -> bool
         ensures { IsTrue result ↔ (print (normal self.now.parts) ≡ self.now.text) }
     {
+        // The view is valid, which is known once a field is read.
         let _text = &self.text;
         self.has_printed_front() && self.is_normal_outside(self.place())
     }

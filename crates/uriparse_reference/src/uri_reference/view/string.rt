@@ -28,6 +28,7 @@ impl<'t> ReferenceView<'t> {
         ensures text { out.new ≡ print (normal self.now.parts) }
         ensures utf8 { IsUtf8 out.new }
     {
+        // The view is valid, which is known once a field is read.
         let _text = &self.text;
         self.put_normal(out);
     }

@@ -1,6 +1,6 @@
 use Rattle.uriparse_text.proofs.lemmas.readings.CutLemmas.{place_or_length, take_place, drop_place}
 use Rattle.uriparse_authority.specs.Authority.{ends_authority}
-use Rattle.uriparse_authority.proofs.authority.read.split_rest.Goals as goal
+use Rattle.uriparse_authority.proofs.authority.read.split_before_path.Goals as goal
 
 pub returns-clause-front : goal.returns-clause-front
 returns-clause-front c =
