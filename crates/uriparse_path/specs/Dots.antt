@@ -1,7 +1,7 @@
 -- Dot segments and their removal from a text: RFC 3986, sections 3.3 and 5.2.4.
-use Rattle.std.specs.Prelude.{◌≡◌, ℕ, ◌<◌, Bool, true, false, ◌||◌, not, if◌then◌else◌, List, [], ◌∷◌, ◌++◌, length, bytes_eq}
+use Rattle.std.specs.Prelude.{◌≡◌, ℕ, ◌<◌, Bool, true, false, ◌||◌, not, if◌then◌else◌, List, [], ◌∷◌, ◌++◌, length}
 use Rattle.std.specs.List.{list_all, list_any}
-use Rattle.uriparse_text.specs.Bytes.{dot, slash}
+use Rattle.uriparse_text.specs.Bytes.{slash}
 unfoldable pub use Rattle.uriparse_text.specs.Segment.{is_single_dot, is_double_dot}
 pub use Rattle.uriparse_text.specs.Segment.{is_dot_segment}
 use Rattle.uriparse_path.specs.Path.{PathParts, text, is_slash, spelled}

@@ -10,6 +10,7 @@ pub mod Merge
 pub mod Relate
 pub mod Lends
 pub mod Counts
+pub mod Copies
 pub mod List
 pub mod ListLends
 pub mod Left

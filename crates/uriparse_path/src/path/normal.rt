@@ -1,11 +1,12 @@
 //! Normal forms of paths: RFC 3986, sections 4.2 and 6.2.2.
-ghost use Rattle.std.specs.Prelude.{◌≡◌, ◌↔◌, ◌<◌, ◌||◌, ◌&&◌, true, false, not, IfOk, IsOk, IsTrue, OnOk, OnErr, filter, length, map, slice_set};
+ghost use Rattle.std.specs.Prelude.{◌≡◌, ◌↔◌, ◌<◌, ◌||◌, ◌&&◌, true, false, not, IfOk, IsOk, IsTrue, OnOk, OnErr, length, map, slice_set};
 ghost use Rattle.std.specs.List.{list_all};
 ghost use Rattle.uriparse_text.specs.Canonical.{canonical};
 ghost use Rattle.uriparse_path.specs.Path.{IsListed, hides_root, text};
 ghost use Rattle.uriparse_path.specs.Dots.{is_dot_segment};
 ghost use Rattle.uriparse_path.specs.Relative as relative;
 ghost use Rattle.uriparse_path.specs.Normal as spec;
+ghost use Rattle.uriparse_path.specs.Copies as copy;
 ghost use Rattle.uriparse_path.specs.Counts as tally;
 
 use super::counts::Counts;
@@ -111,18 +112,20 @@ fn is_counted_normal(stays_relative: bool, counts: Counts, segments: &[Segment<'
     }
 }
 
-/// Copies of the segments that are not canonical, in canonical spelling and in order.
+/// Copies of the segments that are not canonical, in canonical spelling and in order, each with its
+/// place.
 fn canonical_copies(
     alloc: Global,
     segments: &[Segment<'_>],
-) -> Result<Vec<Segment<'static>>, AllocError>
-    ensures copies { IfOk result (λ v. v.items ≡ map canonical (filter (λ s. not (spec.is_canonical s)) segments.now)) }
+) -> Result<Vec<(usize, Segment<'static>)>, AllocError>
+    ensures copies { IfOk result (λ v. v.items ≡ copy.placed 0 segments.now) }
     ensures takes_no_memory { list_all spec.is_canonical segments.now ≡ true → IsOk result }
 {
     let mut copies = Vec::new(alloc);
-    for segment in segments {
+    for at in 0..segments.len() {
+        let segment = &segments[at];
         if !segment.is_normalized() {
-            copies.push(normalized_text(alloc, segment)?)?;
+            copies.push((at, normalized_text(alloc, segment)?))?;
         }
     }
     Ok(copies)
@@ -137,30 +140,19 @@ fn put<'s>(segments: &mut [Segment<'s>], at: usize, segment: Segment<'s>)
     segments[at] = segment;
 }
 
-/// Replaces the segments that are not canonical by these copies, from the last one to the first.
-fn put_copies<'s>(segments: &mut [Segment<'s>], copies: Vec<Segment<'s>>)
-    requires { copies.items ≡ map canonical (filter (λ s. not (spec.is_canonical s)) segments.old) }
+/// Replaces the segments that are not canonical by these copies. The others are not looked at again.
+fn put_copies<'s>(segments: &mut [Segment<'s>], copies: Vec<(usize, Segment<'s>)>)
+    requires { copies.items ≡ copy.placed 0 segments.old }
     ensures { segments.new ≡ map canonical segments.old }
 {
-    let mut copies = copies;
-    let mut at = segments.len();
-    while at > 0 {
-        if copies.is_empty() {
-            return;
-        }
-        at -= 1;
-        if !segments[at].is_normalized() {
-            if let Some(copy) = copies.pop() {
-                put(segments, at, copy);
-            }
-        }
+    for (at, copy) in copies {
+        put(segments, at, copy);
     }
 }
 
-/// Replaces the segments of a list that are not canonical by these copies, from the last one to the
-/// first.
-fn put_copies_in<'s>(list: &mut SegmentList<Segment<'s>>, copies: Vec<Segment<'s>>)
-    requires { copies.items ≡ map canonical (filter (λ s. not (spec.is_canonical s)) list.old) }
+/// Replaces the segments of a list that are not canonical by these copies.
+fn put_copies_in<'s>(list: &mut SegmentList<Segment<'s>>, copies: Vec<(usize, Segment<'s>)>)
+    requires { copies.items ≡ copy.placed 0 list.old }
     ensures { list.new ≡ map canonical list.old }
 {
     put_copies(list.as_mut_slice(), copies);
@@ -240,8 +232,8 @@ impl<'p> Path<'p> {
     }
 
     /// Replaces the segments that are not canonical by canonical copies.
-    fn put_canonical(&mut self, copies: Vec<Segment<'p>>)
-        requires copied { copies.items ≡ map canonical (filter (λ s. not (spec.is_canonical s)) self.old.segments) }
+    fn put_canonical(&mut self, copies: Vec<(usize, Segment<'p>)>)
+        requires copied { copies.items ≡ copy.placed 0 self.old.segments }
         requires listed { IsListed self.old.segments }
         ensures { self.new ≡ spec.canonical_path self.old }
     {

@@ -1,27 +1,21 @@
 -- What the canonical spelling says about a segment, and about dot segments.
-use Rattle.std.proofs.Common.{◌≡◌, ℕ, ◌<◌, Bool, true, false, not, ◌&&◌, ◌||◌, List, [], ◌∷◌, ◌++◌, length, map, flat_map, refl, sym, ap, ◌∙◌, arith, Some}
-use Rattle.std.proofs.Common.{None, slice_get, ◌⊎◌, inl, inr, ⊎_elim, ◌≤◌, ◌*◌, cond, subst, length-append}
-use Rattle.std.specs.Char.{to_ascii_uppercase}
-use Rattle.std.specs.Prelude.{◌==◌, ◌↔◌, IsTrue, bytes_eq}
-use Rattle.std.specs.Bool.{one_answer}
+use Rattle.std.proofs.Common.{◌≡◌, ℕ, ◌<◌, Bool, true, false, not, ◌&&◌, ◌||◌, List, [], ◌∷◌, ◌++◌, length, map, flat_map, refl, sym, ap, ◌∙◌, arith}
+use Rattle.std.specs.Prelude.{◌==◌, bytes_eq}
 use Rattle.std.specs.List.{list_all, list_any}
-use Rattle.std.proofs.Math.Bool.{or-true}
-use Rattle.std.proofs.lemmas.Bool.{false≢true, eq-eqb, ne_eqb, and_parts, and_from, or_parts}
+use Rattle.std.proofs.lemmas.Bool.{false≢true, and_parts, and_from, or_parts}
 use Rattle.std.proofs.lemmas.List.Folds.{list_all-append}
-use Rattle.std.proofs.lemmas.Slice.Eq.{bytes_eq-Decides}
 use Rattle.uriparse_text.specs.declared.internal.token.Token.{Token}
 use Rattle.uriparse_text.specs.declared.internal.token.Token.TheVariants.{Byte, Escape}
 use Rattle.uriparse_text.specs.declared.internal.class.Class.TheVariants.{Segment}
 use Rattle.uriparse_text.specs.declared.internal.canonical.Case.TheVariants.{Kept}
 use Rattle.uriparse_text.specs.Bytes.{dot, slash, colon, percent, is_hex, is_unreserved}
 use Rattle.uriparse_text.specs.Tokens.{tokens, spell, has_digits}
-use Rattle.uriparse_text.specs.Canonical.{canonical_token, escaped_byte, canonical_in, canonical, SpellsAlike}
+use Rattle.uriparse_text.specs.Canonical.{canonical_token, escaped_byte, canonical}
 use Rattle.uriparse_text.specs.Cuts.{lacks}
 use Rattle.uriparse_text.proofs.lemmas.tokens.TokenLemmas.{spell-tokens, digits-tokens}
 use Rattle.uriparse_text.proofs.lemmas.canonical.CanonicalLemmas.{upper_digit, by_escaped, spell-canonical_token, canonical_in-canonical_in}
 use Rattle.uriparse_text.proofs.lemmas.classes.ClassLemmas.{well_formed-in_class}
 use Rattle.uriparse_text.proofs.lemmas.readings.CutLemmas.{other_byte}
-use Rattle.uriparse_text.proofs.lemmas.canonical.RunLemmas.{canonical_in-stays}
 use Rattle.uriparse_text.specs.Segment.{is_segment, is_single_dot, is_double_dot, is_dot_segment}
 use Rattle.uriparse_path.specs.Dots.{LacksSlash}
 use Rattle.uriparse_path.specs.Relative.{has_colon}

@@ -1,145 +1,115 @@
--- Segments are brought into canonical spelling from the last to the first.
-use Rattle.std.proofs.Common.{◌≡◌, ℕ, ◌+◌, ◌<◌, Bool, true, false, not, cond, List, [], ◌∷◌, ◌++◌, length, map, filter, take, drop, get_or, set, refl, sym, ap}
+-- Segments that are not canonical are replaced by their canonical spellings, which are kept with their places.
+use Rattle.std.proofs.Common.{◌≡◌, ℕ, ◌+◌, ◌<◌, ◌≤◌, Bool, true, false, cond, List, [], ◌∷◌, ◌++◌, length, length-append, map, drop, get_or, set, refl, sym, ap, subst}
 use Rattle.std.proofs.Common.{◌∙◌, arith, append_assoc, append-nil}
-use Rattle.std.specs.Prelude.{reverse}
-use Rattle.std.proofs.lemmas.List.{take_more, take-append-drop, drop_more, take-set, drop-set, map-append, reverse-append, reverse-reverse}
+use Rattle.std.proofs.Math.Seq.{set-append_seam}
+use Rattle.std.proofs.lemmas.List.{drop_all, drop_more}
 use Rattle.std.specs.List.{list_all}
-use Rattle.std.proofs.lemmas.Bool.{false≢true, not-true}
-use Rattle.std.proofs.lemmas.List.Elements.{filter-append}
+use Rattle.std.proofs.lemmas.Bool.{false≢true}
 use Rattle.std.proofs.lemmas.List.Folds.{list_all_at}
 use Rattle.std.proofs.lemmas.Slice.Eq.{bytes_eq-Decides}
 use Rattle.uriparse_text.specs.Canonical.{canonical}
 use Rattle.uriparse_path.specs.Normal.{is_canonical}
+use Rattle.uriparse_path.specs.Copies.{placed}
 
--- a segment that has to be copied
-abbrev pub strays : List ℕ → Bool
-strays s = not (is_canonical s)
-
-pub strays_not : (s : List ℕ) → canonical s ≡ s → strays s ≡ false
-strays_not s e = ap not ((bytes_eq-Decides (canonical s) s).1 e)
-
-pub strays_so : (s : List ℕ) → (canonical s ≡ s → ⊥) → strays s ≡ true
-strays_so s n = by_test (is_canonical s) refl
+not_canonical : (s : List ℕ) → (canonical s ≡ s → ⊥) → is_canonical s ≡ false
+not_canonical s n = by_test (is_canonical s) refl
   where
-    by_test : (v : Bool) → is_canonical s ≡ v → not v ≡ true
+    by_test : (v : Bool) → is_canonical s ≡ v → v ≡ false
     by_test true e = absurd (n ((bytes_eq-Decides (canonical s) s).0 e))
     by_test false e = refl
-
-copies_kept : (s : List ℕ) (l : List (List ℕ)) → strays s ≡ false → map canonical (filter strays (s ∷ l)) ≡ map canonical (filter strays l)
-copies_kept s l e = ap (λ v. map canonical (cond v (s ∷ filter strays l) (filter strays l))) e
-
-copies_more : (s : List ℕ) (l : List (List ℕ)) → strays s ≡ true → map canonical (filter strays (s ∷ l)) ≡ canonical s ∷ map canonical (filter strays l)
-copies_more s l e = ap (λ v. map canonical (cond v (s ∷ filter strays l) (filter strays l))) e
 
 -- no canonical segment has to be copied
 pub no_strays : (xs : List (List ℕ)) (at : ℕ) (s : List ℕ) → at < length xs → s ≡ get_or xs at s → (canonical s ≡ s → ⊥) → list_all is_canonical xs ≡ true → ⊥
 no_strays xs at s h read n e =
-    let own : is_canonical (get_or xs at s) ≡ false = ap is_canonical (sym read) ∙ not-true (is_canonical s) (strays_so s n) in
-    false≢true (sym (list_all_at is_canonical xs at s h own) ∙ e)
+    false≢true (sym (list_all_at is_canonical xs at s h (ap is_canonical (sym read) ∙ not_canonical s n)) ∙ e)
 
--- if none has to be copied, each is canonical
-none_strays : (l : List (List ℕ)) → map canonical (filter strays l) ≡ [] → map canonical l ≡ l
-none_strays [] e = refl
-none_strays (s ∷ l) e = by_test (is_canonical s) refl (none_strays l)
+-- ---- copying, from the first to the last
+
+placed_kept : (at : ℕ) (s : List ℕ) (ss : List (List ℕ)) → is_canonical s ≡ true → placed at (s ∷ ss) ≡ placed (at + 1) ss
+placed_kept at s ss e = ap (λ v. cond v (placed (at + 1) ss) ((at, canonical s) ∷ placed (at + 1) ss)) e
+
+placed_more : (at : ℕ) (s : List ℕ) (ss : List (List ℕ)) → is_canonical s ≡ false → placed at (s ∷ ss) ≡ (at, canonical s) ∷ placed (at + 1) ss
+placed_more at s ss e = ap (λ v. cond v (placed (at + 1) ss) ((at, canonical s) ∷ placed (at + 1) ss)) e
+
+module _ (xs : List (List ℕ)) (done whole : List (ℕ × List ℕ)) (at : ℕ) (s : List ℕ) (h : at < length xs) (read : s ≡ get_or xs at s)
+    (f : done ++ placed at (drop at xs) ≡ whole) where
+  next : drop at xs ≡ s ∷ drop (at + 1) xs
+  next = drop_more xs at s h ∙ ap (λ x. x ∷ drop (at + 1) xs) (sym read)
+
+  pub copied_kept : canonical s ≡ s → done ++ placed (at + 1) (drop (at + 1) xs) ≡ whole
+  copied_kept e =
+      ap (λ u. done ++ u) (sym (ap (placed at) next ∙ placed_kept at s (drop (at + 1) xs) ((bytes_eq-Decides (canonical s) s).1 e))) ∙ f
+
+  pub copied_more : (canonical s ≡ s → ⊥) → (done ++ (at, canonical s) ∷ []) ++ placed (at + 1) (drop (at + 1) xs) ≡ whole
+  copied_more n =
+      append_assoc done ((at, canonical s) ∷ []) (placed (at + 1) (drop (at + 1) xs))
+      ∙ ap (λ u. done ++ u) (sym (ap (placed at) next ∙ placed_more at s (drop (at + 1) xs) (not_canonical s n))) ∙ f
+
+-- no segment is left to be copied
+pub none_left : (xs : List (List ℕ)) (done whole : List (ℕ × List ℕ)) (at : ℕ) → length xs ≤ at → done ++ placed at (drop at xs) ≡ whole → done ≡ whole
+none_left xs done whole at h f = sym (append-nil done) ∙ ap (λ l. done ++ placed at l) (sym (drop_all at xs h)) ∙ f
+
+-- ---- putting the copies in place
+
+-- the list with each copy in its place
+abbrev pub with_copies : List (ℕ × List ℕ) → List (List ℕ) → List (List ℕ)
+with_copies [] xs = xs
+with_copies (c ∷ cs) xs = with_copies cs (set xs c.0 c.1)
+
+-- each copy has a place in the list
+abbrev pub AreWithin : List (ℕ × List ℕ) → ℕ → Type 0
+AreWithin [] n = Unit {0}
+AreWithin (c ∷ cs) n = (c.0 < n) × AreWithin cs n
+
+seam : (front ss : List (List ℕ)) (s : List ℕ) → (front ++ s ∷ []) ++ ss ≡ front ++ s ∷ ss
+seam front ss s = append_assoc front (s ∷ []) ss
+
+long : (front : List (List ℕ)) (s : List ℕ) → length (front ++ s ∷ []) ≡ length front + 1
+long front s = length-append front (s ∷ [])
+
+-- what is known of the segments after one, with those before it
+abbrev Rest : List (List ℕ) → List (List ℕ) → ℕ → Type 0
+Rest front ss at = with_copies (placed at ss) (front ++ ss) ≡ front ++ map canonical ss
+
+put_one : (front ss : List (List ℕ)) (s : List ℕ) (at : ℕ) → length front ≡ at → Rest (front ++ canonical s ∷ []) ss (at + 1) → Rest front (s ∷ ss) at
+put_one front ss s at e rest = by_test (is_canonical s) refl
   where
-    by_test : (v : Bool) → is_canonical s ≡ v → (map canonical (filter strays l) ≡ [] → map canonical l ≡ l) → map canonical (s ∷ l) ≡ s ∷ l
-    by_test true h f = ap (λ r. r ∷ map canonical l) ((bytes_eq-Decides (canonical s) s).0 h) ∙ ap (λ m. s ∷ m) (f (sym (copies_kept s l (ap not h)) ∙ e))
-    by_test false h f = let more : canonical s ∷ map canonical (filter strays l) ≡ [] = sym (copies_more s l (ap not h)) ∙ e in absurd (cc)
+    by_test : (v : Bool) → is_canonical s ≡ v → Rest front (s ∷ ss) at
+    by_test true h =
+        let same : canonical s ≡ s = (bytes_eq-Decides (canonical s) s).0 h in
+        ap (λ c. with_copies c (front ++ s ∷ ss)) (placed_kept at s ss h)
+        ∙ ap (with_copies (placed (at + 1) ss)) (ap (λ x. front ++ x ∷ ss) (sym same) ∙ sym (seam front ss (canonical s)))
+        ∙ rest
+        ∙ seam front (map canonical ss) (canonical s)
+    by_test false h =
+        ap (λ c. with_copies c (front ++ s ∷ ss)) (placed_more at s ss h)
+        ∙ ap (with_copies (placed (at + 1) ss)) (ap (λ n. set (front ++ s ∷ ss) n (canonical s)) (sym e) ∙ set-append_seam front s ss (canonical s)
+        ∙ sym (seam front ss (canonical s)))
+        ∙ rest
+        ∙ seam front (map canonical ss) (canonical s)
+
+put_from : (front ss : List (List ℕ)) (at : ℕ) → length front ≡ at → Rest front ss at
+put_from front [] at e = refl
+put_from front (s ∷ ss) at e =
+    put_one front ss s at e (put_from (front ++ canonical s ∷ []) ss (at + 1) (long front (canonical s) ∙ ap (λ n. n + 1) e))
+
+pub all_put : (ss : List (List ℕ)) → with_copies (placed 0 ss) ss ≡ map canonical ss
+all_put ss = put_from [] ss 0 refl
+
+within_one : (s : List ℕ) (ss : List (List ℕ)) (at n : ℕ) → at < n → AreWithin (placed (at + 1) ss) n → AreWithin (placed at (s ∷ ss)) n
+within_one s ss at n h rest = by_test (is_canonical s) refl
+  where
+    by_test : (v : Bool) → is_canonical s ≡ v → AreWithin (placed at (s ∷ ss)) n
+    by_test true e = subst (λ c. AreWithin c n) (sym (placed_kept at s ss e)) rest
+    by_test false e = subst (λ c. AreWithin c n) (sym (placed_more at s ss e)) (h, rest)
+
+within_from : (ss : List (List ℕ)) (at n : ℕ) → at + length ss ≤ n → AreWithin (placed at ss) n
+within_from [] at n h = tt
+within_from (s ∷ ss) at n h = within_one s ss at n (omega (arith, h)) (within_from ss (at + 1) n (omega (arith, h)))
+
+pub all_within : (ss : List (List ℕ)) → AreWithin (placed 0 ss) (length ss)
+all_within ss = within_from ss 0 (length ss) (omega arith)
 
 pub nothing : {X : Type 0} (l : List X) → length l ≡ 0 → l ≡ []
 nothing [] e = refl
 nothing (x ∷ l) e = absurd (omega (arith, e))
-
--- ---- from the first to the last
-
-pub copied_kept : (xs done whole : List (List ℕ)) (at : ℕ) (s : List ℕ) → at < length xs → s ≡ get_or xs at s → canonical s ≡ s
-    → done ++ map canonical (filter strays (drop at xs)) ≡ whole → done ++ map canonical (filter strays (drop (at + 1) xs)) ≡ whole
-copied_kept xs done whole at s h read e f =
-    ap (λ u. done ++ u) (sym (ap (λ l. map canonical (filter strays l)) (drop_more xs at s h ∙ ap (λ x. x ∷ drop (at + 1) xs) (sym read))
-    ∙ copies_kept s (drop (at + 1) xs) (strays_not s e))) ∙ f
-
-pub copied_more : (xs done whole : List (List ℕ)) (at : ℕ) (s : List ℕ) → at < length xs → s ≡ get_or xs at s → (canonical s ≡ s → ⊥)
-    → done ++ map canonical (filter strays (drop at xs)) ≡ whole → (done ++ canonical s ∷ []) ++ map canonical (filter strays (drop (at + 1) xs)) ≡ whole
-copied_more xs done whole at s h read n f =
-    append_assoc done (canonical s ∷ []) (map canonical (filter strays (drop (at + 1) xs)))
-    ∙ ap (λ u. done ++ u) (sym (ap (λ l. map canonical (filter strays l)) (drop_more xs at s h ∙ ap (λ x. x ∷ drop (at + 1) xs) (sym read))
-    ∙ copies_more s (drop (at + 1) xs) (strays_so s n))) ∙ f
-
--- ---- from the last to the first
-
-reverse_push : (front : List (List ℕ)) (t : List ℕ) → reverse (front ++ t ∷ []) ≡ t ∷ reverse front
-reverse_push front t = reverse-append front (t ∷ [])
-
-pub pushed_same : (a b : List (List ℕ)) (x y : List ℕ) → a ++ x ∷ [] ≡ b ++ y ∷ [] → (a ≡ b) × (x ≡ y)
-pushed_same a b x y e =
-    let f : x ∷ reverse a ≡ y ∷ reverse b = sym (reverse_push a x) ∙ ap reverse e ∙ reverse_push b y in
-    let g : reverse a ≡ reverse b = cc in
-    (sym (reverse-reverse a) ∙ ap reverse g ∙ reverse-reverse b, cc)
-
-module _ (xs ys : List (List ℕ)) (n at : ℕ) (s : List ℕ) (place : n ≡ at + 1) (within : at < length xs) (long : length xs ≡ length ys)
-    (read : s ≡ get_or xs at s) (front : take n xs ≡ take n ys) (back : drop n xs ≡ map canonical (drop n ys)) where
-  both_fronts : take at xs ++ s ∷ [] ≡ take at ys ++ get_or ys at s ∷ []
-  both_fronts =
-      ap (λ x. take at xs ++ x ∷ []) read
-      ∙ sym (ap (λ k. take k xs) place ∙ take_more xs at s within)
-      ∙ front
-      ∙ ap (λ k. take k ys) place
-      ∙ take_more ys at s (omega arith)
-
-  pub front_less : take at xs ≡ take at ys
-  front_less = (pushed_same (take at xs) (take at ys) s (get_or ys at s) both_fronts).0
-
-  read_old : s ≡ get_or ys at s
-  read_old = (pushed_same (take at xs) (take at ys) s (get_or ys at s) both_fronts).1
-
-  back_old : map canonical (drop at ys) ≡ canonical s ∷ map canonical (drop n ys)
-  back_old =
-      ap (map canonical) (drop_more ys at s (omega arith) ∙ ap (λ x. x ∷ drop (at + 1) ys) (sym read_old))
-      ∙ ap (λ k. canonical s ∷ map canonical (drop k ys)) (sym place)
-
-  pub back_kept : canonical s ≡ s → drop at xs ≡ map canonical (drop at ys)
-  back_kept e =
-      drop_more xs at s within
-      ∙ ap (λ x. x ∷ drop (at + 1) xs) (sym read)
-      ∙ ap (λ k. s ∷ drop k xs) (sym place)
-      ∙ ap (λ l. s ∷ l) back
-      ∙ ap (λ x. x ∷ map canonical (drop n ys)) (sym e)
-      ∙ sym back_old
-
-  pub back_more : (c : List ℕ) → c ≡ canonical s → drop at (set xs at c) ≡ map canonical (drop at ys)
-  back_more c e =
-      drop-set xs at c within
-      ∙ ap (λ k. c ∷ drop k xs) (sym place)
-      ∙ ap (λ l. c ∷ l) back
-      ∙ ap (λ x. x ∷ map canonical (drop n ys)) e
-      ∙ sym back_old
-
-  pub front_more : (c : List ℕ) → take at (set xs at c) ≡ take at ys
-  front_more c = take-set xs at c ∙ front_less
-
-  copies_split : map canonical (filter strays (take n ys)) ≡ map canonical (filter strays (take at ys)) ++ map canonical (filter strays (s ∷ []))
-  copies_split =
-      ap (λ l. map canonical (filter strays l)) (ap (λ k. take k ys) place ∙ take_more ys at s (omega arith) ∙ ap (λ x. take at ys ++ x ∷ []) (sym read_old))
-      ∙ ap (map canonical) (filter-append strays (take at ys) (s ∷ []))
-      ∙ map-append canonical (filter strays (take at ys)) (filter strays (s ∷ []))
-
-  pub copies_same : (copies : List (List ℕ)) → copies ≡ map canonical (filter strays (take n ys)) → canonical s ≡ s →
-      copies ≡ map canonical (filter strays (take at ys))
-  copies_same copies f e =
-      f ∙ copies_split ∙ ap (λ l. map canonical (filter strays (take at ys)) ++ l) (copies_kept s [] (strays_not s e))
-      ∙ append-nil (map canonical (filter strays (take at ys)))
-
-  pub copies_less : (copies : List (List ℕ)) → copies ≡ map canonical (filter strays (take n ys)) → (canonical s ≡ s → ⊥)
-      → copies ≡ map canonical (filter strays (take at ys)) ++ canonical s ∷ []
-  copies_less copies f e =
-      f ∙ copies_split ∙ ap (λ l. map canonical (filter strays (take at ys)) ++ l) (copies_more s [] (strays_so s e))
-
--- if no copy is left, all segments before its place are canonical
-pub all_put : (xs ys : List (List ℕ)) (at : ℕ) → take at xs ≡ take at ys → drop at xs ≡ map canonical (drop at ys) → map canonical (filter strays (take at ys)) ≡ []
-    → xs ≡ map canonical ys
-all_put xs ys at front back none =
-    sym (take-append-drop at xs)
-    ∙ ap (λ l. l ++ drop at xs) (front ∙ sym (none_strays (take at ys) none))
-    ∙ ap (λ l. map canonical (take at ys) ++ l) back
-    ∙ sym (map-append canonical (take at ys) (drop at ys))
-    ∙ ap (map canonical) (take-append-drop at ys)

@@ -1,16 +1,14 @@
-use Rattle.std.proofs.Common.{◌≡◌, ◌≤◌, map, filter, not, take, drop, length}
+use Rattle.std.proofs.Common.{◌≡◌, map, length}
+use Rattle.std.specs.Vec.Iter.{into_iter_items, into_iter_len}
 use Rattle.uriparse_text.specs.Canonical.{canonical}
-use Rattle.uriparse_path.specs.Normal as spec
+use Rattle.uriparse_path.proofs.lemmas.normal.CanonicalCopyLemmas.{AreWithin, with_copies}
 use Rattle.uriparse_path.proofs.path.normal.put_copies.Given as goal
 
+-- with the copies that are left, each segment is canonical
 abbrev pub invariant-loop-at : goal.invariant-loop-at
-invariant-loop-at l = record {
-  within : l.at ≤ length l.segments;
-  long : length l.segments ≡ length l.initial.segments;
-  front : take l.at l.segments ≡ take l.at l.initial.segments;
-  back : drop l.at l.segments ≡ map canonical (drop l.at l.initial.segments);
-  copies : l.copies.items ≡ map canonical (filter (λ s. not (spec.is_canonical s)) (take l.at l.initial.segments));
-}
-
-abbrev pub decreases-loop-at : goal.decreases-loop-at
-decreases-loop-at l = l.at
+invariant-loop-at l =
+    (goal.iterator-loop-at).can_next l.at-iterator ×
+    (goal.iterator-loop-at).is_finite l.at-iterator ×
+    (with_copies (into_iter_items l.at-iterator) l.segments ≡ map canonical l.fn.segments) ×
+    AreWithin (into_iter_items l.at-iterator) (length l.segments) ×
+    (length (into_iter_items l.at-iterator) ≡ into_iter_len l.at-iterator)
