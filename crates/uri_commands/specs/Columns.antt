@@ -32,7 +32,7 @@ pub record IsCut (first width : ℕ) (line front text back : List ℕ) : Type 0 
   pub fields : tabs text + 1 ≡ width
   pub behind : IsRest back
 
--- the line with the result in the place of the text, or behind its last field
+-- the line with the result in the place of the text, or after its last field
 abbrev pub row : Bool → List ℕ → List ℕ → List ℕ → List ℕ → List ℕ
 row appends front text back result =
     if appends then front ++ (text ++ (back ++ tab ∷ result)) else front ++ (result ++ back)

@@ -51,7 +51,7 @@ uri --lines --column K --append COMMAND
 uri --lines --append COMMAND
 
 A line has fields with tabs between them. Reads the K-th, which counts from 1,
-and prints the line with the result in its place, or with --append behind its
+and prints the line with the result in its place, or with --append after its
 last field; the other fields stay as they are. equal reads the K-th and the
 next. A field that is rejected gives an empty result, and a line with too few
 fields is printed as it is; both are reported. Exactly one line is printed for
@@ -79,7 +79,7 @@ pub struct Columns {
     pub appends: bool,
 }
 
-/// A line, cut before and behind the text that is read.
+/// A line, cut before and after the text that is read.
 #[derive(Clone, Copy)]
 pub struct Cut<'l> {
     pub front: &'l [u8],
@@ -162,7 +162,7 @@ pub fn write_line<O: Write>(line: &[u8], out: &mut O) -> io::Result<()>
 }
 
 /// Writes the line that goes out: the line that was read with the first line of the output in the place
-/// of its text, or behind its last field.
+/// of its text, or after its last field.
 pub fn write_row<O: Write>(
     cut: &Cut<'_>,
     appends: bool,

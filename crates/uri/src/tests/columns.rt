@@ -30,7 +30,7 @@ static ROWS: [(&str, &str, &str, &str, u8); 42] = [
         1,
     ),
     ("--lines|--align|--trim|escape", " <a> \n", "a\n", "", 0),
-    // The field of a column, and those before and behind it.
+    // The field of a column, and those before and after it.
     (
         "--lines|--column|1|normalize",
         "A:b\tY\n",
