@@ -30,7 +30,7 @@
 #include <stddef.h>
 #include <stdint.h>
 
-#define URIPARSE_VERSION "0.2.0"
+#define URIPARSE_VERSION "0.3.0"
 
 /* What a call returns. The error of a text is its first one: of the authority (user name, password, host, port), then
  * of the path, the colon rule, the query, the fragment; and within each of these the leftmost one. `code & 0xf0` names

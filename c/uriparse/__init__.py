@@ -17,7 +17,7 @@ __all__ = [
     "COMPONENTS", "ENCODED", "IN_BASE", "NO_ROOM", "Buffer", "Components", "Encodable", "HostKind", "Parts", "Span", "URIError",
     "decode", "encode", "equal", "error_text", "escape", "first_fault", "get_many", "hash_of", "is_uri", "normalize",
     "normalize_many", "pairs", "parse", "parse_many", "resolve", "resolve_many", "spans"]
-__version__ = "0.2.0"
+__version__ = "0.3.0"
 
 Encodable = Literal["username", "password", "segment", "query", "fragment"]
 HostKind = Literal["name", "ipv4", "ipv6", "ipvfuture"]
