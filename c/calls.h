@@ -3,10 +3,10 @@
 
 #include <string.h>
 
-enum { CALLS = 10 };
+enum { CALLS = 11 };
 
-static const char *const names[CALLS] = {"parse",     "is_uri", "equal",  "hash",   "first_fault",
-                                         "normalize", "decode", "encode", "escape", "resolve"};
+static const char *const names[CALLS] = {"parse",  "is_uri", "equal",  "hash",      "first_fault", "normalize",
+                                         "decode", "encode", "escape", "next_pair", "resolve"};
 
 /* What a call writes. */
 struct written {
@@ -15,6 +15,7 @@ struct written {
   size_t place;
   uint64_t hash;
   struct uriparse_parts parts;
+  struct uriparse_pair pair;
   bool equal;
 };
 
@@ -29,6 +30,7 @@ static uint32_t call(int which, const char *base, size_t base_len, const char *t
   case 6: return uriparse_decode(text, len, to->out, ROOM, &to->needed);
   case 7: return uriparse_encode(URIPARSE_SEGMENT, text, len, to->out, ROOM, &to->needed);
   case 8: return uriparse_escape(text, len, to->out, ROOM, &to->needed);
+  case 9: return uriparse_next_pair(text, len, len / 2, &to->pair) ? URIPARSE_OK : URIPARSE_NO_ROOM;
   default: return uriparse_resolve(base, base_len, text, len, to->out, ROOM, &to->needed);
   }
 }

@@ -3,7 +3,8 @@
 Of each accepted text the components are those of the regular expression of RFC 3986, appendix B, and the authority is its
 components put together; the normal form is its own normal form; a text that is equal to its neighbour has the same hash.
 A rejected text is rejected by every call with one code. Each text, encoded, is decoded to itself, as Python's `quote` and
-`unquote_to_bytes` do it; and escaped it stays if it is escaped again, and means the same."""
+`unquote_to_bytes` do it; and escaped it stays if it is escaped again, and means the same. Its pairs, as those of a query, are
+those that Python's `split` and `partition` find."""
 import random
 import re
 import sys
@@ -74,6 +75,11 @@ KEPT = {"username": "!$&'()*+,;=", "password": "!$&'()*+,;=:", "segment": "!$&'(
         "fragment": "!$&'()*+,;=:@/?"}
 
 
+def check_pairs(text):
+    pieces = (piece.partition(b"=") for piece in text.split(b"&"))
+    assert uriparse.pairs(text) == [(name, value if sign else None) for name, sign, value in pieces], text
+
+
 def check_codings(text):
     for name, kept in KEPT.items():
         encoded = uriparse.encode(name, text)
@@ -93,6 +99,7 @@ def main():
     for _ in range(count):
         text = some_text(draw)
         check_codings(text)
+        check_pairs(text)
         code = code_of(uriparse.spans, text)
         if code:
             check_rejected(text, code)

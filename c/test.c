@@ -1,5 +1,6 @@
 /* Rows with what is expected: the tables of RFC 3986, section 5.4, normal forms, components, texts that are rejected, and
- * texts that are decoded, encoded and escaped. Prints a line for each check that fails and how many passed; the status is 0 if all did. */
+ * texts that are decoded, encoded, escaped and cut into pairs. Prints a line for each check that fails and how many passed;
+ * the status is 0 if all did. */
 #include "uriparse.h"
 
 #include <stdio.h>
@@ -160,6 +161,27 @@ static void hashes(const char *left, const char *right, bool alike) {
             && (one == other) == alike, "hash", right);
 }
 
+/* The pairs of a query, each written as [name] or [name=value]. What is written beyond the end stays. */
+static void pairs(const char *query, const char *expected) {
+  size_t len = strlen(query), at = 0;
+  char found[100] = "";
+  struct uriparse_pair pair, before;
+  while (uriparse_next_pair(query, len, at, &pair)) {
+    check(pair.name.present && pair.name.begin == at && pair.name.end <= len && pair.next > at, "place of a name", query);
+    check(!pair.value.present || (pair.value.begin == pair.name.end + 1 && pair.value.end <= len), "place of a value", query);
+    check(pair.next == (pair.value.present ? pair.value.end : pair.name.end) + 1, "next", query);
+    check(pair.value.present || (pair.value.begin == 0 && pair.value.end == 0), "absent value", query);
+    sprintf(found + strlen(found), pair.value.present ? "[%.*s=%.*s]" : "[%.*s]", (int)(pair.name.end - pair.name.begin),
+            query + pair.name.begin, (int)(pair.value.end - pair.value.begin), query + pair.value.begin);
+    at = pair.next;
+  }
+  check(at == len + 1 && strcmp(found, expected) == 0, "pairs", query);
+  memset(&before, 0x5a, sizeof before);
+  memcpy(&pair, &before, sizeof pair);
+  check(!uriparse_next_pair(query, len, len + 1, &pair) && !uriparse_next_pair(query, len, (size_t)-1, &pair)
+            && memcmp(&pair, &before, sizeof pair) == 0, "no pair", query);
+}
+
 /* As many codes have a text as the header names. */
 static void texts(void) {
   int named = 0;
@@ -172,6 +194,8 @@ static void texts(void) {
 }
 
 int main(void) {
+  check(sizeof(struct uriparse_pair) == 2 * sizeof(struct uriparse_span) + sizeof(size_t)
+            && offsetof(struct uriparse_pair, next) == 2 * sizeof(struct uriparse_span), "layout", "uriparse_pair");
   check(sizeof(struct uriparse_span) == 3 * sizeof(size_t) && offsetof(struct uriparse_parts, host_kind) == 9 * sizeof(struct uriparse_span)
             && sizeof(struct uriparse_parts) == 9 * sizeof(struct uriparse_span) + 8, "layout", "uriparse_parts");
   const char *base = "http://a/b/c/d;p?q";
@@ -232,6 +256,24 @@ int main(void) {
   escapes("%%41%4", "%25%41%254");
   escapes("HTTP://H/%7e/../x", "HTTP://H/%7e/../x");
   escapes("", "");
+
+  pairs("a=1&b=2", "[a=1][b=2]");
+  pairs("", "[]");
+  pairs("a", "[a]");
+  pairs("a=", "[a=]");
+  pairs("=", "[=]");
+  pairs("&", "[][]");
+  pairs("a&&b&", "[a][][b][]");
+  pairs("a=b=c&=d", "[a=b=c][=d]");
+  pairs("a%26b=%3D&c+d", "[a%26b=%3D][c+d]");
+  pairs("a b#c&d", "[a b#c][d]");
+  {
+    struct uriparse_pair pair;
+    check(uriparse_next_pair("a=1&b=2", 7, 5, &pair) && pair.name.begin == 5 && pair.name.end == 5 && pair.value.begin == 6
+              && pair.value.end == 7 && pair.next == 8, "pair within a pair", "a=1&b=2");
+    check(uriparse_next_pair(NULL, 0, 0, &pair) && pair.name.present && pair.name.end == 0 && !pair.value.present && pair.next == 1
+              && !uriparse_next_pair(NULL, 0, 1, &pair), "next_pair", "NULL");
+  }
 
   rejects("//u%@h", URIPARSE_USERNAME_ESCAPE, 3);
   rejects("//u\"@h", URIPARSE_USERNAME_BYTE, 3);

@@ -73,6 +73,8 @@ static void check_null() {
   check(uriparse_decode(nullptr, 0, nullptr, 0, &needed) == URIPARSE_OK && needed == 0, "decode null");
   check(uriparse_encode(URIPARSE_QUERY, nullptr, 0, nullptr, 0, &needed) == URIPARSE_OK && needed == 0, "encode null");
   check(uriparse_escape(nullptr, 0, nullptr, 0, &needed) == URIPARSE_OK && needed == 0, "escape null");
+  uriparse_pair pair;
+  check(uriparse_next_pair(nullptr, 0, 0, &pair) && pair.next == 1 && !uriparse_next_pair(none.data(), 0, 1, &pair), "next_pair null");
 }
 
 int main() {
@@ -97,6 +99,12 @@ int main() {
   check(encode(URIPARSE_SEGMENT, "a/b") == "a%2Fb" && encode(URIPARSE_QUERY, "a/b") == "a/b" && encode(1, "a") == "rejected", "encode");
   check(uriparse_decode("a%2Fb", 5, out, sizeof out, &needed) == URIPARSE_OK && std::string(out, needed) == "a/b", "decode");
   check(uriparse_decode("a b", 3, out, sizeof out, &needed) == URIPARSE_QUERY_BYTE && needed == 0, "decode rejects");
+  uriparse_pair pair;
+  std::string names;
+  for (size_t at = 0; uriparse_next_pair("a=1&b", 5, at, &pair); at = pair.next) {
+    names += cut("a=1&b", pair.name) + ' ' + cut("a=1&b", pair.value) + ' ';
+  }
+  check(names == "a 1 b absent ", "pairs");
   check(uriparse_escape("a b%", 4, out, sizeof out, &needed) == URIPARSE_OK && std::string(out, needed) == "a%20b%25", "escape");
   check(std::string(uriparse_error_text(URIPARSE_IN_BASE | URIPARSE_PORT_RANGE)) == "the port is above 65535", "text");
   check_names();

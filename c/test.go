@@ -57,6 +57,17 @@ func escape(text string) string {
 	return string(out)
 }
 
+// The names and values of the pairs of a query.
+func pairs(query string) string {
+	begin, length := pointer(query)
+	var pair C.struct_uriparse_pair
+	found := ""
+	for bool(C.uriparse_next_pair(begin, length, pair.next, &pair)) {
+		found += piece(query, pair.name) + " " + piece(query, pair.value) + " "
+	}
+	return found
+}
+
 func decode(text string) string {
 	begin, length := pointer(text)
 	out := make([]byte, len(text)+1)
@@ -130,6 +141,7 @@ func main() {
 	check(normalize("HTTP://H/%7e/../x") == "http://h/x" && normalize("%") == "rejected", "normalize")
 	check(resolve("http://a/b/c", "../g#s") == "http://a/g#s" && resolve("/a", "b") == "rejected", "resolve")
 	check(decode("a%2Fb+") == "a/b+" && decode("") == "" && decode("%2") == "rejected", "decode")
+	check(pairs("a=1&b&") == "a 1 b absent  absent " && pairs("") == " absent ", "pairs")
 	check(encode(C.URIPARSE_SEGMENT, "a/b") == "a%2Fb" && encode(C.URIPARSE_QUERY, "") == "", "encode")
 	check(encode(7, "a") == "rejected", "no component")
 	check(escape("http://h/ü b") == "http://h/%C3%BC%20b", "escape")

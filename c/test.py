@@ -39,6 +39,8 @@ def test_calls() -> None:
     assert uriparse.encode("segment", b"a/b c") == b"a%2Fb%20c" and uriparse.encode("query", b"") == b""
     assert [uriparse.encode(name, b":/") for name in uriparse.ENCODED] == [b"%3A%2F", b":%2F", b":%2F", b":/", b":/"]
     assert uriparse.escape("http://h/a b?\u00fc%".encode()) == b"http://h/a%20b?%C3%BC%25"
+    assert uriparse.pairs(b"a=1&b=&c&&=d") == [(b"a", b"1"), (b"b", b""), (b"c", None), (b"", None), (b"", b"d")]
+    assert uriparse.pairs(b"") == [(b"", None)] and uriparse.pairs(b"a%26=b=c+d#") == [(b"a%26", b"b=c+d#")]
     assert uriparse.first_fault(b"/a%4") == (0x52, 2) and uriparse.first_fault(b"/a") is None
 
 
@@ -113,6 +115,7 @@ def test_buffers() -> None:
             assert uriparse.is_uri(other) == uriparse.is_uri(text) and uriparse.first_fault(other) == uriparse.first_fault(text)
             assert uriparse.escape(other) == uriparse.escape(text)
             assert uriparse.encode("query", other) == uriparse.encode("query", text)
+            assert uriparse.pairs(other) == uriparse.pairs(text) == [(text, None)]
             if uriparse.first_fault(text):
                 rejects(0x51, 10, text, uriparse.parse, other)
                 continue
@@ -162,7 +165,8 @@ def test_released() -> None:
 def test_wrong_types() -> None:
     for error in (
             raised(lambda: uriparse.parse("a")), raised(lambda: uriparse.equal(b"a", "a")),  # type: ignore[arg-type]
-            raised(lambda: uriparse.first_fault("")), raised(lambda: uriparse.escape("a"))):  # type: ignore[arg-type]
+            raised(lambda: uriparse.first_fault("")), raised(lambda: uriparse.escape("a")),  # type: ignore[arg-type]
+            raised(lambda: uriparse.pairs(""))):  # type: ignore[arg-type]
         assert type(error) is TypeError and str(error) == "bytes expected, not str", error
     for other in (None, 5, [97], memoryview(b"abcd").cast("I"), memoryview(b"abcd").cast("B", (2, 2))):
         assert type(raised(uriparse.normalize, other)) is TypeError, other

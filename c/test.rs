@@ -17,6 +17,14 @@ struct Parts {
     port_number: u32,
 }
 
+#[repr(C)]
+#[derive(Default)]
+struct Pair {
+    name: Span,
+    value: Span,
+    next: usize,
+}
+
 unsafe extern "C" {
     fn uriparse_parse(text: *const u8, len: usize, parts: *mut Parts) -> u32;
     fn uriparse_normalize(
@@ -33,6 +41,7 @@ unsafe extern "C" {
         room: usize,
         needed: *mut usize,
     ) -> u32;
+    fn uriparse_next_pair(query: *const u8, len: usize, at: usize, pair: *mut Pair) -> bool;
 }
 
 fn parse(text: &str) -> Result<Parts, u32> {
@@ -67,6 +76,16 @@ fn escape(text: &str) -> String {
     String::from_utf8(out).unwrap()
 }
 
+fn pairs(query: &str) -> Vec<(&str, Option<&str>)> {
+    let mut found = Vec::new();
+    let mut pair = Pair::default();
+    while unsafe { uriparse_next_pair(query.as_ptr(), query.len(), pair.next, &mut pair) } {
+        let text = |span: Span| &query[span.begin..span.end];
+        found.push((text(pair.name), pair.value.present.then(|| text(pair.value))));
+    }
+    found
+}
+
 fn main() {
     let text = "http://user@example.com:80/a?q#f";
     let parts = parse(text).unwrap();
@@ -76,5 +95,6 @@ fn main() {
     assert_eq!(parse("/%").err(), Some(0x52));
     assert_eq!(normalize("HTTP://h/%7e/../x").as_deref(), Ok("http://h/x"));
     assert_eq!(escape("http://h/ü b"), "http://h/%C3%BC%20b");
+    assert_eq!(pairs("a=1&b&"), [("a", Some("1")), ("b", None), ("", None)]);
     println!("ok");
 }

@@ -1,5 +1,5 @@
-/* URIs and URI references of RFC 3986: read, compare, hash, normalize, resolve, decode, encode and escape them. The code
- * behind these calls is proved: it is safe, it terminates, and it computes what this header says of results, codes and
+/* URIs and URI references of RFC 3986: read, compare, hash, normalize, resolve, decode, encode and escape them, and read
+ * the pairs of a query. The code behind these calls is proved: it is safe, it terminates, and it computes what this header says of results, codes and
  * what is written. That no call allocates, and what it says of threads, signal handlers and the stack, is only tested.
  * README.md says more.
  *
@@ -13,7 +13,7 @@
  *
  * A text isn't written and isn't kept: after the call nothing points into it. Its bytes are initialized, and nothing
  * changes them during the call, be it another thread, a signal handler or another process that shares the memory: a
- * call reads a text more than once. What a call writes to (`out`, `needed`, `parts`, `place`, `equal`, `hash`) overlaps no
+ * call reads a text more than once. What a call writes to (`out`, `needed`, `parts`, `place`, `equal`, `hash`, `pair`) overlaps no
  * other argument. It need not be initialized, and nothing else uses it during the call. On an error nothing is written except
  * `*needed`, which becomes 0, or with URIPARSE_NO_ROOM the length of the text, and `*place`.
  *
@@ -30,7 +30,7 @@
 #include <stddef.h>
 #include <stdint.h>
 
-#define URIPARSE_VERSION "0.2.0"
+#define URIPARSE_VERSION "0.3.0"
 
 /* What a call returns. The error of a text is its first one: of the authority (user name, password, host, port), then
  * of the path, the colon rule, the query, the fragment; and within each of these the leftmost one. `code & 0xf0` names
@@ -97,6 +97,13 @@ struct uriparse_parts {
   struct uriparse_span fragment;
   uint32_t host_kind;   /* one of uriparse_host_kind */
   uint32_t port_number; /* 0 to 65535; 0 if there are no digits */
+};
+
+/* A pair of a query, as name=value. The places count from the start of the query. */
+struct uriparse_pair {
+  struct uriparse_span name;  /* always present, and may be empty */
+  struct uriparse_span value; /* absent if the pair has no '=' */
+  size_t next;                /* where the next pair begins; after the last pair it is greater than the query's length */
 };
 
 /* What `uriparse_encode` writes. */
@@ -177,12 +184,27 @@ uint32_t uriparse_normalize(const uint8_t *text, size_t len, uint8_t *out, size_
 uint32_t uriparse_resolve(const uint8_t *base, size_t base_len, const uint8_t *text, size_t len, uint8_t *out,
                           size_t room, size_t *needed);
 
+/* Writes to `*pair` where the pair is that begins at `at` in a query, and where the next one begins. Returns whether there
+ * is one: if `at` is greater than `len` there is none, and `*pair` is unchanged. To read all pairs:
+ *
+ *     struct uriparse_pair pair;
+ *     for (size_t at = 0; uriparse_next_pair(query, len, at, &pair); at = pair.next) { .. }
+ *
+ * The pairs are the pieces between the '&', and the first '=' of a piece ends its name. Each query has a pair at least: that
+ * of an empty piece has an empty name and no value. Names and values are as they stand in the text: `uriparse_decode` reads
+ * each, and leaves a "+" as it is. Any text is cut like that. RFC 3986 knows of such pairs only as a habit (section 3.4).
+ * Reads this pair alone. Does not allocate.
+ *
+ * The caller ensures: `query` is readable for `len` bytes; `pair` is writable. */
+bool uriparse_next_pair(const uint8_t *query, size_t len, size_t at, struct uriparse_pair *pair);
+
 /* Writes to `out` the bytes that the text of a component stands for, and to `*needed` their number: each escape as its
  * byte, each other byte as it is, so a "+" stays. If `room` is less, returns URIPARSE_NO_ROOM, and `out` is
  * unchanged. The text is that of a query, as the texts of user names, passwords, names of hosts, paths and fragments are
  * too; for another text returns URIPARSE_QUERY_BYTE or URIPARSE_QUERY_ESCAPE. Does not allocate.
  *
- * Cut a query or a path at its delimiters before you decode its pieces: "%26" and "&" become the same byte.
+ * Cut a query or a path at its delimiters before you decode its pieces, a query by `uriparse_next_pair`: "%26" and "&"
+ * become the same byte.
  *
  * The caller ensures: `text` is readable for `len` bytes; `out` is writable for `room` bytes; `needed` is writable. */
 uint32_t uriparse_decode(const uint8_t *text, size_t len, uint8_t *out, size_t room, size_t *needed);
@@ -254,6 +276,10 @@ inline uint32_t uriparse_resolve(const void *base, size_t base_len, const void *
                                       needed);
 }
 
+inline bool uriparse_next_pair(const void *query, size_t len, size_t at, uriparse_pair *pair) {
+  return uriparse_c::uriparse_next_pair(uriparse_text(query), len, at, pair);
+}
+
 inline uint32_t uriparse_decode(const void *text, size_t len, void *out, size_t room, size_t *needed) {
   return uriparse_c::uriparse_decode(uriparse_text(text), len, uriparse_room(out), room, needed);
 }
@@ -287,6 +313,7 @@ static inline uint8_t *uriparse_room(void *out) {
   (uriparse_normalize)(uriparse_text(text), len, uriparse_room(out), room, needed)
 #define uriparse_resolve(base, base_len, text, len, out, room, needed)                                                 \
   (uriparse_resolve)(uriparse_text(base), base_len, uriparse_text(text), len, uriparse_room(out), room, needed)
+#define uriparse_next_pair(query, len, at, pair) (uriparse_next_pair)(uriparse_text(query), len, at, pair)
 #define uriparse_decode(text, len, out, room, needed)                                                                  \
   (uriparse_decode)(uriparse_text(text), len, uriparse_room(out), room, needed)
 #define uriparse_encode(component, bytes, len, out, room, needed)                                                      \

@@ -3,6 +3,7 @@
 PGHOST and PGUSER name a server in which databases may be made. Each line that is printed is a test."""
 from __future__ import annotations
 
+import hashlib
 import os
 import random
 import struct
@@ -123,6 +124,27 @@ def test_random(database: str, texts: List[bytes]) -> str:
     return "random texts in %s: %d" % (database, len(texts))
 
 
+def query_of(text: bytes) -> Optional[bytes]:
+    return None if uriparse.first_fault(text) else uriparse.parse(text).query
+
+
+def test_pairs(database: str, texts: List[bytes]) -> str:
+    """The pairs of a reference's query beside the package's, decoded. Names and values may have tabs: their sums are compared."""
+    listed = "(SELECT string_agg(concat(name, '=', coalesce(value, 'NULL')), ' ') FROM uri_pairs(%s))"
+    for text, answer in (("'?a=1&b=%26&c'", "a=1 b=& c=NULL"), ("'http://h/?'", "=NULL"), ("'?%00=%ff&%2500=+'", "%00=%ff %00=+"),
+                         ("'a'", None), ("'?a b'", None), ("NULL::text", None), ("uri '?=a=b'", "=a=b")):
+        assert one(database, listed % text) == answer, text
+    assert one(database, listed % "'?%C3%BC'") == ("\xc3\xbc=NULL" if database == "utf8" else "%C3%BC=NULL")
+    assert one(database, "sum(length(value)) FROM uri_pairs('?' || (SELECT string_agg('n=' || repeat('v', n), '&') FROM "
+               "generate_series(0, 1999) n))") == "1999000"
+    found = psql(database, "SELECT at, md5(name), md5(value) FROM random, uri_pairs(x) WITH ORDINALITY AS p (name, value, place) "
+                 "ORDER BY at, place")[0]
+    wanted = [[str(at), *(piece if piece is None else hashlib.md5(piece.encode()).hexdigest() for piece in pair)]
+              for at, text in enumerate(texts) for pair in rows.decoded_pairs(query_of(text), database != "utf8")]
+    assert found == wanted, database
+    return "pairs of queries in %s: %d" % (database, len(found))
+
+
 def test_type() -> str:
     assert error_of("utf8", "SELECT uri 'http://h/a b'") == (
         "ERROR:  22P02: invalid input syntax for type uri: invalid byte in the path / DETAIL:  First wrong byte: 10.")
@@ -237,9 +259,10 @@ def main() -> None:
     for database in ("utf8", "ascii", "latin"):
         psql(database, "CREATE EXTENSION uri")
     print(test_rows("utf8"))
-    print(test_random("ascii", texts))
-    print(test_random("utf8", [text.decode("utf-8", "replace").encode() for text in texts[:2000]]))
-    print(test_random("latin", texts[:2000]))
+    for database, some in (("ascii", texts), ("utf8", [text.decode("utf-8", "replace").encode() for text in texts[:2000]]),
+                           ("latin", texts[:2000])):
+        print(test_random(database, some))
+        print(test_pairs(database, some))
     for found in (test_type(), test_order(), test_long(), test_cancelled()):
         print(found)
     psql("utf8", "DROP EXTENSION uri CASCADE")

@@ -3,12 +3,16 @@
  * A value of the type `uri` is stored as a text, so each function of a text takes one too. */
 #include "postgres.h"
 
+#include "access/htup_details.h"
 #include "common/hashfn.h"
 #include "fmgr.h"
+#include "funcapi.h"
 #include "libpq/pqformat.h"
+#include "mb/pg_wchar.h"
 #include "utils/builtins.h"
 
 #include "order.h"
+#include "pairs.h"
 #include "uriparse.h"
 
 PG_MODULE_MAGIC;
@@ -199,6 +203,81 @@ Datum
 uri_escape(PG_FUNCTION_ARGS)
 {
 	return written(fcinfo, write_escaped);
+}
+
+/* The pairs of a query that are left. */
+struct pairs {
+	char	   *query;
+	size_t		len;
+	size_t		at;
+};
+
+/* At the first call: a copy of the query of a reference, or NULL if there is none. */
+static struct pairs *
+all_pairs(FunctionCallInfo fcinfo)
+{
+	struct bytes text = argument(fcinfo, 0);
+	struct uriparse_parts parts;
+	struct pairs *pairs = NULL;
+
+	if (is_reference(text, &parts) && parts.query.present)
+	{
+		pairs = palloc(sizeof *pairs);
+		pairs->at = 0;
+		pairs->len = parts.query.end - parts.query.begin;
+		pairs->query = palloc(pairs->len + 1);
+		memcpy(pairs->query, text.at + parts.query.begin, pairs->len);
+	}
+	release(fcinfo, 0, text);
+	return pairs;
+}
+
+/* A name or a value, decoded. In a database of another encoding than UTF-8 this has ASCII alone. */
+static Datum
+decoded(const struct pairs *pairs, struct uriparse_span span)
+{
+	size_t		len = span.end - span.begin;
+	text	   *result = palloc(len + VARHDRSZ);
+
+	len = pairs_read(pairs->query + span.begin, len, GetDatabaseEncoding() != PG_UTF8, VARDATA(result));
+	SET_VARSIZE(result, len + VARHDRSZ);
+	return PointerGetDatum(result);
+}
+
+/* A row for each pair of the query. */
+PG_FUNCTION_INFO_V1(uri_pairs);
+Datum
+uri_pairs(PG_FUNCTION_ARGS)
+{
+	FuncCallContext *context;
+	struct pairs *pairs;
+	struct uriparse_pair pair;
+	Datum		values[2] = {0, 0};
+	bool		nulls[2] = {false, false};
+
+	if (SRF_IS_FIRSTCALL())
+	{
+		MemoryContext before;
+
+		context = SRF_FIRSTCALL_INIT();
+		before = MemoryContextSwitchTo(context->multi_call_memory_ctx);
+		if (get_call_result_type(fcinfo, NULL, &context->tuple_desc) != TYPEFUNC_COMPOSITE)
+			elog(ERROR, "uri_pairs returns rows");
+		context->tuple_desc = BlessTupleDesc(context->tuple_desc);
+		context->user_fctx = all_pairs(fcinfo);
+		MemoryContextSwitchTo(before);
+	}
+	context = SRF_PERCALL_SETUP();
+	pairs = context->user_fctx;
+	if (!pairs || !uriparse_next_pair(pairs->query, pairs->len, pairs->at, &pair))
+		SRF_RETURN_DONE(context);
+	pairs->at = pair.next;
+	values[0] = decoded(pairs, pair.name);
+	if (pair.value.present)
+		values[1] = decoded(pairs, pair.value);
+	else
+		nulls[1] = true;
+	SRF_RETURN_NEXT(context, HeapTupleGetDatum(heap_form_tuple(context->tuple_desc, values, nulls)));
 }
 
 /* The type. */

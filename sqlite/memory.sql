@@ -6,6 +6,8 @@ INSERT INTO some SELECT x || hex(zeroblob(n)) FROM some, (SELECT 505 AS n UNION 
 CREATE TABLE results AS SELECT uri_valid(x), uri_fault(x), uri_scheme(x), uri_authority(x), uri_host(x), uri_port(x), uri_path(x),
   uri_query(x), uri_fragment(x), uri_normalize(x), uri_hash(x), uri_escape(x) FROM some;
 SELECT count(uri_resolve(a.x, b.x)), sum(uri_equal(a.x, b.x)) FROM some a, some b;
+SELECT count(name), sum(length(value)) FROM some, uri_pairs(x || '?a=%41&%c3%bc=%ff&=&b');
+SELECT count(*) FROM some a, uri_pairs(a.x) p, uri_pairs('?' || p.name);
 SELECT count(uri_check(x)) FROM some WHERE uri_valid(x);
 CREATE TABLE texts (x TEXT COLLATE URI);
 CREATE INDEX by_spelling ON texts (x);

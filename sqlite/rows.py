@@ -3,7 +3,8 @@ from __future__ import annotations
 
 import os
 import re
-from typing import Dict, Iterator, List, Tuple
+from typing import Dict, Iterator, List, Optional, Tuple
+from urllib.parse import unquote_to_bytes
 
 TOP = os.path.dirname(os.path.dirname(os.path.abspath(__file__)))
 RFC_BASE = "http://a/b/c/d;p?q"
@@ -61,3 +62,18 @@ def close_texts() -> List[str]:
     for size in (508, 509, 510, 700):
         texts += ["//" + host * size + end for host in "hH" for end in ("", "/", ":", ":80/a", "/%61")]
     return texts
+
+
+def _read(piece: bytes, in_ascii: bool) -> str:
+    """What a name or a value stands for, or itself if that is no text."""
+    try:
+        text = unquote_to_bytes(piece).decode("ascii" if in_ascii else "utf-8")
+    except UnicodeDecodeError:
+        return piece.decode()
+    return piece.decode() if "\0" in text else text
+
+
+def decoded_pairs(query: Optional[bytes], in_ascii: bool = False) -> List[Tuple[str, Optional[str]]]:
+    """The rows of `uri_pairs` for a reference with this query, if it has one."""
+    pieces = [piece.partition(b"=") for piece in query.split(b"&")] if query is not None else []
+    return [(_read(name, in_ascii), _read(value, in_ascii) if sign else None) for name, sign, value in pieces]

@@ -118,6 +118,29 @@ def test_texts(db: sqlite3.Connection) -> None:
         limit(0)
 
 
+def query_of(text: bytes) -> Optional[bytes]:
+    return None if uriparse.first_fault(text) else uriparse.parse(text).query
+
+
+def test_pairs(db: sqlite3.Connection) -> int:
+    """The pairs of a reference's query beside the package's, decoded."""
+    listed = "(SELECT group_concat(coalesce(name, 'NULL') || '=' || coalesce(value, 'NULL'), ' ') FROM uri_pairs(?))"
+    for text, expected in (("?a=1&b=%26&c", "a=1 b=& c=NULL"), ("http://h/?", "=NULL"), ("?=&&%3D=a=b+", "= =NULL ==a=b+"),
+                           ("?%C3%BC=%ff&%00=%2500", "\u00fc=%ff %00=%00"), ("?%ed%a0%80=%f4%90%80%80", "%ed%a0%80=%f4%90%80%80"),
+                           ("a", None), ("?a b", None), (None, None), (b"?a=1", "a=1"), (b"", None), (12, None)):
+        assert one(db, listed, text) == expected, (text, one(db, listed, text))
+    assert db.execute("SELECT typeof(name), typeof(value), uri FROM uri_pairs('?a')").fetchall() == [("text", "null", "?a")]
+    assert one(db, "count(*) FROM uri_pairs") == 0
+    assert db.execute("SELECT name FROM uri_pairs('?b=1&a=2&b=3') WHERE value > '1' ORDER BY 1").fetchall() == [("a",), ("b",)]
+    long = "?" + "&".join("n%d=%s" % (at, "v" * at) for at in range(2000))
+    assert one(db, "sum(length(value)) FROM uri_pairs(?)", long) == 1999000
+    found: List[Tuple[Any, ...]] = db.execute(
+        "SELECT random.rowid - 1, name, value FROM random, uri_pairs(x) ORDER BY random.rowid, uri_pairs.rowid").fetchall()
+    texts = [text for text, in db.execute("SELECT x FROM random ORDER BY rowid")]
+    assert found == [(at, *pair) for at, text in enumerate(texts) for pair in rows.decoded_pairs(query_of(text))]
+    return len(found)
+
+
 def test_random(db: sqlite3.Connection, encoding: str) -> int:
     """Each function beside the package, of blobs and of texts."""
     draw = random.Random(encoding)
@@ -214,10 +237,12 @@ def main() -> None:
         test_texts(db)
         texts = test_random(db, encoding) if encoding != "UTF-16be" else 0
         pairs = test_order(db)
+        of_queries = test_pairs(db) if texts else 0
         if texts:
             test_indexes(db)
         assert one(db, "encoding FROM pragma_encoding") == encoding
-        counts.append("%s: %d rows, %d random texts, %d pairs in order" % (encoding, found, texts, pairs))
+        counts.append("%s: %d rows, %d random texts, %d pairs of their queries, %d pairs in order" % (
+            encoding, found, texts, of_queries, pairs))
         db.close()
     print("; ".join(counts))
 

@@ -1,8 +1,9 @@
-/* Functions and a collation for the URIs of RFC 3986 in SQLite, by the library for C. README.md lists them. */
+/* Functions, a table and a collation for the URIs of RFC 3986 in SQLite, by the library for C. README.md lists them. */
 #include "sqlite3ext.h"
 SQLITE_EXTENSION_INIT1
 
 #include "order.h"
+#include "pairs.h"
 #include "uriparse.h"
 
 /* Texts and results up to this length are held on the stack. */
@@ -158,6 +159,131 @@ static void escape(sqlite3_context *context, int count, sqlite3_value **values) 
   result_written(context, count, values, write_escaped);
 }
 
+/* The table uri_pairs(t): a row for each pair of the query of a reference. The third column is hidden, and is the argument. */
+enum { NAME, VALUE, URI };
+
+struct pairs {
+  sqlite3_vtab_cursor base;
+  sqlite3_value *uri; /* the argument, whose bytes the query is among; NULL if there are no rows */
+  const char *query;
+  size_t len;
+  struct uriparse_pair pair;
+  sqlite3_int64 row;
+  bool is_there; /* whether there is a pair in this row */
+};
+
+static int pairs_connect(sqlite3 *db, void *data, int count, const char *const *words, sqlite3_vtab **table, char **message) {
+  int code = sqlite3_declare_vtab(db, "CREATE TABLE pairs(name, value, uri HIDDEN)");
+  (void)data, (void)count, (void)words, (void)message;
+  if (code != SQLITE_OK) return code;
+  sqlite3_vtab_config(db, SQLITE_VTAB_INNOCUOUS);
+  *table = sqlite3_malloc(sizeof **table);
+  if (!*table) return SQLITE_NOMEM;
+  memset(*table, 0, sizeof **table);
+  return SQLITE_OK;
+}
+
+static int pairs_disconnect(sqlite3_vtab *table) {
+  sqlite3_free(table);
+  return SQLITE_OK;
+}
+
+/* The argument is `uri = ..`, which must be known. Without one there are no rows. */
+static int pairs_plan(sqlite3_vtab *table, sqlite3_index_info *info) {
+  (void)table;
+  info->estimatedCost = 10;
+  info->estimatedRows = 4;
+  for (int i = 0; i < info->nConstraint; i++) {
+    if (info->aConstraint[i].iColumn != URI || info->aConstraint[i].op != SQLITE_INDEX_CONSTRAINT_EQ) continue;
+    if (!info->aConstraint[i].usable) return SQLITE_CONSTRAINT;
+    info->aConstraintUsage[i].argvIndex = 1;
+    info->aConstraintUsage[i].omit = 1;
+    info->idxNum = 1;
+    break;
+  }
+  return SQLITE_OK;
+}
+
+static int pairs_open(sqlite3_vtab *table, sqlite3_vtab_cursor **cursor) {
+  struct pairs *pairs = sqlite3_malloc(sizeof *pairs);
+  (void)table;
+  if (!pairs) return SQLITE_NOMEM;
+  memset(pairs, 0, sizeof *pairs);
+  *cursor = &pairs->base;
+  return SQLITE_OK;
+}
+
+static int pairs_close(sqlite3_vtab_cursor *cursor) {
+  sqlite3_value_free(((struct pairs *)cursor)->uri);
+  sqlite3_free(cursor);
+  return SQLITE_OK;
+}
+
+static void pairs_go(struct pairs *pairs, size_t at) {
+  pairs->is_there = pairs->query && uriparse_next_pair(pairs->query, pairs->len, at, &pairs->pair);
+}
+
+static int pairs_next(sqlite3_vtab_cursor *cursor) {
+  struct pairs *pairs = (struct pairs *)cursor;
+  pairs->row++;
+  pairs_go(pairs, pairs->pair.next);
+  return SQLITE_OK;
+}
+
+static int pairs_filter(sqlite3_vtab_cursor *cursor, int plan, const char *name, int count, sqlite3_value **values) {
+  struct pairs *pairs = (struct pairs *)cursor;
+  struct uriparse_parts parts;
+  const char *text;
+  (void)plan, (void)name;
+  sqlite3_value_free(pairs->uri);
+  pairs->uri = NULL;
+  pairs->query = NULL;
+  pairs->row = 0;
+  if (count && sqlite3_value_type(values[0]) != SQLITE_NULL) {
+    pairs->uri = sqlite3_value_dup(values[0]);
+    if (!pairs->uri) return SQLITE_NOMEM;
+    text = sqlite3_value_type(pairs->uri) == SQLITE_BLOB ? sqlite3_value_blob(pairs->uri) : (const char *)sqlite3_value_text(pairs->uri);
+    if (!text && sqlite3_value_bytes(pairs->uri)) return SQLITE_NOMEM;
+    if (text && uriparse_parse(text, (size_t)sqlite3_value_bytes(pairs->uri), &parts) == URIPARSE_OK && parts.query.present) {
+      pairs->query = text + parts.query.begin;
+      pairs->len = parts.query.end - parts.query.begin;
+    }
+  }
+  pairs_go(pairs, 0);
+  return SQLITE_OK;
+}
+
+static int pairs_eof(sqlite3_vtab_cursor *cursor) { return !((struct pairs *)cursor)->is_there; }
+
+/* A name or a value, decoded; NULL for a value that is absent. */
+static int pairs_column(sqlite3_vtab_cursor *cursor, sqlite3_context *context, int column) {
+  struct pairs *pairs = (struct pairs *)cursor;
+  struct uriparse_span span = column == NAME ? pairs->pair.name : pairs->pair.value;
+  size_t len = span.end - span.begin;
+  char *out;
+  if (column == URI) {
+    sqlite3_result_value(context, pairs->uri);
+  } else if (span.present) {
+    out = sqlite3_malloc64(len + 1);
+    if (!out) return SQLITE_NOMEM;
+    len = pairs_read(pairs->query + span.begin, len, false, out);
+    sqlite3_result_text64(context, out, len, sqlite3_free, SQLITE_UTF8);
+  }
+  return SQLITE_OK;
+}
+
+static int pairs_row(sqlite3_vtab_cursor *cursor, sqlite3_int64 *row) {
+  *row = ((struct pairs *)cursor)->row;
+  return SQLITE_OK;
+}
+
+/* Without xCreate the table needs no CREATE VIRTUAL TABLE. */
+static const sqlite3_module PAIRS = {
+  .xConnect = pairs_connect, .xBestIndex = pairs_plan, .xDisconnect = pairs_disconnect, .xOpen = pairs_open,
+  .xClose = pairs_close,     .xFilter = pairs_filter,  .xNext = pairs_next,             .xEof = pairs_eof,
+  .xColumn = pairs_column,   .xRowid = pairs_row,
+};
+
 static void *allocate(size_t size) { return sqlite3_malloc64(size); }
 
 static void release(void *memory) { sqlite3_free(memory); }
@@ -205,5 +331,6 @@ int sqlite3_uri_init(sqlite3 *db, char **message, const sqlite3_api_routines *ap
   for (size_t i = 0; i < sizeof FUNCTIONS / sizeof *FUNCTIONS && code == SQLITE_OK; i++)
     code = sqlite3_create_function_v2(db, FUNCTIONS[i].name, FUNCTIONS[i].count, flags, (void *)FUNCTIONS[i].place,
                                       FUNCTIONS[i].call, NULL, NULL, NULL);
+  if (code == SQLITE_OK) code = sqlite3_create_module_v2(db, "uri_pairs", &PAIRS, NULL, NULL);
   return code == SQLITE_OK ? sqlite3_create_collation_v2(db, "URI", SQLITE_UTF8, db, collate, NULL) : code;
 }

@@ -138,7 +138,7 @@ await test("the message names the text and the place", () => {
 });
 await test("a lone surrogate", () => {
   assert.equal(uris.fault("a\ud800").place, 1);
-  for (const call of [uris.escape, (text) => uris.encode("query", text)]) {
+  for (const call of [uris.escape, uris.pairs, (text) => uris.encode("query", text)]) {
     assert.throws(() => call.call(uris, "a\ud800"), { name: "TypeError", message: "a lone surrogate at index 1" });
   }
   assert.equal(uris.encode("query", "😀"), "%F0%9F%98%80");
@@ -146,7 +146,7 @@ await test("a lone surrogate", () => {
 await test("a URL", () => assert.equal(uris.normalize(new URL("http://h/%7Ea")), "http://h/~a"));
 await test("a value that is no text", () => {
   for (const value of [undefined, null, 1, true, ["a"], {}, Symbol("a")]) {
-    for (const name of ["parse", "fault", "isURI", "hash", "normalize", "escape", "decode"]) {
+    for (const name of ["parse", "fault", "isURI", "hash", "normalize", "escape", "decode", "pairs"]) {
       assert.throws(() => uris[name](value), TypeError, name);
     }
     for (const call of [(one) => uris.equal("a", one), (one) => uris.equal(one, "a"), (one) => uris.resolve("s:", one),
@@ -175,6 +175,13 @@ await test("decoded", () => {
   assert.throws(() => uris.decode("a%2"), { name: "URIParseError", code: 0x62, component: "query", place: 1, text: "a%2" });
   assert.throws(() => uris.decode("é"), { code: 0x61, place: 0 });
   assert.throws(() => uris.decode("a#%"), { code: 0x61, place: 1 });
+});
+await test("pairs", () => {
+  assert.deepEqual(uris.pairs("a=1&b=&c&&=d=e"), [["a", "1"], ["b", ""], ["c", null], ["", null], ["", "d=e"]]);
+  assert.deepEqual(uris.pairs(""), [["", null]]);
+  assert.deepEqual(uris.pairs("é=😀&%26=+#"), [["é", "😀"], ["%26", "+#"]]);
+  assert.deepEqual(uris.pairs("a".repeat(100_000)), [["a".repeat(100_000), null]]);
+  assert.equal(uris.pairs("a=1&".repeat(10_000)).length, 10_001);
 });
 await test("a long text", () => {
   const text = `http://h/${"%41/../".repeat(200000)}`;

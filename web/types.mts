@@ -1,5 +1,5 @@
 // A user of the types, which `web/run` has the TypeScript compiler check without the types of the DOM.
-import { load, isSupported, URIParseError, type Encoded, type Fault, type Parts, type Place, type URIs } from "./uriparse.mjs";
+import { load, isSupported, URIParseError, type Encoded, type Fault, type Pair, type Parts, type Place, type URIs } from "./uriparse.mjs";
 
 async function told(text: string): Promise<string> {
   const uris: URIs = await load("uriparse.wasm");
@@ -13,9 +13,11 @@ async function told(text: string): Promise<string> {
   const segments: string[] = parts.segments.map((segment) => uris.encode("segment", segment));
   const names: Encoded[] = ["username", "password", "query", "fragment"];
   const bytes: Uint8Array = uris.decode(parts.query ?? "");
+  const pairs: Pair[] = uris.pairs(parts.query ?? "");
+  const values: (string | null)[] = pairs.map(([name, value]) => value ?? name);
   const hash: bigint = uris.hash(text) % 2n;
   const equal: boolean = uris.equal(text, uris.normalize(text)) && uris.isURI(uris.resolve(text, "a"));
-  return [host?.[0], kind, parts.port?.toFixed(), segments, names, bytes.length, hash, equal, uris.escape(text)].join();
+  return [host?.[0], kind, parts.port?.toFixed(), segments, names, bytes.length, values, hash, equal, uris.escape(text)].join();
 }
 
 // @ts-expect-error no component is encoded as a path

@@ -52,6 +52,9 @@ export type Encoded = "username" | "password" | "segment" | "query" | "fragment"
 /** A string, or an object that has one, such as a `URL`. Another value is a `TypeError`. */
 export type Input = string | { readonly href: string };
 
+/** A pair of a query, as it stands in the text: `decode` reads both. The value is null if the pair has no "=". */
+export type Pair = [name: string, value: string | null];
+
 export interface URIs {
   parse(text: Input): Parts;
   fault(text: Input): Fault | null;
@@ -62,6 +65,8 @@ export interface URIs {
   resolve(base: Input, reference: Input): string;
   /** A lone surrogate is a `TypeError`. */
   escape(text: Input): string;
+  /** A lone surrogate is a `TypeError`. */
+  pairs(query: Input): Pair[];
   /** A lone surrogate is a `TypeError`. */
   encode(component: Encoded, text: Input): string;
   decode(text: Input): Uint8Array;

@@ -47,6 +47,11 @@ const HOST_KIND = COMPONENTS.length * SPAN;
 const PORT = HOST_KIND + 1;
 const PARTS = 4 * (PORT + 1);
 
+// The same of its struct of a pair.
+const NAME = 0;
+const VALUE = SPAN;
+const NEXT = 2 * SPAN;
+
 const WORD = 16;
 const PAGE = 65536;
 
@@ -315,6 +320,22 @@ class URIs {
   /** The text of a reference, made of any text: with escapes for what may not stand where it does. */
   escape(text) {
     return this.#written("uriparse_escape", [wellFormed(text)]);
+  }
+
+  /** The pairs of a query: the pieces between its "&", each a name and, after its first "=", a value or null. */
+  pairs(query) {
+    const { spans, next } = this.#put(wellFormed(query));
+    const first = next >>> 2;
+    const words = this.#words;
+    const found = [];
+    let at = 0n;
+    while (this.#calls.uriparse_next_pair(...spans, at, BigInt(next)) !== 0) {
+      const [name, value] = [first + NAME, first + VALUE].map((span) => (words[span + IS_PRESENT] & 0xff
+        ? this.#decoder.decode(this.#bytes.subarray(this.#base + words[span + BEGIN], this.#base + words[span + END])) : null));
+      found.push([name, value]);
+      at = BigInt(words[first + NEXT]);
+    }
+    return found;
   }
 
   /** The UTF-8 of a string as the text of a component: "username", "password", "segment", "query" or "fragment". */

@@ -16,8 +16,8 @@ from ._library import COMPONENTS, Buffer, Parts, Span, called
 __all__ = [
     "COMPONENTS", "ENCODED", "IN_BASE", "NO_ROOM", "Buffer", "Components", "Encodable", "HostKind", "Parts", "Span", "URIError",
     "decode", "encode", "equal", "error_text", "escape", "first_fault", "get_many", "hash_of", "is_uri", "normalize",
-    "normalize_many", "parse", "parse_many", "resolve", "resolve_many", "spans"]
-__version__ = "0.2.0"
+    "normalize_many", "pairs", "parse", "parse_many", "resolve", "resolve_many", "spans"]
+__version__ = "0.3.0"
 
 Encodable = Literal["username", "password", "segment", "query", "fragment"]
 HostKind = Literal["name", "ipv4", "ipv6", "ipvfuture"]
@@ -226,6 +226,17 @@ def normalize(text: Buffer) -> bytes:
 def resolve(base: Buffer, reference: Buffer) -> bytes:
     """The text of the target of a reference against a base."""
     return _written(_library.resolve, base, reference)
+
+
+def pairs(query: Buffer) -> List[Tuple[bytes, Optional[bytes]]]:
+    """The pairs of a query, in order: the pieces between its `&`, each a name and, after its first `=`, a value or None, as they
+    stand in the text. `decode` reads each. The empty query has one pair, of an empty name. Any text is cut like that."""
+    found: List[Tuple[bytes, Optional[bytes]]] = []
+    pair = _library.Pair()
+    while called(_library.next_pair, (query,), pair.next, pair):
+        name, value = pair.name, pair.value
+        found.append((bytes(query[name.begin:name.end]), bytes(query[value.begin:value.end]) if value.present else None))
+    return found
 
 
 def decode(text: Buffer) -> bytes:

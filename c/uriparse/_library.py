@@ -74,6 +74,15 @@ class Parts(ctypes.Structure):
     _fields_ = [*((name, Span) for name in COMPONENTS), ("host_kind", ctypes.c_uint32), ("port_number", ctypes.c_uint32)]
 
 
+class Pair(ctypes.Structure):
+    """Where a pair of a query is, and where the next one begins."""
+
+    name: Span
+    value: Span
+    next: int
+    _fields_ = [("name", Span), ("value", Span), ("next", ctypes.c_size_t)]
+
+
 # The numbers of Parts, all at once: begin, end and presence of each component, then the last two.
 PARTS = struct.Struct("NN?0N" * len(COMPONENTS) + "II")
 
@@ -144,6 +153,7 @@ equal = _export("equal", ctypes.c_uint32, *_text, *_text, ctypes.POINTER(ctypes.
 hash_of = _export("hash", ctypes.c_uint32, *_text, ctypes.POINTER(ctypes.c_uint64))
 normalize = _export("normalize", ctypes.c_uint32, *_text, *_out)
 resolve = _export("resolve", ctypes.c_uint32, *_text, *_text, *_out)
+next_pair = _export("next_pair", ctypes.c_bool, *_text, _size, ctypes.POINTER(Pair))
 decode = _export("decode", ctypes.c_uint32, *_text, *_out)
 encode = _export("encode", ctypes.c_uint32, ctypes.c_uint32, *_text, *_out)
 escape = _export("escape", ctypes.c_uint32, *_text, *_out)

@@ -224,7 +224,7 @@ static ROWS: [(&str, u8, &str, &str); 111] = [
     (
         "--version",
         0,
-        "uri 0.2.0\nrattle-kit-13b logic dac8208d650f15bf\n",
+        "uri 0.3.0\nrattle-kit-13b logic dac8208d650f15bf\n",
         "",
     ),
     ("--version|a", 2, "", USAGE),

@@ -5,11 +5,13 @@
 //! is what a text spells by the grammar, and `fault` is why it spells nothing.
 #![tactic(auto)]
 
-ghost use Rattle.std.specs.Prelude.{◌≡◌, ◌⊎◌, ◌↔◌, ℕ, IsTrue, Err, Some, None, bytes_eq, is_some, true, false};
+ghost use Rattle.std.specs.Prelude.{◌≡◌, ◌⊎◌, ◌↔◌, ◌<◌, ◌∷◌, ℕ, [], IsTrue, List, Err, Some, None, bytes_eq, is_some, length, true, false};
 ghost use Rattle.uriparse_text.specs.declared.internal.class.Class.{Class};
 ghost use Rattle.uriparse_text.specs.declared.query.QueryError.{QueryError};
 ghost use Rattle.uriparse_text.specs.Coding.{decoded, encoded};
+ghost use Rattle.uriparse_text.specs.Pairs.{Pair, pairs_left};
 ghost use Rattle.uriparse_text.specs.Query.{IsQuery, reading};
+ghost use Rattle.uriparse_text.specs.Starts.{most};
 ghost use Rattle.uriparse_reference.specs.Escaped.{escaped};
 ghost use Rattle.uriparse_reference.specs.Key.{key};
 ghost use Rattle.uriparse_reference.specs.declared.uri_reference.error.URIReferenceError.{URIReferenceError};
@@ -22,11 +24,13 @@ ghost use Rattle.uriparse.specs.Uri.{told};
 ghost use Rattle.uriparse_ffi.specs.Code as spec;
 ghost use Rattle.uriparse_ffi.specs.Components.{class_of};
 ghost use Rattle.uriparse_ffi.specs.Hash.{hash_of};
+ghost use Rattle.uriparse_ffi.specs.Pairs.{IsPairAt, left_from};
 ghost use Rattle.uriparse_ffi.specs.Places.{ArePlaces, host_number, port_number};
 ghost use Rattle.uriparse_ffi.specs.Put.{IsPut, IsRefused};
 
 use uriparse_ffi::code::{ACCEPTED, code_of, truth_of};
 use uriparse_ffi::coding::{write_decoded, write_encoded, write_escaped};
+use uriparse_ffi::pairs::{UriPair, pair_at};
 use uriparse_ffi::places::{UriParts, places};
 use uriparse_ffi::texts::{equal_texts, hashed, write_normal, write_target};
 use uriparse_reference::internal::find_pieces;
@@ -149,6 +153,28 @@ pub extern "C" fn uriparse_resolve(
     ensures reference { (b : Parts) (e : URIReferenceError) → Spells base.now b → is_some b.scheme ≡ true → fault reference.now ≡ Some e → IsRefused (spec.code_of e) out.old out.new needed.new result }
 {
     write_target(base, reference, out, needed)
+}
+
+/// Finds the pair that begins at a place of a query, and says where it is and where the next one
+/// begins. Does not allocate.
+#[unsafe(no_mangle)]
+pub extern "C" fn uriparse_next_pair(query: &[u8], at: usize, pair: &mut UriPair) -> bool
+    // The first of the pairs that are left from there is at that place.
+    ensures found { (p : Pair) (ps : List Pair) → pairs_left (left_from query.now at) ≡ p ∷ ps → IsTrue result × IsPairAt at p pair.new }
+
+    // The others are those that are left from `next`.
+    ensures others { (p : Pair) (ps : List Pair) → pairs_left (left_from query.now at) ≡ p ∷ ps → length query.now < most → pairs_left (left_from query.now pair.new.next) ≡ ps }
+
+    // If no pair is left, nothing is written.
+    ensures none { pairs_left (left_from query.now at) ≡ [] → (result ≡ false) × (pair.new ≡ pair.old) }
+{
+    match pair_at(query, at) {
+        Some(found) => {
+            *pair = found;
+            true
+        }
+        None => false,
+    }
 }
 
 /// Writes the bytes that the text of a query represents to the buffer. Does not allocate.

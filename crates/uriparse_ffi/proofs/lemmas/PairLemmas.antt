@@ -1,0 +1,72 @@
+-- What is left of a query after a pair.
+use Rattle.std.proofs.Common.{◌≡◌, ℕ, ◌+◌, ◌-◌, ◌≤◌, ◌<◌, Bool, true, false, cond, List, [], ◌∷◌, ◌++◌, length, drop, Option, Some, None, refl, sym, ap, ◌∙◌, arith, append-nil, take, take_all}
+use Rattle.std.specs.Prelude.{nat_le}
+use Rattle.std.proofs.Math.Seq.{drop-append-add}
+use Rattle.std.proofs.lemmas.List.{length-append, length-drop, drop-drop}
+use Rattle.std.proofs.lemmas.Bool.{le-leb, lt-leb, leb-true, leb-false}
+use Rattle.uriparse_text.specs.Bytes.{ampersand}
+use Rattle.uriparse_text.specs.Cuts.{behind, before, after}
+use Rattle.uriparse_text.specs.Pairs.{Pair, pair_of, pairs_left}
+use Rattle.uriparse_text.proofs.lemmas.readings.CutLemmas.{before_after}
+use Rattle.uriparse_text.proofs.lemmas.readings.PairLemmas.{first_pair}
+use Rattle.uriparse_ffi.specs.Pairs.{left_from}
+
+abbrev left : List ℕ → ℕ → Bool → Option (List ℕ)
+left q at v = cond {A = Option (List ℕ)} v (Some (drop at q)) None
+
+pub left_some : (q : List ℕ) (at : ℕ) → at ≤ length q → left_from q at ≡ Some (drop at q)
+left_some q at h = ap (left q at) (le-leb at (length q) h)
+
+pub left_none : (q : List ℕ) (at : ℕ) → length q < at → left_from q at ≡ None
+left_none q at h = ap (left q at) (lt-leb at (length q) h)
+
+-- after a first text and a delimiter is what follows them
+after_is : (mark : ℕ) (s t : List ℕ) (o : Option (List ℕ)) → s ++ behind mark o ≡ t → left_from t (length s + 1) ≡ o
+after_is mark s t None h =
+    let whole : length s ≡ length t = ap length (sym (append-nil s) ∙ h) in
+    left_none t (length s + 1) (omega arith)
+after_is mark s t (Some u) h =
+    let whole : length s + length (mark ∷ u) ≡ length t = sym (length-append s (mark ∷ u)) ∙ ap length h in
+    left_some t (length s + 1) (omega arith)
+    ∙ ap (λ x. Some (drop (length s + 1) x)) (sym h)
+    ∙ ap (λ x. Some x) (drop-append-add s (mark ∷ u) 1)
+
+-- what is left from a place of what is left from another one
+left_twice : (q : List ℕ) (at n : ℕ) → at ≤ length q → left_from (drop at q) n ≡ left_from q (at + n)
+left_twice q at n h = by_room (nat_le n (length (drop at q))) refl
+  where
+    len : length (drop at q) ≡ length q - at
+    len = length-drop at q
+
+    by_room : (v : Bool) → nat_le n (length (drop at q)) ≡ v → left_from (drop at q) n ≡ left_from q (at + n)
+    by_room true e =
+        let room : n ≤ length (drop at q) = leb-true n (length (drop at q)) e in
+        left_some (drop at q) n room ∙ ap (λ t. Some t) (drop-drop n at q) ∙ sym (left_some q (at + n) (omega (arith, len)))
+    by_room false e =
+        let room : length (drop at q) < n = leb-false n (length (drop at q)) e in
+        left_none (drop at q) n room ∙ sym (left_none q (at + n) (omega (arith, len)))
+
+pub cut_size : (mark : ℕ) (t : List ℕ) → length (before mark t) + length (behind mark (after mark t)) ≡ length t
+cut_size mark t = sym (length-append (before mark t) (behind mark (after mark t))) ∙ ap length (before_after mark t)
+
+-- the slice of a text from there to its end
+pub to_end : (q : List ℕ) (at : ℕ) → take (length q - at) (drop at q) ≡ drop at q
+to_end q at = take_all (length q - at) (drop at q) (omega (arith, length-drop at q))
+
+-- the pairs that are left are the first one, and those that are left after it
+pub next_left : (q : List ℕ) (at : ℕ) → at ≤ length q
+    → pairs_left (left_from q at) ≡ pair_of (before ampersand (drop at q)) ∷ pairs_left (left_from q (at + length (before ampersand (drop at q)) + 1))
+next_left q at h =
+    let u = drop at q in
+    let s = before ampersand u in
+    let places : at + (length s + 1) ≡ at + length s + 1 = omega arith in
+    ap pairs_left (left_some q at h)
+    ∙ first_pair u
+    ∙ ap (λ o. pair_of s ∷ pairs_left o) (sym (after_is ampersand s u (after ampersand u) (before_after ampersand u)) ∙ left_twice q at (length s + 1) h ∙ ap (left_from q) places)
+
+-- the first pair, and the others
+pub first_is : (ps qs : List Pair) (p q : Pair) → ps ≡ p ∷ qs → (rs : List Pair) → ps ≡ q ∷ rs → (p ≡ q) × (qs ≡ rs)
+first_is ps qs p q h rs k = let same : p ∷ qs ≡ q ∷ rs = sym h ∙ k in (cc, cc)
+
+pub not_none : (ps qs : List Pair) (p : Pair) → ps ≡ p ∷ qs → ps ≡ [] → ⊥
+not_none ps qs p h k = let bad : p ∷ qs ≡ [] = sym h ∙ k in absurd (cc)

@@ -1,0 +1,50 @@
+//! Where the pairs of a query are in its text, one after another. Nothing here allocates.
+ghost use Rattle.std.specs.Prelude.{◌≡◌, ◌+◌, ◌<◌, ◌∷◌, ◌^◌, ℕ, [], IfSome, IsSome, List, None, length};
+ghost use Rattle.uriparse_text.specs.Pairs.{Pair, pair_of, pairs_left};
+ghost use Rattle.uriparse_text.specs.Starts.{most};
+ghost use Rattle.uriparse_ffi.specs.Pairs.{IsPairAt, left_from};
+
+use crate::span::{UriSpan, place, place_behind};
+use uriparse_text::internal::{split_at_mark, without_mark};
+
+/// Where a pair of a query is, and where the next one begins.
+#[repr(C)]
+#[derive(Clone, Copy)]
+pub struct UriPair {
+    pub name: UriSpan,
+    /// Absent if the pair has no `=`.
+    pub value: UriSpan,
+    /// The place after the byte that ends the pair. After the last pair it is greater than the
+    /// length of the query.
+    pub next: usize,
+}
+
+/// Where the pair of a piece that begins there is.
+fn place_pair(at: usize, piece: &[u8]) -> UriPair
+    requires { at + length piece.now < 2 ^ 64 }
+    ensures { IsPairAt at (pair_of piece.now) result }
+{
+    let (name, rest) = split_at_mark(piece, b'=');
+    let name = place(at, Some(name));
+    UriPair {
+        name,
+        value: place_behind(name.end, without_mark(rest)),
+        next: (at + piece.len()).saturating_add(1),
+    }
+}
+
+/// Where the pair is that begins at this place of a query; `None` after the query's end.
+pub fn pair_at(query: &[u8], at: usize) -> Option<UriPair>
+    // The first of the pairs that are left from there is at that place, and the others follow `next`.
+    ensures found { (p : Pair) (ps : List Pair) → pairs_left (left_from query.now at) ≡ p ∷ ps → IsSome result × IfSome result (λ o. IsPairAt at p o) }
+    ensures others { (p : Pair) (ps : List Pair) → pairs_left (left_from query.now at) ≡ p ∷ ps → length query.now < most → IfSome result (λ o. pairs_left (left_from query.now o.next) ≡ ps) }
+
+    // If no pair is left, there is none.
+    ensures none { pairs_left (left_from query.now at) ≡ [] → result ≡ None }
+{
+    if at > query.len() {
+        return None;
+    }
+    let (piece, _) = split_at_mark(&query[at..], b'&');
+    Some(place_pair(at, piece))
+}
