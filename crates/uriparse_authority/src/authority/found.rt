@@ -145,9 +145,9 @@ impl<'a> FoundAuthority<'a> {
         ensures { result ≡ self.now }
     {
         Authority {
-            username: self.username(),
-            password: self.password(),
-            host: self.host(),
+            username: self.username.to_text(),
+            password: self.password.to_text(),
+            host: self.host.to_host(),
             port: self.port(),
         }
     }
