@@ -13,6 +13,7 @@ ghost use Rattle.uriparse_reference.specs.Cuts.{cut_authority};
 ghost use Rattle.uriparse_reference.specs.Place as spec;
 
 use super::error::URIReferenceError;
+use super::read::split_authority;
 use uriparse_authority::authority::AuthorityError;
 use uriparse_authority::internal::place_in_authority;
 use uriparse_path::internal::place_of_path_fault;
