@@ -19,7 +19,7 @@ uri --trim escape TEXT
 uri --lines escape
 uri --lines --trim escape
 
-Prints any text as that of a reference: each byte that a reference can't have
+Prints any text as a reference: each byte that a reference can't have
 where it stands becomes an escape, such as a space, a letter with an accent, or
 a bracket outside of an authority. The rest stays, escapes too; a `%` without
 two hexadecimal digits after it becomes %25. A reference stays as it is.
