@@ -3,10 +3,10 @@
 
 #include <string.h>
 
-enum { CALLS = 11 };
+enum { CALLS = 12 };
 
 static const char *const names[CALLS] = {"parse",  "is_uri", "equal",  "hash",      "first_fault", "normalize",
-                                         "decode", "encode", "escape", "next_pair", "resolve"};
+                                         "decode", "encode", "escape", "next_pair", "origin",      "resolve"};
 
 /* What a call writes. */
 struct written {
@@ -31,6 +31,7 @@ static uint32_t call(int which, const char *base, size_t base_len, const char *t
   case 7: return uriparse_encode(URIPARSE_SEGMENT, text, len, to->out, ROOM, &to->needed);
   case 8: return uriparse_escape(text, len, to->out, ROOM, &to->needed);
   case 9: return uriparse_next_pair(text, len, len / 2, &to->pair) ? URIPARSE_OK : URIPARSE_NO_ROOM;
+  case 10: return uriparse_origin(text, len, to->out, ROOM, &to->needed);
   default: return uriparse_resolve(base, base_len, text, len, to->out, ROOM, &to->needed);
   }
 }

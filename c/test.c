@@ -161,6 +161,20 @@ static void hashes(const char *left, const char *right, bool alike) {
             && (one == other) == alike, "hash", right);
 }
 
+static uint32_t origin(const char *text, size_t len, uint8_t *out, size_t room, size_t *needed) {
+  return uriparse_origin(text, len, out, room, needed);
+}
+
+static void has_origin(const char *text, const char *expected) {
+  writes(origin, "origin", text, strlen(text), expected, strlen(expected));
+}
+
+static void has_no_origin(const char *text, uint32_t expected) {
+  uint8_t out[4] = {1, 2, 3, 4};
+  size_t needed = 7;
+  check(uriparse_origin(text, strlen(text), out, 4, &needed) == expected && needed == 0 && out[0] == 1, "no origin", text);
+}
+
 /* The pairs of a query, each written as [name] or [name=value]. What is written beyond the end stays. */
 static void pairs(const char *query, const char *expected) {
   size_t len = strlen(query), at = 0;
@@ -188,7 +202,7 @@ static void texts(void) {
   for (uint32_t code = 0; code < 0x100; code++) {
     named += strcmp(uriparse_error_text(code), "unknown code") != 0;
   }
-  check(named == 24, "texts", "codes");
+  check(named == 25, "texts", "codes");
   check(strcmp(uriparse_error_text(URIPARSE_IN_BASE | URIPARSE_PORT_RANGE), "the port is above 65535") == 0, "text", "0x142");
   check(strcmp(uriparse_version(), URIPARSE_VERSION) == 0, "version", URIPARSE_VERSION);
 }
@@ -256,6 +270,25 @@ int main(void) {
   escapes("%%41%4", "%25%41%254");
   escapes("HTTP://H/%7e/../x", "HTTP://H/%7e/../x");
   escapes("", "");
+
+  /* RFC 6454, sections 4, 5 and 6.2. */
+  has_origin("http://example.com/", "http://example.com");
+  has_origin("http://example.com:80/", "http://example.com");
+  has_origin("http://example.com/path/file", "http://example.com");
+  has_origin("http://example.com:8080/", "http://example.com:8080");
+  has_origin("HTTPS://u:p@EXAMPLE.com:0443/b?c#d", "https://example.com");
+  has_origin("http://%65x%2e%c3%bc:", "http://ex.%C3%BC");
+  has_origin("ftp://[0:0:0:0:0:0:0:1]:21", "ftp://[::1]");
+  has_origin("X-a://[V1.B]:0", "x-a://[v1.b]:0");
+  has_origin("http://1.2.3.4:65535", "http://1.2.3.4:65535");
+  has_origin("http://", "http://");
+  has_no_origin("file:///a", URIPARSE_NO_ORIGIN);
+  has_no_origin("mailto:a@example.com", URIPARSE_NO_ORIGIN);
+  has_no_origin("x-a://h", URIPARSE_NO_ORIGIN);
+  has_no_origin("//h:80", URIPARSE_NO_ORIGIN);
+  has_no_origin("", URIPARSE_NO_ORIGIN);
+  has_no_origin("http://h:65536", URIPARSE_PORT_RANGE);
+  has_no_origin("1:2", URIPARSE_COLON_IN_SEGMENT);
 
   pairs("a=1&b=2", "[a=1][b=2]");
   pairs("", "[]");
@@ -353,6 +386,7 @@ int main(void) {
     check(uriparse_hash(NULL, 0, &hash) == URIPARSE_OK, "hash", "NULL");
     check(uriparse_normalize(NULL, 0, NULL, 0, &needed) == URIPARSE_OK && needed == 0, "normalize", "NULL");
     check(uriparse_resolve("s:", 2, NULL, 0, NULL, 0, &needed) == URIPARSE_NO_ROOM && needed == 2, "resolve", "NULL");
+    check(uriparse_origin(NULL, 0, NULL, 0, &needed) == URIPARSE_NO_ORIGIN && needed == 0, "origin", "NULL");
     check(uriparse_decode(NULL, 0, NULL, 0, &needed) == URIPARSE_OK && needed == 0, "decode", "NULL");
     check(uriparse_encode(URIPARSE_QUERY, NULL, 0, NULL, 0, &needed) == URIPARSE_OK && needed == 0, "encode", "NULL");
     check(uriparse_escape(NULL, 0, NULL, 0, &needed) == URIPARSE_OK && needed == 0, "escape", "NULL");

@@ -39,6 +39,7 @@ def test_calls() -> None:
     assert uriparse.encode("segment", b"a/b c") == b"a%2Fb%20c" and uriparse.encode("query", b"") == b""
     assert [uriparse.encode(name, b":/") for name in uriparse.ENCODED] == [b"%3A%2F", b":%2F", b":%2F", b":/", b":/"]
     assert uriparse.escape("http://h/a b?\u00fc%".encode()) == b"http://h/a%20b?%C3%BC%25"
+    assert uriparse.origin(b"HTTPS://u@H:443/a") == b"https://h" and uriparse.origin(b"http://h:1") == b"http://h:1"
     assert uriparse.pairs(b"a=1&b=&c&&=d") == [(b"a", b"1"), (b"b", b""), (b"c", None), (b"", None), (b"", b"d")]
     assert uriparse.pairs(b"") == [(b"", None)] and uriparse.pairs(b"a%26=b=c+d#") == [(b"a%26", b"b=c+d#")]
     assert uriparse.first_fault(b"/a%4") == (0x52, 2) and uriparse.first_fault(b"/a") is None
@@ -53,6 +54,8 @@ def test_rejected() -> None:
     rejects(0x51, 1, b"a b", uriparse.resolve, b"s:", b"a b")
     rejects(0x152, 2, b"s:%", uriparse.resolve, b"s:%", b"%")
     rejects(0x103, 0, b"/a", uriparse.resolve, b"/a", b"b")
+    rejects(10, 0, b"file:///a", uriparse.origin, b"file:///a")
+    rejects(0x51, 9, b"http://h/ ", uriparse.origin, b"http://h/ ")
 
 
 def test_components() -> None:
@@ -74,6 +77,7 @@ def test_components() -> None:
 def test_messages() -> None:
     assert str(raised(uriparse.parse, b"http://h/a b")) == "first wrong byte 10: invalid byte in the path: b'http://h/a b'"
     assert str(raised(uriparse.resolve, b"/a", b"")) == "the base has no scheme: b'/a'"
+    assert str(raised(uriparse.origin, b"/a")) == "the reference has no origin: b'/a'"
     assert str(raised(uriparse.resolve, b"s:%", b"")) == (
         "base: first wrong byte 2: invalid percent-encoding in the path: b's:%'")
     assert str(raised(uriparse.resolve, b"s://h/a/" + b"/" * 600_000, b"a" + b"/" * 600_000)).startswith(

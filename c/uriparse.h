@@ -1,5 +1,5 @@
-/* URIs and URI references of RFC 3986: read, compare, hash, normalize, resolve, decode, encode and escape them, and read
- * the pairs of a query. The code behind these calls is proved: it is safe, it terminates, and it computes what this header says of results, codes and
+/* URIs and URI references of RFC 3986: read, compare, hash, normalize, resolve, decode, encode and escape them, write
+ * their origins, and read the pairs of a query. The code behind these calls is proved: it is safe, it terminates, and it computes what this header says of results, codes and
  * what is written. That no call allocates, and what it says of threads, signal handlers and the stack, is only tested.
  * README.md says more.
  *
@@ -44,6 +44,7 @@ enum uriparse_code {
   URIPARSE_COLON_IN_SEGMENT = 4,  /* without a scheme, a colon precedes the path's first slash: "1:2" */
   URIPARSE_TOO_MANY_SEGMENTS = 5, /* a path, or the one merged of both, has more than 1,000,000 segments */
   URIPARSE_NO_COMPONENT = 8,      /* of `uriparse_encode` alone: the number is none of uriparse_component */
+  URIPARSE_NO_ORIGIN = 10,        /* of `uriparse_origin` alone: the reference has no origin */
 
   URIPARSE_USERNAME_BYTE = 0x11,   /* a byte that no user name has */
   URIPARSE_USERNAME_ESCAPE = 0x12, /* a '%' that two hexadecimal digits don't follow */
@@ -184,6 +185,17 @@ uint32_t uriparse_normalize(const uint8_t *text, size_t len, uint8_t *out, size_
 uint32_t uriparse_resolve(const uint8_t *base, size_t base_len, const uint8_t *text, size_t len, uint8_t *out,
                           size_t room, size_t *needed);
 
+/* Writes to `out` the text of the origin of a URI (RFC 6454, sections 4 and 6.2), as `uriparse_normalize` does: its scheme,
+ * its host and, unless that is the scheme's default port, its port. It is "https://example.com" of
+ * "HTTPS://u@EXAMPLE.com:443/b?c". The URIs of one origin have one text; a host is written without IDNA.
+ *
+ * Returns URIPARSE_NO_ORIGIN for a reference that has no scheme or no host, or for which neither the authority names a port
+ * nor the scheme has a default one ("file:///a"). By RFC 6454 such a URI has an origin of its own, which no other has.
+ * Does not allocate.
+ *
+ * The caller ensures: `text` is readable for `len` bytes; `out` is writable for `room` bytes; `needed` is writable. */
+uint32_t uriparse_origin(const uint8_t *text, size_t len, uint8_t *out, size_t room, size_t *needed);
+
 /* Writes to `*pair` where the pair is that begins at `at` in a query, and where the next one begins. Returns whether there
  * is one: if `at` is greater than `len` there is none, and `*pair` is unchanged. To read all pairs:
  *
@@ -276,6 +288,10 @@ inline uint32_t uriparse_resolve(const void *base, size_t base_len, const void *
                                       needed);
 }
 
+inline uint32_t uriparse_origin(const void *text, size_t len, void *out, size_t room, size_t *needed) {
+  return uriparse_c::uriparse_origin(uriparse_text(text), len, uriparse_room(out), room, needed);
+}
+
 inline bool uriparse_next_pair(const void *query, size_t len, size_t at, uriparse_pair *pair) {
   return uriparse_c::uriparse_next_pair(uriparse_text(query), len, at, pair);
 }
@@ -313,6 +329,8 @@ static inline uint8_t *uriparse_room(void *out) {
   (uriparse_normalize)(uriparse_text(text), len, uriparse_room(out), room, needed)
 #define uriparse_resolve(base, base_len, text, len, out, room, needed)                                                 \
   (uriparse_resolve)(uriparse_text(base), base_len, uriparse_text(text), len, uriparse_room(out), room, needed)
+#define uriparse_origin(text, len, out, room, needed)                                                                  \
+  (uriparse_origin)(uriparse_text(text), len, uriparse_room(out), room, needed)
 #define uriparse_next_pair(query, len, at, pair) (uriparse_next_pair)(uriparse_text(query), len, at, pair)
 #define uriparse_decode(text, len, out, room, needed)                                                                  \
   (uriparse_decode)(uriparse_text(text), len, uriparse_room(out), room, needed)
@@ -332,6 +350,7 @@ static inline const char *uriparse_error_text(uint32_t code) {
   case URIPARSE_COLON_IN_SEGMENT: return "a colon in the first segment of a reference without a scheme";
   case URIPARSE_TOO_MANY_SEGMENTS: return "the path has too many segments";
   case URIPARSE_NO_COMPONENT: return "no component has this number";
+  case URIPARSE_NO_ORIGIN: return "the reference has no origin";
   case URIPARSE_USERNAME_BYTE: return "invalid byte in the user name";
   case URIPARSE_USERNAME_ESCAPE: return "invalid percent-encoding in the user name";
   case URIPARSE_PASSWORD_BYTE: return "invalid byte in the password";

@@ -21,7 +21,7 @@ import rows  # noqa: E402
 import uriparse  # noqa: E402
 
 COUNT = int(sys.argv[1]) if len(sys.argv) > 1 else 20_000
-ONE = ("valid", "fault", "scheme", "authority", "host", "port", "path", "query", "fragment", "normalize", "hash", "escape")
+ONE = ("valid", "fault", "scheme", "authority", "host", "port", "path", "query", "fragment", "normalize", "hash", "origin", "escape")
 
 
 def psql(database: str, *commands: str, data: bytes = b"", check: bool = True) -> Tuple[List[List[Optional[str]]], str]:
@@ -65,11 +65,15 @@ def expected(text: bytes) -> List[Optional[str]]:
     escaped = uriparse.escape(text)
     fault = uriparse.first_fault(text)
     if fault:
-        return ["f", shown(fault[1]), *[None] * 9, shown(escaped)]
+        return ["f", shown(fault[1]), *[None] * 10, shown(escaped)]
     found = uriparse.parse(text)
     signed = struct.unpack("q", struct.pack("Q", uriparse.hash_of(text)))[0]
+    try:
+        origin: Optional[bytes] = uriparse.origin(text)
+    except uriparse.URIError:
+        origin = None
     values = (found.scheme, found.authority, found.host, found.port_number, found.path, found.query, found.fragment,
-              uriparse.normalize(text), signed, escaped)
+              uriparse.normalize(text), signed, origin, escaped)
     return ["t", None, *map(shown, values)]
 
 
@@ -162,7 +166,7 @@ def test_type() -> str:
     assert one("utf8", "pg_typeof(uri_resolve(uri 'http://a/b', uri 'c'))::text || uri_resolve(uri 'http://a/b', uri 'c')::text") == (
         "urihttp://a/c")
     nulls = ", ".join("uri_%s(NULL::text)" % name for name in (*ONE, "check"))
-    assert psql("utf8", "SELECT " + nulls)[0] == [[None] * 13]
+    assert psql("utf8", "SELECT " + nulls)[0] == [[None] * 14]
     assert one("utf8", "count(*) FROM pg_proc WHERE proname ~ '^uri' AND NOT (proisstrict AND provolatile = 'i' "
                "AND proparallel = 's')") == "0"
     # Binary copies come in again, and are checked.

@@ -160,6 +160,12 @@ write_escaped(const struct bytes *texts, char *out, size_t room, size_t *needed)
 	return uriparse_escape(texts[0].at, texts[0].len, out, room, needed);
 }
 
+static uint32_t
+write_origin(const struct bytes *texts, char *out, size_t room, size_t *needed)
+{
+	return uriparse_origin(texts[0].at, texts[0].len, out, room, needed);
+}
+
 /* What the call writes; NULL if it rejects a text. */
 static Datum
 written(FunctionCallInfo fcinfo, writer *write)
@@ -203,6 +209,13 @@ Datum
 uri_escape(PG_FUNCTION_ARGS)
 {
 	return written(fcinfo, write_escaped);
+}
+
+PG_FUNCTION_INFO_V1(uri_origin);
+Datum
+uri_origin(PG_FUNCTION_ARGS)
+{
+	return written(fcinfo, write_origin);
 }
 
 /* The pairs of a query that are left. */

@@ -18,7 +18,7 @@ import fuzz  # noqa: E402
 import rows  # noqa: E402
 import uriparse  # noqa: E402
 
-ONE = ("valid", "fault", "scheme", "authority", "host", "port", "path", "query", "fragment", "normalize", "hash", "escape")
+ONE = ("valid", "fault", "scheme", "authority", "host", "port", "path", "query", "fragment", "normalize", "hash", "origin", "escape")
 EXTENSION = os.path.abspath(sys.argv[1])
 COUNT = int(sys.argv[2]) if len(sys.argv) > 2 else 100_000
 
@@ -45,18 +45,23 @@ def raised(call: Callable[[], object]) -> str:
     raise AssertionError("nothing raised")
 
 
+def shown_origin(text: bytes) -> Optional[str]:
+    found = answer_of(uriparse.origin, text)
+    return found and found.decode()
+
+
 def expected(text: bytes) -> Tuple[Any, ...]:
     """What the functions of ONE return for a text."""
     escaped = uriparse.escape(text).decode()
     fault = uriparse.first_fault(text)
     if fault:
-        return (0, fault[1], *[None] * 9, escaped)
+        return (0, fault[1], *[None] * 10, escaped)
     found = uriparse.parse(text)
     parts = [part if part is None else part.decode() for part in (
         found.scheme, found.authority, found.host, found.path, found.query, found.fragment)]
     parts.insert(3, found.port_number)  # type: ignore[arg-type]
     signed = struct.unpack("q", struct.pack("Q", uriparse.hash_of(text)))[0]
-    return (1, None, *parts, uriparse.normalize(text).decode(), signed, escaped)
+    return (1, None, *parts, uriparse.normalize(text).decode(), signed, shown_origin(text), escaped)
 
 
 def test_rows(db: sqlite3.Connection) -> int:
@@ -89,6 +94,7 @@ def test_errors(db: sqlite3.Connection) -> None:
         for pair in (("a:", None), (None, "a:"), (None, None), ("a b", "a:"), ("a:", "a b")):
             assert one(db, "uri_%s(?, ?)" % name, *pair) is None, (name, pair)
     assert one(db, "typeof(uri_port('//h:080'))") == "integer" and one(db, "uri_port('//h:080')") == 80
+    assert one(db, "uri_origin('HTTPS://u@H:443/a')") == "https://h" and one(db, "uri_origin('file:///a')") is None
     assert one(db, "uri_port('//h:')") is None and one(db, "uri_host('//')") == "" and one(db, "uri_path(12)") == "12"
 
 

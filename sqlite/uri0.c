@@ -127,6 +127,10 @@ static uint32_t write_escaped(const struct text *texts, char *out, size_t room, 
   return uriparse_escape(texts[0].at, texts[0].len, out, room, needed);
 }
 
+static uint32_t write_origin(const struct text *texts, char *out, size_t room, size_t *needed) {
+  return uriparse_origin(texts[0].at, texts[0].len, out, room, needed);
+}
+
 /* What the call writes; NULL if it rejects a text. */
 static void result_written(sqlite3_context *context, int count, sqlite3_value **values, writer *write) {
   struct text texts[2];
@@ -157,6 +161,10 @@ static void resolve(sqlite3_context *context, int count, sqlite3_value **values)
 
 static void escape(sqlite3_context *context, int count, sqlite3_value **values) {
   result_written(context, count, values, write_escaped);
+}
+
+static void origin(sqlite3_context *context, int count, sqlite3_value **values) {
+  result_written(context, count, values, write_origin);
 }
 
 /* The table uri_pairs(t): a row for each pair of the query of a reference. The third column is hidden, and is the argument. */
@@ -318,7 +326,7 @@ static const struct {
   {"uri_query", 1, component, &PLACES[4]}, {"uri_fragment", 1, component, &PLACES[5]},
   {"uri_normalize", 1, normalize, NULL},   {"uri_resolve", 2, resolve, NULL},
   {"uri_equal", 2, equal, NULL},           {"uri_hash", 1, hash, NULL},
-  {"uri_escape", 1, escape, NULL},
+  {"uri_escape", 1, escape, NULL},         {"uri_origin", 1, origin, NULL},
 };
 
 __attribute__((visibility("default")))

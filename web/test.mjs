@@ -112,7 +112,7 @@ await test("the messages are those of the header", async () => {
   const header = await readFile(new URL("../c/uriparse.h", import.meta.url), "utf8");
   const codes = new Map([...header.matchAll(/^  URIPARSE_(\w+) = (0x\w+|\d+)/gm)].map(([, name, code]) => [name, Number(code)]));
   const texts = [...header.matchAll(/case URIPARSE_(\w+): return "(.*)";/g)].map(([, name, text]) => [codes.get(name), text]);
-  assert.equal(texts.length, 24);
+  assert.equal(texts.length, 25);
   for (const [code, text] of texts.filter(([code]) => code > 2)) {
     assert.equal(new URIParseError(code, null, "").message, text);
   }
@@ -175,6 +175,12 @@ await test("decoded", () => {
   assert.throws(() => uris.decode("a%2"), { name: "URIParseError", code: 0x62, component: "query", place: 1, text: "a%2" });
   assert.throws(() => uris.decode("é"), { code: 0x61, place: 0 });
   assert.throws(() => uris.decode("a#%"), { code: 0x61, place: 1 });
+});
+await test("origins", () => {
+  assert.equal(uris.origin("HTTPS://u@EXAMPLE.com:443/b?c"), "https://example.com");
+  assert.equal(uris.origin(new URL("http://h:8080/a")), "http://h:8080");
+  assert.throws(() => uris.origin("file:///a"), { name: "URIParseError", code: 10, component: null, place: 0, message: "the reference has no origin" });
+  assert.throws(() => uris.origin("http://h/ "), { code: 0x51, place: 9 });
 });
 await test("pairs", () => {
   assert.deepEqual(uris.pairs("a=1&b=&c&&=d=e"), [["a", "1"], ["b", ""], ["c", null], ["", null], ["", "d=e"]]);

@@ -63,6 +63,7 @@ export interface URIs {
   hash(text: Input): bigint;
   normalize(text: Input): string;
   resolve(base: Input, reference: Input): string;
+  origin(text: Input): string;
   /** A lone surrogate is a `TypeError`. */
   escape(text: Input): string;
   /** A lone surrogate is a `TypeError`. */

@@ -11,6 +11,7 @@ const CODES = {
   4: ["path", "a colon in the first segment of a reference without a scheme"],
   5: ["path", "the path has too many segments"],
   8: [null, "no component has this number"],
+  10: [null, "the reference has no origin"],
   0x11: ["username", "invalid byte in the user name"],
   0x12: ["username", "invalid percent-encoding in the user name"],
   0x21: ["password", "invalid byte in the password"],
@@ -320,6 +321,11 @@ class URIs {
   /** The text of a reference, made of any text: with escapes for what may not stand where it does. */
   escape(text) {
     return this.#written("uriparse_escape", [wellFormed(text)]);
+  }
+
+  /** The text of the origin of a URI: RFC 6454, section 6.2. */
+  origin(text) {
+    return this.#written("uriparse_origin", [textOf(text)]);
   }
 
   /** The pairs of a query: the pieces between its "&", each a name and, after its first "=", a value or null. */

@@ -16,7 +16,7 @@ from ._library import COMPONENTS, Buffer, Parts, Span, called
 __all__ = [
     "COMPONENTS", "ENCODED", "IN_BASE", "NO_ROOM", "Buffer", "Components", "Encodable", "HostKind", "Parts", "Span", "URIError",
     "decode", "encode", "equal", "error_text", "escape", "first_fault", "get_many", "hash_of", "is_uri", "normalize",
-    "normalize_many", "pairs", "parse", "parse_many", "resolve", "resolve_many", "spans"]
+    "normalize_many", "origin", "pairs", "parse", "parse_many", "resolve", "resolve_many", "spans"]
 __version__ = "0.3.0"
 
 Encodable = Literal["username", "password", "segment", "query", "fragment"]
@@ -28,6 +28,7 @@ ENCODED: Dict[Encodable, int] = {"username": 0x10, "password": 0x20, "segment": 
 
 _NO_SCHEME = 3
 _TOO_MANY_SEGMENTS = 5
+_NO_ORIGIN = 10
 _HOST_KINDS: Dict[int, HostKind] = {1: "name", 4: "ipv4", 6: "ipv6", 7: "ipvfuture"}
 _ERROR_TEXTS = {
     0: "no error",
@@ -37,6 +38,7 @@ _ERROR_TEXTS = {
     4: "a colon in the first segment of a reference without a scheme",
     5: "the path has too many segments",
     8: "no component has this number",
+    10: "the reference has no origin",
     0x11: "invalid byte in the user name",
     0x12: "invalid percent-encoding in the user name",
     0x21: "invalid byte in the password",
@@ -75,7 +77,7 @@ def _excerpt(text: bytes, place: int) -> str:
 def _message(code: int, text: bytes, place: int) -> str:
     why = code & ~IN_BASE
     whose = "base: " if code & IN_BASE and why != _NO_SCHEME else ""
-    is_placed = why != _NO_SCHEME and (why != _TOO_MANY_SEGMENTS or place)
+    is_placed = why not in (_NO_SCHEME, _NO_ORIGIN) and (why != _TOO_MANY_SEGMENTS or place)
     where = "first wrong byte %d: " % place if is_placed else ""
     return "%s%s%s: %s" % (whose, where, error_text(code), _excerpt(text, place))
 
@@ -226,6 +228,11 @@ def normalize(text: Buffer) -> bytes:
 def resolve(base: Buffer, reference: Buffer) -> bytes:
     """The text of the target of a reference against a base."""
     return _written(_library.resolve, base, reference)
+
+
+def origin(text: Buffer) -> bytes:
+    """The text of the origin of a URI: its scheme, its host and, unless that is the default one, its port."""
+    return _written(_library.origin, text)
 
 
 def pairs(query: Buffer) -> List[Tuple[bytes, Optional[bytes]]]:

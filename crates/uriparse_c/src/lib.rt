@@ -20,6 +20,8 @@ ghost use Rattle.uriparse_reference.specs.Place.{first_fault};
 ghost use Rattle.uriparse_reference.specs.Reading.{fault};
 ghost use Rattle.uriparse_reference.specs.Reference.{Parts, Spells, print};
 ghost use Rattle.uriparse_reference.specs.Target.{target};
+ghost use Rattle.uriparse.specs.declared.uri.origin.Origin.{Origin};
+ghost use Rattle.uriparse.specs.Origin.{origin, text as origin_text};
 ghost use Rattle.uriparse.specs.Uri.{told};
 ghost use Rattle.uriparse_ffi.specs.Code as spec;
 ghost use Rattle.uriparse_ffi.specs.Components.{class_of};
@@ -30,6 +32,7 @@ ghost use Rattle.uriparse_ffi.specs.Put.{IsPut, IsRefused};
 
 use uriparse_ffi::code::{ACCEPTED, code_of, truth_of};
 use uriparse_ffi::coding::{write_decoded, write_encoded, write_escaped};
+use uriparse_ffi::origins::write_origin;
 use uriparse_ffi::pairs::{UriPair, pair_at};
 use uriparse_ffi::places::{UriParts, places};
 use uriparse_ffi::texts::{equal_texts, hashed, write_normal, write_target};
@@ -153,6 +156,21 @@ pub extern "C" fn uriparse_resolve(
     ensures reference { (b : Parts) (e : URIReferenceError) → Spells base.now b → is_some b.scheme ≡ true → fault reference.now ≡ Some e → IsRefused (spec.code_of e) out.old out.new needed.new result }
 {
     write_target(base, reference, out, needed)
+}
+
+/// Writes the text of the origin of a URI to the buffer. Does not allocate.
+#[unsafe(no_mangle)]
+pub extern "C" fn uriparse_origin(text: &[u8], out: &mut [u8], needed: &mut usize) -> u32
+    // The buffer holds the text of the origin, or it is too small.
+    ensures written { (p : Parts) (o : Origin) → Spells text.now p → origin p ≡ Some o → IsPut (origin_text o) out.old out.new needed.new result }
+
+    // A reference without an origin is rejected, and the buffer is kept.
+    ensures without { (p : Parts) → Spells text.now p → origin p ≡ None → IsRefused spec.no_origin out.old out.new needed.new result }
+
+    // A faulty text is rejected, and the buffer is kept.
+    ensures refused { (e : URIReferenceError) → fault text.now ≡ Some e → IsRefused (spec.code_of e) out.old out.new needed.new result }
+{
+    write_origin(text, out, needed)
 }
 
 /// Finds the pair that begins at a place of a query, and says where it is and where the next one

@@ -1,4 +1,5 @@
 pub mod CodeLemmas
+pub mod OriginLemmas
 pub mod PairLemmas
 pub mod ParseLemmas
 pub mod PlaceLemmas

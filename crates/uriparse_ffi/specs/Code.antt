@@ -52,6 +52,10 @@ too_many_segments = 5
 abbrev pub no_component : ℕ
 no_component = 8
 
+-- the reference has no origin
+abbrev pub no_origin : ℕ
+no_origin = 10
+
 -- added to the code of a base's error
 abbrev pub in_base : ℕ
 in_base = 0x100

@@ -17,6 +17,8 @@ pub const TOO_MANY_SEGMENTS: u32 = 5;
 
 pub const NO_COMPONENT: u32 = 8;
 
+pub const NO_ORIGIN: u32 = 10;
+
 pub const IN_BASE: u32 = 0x100;
 
 fn of_username(error: UsernameError) -> u32

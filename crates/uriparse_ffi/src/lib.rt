@@ -7,6 +7,7 @@
 pub mod code;
 pub mod coding;
 pub mod laws;
+pub mod origins;
 pub mod pairs;
 pub mod places;
 pub mod put;

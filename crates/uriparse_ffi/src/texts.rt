@@ -17,7 +17,7 @@ use std::hash::{DefaultHasher, Hash, Hasher};
 use uriparse::{ReferenceView, URIError};
 
 /// Views a reference in its text, or returns the code of its error.
-fn view(text: &[u8]) -> Result<ReferenceView<'_>, u32>
+pub(crate) fn view(text: &[u8]) -> Result<ReferenceView<'_>, u32>
     ensures found { (p : Parts) → Spells text.now p → result ≡ Ok (record { text = text.now; parts = p }) }
     ensures fault { (e : URIReferenceError) → fault text.now ≡ Some e → result ≡ Err (spec.code_of e) }
 {
