@@ -134,6 +134,16 @@ await test("each component is marked", async () => {
   assert.match((await opened("text=http://u@h:8/a")).html, /<b class="host" title="host">h<\/b>/);
 });
 
+await test("a long text stands once", async () => {
+  const run = "a".repeat(1000);
+  const { values, normal, target } = await opened(`text=http://h/${run}&base=s:`);
+  assert.deepEqual([values[0], normal, target], [`http://h/${run}`, "the text itself", "→ the text itself"]);
+  assert.equal(await valueOf(`document.body.innerText.split("${run}").length`), 2);
+  const path = await valueOf('document.querySelector("#components td.path").textContent');
+  assert.equal(path, `/${run.slice(0, 47)}…${run.slice(0, 24)} (1,001 characters)`);
+  assert.equal((await opened(`text=HTTP://h/${run}`)).normal, `http://h/${run}`);
+});
+
 // The caret is below the middle of the first wrong character, whose neighbours in the text stand on both sides of it.
 const BOXES = `(() => {
   const wrong = document.querySelector("#text-spelled .wrong");

@@ -26,12 +26,18 @@ def parts(text):
     return {"found": found, "host_kind": spans.host_kind, "port_number": spans.port_number}
 
 
+def pairs(text):
+    """The pairs of the text as a query."""
+    return [[name.decode(), None if value is None else value.decode()] for name, value in uriparse.pairs(text)]
+
+
 def row(base, text):
     number = result(uriparse.hash_of, text)
     return {
         "text": text.decode(), "base": base.decode(), "parts": result(parts, text), "fault": uriparse.first_fault(text),
         "is_uri": uriparse.is_uri(text), "equal": result(uriparse.equal, base, text), "normal": result(uriparse.normalize, text),
-        "target": result(uriparse.resolve, base, text), "hash": str(number) if isinstance(number, int) else number}
+        "target": result(uriparse.resolve, base, text), "origin": result(uriparse.origin, text), "pairs": pairs(text),
+        "hash": str(number) if isinstance(number, int) else number}
 
 
 def main():
