@@ -49,6 +49,7 @@ pub use Rattle.uriparse_authority.specs.Name
 pub use Rattle.uriparse_authority.specs.Future
 pub use Rattle.uriparse_authority.specs.Port
 pub use Rattle.uriparse_authority.specs.Place as AuthorityPlace
+pub use Rattle.uriparse_authority.specs.Order as AuthorityOrder
 pub use Rattle.uriparse_authority.specs.Normal as AuthorityNormal
 pub use Rattle.uriparse_authority.specs.declared.authority.host.Host as HostValue
 pub use Rattle.uriparse_authority.specs.declared.authority.error.AuthorityError

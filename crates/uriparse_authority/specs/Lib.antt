@@ -5,6 +5,8 @@ pub mod Port
 pub mod Future
 pub mod Host
 pub mod Authority
+pub mod KeyOrder
+pub mod Order
 pub mod Place
 pub mod Normal
 pub mod Found

@@ -20,6 +20,7 @@ mod host;
 mod into;
 mod name;
 pub(crate) mod normal;
+mod order;
 mod password;
 pub(crate) mod place;
 mod port;

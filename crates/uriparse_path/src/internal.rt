@@ -11,4 +11,5 @@ pub use crate::path::read::{PathFront, counted_path, split_path};
 pub use crate::path::relate::{empty_path, is_same_path, leading_path};
 pub use crate::path::text::into::{put_merged, put_normal_path, put_undotted};
 pub use crate::path::text::normal::is_normal_path_text;
+pub use crate::path::text::order::compare_path_texts;
 pub use crate::path::text::{are_path_texts_alike, feed_path_text, segments_of};

@@ -2,9 +2,11 @@
 use Rattle.std.specs.Prelude.{ℕ, Bool, List, [], ◌∷◌, Option, Some, None, Result, Ok, Err, bytes_eq, codes}
 use Rattle.std.specs.Option.{option_map, option_and_then, option_eq}
 use Rattle.std.specs.List.{list_all}
+use Rattle.std.specs.declared.cmp.Ordering.{Ordering}
 use Rattle.uriparse_reference.specs.Reference.{Parts, print}
 use Rattle.uriparse_reference.specs.Reading.{reading}
 use Rattle.uriparse_reference.specs.Key.{key}
+use Rattle.uriparse_reference.specs.Order.{reference_cmp}
 use Rattle.uriparse_reference.specs.Normal.{normal, is_normal}
 use Rattle.uriparse_reference.specs.Target.{target}
 use Rattle.uriparse_reference.specs.Edits.{segment_pushed}
@@ -35,6 +37,10 @@ is_normalised t = option_map is_normal (read t)
 -- whether two texts spell equal references
 abbrev pub are_equal : List ℕ → List ℕ → Option Bool
 are_equal t u = on_both (λ p q. Some (bytes_eq (key p) (key q))) t u
+
+-- the order of the references that two texts spell
+abbrev pub compared : List ℕ → List ℕ → Option Ordering
+compared t u = on_both (λ p q. Some (reference_cmp p q)) t u
 
 -- the target of the reference against the base
 abbrev pub resolved : List ℕ → List ℕ → Option (List ℕ)

@@ -6,6 +6,7 @@ pub mod Builder
 pub mod Key
 pub mod Reading
 pub mod Place
+pub mod Order
 pub mod View
 pub mod OwnedText
 pub mod TextKey

@@ -1,5 +1,7 @@
 //! Laws about the definitions in `specs/`. The functions have no body: the contract is the law.
+ghost use Rattle.std.specs.Cmp.{IsTotalOrder};
 ghost use Rattle.std.specs.Option.{option_map};
+ghost use Rattle.std.specs.declared.cmp.Ordering.TheVariants.{Equal, Greater, Less};
 ghost use Rattle.std.specs.Prelude.{◌≡◌, ◌↔◌, ◌⊎◌, ◌<◌, ◌≤◌, ◌∷◌, ◌++◌, ℕ, List, [], Option, None, Some, Ok, IfSome, IsSomeAnd, is_some, length, slice_get, true, false, codes};
 ghost use Rattle.uriparse_text.specs.Bytes.{percent, slash, question_mark, number_sign};
 ghost use Rattle.uriparse_text.specs.Cuts.{lacks, none_pass};
@@ -25,8 +27,9 @@ ghost use Rattle.uriparse_reference.specs.Escaped.{escaped, escaped_authority, e
 ghost use Rattle.uriparse_reference.specs.Edits.{IsWant, Run, edited, of_parts, replaced};
 ghost use Rattle.uriparse_reference.specs.Ports.{port_or_default, without_default_port};
 ghost use Rattle.uriparse_reference.specs.Builder.{built, held};
-ghost use Rattle.uriparse_reference.specs.Examples.{are_equal, hold, is_normalised, lengthened, normal_form_rows, normalised, normalised_first, normal_rows, portless, relative_form_rows, abnormal_rows, resolved, resolved_first, rfc_base, shown, used_port};
+ghost use Rattle.uriparse_reference.specs.Examples.{are_equal, compared, hold, is_normalised, lengthened, normal_form_rows, normalised, normalised_first, normal_rows, portless, relative_form_rows, abnormal_rows, resolved, resolved_first, rfc_base, shown, used_port};
 ghost use Rattle.uriparse_reference.specs.Key.{fed, fed_key, key};
+ghost use Rattle.uriparse_reference.specs.Order.{reference_cmp};
 ghost use Rattle.uriparse_reference.specs.declared.uri_reference.edit.Edit.{Edit};
 ghost use Rattle.uriparse_reference.specs.declared.uri_reference.error.URIReferenceError.{URIReferenceError};
 ghost use Rattle.uriparse_reference.specs.declared.uri_reference.error.URIReferenceError.TheVariants as errors;
@@ -50,6 +53,24 @@ pub fn one_reading()
     ensures reads { (t : List ℕ) (p : Parts) → (reading t ≡ Ok p) ↔ Spells t p }
     ensures none { (t : List ℕ) → (fault t ≡ None) ↔ ((p : Parts) × Spells t p) }
     ensures valid { (t : List ℕ) (p : Parts) → Spells t p → Valid p }
+{}
+
+/// The order of references is total. Two of them are as great as each other exactly if they are the
+/// same.
+pub fn order_of_references()
+    ensures total { IsTotalOrder reference_cmp }
+    ensures same { (p q : Parts) → Valid p → Valid q → (reference_cmp p q ≡ Equal) ↔ Same p q }
+{}
+
+/// Examples of the order: the first component that differs decides, an absent one is less than any
+/// that is present, and spellings and the case of hosts don't count.
+pub fn order_examples()
+    ensures equal { compared (codes "http://h/%7e") (codes "HTTP://H/~") ≡ Some Equal }
+    ensures schemes { (compared (codes "http:b") (codes "https:a") ≡ Some Less) × (compared (codes "b") (codes "s:a") ≡ Some Less) }
+    ensures addresses { (compared (codes "//2.0.0.0") (codes "//10.0.0.0") ≡ Some Less) × (compared (codes "//z") (codes "//1.2.3.4") ≡ Some Less) }
+    ensures hosts { (compared (codes "//Z") (codes "//a") ≡ Some Greater) × (compared (codes "//h/b") (codes "//h:1/a") ≡ Some Less) }
+    ensures spelled { (compared (codes "%42") (codes "A") ≡ Some Greater) × (compared (codes "%5b") (codes "%5C") ≡ Some Less) }
+    ensures absent { (compared (codes "a#z") (codes "a?") ≡ Some Less) × (compared (codes "a") (codes "a#") ≡ Some Less) }
 {}
 
 /// The fault of a text never concerns the scheme, a missing path or a path with two leading

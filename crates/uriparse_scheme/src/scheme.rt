@@ -19,6 +19,7 @@ mod equality;
 mod error;
 mod find;
 mod microsoft;
+mod order;
 mod port;
 pub(crate) mod read;
 mod registered;

@@ -18,7 +18,7 @@ use std::fmt;
 /// let loopback = IpAddr::V4(Ipv4Addr::new(127, 0, 0, 1));
 /// assert!(loopback != IpAddr::V6(Ipv6Addr::new(0, 0, 0, 0, 0, 0xffff, 0x7f00, 1)));
 /// ```
-#[derive(Clone, Copy, Debug, PartialEq, Eq, Hash)]
+#[derive(Clone, Copy, Debug, PartialEq, Eq, PartialOrd, Ord, Hash)]
 pub enum IpAddr {
     /// An IPv4 address.
     V4(Ipv4Addr),

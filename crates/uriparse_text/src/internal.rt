@@ -12,6 +12,7 @@ mod digit;
 mod ends;
 mod found;
 mod length;
+mod order;
 mod pairs;
 mod place;
 mod print;
@@ -40,6 +41,7 @@ pub use copy::{borrowed_text, canonical_copy, is_canonical_part, owned_text, put
 pub use cut::{split_at_mark, without_mark};
 pub use ends::{Form, put, put_behind, put_formed};
 pub use found::{Found, find_text_before, find_text_if, found_again, no_text};
+pub use order::compare_spelling;
 pub use place::place_of_fault;
 pub use print::write_plain;
 pub use printed::{put_decimal, put_ipv4, put_ipv6};

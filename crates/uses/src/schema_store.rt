@@ -1,10 +1,10 @@
 //! A store of many JSON Schemas, each known by its URI: what a `$id` adds, and which schema a `$ref`
 //! names.
-ghost use Rattle.std.specs.Prelude.{◌≡◌, ◌⊎◌, IfOk, IfErr, IsSome, OnErr, OnOk, Err, None, Some, if◌then◌else◌};
+ghost use Rattle.std.specs.Prelude.{◌≡◌, ◌⊎◌, IfOk, IfErr, IsSome, OnErr, OnOk, Ok, Err, None, Some, if◌then◌else◌};
 ghost use Rattle.uriparse.specs.Reference.{Parts};
 ghost use Rattle.uriparse.specs.Target.{target};
 ghost use Rattle.uriparse.specs.Uri.{base as without_fragment};
-ghost use Rattle.uriparse.specs.TargetError.TheVariants.{OutOfMemory};
+ghost use Rattle.uriparse.specs.TargetError.TheVariants.{OutOfMemory, TooManySegments};
 ghost use Rattle.uses.specs.Equal.{is_equal};
 ghost use Rattle.uses.specs.SchemaStore.{IsUntargeted, known};
 ghost use Rattle.uses.specs.declared.schema_store.SchemaError.TheVariants.{Taken, Memory, Target};
@@ -107,6 +107,9 @@ pub fn add(
         × ((p : Parts) → known schemas.new p ≡ (if is_equal (without_fragment t) p then Some index else known schemas.old p))) }
     ensures unchanged { OnErr result ((p : Parts) → known schemas.new p ≡ known schemas.old p) }
     ensures taken { (t : Parts) → target base.now.parts id.now.parts ≡ Some t → IsSome (known schemas.old (without_fragment t)) → (result ≡ Err Taken) ⊎ (result ≡ Err (Target OutOfMemory)) }
+    ensures free { (t : Parts) → target base.now.parts id.now.parts ≡ Some t → known schemas.old (without_fragment t) ≡ None
+        → (result ≡ Ok tt) ⊎ ((result ≡ Err Memory) ⊎ (result ≡ Err (Target OutOfMemory))) }
+    ensures untargeted { target base.now.parts id.now.parts ≡ None → (result ≡ Err (Target TooManySegments)) ⊎ (result ≡ Err (Target OutOfMemory)) }
 {
     let uri = resolve(alloc, base, id)?;
     if schemas.contains_key(&uri) {

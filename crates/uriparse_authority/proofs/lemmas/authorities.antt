@@ -13,3 +13,4 @@ pub mod EndLemmas
 pub mod SameTextLemmas
 pub mod NamedLemmas
 pub mod ReadBackLemmas
+pub mod OrderLemmas

@@ -1,9 +1,11 @@
 //! The address of a later version of IP: RFC 3986, section 3.2.2.
-ghost use Rattle.std.specs.Prelude.{◌≡◌, ◌↔◌, ◌&&◌, IsTrue, IsOk, IfOk, OnOk, OnErr, Some, bytes_eq, fold, string_bytes, true};
+ghost use Rattle.std.specs.Prelude.{◌≡◌, ◌↔◌, ◌&&◌, IsTrue, IsOk, IfOk, OnOk, OnErr, Some, bytes_eq, fold, string_bytes, true, refl};
 ghost use Rattle.std.proofs.Common.{rules};
 ghost use Rattle.std.specs.List.{list_all};
 ghost use Rattle.std.specs.Option.{option_copied};
-ghost use Rattle.std.specs.Ordering.{on};
+ghost use Rattle.std.specs.Cmp.{on_po};
+ghost use Rattle.std.specs.Cmp.Lexicographic.{on_texts, slice_cmp, texts_po, texts_ties};
+ghost use Rattle.std.specs.Ordering.{as_partial_cmp, nat_cmp, on};
 ghost use Rattle.std.specs.Str.{str_to_ascii_lowercase};
 ghost use Rattle.std.specs.Cmp.Rules.{comparing, hashing};
 ghost use Rattle.uriparse_text.specs.Bytes.{dot, is_hex};
@@ -16,6 +18,7 @@ ghost use Rattle.uriparse_authority.specs.Future as spec;
 
 use super::error::HostError;
 use std::alloc::{AllocError, Global};
+use std::cmp::Ordering;
 use std::fmt;
 use std::hash::{Hash, Hasher};
 use std::marker::Model;
@@ -293,6 +296,30 @@ impl<'host> PartialEq for IPvFuture<'host> {
 
 impl<'host> Eq for IPvFuture<'host> {
     ghost laws = { Prim.search (comparing, rules) };
+}
+
+impl<'host> PartialOrd for IPvFuture<'host> {
+    ghost partial_cmp = { as_partial_cmp (on canonical_lowered (slice_cmp nat_cmp)) };
+
+    ghost laws = { on_po canonical_lowered texts_po };
+
+    fn partial_cmp(&self, other: &IPvFuture<'host>) -> Option<Ordering> {
+        Some(self.cmp(other))
+    }
+}
+
+impl<'host> Ord for IPvFuture<'host> {
+    ghost cmp = { on canonical_lowered (slice_cmp nat_cmp) };
+
+    ghost total = { on_texts canonical_lowered };
+
+    ghost matches_partial_cmp = { λ s t. refl };
+
+    ghost matches_eq = { λ s t. texts_ties (canonical_lowered s) (canonical_lowered t) };
+
+    fn cmp(&self, other: &IPvFuture<'host>) -> Ordering {
+        self.text.cmp(&other.text)
+    }
 }
 
 impl<'host> Hash for IPvFuture<'host> {

@@ -1,7 +1,9 @@
 //! A registered name: RFC 3986, section 3.2.2.
-ghost use Rattle.std.specs.Prelude.{◌≡◌, ◌↔◌, IsTrue, IsOk, IfOk, OnOk, OnErr, Some, bytes_eq, string_bytes, true};
+ghost use Rattle.std.specs.Prelude.{◌≡◌, ◌↔◌, IsTrue, IsOk, IfOk, OnOk, OnErr, Some, bytes_eq, string_bytes, true, refl};
 ghost use Rattle.std.proofs.Common.{rules};
-ghost use Rattle.std.specs.Ordering.{on};
+ghost use Rattle.std.specs.Cmp.{on_po};
+ghost use Rattle.std.specs.Cmp.Lexicographic.{on_texts, slice_cmp, texts_po, texts_ties};
+ghost use Rattle.std.specs.Ordering.{as_partial_cmp, nat_cmp, on};
 ghost use Rattle.std.specs.Cmp.Rules.{comparing, hashing};
 ghost use Rattle.uriparse_text.specs.declared.internal.class.Class.TheVariants as class;
 ghost use Rattle.uriparse_text.specs.declared.internal.canonical.Case.TheVariants as case;
@@ -15,6 +17,7 @@ ghost use Rattle.uriparse_authority.specs.Name as spec;
 
 use super::error::RegisteredNameError;
 use std::alloc::{AllocError, Global};
+use std::cmp::Ordering;
 use std::fmt;
 use std::hash::{Hash, Hasher};
 use std::marker::Model;
@@ -248,6 +251,30 @@ impl<'n> PartialEq for RegisteredName<'n> {
 
 impl<'n> Eq for RegisteredName<'n> {
     ghost laws = { Prim.search (comparing, rules) };
+}
+
+impl<'n> PartialOrd for RegisteredName<'n> {
+    ghost partial_cmp = { as_partial_cmp (on canonical_lowered (slice_cmp nat_cmp)) };
+
+    ghost laws = { on_po canonical_lowered texts_po };
+
+    fn partial_cmp(&self, other: &RegisteredName<'n>) -> Option<Ordering> {
+        Some(self.cmp(other))
+    }
+}
+
+impl<'n> Ord for RegisteredName<'n> {
+    ghost cmp = { on canonical_lowered (slice_cmp nat_cmp) };
+
+    ghost total = { on_texts canonical_lowered };
+
+    ghost matches_partial_cmp = { λ s t. refl };
+
+    ghost matches_eq = { λ s t. texts_ties (canonical_lowered s) (canonical_lowered t) };
+
+    fn cmp(&self, other: &RegisteredName<'n>) -> Ordering {
+        self.text.cmp(&other.text)
+    }
 }
 
 impl<'n> Hash for RegisteredName<'n> {

@@ -15,6 +15,7 @@ mod heads;
 pub(crate) mod into;
 mod last;
 pub(crate) mod normal;
+pub(crate) mod order;
 
 /// The segments of a path's text, in order; each borrows the text. Does not allocate.
 ///

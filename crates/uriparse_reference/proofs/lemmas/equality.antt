@@ -1,3 +1,4 @@
 pub mod CanonicalComponentLemmas
 pub mod EqualityLemmas
 pub mod HashLemmas
+pub mod OrderLemmas

@@ -26,6 +26,7 @@ mod end;
 mod into;
 mod kind;
 mod normal;
+mod order;
 mod printed;
 mod string;
 mod target;

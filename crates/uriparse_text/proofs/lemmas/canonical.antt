@@ -4,6 +4,7 @@ pub mod RunLemmas
 pub mod ChangedLemmas
 pub mod SettledLemmas
 pub mod ComparisonLemmas
+pub mod OrderLemmas
 pub mod SpellingLengthLemmas
 pub mod RaiseLemmas
 pub mod ShrunkLemmas

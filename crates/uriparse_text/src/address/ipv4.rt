@@ -16,7 +16,7 @@ use std::{fmt, net};
 /// assert!(address == Some(Ipv4Addr::new(127, 0, 0, 1)));
 /// assert!(Ipv4Addr::parse_bytes(b"127.0.0.01").is_none());
 /// ```
-#[derive(Clone, Copy, PartialEq, Eq, Hash)]
+#[derive(Clone, Copy, PartialEq, Eq, PartialOrd, Ord, Hash)]
 pub struct Ipv4Addr {
     octets: [u8; 4],
     // Takes no room. It aligns the address to a word, so that what holds it is moved by words.

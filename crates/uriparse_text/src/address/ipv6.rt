@@ -21,7 +21,7 @@ use std::{fmt, net};
 /// assert!(address == Some(Ipv6Addr::new(0x2001, 0xdb8, 0, 0, 0, 0, 0, 1)));
 /// assert!(Ipv6Addr::parse_bytes(b"[::1]").is_none());
 /// ```
-#[derive(Clone, Copy, PartialEq, Eq, Hash)]
+#[derive(Clone, Copy, PartialEq, Eq, PartialOrd, Ord, Hash)]
 pub struct Ipv6Addr {
     segments: [u16; 8],
     // Takes no room. It aligns the address to a word, so that what holds it is moved by words.

@@ -8,7 +8,7 @@ ghost use Rattle.uriparse_text.specs.Bytes.{percent};
 ghost use Rattle.uriparse_text.specs.Tokens as tokens;
 ghost use Rattle.uriparse_text.specs.Canonical as spec;
 ghost use Rattle.uriparse_text.specs.Coding.{decoded};
-ghost use Rattle.uriparse_text.specs.Alike.{AreCommon, token_of};
+ghost use Rattle.uriparse_text.specs.Alike.{AreCommon, Follow, token_of};
 
 use super::bits::lowest;
 use super::canonical::Case;
@@ -53,6 +53,7 @@ pub(super) fn behind_common<'l, 'r>(left: &'l [u8], right: &'r [u8]) -> (&'l [u8
     ensures same { (case : Case) → (spec.canonical_tokens case result.0.now ≡ spec.canonical_tokens case result.1.now) ↔ (spec.canonical_tokens case left.now ≡ spec.canonical_tokens case right.now) }
     ensures represents { bytes_eq (decoded result.0.now) result.1.now ≡ bytes_eq (decoded left.now) right.now }
     ensures compared { slice_cmp nat_cmp (decoded result.0.now) (decoded result.1.now) ≡ slice_cmp nat_cmp (decoded left.now) (decoded right.now) }
+    ensures front { (case : Case) → Follow case left.now right.now result.0.now result.1.now }
     ensures shorter { length result.0.now ≤ length left.now }
 {
     if left.first() == Some(&b'%') {
@@ -124,7 +125,7 @@ fn common_by_one(left: &[u8], right: &[u8], from: usize) -> usize
 
 /// The code of the first token's canonical form, and what follows that token.
 #[inline(always)]
-fn split_code(case: Case, text: &[u8]) -> Option<(u16, &[u8])>
+pub(super) fn split_code(case: Case, text: &[u8]) -> Option<(u16, &[u8])>
     ensures cut { MatchOption result (text.now ≡ []) (λ x. spec.canonical_tokens case text.now ≡ token_of x.0 ∷ spec.canonical_tokens case x.1.now) }
     ensures code { IfSome result (λ x. x.0 < 512) }
     ensures shorter { IfSome result (λ x. length x.1.now < length text.now) }

@@ -1,7 +1,9 @@
 //! A text whose tokens are in one class: what user names, segments, queries and the like share.
-ghost use Rattle.std.specs.Prelude.{◌≡◌, ◌↔◌, ℕ, List, [], IsTrue, IfOk, OnOk, OnErr, IsOk, Some, true, bytes_eq, length, string_bytes, take, unwrap_or};
+ghost use Rattle.std.specs.Prelude.{◌≡◌, ◌↔◌, ℕ, List, [], IsTrue, IfOk, OnOk, OnErr, IsOk, Some, true, bytes_eq, length, refl, string_bytes, take, unwrap_or};
 ghost use Rattle.std.proofs.Common.{rules};
-ghost use Rattle.std.specs.Ordering.{on};
+ghost use Rattle.std.specs.Cmp.{on_po};
+ghost use Rattle.std.specs.Cmp.Lexicographic.{on_texts, slice_cmp, texts_po, texts_ties};
+ghost use Rattle.std.specs.Ordering.{as_partial_cmp, nat_cmp, on};
 ghost use Rattle.std.specs.Cmp.Rules.{comparing, hashing};
 ghost use Rattle.uriparse_text.specs.declared.internal.class.Class.{Class};
 ghost use Rattle.uriparse_text.specs.declared.internal.canonical.Case.{Case};
@@ -18,11 +20,13 @@ use super::alike::same_spelling;
 use super::canonical::{Case, canonical_bytes, feed_known, feed_text, is_canonical};
 use super::class::Class;
 use super::coding::{decoded_bytes, encoded_bytes};
+use super::order::compare_spelling;
 use super::settled::check_bytes;
 use super::spelling::Spelling;
 use super::starts;
 use super::starts::TooSmall;
 use std::alloc::{AllocError, Global};
+use std::cmp::Ordering;
 use std::hash::{Hash, Hasher};
 use std::marker::{Model, PhantomData};
 use std::{fmt, mem, str};
@@ -333,6 +337,33 @@ impl<'t, K: TextKind> PartialEq for Text<'t, K> {
 
 impl<'t, K: TextKind> Eq for Text<'t, K> {
     ghost laws = { Prim.search (comparing, rules) };
+}
+
+impl<'t, K: TextKind> PartialOrd for Text<'t, K> {
+    ghost partial_cmp = { as_partial_cmp (on (canonical_in K.case) (slice_cmp nat_cmp)) };
+
+    ghost laws = { on_po (canonical_in K.case) texts_po };
+
+    fn partial_cmp(&self, other: &Text<'t, K>) -> Option<Ordering> {
+        Some(self.cmp(other))
+    }
+}
+
+impl<'t, K: TextKind> Ord for Text<'t, K> {
+    ghost cmp = { on (canonical_in K.case) (slice_cmp nat_cmp) };
+
+    ghost total = { on_texts (canonical_in K.case) };
+
+    ghost matches_partial_cmp = { λ s t. refl };
+
+    ghost matches_eq = { λ s t. texts_ties (canonical_in K.case s) (canonical_in K.case t) };
+
+    fn cmp(&self, other: &Text<'t, K>) -> Ordering {
+        if self.text.is_known() && other.text.is_known() {
+            return self.as_bytes().cmp(other.as_bytes());
+        }
+        compare_spelling(K::case(), self.as_bytes(), other.as_bytes())
+    }
 }
 
 impl<'t, K: TextKind> Hash for Text<'t, K> {

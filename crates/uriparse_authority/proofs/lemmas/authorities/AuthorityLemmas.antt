@@ -204,7 +204,7 @@ canonical_lacks p v =
 pub print_cut : (p : AuthorityParts) → Valid p → IsCutInto (print p) p.username p.password (host.text p.host) (option_map port.text p.port)
 print_cut p v = cut_again (print p) p.username p.password (host.text p.host) (option_map port.text p.port) (printed_pieces p v) refl
 
-canonical_cut : (p : AuthorityParts) → Valid p → IsCutInto (canonical_text p) (option_map canonical p.username) (option_map canonical p.password)
+pub canonical_cut : (p : AuthorityParts) → Valid p → IsCutInto (canonical_text p) (option_map canonical p.username) (option_map canonical p.password)
     (host.canonical_text p.host) (option_map port.text p.port)
 canonical_cut p v =
     cut_again (canonical_text p) (option_map canonical p.username) (option_map canonical p.password) (host.canonical_text p.host) (option_map port.text p.port)
@@ -536,7 +536,7 @@ tested p q v w = same_from_decides (each_alike p q) (bytes_eq (key p) (key q)) (
 
 -- ---- what a hasher is fed, part by part
 
-port_value : (n : Option ℕ) → IfSome n port.IsPort → port.value_of (unwrap_or (option_map port.text n) []) ≡ n
+pub port_value : (n : Option ℕ) → IfSome n port.IsPort → port.value_of (unwrap_or (option_map port.text n) []) ≡ n
 port_value n v = sym (port_back n v).value
 
 fed_cut : (code : ℕ) (t : List ℕ) (u w : Option (List ℕ)) (g : List ℕ) (n : Option (List ℕ)) → IsCutInto t u w g n

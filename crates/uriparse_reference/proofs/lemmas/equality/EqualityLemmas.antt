@@ -216,7 +216,7 @@ same_key p q = (
   (λ s. rw (s.spelling, s.kinds) refl),
 )
 
-authority_keys : (a b : Option AuthorityParts)
+pub authority_keys : (a b : Option AuthorityParts)
     → (option_map authority.key a ≡ option_map authority.key b)
     ↔ ((option_map authority.canonical_text a ≡ option_map authority.canonical_text b)
     × (kind_code (option_map authority.kind a) ≡ kind_code (option_map authority.kind b)))

@@ -135,7 +135,7 @@ both_end case left right us vs r end iff e =
 
 -- ---- what texts have in common
 
-plain_front : (case : Case) (b : ℕ) (t : List ℕ) → (b == percent) ≡ false → canonical_tokens case (b ∷ t) ≡ Byte (in_case case b) ∷ canonical_tokens case t
+pub plain_front : (case : Case) (b : ℕ) (t : List ℕ) → (b == percent) ≡ false → canonical_tokens case (b ∷ t) ≡ Byte (in_case case b) ∷ canonical_tokens case t
 plain_front case b t h = ap (map (canonical_token case)) (tokens-byte b t (no_escape b t h))
 
 more_same : (case : Case) (x y : ℕ) (l r : List ℕ) → x ≡ y → (x == percent) ≡ false

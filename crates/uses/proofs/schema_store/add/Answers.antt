@@ -1,12 +1,7 @@
-use Rattle.std.proofs.Common.{rules, ◌≡◌, false, cond, [], None, Some, IsSome, Err, sym, ap, subst, ◌∙◌, inl, inr}
-use Rattle.std.specs.Prelude.{if◌then◌else◌}
-use Rattle.uriparse.specs.Reference.{Parts}
-use Rattle.uriparse.specs.Target.{target}
+use Rattle.std.proofs.Common.{rules, ◌≡◌, cond, [], None, Some, IsSome, sym, ap, ◌∙◌, inr}
 use Rattle.uriparse.specs.Uri.{base as without_fragment}
-use Rattle.uriparse.specs.TargetError.TheVariants.{OutOfMemory}
 use Rattle.uses.specs.Equal.{is_equal}
 use Rattle.uses.specs.SchemaStore.{known}
-use Rattle.uses.specs.declared.schema_store.SchemaError.TheVariants.{Taken, Target}
 use Rattle.uses.proofs.SchemaStoreLemmas.{is_none, not_both, one_target, untargeted}
 use Rattle.uses.proofs.schema_store.add.Goals as goal
 
@@ -41,3 +36,16 @@ returns-clause-added c =
       λ p. c.in_ok-insert.ensures.updates.0 (record { text = []; parts = p })
           ∙ ap (λ u. cond (is_equal u p) (Some c.args.index) (known c.args.schemas.now p)) found.2,
     )
+
+pub returns-in_err-uri-clause-free : goal.returns-in_err-uri-clause-free
+returns-in_err-uri-clause-free c t is none =
+    let why = untargeted c.args.base.now.parts c.args.id.now.parts t _ c.in_err-uri.ensures.err is in
+    inr (inr (search (rules, why)))
+
+pub returns-then-contains_key-clause-free : goal.returns-then-contains_key-clause-free
+returns-then-contains_key-clause-free c t is none =
+    let found = c.in_ok-uri.ensures.ok in
+    let some : IsSome (known c.args.schemas.now c.in_ok-uri.uri.parts) = sym c.contains_key.ensures ∙ c.if-contains_key.true in
+    let same : without_fragment t ≡ c.in_ok-uri.uri.parts =
+    sym (found.2 ∙ ap without_fragment (one_target c.args.base.now.parts c.args.id.now.parts found.0 t found.1 is)) in
+    absurd (not_both c.args.schemas.now (without_fragment t) c.in_ok-uri.uri.parts same none some)

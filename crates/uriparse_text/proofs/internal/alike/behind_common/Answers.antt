@@ -1,5 +1,6 @@
 use Rattle.std.proofs.lemmas.List.{take_rest}
 use Rattle.uriparse_text.proofs.lemmas.canonical.ComparisonLemmas.{behind_common}
+use Rattle.uriparse_text.proofs.lemmas.canonical.OrderLemmas.{follow}
 use Rattle.uriparse_text.proofs.lemmas.tokens.CodingLemmas.{behind_compared, behind_represented}
 use Rattle.uriparse_text.proofs.internal.alike.behind_common.Goals as goal
 
@@ -20,3 +21,9 @@ returns-clause-compared c =
     rw (take_rest c.args.left.now c.common_run-common.result, take_rest c.args.right.now c.common_run-common.result)
     (behind_compared c.common_run-common.result c.args.left.now c.args.right.now c.common_run-common.ensures.common
     c.common_run-common.ensures.within.0 c.common_run-common.ensures.within.1)
+
+pub returns-clause-front : goal.returns-clause-front
+returns-clause-front c case =
+    rw (take_rest c.args.left.now c.common_run-common.result, take_rest c.args.right.now c.common_run-common.result)
+    (follow case c.common_run-common.result c.args.left.now c.args.right.now c.common_run-common.ensures.common c.common_run-common.ensures.within.0
+    c.common_run-common.ensures.within.1)

@@ -1,0 +1,131 @@
+//! The order of references in their texts, component by component, each by its canonical spelling.
+//! Nothing here allocates.
+ghost use Rattle.std.specs.Prelude.{◌≡◌, refl};
+ghost use Rattle.std.specs.Ordering.{as_partial_cmp, on};
+ghost use Rattle.uriparse_reference.specs.Order.{ordered_po, ordered_ties, ordered_total, reference_cmp, reference_key_cmp};
+ghost use Rattle.uriparse_reference.specs.Reference.{Valid};
+ghost use Rattle.uriparse_reference.specs.TextKey.{keyed};
+ghost use Rattle.uriparse_reference.specs.View.{view_key};
+
+use super::super::text::{ReferenceKey, ReferenceText};
+use super::ReferenceView;
+use std::cmp::Ordering;
+use uriparse_path::internal::compare_path_texts;
+
+impl<'t> ReferenceView<'t> {
+    /// Compares the components in their order.
+    fn compare_each(&self, other: &ReferenceView<'t>) -> Ordering
+        ensures test { result ≡ reference_cmp self.now.parts other.now.parts }
+        ensures valid { Valid self.now.parts × Valid other.now.parts }
+    {
+        let path = self.path_bytes();
+        let other_path = other.path_bytes();
+        match self.scheme().cmp(&other.scheme()) {
+            Ordering::Equal => {}
+            order => return order,
+        }
+        match self.authority().cmp(&other.authority()) {
+            Ordering::Equal => {}
+            order => return order,
+        }
+        match compare_path_texts(path, other_path) {
+            Ordering::Equal => {}
+            order => return order,
+        }
+        match self.query().cmp(&other.query()) {
+            Ordering::Equal => {}
+            order => return order,
+        }
+        self.fragment().cmp(&other.fragment())
+    }
+}
+
+impl<'t> PartialOrd for ReferenceView<'t> {
+    ghost partial_cmp = { as_partial_cmp (on view_key reference_key_cmp) };
+
+    ghost laws = { ordered_po view_key };
+
+    fn partial_cmp(&self, other: &ReferenceView<'t>) -> Option<Ordering> {
+        Some(self.cmp(other))
+    }
+}
+
+/// The first component that differs decides: the scheme, the authority, the path, the query or the
+/// fragment. An absent one is less than any that is present.
+impl<'t> Ord for ReferenceView<'t> {
+    ghost cmp = { on view_key reference_key_cmp };
+
+    ghost total = { ordered_total view_key };
+
+    ghost matches_partial_cmp = { λ v w. refl };
+
+    ghost matches_eq = { ordered_ties view_key };
+
+    fn cmp(&self, other: &ReferenceView<'t>) -> Ordering
+        ensures key { result ≡ reference_key_cmp (view_key self.now) (view_key other.now) }
+        ensures parts { result ≡ reference_cmp self.now.parts other.now.parts }
+    {
+        self.compare_each(other)
+    }
+}
+
+impl PartialOrd for ReferenceText {
+    ghost partial_cmp = { as_partial_cmp (on view_key reference_key_cmp) };
+
+    ghost laws = { ordered_po view_key };
+
+    fn partial_cmp(&self, other: &ReferenceText) -> Option<Ordering> {
+        Some(self.cmp(other))
+    }
+}
+
+/// The order of the views.
+impl Ord for ReferenceText {
+    ghost cmp = { on view_key reference_key_cmp };
+
+    ghost total = { ordered_total view_key };
+
+    ghost matches_partial_cmp = { λ v w. refl };
+
+    ghost matches_eq = { ordered_ties view_key };
+
+    fn cmp(&self, other: &ReferenceText) -> Ordering
+        ensures key { result ≡ reference_key_cmp (view_key self.now) (view_key other.now) }
+        ensures parts { result ≡ reference_cmp self.now.parts other.now.parts }
+    {
+        self.as_view().cmp(&other.as_view())
+    }
+}
+
+impl<'v> PartialOrd for ReferenceKey<'v> {
+    ghost partial_cmp = { as_partial_cmp (on (λ k. view_key (keyed k)) reference_key_cmp) };
+
+    ghost laws = { ordered_po (λ k. view_key (keyed k)) };
+
+    fn partial_cmp(&self, other: &ReferenceKey<'v>) -> Option<Ordering> {
+        Some(self.cmp(other))
+    }
+}
+
+/// The order of the references, whatever holds them.
+impl<'v> Ord for ReferenceKey<'v> {
+    ghost cmp = { on (λ k. view_key (keyed k)) reference_key_cmp };
+
+    ghost total = { ordered_total (λ k. view_key (keyed k)) };
+
+    ghost matches_partial_cmp = { λ k l. refl };
+
+    ghost matches_eq = { ordered_ties (λ k. view_key (keyed k)) };
+
+    fn cmp(&self, other: &ReferenceKey<'v>) -> Ordering
+        ensures key { result ≡ reference_key_cmp (view_key (keyed self.now)) (view_key (keyed other.now)) }
+        ensures parts { result ≡ reference_cmp (keyed self.now).parts (keyed other.now).parts }
+    {
+        match (self, other) {
+            (ReferenceKey::Text(text), ReferenceKey::Text(other)) => text.cmp(other),
+            (ReferenceKey::Text(text), ReferenceKey::View(view)) => text.as_view().cmp(&**view),
+            (ReferenceKey::View(view), ReferenceKey::Text(text)) => (**view).cmp(&text.as_view()),
+            (ReferenceKey::View(view), ReferenceKey::View(other)) => (**view).cmp(&**other),
+        }
+    }
+}
