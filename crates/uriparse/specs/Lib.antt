@@ -76,6 +76,7 @@ pub use Rattle.uriparse_reference.specs.Kinds as ReferenceKinds
 pub use Rattle.uriparse_reference.specs.Cuts
 pub use Rattle.uriparse_reference.specs.Reading
 pub use Rattle.uriparse_reference.specs.Place
+pub use Rattle.uriparse_reference.specs.Order
 pub use Rattle.uriparse_reference.specs.View
 pub use Rattle.uriparse_reference.specs.OwnedText
 pub use Rattle.uriparse_reference.specs.TextEdits

@@ -15,6 +15,7 @@ mod builder_of;
 pub mod file;
 mod kind;
 pub mod laws;
+mod order;
 mod reference_of;
 pub mod relative_reference;
 mod text_of;

@@ -31,7 +31,7 @@ mod edit;
 /// equal if their views are.
 #[derive(Drop)]
 pub struct TextOf<K: ReferenceKind> {
-    text: ReferenceText,
+    pub(crate) text: ReferenceText,
     kind: PhantomData<K>,
 }
 
