@@ -3,7 +3,7 @@ use Rattle.std.proofs.Common.{◌≡◌, ◌⊎◌, ℕ, zero, suc, ◌+◌, ◌
 use Rattle.std.proofs.Math.Seq.{take-append_seam, drop-append_seam}
 use Rattle.std.proofs.lemmas.Bool.{and_parts, eqb-true, not-true}
 use Rattle.std.proofs.lemmas.List.Sums.{sum_by-append, sum_by-cons}
-use Rattle.uriparse_text.specs.Cuts.{lacks, before, after, behind, from_first}
+use Rattle.uriparse_text.specs.Cuts.{lacks, before, after, following, from_first}
 use Rattle.uriparse_text.proofs.lemmas.readings.CutLemmas.{before_after, before-lacks, cut-whole, lacks-append, lacks-left, lacks-right}
 use Rattle.uri_commands.specs.Lines.{newline}
 use Rattle.uri_commands.specs.Columns.{AreFields, IsCut, IsRead, IsRest, IsRow, done, short, row, is_tab, tab, tabs}
@@ -26,10 +26,10 @@ fields-none = record { count = refl; ended = inl refl }
 
 -- a text up to its first tab, if it has one
 pub cut-field : (t u : List ℕ) → after tab t ≡ Some u → t ≡ (before tab t ++ tab ∷ []) ++ u
-cut-field t u e = sym (before_after tab t) ∙ ap (λ o. before tab t ++ behind tab o) e ∙ sym (append_assoc (before tab t) (tab ∷ []) u)
+cut-field t u e = sym (before_after tab t) ∙ ap (λ o. before tab t ++ following tab o) e ∙ sym (append_assoc (before tab t) (tab ∷ []) u)
 
 cut-last : (t : List ℕ) → after tab t ≡ None → t ≡ before tab t
-cut-last t e = sym (before_after tab t) ∙ ap (λ o. before tab t ++ behind tab o) e ∙ append-nil (before tab t)
+cut-last t e = sym (before_after tab t) ∙ ap (λ o. before tab t ++ following tab o) e ∙ append-nil (before tab t)
 
 pub tabs-before : (t : List ℕ) → tabs (before tab t) ≡ 0
 tabs-before t = tabs-none (before tab t) (before-lacks tab t)
@@ -74,8 +74,8 @@ too_few line front rest n count e are none h =
     omega (arith, ap tabs e ∙ tabs-append front rest, are.count, tabs-last rest none, h)
 
 -- what is left of a line behind its front
-pub behind_front : (line front rest : List ℕ) → line ≡ front ++ rest → (take (length line - length rest) line ≡ front) × (drop (length line - length rest) line ≡ rest)
-behind_front line front rest e =
+pub following_front : (line front rest : List ℕ) → line ≡ front ++ rest → (take (length line - length rest) line ≡ front) × (drop (length line - length rest) line ≡ rest)
+following_front line front rest e =
     let long : length line - length rest ≡ length front = omega (arith, ap length e ∙ length-append front rest) in
     (ap (λ n. take n line) long ∙ ap (take (length front)) e ∙ take-append_seam front rest, ap (λ n. drop n line) long ∙ ap (drop (length front)) e ∙ drop-append_seam front rest)
 
@@ -102,13 +102,13 @@ cut_text first width line front rest begun last some whole ahead cut are = recor
   whole = whole ∙ ap (λ u. front ++ u) (cut_last rest begun last cut);
   ahead = ahead;
   fields = omega (arith, tabs-append begun (before tab last), are.count, tabs-before last, some);
-  behind = rest-of last;
+  following = rest-of last;
 }
 
 -- a line with too few fields behind the first ones
-pub too_few_behind : (first width : ℕ) (line front rest : List ℕ) → 0 < width → line ≡ front ++ rest → AreFields first front
+pub too_few_after : (first width : ℕ) (line front rest : List ℕ) → 0 < width → line ≡ front ++ rest → AreFields first front
     → tabs rest < width - 1 → tabs line + 1 < first + width
-too_few_behind first width line front rest some whole ahead few = omega (arith, ap tabs whole ∙ tabs-append front rest, ahead.count, few, some)
+too_few_after first width line front rest some whole ahead few = omega (arith, ap tabs whole ∙ tabs-append front rest, ahead.count, few, some)
 
 -- ---- a line that goes out
 
@@ -118,8 +118,8 @@ parts_lack None width line front text back read h =
     (ap (lacks newline) read.0, ap (lacks newline) read.1 ∙ h, ap (lacks newline) read.2)
 parts_lack (Some first) width line front text back read h =
     let whole : lacks newline (front ++ (text ++ back)) ≡ true = sym (ap (lacks newline) read.whole) ∙ h in
-    let behind = lacks-right newline front (text ++ back) whole in
-    (lacks-left newline front (text ++ back) whole, lacks-left newline text back behind, lacks-right newline text back behind)
+    let following = lacks-right newline front (text ++ back) whole in
+    (lacks-left newline front (text ++ back) whole, lacks-left newline text back following, lacks-right newline text back following)
 
 row_parts : (appends : Bool) (front text back result : List ℕ) → lacks newline front ≡ true → lacks newline text ≡ true → lacks newline back ≡ true
     → lacks newline result ≡ true → lacks newline (row appends front text back result) ≡ true

@@ -27,7 +27,7 @@ use Rattle.uriparse.specs.SchemeGrammar.{is_scheme}
 use Rattle.uriparse.specs.Path.{IsPath}
 use Rattle.uriparse.specs.Reference.{Parts, Spells, host_of, port_of}
 use Rattle.uriparse.proofs.lemmas.CharacterLemmas.{AreUriBytes, is_uri_byte, uri_bytes-in_class, uri_bytes-path, uri_bytes-scheme, uri_bytes-spelled}
-use Rattle.uri_commands.specs.Json.{Member, back_members, comma, escaped, escaped_byte, followers, front_members, host_members, is_control, is_plain, is_special, kind_name, member, member_text, object, object_text, port_members, quote, segment_members, string, string_or_null}
+use Rattle.uri_commands.specs.Json.{Member, back_members, comma, escaped, escaped_byte, followers, front_members, host_members, is_control, needs_no_json_escape, is_special, kind_name, member, member_text, object, object_text, port_members, quote, segment_members, string, string_or_null}
 use Rattle.uri_commands.specs.Json.{String}
 use Rattle.uri_commands.specs.Lines.{newline}
 
@@ -37,7 +37,7 @@ plain_one b code true special h = absurd (false≢true h)
 plain_one b code false true h = absurd (false≢true h)
 plain_one b code false false h = refl
 
-pub escaped_plain : (text : List ℕ) → list_all is_plain text ≡ true → escaped text ≡ text
+pub escaped_plain : (text : List ℕ) → list_all needs_no_json_escape text ≡ true → escaped text ≡ text
 escaped_plain [] h = refl
 escaped_plain (b ∷ text) h =
     let each = and_parts _ _ h in
@@ -46,49 +46,49 @@ escaped_plain (b ∷ text) h =
 -- ---- the texts of a reference
 
 -- a quote, a backslash and a control character are neither unreserved nor reserved
-plain_byte : (b : ℕ) → is_uri_byte b ≡ true → is_plain b ≡ true
+plain_byte : (b : ℕ) → is_uri_byte b ≡ true → needs_no_json_escape b ≡ true
 unfolding is_unreserved is_sub_delim
 plain_byte b h = grind (arith, nat_tests)
 
-plain_by : (p : ℕ → Bool) → ((b : ℕ) → p b ≡ true → is_plain b ≡ true) → (text : List ℕ) → list_all p text ≡ true → list_all is_plain text ≡ true
+plain_by : (p : ℕ → Bool) → ((b : ℕ) → p b ≡ true → needs_no_json_escape b ≡ true) → (text : List ℕ) → list_all p text ≡ true → list_all needs_no_json_escape text ≡ true
 plain_by p each [] h = refl
 plain_by p each (b ∷ text) h = let both = and_parts _ _ h in and_from _ _ (each b both.0) (plain_by p each text both.1)
 
-uri_bytes : (text : List ℕ) → AreUriBytes text → list_all is_plain text ≡ true
+uri_bytes : (text : List ℕ) → AreUriBytes text → list_all needs_no_json_escape text ≡ true
 uri_bytes text h = plain_by is_uri_byte plain_byte text h
 
-pub plain_in_class : (c : Class) (text : List ℕ) → IsIn c text → list_all is_plain text ≡ true
+pub plain_in_class : (c : Class) (text : List ℕ) → IsIn c text → list_all needs_no_json_escape text ≡ true
 plain_in_class c text h = uri_bytes text (uri_bytes-in_class c text h)
 
-pub plain_scheme : (text : List ℕ) → is_scheme text ≡ true → list_all is_plain text ≡ true
+pub plain_scheme : (text : List ℕ) → is_scheme text ≡ true → list_all needs_no_json_escape text ≡ true
 plain_scheme text h = uri_bytes text (uri_bytes-scheme text h)
 
-pub plain_path : (text : List ℕ) → IsPath text → list_all is_plain text ≡ true
+pub plain_path : (text : List ℕ) → IsPath text → list_all needs_no_json_escape text ≡ true
 plain_path text h = uri_bytes text (uri_bytes-path text h)
 
-pub plain_spelled : (text : List ℕ) (p : Parts) → Spells text p → list_all is_plain text ≡ true
+pub plain_spelled : (text : List ℕ) (p : Parts) → Spells text p → list_all needs_no_json_escape text ≡ true
 plain_spelled text p h = uri_bytes text (uri_bytes-spelled text p h)
 
 -- ---- the texts of addresses
 
 -- a record, so that a text can be found from the fact
 record Plain (text : List ℕ) : Type 0 where
-  each : list_all is_plain text ≡ true
+  each : list_all needs_no_json_escape text ≡ true
 
 none : Plain []
 none = record { each = refl }
 
 both : {t u : List ℕ} → Plain t → Plain u → Plain (t ++ u)
-both {t = t} {u = u} h k = record { each = list_all-append is_plain t u ∙ and_from _ _ h.each k.each }
+both {t = t} {u = u} h k = record { each = list_all-append needs_no_json_escape t u ∙ and_from _ _ h.each k.each }
 
 either : (test : Bool) {t u : List ℕ} → Plain t → Plain u → Plain (if test then t else u)
 either true h k = h
 either false h k = k
 
-one : (b : ℕ) {t : List ℕ} → is_plain b ≡ true → Plain t → Plain (b ∷ t)
+one : (b : ℕ) {t : List ℕ} → needs_no_json_escape b ≡ true → Plain t → Plain (b ∷ t)
 one b h k = record { each = and_from _ _ h k.each }
 
-glyph : (d : ℕ) → is_plain (digit_char d) ≡ true
+glyph : (d : ℕ) → needs_no_json_escape (digit_char d) ≡ true
 glyph d = grind (arith, nat_tests)
 
 plain_digits : (k n : ℕ) (t : List ℕ) → Plain t → Plain (digits_onto k 10 false n t)
@@ -136,17 +136,17 @@ plain_colons groups =
     either (bytes_eq (take 6 groups) (0 ∷ 0 ∷ 0 ∷ 0 ∷ 0 ∷ 0xffff ∷ [])) (both mapped (plain_dotted (octets_of (drop 6 groups))))
     (either (nat_lt 1 run.1) shortened (plain_groups groups))
 
-plain_letter : (b : ℕ) → is_future_letter b ≡ true → is_plain b ≡ true
+plain_letter : (b : ℕ) → is_future_letter b ≡ true → needs_no_json_escape b ≡ true
 plain_letter b h = grind (arith, nat_tests)
 
-plain_hex_digit : (b : ℕ) → is_hex b ≡ true → is_plain b ≡ true
+plain_hex_digit : (b : ℕ) → is_hex b ≡ true → needs_no_json_escape b ≡ true
 plain_hex_digit b h = grind (arith, nat_tests)
 
-plain_future_byte : (b : ℕ) → is_future_byte b ≡ true → is_plain b ≡ true
+plain_future_byte : (b : ℕ) → is_future_byte b ≡ true → needs_no_json_escape b ≡ true
 unfolding is_unreserved is_sub_delim
 plain_future_byte b h = grind (arith, nat_tests)
 
-plain_some : (p : ℕ → Bool) → ((b : ℕ) → p b ≡ true → is_plain b ≡ true) → (text : List ℕ) → is_some_of p text ≡ true → Plain text
+plain_some : (p : ℕ → Bool) → ((b : ℕ) → p b ≡ true → needs_no_json_escape b ≡ true) → (text : List ℕ) → is_some_of p text ≡ true → Plain text
 plain_some p each [] h = absurd (false≢true h)
 plain_some p each (b ∷ text) h = record { each = plain_by p each (b ∷ text) h }
 
@@ -159,7 +159,7 @@ plain_future text f =
 plain_brackets : {text : List ℕ} → Plain text → Plain (bracketed text)
 plain_brackets h = one left_bracket refl (both h (one right_bracket refl none))
 
-pub plain_in_future : (text : List ℕ) → IsFuture text → list_all is_plain text ≡ true
+pub plain_in_future : (text : List ℕ) → IsFuture text → list_all needs_no_json_escape text ≡ true
 plain_in_future text f = (plain_future text f).each
 
 -- ---- texts that are their own escapes

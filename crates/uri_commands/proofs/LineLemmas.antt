@@ -14,43 +14,43 @@ use Rattle.std.proofs.lemmas.Bool.{and_from, false≢true}
 use Rattle.uri_commands.specs.Lines.{newline}
 
 -- no byte before the first newline is one
-pub none_before : (text : List ℕ) (place : ℕ) → place ≡ position_or_len (λ b. b == newline) text → All (λ b. b ≢ newline) (take place text)
-none_before text place is = λ k d h e.
-    let within : place ≤ length text = omega (arith, prefix_len-le-length (λ b. not (b == newline)) text) in
-    let short : k < place = omega (arith, length-take-le place text within) in
-    let same : get_or text k d ≡ newline = sym (get_or-take place text k d short) ∙ e in
+pub none_before : (text : List ℕ) (offset : ℕ) → offset ≡ position_or_len (λ b. b == newline) text → All (λ b. b ≢ newline) (take offset text)
+none_before text offset is = λ k d h e.
+    let within : offset ≤ length text = omega (arith, prefix_len-le-length (λ b. not (b == newline)) text) in
+    let short : k < offset = omega (arith, length-take-le offset text within) in
+    let same : get_or text k d ≡ newline = sym (get_or-take offset text k d short) ∙ e in
     let fails = fails_before_first (λ b. b == newline) text k d (omega arith) in
     false≢true (sym fails ∙ eq-eqb _ _ same)
 
 -- where there is no newline, no byte is one
-pub none_held : (text : List ℕ) (place : ℕ) → place ≡ position_or_len (λ b. b == newline) text → place ≡ length text → All (λ b. b ≢ newline) text
-none_held text place is end = λ k d h e.
+pub none_held : (text : List ℕ) (offset : ℕ) → offset ≡ position_or_len (λ b. b == newline) text → offset ≡ length text → All (λ b. b ≢ newline) text
+none_held text offset is end = λ k d h e.
     let fails = fails_before_first (λ b. b == newline) text k d (omega (arith, is, end, h)) in
     false≢true (sym fails ∙ eq-eqb _ _ e)
 
 -- the bytes through the first newline
-pub through_newline : (text : List ℕ) (place : ℕ) → place ≡ position_or_len (λ b. b == newline) text → place < length text
-    → take (place + 1) text ≡ take place text ++ newline ∷ []
-through_newline text place is found =
+pub through_newline : (text : List ℕ) (offset : ℕ) → offset ≡ position_or_len (λ b. b == newline) text → offset < length text
+    → take (offset + 1) text ≡ take offset text ++ newline ∷ []
+through_newline text offset is found =
     let hit = passes_at_first (λ b. b == newline) text 0 (omega arith) in
-    take_more text place 0 found ∙ ap (λ b. take place text ++ b ∷ []) (ap (λ k. get_or text k 0) is ∙ eqb-true _ _ hit)
+    take_more text offset 0 found ∙ ap (λ b. take offset text ++ b ∷ []) (ap (λ k. get_or text k 0) is ∙ eqb-true _ _ hit)
 
 -- what a reader shows begins with a line, and it loses the line with its newline
-pub line_and_rest : (bytes held : List ℕ) (place : ℕ) → StartsWith bytes held → place ≡ position_or_len (λ b. b == newline) held → place < length held
-    → (take place held ++ newline ∷ []) ++ drop (place + 1) bytes ≡ bytes
-line_and_rest bytes held place front is found =
-    ap (λ l. l ++ drop (place + 1) bytes) (sym (through_newline held place is found) ∙ ap (take (place + 1)) (sym front) ∙ take-take (place + 1) (length held) bytes (omega arith))
-    ∙ take-append-drop (place + 1) bytes
+pub line_and_rest : (bytes held : List ℕ) (offset : ℕ) → StartsWith bytes held → offset ≡ position_or_len (λ b. b == newline) held → offset < length held
+    → (take offset held ++ newline ∷ []) ++ drop (offset + 1) bytes ≡ bytes
+line_and_rest bytes held offset front is found =
+    ap (λ l. l ++ drop (offset + 1) bytes) (sym (through_newline held offset is found) ∙ ap (take (offset + 1)) (sym front) ∙ take-take (offset + 1) (length held) bytes (omega arith))
+    ∙ take-append-drop (offset + 1) bytes
 
 -- a reader loses a line that it holds whole, with its newline
-pub held_line : (v : Bool) (rest c : Option (List ℕ)) (held line : List ℕ) (place : ℕ) → place ≡ position_or_len (λ b. b == newline) held → place < length held
-    → line ≡ take place held → DropsConsumable (cond v None (prepend_known held rest)) c (Some (length held)) (place + 1)
+pub held_line : (v : Bool) (rest c : Option (List ℕ)) (held line : List ℕ) (offset : ℕ) → offset ≡ position_or_len (λ b. b == newline) held → offset < length held
+    → line ≡ take offset held → DropsConsumable (cond v None (prepend_known held rest)) c (Some (length held)) (offset + 1)
     → Consumes (cond v None (prepend_known held rest)) c (line ++ newline ∷ [])
-held_line true rest c held line place is found same drops = tt
-held_line false None c held line place is found same drops = tt
-held_line false (Some y) c held line place is found same drops =
+held_line true rest c held line offset is found same drops = tt
+held_line false None c held line offset is found same drops = tt
+held_line false (Some y) c held line offset is found same drops =
     subst (λ o. Consumes (Some (held ++ y)) o (line ++ newline ∷ [])) (sym (drops (omega (arith, found))))
-    (sym (line_and_rest (held ++ y) held place (take-append_seam held y) is found) ∙ ap (λ l. (l ++ newline ∷ []) ++ drop (place + 1) (held ++ y)) (sym same))
+    (sym (line_and_rest (held ++ y) held offset (take-append_seam held y) is found) ∙ ap (λ l. (l ++ newline ∷ []) ++ drop (offset + 1) (held ++ y)) (sym same))
 
 -- a whole line without its newline
 pub stripped : (line : List ℕ) → strip_last newline (line ++ newline ∷ []) ≡ line

@@ -30,7 +30,7 @@ pub record IsCut (first width : ℕ) (line front text back : List ℕ) : Type 0 
   pub whole : line ≡ front ++ (text ++ back)
   pub ahead : AreFields first front
   pub fields : tabs text + 1 ≡ width
-  pub behind : IsRest back
+  pub following : IsRest back
 
 -- the line with the result in the place of the text, or after its last field
 abbrev pub row : Bool → List ℕ → List ℕ → List ℕ → List ℕ → List ℕ

@@ -36,8 +36,8 @@ abbrev pub is_control : ℕ → Bool
 is_control b = nat_lt b 32
 
 -- a byte that a string has as it is
-abbrev pub is_plain : ℕ → Bool
-is_plain b = not (is_control b || is_special b)
+abbrev pub needs_no_json_escape : ℕ → Bool
+needs_no_json_escape b = not (is_control b || is_special b)
 
 -- what a byte of a text is written as: after a backslash a quote or a backslash, or `u` and the four digits of a control character
 abbrev pub escaped_byte : ℕ → List ℕ

@@ -95,8 +95,8 @@ fn split_fields(line: &[u8], count: usize) -> Option<(&[u8], &[u8])>
     let mut rest = line;
     let mut left = count;
     'fields: while left > 0 {
-        let (_, behind) = split_at_mark(rest, b'\t');
-        let Some(later) = without_mark(behind) else {
+        let (_, following) = split_at_mark(rest, b'\t');
+        let Some(later) = without_mark(following) else {
             return None;
         };
         rest = later;

@@ -85,8 +85,8 @@ fn shown(b: u8) -> u8 {
 }
 
 /// Where the bytes begin that are shown of a text of this length, round this place.
-fn window(len: usize, place: usize) -> usize {
-    min(place.saturating_sub(WIDTH / 2), len.saturating_sub(WIDTH))
+fn window(len: usize, offset: usize) -> usize {
+    min(offset.saturating_sub(WIDTH / 2), len.saturating_sub(WIDTH))
 }
 
 /// Writes a line with the bytes of the text from this one on.
@@ -106,42 +106,42 @@ fn write_caret<E: Write>(column: usize, err: &mut E) -> io::Result<()> {
 }
 
 /// Writes the text, or what is round this place in it, and a caret under the place.
-fn write_place<E: Write>(text: &[u8], place: usize, err: &mut E) -> io::Result<()> {
-    let start = window(text.len(), place);
+fn write_offset<E: Write>(text: &[u8], offset: usize, err: &mut E) -> io::Result<()> {
+    let start = window(text.len(), offset);
     write_text(text, start, err)?;
-    write_caret(place.saturating_sub(start), err)
+    write_caret(offset.saturating_sub(start), err)
 }
 
 /// Explains why a base is no URI. Returns whether it is none.
 fn explain_base<E: Write>(text: &[u8], err: &mut E) -> io::Result<bool> {
-    let Some((place, error)) = URI::first_fault(text) else {
+    let Some((offset, error)) = URI::first_fault(text) else {
         return Ok(false);
     };
-    write_place(text, place, err)?;
+    write_offset(text, offset, err)?;
     let part = part_of_uri(&error);
-    writeln!(err, "base: {part} at byte {place}: {error}")?;
+    writeln!(err, "base: {part} at byte {offset}: {error}")?;
     Ok(true)
 }
 
 /// Explains why a text is no reference, by this name of the text. Returns whether it is none.
 fn explain_reference<E: Write>(name: &str, text: &[u8], err: &mut E) -> io::Result<bool> {
-    let Some((place, error)) = URIReference::first_fault(text) else {
+    let Some((offset, error)) = URIReference::first_fault(text) else {
         return Ok(false);
     };
-    write_place(text, place, err)?;
+    write_offset(text, offset, err)?;
     let part = part_of_reference(&error);
-    writeln!(err, "{name}{part} at byte {place}: {error}")?;
+    writeln!(err, "{name}{part} at byte {offset}: {error}")?;
     Ok(true)
 }
 
 /// Explains why a text is no reference, by its line's number. Returns whether it is none.
 pub fn explain_line<E: Write>(number: u64, text: &[u8], err: &mut E) -> io::Result<bool> {
-    let Some((place, error)) = URIReference::first_fault(text) else {
+    let Some((offset, error)) = URIReference::first_fault(text) else {
         return Ok(false);
     };
-    write_place(text, place, err)?;
+    write_offset(text, offset, err)?;
     let part = part_of_reference(&error);
-    writeln!(err, "line {number}: {part} at byte {place}: {error}")?;
+    writeln!(err, "line {number}: {part} at byte {offset}: {error}")?;
     Ok(true)
 }
 

@@ -15,7 +15,7 @@ ghost use Rattle.uriparse.specs.Reading.{fault};
 ghost use Rattle.uriparse.specs.Reference.{Parts, Spells};
 ghost use Rattle.uriparse.specs.Scheme as scheme;
 ghost use Rattle.uriparse.specs.URIReferenceError.{URIReferenceError};
-ghost use Rattle.uri_commands.specs.Json.{back_members, escaped, followers, front_members, host_members, is_plain, kind_name, member, member_text, name_of, object, opening, port_members, segment_members, string_or_null};
+ghost use Rattle.uri_commands.specs.Json.{back_members, escaped, followers, front_members, host_members, needs_no_json_escape, kind_name, member, member_text, name_of, object, opening, port_members, segment_members, string_or_null};
 ghost use Rattle.uri_commands.specs.Json as json;
 ghost use Rattle.uri_commands.specs.Lines.{newline};
 ghost use Rattle.uri_commands.specs.declared.failure.Failure.TheVariants as failures;
@@ -67,7 +67,7 @@ prints
 /// none has a quote, a `\` or a control character (RFC 3986, section 2). So no byte is tested.
 #[tactic(auto, using(crate::proofs::JsonLemmas::escaped_plain))]
 fn write_plain<O: Write>(text: &[u8], out: &mut O) -> io::Result<()>
-    requires { list_all is_plain text.now ≡ true }
+    requires { list_all needs_no_json_escape text.now ≡ true }
     ensures { OnOk result (Appends (O.contents out.old) (O.contents out.new) (escaped text.now)) }
 {
     out.write_all(text)
@@ -116,7 +116,7 @@ impl Name {
 
 /// Writes the member of this name, in three pieces, or in one if it is absent.
 fn write_member<O: Write>(name: Name, text: Option<&[u8]>, out: &mut O) -> io::Result<()>
-    requires { IfSome text (λ t. list_all is_plain t.now ≡ true) }
+    requires { IfSome text (λ t. list_all needs_no_json_escape t.now ≡ true) }
     ensures { OnOk result (Appends (O.contents out.old) (O.contents out.new) (followers (member (name_of name) (string_or_null (option_copied text.entry)) ∷ []))) }
 {
     match text {
@@ -131,7 +131,7 @@ fn write_member<O: Write>(name: Name, text: Option<&[u8]>, out: &mut O) -> io::R
 
 /// Writes the member `text`, the first, after the brace.
 fn write_text<O: Write>(text: &[u8], out: &mut O) -> io::Result<()>
-    requires { list_all is_plain text.now ≡ true }
+    requires { list_all needs_no_json_escape text.now ≡ true }
     ensures { OnOk result (Appends (O.contents out.old) (O.contents out.new) (codes "{" ++ member_text (member (codes "text") (json.String text.now)))) }
 {
     out.write_all(b"{\"text\":\"")?;
@@ -143,7 +143,7 @@ fn write_text<O: Write>(text: &[u8], out: &mut O) -> io::Result<()>
 #[tactic(auto, using(crate::proofs::JsonLemmas::plain_scheme))]
 fn scheme_bytes<'c>(found: Option<&'c Scheme<'_>>) -> Option<&'c [u8]>
     ensures value { option_copied result ≡ option_map scheme.text (option_copied found.entry) }
-    ensures plain { IfSome result (λ t. list_all is_plain t.now ≡ true) }
+    ensures plain { IfSome result (λ t. list_all needs_no_json_escape t.now ≡ true) }
 {
     match found {
         Some(scheme) => Some(scheme.as_bytes()),
@@ -154,7 +154,7 @@ fn scheme_bytes<'c>(found: Option<&'c Scheme<'_>>) -> Option<&'c [u8]>
 /// The bytes of a component, if it is present.
 fn text_bytes<'c, K: TextKind>(found: Option<&'c Text<'_, K>>) -> Option<&'c [u8]>
     ensures value { option_copied result ≡ option_copied found.entry }
-    ensures plain { IfSome result (λ t. list_all is_plain t.now ≡ true) }
+    ensures plain { IfSome result (λ t. list_all needs_no_json_escape t.now ≡ true) }
 {
     match found {
         Some(text) => Some(text.as_bytes()),
@@ -180,7 +180,7 @@ fn write_front<O: Write>(reference: &ReferenceView<'_>, out: &mut O) -> io::Resu
 /// What the object calls a host of this kind.
 fn host_kind(host: &Host<'_>) -> &'static str
     ensures value { result.now ≡ kind_name (spec.kind host.now) }
-    ensures plain { list_all is_plain result.now ≡ true }
+    ensures plain { list_all needs_no_json_escape result.now ≡ true }
 {
     match host {
         Host::IPv4Address(_) => "ipv4",

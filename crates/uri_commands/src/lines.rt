@@ -104,13 +104,13 @@ fn drop_newline(line: &mut Vec<u8>)
 
 /// Appends the bytes before this place to the buffer. The byte there counts as if it were appended
 /// too, so the buffer grows as it does with `read_until`, which appends the newline.
-fn append_front(held: &[u8], place: usize, line: &mut Vec<u8>) -> io::Result<()>
-    requires { place ≤ length held.now }
-    ensures ok { OnOk result (line.new.items ≡ line.old.items ++ take place held.now) }
+fn append_front(held: &[u8], offset: usize, line: &mut Vec<u8>) -> io::Result<()>
+    requires { offset ≤ length held.now }
+    ensures ok { OnOk result (line.new.items ≡ line.old.items ++ take offset held.now) }
     ensures err { OnErr result (line.new.items ≡ line.old.items) }
 {
-    line.reserve(held.len().min(place.saturating_add(1)))?;
-    line.extend_from_slice(&held[..place])?;
+    line.reserve(held.len().min(offset.saturating_add(1)))?;
+    line.extend_from_slice(&held[..offset])?;
     Ok(())
 }
 
@@ -250,12 +250,12 @@ fn take_whole<I: Read>(input: &mut BufReader<I>, line: &mut Vec<u8>) -> io::Resu
     ensures unasked { reader_inner input.new ≡ reader_inner input.old }
 {
     let held = input.buffer();
-    let place = first(&Is(b'\n'), held);
-    if place == held.len() {
+    let offset = first(&Is(b'\n'), held);
+    if offset == held.len() {
         return Ok(false);
     }
-    append_front(held, place, line)?;
-    input.consume(place + 1);
+    append_front(held, offset, line)?;
+    input.consume(offset + 1);
     Ok(true)
 }
 

@@ -6,13 +6,13 @@ use Rattle.uriparse_text.specs.Readings.{◌>>=◌, fault_in, of_piece}
 use Rattle.uriparse_reference.specs.declared.uri_reference.error.URIReferenceError.{URIReferenceError}
 use Rattle.uriparse_reference.specs.Reference.{Parts}
 use Rattle.uriparse_reference.specs.Builder.{Held}
-use Rattle.uriparse_reference.specs.Place.{first_fault}
+use Rattle.uriparse_reference.specs.Offset.{first_fault}
 use Rattle.uriparse_reference.specs.Reading.{reading}
 use Rattle.uriparse_reference.specs.View.{Viewed}
 
 -- the same result, its error mapped to another
-abbrev pub told_of : {E F A : Type 0} → (E → F) → Result A E → Result A F
-told_of told answer = of_piece told answer
+abbrev pub with_mapped_error : {E F A : Type 0} → (E → F) → Result A E → Result A F
+with_mapped_error map_error answer = of_piece map_error answer
 
 -- it has a scheme, or has none, as all of its kind
 abbrev pub IsOfKind : Bool → Parts → Type 0
@@ -24,23 +24,23 @@ of_kind has_scheme other p = if beq (is_some p.scheme) has_scheme then Ok p else
 
 -- What reading a text returns. Its fault comes before the error of another kind.
 abbrev pub reading_of : {E : Type 0} → Bool → (URIReferenceError → E) → E → List ℕ → Result Parts E
-reading_of has_scheme told other t = told_of told (reading t) >>= of_kind has_scheme other
+reading_of has_scheme map_error other t = with_mapped_error map_error (reading t) >>= of_kind has_scheme other
 
 -- why a text is rejected
 abbrev pub fault_of : {E : Type 0} → Bool → (URIReferenceError → E) → E → List ℕ → Option E
-fault_of has_scheme told other t = fault_in (reading_of has_scheme told other t)
+fault_of has_scheme map_error other t = fault_in (reading_of has_scheme map_error other t)
 
 -- What viewing a text returns: the text with its components, or why it is rejected.
 abbrev pub viewed_of : {E : Type 0} → Bool → (URIReferenceError → E) → E → List ℕ → Result Viewed E
-viewed_of has_scheme told other t = do
-  parts ← reading_of has_scheme told other t
+viewed_of has_scheme map_error other t = do
+  parts ← reading_of has_scheme map_error other t
   Ok (record { text = t; parts = parts })
 
 -- Where a text is wrong, and why: where its fault is, or else at its beginning, if it is of the other kind. A scheme that is
 -- missing would begin there, and one that may not be begins there.
 abbrev pub first_fault_of : {E : Type 0} → Bool → (URIReferenceError → E) → E → List ℕ → Option (ℕ × E)
-first_fault_of has_scheme told other t =
-    option_or (option_map (λ f. (f.0, told f.1)) (first_fault t)) (option_map (λ e. (0, e)) (fault_of has_scheme told other t))
+first_fault_of has_scheme map_error other t =
+    option_or (option_map (λ f. (f.0, map_error f.1)) (first_fault t)) (option_map (λ e. (0, e)) (fault_of has_scheme map_error other t))
 
 -- a builder holds a scheme only where the kind has one
 abbrev pub HoldsKind : Bool → Held → Type 0

@@ -10,7 +10,7 @@ pub use Rattle.uriparse_text.specs.Classes
 pub use Rattle.uriparse_text.specs.Tokens
 pub use Rattle.uriparse_text.specs.Cuts as TextCuts
 pub use Rattle.uriparse_text.specs.Faults as TextFaults
-pub use Rattle.uriparse_text.specs.Place as TextPlace
+pub use Rattle.uriparse_text.specs.Offset as TextOffset
 pub use Rattle.uriparse_text.specs.Readings
 pub use Rattle.uriparse_text.specs.Canonical
 pub use Rattle.uriparse_text.specs.Coding
@@ -21,7 +21,7 @@ pub use Rattle.uriparse_text.specs.Link
 pub use Rattle.uriparse_text.specs.Fragment
 pub use Rattle.uriparse_text.specs.declared.internal.class.Class
 pub use Rattle.uriparse_text.specs.declared.internal.canonical.Case
-pub use Rattle.uriparse_text.specs.declared.internal.starts.TooSmall
+pub use Rattle.uriparse_text.specs.declared.internal.forward_buffer.TooSmall
 pub use Rattle.uriparse_text.specs.declared.query.QueryError
 pub use Rattle.uriparse_text.specs.declared.fragment.FragmentError
 -- schemes: section 3.1
@@ -48,7 +48,7 @@ pub use Rattle.uriparse_authority.specs.Host
 pub use Rattle.uriparse_authority.specs.Name
 pub use Rattle.uriparse_authority.specs.Future
 pub use Rattle.uriparse_authority.specs.Port
-pub use Rattle.uriparse_authority.specs.Place as AuthorityPlace
+pub use Rattle.uriparse_authority.specs.Offset as AuthorityOffset
 pub use Rattle.uriparse_authority.specs.Order as AuthorityOrder
 pub use Rattle.uriparse_authority.specs.Normal as AuthorityNormal
 pub use Rattle.uriparse_authority.specs.declared.authority.host.Host as HostValue
@@ -61,7 +61,7 @@ pub use Rattle.uriparse_authority.specs.declared.authority.error.PortError
 pub use Rattle.uriparse_text.specs.Segment
 pub use Rattle.uriparse_path.specs.Path
 pub use Rattle.uriparse_path.specs.Faults as PathFaults
-pub use Rattle.uriparse_path.specs.Place as PathPlace
+pub use Rattle.uriparse_path.specs.Offset as PathOffset
 pub use Rattle.uriparse_path.specs.Dots
 pub use Rattle.uriparse_path.specs.Relative
 pub use Rattle.uriparse_path.specs.Edits as PathEdits
@@ -75,7 +75,7 @@ pub use Rattle.uriparse_reference.specs.Reference
 pub use Rattle.uriparse_reference.specs.Kinds as ReferenceKinds
 pub use Rattle.uriparse_reference.specs.Cuts
 pub use Rattle.uriparse_reference.specs.Reading
-pub use Rattle.uriparse_reference.specs.Place
+pub use Rattle.uriparse_reference.specs.Offset
 pub use Rattle.uriparse_reference.specs.Order
 pub use Rattle.uriparse_reference.specs.View
 pub use Rattle.uriparse_reference.specs.OwnedText

@@ -5,7 +5,7 @@ use Rattle.std.specs.Option.{option_and_then, option_eq, option_map}
 use Rattle.std.specs.Ordering.{eq_of_both, on}
 use Rattle.uriparse_text.specs.Bytes.{colon}
 use Rattle.uriparse_text.specs.Canonical.{fed_text}
-use Rattle.uriparse_text.specs.Cuts.{behind}
+use Rattle.uriparse_text.specs.Cuts.{following}
 use Rattle.uriparse_scheme.specs.declared.scheme.Scheme.{Scheme}
 use Rattle.uriparse_scheme.specs.DefaultPort.{default_port}
 use Rattle.uriparse_scheme.specs.Scheme as scheme
@@ -52,7 +52,7 @@ named_port o = if option_eq ◌==◌ (Some o.port) (default_port o.scheme) then 
 
 -- scheme "://" host [ ":" port ], in canonical spelling
 abbrev pub text : Origin → List ℕ
-text o = scheme.canonical_text o.scheme ++ (codes "://" ++ (host.canonical_text o.host ++ behind colon (option_map port.text (named_port o))))
+text o = scheme.canonical_text o.scheme ++ (codes "://" ++ (host.canonical_text o.host ++ following colon (option_map port.text (named_port o))))
 
 -- ---- the same of texts, if they spell references: words of examples
 

@@ -6,7 +6,7 @@ use Rattle.uriparse_reference.specs.Reference.{Parts}
 use Rattle.uriparse_reference.specs.Builder.{Held, built}
 use Rattle.uriparse.specs.declared.relative_reference.error.RelativeReferenceError.{RelativeReferenceError}
 use Rattle.uriparse.specs.declared.relative_reference.error.RelativeReferenceError.TheVariants as errors
-use Rattle.uriparse.specs.Kinds.{told_of}
+use Rattle.uriparse.specs.Kinds.{with_mapped_error}
 
 -- the error of a reference as one of a relative reference, where it is one: a fault of a scheme is none
 abbrev pub relative_error : URIReferenceError → Option RelativeReferenceError
@@ -20,9 +20,9 @@ relative_error (references.Fragment e) = Some (errors.Fragment e)
 relative_error (references.Scheme e) = None
 
 -- the error that a relative reference's caller gets
-abbrev pub told : URIReferenceError → RelativeReferenceError
-told e = unwrap_or (relative_error e) errors.NotRelativeReference
+abbrev pub map_error : URIReferenceError → RelativeReferenceError
+map_error e = unwrap_or (relative_error e) errors.NotRelativeReference
 
 -- the relative reference that a builder makes of these parts
 abbrev pub relative_built : Held → Result Parts RelativeReferenceError
-relative_built h = told_of told (built h)
+relative_built h = with_mapped_error map_error (built h)

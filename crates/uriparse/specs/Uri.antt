@@ -7,7 +7,7 @@ use Rattle.uriparse_reference.specs.Reference.{Parts}
 use Rattle.uriparse_reference.specs.Builder.{Held, built}
 use Rattle.uriparse.specs.declared.uri.error.URIError.{URIError}
 use Rattle.uriparse.specs.declared.uri.error.URIError.TheVariants as errors
-use Rattle.uriparse.specs.Kinds.{told_of, of_kind}
+use Rattle.uriparse.specs.Kinds.{with_mapped_error, of_kind}
 
 -- the error of a reference as one of a URI, where it is one: a path that only a scheme could precede is none
 abbrev pub uri_error : URIReferenceError → Option URIError
@@ -21,16 +21,16 @@ uri_error (references.Fragment e) = Some (errors.Fragment e)
 uri_error (references.Scheme e) = Some (errors.Scheme e)
 
 -- the error that a URI's caller gets: a reference without a scheme is not a URI
-abbrev pub told : URIReferenceError → URIError
-told e = unwrap_or (uri_error e) errors.NotURI
+abbrev pub map_error : URIReferenceError → URIError
+map_error e = unwrap_or (uri_error e) errors.NotURI
 
 -- the error that a builder's caller gets: the scheme is missing
-abbrev pub told_built : URIReferenceError → URIError
-told_built e = unwrap_or (uri_error e) errors.MissingScheme
+abbrev pub map_built_error : URIReferenceError → URIError
+map_built_error e = unwrap_or (uri_error e) errors.MissingScheme
 
 -- the URI that a builder makes of these parts: a path is needed first of all, and a scheme last
 abbrev pub uri_built : Held → Result Parts URIError
-uri_built h = told_of told_built (built h) >>= of_kind true errors.MissingScheme
+uri_built h = with_mapped_error map_built_error (built h) >>= of_kind true errors.MissingScheme
 
 -- without its fragment
 abbrev pub base : Parts → Parts

@@ -5,9 +5,9 @@ ghost use Rattle.uriparse_text.specs.Readings.{Settles, SettlesUnless};
 ghost use Rattle.uriparse_path.specs.Faults as paths;
 ghost use Rattle.uriparse_text.specs.declared.segment.error.PathError.TheVariants.{OutOfMemory};
 ghost use Rattle.uriparse_reference.specs.declared.uri_reference.error.URIReferenceError.TheVariants as errors;
-ghost use Rattle.uriparse.specs.Kinds.{HoldsKind, told_of};
+ghost use Rattle.uriparse.specs.Kinds.{HoldsKind, with_mapped_error};
 
-use crate::kind::{ReferenceKind, told};
+use crate::kind::{ReferenceKind, map_error};
 use std::alloc::Global;
 use std::fmt;
 use std::marker::{Model, PhantomData};
@@ -120,9 +120,9 @@ impl<'b, K: ReferenceKind> BuilderOf<'b, K> {
     /// Reads and sets the authority, or removes it. A faulty text is rejected with the kind's error
     /// `Authority`, and the builder is unchanged. Does not allocate.
     pub fn try_authority(&mut self, authority: Option<&'b [u8]>) -> Result<(), K::Error>
-        ensures { Settles self.old self.new result (told_of K.told (authority_read self.old (option_copied authority.entry))) }
+        ensures { Settles self.old self.new result (with_mapped_error K.map_error (authority_read self.old (option_copied authority.entry))) }
     {
-        told::<K, _>(self.builder.try_authority(authority))
+        map_error::<K, _>(self.builder.try_authority(authority))
     }
 
     /// Reads and sets the path. A faulty text is rejected with the kind's error `Path`, even if
@@ -130,26 +130,26 @@ impl<'b, K: ReferenceKind> BuilderOf<'b, K> {
     /// runs out, the error is the kind's `Path` of [`OutOfMemory`](uriparse_path::path::PathError::OutOfMemory). After an
     /// error the builder is unchanged.
     pub fn try_path(&mut self, alloc: Global, path: &'b [u8]) -> Result<(), K::Error>
-        ensures settles { SettlesUnless (K.told (errors.Path OutOfMemory)) self.old self.new result (told_of K.told (path_read self.old path.now)) }
-        ensures always { IsErr (paths.reading path.now) → Settles self.old self.new result (told_of K.told (path_read self.old path.now)) }
+        ensures settles { SettlesUnless (K.map_error (errors.Path OutOfMemory)) self.old self.new result (with_mapped_error K.map_error (path_read self.old path.now)) }
+        ensures always { IsErr (paths.reading path.now) → Settles self.old self.new result (with_mapped_error K.map_error (path_read self.old path.now)) }
     {
-        told::<K, _>(self.builder.try_path(alloc, path))
+        map_error::<K, _>(self.builder.try_path(alloc, path))
     }
 
     /// Reads and sets the query, or removes it. A faulty text is rejected with the kind's error
     /// `Query`, and the builder is unchanged. Does not allocate.
     pub fn try_query(&mut self, query: Option<&'b [u8]>) -> Result<(), K::Error>
-        ensures { Settles self.old self.new result (told_of K.told (query_read self.old (option_copied query.entry))) }
+        ensures { Settles self.old self.new result (with_mapped_error K.map_error (query_read self.old (option_copied query.entry))) }
     {
-        told::<K, _>(self.builder.try_query(query))
+        map_error::<K, _>(self.builder.try_query(query))
     }
 
     /// Reads and sets the fragment, or removes it. A faulty text is rejected with the kind's error
     /// `Fragment`, and the builder is unchanged. Does not allocate.
     pub fn try_fragment(&mut self, fragment: Option<&'b [u8]>) -> Result<(), K::Error>
-        ensures { Settles self.old self.new result (told_of K.told (fragment_read self.old (option_copied fragment.entry))) }
+        ensures { Settles self.old self.new result (with_mapped_error K.map_error (fragment_read self.old (option_copied fragment.entry))) }
     {
-        told::<K, _>(self.builder.try_fragment(fragment))
+        map_error::<K, _>(self.builder.try_fragment(fragment))
     }
 }
 

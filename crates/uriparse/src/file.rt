@@ -27,8 +27,8 @@ fn segments_text(alloc: Global, path: &[u8]) -> Result<Vec<u8>, AllocError>
     let mut text = Vec::new(alloc);
     let mut rest = Some(path);
     while let Some(left) = rest {
-        let (name, behind) = split_at_mark(left, b'/');
-        rest = without_mark(behind);
+        let (name, following) = split_at_mark(left, b'/');
+        rest = without_mark(following);
         let segment = Segment::encode(alloc, name)?;
         text.push(b'/')?;
         text.extend_from_slice(segment.as_bytes())?;

@@ -1,7 +1,7 @@
 //! The two kinds of references, those with a scheme and those without: RFC 3986, section 4.1.
 ghost use Rattle.std.specs.Prelude.{◌≡◌, Bool};
 ghost use Rattle.uriparse_reference.specs.declared.uri_reference.error.URIReferenceError.{URIReferenceError};
-ghost use Rattle.uriparse.specs.Kinds.{told_of};
+ghost use Rattle.uriparse.specs.Kinds.{with_mapped_error};
 
 use uriparse_reference::uri_reference::URIReferenceError;
 
@@ -12,7 +12,7 @@ pub trait ReferenceKind {
     ghost has_scheme: { Bool };
 
     // The error of a reference, mapped to the kind's.
-    ghost told: { URIReferenceError → Self.Error };
+    ghost map_error: { URIReferenceError → Self.Error };
 
     // The error of a reference of the other kind.
     ghost other: { Self.Error };
@@ -23,19 +23,21 @@ pub trait ReferenceKind {
     fn has_scheme() -> bool
         ensures { result ≡ has_scheme };
 
-    fn told(error: URIReferenceError) -> Self::Error
-        ensures { result ≡ told error };
+    fn map_error(error: URIReferenceError) -> Self::Error
+        ensures { result ≡ map_error error };
 
     fn other() -> Self::Error
         ensures { result ≡ other };
 }
 
 /// The result, its error mapped to the kind's.
-pub(crate) fn told<K: ReferenceKind, T>(answer: Result<T, URIReferenceError>) -> Result<T, K::Error>
-    ensures { result ≡ told_of K.told answer }
+pub(crate) fn map_error<K: ReferenceKind, T>(
+    answer: Result<T, URIReferenceError>,
+) -> Result<T, K::Error>
+    ensures { result ≡ with_mapped_error K.map_error answer }
 {
     match answer {
         Ok(value) => Ok(value),
-        Err(error) => Err(K::told(error)),
+        Err(error) => Err(K::map_error(error)),
     }
 }

@@ -9,7 +9,7 @@ ghost use Rattle.uriparse_reference.specs.Ports.{without_default_port};
 ghost use Rattle.uriparse_reference.specs.Reference.{Parts, Valid, print};
 ghost use Rattle.uriparse.specs.File.{file_uri, path_named, path_of_uri, uri_of_path};
 ghost use Rattle.uriparse.specs.declared.file.error.FileError.TheVariants as errors;
-ghost use Rattle.uriparse.specs.Kinds.{IsOfKind, told_of};
+ghost use Rattle.uriparse.specs.Kinds.{IsOfKind, with_mapped_error};
 ghost use Rattle.uriparse.specs.Origin.{are_alike, fed, have_same_origin, origin, printed_origin, share_origin, text};
 ghost use Rattle.uriparse.specs.declared.uri.origin.Origin.{Origin};
 ghost use Rattle.uriparse_authority.specs.Host as host;
@@ -19,14 +19,14 @@ ghost use Rattle.uriparse.specs.Uri as uri;
 
 /// The components of a URI build it again, passed to `from_parts` or held by a builder.
 pub fn one_uri()
-    ensures parts { (p : Parts) → Valid p → IsOfKind true p → told_of uri.told (of_parts p) ≡ Ok p }
+    ensures parts { (p : Parts) → Valid p → IsOfKind true p → with_mapped_error uri.map_error (of_parts p) ≡ Ok p }
     ensures built { (p : Parts) → Valid p → IsOfKind true p → uri.uri_built (held p) ≡ Ok p }
 {}
 
 /// The components of a relative reference build it again, passed to `from_parts` or held by a
 /// builder.
 pub fn one_relative_reference()
-    ensures parts { (p : Parts) → Valid p → IsOfKind false p → told_of relative.told (of_parts p) ≡ Ok p }
+    ensures parts { (p : Parts) → Valid p → IsOfKind false p → with_mapped_error relative.map_error (of_parts p) ≡ Ok p }
     ensures built { (p : Parts) → Valid p → IsOfKind false p → relative.relative_built (held p) ≡ Ok p }
 {}
 

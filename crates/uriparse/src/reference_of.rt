@@ -10,7 +10,7 @@ ghost use Rattle.uriparse_text.specs.declared.segment.error.PathError.TheVariant
 ghost use Rattle.uriparse_reference.specs.declared.uri_reference.error.URIReferenceError.TheVariants as errors;
 ghost use Rattle.uriparse_reference.specs.Key.{fed, fed_key, key};
 ghost use Rattle.uriparse_reference.specs.Reference.{print};
-ghost use Rattle.uriparse.specs.Kinds.{IsOfKind, fault_of, first_fault_of, of_kind, reading_of, told_of};
+ghost use Rattle.uriparse.specs.Kinds.{IsOfKind, fault_of, first_fault_of, of_kind, reading_of, with_mapped_error};
 
 use crate::builder_of::BuilderOf;
 use crate::kind::ReferenceKind;
@@ -65,15 +65,15 @@ impl<'r, K: ReferenceKind> ReferenceOf<'r, K> {
     }
 
     /// Wraps a reference that is known to be of this kind, or maps the error to the kind's.
-    pub(crate) fn told_checked(
+    pub(crate) fn map_error_of_checked(
         answer: Result<URIReference<'r>, URIReferenceError>,
     ) -> Result<ReferenceOf<'r, K>, K::Error>
         requires { IfOk answer (λ r. IsOfKind K.has_scheme r) }
-        ensures { result ≡ told_of K.told answer.entry }
+        ensures { result ≡ with_mapped_error K.map_error answer.entry }
     {
         match answer {
             Ok(reference) => Ok(ReferenceOf::of_checked(reference)),
-            Err(error) => Err(K::told(error)),
+            Err(error) => Err(K::map_error(error)),
         }
     }
 
@@ -94,13 +94,13 @@ impl<'r, K: ReferenceKind> ReferenceOf<'r, K> {
         ensures kind { IfOk result (λ u. IsOfKind K.has_scheme u) }
 
         // A text that spells a reference of the kind is accepted, unless memory runs out.
-        ensures only { (p : Parts) → Spells bytes.now p → IsOfKind K.has_scheme p → IsUnless (K.told (errors.Path OutOfMemory)) result (Ok p) }
+        ensures only { (p : Parts) → Spells bytes.now p → IsOfKind K.has_scheme p → IsUnless (K.map_error (errors.Path OutOfMemory)) result (Ok p) }
 
         // An error is the text's fault, or that it is of the other kind, or out of memory.
-        ensures fault { IfErr result (λ e. (fault_of K.has_scheme K.told K.other bytes.now ≡ Some e) ⊎ (e ≡ K.told (errors.Path OutOfMemory))) }
+        ensures fault { IfErr result (λ e. (fault_of K.has_scheme K.map_error K.other bytes.now ≡ Some e) ⊎ (e ≡ K.map_error (errors.Path OutOfMemory))) }
 
         // A fault, or that it is of the other kind, is returned even if memory has run out.
-        ensures always { (e : K.Error) → fault_of K.has_scheme K.told K.other bytes.now ≡ Some e → result ≡ Err e }
+        ensures always { (e : K.Error) → fault_of K.has_scheme K.map_error K.other bytes.now ≡ Some e → result ≡ Err e }
 
         // A path of one segment takes no memory.
         ensures takes_no_memory { (p : Parts) → Spells bytes.now p → IsOfKind K.has_scheme p → length p.path.segments ≡ 1 → result ≡ Ok p }
@@ -112,9 +112,9 @@ impl<'r, K: ReferenceKind> ReferenceOf<'r, K> {
     pub fn try_from_str(alloc: Global, text: &'r str) -> Result<ReferenceOf<'r, K>, K::Error>
         ensures found { IfOk result (λ u. Spells text.now u) }
         ensures kind { IfOk result (λ u. IsOfKind K.has_scheme u) }
-        ensures only { (p : Parts) → Spells text.now p → IsOfKind K.has_scheme p → IsUnless (K.told (errors.Path OutOfMemory)) result (Ok p) }
-        ensures fault { IfErr result (λ e. (fault_of K.has_scheme K.told K.other text.now ≡ Some e) ⊎ (e ≡ K.told (errors.Path OutOfMemory))) }
-        ensures always { (e : K.Error) → fault_of K.has_scheme K.told K.other text.now ≡ Some e → result ≡ Err e }
+        ensures only { (p : Parts) → Spells text.now p → IsOfKind K.has_scheme p → IsUnless (K.map_error (errors.Path OutOfMemory)) result (Ok p) }
+        ensures fault { IfErr result (λ e. (fault_of K.has_scheme K.map_error K.other text.now ≡ Some e) ⊎ (e ≡ K.map_error (errors.Path OutOfMemory))) }
+        ensures always { (e : K.Error) → fault_of K.has_scheme K.map_error K.other text.now ≡ Some e → result ≡ Err e }
         ensures takes_no_memory { (p : Parts) → Spells text.now p → IsOfKind K.has_scheme p → length p.path.segments ≡ 1 → result ≡ Ok p }
     {
         Self::read(alloc, text.as_bytes())
@@ -124,11 +124,11 @@ impl<'r, K: ReferenceKind> ReferenceOf<'r, K> {
     /// text's fault, mapped to the kind's error, or the error for a text of the other kind. Does
     /// not allocate, so it never runs out of memory.
     pub fn check(bytes: &[u8]) -> Result<(), K::Error>
-        ensures { result ≡ unless_fault (fault_of K.has_scheme K.told K.other bytes.now) tt }
+        ensures { result ≡ unless_fault (fault_of K.has_scheme K.map_error K.other bytes.now) tt }
     {
         match find_pieces(bytes) {
             Ok(pieces) => Self::check_kind(pieces.has_scheme()),
-            Err(error) => Err(K::told(error)),
+            Err(error) => Err(K::map_error(error)),
         }
     }
 
@@ -139,19 +139,19 @@ impl<'r, K: ReferenceKind> ReferenceOf<'r, K> {
     /// its error, with a place before the end of the text, or 0 if the text is empty. Does not
     /// allocate.
     pub fn first_fault(bytes: &[u8]) -> Option<(usize, K::Error)>
-        ensures fault { result ≡ first_fault_of K.has_scheme K.told K.other bytes.now }
-        ensures error { option_map (λ f. f.1) result ≡ fault_of K.has_scheme K.told K.other bytes.now }
+        ensures fault { result ≡ first_fault_of K.has_scheme K.map_error K.other bytes.now }
+        ensures error { option_map (λ f. f.1) result ≡ fault_of K.has_scheme K.map_error K.other bytes.now }
         ensures within { IfSome result (λ f. (f.0 < length bytes.now) ⊎ (bytes.now ≡ [])) }
     {
         match URIReference::first_fault(bytes) {
-            Some((place, error)) => Some((place, K::told(error))),
+            Some((offset, error)) => Some((offset, K::map_error(error))),
             None => Self::other_fault(bytes),
         }
     }
 
     /// What [`check`](ReferenceOf::check) says of a text, at its beginning.
     fn other_fault(bytes: &[u8]) -> Option<(usize, K::Error)>
-        ensures { result ≡ option_map (λ e. (0, e)) (fault_of K.has_scheme K.told K.other bytes.now) }
+        ensures { result ≡ option_map (λ e. (0, e)) (fault_of K.has_scheme K.map_error K.other bytes.now) }
     {
         match Self::check(bytes) {
             Ok(()) => None,
@@ -172,19 +172,19 @@ impl<'r, K: ReferenceKind> ReferenceOf<'r, K> {
 
     /// Finds the components of a text, checks the kind, and builds the value.
     fn read(alloc: Global, bytes: &'r [u8]) -> Result<ReferenceOf<'r, K>, K::Error>
-        ensures answer { IsUnless (K.told (errors.Path OutOfMemory)) result (reading_of K.has_scheme K.told K.other bytes.now) }
-        ensures always { (e : K.Error) → fault_of K.has_scheme K.told K.other bytes.now ≡ Some e → result ≡ Err e }
+        ensures answer { IsUnless (K.map_error (errors.Path OutOfMemory)) result (reading_of K.has_scheme K.map_error K.other bytes.now) }
+        ensures always { (e : K.Error) → fault_of K.has_scheme K.map_error K.other bytes.now ≡ Some e → result ≡ Err e }
         ensures takes_no_memory { (p : Parts) → Spells bytes.now p → IsOfKind K.has_scheme p → length p.path.segments ≡ 1 → result ≡ Ok p }
     {
         match ReferenceView::try_from_bytes(bytes) {
             Ok(view) => ReferenceOf::of_view(alloc, &view),
-            Err(error) => Err(K::told(error)),
+            Err(error) => Err(K::map_error(error)),
         }
     }
 
     /// The reference that a view found, if it is of this kind.
     fn of_view(alloc: Global, view: &ReferenceView<'r>) -> Result<ReferenceOf<'r, K>, K::Error>
-        ensures answer { IsUnless (K.told (errors.Path OutOfMemory)) result (of_kind K.has_scheme K.other view.now.parts) }
+        ensures answer { IsUnless (K.map_error (errors.Path OutOfMemory)) result (of_kind K.has_scheme K.other view.now.parts) }
         ensures other { beq (is_some view.now.parts.scheme) K.has_scheme ≡ false → result ≡ Err K.other }
         ensures takes_no_memory { length view.now.parts.path.segments ≡ 1 → result ≡ of_kind K.has_scheme K.other view.now.parts }
     {
@@ -193,7 +193,7 @@ impl<'r, K: ReferenceKind> ReferenceOf<'r, K> {
         }
         match view.to_reference(alloc) {
             Ok(reference) => Ok(ReferenceOf::of_checked(reference)),
-            Err(AllocError) => Err(K::told(URIReferenceError::Path(PathError::OutOfMemory))),
+            Err(AllocError) => Err(K::map_error(URIReferenceError::Path(PathError::OutOfMemory))),
         }
     }
 

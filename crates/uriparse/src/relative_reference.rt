@@ -2,7 +2,7 @@
 ghost use Rattle.std.specs.Prelude.{◌≡◌, IfOk, IsOk, None, length};
 ghost use Rattle.uriparse_reference.specs.Edits.{of_parts};
 ghost use Rattle.uriparse_reference.specs.Kinds as kinds;
-ghost use Rattle.uriparse.specs.Kinds.{told_of};
+ghost use Rattle.uriparse.specs.Kinds.{with_mapped_error};
 ghost use Rattle.uriparse.specs.RelativeReference as spec;
 
 use crate::builder_of::BuilderOf;
@@ -28,12 +28,12 @@ impl ReferenceKind for WithoutScheme {
     type Error = RelativeReferenceError;
 
     ghost use Rattle.std.specs.Prelude.{false};
-    ghost use Rattle.uriparse.specs.RelativeReference.{told};
+    ghost use Rattle.uriparse.specs.RelativeReference.{map_error};
     ghost use Rattle.uriparse.specs.declared.relative_reference.error.RelativeReferenceError.TheVariants.{NotRelativeReference};
 
     ghost has_scheme = { false };
 
-    ghost told = { told };
+    ghost map_error = { map_error };
 
     ghost other = { NotRelativeReference };
 
@@ -45,7 +45,7 @@ impl ReferenceKind for WithoutScheme {
         false
     }
 
-    fn told(error: URIReferenceError) -> RelativeReferenceError {
+    fn map_error(error: URIReferenceError) -> RelativeReferenceError {
         RelativeReferenceError::from(error)
     }
 
@@ -60,7 +60,7 @@ impl ReferenceKind for WithoutScheme {
 /// if their hosts, if present, are of one kind and the canonical spellings of their texts agree.
 /// Reading allocates only the list of the path's segments, if there is more than one; an owned copy and a normal form allocate
 /// texts too. A setter that fails changes nothing. [`RelativeReferenceError`] says what is
-/// rejected. The calls that it shares with URIs are those of [`ReferenceOf`].
+/// rejected. It shares with URIs the calls of [`ReferenceOf`].
 ///
 /// ```
 /// let reference = RelativeReference::try_from_str(alloc, "../a?q")?;
@@ -129,10 +129,10 @@ impl<'r> RelativeReference<'r> {
         query: Option<Query<'r>>,
         fragment: Option<Fragment<'r>>,
     ) -> Result<RelativeReference<'r>, RelativeReferenceError>
-        ensures { result ≡ told_of spec.told (of_parts (record { scheme = None; authority = authority.entry; path = path.entry; query = query.entry; fragment = fragment.entry })) }
+        ensures { result ≡ with_mapped_error spec.map_error (of_parts (record { scheme = None; authority = authority.entry; path = path.entry; query = query.entry; fragment = fragment.entry })) }
     {
         let answer = URIReference::from_parts(None, authority, path, query, fragment);
-        ReferenceOf::told_checked(answer)
+        ReferenceOf::map_error_of_checked(answer)
     }
 
     /// The authority, the path, the query and the fragment. Does not allocate.
@@ -188,7 +188,7 @@ impl<'b> RelativeReferenceBuilder<'b> {
     {
         match self.builder.build() {
             Ok(reference) => Ok(ReferenceOf::of_checked(reference)),
-            Err(error) => Err(WithoutScheme::told(error)),
+            Err(error) => Err(WithoutScheme::map_error(error)),
         }
     }
 }

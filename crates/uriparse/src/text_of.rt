@@ -74,18 +74,20 @@ impl<K: ReferenceKind> TextOf<K> {
         ensures kind { IfOk result (λ v. IsOfKind K.has_scheme v.parts) }
 
         // A text that spells a reference of the kind is accepted, unless memory runs out.
-        ensures only { (p : Parts) → Spells bytes.now p → IsOfKind K.has_scheme p → IsUnless (K.told (errors.Path OutOfMemory)) result (Ok (record { text = bytes.now; parts = p })) }
+        ensures only { (p : Parts) → Spells bytes.now p → IsOfKind K.has_scheme p → IsUnless (K.map_error (errors.Path OutOfMemory)) result (Ok (record { text = bytes.now; parts = p })) }
 
         // An error is the text's fault, or that it is of the other kind, or out of memory.
-        ensures fault { IfErr result (λ e. (fault_of K.has_scheme K.told K.other bytes.now ≡ Some e) ⊎ (e ≡ K.told (errors.Path OutOfMemory))) }
+        ensures fault { IfErr result (λ e. (fault_of K.has_scheme K.map_error K.other bytes.now ≡ Some e) ⊎ (e ≡ K.map_error (errors.Path OutOfMemory))) }
 
         // A fault, or that it is of the other kind, is returned even if memory has run out.
-        ensures always { (e : K.Error) → fault_of K.has_scheme K.told K.other bytes.now ≡ Some e → result ≡ Err e }
+        ensures always { (e : K.Error) → fault_of K.has_scheme K.map_error K.other bytes.now ≡ Some e → result ≡ Err e }
     {
         match ViewOf::<K>::try_from_bytes(bytes) {
             Ok(view) => match view.to_text(alloc) {
                 Ok(text) => Ok(text),
-                Err(AllocError) => Err(K::told(URIReferenceError::Path(PathError::OutOfMemory))),
+                Err(AllocError) => Err(K::map_error(URIReferenceError::Path(
+                    PathError::OutOfMemory,
+                ))),
             },
             Err(error) => Err(error),
         }
@@ -96,9 +98,9 @@ impl<K: ReferenceKind> TextOf<K> {
         ensures text { IfOk result (λ v. v.text ≡ text.now) }
         ensures found { IfOk result (λ v. Spells text.now v.parts) }
         ensures kind { IfOk result (λ v. IsOfKind K.has_scheme v.parts) }
-        ensures only { (p : Parts) → Spells text.now p → IsOfKind K.has_scheme p → IsUnless (K.told (errors.Path OutOfMemory)) result (Ok (record { text = text.now; parts = p })) }
-        ensures fault { IfErr result (λ e. (fault_of K.has_scheme K.told K.other text.now ≡ Some e) ⊎ (e ≡ K.told (errors.Path OutOfMemory))) }
-        ensures always { (e : K.Error) → fault_of K.has_scheme K.told K.other text.now ≡ Some e → result ≡ Err e }
+        ensures only { (p : Parts) → Spells text.now p → IsOfKind K.has_scheme p → IsUnless (K.map_error (errors.Path OutOfMemory)) result (Ok (record { text = text.now; parts = p })) }
+        ensures fault { IfErr result (λ e. (fault_of K.has_scheme K.map_error K.other text.now ≡ Some e) ⊎ (e ≡ K.map_error (errors.Path OutOfMemory))) }
+        ensures always { (e : K.Error) → fault_of K.has_scheme K.map_error K.other text.now ≡ Some e → result ≡ Err e }
     {
         TextOf::try_from_bytes(alloc, text.as_bytes())
     }
@@ -116,7 +118,7 @@ impl<K: ReferenceKind> TextOf<K> {
         ensures only { (p : Parts) → Spells (string_bytes text) p → IsOfKind K.has_scheme p → IsOk result }
 
         // Any other comes back with its fault, or because it is of the other kind.
-        ensures fault { IfErr result (λ r. (string_bytes r.text ≡ string_bytes text) × (fault_of K.has_scheme K.told K.other (string_bytes text) ≡ Some r.error)) }
+        ensures fault { IfErr result (λ r. (string_bytes r.text ≡ string_bytes text) × (fault_of K.has_scheme K.map_error K.other (string_bytes text) ≡ Some r.error)) }
     {
         match ReferenceText::try_from_string(text) {
             Ok(text) => Self::of(text),
@@ -124,7 +126,7 @@ impl<K: ReferenceKind> TextOf<K> {
                 let RejectedText { text, error } = rejected;
                 Err(RejectedText {
                     text,
-                    error: K::told(error),
+                    error: K::map_error(error),
                 })
             }
         }

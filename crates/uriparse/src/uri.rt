@@ -3,11 +3,11 @@ ghost use Rattle.std.specs.Prelude.{◌≡◌, true, Ok, Some, IfSome, is_none};
 ghost use Rattle.uriparse_text.specs.Readings.{Settles};
 ghost use Rattle.uriparse_reference.specs.Edits.{of_parts};
 ghost use Rattle.uriparse_reference.specs.Builder.{scheme_read};
-ghost use Rattle.uriparse.specs.Kinds.{told_of};
+ghost use Rattle.uriparse.specs.Kinds.{with_mapped_error};
 ghost use Rattle.uriparse.specs.Uri as spec;
 
 use crate::builder_of::BuilderOf;
-use crate::kind::{ReferenceKind, told};
+use crate::kind::{ReferenceKind, map_error};
 use crate::reference_of::ReferenceOf;
 use uriparse_authority::authority::Authority;
 use uriparse_path::path::Path;
@@ -35,12 +35,12 @@ impl ReferenceKind for WithScheme {
     type Error = URIError;
 
     ghost use Rattle.std.specs.Prelude.{true};
-    ghost use Rattle.uriparse.specs.Uri.{told};
+    ghost use Rattle.uriparse.specs.Uri.{map_error};
     ghost use Rattle.uriparse.specs.declared.uri.error.URIError.TheVariants.{NotURI};
 
     ghost has_scheme = { true };
 
-    ghost told = { told };
+    ghost map_error = { map_error };
 
     ghost other = { NotURI };
 
@@ -52,7 +52,7 @@ impl ReferenceKind for WithScheme {
         true
     }
 
-    fn told(error: URIReferenceError) -> URIError {
+    fn map_error(error: URIReferenceError) -> URIError {
         URIError::from(error)
     }
 
@@ -103,10 +103,10 @@ impl<'u> URI<'u> {
         query: Option<Query<'u>>,
         fragment: Option<Fragment<'u>>,
     ) -> Result<URI<'u>, URIError>
-        ensures { result ≡ told_of spec.told (of_parts (record { scheme = Some scheme.entry; authority = authority.entry; path = path.entry; query = query.entry; fragment = fragment.entry })) }
+        ensures { result ≡ with_mapped_error spec.map_error (of_parts (record { scheme = Some scheme.entry; authority = authority.entry; path = path.entry; query = query.entry; fragment = fragment.entry })) }
     {
         let answer = URIReference::from_parts(Some(scheme), authority, path, query, fragment);
-        ReferenceOf::told_checked(answer)
+        ReferenceOf::map_error_of_checked(answer)
     }
 
     /// The scheme, the authority, the path, the query and the fragment. Does not allocate.
@@ -159,7 +159,7 @@ impl<'u> URI<'u> {
         ensures answer { result ≡ Ok tt }
         ensures value { self.new ≡ record self.old { scheme = Some scheme.entry } }
     {
-        told::<WithScheme, _>(self.reference.set_scheme(Some(scheme)))
+        map_error::<WithScheme, _>(self.reference.set_scheme(Some(scheme)))
     }
 
     /// Sets the scheme to what the closure returns for it. Always succeeds. Does not allocate,
@@ -193,9 +193,9 @@ impl<'b> URIBuilder<'b> {
     /// Reads and sets the scheme. A faulty text is rejected with [`Scheme`](URIError::Scheme), and
     /// the builder is unchanged. Does not allocate.
     pub fn try_scheme(&mut self, scheme: &'b [u8]) -> Result<(), URIError>
-        ensures { Settles self.old self.new result (told_of spec.told (scheme_read self.old (Some scheme.now))) }
+        ensures { Settles self.old self.new result (with_mapped_error spec.map_error (scheme_read self.old (Some scheme.now))) }
     {
-        told::<WithScheme, _>(self.builder.try_scheme(Some(scheme)))
+        map_error::<WithScheme, _>(self.builder.try_scheme(Some(scheme)))
     }
 
     /// The URI of the components. Does not allocate.

@@ -74,11 +74,11 @@ impl<'t, K: ReferenceKind> ViewOf<'t, K> {
 
     /// Finds the components of the text, or why it is rejected.
     fn read(bytes: &'t [u8]) -> Result<ViewOf<'t, K>, K::Error>
-        ensures { result ≡ viewed_of K.has_scheme K.told K.other bytes.now }
+        ensures { result ≡ viewed_of K.has_scheme K.map_error K.other bytes.now }
     {
         match ReferenceView::try_from_bytes(bytes) {
             Ok(view) => ViewOf::of(view),
-            Err(error) => Err(K::told(error)),
+            Err(error) => Err(K::map_error(error)),
         }
     }
 
@@ -96,7 +96,7 @@ impl<'t, K: ReferenceKind> ViewOf<'t, K> {
         ensures only { (p : Parts) → Spells bytes.now p → IsOfKind K.has_scheme p → result ≡ Ok (record { text = bytes.now; parts = p }) }
 
         // Any other is rejected with its fault, or because it is of the other kind.
-        ensures fault { IfErr result (λ e. fault_of K.has_scheme K.told K.other bytes.now ≡ Some e) }
+        ensures fault { IfErr result (λ e. fault_of K.has_scheme K.map_error K.other bytes.now ≡ Some e) }
     {
         Self::read(bytes)
     }
@@ -107,7 +107,7 @@ impl<'t, K: ReferenceKind> ViewOf<'t, K> {
         ensures found { IfOk result (λ v. Spells text.now v.parts) }
         ensures kind { IfOk result (λ v. IsOfKind K.has_scheme v.parts) }
         ensures only { (p : Parts) → Spells text.now p → IsOfKind K.has_scheme p → result ≡ Ok (record { text = text.now; parts = p }) }
-        ensures fault { IfErr result (λ e. fault_of K.has_scheme K.told K.other text.now ≡ Some e) }
+        ensures fault { IfErr result (λ e. fault_of K.has_scheme K.map_error K.other text.now ≡ Some e) }
     {
         Self::read(text.as_bytes())
     }

@@ -6,7 +6,7 @@ use Rattle.std.specs.Ordering.{on}
 use Rattle.std.specs.Hash.{HashWrites, option, u16}
 use Rattle.uriparse_text.specs.Bytes.{slash, colon, question_mark, number_sign, at_sign, right_bracket}
 use Rattle.uriparse_text.specs.Canonical.{canonical, fed_text}
-use Rattle.uriparse_text.specs.Cuts.{behind, ahead, before, after, front, rest, up_to, from_first, from_last, up_to_last}
+use Rattle.uriparse_text.specs.Cuts.{following, ahead, before, after, front, rest, up_to, from_first, from_last, up_to_last}
 use Rattle.uriparse_text.specs.Readings.{◌>>=◌, of_piece, if_present, fault_in}
 use Rattle.uriparse_authority.specs.Username as username
 use Rattle.uriparse_authority.specs.Password as password
@@ -27,11 +27,11 @@ pub record AuthorityParts : Type 0 where
 
 -- userinfo = username [ ":" password ]
 abbrev pub userinfo : Option (List ℕ) → Option (List ℕ) → Option (List ℕ)
-userinfo username password = option_map (λ t. t ++ behind colon password) username
+userinfo username password = option_map (λ t. t ++ following colon password) username
 
 -- [ userinfo "@" ] host [ ":" port ]
 abbrev pub joined : Option (List ℕ) → Option (List ℕ) → List ℕ → Option (List ℕ) → List ℕ
-joined username password host port = ahead at_sign (userinfo username password) ++ (host ++ behind colon port)
+joined username password host port = ahead at_sign (userinfo username password) ++ (host ++ following colon port)
 
 -- a password stands only with a user name
 abbrev pub IsPaired : Option (List ℕ) → Option (List ℕ) → Type 0
@@ -211,12 +211,12 @@ abbrev pub with_port : AuthorityParts → Option ℕ → AuthorityParts
 with_port p n = record { username = p.username; password = p.password; host = p.host; port = n }
 
 -- a password stays only after a user name
-abbrev pub password_behind : Option (List ℕ) → Option (List ℕ) → Option (List ℕ)
-password_behind (Some u) w = w
-password_behind None w = None
+abbrev pub password_after : Option (List ℕ) → Option (List ℕ) → Option (List ℕ)
+password_after (Some u) w = w
+password_after None w = None
 
 abbrev pub with_username : AuthorityParts → Option (List ℕ) → AuthorityParts
-with_username p u = record { username = u; password = password_behind u p.password; host = p.host; port = p.port }
+with_username p u = record { username = u; password = password_after u p.password; host = p.host; port = p.port }
 
 abbrev pub with_password : AuthorityParts → Option (List ℕ) → AuthorityParts
 with_password p w = record { username = with_empty p.username w; password = w; host = p.host; port = p.port }

@@ -1,6 +1,6 @@
 -- An authority whose text is put at the end of a buffer.
-use Rattle.uriparse_text.specs.declared.internal.ends.Form.{Form}
-use Rattle.uriparse_text.specs.declared.internal.ends.Form.TheVariants.{AsIs, Canonical}
+use Rattle.uriparse_text.specs.declared.internal.backward_buffer.Form.{Form}
+use Rattle.uriparse_text.specs.declared.internal.backward_buffer.Form.TheVariants.{AsIs, Canonical}
 use Rattle.uriparse_authority.specs.declared.authority.host.Host.{Host}
 use Rattle.uriparse_authority.specs.Authority.{AuthorityParts}
 use Rattle.uriparse_authority.specs.Normal.{canonical_host, canonical_authority}

@@ -1,7 +1,7 @@
 -- What a reader found.
 use Rattle.std.specs.Prelude.{◌≡◌, ◌≤◌, ℕ, Bool, ◌==◌, List, Option, None, length, take, if◌then◌else◌}
 use Rattle.uriparse_text.specs.Canonical.{canonical_lowered}
-use Rattle.uriparse_text.specs.Spelling.{IsKept}
+use Rattle.uriparse_text.specs.Spelling.{IsValidText}
 use Rattle.uriparse_text.specs.declared.internal.class.Class.TheVariants as class
 use Rattle.uriparse_text.specs.declared.internal.canonical.Case.TheVariants as case
 use Rattle.uriparse_authority.specs.Authority.{AuthorityParts}
@@ -28,10 +28,10 @@ abbrev pub IsNameOf : ℕ → Bool → Host → Type 0
 IsNameOf len canonical (IPv4Address a) = ⊥
 IsNameOf len canonical (IPv6Address a) = ⊥
 IsNameOf len canonical (IPvFuture f) = ⊥
-IsNameOf len canonical (RegisteredName n) = (length n ≡ len) × IsKept class.Name case.Lowered canonical n
+IsNameOf len canonical (RegisteredName n) = (length n ≡ len) × IsValidText class.Name case.Lowered canonical n
 
 -- The authority of a text is a name, its first bytes, so many, and at most a port.
 pub record IsNamed (len : ℕ) (canonical : Bool) (text : List ℕ) (a : AuthorityParts) : Type 0 where
   pub within : len ≤ length text
   pub is_name : a ≡ record { username = None; password = None; host = RegisteredName (take len text); port = a.port }
-  pub is_kept : IsKept class.Name case.Lowered canonical (take len text)
+  pub is_valid_text : IsValidText class.Name case.Lowered canonical (take len text)

@@ -7,7 +7,7 @@ pub mod Host
 pub mod Authority
 pub mod KeyOrder
 pub mod Order
-pub mod Place
+pub mod Offset
 pub mod Normal
 pub mod Found
 pub mod Ends

@@ -20,7 +20,7 @@ ghost use Rattle.uriparse_authority.specs.Future as future;
 ghost use Rattle.uriparse_authority.specs.Host as host;
 ghost use Rattle.uriparse_authority.specs.Port as port;
 ghost use Rattle.uriparse_authority.specs.Normal.{canonical_host, canonical_authority};
-ghost use Rattle.uriparse_authority.specs.Place.{IsWrongByte, fault_place};
+ghost use Rattle.uriparse_authority.specs.Offset.{IsWrongByte, fault_offset};
 ghost use Rattle.uriparse_authority.specs.Authority.{AuthorityParts, Spells, Valid, ReadsBack, canonical_text, ends_authority, fault, fed, fed_key, host_text, joined, key, kind, password_text, port_text, print, reading, rest_error, username_text, whole_reading};
 
 /// Reading returns exactly what a text spells: a host, a name by itself, an address of a later
@@ -59,11 +59,11 @@ pub fn first_fault()
 /// the error may be: a byte that may not stand in its component, the bracket before an address of a
 /// wrong form, or the first digit of too large a port. For an error of the user name or the password
 /// it is a `%` exactly if the error is about a percent-encoding; for one of a host it may be one too.
-pub fn one_place_of_fault()
-    ensures byte { (a : List ℕ) (e : AuthorityError) → fault a ≡ Some e → IsSomeAnd (slice_get a (fault_place e a)) (IsWrongByte e) }
-    ensures username_escape { (a : List ℕ) (e : UsernameError) → fault a ≡ Some (errors.Username e) → (e ≡ username_errors.InvalidPercentEncoding) ↔ (slice_get a (fault_place (errors.Username e) a) ≡ Some percent) }
-    ensures password_escape { (a : List ℕ) (e : PasswordError) → fault a ≡ Some (errors.Password e) → (e ≡ password_errors.InvalidPercentEncoding) ↔ (slice_get a (fault_place (errors.Password e) a) ≡ Some percent) }
-    ensures within { (a : List ℕ) (e : AuthorityError) → fault a ≡ Some e → fault_place e a < length a }
+pub fn one_offset_of_fault()
+    ensures byte { (a : List ℕ) (e : AuthorityError) → fault a ≡ Some e → IsSomeAnd (slice_get a (fault_offset e a)) (IsWrongByte e) }
+    ensures username_escape { (a : List ℕ) (e : UsernameError) → fault a ≡ Some (errors.Username e) → (e ≡ username_errors.InvalidPercentEncoding) ↔ (slice_get a (fault_offset (errors.Username e) a) ≡ Some percent) }
+    ensures password_escape { (a : List ℕ) (e : PasswordError) → fault a ≡ Some (errors.Password e) → (e ≡ password_errors.InvalidPercentEncoding) ↔ (slice_get a (fault_offset (errors.Password e) a) ≡ Some percent) }
+    ensures within { (a : List ℕ) (e : AuthorityError) → fault a ≡ Some e → fault_offset e a < length a }
 {}
 
 /// Every text is the concatenation of its components. The user name has none of the delimiters that
@@ -154,10 +154,10 @@ pub fn examples()
     ensures first_at { fault (codes "a@b@c") ≡ Some (errors.Host host_errors.InvalidIPv4OrRegisteredNameCharacter) }
     ensures first_part { fault (codes "a b@h:99999") ≡ Some (errors.Username username_errors.InvalidCharacter) }
     ensures password_escape { fault (codes "u:%zz@h") ≡ Some (errors.Password password_errors.InvalidPercentEncoding) }
-    ensures behind_port { whole_reading (codes "h:80/x") ≡ Err (errors.Port InvalidCharacter) }
-    ensures behind_address { whole_reading (codes "[::1]/") ≡ Err (errors.Host host_errors.InvalidIPv6Character) }
-    ensures behind_later_version { whole_reading (codes "[v1.x]/") ≡ Err (errors.Host host_errors.InvalidIPvFutureCharacter) }
-    ensures behind_name { whole_reading (codes "h?") ≡ Err (errors.Host host_errors.InvalidIPv4OrRegisteredNameCharacter) }
+    ensures after_port { whole_reading (codes "h:80/x") ≡ Err (errors.Port InvalidCharacter) }
+    ensures after_address { whole_reading (codes "[::1]/") ≡ Err (errors.Host host_errors.InvalidIPv6Character) }
+    ensures after_later_version { whole_reading (codes "[v1.x]/") ≡ Err (errors.Host host_errors.InvalidIPvFutureCharacter) }
+    ensures after_name { whole_reading (codes "h?") ≡ Err (errors.Host host_errors.InvalidIPv4OrRegisteredNameCharacter) }
     ensures last_colon { reading (codes "u:p:w@[::1]:8") ≡ Ok (record { username = Some (codes "u"); password = Some (codes "p:w"); host = IPv6Address (0 ∷ 0 ∷ 0 ∷ 0 ∷ 0 ∷ 0 ∷ 0 ∷ 1 ∷ []); port = Some 8 }) }
 {}
 

@@ -16,13 +16,13 @@ ghost use Rattle.uriparse_reference.specs.Escaped.{escaped};
 ghost use Rattle.uriparse_reference.specs.Key.{key};
 ghost use Rattle.uriparse_reference.specs.declared.uri_reference.error.URIReferenceError.{URIReferenceError};
 ghost use Rattle.uriparse_reference.specs.Normal.{normal};
-ghost use Rattle.uriparse_reference.specs.Place.{first_fault};
+ghost use Rattle.uriparse_reference.specs.Offset.{first_fault};
 ghost use Rattle.uriparse_reference.specs.Reading.{fault};
 ghost use Rattle.uriparse_reference.specs.Reference.{Parts, Spells, print};
 ghost use Rattle.uriparse_reference.specs.Target.{target};
 ghost use Rattle.uriparse.specs.declared.uri.origin.Origin.{Origin};
 ghost use Rattle.uriparse.specs.Origin.{origin, text as origin_text};
-ghost use Rattle.uriparse.specs.Uri.{told};
+ghost use Rattle.uriparse.specs.Uri.{map_error};
 ghost use Rattle.uriparse_ffi.specs.Code as spec;
 ghost use Rattle.uriparse_ffi.specs.Components.{class_of};
 ghost use Rattle.uriparse_ffi.specs.Hash.{hash_of};
@@ -152,7 +152,7 @@ pub extern "C" fn uriparse_resolve(
 
     // A base without a scheme is rejected, and so is a faulty text, the base first.
     ensures relative { (b : Parts) → Spells base.now b → is_some b.scheme ≡ false → IsRefused (spec.base_code spec.no_scheme) out.old out.new needed.new result }
-    ensures base { (e : URIReferenceError) → fault base.now ≡ Some e → IsRefused (spec.base_code (spec.uri_code (told e))) out.old out.new needed.new result }
+    ensures base { (e : URIReferenceError) → fault base.now ≡ Some e → IsRefused (spec.base_code (spec.uri_code (map_error e))) out.old out.new needed.new result }
     ensures reference { (b : Parts) (e : URIReferenceError) → Spells base.now b → is_some b.scheme ≡ true → fault reference.now ≡ Some e → IsRefused (spec.code_of e) out.old out.new needed.new result }
 {
     write_target(base, reference, out, needed)
@@ -225,7 +225,7 @@ pub extern "C" fn uriparse_encode(
     write_encoded(component, bytes, out, needed)
 }
 
-/// Writes any text as that of a reference to the buffer, with escapes for the bytes that can't
+/// Writes any text as the text of a reference to the buffer, with escapes for the bytes that can't
 /// stand where they do. Does not allocate.
 #[unsafe(no_mangle)]
 pub extern "C" fn uriparse_escape(text: &[u8], out: &mut [u8], needed: &mut usize) -> u32

@@ -2,10 +2,10 @@
 use Rattle.std.specs.Prelude.{◌≡◌, ℕ, ◌+◌, List, length, Option, Some, None, unwrap_or}
 use Rattle.std.specs.Option.{option_map, option_and_then}
 use Rattle.uriparse_text.specs.Bytes.{colon, at_sign, question_mark}
-use Rattle.uriparse_text.specs.Cuts.{ahead, behind}
+use Rattle.uriparse_text.specs.Cuts.{ahead, following}
 use Rattle.uriparse_authority.specs.Authority.{AuthorityParts, userinfo_text, username_text, password_text, host_text, port_text, kind}
 use Rattle.uriparse_authority.specs.Host.{kind_code}
-use Rattle.uriparse_reference.specs.Reference.{behind_slashes}
+use Rattle.uriparse_reference.specs.Reference.{after_slashes}
 use Rattle.uriparse_ffi.specs.Spans.{span}
 use Rattle.uriparse_ffi.specs.declared.places.InAuthority.{InAuthority}
 use Rattle.uriparse_ffi.specs.declared.places.UriParts.{UriParts}
@@ -21,9 +21,9 @@ pub record AreInAuthority (at : ℕ) (a : Option (List ℕ)) (o : InAuthority) :
 pub record ArePlaces (s a : Option (List ℕ)) (h : List ℕ) (q f : Option (List ℕ)) (o : UriParts) : Type 0 where
   pub scheme : o.scheme ≡ span 0 s
   pub authority : o.authority ≡ span (length (ahead colon s) + 2) a
-  pub path : o.path ≡ span (length (ahead colon s) + length (behind_slashes a)) (Some h)
+  pub path : o.path ≡ span (length (ahead colon s) + length (after_slashes a)) (Some h)
   pub query : o.query ≡ span (o.path.end + 1) q
-  pub fragment : o.fragment ≡ span (o.path.end + length (behind question_mark q) + 1) f
+  pub fragment : o.fragment ≡ span (o.path.end + length (following question_mark q) + 1) f
   pub inner : AreInAuthority (length (ahead colon s) + 2) a (record { username = o.username; password = o.password; host = o.host; port = o.port })
 
 -- the number of a host's kind: 0 for none, 1 for a name, 4 and 6 for addresses, 7 for an address of a later version

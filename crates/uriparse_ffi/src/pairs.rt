@@ -4,7 +4,7 @@ ghost use Rattle.uriparse_text.specs.Pairs.{Pair, pair_of, pairs_left};
 ghost use Rattle.uriparse_text.specs.Starts.{most};
 ghost use Rattle.uriparse_ffi.specs.Pairs.{IsPairAt, left_from};
 
-use crate::span::{UriSpan, place, place_behind};
+use crate::span::{UriSpan, offset_after, place};
 use uriparse_text::internal::{split_at_mark, without_mark};
 
 /// Where a pair of a query is, and where the next one begins.
@@ -28,7 +28,7 @@ fn place_pair(at: usize, piece: &[u8]) -> UriPair
     let name = place(at, Some(name));
     UriPair {
         name,
-        value: place_behind(name.end, without_mark(rest)),
+        value: offset_after(name.end, without_mark(rest)),
         next: (at + piece.len()).saturating_add(1),
     }
 }

@@ -2,12 +2,12 @@
 ghost use Rattle.std.specs.Prelude.{◌≡◌, ℕ, ◌+◌, ◌<◌, ◌^◌, [], List, Option, Some, length, unwrap_or};
 ghost use Rattle.std.specs.Option.{option_copied};
 ghost use Rattle.uriparse_authority.specs.Authority as authority;
-ghost use Rattle.uriparse_reference.specs.Reference.{behind_slashes};
+ghost use Rattle.uriparse_reference.specs.Reference.{after_slashes};
 ghost use Rattle.uriparse_reference.specs.Cuts.{authority_text, fragment_text, if_some, path_text, query_text, scheme_text};
 ghost use Rattle.uriparse_ffi.specs.Places.{AreInAuthority, ArePlaces, host_number, port_number};
 ghost use Rattle.uriparse_ffi.specs.Spans.{span};
 
-use crate::span::{UriSpan, delimited_len, place, place_behind};
+use crate::span::{UriSpan, delimited_len, offset_after, place};
 use uriparse::{Fragment, Query};
 use uriparse_authority::internal::{FoundAuthority, split_port, split_userinfo};
 use uriparse_reference::internal::Pieces;
@@ -48,7 +48,7 @@ fn host_places(at: usize, text: &[u8]) -> (UriSpan, UriSpan)
 {
     let (host, port) = split_port(text);
     let host = place(at, Some(host));
-    (host, place_behind(host.end, port))
+    (host, offset_after(host.end, port))
 }
 
 /// The spans of a user name and a password, in user information that begins there.
@@ -62,7 +62,7 @@ fn user_places(at: usize, text: Option<&[u8]>) -> (UriSpan, UriSpan)
     };
     let (username, rest) = split_at_mark(text, b':');
     let username = place(at, Some(username));
-    (username, place_behind(username.end, without_mark(rest)))
+    (username, offset_after(username.end, without_mark(rest)))
 }
 
 /// The spans of the components of an authority that begins there.
@@ -103,7 +103,7 @@ fn places_in(at: usize, text: Option<&[u8]>) -> InAuthority
 /// The authority of a reference, in the text between its scheme and its path: two slashes precede
 /// it, if there is one.
 fn authority_in(text: &[u8]) -> Option<&[u8]>
-    ensures { (a : Option (List ℕ)) → text.now ≡ behind_slashes a → option_copied result ≡ a }
+    ensures { (a : Option (List ℕ)) → text.now ≡ after_slashes a → option_copied result ≡ a }
 {
     match text {
         [b'/', b'/', authority @ ..] => Some(authority),
@@ -202,8 +202,8 @@ fn spans(
             end: path_end,
             present: 1,
         },
-        query: place_behind(path_end, query),
-        fragment: place_behind(path_end + query_len, fragment),
+        query: offset_after(path_end, query),
+        fragment: offset_after(path_end + query_len, fragment),
         host_kind: 0,
         port_number: 0,
     }

@@ -2,7 +2,7 @@
 ghost use Rattle.std.specs.Prelude.{◌≡◌, ◌+◌, ◌<◌, ◌^◌, [], length, unwrap_or};
 ghost use Rattle.std.specs.Option.{option_copied};
 ghost use Rattle.uriparse_text.specs.Bytes.{colon};
-ghost use Rattle.uriparse_text.specs.Cuts.{behind};
+ghost use Rattle.uriparse_text.specs.Cuts.{following};
 ghost use Rattle.uriparse_ffi.specs.Spans.{span};
 
 /// Where a component begins and ends, in bytes; all zero if there is none.
@@ -37,8 +37,8 @@ pub fn place(begin: usize, component: Option<&[u8]>) -> UriSpan
 }
 
 /// The span of a component whose delimiter, of one byte, is at `at`, if it is present.
-pub fn place_behind(at: usize, component: Option<&[u8]>) -> UriSpan
-    requires { at + length (behind colon (option_copied component)) < 2 ^ 64 }
+pub fn offset_after(at: usize, component: Option<&[u8]>) -> UriSpan
+    requires { at + length (following colon (option_copied component)) < 2 ^ 64 }
     ensures { result ≡ span (at + 1) (option_copied component.entry) }
 {
     match component {
@@ -53,8 +53,8 @@ pub fn place_behind(at: usize, component: Option<&[u8]>) -> UriSpan
 
 /// The length of a component with its delimiter, of one byte, or 0 if there is none.
 pub fn delimited_len(component: Option<&[u8]>) -> usize
-    requires { length (behind colon (option_copied component)) < 2 ^ 64 }
-    ensures { result ≡ length (behind colon (option_copied component.entry)) }
+    requires { length (following colon (option_copied component)) < 2 ^ 64 }
+    ensures { result ≡ length (following colon (option_copied component.entry)) }
 {
     match component {
         Some(component) => component.len() + 1,

@@ -6,7 +6,7 @@ ghost use Rattle.uriparse_reference.specs.Normal.{normal};
 ghost use Rattle.uriparse_reference.specs.Reading.{fault};
 ghost use Rattle.uriparse_reference.specs.Reference.{Parts, Spells, print};
 ghost use Rattle.uriparse_reference.specs.Target.{target};
-ghost use Rattle.uriparse.specs.Uri.{told};
+ghost use Rattle.uriparse.specs.Uri.{map_error};
 ghost use Rattle.uriparse_ffi.specs.Code as spec;
 ghost use Rattle.uriparse_ffi.specs.Hash.{hash_of};
 ghost use Rattle.uriparse_ffi.specs.Put.{IsPut, IsRefused};
@@ -32,7 +32,7 @@ fn view_base(text: &[u8]) -> Result<ReferenceView<'_>, u32>
     ensures found { (p : Parts) → Spells text.now p → is_some p.scheme ≡ true → result ≡ Ok (record { text = text.now; parts = p }) }
     ensures kind { IfOk result (λ b. is_some b.parts.scheme ≡ true) }
     ensures relative { (p : Parts) → Spells text.now p → is_some p.scheme ≡ false → result ≡ Err (spec.base_code spec.no_scheme) }
-    ensures fault { (e : URIReferenceError) → fault text.now ≡ Some e → result ≡ Err (spec.base_code (spec.uri_code (told e))) }
+    ensures fault { (e : URIReferenceError) → fault text.now ≡ Some e → result ≡ Err (spec.base_code (spec.uri_code (map_error e))) }
 {
     match ReferenceView::try_from_bytes(text) {
         Ok(view) => {
@@ -83,7 +83,7 @@ pub fn write_target(base: &[u8], reference: &[u8], out: &mut [u8], needed: &mut 
     ensures written { (b r t : Parts) → Spells base.now b → is_some b.scheme ≡ true → Spells reference.now r → target b r ≡ Some t → IsPut (print t) out.old out.new needed.new result }
     ensures too_long { (b r : Parts) → Spells base.now b → is_some b.scheme ≡ true → Spells reference.now r → target b r ≡ None → IsRefused spec.too_many_segments out.old out.new needed.new result }
     ensures relative { (b : Parts) → Spells base.now b → is_some b.scheme ≡ false → IsRefused (spec.base_code spec.no_scheme) out.old out.new needed.new result }
-    ensures base { (e : URIReferenceError) → fault base.now ≡ Some e → IsRefused (spec.base_code (spec.uri_code (told e))) out.old out.new needed.new result }
+    ensures base { (e : URIReferenceError) → fault base.now ≡ Some e → IsRefused (spec.base_code (spec.uri_code (map_error e))) out.old out.new needed.new result }
     ensures reference { (b : Parts) (e : URIReferenceError) → Spells base.now b → is_some b.scheme ≡ true → fault reference.now ≡ Some e → IsRefused (spec.code_of e) out.old out.new needed.new result }
 {
     match view_base(base) {

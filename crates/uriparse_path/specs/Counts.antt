@@ -11,8 +11,8 @@ abbrev pub begins_with_dot : List ℕ → Bool
 begins_with_dot [] = false
 begins_with_dot (b ∷ s) = b == dot
 
-abbrev pub is_stray : List ℕ → Bool
-is_stray s = not (is_canonical s)
+abbrev pub is_non_canonical : List ℕ → Bool
+is_non_canonical s = not (is_canonical s)
 
 -- the "." segments, the ".." segments, the ".." segments before any other, and the segments that are not canonical
 unfoldable pub counts : List (List ℕ) → Counts
@@ -20,11 +20,11 @@ counts ss = record {
   single = count_by is_single_dot ss;
   double = count_by is_double_dot ss;
   leading = prefix_len is_double_dot ss;
-  strays = count_by is_stray ss;
+  non_canonical = count_by is_non_canonical ss;
 }
 
 -- from one segment to the maximum; the counts that are kept are those of the list, if they are known
-pub record IsKept {X : Type 0} (counts : List X → Counts) (segments : List X) (known : Bool) (kept : Counts) : Type 0 where
+pub record CountsAreRight {X : Type 0} (counts : List X → Counts) (segments : List X) (known : Bool) (kept : Counts) : Type 0 where
   pub some : 0 < length segments
   pub short : length segments ≤ max_segments
   pub right : known ≡ true → kept ≡ counts segments

@@ -38,7 +38,7 @@ pub data Step (i o j p : List ℕ) : Type 0 where
   -- B: "/./" begins the input, or "/." is all of it: this becomes "/"
   stays : (d rest : List ℕ) → is_single_dot d ≡ true → IsRest rest → i ≡ slash ∷ (d ++ rest) → j ≡ slashed rest → p ≡ o → Step i o j p
   -- C: "/../" begins the input, or "/.." is all of it: this becomes "/", and the output loses its last segment
-  climbs : (d rest : List ℕ) → is_double_dot d ≡ true → IsRest rest → i ≡ slash ∷ (d ++ rest) → j ≡ slashed rest → p ≡ without_last o → Step i o j p
+  double_dots : (d rest : List ℕ) → is_double_dot d ≡ true → IsRest rest → i ≡ slash ∷ (d ++ rest) → j ≡ slashed rest → p ≡ without_last o → Step i o j p
   -- D: "." or ".." is all of the input, and is removed
   ends : is_dot_segment i ≡ true → j ≡ [] → p ≡ o → Step i o j p
   -- E: otherwise the first segment moves to the output; here one that no slash precedes,

@@ -33,9 +33,9 @@ abbrev pub dotted : PathParts → PathParts
 dotted p = record p { segments = (dot ∷ []) ∷ p.segments }
 
 -- the path without an authority before it: a leading "." keeps its text from beginning with two slashes
-abbrev pub shield : PathParts → PathParts
-shield p = if has_two_slashes (text p) then dotted p else p
+abbrev pub with_dot_prefix : PathParts → PathParts
+with_dot_prefix p = if has_two_slashes (text p) then dotted p else p
 
 -- the same, unless an authority precedes the path
-abbrev pub shield_unless : Bool → PathParts → PathParts
-shield_unless has_authority p = if has_authority then p else shield p
+abbrev pub with_dot_prefix_unless : Bool → PathParts → PathParts
+with_dot_prefix_unless has_authority p = if has_authority then p else with_dot_prefix p

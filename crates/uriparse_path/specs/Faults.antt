@@ -46,8 +46,8 @@ fault t = fault_within max_segments (pieces t)
 -- A prefix without fault has as many segments as a path may have, and a slash follows it, which would start one more.
 pub record PassesLimit (t : List ℕ) : Type 0 where
   pub front : List ℕ
-  pub behind : List ℕ
-  pub whole : t ≡ front ++ slash ∷ behind
+  pub following : List ℕ
+  pub whole : t ≡ front ++ slash ∷ following
   pub none : fault front ≡ None
   pub full : length (pieces front) ≡ max_segments
 

@@ -8,12 +8,12 @@ use Rattle.uriparse_path.specs.Dots.{has_dot_segment, is_dot_segment}
 use Rattle.uriparse_path.specs.Relative.{is_first}
 
 -- a byte that a dot segment begins with
-abbrev pub is_head : ℕ → Bool
-is_head b = b == dot || b == percent || b == percent
+abbrev pub may_begin_dot_segment : ℕ → Bool
+may_begin_dot_segment b = b == dot || b == percent || b == percent
 
-abbrev pub begins_with_head : List ℕ → Bool
-begins_with_head [] = false
-begins_with_head (b ∷ t) = is_head b
+abbrev pub begins_with_dot_candidate : List ℕ → Bool
+begins_with_dot_candidate [] = false
+begins_with_dot_candidate (b ∷ t) = may_begin_dot_segment b
 
 -- a segment begins at this place
 abbrev pub begins_segment : ℕ → List ℕ → Bool
@@ -27,7 +27,7 @@ LacksDotsAfter at t = has_dot_segment (drop 1 (slice_split is_slash (drop at t))
 -- of this many places from one on, those that follow a slash and hold a byte that a dot segment begins with have a mark
 abbrev pub AreHeadMarks : List ℕ → ℕ → ℕ → ℕ → Type 0
 AreHeadMarks t at n marks =
-    (k : ℕ) → k < n → bit_at marks k ≡ (if is_slash (slice_index t (at - 1 + k)) && is_head (slice_index t (at + k)) then 1 else 0)
+    (k : ℕ) → k < n → bit_at marks k ≡ (if is_slash (slice_index t (at - 1 + k)) && may_begin_dot_segment (slice_index t (at + k)) then 1 else 0)
 
 -- the last dot segment begins at this place
 pub record IsLastDots (at : ℕ) (t : List ℕ) : Type 0 where
@@ -41,5 +41,5 @@ abbrev pub IsLast : Option ℕ → List ℕ → Type 0
 IsLast last t = MatchOption last (has_dot_segment (slice_split is_slash t) ≡ false) (λ at. IsLastDots at t)
 
 -- no segment that begins before this place begins like a dot segment
-abbrev pub LacksHeads : ℕ → List ℕ → Type 0
-LacksHeads n t = (at : ℕ) → at < n → (begins_segment at t && is_head (slice_index t at)) ≡ false
+abbrev pub HasNoDotCandidates : ℕ → List ℕ → Type 0
+HasNoDotCandidates n t = (at : ℕ) → at < n → (begins_segment at t && may_begin_dot_segment (slice_index t at)) ≡ false

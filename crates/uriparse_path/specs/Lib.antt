@@ -1,7 +1,7 @@
 pub mod Path
 pub mod Text
 pub mod Faults
-pub mod Place
+pub mod Offset
 pub mod Dots
 pub mod Relative
 pub mod Normal
@@ -13,5 +13,5 @@ pub mod Counts
 pub mod Copies
 pub mod List
 pub mod ListLends
-pub mod Left
+pub mod Remaining
 pub mod Last

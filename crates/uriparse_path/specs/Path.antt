@@ -62,13 +62,13 @@ abbrev pub spelled : List ℕ → PathParts
 spelled t = record { absolute = is_rooted t; segments = pieces t }
 
 -- the first segment is empty and others follow, so that their text begins with a slash
-abbrev pub hides_root : List (List ℕ) → Bool
-hides_root ([] ∷ _ ∷ _) = true
-hides_root _ = false
+abbrev pub starts_with_empty_segment : List (List ℕ) → Bool
+starts_with_empty_segment ([] ∷ _ ∷ _) = true
+starts_with_empty_segment _ = false
 
 -- a relative path whose first segment is empty and has others after it: its text still begins with a slash
 abbrev pub has_hidden_root : PathParts → Bool
-has_hidden_root p = not p.absolute && hides_root p.segments
+has_hidden_root p = not p.absolute && starts_with_empty_segment p.segments
 
 -- the path that the text of a path spells: the same one, except for a relative one whose text begins with a slash
 abbrev pub respelled : PathParts → PathParts

@@ -6,16 +6,16 @@ use Rattle.uriparse_path.specs.Dots.{all_but_last, has_dot_segment, is_double_do
 use Rattle.uriparse_path.specs.Relative.{is_first, has_colon}
 
 -- ".." for each of these directories
-abbrev pub climbs : List (List ℕ) → List (List ℕ)
-climbs ds = map (λ d. dot ∷ dot ∷ []) ds
+abbrev pub double_dots : List (List ℕ) → List (List ℕ)
+double_dots ds = map (λ d. dot ∷ dot ∷ []) ds
 
 -- What leads from these directories to these segments: without those that both start with, in the same spelling, ".." for each directory that is
 -- left, then the segments that are left. The last segment is not a directory.
 abbrev pub apart : List (List ℕ) → List (List ℕ) → List (List ℕ)
 apart [] ss = ss
-apart (d ∷ ds) [] = climbs (d ∷ ds)
-apart (d ∷ ds) (s ∷ []) = climbs (d ∷ ds) ++ s ∷ []
-apart (d ∷ ds) (s ∷ r ∷ ss) = if bytes_eq d s then apart ds (r ∷ ss) else climbs (d ∷ ds) ++ s ∷ r ∷ ss
+apart (d ∷ ds) [] = double_dots (d ∷ ds)
+apart (d ∷ ds) (s ∷ []) = double_dots (d ∷ ds) ++ s ∷ []
+apart (d ∷ ds) (s ∷ r ∷ ss) = if bytes_eq d s then apart ds (r ∷ ss) else double_dots (d ∷ ds) ++ s ∷ r ∷ ss
 
 -- a first segment that would be read as a slash, as no path or as a scheme: an empty one, or one with a colon
 abbrev pub is_taken : List ℕ → Bool
@@ -58,6 +58,6 @@ abbrev pub no_path : PathParts
 no_path = record { absolute = false; segments = [] ∷ [] }
 
 -- the number of ".." segments
-abbrev pub climbs_in : List (List ℕ) → ℕ
-climbs_in [] = 0
-climbs_in (s ∷ ss) = if is_double_dot s then climbs_in ss + 1 else climbs_in ss
+abbrev pub double_dots_in : List (List ℕ) → ℕ
+double_dots_in [] = 0
+double_dots_in (s ∷ ss) = if is_double_dot s then double_dots_in ss + 1 else double_dots_in ss

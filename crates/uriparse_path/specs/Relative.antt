@@ -3,7 +3,7 @@ use Rattle.std.specs.Prelude.{◌≡◌, ℕ, Bool, true, false, ◌==◌, ◌&&
 use Rattle.std.specs.List.{list_any}
 use Rattle.uriparse_text.specs.Bytes.{dot, colon}
 use Rattle.uriparse_text.specs.Canonical.{canonical}
-use Rattle.uriparse_path.specs.Path.{hides_root}
+use Rattle.uriparse_path.specs.Path.{starts_with_empty_segment}
 use Rattle.uriparse_path.specs.Dots.{is_single_dot, is_double_dot, is_dot_segment}
 
 -- ---- deletions, as a relation
@@ -47,12 +47,12 @@ abbrev pub has_colon : List ℕ → Bool
 has_colon s = list_any (λ b. b == colon) s
 
 -- a leading "." is needed: an empty segment with others after it comes first, or one with a colon if the old first one had none
-abbrev pub needs_guard : List (List ℕ) → List (List ℕ) → Bool
-needs_guard old new = hides_root new || (is_first has_colon new && not (is_first has_colon old))
+abbrev pub needs_leading_dot : List (List ℕ) → List (List ℕ) → Bool
+needs_leading_dot old new = starts_with_empty_segment new || (is_first has_colon new && not (is_first has_colon old))
 
 -- a leading ".", if one is needed
-abbrev pub guarded : List (List ℕ) → List (List ℕ) → List (List ℕ)
-guarded old new = if needs_guard old new then (dot ∷ []) ∷ new else new
+abbrev pub with_leading_dot : List (List ℕ) → List (List ℕ) → List (List ℕ)
+with_leading_dot old new = if needs_leading_dot old new then (dot ∷ []) ∷ new else new
 
 -- the empty path has one empty segment
 abbrev pub filled : List (List ℕ) → List (List ℕ)
@@ -61,7 +61,7 @@ filled (s ∷ ss) = s ∷ ss
 
 -- what is left of the old segments, with that end and that front
 abbrev pub ended : List (List ℕ) → List (List ℕ) → List (List ℕ)
-ended old new = filled (guarded old (closed (is_last is_dot_segment old) new))
+ended old new = filled (with_leading_dot old (closed (is_last is_dot_segment old) new))
 
 -- the same, each in canonical spelling
 abbrev pub finished : List (List ℕ) → List (List ℕ) → List (List ℕ)

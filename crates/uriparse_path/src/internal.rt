@@ -5,8 +5,8 @@ pub use crate::path::front::{
     has_two_slashes, into_absolute, lacks_colon_segment, most_path_bytes, respell,
 };
 pub use crate::path::merge::merged_path;
-pub use crate::path::normal::{Place, is_normal_path, normalize_path};
-pub use crate::path::place::place_of_path_fault;
+pub use crate::path::normal::{PathContext, is_normal_path, normalize_path};
+pub use crate::path::offset::offset_of_path_fault;
 pub use crate::path::read::{PathFront, counted_path, split_path};
 pub use crate::path::relate::{empty_path, is_same_path, leading_path};
 pub use crate::path::text::into::{put_merged, put_normal_path, put_undotted};

@@ -9,15 +9,15 @@ ghost use Rattle.uriparse_text.specs.Segment.{is_segment};
 ghost use Rattle.uriparse_path.specs.Path.{PathParts, IsListed, IsPath, max_segments, is_slash, is_rooted, pieces, text, spelled, respelled};
 ghost use Rattle.uriparse_path.specs.Faults.{PassesLimit, error_of, fault};
 ghost use Rattle.uriparse_text.specs.declared.segment.error.PathError.{PathError};
-ghost use Rattle.uriparse_path.specs.Place.{fault_place};
+ghost use Rattle.uriparse_path.specs.Offset.{fault_offset};
 ghost use Rattle.uriparse_path.specs.Dots.{has_dot_segment, Step, Undots, replay, rooted_after, replayed, undot, without_dots};
 ghost use Rattle.uriparse_path.specs.Relative.{is_first, has_colon, Leads, IsIrreducible, IsRelNormal, reduced, relative_normal};
 ghost use Rattle.uriparse_path.specs.Edits.{cleared, popped, pushed, pushing};
 ghost use Rattle.uriparse_text.specs.Segment as segment;
 ghost use Rattle.uriparse_text.specs.declared.segment.error.PathError.TheVariants as errors;
 ghost use Rattle.uriparse_path.specs.Merge.{merged};
-ghost use Rattle.uriparse_path.specs.Relate.{climbs_in, leading};
-ghost use Rattle.uriparse_path.specs.Normal.{canonical_path, pnormal, climbs_first, is_normal};
+ghost use Rattle.uriparse_path.specs.Relate.{double_dots_in, leading};
+ghost use Rattle.uriparse_path.specs.Normal.{canonical_path, pnormal, begins_with_double_dots, is_normal};
 
 use crate::path::MAX_SEGMENTS;
 
@@ -44,11 +44,11 @@ pub fn length_fault()
 /// A text's fault is that of the byte at its place: a slash there begins one segment too many. So the
 /// byte is a `%` exactly if the error is about a percent-encoding. What precedes the place has no
 /// fault, and the place precedes the end of the text.
-pub fn one_place_of_fault()
-    ensures byte { (t : List ℕ) → fault t ≡ option_map error_of (slice_get t (fault_place t)) }
-    ensures escape { (t : List ℕ) (e : PathError) → fault t ≡ Some e → (e ≡ errors.InvalidPercentEncoding) ↔ (slice_get t (fault_place t) ≡ Some percent) }
-    ensures before { (t : List ℕ) → fault (take (fault_place t) t) ≡ None }
-    ensures within { (t : List ℕ) (e : PathError) → fault t ≡ Some e → fault_place t < length t }
+pub fn one_offset_of_fault()
+    ensures byte { (t : List ℕ) → fault t ≡ option_map error_of (slice_get t (fault_offset t)) }
+    ensures escape { (t : List ℕ) (e : PathError) → fault t ≡ Some e → (e ≡ errors.InvalidPercentEncoding) ↔ (slice_get t (fault_offset t) ≡ Some percent) }
+    ensures before { (t : List ℕ) → fault (take (fault_offset t) t) ≡ None }
+    ensures within { (t : List ℕ) (e : PathError) → fault t ≡ Some e → fault_offset t < length t }
 {}
 
 /// Splitting at slashes and joining with slashes undo each other.
@@ -95,7 +95,7 @@ pub fn without_dot_segments()
 /// normal form.
 pub fn one_relative_normal_form()
     ensures list { (l m : List (List ℕ)) → (Leads m l × IsIrreducible m) ↔ (m ≡ reduced l) }
-    ensures irreducible { (l : List (List ℕ)) → IsIrreducible l ↔ (climbs_first l ≡ true) }
+    ensures irreducible { (l : List (List ℕ)) → IsIrreducible l ↔ (begins_with_double_dots l ≡ true) }
     ensures normal { (l n : List (List ℕ)) → IsRelNormal l n ↔ (n ≡ relative_normal l) }
 {}
 
@@ -143,15 +143,15 @@ pub fn examples_of_relative_normal_forms()
     ensures rooted_double { text (pnormal (spelled (codes "/..")) true) ≡ codes "/" }
     ensures one_up { text (pnormal (spelled (codes "a/..")) true) ≡ codes "" }
     ensures two_up { text (pnormal (spelled (codes "a/../..")) true) ≡ codes ".." }
-    ensures colon_behind_double { text (pnormal (spelled (codes "./../a:b")) true) ≡ codes "../a:b" }
+    ensures colon_after_double { text (pnormal (spelled (codes "./../a:b")) true) ≡ codes "../a:b" }
     ensures colon_in_front { text (pnormal (spelled (codes "a/.././a:b")) true) ≡ codes "./a:b" }
     ensures up_and_slash { text (pnormal (spelled (codes "../a/../")) true) ≡ codes "../" }
     ensures rooted_single_and_double { text (pnormal (spelled (codes "/a/b/./..")) true) ≡ codes "/a/" }
     ensures colon_guarded { text (pnormal (spelled (codes "x/../c:d")) true) ≡ codes "./c:d" }
     ensures empty_guarded { text (pnormal (spelled (codes ".//x")) true) ≡ codes ".//x" }
-    ensures slash_behind_dots { text (pnormal (spelled (codes "a/b/..")) true) ≡ codes "a/" }
-    ensures no_slash_behind_double { text (pnormal (spelled (codes "../a/../..")) true) ≡ codes "../.." }
-    ensures guard_is_no_colon { text (pnormal (spelled (codes "./a:b/../c:d")) true) ≡ codes "./c:d" }
+    ensures slash_after_dots { text (pnormal (spelled (codes "a/b/..")) true) ≡ codes "a/" }
+    ensures no_slash_after_double { text (pnormal (spelled (codes "../a/../..")) true) ≡ codes "../.." }
+    ensures leading_dot_is_no_colon { text (pnormal (spelled (codes "./a:b/../c:d")) true) ≡ codes "./c:d" }
     ensures escaped_single { text (pnormal (spelled (codes "%2e/c:d")) true) ≡ codes "./c:d" }
     ensures single_at_both_ends { text (pnormal (spelled (codes ".//.")) true) ≡ codes ".//" }
     ensures old_colon { text (pnormal (spelled (codes "c:d/.")) true) ≡ codes "c:d/" }
@@ -159,7 +159,7 @@ pub fn examples_of_relative_normal_forms()
     ensures spelled { text (pnormal (spelled (codes "this/is/a/t%65st/path/%ff")) true) ≡ codes "this/is/a/test/path/%FF" }
     ensures empty_and_double { text (pnormal (spelled (codes "a//..")) true) ≡ codes "a/" }
     ensures comes_to_begin_empty { text (pnormal (spelled (codes "x/..//y")) true) ≡ codes ".//y" }
-    ensures climbs { text (pnormal (spelled (codes "a/../../b")) true) ≡ codes "../b" }
+    ensures double_dots { text (pnormal (spelled (codes "a/../../b")) true) ≡ codes "../b" }
     ensures escaped_double { text (pnormal (spelled (codes "%2E%2e/a")) true) ≡ codes "../a" }
     ensures plain_kept { text (pnormal (spelled (codes "../.")) true) ≡ codes ".." }
 {}
@@ -173,7 +173,7 @@ pub fn examples_of_other_normal_forms()
     ensures rooted_double { text (pnormal (spelled (codes "/..")) false) ≡ codes "/" }
     ensures one_up { text (pnormal (spelled (codes "a/..")) false) ≡ codes "/" }
     ensures two_up { text (pnormal (spelled (codes "a/../..")) false) ≡ codes "/" }
-    ensures colon_behind_double { text (pnormal (spelled (codes "./../a:b")) false) ≡ codes "a:b" }
+    ensures colon_after_double { text (pnormal (spelled (codes "./../a:b")) false) ≡ codes "a:b" }
     ensures colon_in_front { text (pnormal (spelled (codes "a/.././a:b")) false) ≡ codes "/a:b" }
     ensures up_and_slash { text (pnormal (spelled (codes "../a/../")) false) ≡ codes "/" }
     ensures rooted_single_and_double { text (pnormal (spelled (codes "/a/b/./..")) false) ≡ codes "/a/" }
@@ -186,9 +186,9 @@ pub fn examples_of_other_normal_forms()
 /// Merging the relative path that leads from a base's path to another one with the base's path, and
 /// removing the dot segments, yields the other path's segments. No relative path leads there with
 /// fewer `..`.
-pub fn fewest_climbs()
+pub fn fewest_double_dots()
     ensures leads { (b t p : PathParts) → 0 < length t.segments → leading b t ≡ Some p → replay [] (merged b p).segments ≡ t.segments }
-    ensures fewest { (b t p q : PathParts) → leading b t ≡ Some p → 0 < length t.segments → 0 < length q.segments → replay [] (merged b q).segments ≡ t.segments → climbs_in p.segments ≤ climbs_in q.segments }
+    ensures fewest { (b t p q : PathParts) → leading b t ≡ Some p → 0 < length t.segments → 0 < length q.segments → replay [] (merged b q).segments ≡ t.segments → double_dots_in p.segments ≤ double_dots_in q.segments }
 {}
 
 /// Relative paths that lead from a base's path to another one, if there is one.

@@ -33,7 +33,7 @@ pub(crate) mod front;
 mod list;
 pub(crate) mod merge;
 pub(crate) mod normal;
-pub(crate) mod place;
+pub(crate) mod offset;
 pub(crate) mod read;
 mod reduce;
 pub(crate) mod relate;
@@ -46,7 +46,7 @@ use front::most_path_bytes;
 use list::SegmentList;
 use read::{count_segments, counted_path, split_root};
 use segment::each_is_segment;
-use segments::hides_root;
+use segments::starts_with_empty_segment;
 pub use text::Segments;
 
 /// The maximum number of segments of a path.
@@ -87,13 +87,13 @@ fn word_of(is_set: bool) -> u32
 
 impl<S: Dotted> Model for PathOf<S> {
     ghost use Rattle.uriparse_path.specs.Path.{PartsOf, flag};
-    ghost use Rattle.uriparse_path.specs.Counts.{IsKept};
+    ghost use Rattle.uriparse_path.specs.Counts.{CountsAreRight};
 
     ghost Value = { PartsOf S };
 
     ghost view = { λ p. record { absolute = flag p.absolute; segments = p.segments } };
 
-    ghost invariant = { λ p. IsKept S.counts p.segments (flag p.known) p.counts };
+    ghost invariant = { λ p. CountsAreRight S.counts p.segments (flag p.known) p.counts };
 }
 
 impl<'p> Path<'p> {
@@ -198,7 +198,7 @@ impl<'p> Path<'p> {
     fn is_rooted(&self) -> bool
         ensures { result ≡ is_rooted (text self.now) }
     {
-        self.is_absolute() || hides_root(self.segments())
+        self.is_absolute() || starts_with_empty_segment(self.segments())
     }
 
     /// A copy of the path's text. Allocates once.
@@ -215,7 +215,7 @@ impl<'p> Path<'p> {
     fn split_front(&self) -> (&str, &[Segment<'p>])
         ensures text { text self.now ≡ result.0.now ++ flat_map (λ s. slash ∷ s) result.1.now }
         ensures front { is_segment result.0.now ≡ true }
-        ensures behind { list_all is_segment result.1.now ≡ true }
+        ensures following { list_all is_segment result.1.now ≡ true }
     {
         let segments = self.segments();
         if self.is_absolute() {
@@ -232,9 +232,9 @@ impl<'p> Path<'p> {
     pub fn eq_bytes(&self, bytes: &[u8]) -> bool
         ensures { IsTrue result ↔ SpellsAlike case.Kept bytes.now (text self.now) }
     {
-        let (front, behind) = self.split_front();
+        let (front, following) = self.split_front();
         match strip_piece(bytes, front.as_bytes()) {
-            Some(rest) => spells_behind_slashes(rest, behind),
+            Some(rest) => spells_after_slashes(rest, following),
             None => false,
         }
     }
@@ -253,10 +253,10 @@ impl<'p> PartialEq for Path<'p> {
     ghost laws = { Prim.search (comparing, rules) };
 
     fn eq(&self, other: &Path<'p>) -> bool {
-        let (front, behind) = self.split_front();
-        let (other_front, other_behind) = other.split_front();
+        let (front, following) = self.split_front();
+        let (other_front, other_after) = other.split_front();
         same_spelling(Case::Kept, front.as_bytes(), other_front.as_bytes())
-            && behind == other_behind
+            && following == other_after
     }
 }
 
@@ -270,9 +270,9 @@ impl<'p> Hash for Path<'p> {
     ghost respects_eq = { Prim.search (hashing, rules) };
 
     fn hash<H: Hasher>(&self, state: &mut H) {
-        let (front, behind) = self.split_front();
+        let (front, following) = self.split_front();
         feed_piece(front.as_bytes(), state);
-        feed_pieces(behind, state);
+        feed_pieces(following, state);
         state.write_u8(0xff);
     }
 }
@@ -299,17 +299,17 @@ fn strip_piece<'t>(text: &'t [u8], segment: &[u8]) -> Option<&'t [u8]>
 }
 
 /// Whether the text spells these segments, each after a slash. Cuts the text at its slashes.
-fn spells_behind_slashes(text: &[u8], segments: &[Segment<'_>]) -> bool
+fn spells_after_slashes(text: &[u8], segments: &[Segment<'_>]) -> bool
     requires { list_all is_segment segments.now ≡ true }
     ensures { IsTrue result ↔ SpellsAlike case.Kept text.now (flat_map (λ s. slash ∷ s) segments.now) }
 {
     let mut rest = text;
     for segment in segments {
-        let (rooted, behind) = split_root(rest);
+        let (rooted, following) = split_root(rest);
         if !rooted {
             return false;
         }
-        match strip_piece(behind, segment.as_bytes()) {
+        match strip_piece(following, segment.as_bytes()) {
             Some(later) => rest = later,
             None => return false,
         }
@@ -337,7 +337,7 @@ fn feed_pieces<H: Hasher>(segments: &[Segment<'_>], state: &mut H)
 }
 
 /// Writes each segment after a slash.
-fn write_behind_slashes<W: fmt::Write>(
+fn write_after_slashes<W: fmt::Write>(
     segments: &[Segment<'_>],
     f: &mut fmt::Formatter<W>,
 ) -> fmt::Result
@@ -358,9 +358,9 @@ impl<'p> fmt::Display for Path<'p> {
     ghost styled_output = { λ p _. Some (text p) };
 
     fn fmt<W: fmt::Write>(&self, f: &mut fmt::Formatter<W>) -> fmt::Result {
-        let (front, behind) = self.split_front();
+        let (front, following) = self.split_front();
         f.write_str(front)?;
-        write_behind_slashes(behind, f)
+        write_after_slashes(following, f)
     }
 }
 

@@ -63,8 +63,8 @@ abbrev pub IsRefused : Parts → Edit → URIReferenceError → Type 0
 IsRefused p e x = (edited p e ≡ Err x) ⊎ WantsMemory p e x
 
 -- The error is that memory ran out.
-abbrev pub IsWant : Option URIReferenceError → Type 0
-IsWant o = o ≡ Some (errors.Path OutOfMemory)
+abbrev pub IsOutOfMemory : Option URIReferenceError → Type 0
+IsOutOfMemory o = o ≡ Some (errors.Path OutOfMemory)
 
 -- From these components the first n edits of the list are accepted, one after another, and yield the components q. They are all the edits, or
 -- the next one fails.

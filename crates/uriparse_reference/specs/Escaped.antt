@@ -3,7 +3,7 @@ use Rattle.std.specs.Prelude.{ℕ, List, [], ◌++◌, Option, is_some, codes, l
 use Rattle.std.specs.Option.{option_map, option_and_then, option_or}
 use Rattle.uriparse_text.specs.declared.internal.class.Class.TheVariants.{UserInfo, Segment, Query}
 use Rattle.uriparse_text.specs.Bytes.{number_sign}
-use Rattle.uriparse_text.specs.Cuts.{after, before, behind}
+use Rattle.uriparse_text.specs.Cuts.{after, before, following}
 use Rattle.uriparse_text.specs.Coding.{escaped_in}
 use Rattle.uriparse_path.specs.Path.{max_segments, pieces}
 use Rattle.uriparse_path.specs.Faults.{length_fault}
@@ -21,7 +21,7 @@ escaped_authority a = escaped_in UserInfo (codes "@[]") a
 abbrev pub escaped_path : List ℕ → List ℕ
 escaped_path h = escaped_in Segment (codes "/") h
 
--- that of a query or a fragment
+-- the text of a query or a fragment
 abbrev pub escaped_component : List ℕ → List ℕ
 escaped_component c = escaped_in Query [] c
 
@@ -34,7 +34,7 @@ escaped t =
 -- What follows the authority, escaped: the path and the query are escaped as one, since a `?` may stand in a query. A word of private functions'
 -- clauses alone.
 abbrev pub escaped_end : List ℕ → List ℕ
-escaped_end u = escaped_component (before number_sign u) ++ behind number_sign (option_map escaped_component (after number_sign u))
+escaped_end u = escaped_component (before number_sign u) ++ following number_sign (option_map escaped_component (after number_sign u))
 
 -- The fault of the text after that: the authority's, too many segments, or the colon rule.
 abbrev pub fault_left : List ℕ → Option URIReferenceError

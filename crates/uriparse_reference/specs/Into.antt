@@ -1,9 +1,9 @@
 -- The text of a reference in a buffer of the caller: RFC 3986, sections 5.2.2, 5.3 and 6.2.2.
 use Rattle.std.specs.Prelude.{ℕ, List, [], ◌++◌, Option, Some, None, Result}
-use Rattle.uriparse_text.specs.declared.internal.ends.Form.{Form}
-use Rattle.uriparse_text.specs.declared.internal.ends.Form.TheVariants.{AsIs, Canonical}
+use Rattle.uriparse_text.specs.declared.internal.backward_buffer.Form.{Form}
+use Rattle.uriparse_text.specs.declared.internal.backward_buffer.Form.TheVariants.{AsIs, Canonical}
 use Rattle.uriparse_text.specs.Bytes.{question_mark, number_sign}
-use Rattle.uriparse_text.specs.Cuts.{behind}
+use Rattle.uriparse_text.specs.Cuts.{following}
 use Rattle.uriparse_text.specs.Starts.{WritesOr}
 use Rattle.uriparse_path.specs.Path as path
 use Rattle.uriparse_scheme.specs.declared.scheme.Scheme.{Scheme}
@@ -25,7 +25,7 @@ formed_scheme Canonical s = canonical_scheme s
 
 -- path [ "?" query ] [ "#" fragment ]
 abbrev pub tail_text : path.PathParts → Option (List ℕ) → Option (List ℕ) → List ℕ
-tail_text p query fragment = path.text p ++ (behind question_mark query ++ behind number_sign fragment)
+tail_text p query fragment = path.text p ++ (following question_mark query ++ following number_sign fragment)
 
 -- that of a target, if there is one, and its text
 abbrev pub tail_if : Option Parts → List ℕ

@@ -52,11 +52,11 @@ ends_alike p q =
     && option_eq (on canonical bytes_eq) p.query q.query)
 
 -- whether the authorities and paths are equal in canonical spelling, and the hosts are of one kind
-abbrev pub middle_alike : Parts → Parts → Bool
-middle_alike p q =
+abbrev pub authority_and_path_alike : Parts → Parts → Bool
+authority_and_path_alike p q =
     option_eq (on authority.key bytes_eq) p.authority q.authority
     && bytes_eq (canonical (path.text p.path)) (canonical (path.text q.path))
 
 -- whether all components are equal in canonical spelling, and the hosts are of one kind
 abbrev pub each_alike : Parts → Parts → Bool
-each_alike p q = ends_alike p q && middle_alike p q
+each_alike p q = ends_alike p q && authority_and_path_alike p q

@@ -5,7 +5,7 @@ pub mod Edits
 pub mod Builder
 pub mod Key
 pub mod Reading
-pub mod Place
+pub mod Offset
 pub mod Order
 pub mod View
 pub mod OwnedText

@@ -1,7 +1,7 @@
 -- A reference in a text that is owned, and where its components lie there.
 use Rattle.std.specs.Prelude.{◌≡◌, ◌≤◌, ◌==◌, ◌+◌, ℕ, Bool, true, false, List, [], Option, Some, None, Result, Ok, Err, IfSome, take, drop, length, if◌then◌else◌}
 use Rattle.uriparse_text.specs.Found.{if_there}
-use Rattle.uriparse_text.specs.Spelling.{IsKept}
+use Rattle.uriparse_text.specs.Spelling.{IsValidText}
 use Rattle.uriparse_text.specs.declared.internal.class.Class.TheVariants as class
 use Rattle.uriparse_text.specs.declared.internal.canonical.Case.TheVariants as case
 use Rattle.uriparse_authority.specs.Authority as authority
@@ -60,8 +60,8 @@ pub record AreCuts (t : List ℕ) (c : Cuts) : Type 0 where
   pub is_found : AreFound t (take c.scheme (front_at c t)) c.known authority (path_at c t) c.count c.escaped (if_there c.has_query (drop 1 (query_at c t)))
       (if_there c.has_fragment (drop 1 (tail_at c t)))
   pub is_front : IsFront c.front c.name c.port (drop (gap c.scheme) (drop c.scheme (front_at c t))) authority
-  pub is_query : IsKept class.Query case.Kept (c.has_query == 2) (drop 1 (query_at c t))
-  pub is_fragment : IsKept class.Query case.Kept (c.has_fragment == 2) (drop 1 (tail_at c t))
+  pub is_query : IsValidText class.Query case.Kept (c.has_query == 2) (drop 1 (query_at c t))
+  pub is_fragment : IsValidText class.Query case.Kept (c.has_fragment == 2) (drop 1 (tail_at c t))
   pub fragment_within : c.fragment ≤ length t
   pub query_within : c.query ≤ c.fragment
   pub path_within : c.path ≤ c.query

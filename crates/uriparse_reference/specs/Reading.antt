@@ -46,8 +46,8 @@ abbrev pub IsAnswer : List ℕ → Result Parts URIReferenceError → Type 0
 IsAnswer t answer = IsUnlessMemory answer (reading t)
 
 -- reading a query and a fragment
-abbrev pub behind_reading : Option (List ℕ) → Option (List ℕ) → Result (Option (List ℕ) × Option (List ℕ)) URIReferenceError
-behind_reading q f = do
+abbrev pub after_reading : Option (List ℕ) → Option (List ℕ) → Result (Option (List ℕ) × Option (List ℕ)) URIReferenceError
+after_reading q f = do
   query ← of_piece errors.Query (if_present query.reading q)
   fragment ← of_piece errors.Fragment (if_present fragment.reading f)
   Ok (query, fragment)

@@ -3,7 +3,7 @@ use Rattle.std.specs.Prelude.{◌≡◌, ℕ, Bool, true, false, ◌||◌, if◌
 use Rattle.std.specs.Option.{option_map, option_and_then, IsSomeAnd}
 use Rattle.uriparse_text.specs.Bytes.{slash, colon, question_mark, number_sign}
 use Rattle.uriparse_text.specs.Canonical.{canonical}
-use Rattle.uriparse_text.specs.Cuts.{lacks, behind, ahead, up_to}
+use Rattle.uriparse_text.specs.Cuts.{lacks, following, ahead, up_to}
 use Rattle.uriparse_text.specs.Readings.{IfPresent}
 use Rattle.uriparse_text.specs.Query.{IsQuery}
 use Rattle.uriparse_text.specs.Fragment.{IsFragment}
@@ -39,14 +39,14 @@ abbrev pub port_of : Parts → Option ℕ
 port_of p = option_and_then (λ (a : authority.AuthorityParts). a.port) p.authority
 
 -- [ "//" authority ]
-abbrev pub behind_slashes : Option (List ℕ) → List ℕ
-behind_slashes None = []
-behind_slashes (Some a) = slash ∷ slash ∷ a
+abbrev pub after_slashes : Option (List ℕ) → List ℕ
+after_slashes None = []
+after_slashes (Some a) = slash ∷ slash ∷ a
 
 -- [ scheme ":" ] [ "//" authority ] path [ "?" query ] [ "#" fragment ]
 abbrev pub joined : Option (List ℕ) → Option (List ℕ) → List ℕ → Option (List ℕ) → Option (List ℕ) → List ℕ
 joined scheme authority path query fragment =
-    ahead colon scheme ++ (behind_slashes authority ++ (path ++ (behind question_mark query ++ behind number_sign fragment)))
+    ahead colon scheme ++ (after_slashes authority ++ (path ++ (following question_mark query ++ following number_sign fragment)))
 
 -- path-abempty: the text is empty or begins with a slash
 abbrev pub is_abempty : List ℕ → Bool

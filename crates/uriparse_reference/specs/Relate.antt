@@ -12,8 +12,8 @@ abbrev pub without_scheme : Parts → Parts
 without_scheme t = record t { scheme = None }
 
 -- this path with the same query and fragment, without a scheme and an authority
-abbrev pub behind_path : Parts → PathParts → Parts
-behind_path t p = record { scheme = None; authority = None; path = p; query = t.query; fragment = t.fragment }
+abbrev pub following_path : Parts → PathParts → Parts
+following_path t p = record { scheme = None; authority = None; path = p; query = t.query; fragment = t.fragment }
 
 -- the fragment alone
 abbrev pub fragment_alone : Parts → Parts
@@ -47,7 +47,7 @@ pub record LeavesOut (b t r : Parts) : Type 0 where
   -- the scheme, if both have an equal scheme and the target has an authority, or neither has an authority and the target's path is absolute
   pub scheme : b.scheme ≡ t.scheme → (IsSome t.authority ⊎ ((b.authority ≡ None) × (t.path.absolute ≡ true))) → r.scheme ≡ None
   -- the scheme and the authority, and the part of the path that the path leading there omits
-  pub path : AreInOne b t → (IsInPlace b t → ⊥) → (p : PathParts) → inner b.path t.path ≡ Some p → r ≡ behind_path t p
+  pub path : AreInOne b t → (IsInPlace b t → ⊥) → (p : PathParts) → inner b.path t.path ≡ Some p → r ≡ following_path t p
   -- all but the query and the fragment, if no path is needed
   pub query : AreInOne b t → IsInPlace b t → r ≡ record { scheme = None; authority = None; path = no_path; query = r.query; fragment = t.fragment }
   -- all but the fragment, if the queries are equal too

@@ -8,7 +8,7 @@ use Rattle.uriparse_path.specs.Relative.{is_last}
 use Rattle.uriparse_authority.specs.Authority as authority
 use Rattle.uriparse_scheme.specs.declared.scheme.Scheme.{Scheme}
 use Rattle.uriparse_reference.specs.Reference.{Parts, Same}
-use Rattle.uriparse_reference.specs.Normal.{shielded, normal}
+use Rattle.uriparse_reference.specs.Normal.{dot_prefixed, normal}
 
 -- the text up to and including its last slash; empty if it has none
 abbrev pub through_last_slash : List ℕ → List ℕ
@@ -33,7 +33,7 @@ abbrev pub target_of : Option Scheme → Option authority.AuthorityParts → Pat
 target_of scheme authority path query fragment = record {
   scheme = scheme;
   authority = authority;
-  path = shielded authority path;
+  path = dot_prefixed authority path;
   query = query;
   fragment = fragment;
 }

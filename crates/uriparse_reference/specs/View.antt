@@ -39,5 +39,5 @@ pub record AreFound (t scheme : List ℕ) (known : Option RegisteredScheme) (a :
   pub is_path : IsPath path
   pub is_cut : path ≡ path_text t
   pub is_counted : count ≡ length (pieces path)
-  pub is_plain : escaped ≡ 0 → lacks percent path ≡ true
+  pub has_no_escape : escaped ≡ 0 → lacks percent path ≡ true
   pub is_read : reading t ≡ Ok (parts_of t a path q f)

@@ -24,7 +24,7 @@ ghost use Rattle.uriparse_text.specs.declared.segment.error.PathError.TheVariant
 ghost use Rattle.uriparse_reference.specs.Reference.{Parts, Spells, Valid, ReadsBack, HidesAddress, OneHidesAddress, Same, joined, print, kind};
 ghost use Rattle.uriparse_reference.specs.Cuts.{scheme_text, authority_text, path_text, query_text, fragment_text};
 ghost use Rattle.uriparse_reference.specs.Escaped.{escaped, escaped_authority, escaped_component, escaped_path, fault_left};
-ghost use Rattle.uriparse_reference.specs.Edits.{IsWant, Run, edited, of_parts, replaced};
+ghost use Rattle.uriparse_reference.specs.Edits.{IsOutOfMemory, Run, edited, of_parts, replaced};
 ghost use Rattle.uriparse_reference.specs.Ports.{port_or_default, without_default_port};
 ghost use Rattle.uriparse_reference.specs.Builder.{built, held};
 ghost use Rattle.uriparse_reference.specs.Examples.{are_equal, compared, hold, is_normalised, lengthened, normal_form_rows, normalised, normalised_first, normal_rows, portless, relative_form_rows, abnormal_rows, resolved, resolved_first, rfc_base, shown, used_port};
@@ -34,8 +34,8 @@ ghost use Rattle.uriparse_reference.specs.declared.uri_reference.edit.Edit.{Edit
 ghost use Rattle.uriparse_reference.specs.declared.uri_reference.error.URIReferenceError.{URIReferenceError};
 ghost use Rattle.uriparse_reference.specs.declared.uri_reference.error.URIReferenceError.TheVariants as errors;
 ghost use Rattle.uriparse_reference.specs.Reading.{reading, fault};
-ghost use Rattle.uriparse_reference.specs.Place.{IsWrongByte, fault_place, first_fault};
-ghost use Rattle.uriparse_path.specs.Place.{place_within};
+ghost use Rattle.uriparse_reference.specs.Offset.{IsWrongByte, fault_offset, first_fault};
+ghost use Rattle.uriparse_path.specs.Offset.{offset_within};
 ghost use Rattle.uriparse_text.specs.declared.segment.error.PathError.TheVariants as path_errors;
 ghost use Rattle.uriparse_text.specs.declared.query.QueryError.TheVariants as query_errors;
 ghost use Rattle.uriparse_text.specs.declared.fragment.FragmentError.TheVariants as fragment_errors;
@@ -90,14 +90,14 @@ pub fn faults_of_reading()
 /// error may be, as the laws of the components say of theirs. For an error of a user name, a password,
 /// a path, a query or a fragment it is a `%` exactly if the error is about a percent-encoding; for one
 /// of a host, or of a path that needs a scheme before it, it may be one too.
-pub fn one_place_of_fault()
-    ensures byte { (t : List ℕ) (e : URIReferenceError) → fault t ≡ Some e → IsSomeAnd (slice_get t (fault_place e t)) (IsWrongByte e) }
-    ensures username_escape { (t : List ℕ) (e : UsernameError) → fault t ≡ Some (errors.Authority (authority_errors.Username e)) → (e ≡ username_errors.InvalidPercentEncoding) ↔ (slice_get t (fault_place (errors.Authority (authority_errors.Username e)) t) ≡ Some percent) }
-    ensures password_escape { (t : List ℕ) (e : PasswordError) → fault t ≡ Some (errors.Authority (authority_errors.Password e)) → (e ≡ password_errors.InvalidPercentEncoding) ↔ (slice_get t (fault_place (errors.Authority (authority_errors.Password e)) t) ≡ Some percent) }
-    ensures path_escape { (t : List ℕ) (e : PathError) → fault t ≡ Some (errors.Path e) → (e ≡ path_errors.InvalidPercentEncoding) ↔ (slice_get t (fault_place (errors.Path e) t) ≡ Some percent) }
-    ensures query_escape { (t : List ℕ) (e : QueryError) → fault t ≡ Some (errors.Query e) → (e ≡ query_errors.InvalidPercentEncoding) ↔ (slice_get t (fault_place (errors.Query e) t) ≡ Some percent) }
-    ensures fragment_escape { (t : List ℕ) (e : FragmentError) → fault t ≡ Some (errors.Fragment e) → (e ≡ fragment_errors.InvalidPercentEncoding) ↔ (slice_get t (fault_place (errors.Fragment e) t) ≡ Some percent) }
-    ensures within { (t : List ℕ) (e : URIReferenceError) → fault t ≡ Some e → fault_place e t < length t }
+pub fn one_offset_of_fault()
+    ensures byte { (t : List ℕ) (e : URIReferenceError) → fault t ≡ Some e → IsSomeAnd (slice_get t (fault_offset e t)) (IsWrongByte e) }
+    ensures username_escape { (t : List ℕ) (e : UsernameError) → fault t ≡ Some (errors.Authority (authority_errors.Username e)) → (e ≡ username_errors.InvalidPercentEncoding) ↔ (slice_get t (fault_offset (errors.Authority (authority_errors.Username e)) t) ≡ Some percent) }
+    ensures password_escape { (t : List ℕ) (e : PasswordError) → fault t ≡ Some (errors.Authority (authority_errors.Password e)) → (e ≡ password_errors.InvalidPercentEncoding) ↔ (slice_get t (fault_offset (errors.Authority (authority_errors.Password e)) t) ≡ Some percent) }
+    ensures path_escape { (t : List ℕ) (e : PathError) → fault t ≡ Some (errors.Path e) → (e ≡ path_errors.InvalidPercentEncoding) ↔ (slice_get t (fault_offset (errors.Path e) t) ≡ Some percent) }
+    ensures query_escape { (t : List ℕ) (e : QueryError) → fault t ≡ Some (errors.Query e) → (e ≡ query_errors.InvalidPercentEncoding) ↔ (slice_get t (fault_offset (errors.Query e) t) ≡ Some percent) }
+    ensures fragment_escape { (t : List ℕ) (e : FragmentError) → fault t ≡ Some (errors.Fragment e) → (e ≡ fragment_errors.InvalidPercentEncoding) ↔ (slice_get t (fault_offset (errors.Fragment e) t) ≡ Some percent) }
+    ensures within { (t : List ℕ) (e : URIReferenceError) → fault t ≡ Some e → fault_offset e t < length t }
 {}
 
 /// Where texts are wrong, and why: an example of each error that a text may have. The one that takes
@@ -123,7 +123,7 @@ pub fn examples_of_first_faults()
     ensures query_escape { first_fault (codes "s:p?%") ≡ Some (4, errors.Query query_errors.InvalidPercentEncoding) }
     ensures fragment { first_fault (codes "s:p?q#a#") ≡ Some (7, errors.Fragment fragment_errors.InvalidCharacter) }
     ensures fragment_escape { first_fault (codes "#%1") ≡ Some (1, errors.Fragment fragment_errors.InvalidPercentEncoding) }
-    ensures segments { place_within 1 (codes "a/b/c") ≡ 3 }
+    ensures segments { offset_within 1 (codes "a/b/c") ≡ 3 }
 {}
 
 /// Every text is the concatenation of its components: a scheme before a `:`, if it is one; after
@@ -265,7 +265,7 @@ pub fn one_build()
 /// A list of edits has one outcome: the number of accepted edits, the resulting components, and the
 /// error of the next edit, if any; except that normalizing may run out of memory.
 pub fn one_run()
-    ensures { (p q r : Parts) (es : List Edit) (n m : ℕ) (o u : Option URIReferenceError) → Run p es n q o → Run p es m r u → IsWant o ⊎ (IsWant u ⊎ ((n ≡ m) × (q ≡ r) × (o ≡ u))) }
+    ensures { (p q r : Parts) (es : List Edit) (n m : ℕ) (o u : Option URIReferenceError) → Run p es n q o → Run p es m r u → IsOutOfMemory o ⊎ (IsOutOfMemory u ⊎ ((n ≡ m) × (q ≡ r) × (o ≡ u))) }
 {}
 
 /// Examples of targets: those of sections 5.4.1 and 5.4.2, and others.
@@ -294,8 +294,8 @@ pub fn target_examples()
 pub fn normal_examples()
     ensures forms { hold normalised normal_form_rows ≡ true }
     ensures relative_forms { hold normalised relative_form_rows ≡ true }
-    ensures shielded { is_normalised (codes "s:/.//b") ≡ Some true }
-    ensures guarded { is_normalised (codes "./c:d") ≡ Some true }
+    ensures dot_prefixed { is_normalised (codes "s:/.//b") ≡ Some true }
+    ensures with_leading_dot { is_normalised (codes "./c:d") ≡ Some true }
     ensures authority { is_normalised (codes "http://example.com") ≡ Some true }
     ensures dots { is_normalised (codes "a/.") ≡ Some false }
     ensures equal { are_equal (codes "http://h/%7e") (codes "HTTP://H/~") ≡ Some true }
@@ -311,7 +311,7 @@ pub fn normal_examples()
 pub fn commutation_examples()
     ensures target { resolved_first (codes "http://a/b/./c") (codes "../%7e/./g") ≡ Some (codes "http://a/~/g") }
     ensures target_again { normalised_first (codes "http://a/b/./c") (codes "../%7e/./g") ≡ Some (codes "http://a/~/g") }
-    ensures shielded { resolved_first (codes "s:/a/..//b/c") (codes "./d:e") ≡ Some (codes "s:/.//b/d:e") }
+    ensures dot_prefixed { resolved_first (codes "s:/a/..//b/c") (codes "./d:e") ≡ Some (codes "s:/.//b/d:e") }
     ensures shielded_again { normalised_first (codes "s:/a/..//b/c") (codes "./d:e") ≡ Some (codes "s:/.//b/d:e") }
     ensures not_rooted { resolved_first (codes "s:b") (codes "a/../g") ≡ Some (codes "s:/g") }
     ensures not_rooted_again { normalised_first (codes "s:b") (codes "a/../g") ≡ Some (codes "s:g") }

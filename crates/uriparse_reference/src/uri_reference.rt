@@ -8,8 +8,8 @@ ghost use Rattle.uriparse_text.specs.Readings.{IsUnless, unless_fault};
 ghost use Rattle.uriparse_path.specs.Path.{text};
 ghost use Rattle.uriparse_text.specs.declared.segment.error.PathError.TheVariants.{OutOfMemory};
 ghost use Rattle.uriparse_reference.specs.declared.uri_reference.error.URIReferenceError.TheVariants as errors;
-ghost use Rattle.uriparse_reference.specs.Key.{each_alike, ends_alike, fed, fed_key, key, middle_alike};
-ghost use Rattle.uriparse_reference.specs.Place.{first_fault};
+ghost use Rattle.uriparse_reference.specs.Key.{each_alike, ends_alike, fed, fed_key, key, authority_and_path_alike};
+ghost use Rattle.uriparse_reference.specs.Offset.{first_fault};
 ghost use Rattle.uriparse_reference.specs.Reading.{fault};
 ghost use Rattle.uriparse_reference.specs.Reference.{host_of, password_of, port_of, print, username_of};
 
@@ -35,7 +35,7 @@ mod escape;
 mod kind;
 mod masked;
 mod normal;
-mod place;
+mod offset;
 mod port;
 mod print;
 pub(crate) mod read;
@@ -50,7 +50,7 @@ pub use edit::Edit;
 pub use error::{BufferError, RejectedText, TargetError, URIReferenceError};
 pub use escape::{escape_invalid, escape_invalid_into};
 pub use masked::WithoutPassword;
-use place::{front_fault, place_of};
+use offset::{front_fault, offset_of};
 use print::{len_of_scheme, most_of_authority, write_authority, write_back, write_scheme};
 use read::{find_pieces, make_path};
 pub use text::{ReferenceKey, ReferenceText};
@@ -200,7 +200,7 @@ impl<'r> URIReference<'r> {
         }
         match URIReference::check(bytes) {
             Ok(()) => None,
-            Err(error) => Some((place_of(&error, bytes), error)),
+            Err(error) => Some((offset_of(&error, bytes), error)),
         }
     }
 
@@ -332,8 +332,8 @@ impl<'r> URIReference<'r> {
     }
 
     /// Whether the authorities and paths are equal, each in canonical spelling.
-    fn has_middle_alike(&self, other: &URIReference<'r>) -> bool
-        ensures { result ≡ middle_alike self.now other.now }
+    fn eq_authority_and_path(&self, other: &URIReference<'r>) -> bool
+        ensures { result ≡ authority_and_path_alike self.now other.now }
     {
         self.authority == other.authority && self.path == other.path
     }
@@ -343,7 +343,7 @@ impl<'r> URIReference<'r> {
         ensures test { result ≡ each_alike self.now other.now }
         ensures valid { Valid self.now × Valid other.now }
     {
-        self.has_ends_alike(other) && self.has_middle_alike(other)
+        self.has_ends_alike(other) && self.eq_authority_and_path(other)
     }
 }
 

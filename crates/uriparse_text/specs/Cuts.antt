@@ -14,9 +14,9 @@ none_pass p t = list_all (λ b. not (p b)) t
 -- ---- putting together
 
 -- [ mark text ]
-abbrev pub behind : ℕ → Option (List ℕ) → List ℕ
-behind mark None = []
-behind mark (Some t) = mark ∷ t
+abbrev pub following : ℕ → Option (List ℕ) → List ℕ
+following mark None = []
+following mark (Some t) = mark ∷ t
 
 -- [ text mark ]
 abbrev pub ahead : ℕ → Option (List ℕ) → List ℕ

@@ -1,8 +1,8 @@
 -- A text that is put together from its end, in the last bytes of a buffer.
 use Rattle.std.specs.Prelude.{◌≡◌, ℕ, ◌≤◌, List, ◌++◌, ◌-◌, ◌^◌, length, drop, min}
 use Rattle.uriparse_text.specs.declared.internal.canonical.Case.{Case}
-use Rattle.uriparse_text.specs.declared.internal.ends.Form.{Form}
-use Rattle.uriparse_text.specs.declared.internal.ends.Form.TheVariants.{AsIs, Canonical}
+use Rattle.uriparse_text.specs.declared.internal.backward_buffer.Form.{Form}
+use Rattle.uriparse_text.specs.declared.internal.backward_buffer.Form.TheVariants.{AsIs, Canonical}
 use Rattle.uriparse_text.specs.Canonical.{canonical_in}
 
 -- The buffer ends with the text, if it has room for it. `len` is the text's length, or the largest number.

@@ -55,16 +55,16 @@ AreInDoubt class text at n marks =
     × ((k : ℕ) → bit_at marks k ≡ 1 → (k < n) × (is_plain class (slice_index text (at + k)) ≡ false))
 
 -- a byte from this place on at which no token of the class begins, where one begins at each before it
-pub record IsFaultFrom (class : Class) (text : List ℕ) (from place : ℕ) : Type 0 where
-  pub within : place < length text
-  pub fine : AllFine class text from place
-  pub faulty : begins_fine class (drop place text) ≡ false
+pub record IsFaultFrom (class : Class) (text : List ℕ) (from offset : ℕ) : Type 0 where
+  pub within : offset < length text
+  pub fine : AllFine class text from offset
+  pub faulty : begins_fine class (drop offset text) ≡ false
 
 -- the leftmost place of the text at which no token of the class begins, or the length
-pub record IsFaultPlace (class : Class) (text : List ℕ) (place : ℕ) : Type 0 where
-  pub within : place ≤ length text
-  pub fine : AllFine class text 0 place
-  pub faulty : place < length text → begins_fine class (drop place text) ≡ false
+pub record IsFaultOffset (class : Class) (text : List ℕ) (offset : ℕ) : Type 0 where
+  pub within : offset ≤ length text
+  pub fine : AllFine class text 0 offset
+  pub faulty : offset < length text → begins_fine class (drop offset text) ≡ false
 
 -- ---- the same in the standard's words
 

@@ -3,7 +3,7 @@ pub mod Classes
 pub mod Tokens
 pub mod Marks
 pub mod Faults
-pub mod Place
+pub mod Offset
 pub mod Canonical
 pub mod Cuts
 pub mod Readings

@@ -8,7 +8,7 @@ use Rattle.std.specs.Cmp.Lexicographic.{slice_cmp}
 use Rattle.std.specs.Ordering.{is_lt, nat_cmp}
 use Rattle.uriparse_text.specs.declared.internal.class.Class.TheVariants.{Query}
 use Rattle.uriparse_text.specs.Bytes.{ampersand, equals_sign}
-use Rattle.uriparse_text.specs.Cuts.{behind, before, after}
+use Rattle.uriparse_text.specs.Cuts.{following, before, after}
 use Rattle.uriparse_text.specs.Coding.{are_bytes, decoded, encoded_without, form_decoded}
 
 -- a name, and a value if there is one
@@ -37,7 +37,7 @@ pairs_left (Some q) = pairs q
 
 -- name [ "=" value ]
 abbrev pub piece_of : Pair → List ℕ
-piece_of p = p.0 ++ behind equals_sign p.1
+piece_of p = p.0 ++ following equals_sign p.1
 
 -- the pieces, with a "&" between each two
 abbrev pub joined_pairs : List Pair → List ℕ

@@ -21,10 +21,10 @@ is_known (Owned s) = false
 is_known (OwnedCanonical s) = true
 
 -- the bytes are of the class, and canonical if they are marked so
-pub record IsKept (class : Class) (case : Case) (known : Bool) (text : List ℕ) : Type 0 where
+pub record IsValidText (class : Class) (case : Case) (known : Bool) (text : List ℕ) : Type 0 where
   pub inside : IsIn class text
   pub canonical : known ≡ true → canonical_in case text ≡ text
 
 -- a byte of the class that stays as it is in a canonical spelling: a word of private functions' clauses alone
-abbrev pub is_settled : Class → Case → ℕ → Bool
-is_settled class case b = is_plain class b && in_case case b == b
+abbrev pub is_canonical_byte : Class → Case → ℕ → Bool
+is_canonical_byte class case b = is_plain class b && in_case case b == b

@@ -1,6 +1,6 @@
 -- A text that is written to the start of a buffer of the caller.
 use Rattle.std.specs.Prelude.{◌≡◌, ℕ, ◌<◌, ◌≤◌, ◌^◌, ◌-◌, List, ◌++◌, length, take, drop, min, Result, Ok, Err}
-use Rattle.uriparse_text.specs.declared.internal.starts.TooSmall.{TooSmall}
+use Rattle.uriparse_text.specs.declared.internal.forward_buffer.TooSmall.{TooSmall}
 
 -- the largest length
 abbrev pub most : ℕ

@@ -56,7 +56,7 @@ impl TextKind for FragmentKind {
 /// report the leftmost fault: [`InvalidPercentEncoding`](FragmentError::InvalidPercentEncoding) for
 /// a `%` without two hexadecimal digits after it, else
 /// [`InvalidCharacter`](FragmentError::InvalidCharacter). Two fragments are equal if their
-/// canonical spellings are. The calls are those of [`Text`].
+/// canonical spellings are. It has the calls of [`Text`].
 ///
 /// ```
 /// let fragment = Fragment::try_from_str("k=%7e")?;

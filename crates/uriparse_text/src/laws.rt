@@ -12,14 +12,14 @@ ghost use Rattle.uriparse_text.specs.declared.internal.canonical.Case.TheVariant
 ghost use Rattle.uriparse_text.specs.Bytes.{is_among, left_bracket, right_bracket};
 ghost use Rattle.uriparse_text.specs.Tokens.{is_well_formed, spell, IsConcatenation};
 ghost use Rattle.uriparse_text.specs.Faults.{fault, IsIn, IsOfClass, HasFaultAt};
-ghost use Rattle.uriparse_text.specs.Place.{fault_place};
+ghost use Rattle.uriparse_text.specs.Offset.{fault_offset};
 ghost use Rattle.uriparse_text.specs.Canonical.{canonical_token, canonical_in, fed_bytes};
 ghost use Rattle.uriparse_text.specs.Coding.{are_bytes, decoded, encoded, escaped_in, form_decoded};
 ghost use Rattle.uriparse_text.specs.Cuts.{lacks, none_pass};
 ghost use Rattle.uriparse_text.specs.Link.{in_brackets, less_than, link, trimmed};
 ghost use Rattle.uriparse_text.specs.Pairs.{Pair, are_pair_bytes, decoded_pair, encoded_in_pair, encoded_pair, form_decoded_pair, has_less_name, is_named, joined_pairs, pairs, sorted_pairs, with_pair, without_empty_end, without_name};
 ghost use Rattle.uriparse_text.specs.Starts.{Writes, too_small};
-ghost use Rattle.uriparse_text.specs.declared.internal.starts.TooSmall.{TooSmall};
+ghost use Rattle.uriparse_text.specs.declared.internal.forward_buffer.TooSmall.{TooSmall};
 ghost use Rattle.uriparse_text.specs.Address.{IsOctets, IsSegments, SpellsIpv4, SpellsIpv6, ipv4_text, ipv6_text, ipv4_reading, ipv6_reading, IsPrintedIpv6, is_ipv4_byte, is_ipv6_byte};
 
 /// A text has no fault exactly if it is a concatenation of tokens of the class; else its fault is
@@ -27,14 +27,14 @@ ghost use Rattle.uriparse_text.specs.Address.{IsOctets, IsSegments, SpellsIpv4, 
 pub fn one_leftmost_fault()
     ensures class { (class : Class) (text : List ℕ) → IsIn class text ↔ IsOfClass class text }
     ensures none { (class : Class) (text : List ℕ) → (fault class text ≡ None) ↔ IsOfClass class text }
-    ensures place { (class : Class) (text : List ℕ) (byte : ℕ) → (fault class text ≡ Some byte) ↔ HasFaultAt class text byte }
+    ensures offset { (class : Class) (text : List ℕ) (byte : ℕ) → (fault class text ≡ Some byte) ↔ HasFaultAt class text byte }
 {}
 
 /// The fault is that of the byte at its place, and what precedes this place has none.
-pub fn one_place_of_fault()
-    ensures byte { (class : Class) (text : List ℕ) → fault class text ≡ slice_get (drop (fault_place class text) text) 0 }
-    ensures before { (class : Class) (text : List ℕ) → fault class (take (fault_place class text) text) ≡ None }
-    ensures within { (class : Class) (text : List ℕ) (byte : ℕ) → fault class text ≡ Some byte → fault_place class text < length text }
+pub fn one_offset_of_fault()
+    ensures byte { (class : Class) (text : List ℕ) → fault class text ≡ slice_get (drop (fault_offset class text) text) 0 }
+    ensures before { (class : Class) (text : List ℕ) → fault class (take (fault_offset class text) text) ≡ None }
+    ensures within { (class : Class) (text : List ℕ) (byte : ℕ) → fault class text ≡ Some byte → fault_offset class text < length text }
 {}
 
 /// A text is well formed exactly if it is a concatenation of tokens, which are then unique.

@@ -63,7 +63,7 @@ impl TextKind for QueryKind {
 /// report the leftmost fault: [`InvalidPercentEncoding`](QueryError::InvalidPercentEncoding) for a
 /// `%` without two hexadecimal digits after it, else
 /// [`InvalidCharacter`](QueryError::InvalidCharacter). Two queries are equal if their canonical
-/// spellings are. The calls are those of [`Text`], and
+/// spellings are. It has the calls of [`Text`], and
 /// [`pairs`](Query::pairs), [`from_pairs`](Query::from_pairs),
 /// [`without_pairs`](Query::without_pairs), [`without_name`](Query::without_name),
 /// [`with_pair`](Query::with_pair), [`sorted_pairs`](Query::sorted_pairs) and

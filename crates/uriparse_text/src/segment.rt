@@ -6,7 +6,7 @@ ghost use Rattle.uriparse_text.specs.Segment as spec;
 
 mod error;
 
-use crate::internal::{Case, Class, Text, TextKind, kept_text};
+use crate::internal::{Case, Class, Text, TextKind, text_from_checked};
 pub use error::PathError;
 
 /// The kind of text that a segment is.
@@ -49,7 +49,7 @@ impl TextKind for SegmentKind {
 /// report the leftmost fault: [`InvalidPercentEncoding`](PathError::InvalidPercentEncoding) for a
 /// `%` without two hexadecimal digits after it, else
 /// [`InvalidCharacter`](PathError::InvalidCharacter), also for a slash. Two segments are equal if
-/// their canonical spellings are. The calls are those of [`Text`] and those for dots below.
+/// their canonical spellings are. It has the calls of [`Text`] and those for dots below.
 /// [`encode`](Text::encode) escapes a slash and keeps dots, so the bytes `..` become a dot segment.
 ///
 /// ```
@@ -63,7 +63,7 @@ impl<'s> Segment<'s> {
     pub fn empty() -> Segment<'static>
         ensures { result ≡ [] }
     {
-        kept_text(b"", true)
+        text_from_checked(b"", true)
     }
 
     /// Whether the segment may be a dot segment: it begins with a dot or a percent sign and is no

@@ -8,7 +8,7 @@ use Rattle.uriparse.specs.URIReferenceError.{URIReferenceError}
 use Rattle.uriparse.specs.URIReferenceError.TheVariants as references
 use Rattle.uriparse.specs.Reference.{Parts, Spells}
 use Rattle.uriparse.specs.Target.{target}
-use Rattle.uriparse.specs.Uri.{told}
+use Rattle.uriparse.specs.Uri.{map_error}
 use Rattle.uriparse.specs.declared.uri.error.URIError.{URIError}
 use Rattle.uriparse.specs.declared.uri.error.URIError.TheVariants as uris
 use Rattle.uses.proofs.RedirectLemmas.{Resolves, unresolved}
@@ -57,9 +57,9 @@ module _ (base r reference u : Parts) where
 
 -- a link that spells a reference is not read only if memory runs out
 pub unread_link : (e : URIReferenceError) (p : Parts) → IsUnless (references.Path OutOfMemory) (Err e) (Ok p)
-    → ◌≡◌ {A = Result Parts URIError} (Err (told e)) (Err (uris.Path OutOfMemory))
+    → ◌≡◌ {A = Result Parts URIError} (Err (map_error e)) (Err (uris.Path OutOfMemory))
 unread_link e p (inl h) = absurd (cc)
-unread_link e p (inr h) = let same : e ≡ references.Path OutOfMemory = cc in ap (λ x. Err (told x)) same
+unread_link e p (inr h) = let same : e ≡ references.Path OutOfMemory = cc in ap (λ x. Err (map_error x)) same
 
 -- ---- why a link is rejected
 
@@ -69,9 +69,9 @@ rejected base written e r is why = subst (λ x. IfErr x (λ y. IsRejected base w
 
 -- its text has a fault
 pub rejected_text : (base : Parts) (written text : List ℕ) (e : URIReferenceError) → text ≡ escaped (link written)
-    → (fault text ≡ Some e) ⊎ (e ≡ references.Path OutOfMemory) → IsRejected base written (told e)
+    → (fault text ≡ Some e) ⊎ (e ≡ references.Path OutOfMemory) → IsRejected base written (map_error e)
 rejected_text base written text e reads (inl is) = inl (e, sym (ap fault reads) ∙ is, refl)
-rejected_text base written text e reads (inr memory) = inr (inr (ap told memory))
+rejected_text base written text e reads (inr memory) = inr (inr (ap map_error memory))
 
 -- it has no target
 pub rejected_target : (base : Parts) (written : List ℕ) (r : Parts) (e : URIError) → Spells (escaped (link written)) r

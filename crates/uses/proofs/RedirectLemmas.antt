@@ -12,7 +12,7 @@ use Rattle.uriparse.specs.declared.uri.error.URIError.{URIError}
 use Rattle.uriparse.specs.declared.uri.error.URIError.TheVariants as uris
 use Rattle.uses.specs.declared.redirects.RedirectError.{RedirectError}
 use Rattle.uses.specs.declared.redirects.RedirectError.TheVariants as errors
-use Rattle.uses.specs.Redirects.{GoesTo, IsAt, IsWant, IsUnlessWant, Follows, Refuses}
+use Rattle.uses.specs.Redirects.{GoesTo, IsAt, IsOutOfMemory, IsUnlessWant, Follows, Refuses}
 
 -- what resolving returns
 abbrev pub Resolves : Option Parts → Result Parts URIError → Type 0
@@ -73,6 +73,6 @@ allowed request r location a answer only h t g at = allowed_at (target request r
     of_one (inr k) = absurd (cc)
 
 -- a Location that goes somewhere is rejected only if memory runs out
-pub unread : (e : URIReferenceError) (p : Parts) → IsUnless (references.Path OutOfMemory) (Err e) (Ok p) → IsWant (errors.Location e)
+pub unread : (e : URIReferenceError) (p : Parts) → IsUnless (references.Path OutOfMemory) (Err e) (Ok p) → IsOutOfMemory (errors.Location e)
 unread e p (inl h) = absurd (cc)
 unread e p (inr h) = let same : e ≡ references.Path OutOfMemory = cc in inr (inl (ap errors.Location same))

@@ -10,7 +10,7 @@ use Rattle.uriparse.specs.Reference.{Parts, Spells}
 use Rattle.uriparse.specs.Relate.{LeavesOut}
 use Rattle.uriparse.specs.Target.{target}
 use Rattle.uriparse.specs.URIReferenceError.{URIReferenceError}
-use Rattle.uriparse.specs.Uri.{told}
+use Rattle.uriparse.specs.Uri.{map_error}
 use Rattle.uriparse.specs.declared.uri.error.URIError.{URIError}
 use Rattle.uriparse.specs.declared.uri.error.URIError.TheVariants.{Path}
 
@@ -29,7 +29,7 @@ IsRefusal base link error = ((target base link ≡ None) × (error ≡ Path Exce
 -- Why a link that stands in a page as people write it is rejected: its text has this fault, it has no target, or memory ran out.
 abbrev pub IsRejected : Parts → List ℕ → URIError → Type 0
 IsRejected base written error =
-    ((e : URIReferenceError) × (fault (escaped (link written)) ≡ Some e) × (error ≡ told e))
+    ((e : URIReferenceError) × (fault (escaped (link written)) ≡ Some e) × (error ≡ map_error e))
     ⊎ (((r : Parts) × Spells (escaped (link written)) r × (target base r ≡ None) × (error ≡ Path ExceededMaximumLength))
     ⊎ (error ≡ Path OutOfMemory))
 

@@ -8,7 +8,7 @@ use Rattle.uriparse.specs.HostValue.TheVariants.{RegisteredName}
 use Rattle.uriparse.specs.Reference.{Parts, Spells, host_of}
 use Rattle.uriparse.specs.declared.uri.error.URIError.TheVariants as uris
 use Rattle.uriparse.specs.Kinds.{fault_of}
-use Rattle.uriparse.specs.Uri.{told}
+use Rattle.uriparse.specs.Uri.{map_error}
 use Rattle.uriparse.specs.PathError.TheVariants.{OutOfMemory}
 use Rattle.uses.specs.declared.proxy.ProxyError.{ProxyError}
 use Rattle.uses.specs.declared.proxy.ProxyError.TheVariants as errors
@@ -39,5 +39,5 @@ IsReason u errors.Host = HasHost u → ⊥
 
 -- why a text is rejected: it spells no URI, memory ran out, or it spells one that is no target
 abbrev pub Refuses : List ℕ → ProxyError → Type 0
-Refuses t (errors.Text e) = (fault_of true told uris.NotURI t ≡ Some e) ⊎ (e ≡ uris.Path OutOfMemory)
+Refuses t (errors.Text e) = (fault_of true map_error uris.NotURI t ≡ Some e) ⊎ (e ≡ uris.Path OutOfMemory)
 Refuses t e = (u : Parts) × Spells t u × IsReason u e

@@ -28,13 +28,13 @@ Refuses request location allowed errors.Elsewhere = (t : Parts) × GoesTo reques
 Refuses request location allowed errors.Memory = ⊤
 
 -- memory was wanted
-abbrev pub IsWant : RedirectError → Type 0
-IsWant e = (e ≡ errors.Memory) ⊎ ((e ≡ errors.Location (references.Path OutOfMemory)) ⊎ (e ≡ errors.Target (uris.Path OutOfMemory)))
+abbrev pub IsOutOfMemory : RedirectError → Type 0
+IsOutOfMemory e = (e ≡ errors.Memory) ⊎ ((e ≡ errors.Location (references.Path OutOfMemory)) ⊎ (e ≡ errors.Target (uris.Path OutOfMemory)))
 
 -- this target is returned, or memory runs out
 abbrev pub IsUnlessWant : Result Parts RedirectError → Parts → Type 0
 IsUnlessWant (Ok u) t = u ≡ t
-IsUnlessWant (Err e) t = IsWant e
+IsUnlessWant (Err e) t = IsOutOfMemory e
 
 -- After the target, if there is one: it is returned if it is at the allowed authority. Else it is rejected.
 abbrev pub Follows : Option Parts → authority.AuthorityParts → Result Parts RedirectError → Type 0

@@ -13,7 +13,7 @@ use Rattle.std.proofs.lemmas.List.Folds.{list_all-append}
 use Rattle.std.proofs.Math.Seq.{take-suc}
 use Rattle.uriparse_text.specs.declared.internal.class.Class.TheVariants as class
 use Rattle.uriparse_text.specs.Bytes.{slash}
-use Rattle.uriparse_text.specs.Cuts.{before, after, behind}
+use Rattle.uriparse_text.specs.Cuts.{before, after, following}
 use Rattle.uriparse_text.proofs.lemmas.readings.CutLemmas.{before_after}
 use Rattle.uriparse_text.proofs.lemmas.readings.PairLemmas.{first_piece, pieces_left}
 use Rattle.uriparse_text.proofs.lemmas.readings.WithoutLemmas.{left_of}
@@ -31,7 +31,7 @@ use Rattle.uriparse_path.specs.Path.{IsListed, PathParts, is_slash, is_rooted, m
 use Rattle.uriparse_text.specs.Segment.{is_segment, IsSegment}
 use Rattle.uriparse_path.specs.Faults.{fault, fault_within, first_fault, length_fault, reading}
 use Rattle.uriparse_path.proofs.lemmas.reading.FaultLemmas.{no_segment_fault}
-use Rattle.uriparse_path.proofs.lemmas.text.SplitLemmas.{IsCut, cut, joined-behind, joined-pieces, pieces-byte, pieces-joined, pieces-slash}
+use Rattle.uriparse_path.proofs.lemmas.text.SplitLemmas.{IsCut, cut, joined-following, joined-pieces, pieces-byte, pieces-joined, pieces-slash}
 use Rattle.uriparse_path.proofs.lemmas.text.PathTextLemmas.{pieces-segments}
 use Rattle.std.specs.Net.Reader.{read_ipv4, read_octet, read_number}
 use Rattle.uriparse_text.specs.Address.{ipv4_reading}
@@ -44,8 +44,8 @@ use Rattle.uriparse_scheme.specs.declared.scheme.registered.RegisteredScheme.The
 use Rattle.uriparse_authority.specs.Authority.{AuthorityParts, whole_reading}
 use Rattle.uriparse_authority.specs.Authority as authority
 use Rattle.uriparse_reference.specs.Edits.{of_parts}
-use Rattle.uriparse.specs.Kinds.{told_of}
-use Rattle.uriparse.specs.Uri.{told}
+use Rattle.uriparse.specs.Kinds.{with_mapped_error}
+use Rattle.uriparse.specs.Uri.{map_error}
 use Rattle.uriparse.specs.declared.file.error.FileError.{FileError}
 use Rattle.uriparse.specs.declared.file.error.FileError.TheVariants as errors
 use Rattle.uriparse.specs.File.{AreWritten, bytes_fault, encoded_pieces, file_uri, is_file, is_local, is_nul, joined_names, local_uri, name_fault, names_fault, names_of, no_host, parts_fault, path_fault, path_of_uri, uri_of_path}
@@ -109,7 +109,7 @@ writing_last path o written g none =
 after_smaller : (left : List ℕ) → left_of (after slash left) < left_of (Some left)
 after_smaller left = by_after (after slash left) (before_after slash left)
   where
-    by_after : (o : Option (List ℕ)) → before slash left ++ behind slash o ≡ left → left_of o < 1 + length left
+    by_after : (o : Option (List ℕ)) → before slash left ++ following slash o ≡ left → left_of o < 1 + length left
     by_after None e = omega arith
     by_after (Some t) e =
         let size = ap length (sym e) ∙ length-append (before slash left) (slash ∷ t) in
@@ -123,7 +123,7 @@ writing_smaller o left rest some cutting =
 
 -- a slash before each of some pieces is a slash before all of them, joined
 one_slash : (s : List ℕ) (ss : List (List ℕ)) → flat_map (λ r. slash ∷ r) (s ∷ ss) ≡ slash ∷ join_with_byte slash (s ∷ ss)
-one_slash s ss = ap (λ t. slash ∷ t) (sym (joined-behind s ss))
+one_slash s ss = ap (λ t. slash ∷ t) (sym (joined-following s ss))
 
 spelled-slashes : (s : List ℕ) (ss : List (List ℕ)) → list_all is_segment (s ∷ ss) ≡ true
     → spelled (flat_map (λ r. slash ∷ r) (s ∷ ss)) ≡ record { absolute = true; segments = s ∷ ss }
@@ -454,9 +454,9 @@ unfolding read_ipv4 read_octet read_number ipv4_reading is_unreserved is_sub_del
 empty_authority = refl
 
 pub local_built : (a : AuthorityParts) (p : PathParts) → a ≡ no_host
-    → told_of told (of_parts (record { scheme = Some (Registered File); authority = Some a; path = p; query = None; fragment = None })) ≡ Ok (local_uri p.segments)
+    → with_mapped_error map_error (of_parts (record { scheme = Some (Registered File); authority = Some a; path = p; query = None; fragment = None })) ≡ Ok (local_uri p.segments)
 local_built a p is =
-    ap (λ b. told_of told (of_parts (record { scheme = Some (Registered File); authority = Some b; path = p; query = None; fragment = None }))) is
+    ap (λ b. with_mapped_error map_error (of_parts (record { scheme = Some (Registered File); authority = Some b; path = p; query = None; fragment = None }))) is
 
 -- ---- the tests of the components around the path
 

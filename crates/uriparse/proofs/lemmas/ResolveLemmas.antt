@@ -11,22 +11,22 @@ use Rattle.uriparse_reference.specs.Target.{MergesAlike, is_merged, target}
 use Rattle.uriparse_reference.proofs.lemmas.resolving.CommutationLemmas.{commutes}
 use Rattle.uriparse.specs.declared.uri.error.URIError.{URIError}
 use Rattle.uriparse.specs.declared.uri.error.URIError.TheVariants as errors
-use Rattle.uriparse.specs.Uri.{told}
+use Rattle.uriparse.specs.Uri.{map_error}
 
 abbrev pub Answers : {E : Type 0} → E → E → Option Parts → Result Parts E → Type 0
 Answers long memory o r = MatchOption o (r ≡ Err long) (λ t. IsUnless memory r (Ok t))
 
 -- an error reported as a URI's
-pub refusal_told : (o : Option Parts) (e : URIReferenceError) (d : URIError) → d ≡ told e
+pub refusal_told : (o : Option Parts) (e : URIReferenceError) (d : URIError) → d ≡ map_error e
     → Answers (references.Path paths.ExceededMaximumLength) (references.Path paths.OutOfMemory) o (Err e)
     → Answers (errors.Path paths.ExceededMaximumLength) (errors.Path paths.OutOfMemory) o (Err d)
 refusal_told None e d k h =
     let same : e ≡ references.Path paths.ExceededMaximumLength = cc in
-    ap Err (k ∙ ap told same)
+    ap Err (k ∙ ap map_error same)
 refusal_told (Some t) e d k (inl h) = absurd (cc)
 refusal_told (Some t) e d k (inr h) =
     let same : e ≡ references.Path paths.OutOfMemory = cc in
-    inr (ap Err (k ∙ ap told same))
+    inr (ap Err (k ∙ ap map_error same))
 
 -- the target that is returned
 answered : (o : Option Parts) (t : Parts) → Answers (references.Path paths.ExceededMaximumLength) (references.Path paths.OutOfMemory) o (Ok t) → o ≡ Some t

@@ -6,10 +6,10 @@ ghost use Rattle.uriparse_text.specs.declared.segment.error.PathError.TheVariant
 ghost use Rattle.uriparse_reference.specs.declared.uri_reference.edit.Edit.TheVariants as edits;
 ghost use Rattle.uriparse_reference.specs.declared.uri_reference.error.URIReferenceError.TheVariants as errors;
 ghost use Rattle.uriparse_reference.specs.Edits.{edited, segment_pushed};
-ghost use Rattle.uriparse.specs.Kinds.{told_of};
+ghost use Rattle.uriparse.specs.Kinds.{with_mapped_error};
 
 use super::ReferenceOf;
-use crate::kind::{ReferenceKind, told};
+use crate::kind::{ReferenceKind, map_error};
 use std::alloc::Global;
 use uriparse_authority::authority::Authority;
 use uriparse_path::path::{Path, Segment};
@@ -21,9 +21,9 @@ impl<'r, K: ReferenceKind> ReferenceOf<'r, K> {
     /// begins with two slashes, removing it fails with the kind's error
     /// `AbsolutePathStartsWithTwoSlashes`, and the value is unchanged. Does not allocate.
     pub fn set_authority(&mut self, authority: Option<Authority<'r>>) -> Result<(), K::Error>
-        ensures { Settles self.old self.new result (told_of K.told (edited self.old (edits.Authority authority.entry))) }
+        ensures { Settles self.old self.new result (with_mapped_error K.map_error (edited self.old (edits.Authority authority.entry))) }
     {
-        told::<K, _>(self.reference.set_authority(authority))
+        map_error::<K, _>(self.reference.set_authority(authority))
     }
 
     /// Sets the path. With an authority it is made absolute, else it becomes the one that its text
@@ -32,18 +32,18 @@ impl<'r, K: ReferenceKind> ReferenceOf<'r, K> {
     /// `SchemelessPathStartsWithColonSegment` if it has a colon before any slash. The value is then
     /// unchanged. Does not allocate.
     pub fn set_path(&mut self, path: Path<'r>) -> Result<(), K::Error>
-        ensures { Settles self.old self.new result (told_of K.told (edited self.old (edits.Path path.entry))) }
+        ensures { Settles self.old self.new result (with_mapped_error K.map_error (edited self.old (edits.Path path.entry))) }
     {
-        told::<K, _>(self.reference.set_path(path))
+        map_error::<K, _>(self.reference.set_path(path))
     }
 
     /// Appends a segment to the path, as
     /// [`push_segment`](uriparse_reference::uri_reference::URIReference::push_segment) does, with errors mapped to the kind's. On an
     /// error the value is unchanged. Allocates if the list of segments has to grow.
     pub fn push_segment(&mut self, alloc: Global, segment: Segment<'r>) -> Result<(), K::Error>
-        ensures { SettlesUnless (K.told (errors.Path OutOfMemory)) self.old self.new result (told_of K.told (segment_pushed self.old segment.entry)) }
+        ensures { SettlesUnless (K.map_error (errors.Path OutOfMemory)) self.old self.new result (with_mapped_error K.map_error (segment_pushed self.old segment.entry)) }
     {
-        told::<K, _>(self.reference.push_segment(alloc, segment))
+        map_error::<K, _>(self.reference.push_segment(alloc, segment))
     }
 
     /// Removes the last segment of the path: the only one is replaced by an empty one. Does not
@@ -57,16 +57,16 @@ impl<'r, K: ReferenceKind> ReferenceOf<'r, K> {
 
     /// Sets or removes the query. Always succeeds. Does not allocate.
     pub fn set_query(&mut self, query: Option<Query<'r>>) -> Result<(), K::Error>
-        ensures { Settles self.old self.new result (told_of K.told (edited self.old (edits.Query query.entry))) }
+        ensures { Settles self.old self.new result (with_mapped_error K.map_error (edited self.old (edits.Query query.entry))) }
     {
-        told::<K, _>(self.reference.set_query(query))
+        map_error::<K, _>(self.reference.set_query(query))
     }
 
     /// Sets or removes the fragment. Always succeeds. Does not allocate.
     pub fn set_fragment(&mut self, fragment: Option<Fragment<'r>>) -> Result<(), K::Error>
-        ensures { Settles self.old self.new result (told_of K.told (edited self.old (edits.Fragment fragment.entry))) }
+        ensures { Settles self.old self.new result (with_mapped_error K.map_error (edited self.old (edits.Fragment fragment.entry))) }
     {
-        told::<K, _>(self.reference.set_fragment(fragment))
+        map_error::<K, _>(self.reference.set_fragment(fragment))
     }
 
     /// Sets the authority to what the closure returns for it, as
@@ -76,9 +76,9 @@ impl<'r, K: ReferenceKind> ReferenceOf<'r, K> {
     where
         F: FnOnce(Option<Authority<'r>>) -> Option<Authority<'r>>,
         requires { F.pre make self.authority }
-        ensures { (authority : _) × F.post make self.entry.authority authority × (told_of K.told (edited self.entry (edits.Authority authority)) ≡ result) }
+        ensures { (authority : _) × F.post make self.entry.authority authority × (with_mapped_error K.map_error (edited self.entry (edits.Authority authority)) ≡ result) }
     {
-        ReferenceOf::told_checked(self.reference.map_authority(make))
+        ReferenceOf::map_error_of_checked(self.reference.map_authority(make))
     }
 
     /// Sets the path to what the closure returns for it, as [`set_path`](ReferenceOf::set_path)
@@ -87,9 +87,9 @@ impl<'r, K: ReferenceKind> ReferenceOf<'r, K> {
     where
         F: FnOnce(Path<'r>) -> Path<'r>,
         requires { F.pre make self.path }
-        ensures { (path : _) × F.post make self.entry.path path × (told_of K.told (edited self.entry (edits.Path path)) ≡ result) }
+        ensures { (path : _) × F.post make self.entry.path path × (with_mapped_error K.map_error (edited self.entry (edits.Path path)) ≡ result) }
     {
-        ReferenceOf::told_checked(self.reference.map_path(make))
+        ReferenceOf::map_error_of_checked(self.reference.map_path(make))
     }
 
     /// Sets the query to what the closure returns for it. Always succeeds. Does not allocate,
@@ -98,9 +98,9 @@ impl<'r, K: ReferenceKind> ReferenceOf<'r, K> {
     where
         F: FnOnce(Option<Query<'r>>) -> Option<Query<'r>>,
         requires { F.pre make self.query }
-        ensures { (query : _) × F.post make self.entry.query query × (told_of K.told (edited self.entry (edits.Query query)) ≡ result) }
+        ensures { (query : _) × F.post make self.entry.query query × (with_mapped_error K.map_error (edited self.entry (edits.Query query)) ≡ result) }
     {
-        ReferenceOf::told_checked(self.reference.map_query(make))
+        ReferenceOf::map_error_of_checked(self.reference.map_query(make))
     }
 
     /// Sets the fragment to what the closure returns for it. Always succeeds. Does not allocate,
@@ -109,8 +109,8 @@ impl<'r, K: ReferenceKind> ReferenceOf<'r, K> {
     where
         F: FnOnce(Option<Fragment<'r>>) -> Option<Fragment<'r>>,
         requires { F.pre make self.fragment }
-        ensures { (fragment : _) × F.post make self.entry.fragment fragment × (told_of K.told (edited self.entry (edits.Fragment fragment)) ≡ result) }
+        ensures { (fragment : _) × F.post make self.entry.fragment fragment × (with_mapped_error K.map_error (edited self.entry (edits.Fragment fragment)) ≡ result) }
     {
-        ReferenceOf::told_checked(self.reference.map_fragment(make))
+        ReferenceOf::map_error_of_checked(self.reference.map_fragment(make))
     }
 }

@@ -73,7 +73,7 @@ impl From<FragmentError> for RelativeReferenceError {
     }
 }
 
-/// The error of a reference as that of a relative reference, or `Err` for a fault of a scheme,
+/// The error of a reference as the error of a relative reference, or `Err` for a fault of a scheme,
 /// which no relative reference has.
 impl TryFrom<URIReferenceError> for RelativeReferenceError {
     type Error = ();
@@ -102,13 +102,13 @@ impl TryFrom<URIReferenceError> for RelativeReferenceError {
     }
 }
 
-/// The error of a reference as that of a relative reference: a fault of a scheme, which
+/// The error of a reference as the error of a relative reference: a fault of a scheme, which
 /// no relative reference has, is mapped to
 /// [`NotRelativeReference`](RelativeReferenceError::NotRelativeReference).
 impl From<URIReferenceError> for RelativeReferenceError {
-    ghost use Rattle.uriparse.specs.RelativeReference.{told};
+    ghost use Rattle.uriparse.specs.RelativeReference.{map_error};
 
-    ghost from_gives = { λ x e. e ≡ told x };
+    ghost from_gives = { λ x e. e ≡ map_error x };
 
     fn from(error: URIReferenceError) -> RelativeReferenceError {
         RelativeReferenceError::try_from(error).unwrap_or(

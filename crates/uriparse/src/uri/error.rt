@@ -85,7 +85,7 @@ impl From<SchemeError> for URIError {
     }
 }
 
-/// The error of a reference as that of a URI, or `Err` for `SchemelessPathStartsWithColonSegment`,
+/// The error of a reference as the error of a URI, or `Err` for `SchemelessPathStartsWithColonSegment`,
 /// which no URI has.
 impl TryFrom<URIReferenceError> for URIError {
     type Error = ();
@@ -112,12 +112,12 @@ impl TryFrom<URIReferenceError> for URIError {
     }
 }
 
-/// The error of a reference as that of a URI: `SchemelessPathStartsWithColonSegment`, which no
+/// The error of a reference as the error of a URI: `SchemelessPathStartsWithColonSegment`, which no
 /// URI has, is mapped to [`NotURI`](URIError::NotURI).
 impl From<URIReferenceError> for URIError {
-    ghost use Rattle.uriparse.specs.Uri.{told};
+    ghost use Rattle.uriparse.specs.Uri.{map_error};
 
-    ghost from_gives = { λ x e. e ≡ told x };
+    ghost from_gives = { λ x e. e ≡ map_error x };
 
     fn from(error: URIReferenceError) -> URIError {
         URIError::try_from(error).unwrap_or(URIError::NotURI)

@@ -4,7 +4,7 @@ ghost use Rattle.std.specs.Option.{option_map};
 ghost use Rattle.std.proofs.Common.{rules};
 ghost use Rattle.std.specs.Cmp.Rules.{comparing, hashing};
 ghost use Rattle.uriparse_text.specs.Bytes.{colon};
-ghost use Rattle.uriparse_text.specs.Cuts.{behind};
+ghost use Rattle.uriparse_text.specs.Cuts.{following};
 ghost use Rattle.uriparse_authority.specs.Port as ports;
 ghost use Rattle.uriparse_reference.specs.Ports.{port_or_default, without_default_port};
 ghost use Rattle.uriparse.specs.Origin as spec;
@@ -126,7 +126,7 @@ impl<'o> Hash for Origin<'o> {
 
 /// Appends a colon and the port, if there is one.
 fn push_port(text: &mut String, port: Option<u16>) -> Result<(), AllocError>
-    ensures { OnOk result (string_bytes text.new ≡ string_bytes text.old ++ behind colon (option_map ports.text port)) }
+    ensures { OnOk result (string_bytes text.new ≡ string_bytes text.old ++ following colon (option_map ports.text port)) }
 {
     if let Some(port) = port {
         write!(text, ":{port}")?;

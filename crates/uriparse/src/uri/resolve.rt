@@ -49,7 +49,7 @@ impl<'u> URI<'u> {
     {
         match resolve(alloc, &self.reference, reference) {
             Ok(target) => Ok(ReferenceOf::of_checked(target)),
-            Err(error) => Err(WithScheme::told(error)),
+            Err(error) => Err(WithScheme::map_error(error)),
         }
     }
 }

@@ -7,8 +7,8 @@ pub mod PrintedLemmas
 pub mod PieceLemmas
 pub mod LengthLemmas
 pub mod FaultLemmas
-pub mod PlaceLemmas
-pub mod PlaceByteLemmas
+pub mod OffsetLemmas
+pub mod OffsetByteLemmas
 pub mod EndLemmas
 pub mod SameTextLemmas
 pub mod NamedLemmas

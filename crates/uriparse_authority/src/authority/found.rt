@@ -6,7 +6,7 @@ ghost use Rattle.uriparse_authority.specs.Normal.{canonical_authority};
 ghost use Rattle.uriparse_authority.specs.Found.{IsNamed};
 ghost use Rattle.uriparse_authority.specs.declared.authority.host.Host.TheVariants as hosts;
 ghost use Rattle.uriparse_text.specs.Found.{if_there};
-ghost use Rattle.uriparse_text.specs.Spelling.{IsKept};
+ghost use Rattle.uriparse_text.specs.Spelling.{IsValidText};
 ghost use Rattle.uriparse_text.specs.declared.internal.class.Class.TheVariants as class;
 ghost use Rattle.uriparse_text.specs.declared.internal.canonical.Case.TheVariants as case;
 
@@ -43,7 +43,7 @@ impl<'a> Model for FoundAuthority<'a> {
 /// [`name_words`](FoundAuthority::name_words) told of it.
 #[inline(always)]
 pub fn found_named(bytes: &[u8], canonical: bool, port: Option<u16>) -> FoundAuthority<'_>
-    requires { IsKept class.Name case.Lowered canonical bytes.now }
+    requires { IsValidText class.Name case.Lowered canonical bytes.now }
     ensures { result ≡ record { username = None; password = None; host = hosts.RegisteredName bytes.now; port = port } }
 {
     found_authority(no_text(), no_text(), found_name(bytes, canonical), port)

@@ -4,7 +4,7 @@ ghost use Rattle.std.specs.Prelude.{◌≡◌, length};
 ghost use Rattle.std.specs.Option.{option_map};
 ghost use Rattle.uriparse_text.specs.declared.internal.canonical.Case.TheVariants as case;
 ghost use Rattle.uriparse_text.specs.Bytes.{at_sign, colon};
-ghost use Rattle.uriparse_text.specs.Cuts.{ahead, behind};
+ghost use Rattle.uriparse_text.specs.Cuts.{ahead, following};
 ghost use Rattle.uriparse_text.specs.Ends.{Puts, formed};
 ghost use Rattle.uriparse_authority.specs.Host as hosts;
 ghost use Rattle.uriparse_authority.specs.Port as ports;
@@ -13,13 +13,13 @@ ghost use Rattle.uriparse_authority.specs.Ends.{formed_authority, formed_host};
 
 use super::{Authority, Host, Password, Username};
 use uriparse_text::internal::{
-    Case, Form, put, put_behind, put_decimal, put_formed, put_ipv4, put_ipv6,
+    Case, Form, put, put_after, put_decimal, put_formed, put_ipv4, put_ipv6,
 };
 
 /// Puts a colon and the port, if there is one.
 fn put_port(port: Option<u16>, out: &mut [u8], len: usize) -> usize
     ensures room { length out.new ≡ length out.old }
-    ensures puts { Puts (behind colon (option_map ports.text port)) out.old len out.new result }
+    ensures puts { Puts (following colon (option_map ports.text port)) out.old len out.new result }
 {
     match port {
         Some(port) => {
@@ -67,7 +67,7 @@ fn put_user(
     match username {
         Some(username) => {
             let len = put(b"@", out, len);
-            let len = put_behind(form, b':', password, out, len);
+            let len = put_after(form, b':', password, out, len);
             put_formed(form, Case::Kept, username.as_bytes(), out, len)
         }
         None => len,

@@ -11,7 +11,7 @@ ghost use Rattle.uriparse_text.specs.Canonical.{canonical_lowered, fed_text, Spe
 ghost use Rattle.uriparse_text.specs.Coding.{decoded};
 ghost use Rattle.uriparse_text.specs.Tokens.{is_well_formed};
 ghost use Rattle.uriparse_text.specs.Readings.{reading_in};
-ghost use Rattle.uriparse_text.specs.Spelling.{IsKept};
+ghost use Rattle.uriparse_text.specs.Spelling.{IsValidText};
 ghost use Rattle.uriparse_text.specs.Starts.{Writes};
 ghost use Rattle.uriparse_authority.specs.Name as spec;
 
@@ -22,7 +22,9 @@ use std::fmt;
 use std::hash::{Hash, Hasher};
 use std::marker::Model;
 use uriparse_text::address::Ipv4Addr;
-use uriparse_text::internal::{Case, Class, Text, TextKind, TooSmall, kept_text, normalized_text};
+use uriparse_text::internal::{
+    Case, Class, Text, TextKind, TooSmall, normalized_text, text_from_checked,
+};
 
 /// The kind of text that a name is.
 struct NameKind;
@@ -94,12 +96,12 @@ impl<'n> RegisteredName<'n> {
 
     /// The name with these bytes, canonical if so marked.
     #[inline(always)]
-    pub(super) fn of_kept(bytes: &'n [u8], canonical: bool) -> RegisteredName<'n>
-        requires { IsKept class.Name case.Lowered canonical bytes.now }
+    pub(super) fn from_checked(bytes: &'n [u8], canonical: bool) -> RegisteredName<'n>
+        requires { IsValidText class.Name case.Lowered canonical bytes.now }
         ensures { result ≡ bytes.now }
     {
         RegisteredName {
-            text: kept_text(bytes, canonical),
+            text: text_from_checked(bytes, canonical),
         }
     }
 

@@ -48,7 +48,7 @@ impl TextKind for PasswordKind {
 /// report the leftmost fault: [`InvalidPercentEncoding`](PasswordError::InvalidPercentEncoding) for
 /// a `%` without two hexadecimal digits after it, else
 /// [`InvalidCharacter`](PasswordError::InvalidCharacter). Two passwords are equal if their
-/// canonical spellings are. The calls are those of [`Text`].
+/// canonical spellings are. It has the calls of [`Text`].
 ///
 /// ```
 /// let password = Password::try_from_str("a:%7e")?;

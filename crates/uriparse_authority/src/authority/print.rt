@@ -2,7 +2,7 @@
 ghost use Rattle.std.specs.Option.{option_map};
 ghost use Rattle.std.specs.Fmt.{WritesOnOk, WritesStyledOnOk};
 ghost use Rattle.uriparse_text.specs.Bytes.{at_sign, colon};
-ghost use Rattle.uriparse_text.specs.Cuts.{ahead, behind};
+ghost use Rattle.uriparse_text.specs.Cuts.{ahead, following};
 ghost use Rattle.uriparse_authority.specs.Authority.{userinfo};
 ghost use Rattle.uriparse_authority.specs.Port as ports;
 
@@ -15,8 +15,8 @@ fn write_password<W: fmt::Write>(
     password: &Option<Password<'_>>,
     f: &mut fmt::Formatter<W>,
 ) -> fmt::Result
-    ensures writes { WritesOnOk W.write_str_gives f.old result (behind colon password.now) f.new }
-    ensures styled { WritesStyledOnOk W.write_str_gives f.old result (behind colon password.now) f.new }
+    ensures writes { WritesOnOk W.write_str_gives f.old result (following colon password.now) f.new }
+    ensures styled { WritesStyledOnOk W.write_str_gives f.old result (following colon password.now) f.new }
 {
     if let Some(password) = password {
         f.write_str(":")?;
@@ -44,8 +44,8 @@ pub(super) fn write_user<W: fmt::Write>(
 
 /// Writes a colon and the port, if there is one.
 pub(super) fn write_port<W: fmt::Write>(port: Option<u16>, f: &mut fmt::Formatter<W>) -> fmt::Result
-    ensures writes { WritesOnOk W.write_str_gives f.old result (behind colon (option_map ports.text port)) f.new }
-    ensures styled { WritesStyledOnOk W.write_str_gives f.old result (behind colon (option_map ports.text port)) f.new }
+    ensures writes { WritesOnOk W.write_str_gives f.old result (following colon (option_map ports.text port)) f.new }
+    ensures styled { WritesStyledOnOk W.write_str_gives f.old result (following colon (option_map ports.text port)) f.new }
 {
     if let Some(port) = port {
         f.write_str(":")?;

@@ -12,7 +12,7 @@ use super::read::{split_port, split_userinfo};
 use super::{Authority, Host};
 use uriparse_text::internal::{Form, put_decimal};
 
-/// Whether the text is that of the port.
+/// Whether the text is the port's.
 fn is_decimal(port: u16, text: &[u8]) -> bool
     ensures { IsTrue result ↔ (ports.text port ≡ text.now) }
 {
@@ -21,7 +21,7 @@ fn is_decimal(port: u16, text: &[u8]) -> bool
     &buffer[5 - len..] == text
 }
 
-/// Whether the text is that of the port, or there is neither.
+/// Whether the text is the port's, or there is neither.
 fn is_printed_port(port: Option<u16>, text: Option<&[u8]>) -> bool
     ensures { IsTrue result ↔ (option_map ports.text port ≡ option_copied text.entry) }
 {
@@ -32,7 +32,7 @@ fn is_printed_port(port: Option<u16>, text: Option<&[u8]>) -> bool
     }
 }
 
-/// Whether the text is that of the host, which is short.
+/// Whether the text is the host's, which is short.
 fn is_short_host(host: &Host<'_>, text: &[u8]) -> bool
     requires { length (hosts.text host.now) ≤ 41 }
     ensures { IsTrue result ↔ (hosts.text host.now ≡ text.now) }

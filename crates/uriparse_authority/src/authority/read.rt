@@ -4,7 +4,7 @@ ghost use Rattle.std.specs.Option.{option_copied};
 ghost use Rattle.uriparse_text.specs.declared.internal.class.Class.TheVariants as class;
 ghost use Rattle.uriparse_text.specs.declared.internal.canonical.Case.TheVariants as case;
 ghost use Rattle.uriparse_text.specs.Cuts.{up_to, from_first};
-ghost use Rattle.uriparse_text.specs.Spelling.{IsKept};
+ghost use Rattle.uriparse_text.specs.Spelling.{IsValidText};
 ghost use Rattle.uriparse_authority.specs.Authority as authority;
 ghost use Rattle.uriparse_authority.specs.Host as host;
 
@@ -17,7 +17,7 @@ use super::{Authority, AuthorityError, Host, HostError, PortError, parse_port};
 use uriparse_text::address::Ipv4Addr;
 use uriparse_text::internal::{
     Case, Class, Found, IsAny, find_text_before, find_text_if, first, no_text, split_at_mark,
-    split_settled, without_mark,
+    split_canonical_prefix, without_mark,
 };
 
 /// The user information, which is the text before the first `@`, and what follows the `@`; without
@@ -71,7 +71,7 @@ pub fn split_port(text: &[u8]) -> (&[u8], Option<&[u8]>)
 /// Finds the host that a text of the class of names spells, canonical if so marked.
 #[inline(always)]
 fn find_name_host(bytes: &[u8], canonical: bool) -> FoundHost<'_>
-    requires { IsKept class.Name case.Lowered canonical bytes.now }
+    requires { IsValidText class.Name case.Lowered canonical bytes.now }
     ensures { host.Spells bytes.now result }
 {
     if let Some(address) = Ipv4Addr::parse_bytes(bytes) {
@@ -83,7 +83,7 @@ fn find_name_host(bytes: &[u8], canonical: bool) -> FoundHost<'_>
 /// Finds the authority of such a text: that host alone.
 #[inline(always)]
 fn find_host_alone(bytes: &[u8], canonical: bool) -> FoundAuthority<'_>
-    requires { IsKept class.Name case.Lowered canonical bytes.now }
+    requires { IsValidText class.Name case.Lowered canonical bytes.now }
     ensures { authority.reading bytes.now ≡ Ok result }
 {
     found_authority(no_text(), no_text(), find_name_host(bytes, canonical), None)
@@ -146,7 +146,7 @@ fn ends_before(rest: &[u8]) -> bool
 pub fn find_authority(text: &[u8]) -> Result<(FoundAuthority<'_>, &[u8]), AuthorityError>
     ensures { MatchResult result (λ r. (authority.reading (up_to authority.ends_authority text.now) ≡ Ok r.0) × (r.1.now ≡ from_first authority.ends_authority text.now)) (λ e. authority.reading (up_to authority.ends_authority text.now) ≡ Err e) }
 {
-    let (name, rest) = split_settled(Class::Name, Case::Lowered, text);
+    let (name, rest) = split_canonical_prefix(Class::Name, Case::Lowered, text);
     if ends_before(rest) {
         return Ok((find_host_alone(name, true), rest));
     }

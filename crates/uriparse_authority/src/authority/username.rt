@@ -50,7 +50,7 @@ impl TextKind for UsernameKind {
 /// report the leftmost fault: [`InvalidPercentEncoding`](UsernameError::InvalidPercentEncoding) for
 /// a `%` without two hexadecimal digits after it, [`ContainsColon`](UsernameError::ContainsColon)
 /// for a `:`, else [`InvalidCharacter`](UsernameError::InvalidCharacter). Two user names are equal
-/// if their canonical spellings are. The calls are those of [`Text`].
+/// if their canonical spellings are. It has the calls of [`Text`].
 ///
 /// ```
 /// let user = Username::try_from_str("j%2e+doe")?;

@@ -3,7 +3,7 @@ use Rattle.std.proofs.Common.{◌≡◌, ◌++◌, ℕ, Option, Some, None, refl
 use Rattle.std.specs.Prelude.{codes}
 use Rattle.std.specs.Option.{option_map, option_and_then, option_or}
 use Rattle.uriparse_text.specs.Bytes.{colon}
-use Rattle.uriparse_text.specs.Cuts.{behind}
+use Rattle.uriparse_text.specs.Cuts.{following}
 use Rattle.uriparse_scheme.specs.declared.scheme.Scheme.{Scheme}
 use Rattle.uriparse_scheme.specs.DefaultPort.{default_port}
 use Rattle.uriparse_scheme.specs.Scheme as scheme
@@ -26,7 +26,7 @@ host_text (RegisteredName n) = refl
 
 -- the pieces have the text of the origin
 pub text_is : (o : Origin) → text_of (pieces_of o).0 (pieces_of o).1 ≡ text o
-text_is o = ap (λ t. scheme.canonical_text o.scheme ++ (codes "://" ++ (t ++ behind colon (option_map port.text (named_port o))))) (host_text o.host)
+text_is o = ap (λ t. scheme.canonical_text o.scheme ++ (codes "://" ++ (t ++ following colon (option_map port.text (named_port o))))) (host_text o.host)
 
 -- the pieces are those of the reference's origin
 pub pieces_are : (p : Parts) → pieces_from p.scheme p.authority ≡ option_map pieces_of (origin p)

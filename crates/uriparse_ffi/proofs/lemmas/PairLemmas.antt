@@ -5,7 +5,7 @@ use Rattle.std.proofs.Math.Seq.{drop-append-add}
 use Rattle.std.proofs.lemmas.List.{length-append, length-drop, drop-drop}
 use Rattle.std.proofs.lemmas.Bool.{le-leb, lt-leb, leb-true, leb-false}
 use Rattle.uriparse_text.specs.Bytes.{ampersand}
-use Rattle.uriparse_text.specs.Cuts.{behind, before, after}
+use Rattle.uriparse_text.specs.Cuts.{following, before, after}
 use Rattle.uriparse_text.specs.Pairs.{Pair, pair_of, pairs_left}
 use Rattle.uriparse_text.proofs.lemmas.readings.CutLemmas.{before_after}
 use Rattle.uriparse_text.proofs.lemmas.readings.PairLemmas.{first_pair}
@@ -21,7 +21,7 @@ pub left_none : (q : List ℕ) (at : ℕ) → length q < at → left_from q at �
 left_none q at h = ap (left q at) (lt-leb at (length q) h)
 
 -- after a first text and a delimiter is what follows them
-after_is : (mark : ℕ) (s t : List ℕ) (o : Option (List ℕ)) → s ++ behind mark o ≡ t → left_from t (length s + 1) ≡ o
+after_is : (mark : ℕ) (s t : List ℕ) (o : Option (List ℕ)) → s ++ following mark o ≡ t → left_from t (length s + 1) ≡ o
 after_is mark s t None h =
     let whole : length s ≡ length t = ap length (sym (append-nil s) ∙ h) in
     left_none t (length s + 1) (omega arith)
@@ -46,8 +46,8 @@ left_twice q at n h = by_room (nat_le n (length (drop at q))) refl
         let room : length (drop at q) < n = leb-false n (length (drop at q)) e in
         left_none (drop at q) n room ∙ sym (left_none q (at + n) (omega (arith, len)))
 
-pub cut_size : (mark : ℕ) (t : List ℕ) → length (before mark t) + length (behind mark (after mark t)) ≡ length t
-cut_size mark t = sym (length-append (before mark t) (behind mark (after mark t))) ∙ ap length (before_after mark t)
+pub cut_size : (mark : ℕ) (t : List ℕ) → length (before mark t) + length (following mark (after mark t)) ≡ length t
+cut_size mark t = sym (length-append (before mark t) (following mark (after mark t))) ∙ ap length (before_after mark t)
 
 -- the slice of a text from there to its end
 pub to_end : (q : List ℕ) (at : ℕ) → take (length q - at) (drop at q) ≡ drop at q

@@ -7,7 +7,7 @@ use Rattle.uriparse_scheme.specs.Scheme as scheme
 use Rattle.uriparse_reference.specs.declared.uri_reference.error.URIReferenceError.{URIReferenceError}
 use Rattle.uriparse_reference.specs.Reference.{Parts, Spells}
 use Rattle.uriparse_reference.specs.Reading.{reading, fault}
-use Rattle.uriparse_reference.specs.Place.{fault_place, first_fault}
+use Rattle.uriparse_reference.specs.Offset.{fault_offset, first_fault}
 use Rattle.uriparse_reference.specs.Cuts.{scheme_text, authority_text, path_text, query_text, fragment_text}
 use Rattle.uriparse_reference.proofs.lemmas.reading.CutLemmas.{IsCutInto, cut_again}
 use Rattle.uriparse_reference.proofs.lemmas.reading.ReadingLemmas.{again, found, spelled_pieces}
@@ -46,7 +46,7 @@ no_fault t p e s h =
 
 pub no_first_fault : (t : List ℕ) (p : Parts) (f : ℕ × URIReferenceError) → Spells t p → first_fault t ≡ Some f → ⊥
 no_first_fault t p f s h =
-    let none : first_fault t ≡ None = ap (λ o. option_map (λ e. (fault_place e t, e)) (fault_in o)) (again t p s) in
+    let none : first_fault t ≡ None = ap (λ o. option_map (λ e. (fault_offset e t, e)) (fault_in o)) (again t p s) in
     absurd (cc)
 
 pub no_fault_read : (t : List ℕ) (p : Parts) (e : URIReferenceError) → reading t ≡ Ok p → fault t ≡ Some e → ⊥

@@ -4,21 +4,21 @@ use Rattle.std.specs.Prelude.{unwrap_or}
 use Rattle.std.proofs.lemmas.List.{length-append}
 use Rattle.std.proofs.Math.Seq.{drop-append_seam, take-append_seam}
 use Rattle.uriparse_text.specs.Bytes.{colon, at_sign, question_mark, number_sign}
-use Rattle.uriparse_text.specs.Cuts.{ahead, behind, before, after}
+use Rattle.uriparse_text.specs.Cuts.{ahead, following, before, after}
 use Rattle.uriparse_text.proofs.lemmas.readings.CutLemmas.{before_after, front_rest}
 use Rattle.uriparse_authority.specs.Authority.{cut_host, cut_port, userinfo_text, host_and_port_text}
 use Rattle.uriparse_authority.proofs.lemmas.authorities.AuthorityLemmas.{right_is}
-use Rattle.uriparse_reference.specs.Reference.{behind_slashes}
+use Rattle.uriparse_reference.specs.Reference.{after_slashes}
 use Rattle.uriparse_reference.specs.Cuts.{scheme_text, authority_text, path_text, query_text, fragment_text}
 use Rattle.uriparse_reference.proofs.lemmas.reading.ReadingLemmas.{whole_is}
 use Rattle.uriparse_ffi.specs.Spans.{span}
 use Rattle.uriparse_ffi.specs.declared.span.UriSpan.{UriSpan}
 
-pub host_port_size : (t : List ℕ) → length (cut_host t) + length (behind colon (cut_port t)) ≡ length t
-host_port_size t = sym (length-append (cut_host t) (behind colon (cut_port t))) ∙ ap length (right_is t)
+pub host_port_size : (t : List ℕ) → length (cut_host t) + length (following colon (cut_port t)) ≡ length t
+host_port_size t = sym (length-append (cut_host t) (following colon (cut_port t))) ∙ ap length (right_is t)
 
-pub user_size : (i : List ℕ) → length (before colon i) + length (behind colon (after colon i)) ≡ length i
-user_size i = sym (length-append (before colon i) (behind colon (after colon i))) ∙ ap length (before_after colon i)
+pub user_size : (i : List ℕ) → length (before colon i) + length (following colon (after colon i)) ≡ length i
+user_size i = sym (length-append (before colon i) (following colon (after colon i))) ∙ ap length (before_after colon i)
 
 pub userinfo_size : (a : List ℕ) → length (ahead at_sign (userinfo_text a)) + length (host_and_port_text a) ≡ length a
 userinfo_size a = sym (length-append (ahead at_sign (userinfo_text a)) (host_and_port_text a)) ∙ ap length (front_rest at_sign a)
@@ -28,44 +28,44 @@ ahead_size mark None = omega arith
 ahead_size mark (Some t) = let whole = length-append t (mark ∷ []) in omega arith
 
 -- a delimiter is one byte, whichever it is, before the component or after it
-pub behind_size : (m n : ℕ) (o : Option (List ℕ)) → length (behind m o) ≡ length (behind n o)
-behind_size m n None = refl
-behind_size m n (Some t) = refl
+pub after_size : (m n : ℕ) (o : Option (List ℕ)) → length (following m o) ≡ length (following n o)
+after_size m n None = refl
+after_size m n (Some t) = refl
 
-pub ahead_behind : (o : Option (List ℕ)) → length (behind colon o) ≡ length (ahead colon o)
-ahead_behind None = refl
-ahead_behind (Some t) = let whole = length-append t (colon ∷ []) in omega arith
+pub ahead_after : (o : Option (List ℕ)) → length (following colon o) ≡ length (ahead colon o)
+ahead_after None = refl
+ahead_after (Some t) = let whole = length-append t (colon ∷ []) in omega arith
 
-pub slashes_size : (o : Option (List ℕ)) → length (unwrap_or o []) ≤ length (behind_slashes o)
+pub slashes_size : (o : Option (List ℕ)) → length (unwrap_or o []) ≤ length (after_slashes o)
 slashes_size None = omega arith
 slashes_size (Some t) = omega arith
 
-pub sizes : (t : List ℕ) → length t ≡ length (ahead colon (scheme_text t)) + (length (behind_slashes (authority_text t)) + (length (path_text t)
-    + (length (behind question_mark (query_text t)) + length (behind number_sign (fragment_text t)))))
+pub sizes : (t : List ℕ) → length t ≡ length (ahead colon (scheme_text t)) + (length (after_slashes (authority_text t)) + (length (path_text t)
+    + (length (following question_mark (query_text t)) + length (following number_sign (fragment_text t)))))
 sizes t =
     let s = ahead colon (scheme_text t) in
-    let a = behind_slashes (authority_text t) in
+    let a = after_slashes (authority_text t) in
     let h = path_text t in
-    let q = behind question_mark (query_text t) in
-    let f = behind number_sign (fragment_text t) in
+    let q = following question_mark (query_text t) in
+    let f = following number_sign (fragment_text t) in
     ap length (whole_is t) ∙ length-append s (a ++ (h ++ (q ++ f)))
     ∙ ap (λ n. length s + n) (length-append a (h ++ (q ++ f))
     ∙ ap (λ n. length a + n) (length-append h (q ++ f) ∙ ap (λ n. length h + n) (length-append q f)))
 
 -- what follows the scheme: an authority with its slashes, and the rest
 after_front : (t : List ℕ) → drop (length (ahead colon (scheme_text t))) t
-    ≡ behind_slashes (authority_text t) ++ (path_text t ++ (behind question_mark (query_text t) ++ behind number_sign (fragment_text t)))
+    ≡ after_slashes (authority_text t) ++ (path_text t ++ (following question_mark (query_text t) ++ following number_sign (fragment_text t)))
 after_front t =
-    let rest = behind_slashes (authority_text t) ++ (path_text t ++ (behind question_mark (query_text t) ++ behind number_sign (fragment_text t))) in
+    let rest = after_slashes (authority_text t) ++ (path_text t ++ (following question_mark (query_text t) ++ following number_sign (fragment_text t))) in
     ap (drop (length (ahead colon (scheme_text t)))) (whole_is t) ∙ drop-append_seam (ahead colon (scheme_text t)) rest
 
 -- between the scheme and the path is the authority with its slashes
-pub between : (t : List ℕ) (b n : ℕ) → b ≡ length (ahead colon (scheme_text t)) → n ≡ length (behind_slashes (authority_text t))
-    → take n (drop b t) ≡ behind_slashes (authority_text t)
+pub between : (t : List ℕ) (b n : ℕ) → b ≡ length (ahead colon (scheme_text t)) → n ≡ length (after_slashes (authority_text t))
+    → take n (drop b t) ≡ after_slashes (authority_text t)
 between t b n f g =
-    let rest = path_text t ++ (behind question_mark (query_text t) ++ behind number_sign (fragment_text t)) in
-    ap (λ x. take n (drop x t)) f ∙ ap (take n) (after_front t) ∙ ap (λ x. take x (behind_slashes (authority_text t) ++ rest)) g
-    ∙ take-append_seam (behind_slashes (authority_text t)) rest
+    let rest = path_text t ++ (following question_mark (query_text t) ++ following number_sign (fragment_text t)) in
+    ap (λ x. take n (drop x t)) f ∙ ap (take n) (after_front t) ∙ ap (λ x. take x (after_slashes (authority_text t) ++ rest)) g
+    ∙ take-append_seam (after_slashes (authority_text t)) rest
 
 abbrev span_from : ℕ → ℕ → UriSpan
 span_from x y = record { begin = x; end = y; present = 1 }

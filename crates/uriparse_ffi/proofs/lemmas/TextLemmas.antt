@@ -3,7 +3,7 @@ use Rattle.std.proofs.Common.{◌≡◌, ℕ, List, true, false, length, Option,
 use Rattle.std.specs.Prelude.{Result, MatchOption, is_some}
 use Rattle.uriparse_reference.specs.declared.uri_reference.error.BufferError.{BufferError}
 use Rattle.uriparse_reference.specs.declared.uri_reference.error.BufferError.TheVariants as buffers
-use Rattle.uriparse_text.specs.declared.internal.starts.TooSmall.{TooSmall}
+use Rattle.uriparse_text.specs.declared.internal.forward_buffer.TooSmall.{TooSmall}
 use Rattle.uriparse_text.specs.Starts.{Writes as WritesText}
 use Rattle.uriparse_text.proofs.lemmas.tokens.StartLemmas.{too_short}
 use Rattle.uriparse_reference.specs.Into.{Writes}

@@ -1,6 +1,6 @@
-pub mod EndingLemmas
-pub mod LeftLemmas
+pub mod BackwardLemmas
+pub mod RemainingLemmas
 pub mod UndottedLemmas
 pub mod KeptLemmas
-pub mod RelativeLeftLemmas
+pub mod RelativeRemainingLemmas
 pub mod NormalTextLemmas

@@ -1,5 +1,5 @@
 pub mod FaultLemmas
-pub mod PlaceLemmas
+pub mod OffsetLemmas
 pub mod CountingWalkLemmas
 pub mod CuttingWalkLemmas
 pub mod ReadingLemmas

@@ -6,5 +6,5 @@ pub mod CanonicalPiecesLemmas
 pub mod SpelledAlikeLemmas
 pub mod HashLemmas
 pub mod TextWalkLemmas
-pub mod HeadLemmas
+pub mod DotCandidateLemmas
 pub mod LastLemmas

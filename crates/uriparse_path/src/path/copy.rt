@@ -1,7 +1,7 @@
 //! Copies of a path. They allocate the list of several segments.
 ghost use Rattle.std.specs.Prelude.{◌≡◌, IfOk};
 
-use super::list::{Kept, SegmentList};
+use super::list::{SegmentList, Storage};
 use super::segments::push_borrowed;
 use super::{Path, Segment};
 use std::alloc::{AllocError, Global};
@@ -40,8 +40,8 @@ fn borrowed_list<'s>(
     ensures { IfOk result (λ l. l ≡ list.now) }
 {
     match &list.kept {
-        Kept::One(only) => Ok(SegmentList::one(only.as_borrowed())),
-        Kept::Many(segments) => Ok(SegmentList::several(borrowed_segments(alloc, segments)?)),
+        Storage::One(only) => Ok(SegmentList::one(only.as_borrowed())),
+        Storage::Many(segments) => Ok(SegmentList::several(borrowed_segments(alloc, segments)?)),
     }
 }
 
@@ -53,8 +53,8 @@ fn owned_list(
     ensures { IfOk result (λ l. l ≡ list.entry) }
 {
     match list.kept {
-        Kept::One(only) => Ok(SegmentList::one(only.into_owned(alloc)?)),
-        Kept::Many(segments) => Ok(SegmentList::several(owned_segments(alloc, segments)?)),
+        Storage::One(only) => Ok(SegmentList::one(only.into_owned(alloc)?)),
+        Storage::Many(segments) => Ok(SegmentList::several(owned_segments(alloc, segments)?)),
     }
 }
 

@@ -5,13 +5,13 @@ ghost use Rattle.uriparse_text.specs.Bytes.{dot};
 ghost use Rattle.uriparse_text.specs.Canonical.{canonical};
 ghost use Rattle.uriparse_text.specs.Segment.{is_dot_segment, is_segment};
 ghost use Rattle.uriparse_path.specs.Dots.{all_but_last, has_dot_segment};
-ghost use Rattle.uriparse_path.specs.Normal.{climbs_first, is_canonical};
+ghost use Rattle.uriparse_path.specs.Normal.{begins_with_double_dots, is_canonical};
 ghost use Rattle.uriparse_path.specs.Edits.{with_last};
 ghost use Rattle.uriparse_path.specs.Counts as spec;
 
 use super::Segment;
 use super::counts::Counts;
-use super::segments::takes_the_place;
+use super::segments::replaces_only_empty;
 
 /// The number, plus one if `is_more`.
 #[inline(always)]
@@ -52,7 +52,7 @@ impl Counts {
             single: 0,
             double: 0,
             leading: 0,
-            strays: 0,
+            non_canonical: 0,
         }
     }
 
@@ -66,7 +66,7 @@ impl Counts {
             single: one_more(0, dotted),
             double: 0,
             leading: 0,
-            strays: 0,
+            non_canonical: 0,
         }
     }
 
@@ -100,7 +100,7 @@ impl Counts {
             single: one_more(self.single, is_single),
             double: one_more(self.double, is_double),
             leading: one_more(self.leading, leads),
-            strays: self.strays,
+            non_canonical: self.non_canonical,
         }
     }
 
@@ -118,7 +118,7 @@ impl Counts {
                 self.leading,
                 is_double && self.leading as usize == segments.len(),
             ),
-            strays: one_more(self.strays, !last.is_normalized()),
+            non_canonical: one_more(self.non_canonical, !last.is_normalized()),
         }
     }
 
@@ -140,7 +140,10 @@ impl Counts {
     pub(super) fn of_canonical(self) -> Counts
         ensures { (ss : List (List ℕ)) → self ≡ spec.counts ss → list_all is_segment ss ≡ true → result ≡ spec.counts (map canonical ss) }
     {
-        Counts { strays: 0, ..self }
+        Counts {
+            non_canonical: 0,
+            ..self
+        }
     }
 
     /// The counts of one list followed by another, from the counts of both.
@@ -155,7 +158,7 @@ impl Counts {
             single: self.single + more.single,
             double: self.double + more.double,
             leading: self.leading + if climbing { more.leading } else { 0 },
-            strays: self.strays + more.strays,
+            non_canonical: self.non_canonical + more.non_canonical,
         }
     }
 
@@ -174,7 +177,7 @@ impl Counts {
                         self.leading,
                         is_double && self.leading as usize == segments.len(),
                     ),
-                    strays: one_less(self.strays, !last.is_normalized()),
+                    non_canonical: one_less(self.non_canonical, !last.is_normalized()),
                 }
             }
             None => self,
@@ -188,7 +191,7 @@ impl Counts {
         requires room { length segments.now < u32.MAX }
         ensures { result ≡ spec.counts (with_last segments.now segment.now) }
     {
-        if takes_the_place(segments, segment) {
+        if replaces_only_empty(segments, segment) {
             return Counts::none().with(&[], segment);
         }
         self.with(segments, segment)
@@ -204,8 +207,8 @@ impl Counts {
 
     /// Whether `..` segments come first and no dot segment follows them.
     #[inline]
-    pub(super) fn climbs_first(self) -> bool
-        ensures { (ss : List (List ℕ)) → self ≡ spec.counts ss → result ≡ climbs_first ss }
+    pub(super) fn begins_with_double_dots(self) -> bool
+        ensures { (ss : List (List ℕ)) → self ≡ spec.counts ss → result ≡ begins_with_double_dots ss }
     {
         self.single == 0 && self.double == self.leading
     }
@@ -215,6 +218,6 @@ impl Counts {
     pub(super) fn all_canonical(self) -> bool
         ensures { (ss : List (List ℕ)) → self ≡ spec.counts ss → result ≡ list_all is_canonical ss }
     {
-        self.strays == 0
+        self.non_canonical == 0
     }
 }

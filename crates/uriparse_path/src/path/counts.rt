@@ -9,7 +9,7 @@ pub struct Counts {
     pub(super) single: u32,
     pub(super) double: u32,
     pub(super) leading: u32,
-    pub(super) strays: u32,
+    pub(super) non_canonical: u32,
 }
 
 /// An element of a list whose segments can be counted.

@@ -2,11 +2,13 @@
 ghost use Rattle.std.specs.Prelude.{◌≡◌, ◌+◌, ◌<◌, ◌≤◌, ◌&&◌, ◌||◌, [], length, not, true, false, take, drop};
 ghost use Rattle.uriparse_path.specs.Path as paths;
 ghost use Rattle.uriparse_path.specs.Dots as spec;
-ghost use Rattle.uriparse_path.specs.Edits.{shield_unless};
+ghost use Rattle.uriparse_path.specs.Edits.{with_dot_prefix_unless};
 
 use super::counts::Counts;
 use super::list::SegmentList;
-use super::segments::{begins_twice, guard, has_dot_segment, hides_root};
+use super::segments::{
+    has_dot_segment, starts_with_empty_segment, starts_with_two_slashes, truncate_with_leading_dot,
+};
 use super::{Path, Segment, word_of};
 
 /// Replays the segment at `at` on the output so far, which is the first `kept` of the list. Returns
@@ -74,7 +76,11 @@ fn replay_list(absolute: bool, segments: &mut SegmentList<Segment<'_>>) -> (bool
 /// Makes the first `kept` of the list the segments of the path that their text spells: without a
 /// slash before it, an empty first segment that others follow is removed. Returns whether a slash
 /// precedes the segments then, and how many are left.
-fn root_first(rooted: bool, segments: &mut SegmentList<Segment<'_>>, kept: usize) -> (bool, usize)
+fn absorb_empty_first(
+    rooted: bool,
+    segments: &mut SegmentList<Segment<'_>>,
+    kept: usize,
+) -> (bool, usize)
     requires within { kept ≤ length segments.old }
     ensures path { record { absolute = result.0; segments = take result.1 segments.new } ≡ paths.respelled (record { absolute = rooted; segments = take kept segments.old }) }
     ensures within { result.1 ≤ length segments.new }
@@ -84,7 +90,7 @@ fn root_first(rooted: bool, segments: &mut SegmentList<Segment<'_>>, kept: usize
     if rooted {
         return (true, kept);
     }
-    let hides = hides_root(&segments.as_slice()[..kept]);
+    let hides = starts_with_empty_segment(&segments.as_slice()[..kept]);
     if !hides {
         return (false, kept);
     }
@@ -93,10 +99,10 @@ fn root_first(rooted: bool, segments: &mut SegmentList<Segment<'_>>, kept: usize
 }
 
 /// Whether no authority precedes the path with these segments and its text begins with two slashes.
-fn needs_shield(has_authority: bool, absolute: bool, segments: &[Segment<'_>]) -> bool
-    ensures { result ≡ (not has_authority && (paths.hides_root segments.now && (absolute || paths.hides_root (drop 1 segments.now)))) }
+fn needs_dot_prefix(has_authority: bool, absolute: bool, segments: &[Segment<'_>]) -> bool
+    ensures { result ≡ (not has_authority && (paths.starts_with_empty_segment segments.now && (absolute || paths.starts_with_empty_segment (drop 1 segments.now)))) }
 {
-    !has_authority && begins_twice(absolute, segments)
+    !has_authority && starts_with_two_slashes(absolute, segments)
 }
 
 /// Whether the path has a dot segment.
@@ -116,8 +122,8 @@ pub fn has_dots(path: &Path<'_>) -> bool
 /// that would start with `//` gets a leading `/.`. Does not allocate: the list has capacity for it,
 /// since it has become shorter.
 pub fn remove_dots(path: &mut Path<'_>, has_authority: bool)
-    requires { has_authority ≡ false → paths.hides_root path.old.segments ≡ false }
-    ensures { path.new ≡ shield_unless has_authority (spec.without_dots path.old) }
+    requires { has_authority ≡ false → paths.starts_with_empty_segment path.old.segments ≡ false }
+    ensures { path.new ≡ with_dot_prefix_unless has_authority (spec.without_dots path.old) }
 {
     if has_dots(path) {
         path.take_dots(has_authority);
@@ -136,17 +142,21 @@ impl<'p> Path<'p> {
 
     /// Removes the dot segments of a path that has one.
     fn take_dots(&mut self, has_authority: bool)
-        requires shown { has_authority ≡ false → paths.hides_root self.old.segments ≡ false }
+        requires shown { has_authority ≡ false → paths.starts_with_empty_segment self.old.segments ≡ false }
         requires dots { spec.has_dot_segment self.old.segments ≡ true }
         requires listed { paths.IsListed self.old.segments }
-        ensures { self.new ≡ shield_unless has_authority (spec.without_dots self.old) }
+        ensures { self.new ≡ with_dot_prefix_unless has_authority (spec.without_dots self.old) }
     {
         let all_canonical = self.is_known_canonical();
         let (rooted, kept) = replay_list(self.absolute != 0, &mut self.segments);
-        let (absolute, kept) = root_first(rooted, &mut self.segments, kept);
-        let shielded = needs_shield(has_authority, absolute, &self.segments.as_slice()[..kept]);
-        guard(&mut self.segments, shielded, kept);
-        self.counts = Counts::without_dots(shielded);
+        let (absolute, kept) = absorb_empty_first(rooted, &mut self.segments, kept);
+        let dot_prefixed = needs_dot_prefix(
+            has_authority,
+            absolute,
+            &self.segments.as_slice()[..kept],
+        );
+        truncate_with_leading_dot(&mut self.segments, dot_prefixed, kept);
+        self.counts = Counts::without_dots(dot_prefixed);
         self.known = word_of(all_canonical);
         self.absolute = word_of(absolute);
     }

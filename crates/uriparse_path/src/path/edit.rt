@@ -12,7 +12,7 @@ ghost use Rattle.uriparse_path.specs.Relative.{filled};
 
 use super::counts::{Counts, Dotted};
 use super::list::SegmentList;
-use super::segments::takes_the_place;
+use super::segments::replaces_only_empty;
 use super::{MAX_SEGMENTS, Path, PathError, PathOf, Segment, word_of};
 use std::alloc::{AllocError, Global};
 
@@ -25,7 +25,7 @@ fn put_last<'p>(
     requires { 0 < length segments.old }
     ensures { MatchResult result (λ _. segments.new ≡ spec.with_last segments.old segment.entry) (λ e. (e ≡ errors.OutOfMemory) × (segments.new ≡ segments.old)) }
 {
-    if takes_the_place(segments.as_slice(), &segment) {
+    if replaces_only_empty(segments.as_slice(), &segment) {
         segments.put(0, segment);
         return Ok(());
     }

@@ -6,7 +6,7 @@ ghost use Rattle.uriparse_text.specs.Cuts.{lacks, up_to};
 ghost use Rattle.uriparse_path.specs.Path as spec;
 
 use super::Path;
-use super::segments::{begins_twice, has_first_colon, hides_root};
+use super::segments::{has_first_colon, starts_with_empty_segment, starts_with_two_slashes};
 
 /// An upper bound of the length of the path's text in bytes, or `usize::MAX`.
 pub fn most_path_bytes(path: &Path<'_>) -> usize
@@ -24,7 +24,7 @@ pub fn has_two_slashes(path: &Path<'_>) -> bool
     ensures answer { result ≡ spec.has_two_slashes (spec.text path.now) }
     ensures listed { spec.IsListed path.now.segments }
 {
-    begins_twice(path.is_absolute(), path.segments())
+    starts_with_two_slashes(path.is_absolute(), path.segments())
 }
 
 /// Whether no colon precedes the first slash of the path's text.
@@ -39,7 +39,7 @@ pub fn lacks_colon_segment(path: &Path<'_>) -> bool
 pub fn respell(path: &mut Path<'_>)
     ensures { path.new ≡ spec.spelled (spec.text path.old) }
 {
-    if !hides_root(path.segments()) {
+    if !starts_with_empty_segment(path.segments()) {
         return;
     }
     if path.is_absolute() {

@@ -9,24 +9,24 @@ use std::{mem, slice};
 
 /// Where a list keeps its elements.
 #[derive(Drop)]
-pub(super) enum Kept<S> {
+pub(super) enum Storage<S> {
     One(S),
     Many(Vec<S>),
 }
 
-impl<S: Dotted> Kept<S> {
+impl<S: Dotted> Storage<S> {
     ghost use Rattle.std.specs.Borrow.{sem};
     ghost use Rattle.uriparse_path.specs.List.{elements};
-    ghost use Rattle.uriparse_path.specs.ListLends.{lends_kept};
+    ghost use Rattle.uriparse_path.specs.ListLends.{lends_storage};
 
     /// The elements, for writing.
     fn as_mut_slice(&mut self) -> &mut [S]
-        ensures* lends { sem 𝓛 (lends_kept S.row S.Dotted self.entry result) }
+        ensures* lends { sem 𝓛 (lends_storage S.row S.Dotted self.entry result) }
         ensures value { result.now ≡ elements self.old }
     {
         match self {
-            Kept::One(only) => slice::from_mut(only),
-            Kept::Many(list) => list.as_mut_slice(),
+            Storage::One(only) => slice::from_mut(only),
+            Storage::Many(list) => list.as_mut_slice(),
         }
     }
 }
@@ -34,7 +34,7 @@ impl<S: Dotted> Kept<S> {
 /// A list of segments. The only one is kept in place, several are in a `Vec`.
 #[derive(Drop)]
 pub struct SegmentList<S> {
-    pub(super) kept: Kept<S>,
+    pub(super) kept: Storage<S>,
 }
 
 impl<S> Model for SegmentList<S> {
@@ -53,7 +53,7 @@ impl<S> SegmentList<S> {
         ensures { result ≡ segment ∷ [] }
     {
         SegmentList {
-            kept: Kept::One(segment),
+            kept: Storage::One(segment),
         }
     }
 
@@ -63,7 +63,7 @@ impl<S> SegmentList<S> {
         ensures { result ≡ segments.items }
     {
         SegmentList {
-            kept: Kept::Many(segments),
+            kept: Storage::Many(segments),
         }
     }
 }
@@ -78,8 +78,8 @@ impl<S: Dotted> SegmentList<S> {
         ensures { result.now ≡ self.now }
     {
         match &self.kept {
-            Kept::One(only) => slice::from_ref(only),
-            Kept::Many(list) => list.as_slice(),
+            Storage::One(only) => slice::from_ref(only),
+            Storage::Many(list) => list.as_slice(),
         }
     }
 
@@ -117,14 +117,14 @@ impl<'p> SegmentList<Segment<'p>> {
         ensures ok { OnOk result (self.new ≡ self.old ++ segment.entry ∷ []) }
         ensures err { OnErr result (self.new ≡ self.old) }
     {
-        if let Kept::Many(list) = &mut self.kept {
+        if let Storage::Many(list) = &mut self.kept {
             list.push(segment)?;
             return Ok(());
         }
         let list = Vec::with_capacity(alloc, 2)?;
-        let kept = mem::replace(&mut self.kept, Kept::Many(list));
-        if let Kept::Many(list) = &mut self.kept {
-            if let Kept::One(first) = kept {
+        let kept = mem::replace(&mut self.kept, Storage::Many(list));
+        if let Storage::Many(list) = &mut self.kept {
+            if let Storage::One(first) = kept {
                 list.push_reserved(first);
             }
             list.push_reserved(segment);
@@ -137,7 +137,7 @@ impl<'p> SegmentList<Segment<'p>> {
         requires { 0 < kept }
         ensures { self.new ≡ take kept self.old }
     {
-        if let Kept::Many(list) = &mut self.kept {
+        if let Storage::Many(list) = &mut self.kept {
             list.truncate(kept);
         }
     }
@@ -147,7 +147,7 @@ impl<'p> SegmentList<Segment<'p>> {
         requires { 0 < length self.old }
         ensures { self.new ≡ drop (length self.old - 1) self.old ++ take (length self.old - 1) self.old }
     {
-        if let Kept::Many(list) = &mut self.kept {
+        if let Storage::Many(list) = &mut self.kept {
             list.rotate_right(1);
         }
     }
@@ -157,7 +157,7 @@ impl<'p> SegmentList<Segment<'p>> {
         requires { 1 < length self.old }
         ensures { self.new ≡ drop 1 self.old }
     {
-        if let Kept::Many(list) = &mut self.kept {
+        if let Storage::Many(list) = &mut self.kept {
             let _ = list.remove(0);
         }
     }

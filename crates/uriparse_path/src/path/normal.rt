@@ -2,7 +2,7 @@
 ghost use Rattle.std.specs.Prelude.{◌≡◌, ◌↔◌, ◌<◌, ◌||◌, ◌&&◌, true, false, not, IfOk, IsOk, IsTrue, OnOk, OnErr, length, map, slice_set};
 ghost use Rattle.std.specs.List.{list_all};
 ghost use Rattle.uriparse_text.specs.Canonical.{canonical};
-ghost use Rattle.uriparse_path.specs.Path.{IsListed, hides_root, text};
+ghost use Rattle.uriparse_path.specs.Path.{IsListed, starts_with_empty_segment, text};
 ghost use Rattle.uriparse_path.specs.Dots.{is_dot_segment};
 ghost use Rattle.uriparse_path.specs.Relative as relative;
 ghost use Rattle.uriparse_path.specs.Normal as spec;
@@ -14,26 +14,26 @@ use super::dots::remove_dots;
 use super::list::SegmentList;
 use super::reduce::make_relative;
 use super::segment::has_colon;
-use super::segments::{hides_root, needs_guard};
+use super::segments::{needs_leading_dot, starts_with_empty_segment};
 use super::{Path, Segment};
 use std::alloc::{AllocError, Global};
 use uriparse_text::internal::normalized_text;
 
 /// What precedes a path in a reference.
 #[derive(Clone, Copy)]
-pub struct Place {
+pub struct PathContext {
     /// Without a scheme, a path whose text does not begin with a slash stays relative.
     pub has_scheme: bool,
     /// Without an authority, the path's text must not begin with two slashes.
     pub has_authority: bool,
 }
 
-impl Place {
+impl PathContext {
     /// The place of a path on its own, in which two slashes may come first.
-    fn alone(as_reference: bool) -> Place
+    fn alone(as_reference: bool) -> PathContext
         ensures { result ≡ record { has_scheme = not as_reference; has_authority = true } }
     {
-        Place {
+        PathContext {
             has_scheme: !as_reference,
             has_authority: true,
         }
@@ -41,8 +41,8 @@ impl Place {
 }
 
 /// Whether `..` segments come first and no dot segment follows them.
-fn climbs_first(segments: &[Segment<'_>]) -> bool
-    ensures { result ≡ spec.climbs_first segments.now }
+fn begins_with_double_dots(segments: &[Segment<'_>]) -> bool
+    ensures { result ≡ spec.begins_with_double_dots segments.now }
 {
     let mut climbing = true;
     for segment in segments {
@@ -56,14 +56,14 @@ fn climbs_first(segments: &[Segment<'_>]) -> bool
 
 /// Whether a `.` comes first and is needed there. A call of its own, since few paths need it.
 #[inline(never)]
-fn is_guarded(segments: &[Segment<'_>]) -> bool
-    ensures { result ≡ spec.is_guarded segments.now }
+fn has_needed_leading_dot(segments: &[Segment<'_>]) -> bool
+    ensures { result ≡ spec.has_needed_leading_dot segments.now }
 {
     match segments.split_first() {
         Some((first, later)) => {
             first.is_single_dot_segment()
-                && climbs_first(later)
-                && needs_guard(has_colon(first.as_bytes()), later)
+                && begins_with_double_dots(later)
+                && needs_leading_dot(has_colon(first.as_bytes()), later)
         },
         None => false,
     }
@@ -77,7 +77,7 @@ fn all_canonical(segments: &[Segment<'_>]) -> bool
 }
 
 /// Whether each segment is canonical and none is a dot segment. Stops at the first that is not so.
-fn are_settled(segments: &[Segment<'_>]) -> bool
+fn are_canonical(segments: &[Segment<'_>]) -> bool
     ensures { result ≡ list_all (λ s. spec.is_canonical s && not (is_dot_segment s)) segments.now }
 {
     segments.iter().all(|segment| segment.is_normalized() && !segment.is_dot_segment())
@@ -90,9 +90,10 @@ fn is_normal(stays_relative: bool, segments: &[Segment<'_>]) -> bool
     ensures { result ≡ spec.are_normal stays_relative segments.now }
 {
     if stays_relative {
-        all_canonical(segments) && (climbs_first(segments) || is_guarded(segments))
+        all_canonical(segments)
+            && (begins_with_double_dots(segments) || has_needed_leading_dot(segments))
     } else {
-        are_settled(segments)
+        are_canonical(segments)
     }
 }
 
@@ -106,7 +107,7 @@ fn is_counted_normal(stays_relative: bool, counts: Counts, segments: &[Segment<'
         return false;
     }
     if stays_relative {
-        counts.climbs_first() || is_guarded(segments)
+        counts.begins_with_double_dots() || has_needed_leading_dot(segments)
     } else {
         !counts.has_dots()
     }
@@ -205,14 +206,14 @@ impl<'p> Path<'p> {
     /// Whether the path is absolute and normal except for a leading `.`, which is needed without an
     /// authority. A call of its own, since few paths need it.
     #[inline(never)]
-    fn is_shielded(&self) -> bool
-        ensures { result ≡ spec.is_shielded self.now.absolute self.now.segments }
+    fn is_dot_prefixed(&self) -> bool
+        ensures { result ≡ spec.is_dot_prefixed self.now.absolute self.now.segments }
     {
         match self.segments().split_first() {
             Some((first, later)) => {
                 self.is_absolute()
                     && first.as_str() == "."
-                    && hides_root(later)
+                    && starts_with_empty_segment(later)
                     && is_normal(false, later)
             }
             None => false,
@@ -264,7 +265,7 @@ impl<'p> Path<'p> {
     fn shape_relative(&mut self)
         requires canonical { list_all spec.is_canonical self.old.segments ≡ true }
         requires relative { self.old.absolute ≡ false }
-        requires shown { hides_root self.old.segments ≡ false }
+        requires shown { starts_with_empty_segment self.old.segments ≡ false }
         ensures { self.new ≡ record { absolute = false; segments = relative.ended self.old.segments (relative.reduced self.old.segments) } }
     {
         make_relative(&mut self.segments);
@@ -293,30 +294,34 @@ impl<'p> Path<'p> {
         ensures takes_no_memory { text (spec.pnormal self.old as_reference) ≡ text self.old → IsOk result }
         ensures canonical_takes_no_memory { spec.canonical_path self.old ≡ self.old → IsOk result }
     {
-        normalize_path(self, alloc, Place::alone(as_reference))
+        normalize_path(self, alloc, PathContext::alone(as_reference))
     }
 }
 
 /// Whether the path has the text of its normal form at this place in a reference.
 #[inline]
-pub fn is_normal_path(path: &Path<'_>, place: Place) -> bool
-    ensures { result ≡ spec.is_normal_at place path.now }
+pub fn is_normal_path(path: &Path<'_>, context: PathContext) -> bool
+    ensures { result ≡ spec.is_normal_at context path.now }
 {
-    let stays_relative = path.stays_relative(!place.has_scheme);
-    path.is_normal(stays_relative) || (!place.has_authority && path.is_shielded())
+    let stays_relative = path.stays_relative(!context.has_scheme);
+    path.is_normal(stays_relative) || (!context.has_authority && path.is_dot_prefixed())
 }
 
 /// Brings the path into its normal form as [`Path::normalize`] does. Without an authority, a path
 /// that would start with `//` gets a leading `/.`. Allocates copies of the segments that are not
 /// canonical. On an error the path is unchanged.
-pub fn normalize_path(path: &mut Path<'_>, alloc: Global, place: Place) -> Result<(), AllocError>
-    requires { place.has_authority ≡ false → hides_root path.old.segments ≡ false }
-    ensures ok { OnOk result (path.new ≡ spec.normal_at place path.old) }
+pub fn normalize_path(
+    path: &mut Path<'_>,
+    alloc: Global,
+    context: PathContext,
+) -> Result<(), AllocError>
+    requires { context.has_authority ≡ false → starts_with_empty_segment path.old.segments ≡ false }
+    ensures ok { OnOk result (path.new ≡ spec.normal_at context path.old) }
     ensures err { OnErr result (path.new ≡ path.old) }
     ensures takes_no_memory { list_all spec.is_canonical path.old.segments ≡ true → IsOk result }
     ensures listed { IsListed path.old.segments }
 {
-    let stays_relative = path.stays_relative(!place.has_scheme);
+    let stays_relative = path.stays_relative(!context.has_scheme);
     if path.is_known_normal(stays_relative) {
         return Ok(());
     }
@@ -324,7 +329,7 @@ pub fn normalize_path(path: &mut Path<'_>, alloc: Global, place: Place) -> Resul
     if stays_relative {
         path.shape_relative();
     } else {
-        remove_dots(path, place.has_authority);
+        remove_dots(path, context.has_authority);
     }
     Ok(())
 }

@@ -15,8 +15,8 @@ use super::list::SegmentList;
 use super::{MAX_SEGMENTS, Path, PathError, Segment};
 use std::alloc::{AllocError, Global};
 use uriparse_text::internal::{
-    Class, Is, Outside, TextKind, count_below, is_escape, kept_text, lowest, next_marks,
-    next_marks_by_two, without, without_lowest,
+    Class, Is, Outside, TextKind, count_below, is_escape, lowest, next_marks, next_marks_by_two,
+    text_from_checked, without, without_lowest,
 };
 use uriparse_text::segment::SegmentKind;
 
@@ -157,7 +157,7 @@ fn split_segments<'p>(
             let end = at + lowest(left);
             let piece = &text[start..end];
             dotted = is_dotted(dotted, piece);
-            segments.push_reserved(kept_text(piece, escaped == 0));
+            segments.push_reserved(text_from_checked(piece, escaped == 0));
             start = end + 1;
             left = without_lowest(left);
         }
@@ -165,7 +165,7 @@ fn split_segments<'p>(
     }
     let piece = &text[start..];
     let dotted = is_dotted(dotted, piece);
-    segments.push_reserved(kept_text(piece, escaped == 0));
+    segments.push_reserved(text_from_checked(piece, escaped == 0));
     Ok((segments, dotted))
 }
 
@@ -185,7 +185,7 @@ fn read_segments<'p>(
     ensures takes_no_memory { count ≡ 1 → IsOk result }
 {
     if count == 1 {
-        let only = SegmentList::one(kept_text(text, escaped == 0));
+        let only = SegmentList::one(text_from_checked(text, escaped == 0));
         return Ok((only, is_dotted(false, text)));
     }
     let (segments, dotted) = split_segments(alloc, count, escaped, text)?;
@@ -202,7 +202,7 @@ pub struct PathFront<'t> {
     /// 0 only if the path has no escape. A word, since a `bool` would be moved with its padding.
     pub escaped: usize,
     /// What follows the path: nothing, or a `?` or `#` and more.
-    pub behind: &'t [u8],
+    pub following: &'t [u8],
 }
 
 /// Whether the path ends before the text's first byte, or the text is empty.
@@ -220,7 +220,7 @@ fn ends_at_once(text: &[u8]) -> bool
 /// once. Does not allocate.
 #[inline(always)]
 pub fn split_path(text: &[u8]) -> Result<PathFront<'_>, PathError>
-    ensures { MatchResult result (λ r. (fault (up_to ends_path text.now) ≡ None) × (r.text.now ≡ up_to ends_path text.now) × (r.behind.now ≡ from_first ends_path text.now) × (r.count ≡ length (pieces (up_to ends_path text.now))) × (r.escaped ≡ 0 → lacks percent r.text.now ≡ true)) (λ e. fault (up_to ends_path text.now) ≡ Some e) }
+    ensures { MatchResult result (λ r. (fault (up_to ends_path text.now) ≡ None) × (r.text.now ≡ up_to ends_path text.now) × (r.following.now ≡ from_first ends_path text.now) × (r.count ≡ length (pieces (up_to ends_path text.now))) × (r.escaped ≡ 0 → lacks percent r.text.now ≡ true)) (λ e. fault (up_to ends_path text.now) ≡ Some e) }
 {
     let (_, rest) = split_root(text);
     if ends_at_once(rest) {
@@ -229,24 +229,24 @@ pub fn split_path(text: &[u8]) -> Result<PathFront<'_>, PathError>
             text,
             count: 1,
             escaped: 0,
-            behind: rest,
+            following: rest,
         });
     }
     let (count, len, escaped) = count_segments(MAX_SEGMENTS, true, rest)?;
-    let (_, behind) = rest.split_at(len);
-    let (text, _) = text.split_at(text.len() - behind.len());
+    let (_, following) = rest.split_at(len);
+    let (text, _) = text.split_at(text.len() - following.len());
     Ok(PathFront {
         text,
         count,
         escaped,
-        behind,
+        following,
     })
 }
 
 /// Whether no segment begins with a dot and none has an escape. Then none is a dot segment, and
 /// each is canonical.
 #[inline(always)]
-fn is_plain(escaped: usize, dotted: bool) -> bool
+fn is_known_canonical(escaped: usize, dotted: bool) -> bool
     ensures { result ≡ true → (escaped ≡ 0) × (dotted ≡ false) }
 {
     escaped == 0 && !dotted
@@ -269,6 +269,6 @@ pub fn counted_path(
 {
     let (absolute, rest) = split_root(text);
     let (segments, dotted) = read_segments(alloc, count, escaped, rest)?;
-    let plain = is_plain(escaped, dotted);
+    let plain = is_known_canonical(escaped, dotted);
     Ok(Path::of(absolute, segments, Counts::none(), plain))
 }

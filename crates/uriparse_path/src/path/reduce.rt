@@ -7,7 +7,7 @@ ghost use Rattle.uriparse_path.specs.Relative as relative;
 
 use super::Segment;
 use super::list::SegmentList;
-use super::segments::{guard, has_first_colon, needs_guard};
+use super::segments::{has_first_colon, needs_leading_dot, truncate_with_leading_dot};
 
 /// Whether the last segment is a dot segment.
 fn ends_in_dots(segments: &[Segment<'_>]) -> bool
@@ -51,8 +51,8 @@ fn put_segment(segments: &mut [Segment<'_>], kept: usize, at: usize) -> usize
     if segments[at].is_single_dot_segment() {
         return kept;
     }
-    let climbs = segments[at].is_double_dot_segment();
-    if climbs {
+    let double_dots = segments[at].is_double_dot_segment();
+    if double_dots {
         let is_pair = ends_in_name(&segments[..kept]);
         if is_pair {
             return kept - 1;
@@ -88,8 +88,8 @@ fn close(segments: &mut [Segment<'_>], ended_in_dots: bool, kept: usize) -> usiz
     if kept == 0 || !ended_in_dots {
         return kept;
     }
-    let climbs = ends_in_double_dot(&segments[..kept]);
-    if climbs {
+    let double_dots = ends_in_double_dot(&segments[..kept]);
+    if double_dots {
         return kept;
     }
     segments[kept] = Segment::empty();
@@ -101,7 +101,7 @@ fn close(segments: &mut [Segment<'_>], ended_in_dots: bool, kept: usize) -> usiz
 /// how many segments are left.
 fn shape(segments: &mut [Segment<'_>]) -> (bool, usize)
     requires some { 0 < length segments.old }
-    requires shown { path.hides_root segments.old ≡ false }
+    requires shown { path.starts_with_empty_segment segments.old ≡ false }
     ensures shaped { relative.filled (if result.0 then (dot ∷ []) ∷ take result.1 segments.new else take result.1 segments.new) ≡ relative.ended segments.old (relative.reduced segments.old) }
     ensures within { result.1 ≤ length segments.new }
     ensures len { length segments.new ≡ length segments.old }
@@ -111,16 +111,16 @@ fn shape(segments: &mut [Segment<'_>]) -> (bool, usize)
     let had_colon = has_first_colon(segments);
     let left = reduce(segments);
     let kept = close(segments, ended_in_dots, left);
-    let guarded = needs_guard(had_colon, &segments[..kept]);
-    (guarded, kept)
+    let with_leading_dot = needs_leading_dot(had_colon, &segments[..kept]);
+    (with_leading_dot, kept)
 }
 
 /// Brings the segments of a relative path into their normal form, except for their spelling.
 pub(super) fn make_relative(list: &mut SegmentList<Segment<'_>>)
     requires some { 0 < length list.old }
-    requires shown { path.hides_root list.old ≡ false }
+    requires shown { path.starts_with_empty_segment list.old ≡ false }
     ensures { list.new ≡ relative.ended list.old (relative.reduced list.old) }
 {
-    let (guarded, kept) = shape(list.as_mut_slice());
-    guard(list, guarded, kept);
+    let (with_leading_dot, kept) = shape(list.as_mut_slice());
+    truncate_with_leading_dot(list, with_leading_dot, kept);
 }

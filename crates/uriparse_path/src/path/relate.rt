@@ -23,7 +23,7 @@ fn is_same(left: &Segment<'_>, right: &Segment<'_>) -> bool
 /// How many leading directories both lists share. The last segment is not a directory.
 fn shared_len(directories: &[Segment<'_>], segments: &[Segment<'_>]) -> usize
     requires { 0 < length segments.now }
-    ensures apart { spec.apart directories.now segments.now ≡ spec.climbs (drop result directories.now) ++ drop result segments.now }
+    ensures apart { spec.apart directories.now segments.now ≡ spec.double_dots (drop result directories.now) ++ drop result segments.now }
     ensures within { result ≤ length directories.now }
     ensures some { result < length segments.now }
 {
@@ -41,8 +41,11 @@ fn shared_len(directories: &[Segment<'_>], segments: &[Segment<'_>]) -> usize
 }
 
 /// Appends a `..` to the list for each directory.
-fn push_climbs(list: &mut Vec<Segment<'_>>, directories: &[Segment<'_>]) -> Result<(), AllocError>
-    ensures { OnOk result (list.new.items ≡ list.old.items ++ spec.climbs directories.now) }
+fn push_double_dots(
+    list: &mut Vec<Segment<'_>>,
+    directories: &[Segment<'_>],
+) -> Result<(), AllocError>
+    ensures { OnOk result (list.new.items ≡ list.old.items ++ spec.double_dots directories.now) }
 {
     for _directory in directories {
         list.push(double_dot())?;
@@ -62,7 +65,7 @@ fn begins_taken(segments: &[Segment<'_>]) -> bool
 
 /// Whether a `..` for each directory, and then the segments, need a leading `.`.
 fn needs_dot(directories: &[Segment<'_>], segments: &[Segment<'_>]) -> bool
-    ensures { result ≡ is_first spec.is_taken (spec.climbs directories.now ++ segments.now) }
+    ensures { result ≡ is_first spec.is_taken (spec.double_dots directories.now ++ segments.now) }
 {
     directories.is_empty() && begins_taken(segments)
 }
@@ -79,13 +82,13 @@ fn push_dot(list: &mut Vec<Segment<'_>>, needed: bool) -> Result<(), AllocError>
 
 /// A `..` for each directory, then the segments, with a leading `.` if it is needed. Borrows the
 /// texts of the segments. Allocates the list once, and not for a single segment.
-fn led<'p>(
+fn relative_segments<'p>(
     alloc: Global,
     directories: &[Segment<'_>],
     segments: &'p [Segment<'_>],
 ) -> Result<SegmentList<Segment<'p>>, AllocError>
     requires { length directories.now + length segments.now < max_segments }
-    ensures { IfOk result (λ l. l ≡ spec.fronted (spec.climbs directories.now ++ segments.now)) }
+    ensures { IfOk result (λ l. l ≡ spec.fronted (spec.double_dots directories.now ++ segments.now)) }
 {
     let needs_dot = needs_dot(directories, segments);
     if directories.is_empty() && segments.len() == 1 && !needs_dot {
@@ -93,7 +96,7 @@ fn led<'p>(
     }
     let mut list = Vec::with_capacity(alloc, directories.len() + segments.len() + 1)?;
     push_dot(&mut list, needs_dot)?;
-    push_climbs(&mut list, directories)?;
+    push_double_dots(&mut list, directories)?;
     push_borrowed(&mut list, segments)?;
     Ok(SegmentList::several(list))
 }
@@ -189,6 +192,6 @@ pub fn leading_path<'p>(
     if directories.len() + (left.len() + rest.len()) >= MAX_SEGMENTS {
         return Ok(None);
     }
-    let segments = led(alloc, left, rest)?;
+    let segments = relative_segments(alloc, left, rest)?;
     Ok(Some(Path::of(false, segments, Counts::none(), false)))
 }

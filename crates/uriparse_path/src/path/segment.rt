@@ -8,7 +8,7 @@ ghost use Rattle.uriparse_path.specs.Dots.{is_dot_segment, is_double_dot};
 ghost use Rattle.uriparse_path.specs.Relative as relative;
 
 use super::counts::Dotted;
-use uriparse_text::internal::kept_text;
+use uriparse_text::internal::text_from_checked;
 use uriparse_text::segment::Segment;
 
 impl<'s> Dotted for Segment<'s> {
@@ -29,14 +29,14 @@ pub(super) fn each_is_segment(segments: &[Segment<'_>])
 pub(super) fn single_dot() -> Segment<'static>
     ensures { result ≡ dot ∷ [] }
 {
-    kept_text(b".", true)
+    text_from_checked(b".", true)
 }
 
 /// The segment `..`.
 pub(super) fn double_dot() -> Segment<'static>
     ensures { result ≡ dot ∷ dot ∷ [] }
 {
-    kept_text(b"..", true)
+    text_from_checked(b"..", true)
 }
 
 /// Whether the bytes have a colon.
@@ -54,27 +54,27 @@ fn is_two_dots(segment: &[u8]) -> bool
     matches!(segment, [b'.', b'.'])
 }
 
-/// Whether the text of a segment is that of `.` or `..`. Each dot may be escaped; most are not.
+/// Whether the text of a segment spells `.` or `..`. Each dot may be escaped; most are not.
 pub(super) fn is_dots(segment: &[u8]) -> bool
     requires { is_segment segment.now ≡ true }
     ensures { result ≡ is_dot_segment segment.now }
 {
-    is_two_dots(segment) || kept_segment(segment).is_dot_segment()
+    is_two_dots(segment) || segment_from_checked(segment).is_dot_segment()
 }
 
-/// Whether the text of a segment is that of `..`. Each dot may be escaped; most are not.
+/// Whether the text of a segment spells `..`. Each dot may be escaped; most are not.
 pub(super) fn is_double_dots(segment: &[u8]) -> bool
     requires { is_segment segment.now ≡ true }
     ensures { result ≡ is_double_dot segment.now }
 {
-    is_two_dots(segment) || kept_segment(segment).is_double_dot_segment()
+    is_two_dots(segment) || segment_from_checked(segment).is_double_dot_segment()
 }
 
 /// The segment of a checked text.
 #[inline(always)]
-fn kept_segment(text: &[u8]) -> Segment<'_>
+fn segment_from_checked(text: &[u8]) -> Segment<'_>
     requires { is_segment text.now ≡ true }
     ensures { result ≡ text.now }
 {
-    kept_text(text, false)
+    text_from_checked(text, false)
 }

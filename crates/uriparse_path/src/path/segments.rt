@@ -19,8 +19,8 @@ pub(super) fn has_dot_segment(segments: &[Segment<'_>]) -> bool
 }
 
 /// Whether the first segment is empty and others follow it. Then their text begins with a slash.
-pub(super) fn hides_root(segments: &[Segment<'_>]) -> bool
-    ensures { result ≡ path.hides_root segments.now }
+pub(super) fn starts_with_empty_segment(segments: &[Segment<'_>]) -> bool
+    ensures { result ≡ path.starts_with_empty_segment segments.now }
 {
     match segments {
         [first, _, ..] => first.as_bytes().is_empty(),
@@ -29,11 +29,12 @@ pub(super) fn hides_root(segments: &[Segment<'_>]) -> bool
 }
 
 /// Whether the text of the path with these segments begins with two slashes.
-pub(super) fn begins_twice(absolute: bool, segments: &[Segment<'_>]) -> bool
-    ensures { result ≡ (path.hides_root segments.now && (absolute || path.hides_root (drop 1 segments.now))) }
+pub(super) fn starts_with_two_slashes(absolute: bool, segments: &[Segment<'_>]) -> bool
+    ensures { result ≡ (path.starts_with_empty_segment segments.now && (absolute || path.starts_with_empty_segment (drop 1 segments.now))) }
 {
     match segments {
-        [_, followers @ ..] => hides_root(segments) && (absolute || hides_root(followers)),
+        [_, followers @ ..] => starts_with_empty_segment(segments)
+            && (absolute || starts_with_empty_segment(followers)),
         [] => false,
     }
 }
@@ -50,14 +51,14 @@ pub(super) fn has_first_colon(segments: &[Segment<'_>]) -> bool
 
 /// Whether segments that replace others need a leading `.`. `had_colon` says whether the first of
 /// the others had a colon.
-pub(super) fn needs_guard(had_colon: bool, segments: &[Segment<'_>]) -> bool
-    ensures { result ≡ (path.hides_root segments.now || (relative.is_first relative.has_colon segments.now && not had_colon)) }
+pub(super) fn needs_leading_dot(had_colon: bool, segments: &[Segment<'_>]) -> bool
+    ensures { result ≡ (path.starts_with_empty_segment segments.now || (relative.is_first relative.has_colon segments.now && not had_colon)) }
 {
-    hides_root(segments) || (has_first_colon(segments) && !had_colon)
+    starts_with_empty_segment(segments) || (has_first_colon(segments) && !had_colon)
 }
 
 /// Whether a pushed segment replaces the only one: that one is empty, and the pushed one is not.
-pub(super) fn takes_the_place(segments: &[Segment<'_>], segment: &Segment<'_>) -> bool
+pub(super) fn replaces_only_empty(segments: &[Segment<'_>], segment: &Segment<'_>) -> bool
     ensures empty { result ≡ true → segments.now ≡ [] ∷ [] }
     ensures with { edits.with_last segments.now segment.now ≡ (if result then segment.now ∷ [] else segments.now ++ segment.now ∷ []) }
 {
@@ -90,12 +91,16 @@ pub(super) fn push_borrowed<'p>(
 
 /// Keeps the first `kept` of the list, with a leading `.` if needed, or one empty segment if none
 /// is left.
-pub(super) fn guard(segments: &mut SegmentList<Segment<'_>>, needs_guard: bool, kept: usize)
+pub(super) fn truncate_with_leading_dot(
+    segments: &mut SegmentList<Segment<'_>>,
+    needs_leading_dot: bool,
+    kept: usize,
+)
     requires within { kept ≤ length segments.old }
-    requires room { length (relative.filled (if needs_guard then (dot ∷ []) ∷ take kept segments.old else take kept segments.old)) ≤ length segments.old }
-    ensures { segments.new ≡ relative.filled (if needs_guard then (dot ∷ []) ∷ take kept segments.old else take kept segments.old) }
+    requires room { length (relative.filled (if needs_leading_dot then (dot ∷ []) ∷ take kept segments.old else take kept segments.old)) ≤ length segments.old }
+    ensures { segments.new ≡ relative.filled (if needs_leading_dot then (dot ∷ []) ∷ take kept segments.old else take kept segments.old) }
 {
-    if needs_guard {
+    if needs_leading_dot {
         segments.put(kept, single_dot());
         segments.truncate(kept + 1);
         segments.rotate_right();

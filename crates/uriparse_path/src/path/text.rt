@@ -8,10 +8,12 @@ use super::read::split_root;
 use super::{Segment, feed_piece};
 use std::hash::Hasher;
 use std::marker::Model;
-use uriparse_text::internal::{Case, kept_text, same_spelling, split_at_mark, without_mark};
+use uriparse_text::internal::{
+    Case, same_spelling, split_at_mark, text_from_checked, without_mark,
+};
 
-mod ending;
-mod heads;
+mod backward;
+mod dot_scan;
 pub(crate) mod into;
 mod last;
 pub(crate) mod normal;
@@ -49,9 +51,9 @@ impl<'p> Iterator for Segments<'p> {
 
     fn next(&mut self) -> Option<Segment<'p>> {
         let rest = self.rest?;
-        let (piece, behind) = split_at_mark(rest, b'/');
-        self.rest = without_mark(behind);
-        Some(kept_text(piece, false))
+        let (piece, following) = split_at_mark(rest, b'/');
+        self.rest = without_mark(following);
+        Some(text_from_checked(piece, false))
     }
 }
 
@@ -81,9 +83,9 @@ pub fn feed_path_text<H: Hasher>(text: &[u8], state: &mut H)
 {
     let mut left = Some(text);
     'pieces: while let Some(rest) = left {
-        let (piece, behind) = split_at_mark(rest, b'/');
+        let (piece, following) = split_at_mark(rest, b'/');
         feed_piece(piece, state);
-        left = without_mark(behind);
+        left = without_mark(following);
     }
     state.write_u8(0xff);
 }

@@ -3,8 +3,8 @@ pub mod ComponentByteLemmas
 pub mod TailLemmas
 pub mod ReadingLemmas
 pub mod FaultSourceLemmas
-pub mod PlaceLemmas
-pub mod PlaceByteLemmas
+pub mod OffsetLemmas
+pub mod OffsetByteLemmas
 pub mod SpellingLemmas
 pub mod PrintedLemmas
 pub mod LengthLemmas

@@ -43,7 +43,7 @@ pub enum Edit<'e> {
 }
 
 /// Why the path is not allowed, given whether there is a scheme and an authority.
-pub(super) fn place_refusal(
+pub(super) fn fit_refusal(
     has_scheme: bool,
     has_authority: bool,
     path: &Path<'_>,
@@ -51,11 +51,11 @@ pub(super) fn place_refusal(
     ensures refusal { result ≡ path_refusal has_scheme has_authority (text path.now) }
     ensures listed { IsListed path.now.segments }
 {
-    let begins_twice = has_two_slashes(path);
+    let starts_with_two_slashes = has_two_slashes(path);
     if has_authority {
         return None;
     }
-    if begins_twice {
+    if starts_with_two_slashes {
         return Some(URIReferenceError::AbsolutePathStartsWithTwoSlashes);
     }
     if has_scheme || lacks_colon_segment(path) {
@@ -65,7 +65,7 @@ pub(super) fn place_refusal(
 }
 
 /// Makes the path the one that a reference holds, with or without an authority.
-pub(super) fn settle_path(has_authority: bool, path: &mut Path<'_>)
+pub(super) fn fit_path(has_authority: bool, path: &mut Path<'_>)
     ensures { path.new ≡ placed has_authority path.old }
 {
     if has_authority {
@@ -76,11 +76,11 @@ pub(super) fn settle_path(has_authority: bool, path: &mut Path<'_>)
 }
 
 /// The path as a reference holds it, with or without an authority.
-fn place(has_authority: bool, path: Path<'_>) -> Path<'_>
+fn fitted_path(has_authority: bool, path: Path<'_>) -> Path<'_>
     ensures { result ≡ placed has_authority path.entry }
 {
     let mut path = path;
-    settle_path(has_authority, &mut path);
+    fit_path(has_authority, &mut path);
     path
 }
 
@@ -117,12 +117,12 @@ impl<'r> URIReference<'r> {
     {
         let has_scheme = scheme.is_some();
         let has_authority = authority.is_some();
-        match place_refusal(has_scheme, has_authority, &path) {
+        match fit_refusal(has_scheme, has_authority, &path) {
             Some(error) => Err(error),
             None => Ok(URIReference {
                 scheme,
                 authority,
-                path: place(has_authority, path),
+                path: fitted_path(has_authority, path),
                 query,
                 fragment,
             }),
@@ -163,7 +163,7 @@ impl<'r> URIReference<'r> {
     pub fn set_scheme(&mut self, scheme: Option<Scheme<'r>>) -> Result<(), URIReferenceError>
         ensures { Settles self.old self.new result (edited self.old (edits.Scheme scheme.entry)) }
     {
-        match place_refusal(scheme.is_some(), self.authority.is_some(), &self.path) {
+        match fit_refusal(scheme.is_some(), self.authority.is_some(), &self.path) {
             Some(error) => Err(error),
             None => {
                 self.scheme = scheme;
@@ -184,7 +184,7 @@ impl<'r> URIReference<'r> {
     fn remove_authority(&mut self) -> Result<(), URIReferenceError>
         ensures { Settles self.old self.new result (edited self.old (edits.Authority None)) }
     {
-        match place_refusal(self.scheme.is_some(), false, &self.path) {
+        match fit_refusal(self.scheme.is_some(), false, &self.path) {
             Some(error) => Err(error),
             None => {
                 self.authority = None;
@@ -218,10 +218,10 @@ impl<'r> URIReference<'r> {
         ensures { Settles self.old self.new result (edited self.old (edits.Path path.entry)) }
     {
         let has_authority = self.authority.is_some();
-        match place_refusal(self.scheme.is_some(), has_authority, &path) {
+        match fit_refusal(self.scheme.is_some(), has_authority, &path) {
             Some(error) => Err(error),
             None => {
-                put_path(&mut self.path, place(has_authority, path));
+                put_path(&mut self.path, fitted_path(has_authority, path));
                 Ok(())
             }
         }

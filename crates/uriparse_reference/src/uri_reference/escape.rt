@@ -3,12 +3,12 @@
 ghost use Rattle.std.specs.Prelude.{◌≡◌, ◌++◌, IfOk, None, OnOk, string_bytes, true};
 ghost use Rattle.std.specs.Option.{option_copied, option_map};
 ghost use Rattle.uriparse_text.specs.Bytes.{colon};
-ghost use Rattle.uriparse_text.specs.Cuts.{ahead, behind};
+ghost use Rattle.uriparse_text.specs.Cuts.{ahead, following};
 ghost use Rattle.uriparse_text.specs.Tokens.{is_well_formed};
 ghost use Rattle.uriparse_scheme.specs.Cuts.{if_some};
 ghost use Rattle.uriparse_reference.specs.Escaped as spec;
 ghost use Rattle.uriparse_reference.specs.Reading.{fault};
-ghost use Rattle.uriparse_reference.specs.Reference.{behind_slashes};
+ghost use Rattle.uriparse_reference.specs.Reference.{after_slashes};
 
 mod into;
 
@@ -17,7 +17,8 @@ pub use into::escape_invalid_into;
 use std::alloc::{AllocError, Global};
 use uriparse_scheme::internal::split_scheme;
 use uriparse_text::internal::{
-    Case, Class, most_escaped_bytes, push_escaped, split_at_mark, split_settled, without_mark,
+    Case, Class, most_escaped_bytes, push_escaped, split_at_mark, split_canonical_prefix,
+    without_mark,
 };
 
 /// Appends the scheme and its colon, if it is present: its text is not empty.
@@ -33,7 +34,7 @@ fn push_scheme(escaped: &mut Vec<u8>, scheme: &[u8]) -> Result<(), AllocError>
 
 /// Appends two slashes and the escaped authority, if it is present.
 fn push_authority(escaped: &mut Vec<u8>, authority: Option<&[u8]>) -> Result<(), AllocError>
-    ensures { OnOk result (escaped.new.items ≡ escaped.old.items ++ behind_slashes (option_map spec.escaped_authority (option_copied authority.entry))) }
+    ensures { OnOk result (escaped.new.items ≡ escaped.old.items ++ after_slashes (option_map spec.escaped_authority (option_copied authority.entry))) }
 {
     if let Some(authority) = authority {
         escaped.extend_from_slice(b"//")?;
@@ -43,8 +44,8 @@ fn push_authority(escaped: &mut Vec<u8>, authority: Option<&[u8]>) -> Result<(),
 }
 
 /// Appends a delimiter and the escaped component that follows it, if it is present.
-fn push_behind(escaped: &mut Vec<u8>, mark: u8, component: Option<&[u8]>) -> Result<(), AllocError>
-    ensures { OnOk result (escaped.new.items ≡ escaped.old.items ++ behind mark (option_map spec.escaped_component (option_copied component.entry))) }
+fn push_after(escaped: &mut Vec<u8>, mark: u8, component: Option<&[u8]>) -> Result<(), AllocError>
+    ensures { OnOk result (escaped.new.items ≡ escaped.old.items ++ following mark (option_map spec.escaped_component (option_copied component.entry))) }
 {
     if let Some(component) = component {
         escaped.push(mark)?;
@@ -59,11 +60,11 @@ fn push_behind(escaped: &mut Vec<u8>, mark: u8, component: Option<&[u8]>) -> Res
 fn push_end(escaped: &mut Vec<u8>, end: &[u8]) -> Result<(), AllocError>
     ensures { OnOk result (escaped.new.items ≡ escaped.old.items ++ spec.escaped_end end.now) }
 {
-    let (plain, later) = split_settled(Class::Query, Case::Kept, end);
+    let (plain, later) = split_canonical_prefix(Class::Query, Case::Kept, end);
     escaped.extend_from_slice(plain)?;
     let (front, fragment) = split_at_mark(later, b'#');
     push_escaped(escaped, Class::Query, b"", front)?;
-    push_behind(escaped, b'#', without_mark(fragment))
+    push_after(escaped, b'#', without_mark(fragment))
 }
 
 /// Appends the text with its components escaped.

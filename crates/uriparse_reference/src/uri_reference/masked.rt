@@ -4,7 +4,7 @@ ghost use Rattle.std.specs.Option.{option_map};
 ghost use Rattle.std.specs.Fmt.{WritesOnOk, WritesStyledOnOk};
 ghost use Rattle.uriparse_authority.specs.Authority as authorities;
 ghost use Rattle.uriparse_reference.specs.Masked as spec;
-ghost use Rattle.uriparse_reference.specs.Reference.{behind_slashes, print};
+ghost use Rattle.uriparse_reference.specs.Reference.{after_slashes, print};
 
 use super::URIReference;
 use super::print::{write_authority, write_back, write_scheme};
@@ -51,8 +51,8 @@ fn write_masked<W: fmt::Write>(
     authority: &Option<Authority<'_>>,
     f: &mut fmt::Formatter<W>,
 ) -> fmt::Result
-    ensures writes { WritesOnOk W.write_str_gives f.old result (behind_slashes (option_map authorities.print (option_map spec.masked_authority authority.now))) f.new }
-    ensures styled { WritesStyledOnOk W.write_str_gives f.old result (behind_slashes (option_map authorities.print (option_map spec.masked_authority authority.now))) f.new }
+    ensures writes { WritesOnOk W.write_str_gives f.old result (after_slashes (option_map authorities.print (option_map spec.masked_authority authority.now))) f.new }
+    ensures styled { WritesStyledOnOk W.write_str_gives f.old result (after_slashes (option_map authorities.print (option_map spec.masked_authority authority.now))) f.new }
 {
     match authority {
         Some(authority) => write_authority(&Some(masked_authority(authority)), f),

@@ -3,20 +3,20 @@ ghost use Rattle.std.specs.Prelude.{◌≡◌, ◌↔◌, IsTrue, IsOk, IfOk, On
 ghost use Rattle.std.specs.List.{list_all};
 ghost use Rattle.std.specs.Option.{option_eq, option_map};
 ghost use Rattle.uriparse_text.specs.Canonical.{canonical};
-ghost use Rattle.uriparse_path.specs.Path.{hides_root};
+ghost use Rattle.uriparse_path.specs.Path.{starts_with_empty_segment};
 ghost use Rattle.uriparse_path.specs.Normal.{is_canonical, pnormal};
 ghost use Rattle.uriparse_authority.specs.Authority as authorities;
 ghost use Rattle.uriparse_authority.specs.Normal.{canonical_authority};
 ghost use Rattle.uriparse_scheme.specs.Scheme as schemes;
 ghost use Rattle.uriparse_reference.specs.Reference.{Parts, Same, Valid, print};
-ghost use Rattle.uriparse_reference.specs.Normal.{AreCopiesIf, canonical_texts, is_normal, normal, shielded};
+ghost use Rattle.uriparse_reference.specs.Normal.{AreCopiesIf, canonical_texts, is_normal, normal, dot_prefixed};
 
 use super::URIReference;
 use std::alloc::{AllocError, Global};
 use uriparse_authority::authority::Authority;
 use uriparse_authority::internal as authority;
 use uriparse_authority::internal::CanonicalCopies;
-use uriparse_path::internal::{Place, is_normal_path, normalize_path};
+use uriparse_path::internal::{PathContext, is_normal_path, normalize_path};
 use uriparse_path::path::Path;
 use uriparse_scheme::internal as scheme;
 use uriparse_scheme::scheme::Scheme;
@@ -45,10 +45,10 @@ pub(super) fn is_canonical_authority(authority: &Option<Authority<'_>>) -> bool
 }
 
 /// What precedes a path, by the scheme and the authority.
-fn place_of(scheme: &Option<Scheme<'_>>, authority: &Option<Authority<'_>>) -> Place
+fn context_of(scheme: &Option<Scheme<'_>>, authority: &Option<Authority<'_>>) -> PathContext
     ensures { result ≡ record { has_scheme = is_some scheme.now; has_authority = is_some authority.now } }
 {
-    Place {
+    PathContext {
         has_scheme: scheme.is_some(),
         has_authority: authority.is_some(),
     }
@@ -79,8 +79,8 @@ fn normalize_tail(
     query: &mut Option<Query<'_>>,
     fragment: &mut Option<Fragment<'_>>,
 ) -> Result<(), AllocError>
-    requires { is_some authority.now ≡ false → hides_root path.old.segments ≡ false }
-    ensures path { OnOk result (path.new ≡ shielded authority.now (pnormal path.old (is_none scheme.now))) }
+    requires { is_some authority.now ≡ false → starts_with_empty_segment path.old.segments ≡ false }
+    ensures path { OnOk result (path.new ≡ dot_prefixed authority.now (pnormal path.old (is_none scheme.now))) }
     ensures query { OnOk result (query.new ≡ option_map canonical query.old) }
     ensures fragment { OnOk result (fragment.new ≡ option_map canonical fragment.old) }
     ensures err { OnErr result ((path.new ≡ path.old) × (query.new ≡ query.old) × (fragment.new ≡ fragment.old)) }
@@ -88,7 +88,7 @@ fn normalize_tail(
 {
     let query_copy = canonical_copy(alloc, query)?;
     let fragment_copy = canonical_copy(alloc, fragment)?;
-    normalize_path(path, alloc, place_of(scheme, authority))?;
+    normalize_path(path, alloc, context_of(scheme, authority))?;
     put_copy(query, query_copy);
     put_copy(fragment, fragment_copy);
     Ok(())
@@ -114,7 +114,7 @@ impl<'r> URIReference<'r> {
     {
         is_canonical_scheme(&self.scheme)
             && is_canonical_authority(&self.authority)
-            && is_normal_path(&self.path, place_of(&self.scheme, &self.authority))
+            && is_normal_path(&self.path, context_of(&self.scheme, &self.authority))
             && is_canonical_part(&self.query)
             && is_canonical_part(&self.fragment)
     }

@@ -3,11 +3,11 @@ ghost use Rattle.std.specs.Prelude.{◌≡◌, ◌≤◌, ◌⊎◌, ◌++◌, [
 ghost use Rattle.std.specs.Option.{option_copied, option_map};
 ghost use Rattle.std.specs.Fmt.{WritesOnOk, WritesStyledOnOk};
 ghost use Rattle.uriparse_text.specs.Bytes.{colon, number_sign, question_mark};
-ghost use Rattle.uriparse_text.specs.Cuts.{ahead, behind};
+ghost use Rattle.uriparse_text.specs.Cuts.{ahead, following};
 ghost use Rattle.uriparse_authority.specs.Authority as authorities;
 ghost use Rattle.uriparse_path.specs.Path as paths;
 ghost use Rattle.uriparse_scheme.specs.Scheme as schemes;
-ghost use Rattle.uriparse_reference.specs.Reference.{behind_slashes};
+ghost use Rattle.uriparse_reference.specs.Reference.{after_slashes};
 
 use std::fmt;
 use uriparse_authority::authority::Authority;
@@ -57,8 +57,8 @@ pub(super) fn write_authority<W: fmt::Write>(
     authority: &Option<Authority<'_>>,
     f: &mut fmt::Formatter<W>,
 ) -> fmt::Result
-    ensures writes { WritesOnOk W.write_str_gives f.old result (behind_slashes (option_map authorities.print authority.now)) f.new }
-    ensures styled { WritesStyledOnOk W.write_str_gives f.old result (behind_slashes (option_map authorities.print authority.now)) f.new }
+    ensures writes { WritesOnOk W.write_str_gives f.old result (after_slashes (option_map authorities.print authority.now)) f.new }
+    ensures styled { WritesStyledOnOk W.write_str_gives f.old result (after_slashes (option_map authorities.print authority.now)) f.new }
 {
     if let Some(authority) = authority {
         f.write_str("//")?;
@@ -68,14 +68,14 @@ pub(super) fn write_authority<W: fmt::Write>(
 }
 
 /// Writes a delimiter and the component that follows it, if there is one.
-fn write_behind<W: fmt::Write>(
+fn write_after<W: fmt::Write>(
     mark: &str,
     part: Option<&str>,
     f: &mut fmt::Formatter<W>,
 ) -> fmt::Result
     requires { length mark.now ≡ 1 }
-    ensures writes { WritesOnOk W.write_str_gives f.old result (behind (slice_index mark.now 0) (option_copied part.entry)) f.new }
-    ensures styled { WritesStyledOnOk W.write_str_gives f.old result (behind (slice_index mark.now 0) (option_copied part.entry)) f.new }
+    ensures writes { WritesOnOk W.write_str_gives f.old result (following (slice_index mark.now 0) (option_copied part.entry)) f.new }
+    ensures styled { WritesStyledOnOk W.write_str_gives f.old result (following (slice_index mark.now 0) (option_copied part.entry)) f.new }
 {
     if let Some(text) = part {
         f.write_str(mark)?;
@@ -91,10 +91,10 @@ pub(super) fn write_back<W: fmt::Write>(
     fragment: &Option<Fragment<'_>>,
     f: &mut fmt::Formatter<W>,
 ) -> fmt::Result
-    ensures writes { WritesOnOk W.write_str_gives f.old result (paths.text path.now ++ (behind question_mark query.now ++ behind number_sign fragment.now)) f.new }
-    ensures styled { WritesStyledOnOk W.write_str_gives f.old result (paths.text path.now ++ (behind question_mark query.now ++ behind number_sign fragment.now)) f.new }
+    ensures writes { WritesOnOk W.write_str_gives f.old result (paths.text path.now ++ (following question_mark query.now ++ following number_sign fragment.now)) f.new }
+    ensures styled { WritesStyledOnOk W.write_str_gives f.old result (paths.text path.now ++ (following question_mark query.now ++ following number_sign fragment.now)) f.new }
 {
     fmt::Display::fmt(path, f)?;
-    write_behind("?", query.as_ref().map(Query::as_str), f)?;
-    write_behind("#", fragment.as_ref().map(Fragment::as_str), f)
+    write_after("?", query.as_ref().map(Query::as_str), f)?;
+    write_after("#", fragment.as_ref().map(Fragment::as_str), f)
 }

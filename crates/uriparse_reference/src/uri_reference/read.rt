@@ -15,7 +15,7 @@ ghost use Rattle.uriparse_scheme.specs.Cuts.{if_some, scheme_text};
 ghost use Rattle.uriparse_reference.specs.Cuts.{cut_authority, path_text, tail_fragment, tail_query, without_authority};
 ghost use Rattle.uriparse_text.specs.declared.segment.error.PathError.TheVariants.{OutOfMemory};
 ghost use Rattle.uriparse_reference.specs.declared.uri_reference.error.URIReferenceError.TheVariants as errors;
-ghost use Rattle.uriparse_reference.specs.Reading.{behind_reading, parts_of, reading, text_tail};
+ghost use Rattle.uriparse_reference.specs.Reading.{after_reading, parts_of, reading, text_tail};
 ghost use Rattle.uriparse_reference.specs.Reference.{is_noscheme, path_of, path_refusal};
 
 use super::error::URIReferenceError;
@@ -40,11 +40,11 @@ fn is_there(scheme: &[u8]) -> bool
 }
 
 /// What follows two leading slashes.
-fn behind_two_slashes(text: &[u8]) -> Option<&[u8]>
+fn after_two_slashes(text: &[u8]) -> Option<&[u8]>
     ensures { MatchOption result (has_two_slashes text.now ≡ false) (λ r. (has_two_slashes text.now ≡ true) × (r.now ≡ drop 2 text.now)) }
 {
     match text {
-        [b'/', b'/', behind @ ..] => Some(behind),
+        [b'/', b'/', following @ ..] => Some(following),
         _ => None,
     }
 }
@@ -54,9 +54,9 @@ pub(super) fn split_authority(text: &[u8]) -> (Option<&[u8]>, &[u8])
     ensures authority { option_copied result.0 ≡ cut_authority text.now }
     ensures rest { result.1.now ≡ without_authority text.now }
 {
-    match behind_two_slashes(text) {
-        Some(behind) => {
-            let (authority, rest) = split_before_path(behind);
+    match after_two_slashes(text) {
+        Some(following) => {
+            let (authority, rest) = split_before_path(following);
             (Some(authority), rest)
         }
         None => (None, text),
@@ -68,8 +68,8 @@ pub(super) fn split_authority(text: &[u8]) -> (Option<&[u8]>, &[u8])
 fn find_front(text: &[u8]) -> Result<(Option<FoundAuthority<'_>>, &[u8]), URIReferenceError>
     ensures { MatchResult result (λ r. (of_piece errors.Authority (if_present authority.reading (cut_authority text.now)) ≡ Ok r.0) × (r.1.now ≡ without_authority text.now)) (λ e. of_piece errors.Authority (if_present authority.reading (cut_authority text.now)) ≡ Err e) }
 {
-    match behind_two_slashes(text) {
-        Some(behind) => match find_authority(behind) {
+    match after_two_slashes(text) {
+        Some(following) => match find_authority(following) {
             Ok((found, rest)) => Ok((Some(found), rest)),
             Err(error) => Err(URIReferenceError::Authority(error)),
         },
@@ -103,18 +103,18 @@ fn find_query(text: &[u8]) -> Result<(Found<'_, QueryKind>, Option<&[u8]>), Quer
     ensures { MatchResult result (λ r. (if_present query.reading (tail_query text.now) ≡ Ok r.0) × (option_copied r.1 ≡ tail_fragment text.now)) (λ e. if_present query.reading (tail_query text.now) ≡ Err e) }
 {
     match text {
-        [b'?', behind @ ..] => find_text_before::<QueryKind>(behind, b'#'),
-        [b'#', behind @ ..] => Ok((no_text(), Some(behind))),
+        [b'?', following @ ..] => find_text_before::<QueryKind>(following, b'#'),
+        [b'#', following @ ..] => Ok((no_text(), Some(following))),
         _ => Ok((no_text(), None)),
     }
 }
 
 /// Finds the query and the fragment that follow a path.
 #[inline(always)]
-fn find_behind(
+fn find_query_and_fragment(
     text: &[u8],
 ) -> Result<(Found<'_, QueryKind>, Found<'_, FragmentKind>), URIReferenceError>
-    ensures { result ≡ behind_reading (tail_query text.now) (tail_fragment text.now) }
+    ensures { result ≡ after_reading (tail_query text.now) (tail_fragment text.now) }
 {
     match find_query(text) {
         Ok((query, fragment)) => Ok((query, find_text_if::<FragmentKind>(fragment)?)),
@@ -148,7 +148,7 @@ fn find_tail(
 {
     let front = split_path(text)?;
     check_path(has_scheme, has_authority, has_colon_segment, front.text)?;
-    let (query, fragment) = find_behind(front.behind)?;
+    let (query, fragment) = find_query_and_fragment(front.following)?;
     Ok(FoundTail {
         path: front.text,
         count: front.count,

@@ -156,13 +156,13 @@ fn inner_path<'r>(
 }
 
 /// The reference of a path that leads to the target's path, with the target's query and fragment.
-fn behind_path<'r>(
+fn following_path<'r>(
     base: &URIReference<'_>,
     target: &'r URIReference<'_>,
     path: Path<'r>,
 ) -> URIReference<'r>
     requires { spec.inner base.now.path target.now.path ≡ Some path }
-    ensures { result ≡ spec.behind_path target.now path.entry }
+    ensures { result ≡ spec.following_path target.now path.entry }
 {
     URIReference {
         scheme: None,
@@ -197,7 +197,7 @@ pub fn relativize<'r>(
         return Ok(in_place(base, target));
     }
     match inner_path(alloc, base_path, target_path)? {
-        Some(path) => Ok(behind_path(base, target, path)),
+        Some(path) => Ok(following_path(base, target, path)),
         None => network(alloc, target),
     }
 }

@@ -2,9 +2,9 @@
 ghost use Rattle.std.specs.Prelude.{◌≡◌, Err, IfOk, IsSome, MatchOption, MatchResult, Ok, false, if◌then◌else◌};
 ghost use Rattle.uriparse_text.specs.Readings.{IsUnless};
 ghost use Rattle.uriparse_path.specs.Dots.{without_dots};
-ghost use Rattle.uriparse_path.specs.Edits.{shield};
+ghost use Rattle.uriparse_path.specs.Edits.{with_dot_prefix};
 ghost use Rattle.uriparse_path.specs.Merge.{merging};
-ghost use Rattle.uriparse_path.specs.Path.{hides_root, text};
+ghost use Rattle.uriparse_path.specs.Path.{starts_with_empty_segment, text};
 ghost use Rattle.uriparse_text.specs.declared.segment.error.PathError.TheVariants as paths;
 ghost use Rattle.uriparse_reference.specs.declared.uri_reference.error.URIReferenceError.TheVariants as errors;
 ghost use Rattle.uriparse_reference.specs.Reference.{Valid};
@@ -35,8 +35,8 @@ fn path_without_dots<'r>(
     path: &'r Path<'_>,
     has_authority: bool,
 ) -> Result<Path<'r>, PathError>
-    requires { has_authority ≡ false → hides_root path.now.segments ≡ false }
-    ensures { MatchResult result (λ p. p ≡ (if has_authority then without_dots path.now else shield (without_dots path.now))) (λ e. e ≡ paths.OutOfMemory) }
+    requires { has_authority ≡ false → starts_with_empty_segment path.now.segments ≡ false }
+    ensures { MatchResult result (λ p. p ≡ (if has_authority then without_dots path.now else with_dot_prefix (without_dots path.now))) (λ e. e ≡ paths.OutOfMemory) }
 {
     let mut copy = path.to_borrowed(alloc)?;
     remove_dots(&mut copy, has_authority);
@@ -50,8 +50,8 @@ fn merged_without_dots<'r>(
     path: &'r Path<'_>,
     has_authority: bool,
 ) -> Result<Path<'r>, PathError>
-    requires { has_authority ≡ false → IfOk (merging base.now path.now) (λ m. hides_root m.segments ≡ false) }
-    ensures { MatchResult (merging base.now path.now) (λ m. IsUnless paths.OutOfMemory result (Ok (if has_authority then without_dots m else shield (without_dots m)))) (λ e. result ≡ Err e) }
+    requires { has_authority ≡ false → IfOk (merging base.now path.now) (λ m. starts_with_empty_segment m.segments ≡ false) }
+    ensures { MatchResult (merging base.now path.now) (λ m. IsUnless paths.OutOfMemory result (Ok (if has_authority then without_dots m else with_dot_prefix (without_dots m)))) (λ e. result ≡ Err e) }
 {
     let mut merged = merged_path(alloc, base, path)?;
     remove_dots(&mut merged, has_authority);

@@ -8,7 +8,7 @@ ghost use Rattle.uriparse_reference.specs.declared.uri_reference.edit.Edit.TheVa
 ghost use Rattle.uriparse_reference.specs.Edits.{edited, segment_pushed};
 
 use super::URIReference;
-use super::edit::{place_refusal, settle_path};
+use super::edit::{fit_path, fit_refusal};
 use super::error::URIReferenceError;
 use std::alloc::Global;
 use uriparse_path::path::{Path, Segment};
@@ -52,13 +52,13 @@ impl<'r> URIReference<'r> {
     {
         push(&mut self.path, alloc, segment)?;
         let has_authority = self.authority.is_some();
-        match place_refusal(self.scheme.is_some(), has_authority, &self.path) {
+        match fit_refusal(self.scheme.is_some(), has_authority, &self.path) {
             Some(error) => {
                 self.path.pop();
                 Err(error)
             }
             None => {
-                settle_path(has_authority, &mut self.path);
+                fit_path(has_authority, &mut self.path);
                 Ok(())
             }
         }

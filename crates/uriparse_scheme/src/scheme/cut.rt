@@ -51,7 +51,7 @@ fn after_colon(rest: &[u8]) -> Option<&[u8]>
     ensures { option_copied result ≡ spec.after_colon rest.now }
 {
     match rest {
-        [b':', behind @ ..] => Some(behind),
+        [b':', following @ ..] => Some(following),
         _ => None,
     }
 }
@@ -92,7 +92,7 @@ fn split_any_scheme(text: &[u8]) -> SchemeCut<'_>
     ensures colon { result.has_colon_segment ≡ spec.has_colon_segment text.now }
 {
     let (front, rest) = split_at_scheme_end(text);
-    let Some(behind) = after_colon(rest) else {
+    let Some(following) = after_colon(rest) else {
         return SchemeCut {
             scheme: b"",
             known: None,
@@ -104,7 +104,7 @@ fn split_any_scheme(text: &[u8]) -> SchemeCut<'_>
         SchemeCut {
             scheme: front,
             known: None,
-            rest: behind,
+            rest: following,
             has_colon_segment: false,
         }
     } else {

@@ -63,7 +63,7 @@ fn searched_scheme(text: &[u8]) -> Option<RegisteredScheme>
 }
 
 /// The only frequent scheme whose name has the length and the first letter of the text.
-fn frequent(text: &[u8]) -> Option<RegisteredScheme> {
+fn common_candidate(text: &[u8]) -> Option<RegisteredScheme> {
     let first = text.first()?.to_ascii_lowercase();
     match (text.len(), first) {
         (5, b'h') => Some(RegisteredScheme::HTTPS),
@@ -85,7 +85,7 @@ fn frequent(text: &[u8]) -> Option<RegisteredScheme> {
 pub(super) fn registered_named(text: &[u8]) -> Option<RegisteredScheme>
     ensures { result ≡ spec.registered_named (str_to_ascii_lowercase text.now) }
 {
-    match frequent(text) {
+    match common_candidate(text) {
         Some(scheme) if text.eq_ignore_ascii_case(scheme.name().as_bytes()) => Some(scheme),
         _ => searched_scheme(text),
     }

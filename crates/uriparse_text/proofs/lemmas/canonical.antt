@@ -2,7 +2,7 @@ pub mod HashLemmas
 pub mod CanonicalLemmas
 pub mod RunLemmas
 pub mod ChangedLemmas
-pub mod SettledLemmas
+pub mod CanonicalPrefixLemmas
 pub mod ComparisonLemmas
 pub mod OrderLemmas
 pub mod SpellingLengthLemmas

@@ -1,6 +1,6 @@
 pub mod FaultLemmas
 pub mod ClassLemmas
 pub mod FaultByByteLemmas
-pub mod PlaceLemmas
+pub mod OffsetLemmas
 pub mod GrammarLemmas
 pub mod FaultBeforeMarkLemmas

@@ -31,7 +31,7 @@ pub fn same_spelling(case: Case, bytes: &[u8], text: &[u8]) -> bool
 fn same_tokens(case: Case, bytes: &[u8], text: &[u8]) -> bool
     ensures { IsTrue result ↔ (spec.canonical_tokens case bytes.now ≡ spec.canonical_tokens case text.now) }
 {
-    let (mut left, mut right) = behind_common(bytes, text);
+    let (mut left, mut right) = after_common(bytes, text);
     'tokens: while let Some((x, after_x)) = split_code(case, left) {
         let Some((y, after_y)) = split_code(case, right) else {
             return false;
@@ -39,7 +39,7 @@ fn same_tokens(case: Case, bytes: &[u8], text: &[u8]) -> bool
         if x != y {
             return false;
         }
-        let (later_x, later_y) = behind_common(after_x, after_y);
+        let (later_x, later_y) = after_common(after_x, after_y);
         left = later_x;
         right = later_y;
     }
@@ -49,7 +49,7 @@ fn same_tokens(case: Case, bytes: &[u8], text: &[u8]) -> bool
 /// What follows the bytes that two texts have in common and that are no `%`. If escapes follow one
 /// another there is nothing to compare.
 #[inline(always)]
-pub(super) fn behind_common<'l, 'r>(left: &'l [u8], right: &'r [u8]) -> (&'l [u8], &'r [u8])
+pub(super) fn after_common<'l, 'r>(left: &'l [u8], right: &'r [u8]) -> (&'l [u8], &'r [u8])
     ensures same { (case : Case) → (spec.canonical_tokens case result.0.now ≡ spec.canonical_tokens case result.1.now) ↔ (spec.canonical_tokens case left.now ≡ spec.canonical_tokens case right.now) }
     ensures represents { bytes_eq (decoded result.0.now) result.1.now ≡ bytes_eq (decoded left.now) right.now }
     ensures compared { slice_cmp nat_cmp (decoded result.0.now) (decoded result.1.now) ≡ slice_cmp nat_cmp (decoded left.now) (decoded right.now) }

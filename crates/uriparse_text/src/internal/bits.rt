@@ -48,12 +48,12 @@ pub fn highest(m: u64) -> usize
 
 /// The mask without the bits from a place on.
 #[inline(always)]
-pub fn bits_below(m: u64, place: usize) -> u64
-    requires { place < 64 }
-    ensures kept { (k : ℕ) → k < place → bit_at result k ≡ bit_at m k }
-    ensures gone { (k : ℕ) → place ≤ k → bit_at result k ≡ 0 }
+pub fn bits_below(m: u64, offset: usize) -> u64
+    requires { offset < 64 }
+    ensures kept { (k : ℕ) → k < offset → bit_at result k ≡ bit_at m k }
+    ensures gone { (k : ℕ) → offset ≤ k → bit_at result k ≡ 0 }
 {
-    m % (1 << place)
+    m % (1 << offset)
 }
 
 /// How many bits are set below a place.

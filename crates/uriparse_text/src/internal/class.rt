@@ -2,7 +2,7 @@
 ghost use Rattle.std.specs.Prelude.{◌≡◌, ◌+◌, ◌≤◌, length, MatchOption};
 ghost use Rattle.uriparse_text.specs.Bytes as spec;
 ghost use Rattle.uriparse_text.specs.Classes.{is_plain};
-ghost use Rattle.uriparse_text.specs.Faults.{fault, AllFine, AreInDoubt, IsFaultFrom, IsFaultPlace};
+ghost use Rattle.uriparse_text.specs.Faults.{fault, AllFine, AreInDoubt, IsFaultFrom, IsFaultOffset};
 
 use super::bits::{lowest, without_lowest, without_triples};
 use super::scan::{Is, IsHex, Outside, marks_of_run, marks_of_short};
@@ -97,8 +97,8 @@ impl Class {
 /// length. The byte there is a `%` if an escape is broken. Walks the text once, sixteen bytes at a
 /// time.
 #[inline]
-pub(super) fn fault_place(class: Class, text: &[u8]) -> usize
-    ensures { IsFaultPlace class text.now result }
+pub(super) fn fault_offset(class: Class, text: &[u8]) -> usize
+    ensures { IsFaultOffset class text.now result }
 {
     if text.len() < 8 {
         fault_by_one(class, text)
@@ -113,7 +113,7 @@ pub(super) fn fault_place(class: Class, text: &[u8]) -> usize
 /// are in each class, so no byte has to be skipped.
 #[inline(always)]
 fn fault_by_one(class: Class, text: &[u8]) -> usize
-    ensures { IsFaultPlace class text.now result }
+    ensures { IsFaultOffset class text.now result }
 {
     let mut at = 0;
     'bytes: while at < text.len() {
@@ -131,7 +131,7 @@ fn fault_by_one(class: Class, text: &[u8]) -> usize
 fn fault_of_short(class: Class, text: &[u8]) -> usize
     requires least { 8 ≤ length text.now }
     requires most { length text.now ≤ 16 }
-    ensures { IsFaultPlace class text.now result }
+    ensures { IsFaultOffset class text.now result }
 {
     let outside = marks_of_short(&Outside(class), text);
     if outside == 0 {
@@ -148,13 +148,13 @@ fn fault_of_short(class: Class, text: &[u8]) -> usize
 #[inline(never)]
 fn fault_by_runs(class: Class, text: &[u8]) -> usize
     requires { 16 ≤ length text.now }
-    ensures { IsFaultPlace class text.now result }
+    ensures { IsFaultOffset class text.now result }
 {
     let len = text.len();
     let mut at = 0;
     'runs: while len - at > 16 {
-        if let Some(place) = fault_in(class, text, at, at) {
-            return place;
+        if let Some(offset) = fault_in(class, text, at, at) {
+            return offset;
         }
         at += 16;
     }
@@ -167,7 +167,7 @@ fn fault_in(class: Class, text: &[u8], at: usize, from: usize) -> Option<usize>
     requires least { at ≤ from }
     requires most { from ≤ at + 16 }
     requires room { at + 16 ≤ length text.now }
-    ensures { MatchOption result (AllFine class text.now from (at + 16)) (λ place. IsFaultFrom class text.now from place) }
+    ensures { MatchOption result (AllFine class text.now from (at + 16)) (λ offset. IsFaultFrom class text.now from offset) }
 {
     let outside = marks_of_run(&Outside(class), text, at, from);
     if outside == 0 {
@@ -185,7 +185,7 @@ fn fault_at_marks(class: Class, text: &[u8], from: usize, len: usize, marks: u64
     requires short { len ≤ 16 }
     requires room { from + len ≤ length text.now }
     requires marks { AreInDoubt class text.now from len marks }
-    ensures { MatchOption result (AllFine class text.now from (from + len)) (λ place. IsFaultFrom class text.now from place) }
+    ensures { MatchOption result (AllFine class text.now from (from + len)) (λ offset. IsFaultFrom class text.now from offset) }
 {
     let mut left = marks;
     'marks: while left != 0 {

@@ -8,7 +8,7 @@ ghost use Rattle.uriparse_text.specs.Classes.{is_plain};
 ghost use Rattle.uriparse_text.specs.Coding.{are_bytes, decoded, encoded, encoded_without, escape_of, escaped_in, form_decoded, form_value_of, value_of};
 ghost use Rattle.uriparse_text.specs.Tokens.{has_digits};
 
-use super::alike::behind_common;
+use super::alike::after_common;
 use super::class::Class;
 use super::digit::{hex_value, upper_digit};
 use super::rewrite::{Rewriting, push_rewritten};
@@ -94,7 +94,7 @@ pub fn decoded_bytes(alloc: Global, text: &[u8]) -> Result<Vec<u8>, AllocError>
 pub fn represents(text: &[u8], bytes: &[u8]) -> bool
     ensures { result ≡ bytes_eq (decoded text.now) bytes.now }
 {
-    let (mut rest, mut left) = behind_common(text, bytes);
+    let (mut rest, mut left) = after_common(text, bytes);
     'tokens: while let Some((token, after)) = split_token(rest) {
         let Some((&b, later)) = left.split_first() else {
             return false;
@@ -102,7 +102,7 @@ pub fn represents(text: &[u8], bytes: &[u8]) -> bool
         if token.value() != b {
             return false;
         }
-        let (after_both, later_both) = behind_common(after, later);
+        let (after_both, later_both) = after_common(after, later);
         rest = after_both;
         left = later_both;
     }
@@ -114,7 +114,7 @@ pub fn represents(text: &[u8], bytes: &[u8]) -> bool
 pub fn compare_represented(text: &[u8], other: &[u8]) -> Ordering
     ensures { result ≡ slice_cmp nat_cmp (decoded text.now) (decoded other.now) }
 {
-    let (mut rest, mut left) = behind_common(text, other);
+    let (mut rest, mut left) = after_common(text, other);
     'tokens: while let Some((token, after)) = split_token(rest) {
         let Some((next, later)) = split_token(left) else {
             return Ordering::Greater;
@@ -123,7 +123,7 @@ pub fn compare_represented(text: &[u8], other: &[u8]) -> Ordering
             Ordering::Equal => {}
             order => return order,
         }
-        let (after_both, later_both) = behind_common(after, later);
+        let (after_both, later_both) = after_common(after, later);
         rest = after_both;
         left = later_both;
     }

@@ -21,6 +21,6 @@ pub fn without_mark(rest: &[u8]) -> Option<&[u8]>
 {
     match rest {
         [] => None,
-        [_, behind @ ..] => Some(behind),
+        [_, following @ ..] => Some(following),
     }
 }

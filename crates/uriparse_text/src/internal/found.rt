@@ -6,10 +6,10 @@ ghost use Rattle.uriparse_text.specs.Cuts.{after, before};
 ghost use Rattle.uriparse_text.specs.Faults.{EndsClass};
 ghost use Rattle.uriparse_text.specs.Found.{AreWords, if_there};
 ghost use Rattle.uriparse_text.specs.Readings.{if_present, reading_in};
-ghost use Rattle.uriparse_text.specs.Spelling.{IsKept};
+ghost use Rattle.uriparse_text.specs.Spelling.{IsValidText};
 
-use super::settled::{check_bytes, fault_behind, settled_len};
-use super::text::{Text, TextKind, kept_text};
+use super::canonical_prefix::{canonical_prefix_len, check_bytes, fault_following};
+use super::text::{Text, TextKind, text_from_checked};
 use std::marker::{Model, PhantomData};
 
 /// The bytes of an optional text of this kind, known to be in its class. Contracts see it as these
@@ -26,19 +26,19 @@ pub struct Found<'t, K: TextKind> {
 impl<'t, K: TextKind> Model for Found<'t, K> {
     ghost use Rattle.std.specs.Prelude.{ℕ, ◌==◌, List, Option};
     ghost use Rattle.uriparse_text.specs.Found.{if_there};
-    ghost use Rattle.uriparse_text.specs.Spelling.{IsKept};
+    ghost use Rattle.uriparse_text.specs.Spelling.{IsValidText};
 
     ghost Value = { Option (List ℕ) };
 
     ghost view = { λ f. if_there f.present f.bytes.now };
 
-    ghost invariant = { λ f. IsKept K.class K.case (f.present == 2) f.bytes.now };
+    ghost invariant = { λ f. IsValidText K.class K.case (f.present == 2) f.bytes.now };
 }
 
 /// A text with these bytes, canonical if so marked.
 #[inline(always)]
 fn found_text<K: TextKind>(bytes: &[u8], canonical: bool) -> Found<'_, K>
-    requires { IsKept K.class K.case canonical bytes.now }
+    requires { IsValidText K.class K.case canonical bytes.now }
     ensures { result ≡ Some bytes.now }
 {
     Found {
@@ -69,7 +69,7 @@ impl<'t, K: TextKind> Found<'t, K> {
         if self.present == 0 {
             None
         } else {
-            Some(kept_text(self.bytes, self.present == 2))
+            Some(text_from_checked(self.bytes, self.present == 2))
         }
     }
 
@@ -98,7 +98,7 @@ impl<'t, K: TextKind> Found<'t, K> {
 /// The text of these bytes, of which [`words`](Found::words) said whether it is there and canonical.
 #[inline(always)]
 pub fn found_again<K: TextKind>(present: u8, bytes: &[u8]) -> Found<'_, K>
-    requires { IsKept K.class K.case (present == 2) bytes.now }
+    requires { IsValidText K.class K.case (present == 2) bytes.now }
     ensures { result ≡ if_there present bytes.now }
 {
     Found {
@@ -139,15 +139,15 @@ pub fn find_text_before<'t, K: TextKind>(
 {
     let class = K::class();
     let case = K::case();
-    let settled = settled_len(class, case, bytes);
-    let place = fault_behind(class, case, bytes, settled);
-    if place == bytes.len() {
-        return Ok((found_text(bytes, place == settled), None));
+    let canonical_len = canonical_prefix_len(class, case, bytes);
+    let offset = fault_following(class, case, bytes, canonical_len);
+    if offset == bytes.len() {
+        return Ok((found_text(bytes, offset == canonical_len), None));
     }
-    let (front, rest) = bytes.split_at(place);
-    if bytes[place] == mark {
-        Ok((found_text(front, place == settled), Some(&rest[1..])))
+    let (front, rest) = bytes.split_at(offset);
+    if bytes[offset] == mark {
+        Ok((found_text(front, offset == canonical_len), Some(&rest[1..])))
     } else {
-        Err(K::error_of(bytes[place]))
+        Err(K::error_of(bytes[offset]))
     }
 }

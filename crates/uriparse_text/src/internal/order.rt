@@ -7,7 +7,7 @@ ghost use Rattle.uriparse_text.specs.Alike.{rank_of};
 ghost use Rattle.uriparse_text.specs.Canonical.{canonical_in};
 ghost use Rattle.uriparse_text.specs.Tokens.{is_well_formed};
 
-use super::alike::{behind_common, split_code};
+use super::alike::{after_common, split_code};
 use super::canonical::Case;
 use std::cmp::Ordering;
 
@@ -18,7 +18,7 @@ pub fn compare_spelling(case: Case, left: &[u8], right: &[u8]) -> Ordering
     requires right { is_well_formed right.now ≡ true }
     ensures { result ≡ slice_cmp nat_cmp (canonical_in case left.now) (canonical_in case right.now) }
 {
-    let (mut rest, mut other) = behind_common(left, right);
+    let (mut rest, mut other) = after_common(left, right);
     'tokens: while let Some((x, after)) = split_code(case, rest) {
         let Some((y, later)) = split_code(case, other) else {
             return Ordering::Greater;
@@ -26,7 +26,7 @@ pub fn compare_spelling(case: Case, left: &[u8], right: &[u8]) -> Ordering
         if x != y {
             return rank(x).cmp(&rank(y));
         }
-        let (after_both, later_both) = behind_common(after, later);
+        let (after_both, later_both) = after_common(after, later);
         rest = after_both;
         other = later_both;
     }

@@ -6,7 +6,7 @@ ghost use Rattle.std.specs.Net.Text as net_text;
 ghost use Rattle.uriparse_text.specs.Address.{ipv4_text, ipv6_text};
 ghost use Rattle.uriparse_text.specs.Ends.{Puts};
 
-use super::ends::put;
+use super::backward_buffer::put;
 use crate::address::{Ipv4Addr, Ipv6Addr};
 use std::net;
 
@@ -87,7 +87,7 @@ fn put_hex(segment: u16, out: &mut [u8], len: usize) -> usize
 }
 
 /// Puts a colon and a segment, for each of them.
-fn put_behind_colons(segments: &[u16], out: &mut [u8], len: usize) -> usize
+fn put_after_colons(segments: &[u16], out: &mut [u8], len: usize) -> usize
     ensures room { length out.new ≡ length out.old }
     ensures puts { Puts (flat_map (λ s. codes ":" ++ net_text.hex s) segments.now) out.old len out.new result }
 {
@@ -106,7 +106,7 @@ fn put_groups(segments: &[u16], out: &mut [u8], len: usize) -> usize
 {
     match segments {
         [first, rest @ ..] => {
-            let len = put_behind_colons(rest, out, len);
+            let len = put_after_colons(rest, out, len);
             put_hex(*first, out, len)
         }
         [] => len,

@@ -32,7 +32,7 @@ const FEW: usize = 4;
 fn run_len<T: ByteTest>(test: &T, text: &[u8]) -> usize
     requires some { 0 < length text.now }
     requires first { T.passes test.now (slice_index text.now 0) ≡ false }
-    ensures place { result ≡ position_or_len (T.passes test.now) text.now }
+    ensures offset { result ≡ position_or_len (T.passes test.now) text.now }
     ensures some { 0 < result }
     ensures within { result ≤ length text.now }
 {

@@ -184,7 +184,7 @@ pub fn marks_of_run<T: ByteTest>(test: &T, text: &[u8], at: usize, from: usize) 
 /// The place of the first byte that passes, or the length.
 #[inline(always)]
 pub fn first<T: ByteTest>(test: &T, text: &[u8]) -> usize
-    ensures place { result ≡ position_or_len (T.passes test.now) text.now }
+    ensures offset { result ≡ position_or_len (T.passes test.now) text.now }
     ensures within { result ≤ length text.now }
 {
     let len = text.len();

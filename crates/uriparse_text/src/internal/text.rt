@@ -10,7 +10,7 @@ ghost use Rattle.uriparse_text.specs.declared.internal.canonical.Case.{Case};
 ghost use Rattle.uriparse_text.specs.Tokens.{is_well_formed};
 ghost use Rattle.uriparse_text.specs.Faults.{IsIn};
 ghost use Rattle.uriparse_text.specs.Canonical.{canonical_in, fed_text, SpellsAlike};
-ghost use Rattle.uriparse_text.specs.Spelling.{IsKept};
+ghost use Rattle.uriparse_text.specs.Spelling.{IsValidText};
 ghost use Rattle.uriparse_text.specs.Readings.{reading_in};
 ghost use Rattle.uriparse_text.specs.Coding.{decoded, encoded};
 ghost use Rattle.uriparse_text.specs.Starts.{Writes};
@@ -18,13 +18,13 @@ ghost use Rattle.uriparse_text.specs.declared.internal.canonical.Case.TheVariant
 
 use super::alike::same_spelling;
 use super::canonical::{Case, canonical_bytes, feed_known, feed_text, is_canonical};
+use super::canonical_prefix::check_bytes;
 use super::class::Class;
 use super::coding::{decoded_bytes, encoded_bytes};
+use super::forward_buffer;
+use super::forward_buffer::TooSmall;
 use super::order::compare_spelling;
-use super::settled::check_bytes;
 use super::spelling::Spelling;
-use super::starts;
-use super::starts::TooSmall;
 use std::alloc::{AllocError, Global};
 use std::cmp::Ordering;
 use std::hash::{Hash, Hasher};
@@ -79,20 +79,20 @@ pub struct Text<'t, K: TextKind> {
 
 impl<'t, K: TextKind> Model for Text<'t, K> {
     ghost use Rattle.std.specs.Prelude.{ℕ, List};
-    ghost use Rattle.uriparse_text.specs.Spelling.{spelled, is_known, IsKept};
+    ghost use Rattle.uriparse_text.specs.Spelling.{spelled, is_known, IsValidText};
 
     ghost Value = { List ℕ };
 
     ghost view = { λ t. spelled t.text };
 
-    ghost invariant = { λ t. IsKept K.class K.case (is_known t.text) (spelled t.text) };
+    ghost invariant = { λ t. IsValidText K.class K.case (is_known t.text) (spelled t.text) };
 }
 
 /// The text with these bytes, which are in the kind's class, and canonical if so marked. Borrows
 /// them and does not allocate.
 #[inline(always)]
-pub fn kept_text<K: TextKind>(bytes: &[u8], canonical: bool) -> Text<'_, K>
-    requires { IsKept K.class K.case canonical bytes.now }
+pub fn text_from_checked<K: TextKind>(bytes: &[u8], canonical: bool) -> Text<'_, K>
+    requires { IsValidText K.class K.case canonical bytes.now }
     ensures { result ≡ bytes.now }
 {
     Text {
@@ -106,11 +106,11 @@ pub fn checked_text<K: TextKind>(bytes: &[u8]) -> Text<'_, K>
     requires { IsIn K.class bytes.now }
     ensures { result ≡ bytes.now }
 {
-    kept_text(bytes, false)
+    text_from_checked(bytes, false)
 }
 
 /// The text of these bytes, which are in the kind's class. Takes them and does not allocate.
-pub fn made_text<K: TextKind>(bytes: Vec<u8>) -> Text<'static, K>
+pub fn text_from_checked_vec<K: TextKind>(bytes: Vec<u8>) -> Text<'static, K>
     requires { IsIn K.class bytes.items }
     ensures { result ≡ bytes.items }
 {
@@ -144,7 +144,7 @@ impl<'t, K: TextKind> Text<'t, K> {
         ensures { result ≡ reading_in K.class K.error_of bytes.now }
     {
         match check_bytes(K::class(), K::case(), bytes) {
-            Ok(canonical) => Ok(kept_text(bytes, canonical)),
+            Ok(canonical) => Ok(text_from_checked(bytes, canonical)),
             Err(byte) => Err(K::error_of(byte)),
         }
     }
@@ -254,7 +254,7 @@ impl<'t, K: TextKind> Text<'t, K> {
     pub fn decode_into(&self, out: &mut [u8]) -> Result<usize, TooSmall>
         ensures { Writes (decoded self.now) result out.old out.new }
     {
-        starts::decode_into(self.as_bytes(), out)
+        forward_buffer::decode_into(self.as_bytes(), out)
     }
 
     /// Writes the text that [`encode`](Text::encode) returns to the start of the buffer and returns
@@ -271,7 +271,7 @@ impl<'t, K: TextKind> Text<'t, K> {
         ensures text { Writes (encoded K.class bytes.now) result out.old out.new }
         ensures back { IfOk result (λ n. decoded (take n out.new) ≡ bytes.now) }
     {
-        starts::encode_into(K::class(), bytes, out)
+        forward_buffer::encode_into(K::class(), bytes, out)
     }
 
     /// Whether the text is its own canonical spelling. Does not allocate.

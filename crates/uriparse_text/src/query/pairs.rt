@@ -8,7 +8,8 @@ ghost use Rattle.uriparse_text.specs.Query.{IsQuery};
 
 use super::Query;
 use crate::internal::{
-    Class, checked_text, form_decoded_bytes, made_text, push_encoded, split_at_mark, without_mark,
+    Class, checked_text, form_decoded_bytes, push_encoded, split_at_mark, text_from_checked_vec,
+    without_mark,
 };
 use std::alloc::{AllocError, Global};
 use std::marker::Model;
@@ -55,8 +56,8 @@ impl<'q> Iterator for Pairs<'q> {
 
     fn next(&mut self) -> Option<(Query<'q>, Option<Query<'q>>)> {
         let rest = self.rest?;
-        let (piece, behind) = split_at_mark(rest, b'&');
-        self.rest = without_mark(behind);
+        let (piece, following) = split_at_mark(rest, b'&');
+        self.rest = without_mark(following);
         Some(pair_of(piece))
     }
 }
@@ -151,7 +152,7 @@ impl<'q> Query<'q> {
     {
         let mut text = Vec::with_capacity(alloc, most_pair_bytes(pairs))?;
         push_pairs(&mut text, pairs)?;
-        Ok(made_text(text))
+        Ok(text_from_checked_vec(text))
     }
 
     /// Decodes the text as that of an HTML form: like [`decode`](Text::decode), but a `+` is a

@@ -8,7 +8,7 @@ ghost use Rattle.uriparse_text.specs.Written.{AreWritten, ended, makes_room, nex
 
 use super::Query;
 use super::pairs::{most_pair_bytes, pair_of, push_pair};
-use crate::internal::{made_text, represents, split_at_mark, without_mark};
+use crate::internal::{represents, split_at_mark, text_from_checked_vec, without_mark};
 use std::alloc::{AllocError, Global};
 
 /// Whether the name of the piece stands for these bytes.
@@ -69,8 +69,8 @@ fn set_pieces(
     let mut rest = Some(query);
     let mut is_set = false;
     while let Some(left) = rest {
-        let (piece, behind) = split_at_mark(left, b'&');
-        rest = without_mark(behind);
+        let (piece, following) = split_at_mark(left, b'&');
+        rest = without_mark(following);
         is_set = push_next(&mut text, piece, pair, is_set, rest.is_none())?;
     }
     if is_set {
@@ -86,7 +86,7 @@ pub(super) fn query_of_pieces(mut text: Vec<u8>) -> Query<'static>
     ensures { (ss : List (List ℕ)) → AreWritten ss text.items → spec.pairs result ≡ map spec.pair_of ss }
 {
     let _last = text.pop();
-    made_text(text)
+    text_from_checked_vec(text)
 }
 
 impl<'q> Query<'q> {

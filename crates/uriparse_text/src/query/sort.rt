@@ -24,8 +24,8 @@ fn pieces(alloc: Global, query: &[u8]) -> Result<Vec<&[u8]>, AllocError>
     let mut pieces = Vec::new(alloc);
     let mut rest = Some(query);
     while let Some(left) = rest {
-        let (piece, behind) = split_at_mark(left, b'&');
-        rest = without_mark(behind);
+        let (piece, following) = split_at_mark(left, b'&');
+        rest = without_mark(following);
         pieces.push(piece)?;
     }
     Ok(pieces)

@@ -8,7 +8,7 @@ ghost use Rattle.uriparse_text.specs.Written.{AreWritten};
 use super::Query;
 use super::pairs::pair_of;
 use super::set::is_named;
-use crate::internal::{made_text, split_at_mark, without_mark};
+use crate::internal::{split_at_mark, text_from_checked_vec, without_mark};
 use std::alloc::{AllocError, Global};
 
 /// Calls the test at the pair of a piece of a query.
@@ -35,8 +35,8 @@ where
     let mut text = Vec::with_capacity(alloc, query.len().saturating_add(1))?;
     let mut rest = Some(query);
     while let Some(left) = rest {
-        let (piece, behind) = split_at_mark(left, b'&');
-        rest = without_mark(behind);
+        let (piece, following) = split_at_mark(left, b'&');
+        rest = without_mark(following);
         if !passes(&mut test, piece) {
             text.extend_from_slice(piece)?;
             text.push(b'&')?;
@@ -53,8 +53,8 @@ fn other_pieces(alloc: Global, query: &[u8], name: &[u8]) -> Result<Vec<u8>, All
     let mut text = Vec::with_capacity(alloc, query.len().saturating_add(1))?;
     let mut rest = Some(query);
     while let Some(left) = rest {
-        let (piece, behind) = split_at_mark(left, b'&');
-        rest = without_mark(behind);
+        let (piece, following) = split_at_mark(left, b'&');
+        rest = without_mark(following);
         if !is_named(piece, name) {
             text.extend_from_slice(piece)?;
             text.push(b'&')?;
@@ -71,7 +71,7 @@ fn query_of_pieces(mut text: Vec<u8>) -> Option<Query<'static>>
 {
     match text.pop() {
         None => None,
-        Some(_) => Some(made_text(text)),
+        Some(_) => Some(text_from_checked_vec(text)),
     }
 }
 

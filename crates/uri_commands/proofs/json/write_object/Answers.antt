@@ -2,14 +2,14 @@ use Rattle.std.proofs.Common.{◌≡◌, ap, ◌∙◌, rules}
 use Rattle.std.specs.List.{list_all}
 use Rattle.std.specs.Option.{option_copied}
 use Rattle.uriparse.specs.Reference.{host_of}
-use Rattle.uri_commands.specs.Json.{is_plain}
+use Rattle.uri_commands.specs.Json.{needs_no_json_escape}
 use Rattle.uri_commands.proofs.JsonLemmas.{object_written, plain_spelled}
 use Rattle.uri_commands.proofs.json.write_object.Goals as goal
 
 pub write_text-requires : goal.write_text-requires
 write_text-requires g c =
     let text : c.as_bytes.result.now ≡ c.args.reference.now.text = search rules in
-    ap (list_all is_plain) text ∙ plain_spelled _ _ c.as_str.ensures.spelled
+    ap (list_all needs_no_json_escape) text ∙ plain_spelled _ _ c.as_str.ensures.spelled
 
 pub returns : goal.returns
 returns g c =

@@ -1,12 +1,12 @@
 use Rattle.std.proofs.Common.{ap, ◌∙◌, rules}
 use Rattle.std.specs.List.{list_all}
 use Rattle.uriparse.specs.Class.TheVariants.{Segment}
-use Rattle.uri_commands.specs.Json.{is_plain}
+use Rattle.uri_commands.specs.Json.{needs_no_json_escape}
 use Rattle.uri_commands.proofs.JsonLemmas.{plain_in_class, writing_end, writing_next, writing_start}
 use Rattle.uri_commands.proofs.json.write_segments.Goals as goal
 
 pub write_plain-requires : goal.write_plain-requires
-write_plain-requires g c = ap (list_all is_plain) c.as_bytes.ensures.value ∙ plain_in_class Segment _ c.as_bytes.ensures.class
+write_plain-requires g c = ap (list_all needs_no_json_escape) c.as_bytes.ensures.value ∙ plain_in_class Segment _ c.as_bytes.ensures.class
 
 pub loop-segment-init : goal.loop-segment-init
 loop-segment-init g c = search (rules, writing_start)

@@ -7,7 +7,7 @@ use Rattle.std.proofs.lemmas.Slice.Eq.{bytes_eq-Decides}
 use Rattle.std.specs.Str.{str_to_ascii_lowercase}
 use Rattle.uriparse_text.specs.Bytes.{colon}
 use Rattle.uriparse_text.specs.Canonical.{canonical_lowered, fed_text}
-use Rattle.uriparse_text.specs.Cuts.{behind}
+use Rattle.uriparse_text.specs.Cuts.{following}
 use Rattle.uriparse_authority.specs.Host as host
 use Rattle.uriparse_authority.specs.Port as port
 use Rattle.uriparse_authority.proofs.lemmas.hosts.HostLemmas.{same_host}
@@ -104,9 +104,9 @@ returns-clause-text c = λ p q a b v w e f h.
     let parts = parts_alike a b h in
     let host_text = ((same_host a.host b.host).0 parts.1).0 in
     let default = same_default a.scheme b.scheme (valid_scheme p a v e) (valid_scheme q b w f) parts.0 in
-    ap (λ t. t ++ (codes "://" ++ (host.canonical_text a.host ++ behind colon (option_map port.text (named_port a))))) parts.0
-    ∙ ap (λ t. scheme.canonical_text b.scheme ++ (codes "://" ++ (t ++ behind colon (option_map port.text (named_port a))))) host_text
+    ap (λ t. t ++ (codes "://" ++ (host.canonical_text a.host ++ following colon (option_map port.text (named_port a))))) parts.0
+    ∙ ap (λ t. scheme.canonical_text b.scheme ++ (codes "://" ++ (t ++ following colon (option_map port.text (named_port a))))) host_text
     ∙ ap (λ d. scheme.canonical_text b.scheme ++ (codes "://" ++ (host.canonical_text b.host
-    ++ behind colon (option_map port.text (cond (option_eq ◌==◌ (Some a.port) d) None (Some a.port)))))) default
+    ++ following colon (option_map port.text (cond (option_eq ◌==◌ (Some a.port) d) None (Some a.port)))))) default
     ∙ ap (λ n. scheme.canonical_text b.scheme ++ (codes "://" ++ (host.canonical_text b.host
-    ++ behind colon (option_map port.text (cond (option_eq ◌==◌ (Some n) (default_port b.scheme)) None (Some n)))))) parts.2
+    ++ following colon (option_map port.text (cond (option_eq ◌==◌ (Some n) (default_port b.scheme)) None (Some n)))))) parts.2

@@ -43,9 +43,9 @@ returns c = record {
   first_at = refl;
   first_part = refl;
   password_escape = refl;
-  behind_port = refl;
-  behind_address = refl;
-  behind_later_version = refl;
-  behind_name = refl;
+  after_port = refl;
+  after_address = refl;
+  after_later_version = refl;
+  after_name = refl;
   last_colon = refl;
 }

@@ -12,9 +12,9 @@ use Rattle.std.proofs.lemmas.Grind.{fold-append}
 use Rattle.uriparse_text.specs.Bytes.{slash, colon, question_mark, number_sign, at_sign, right_bracket}
 use Rattle.uriparse_text.specs.Canonical.{canonical, fed_text}
 use Rattle.uriparse_text.specs.declared.internal.class.Class.TheVariants as class
-use Rattle.uriparse_text.specs.Cuts.{lacks, none_pass, behind, ahead, before, after, front, rest, up_to, from_first, from_last, up_to_last}
+use Rattle.uriparse_text.specs.Cuts.{lacks, none_pass, following, ahead, before, after, front, rest, up_to, from_first, from_last, up_to_last}
 use Rattle.uriparse_text.specs.Readings.{◌>>=◌, of_piece, some_of, if_present, fault_in}
-use Rattle.uriparse_text.proofs.lemmas.readings.CutLemmas.{lacks-append, lacks-behind, before_after, front_rest, before_of, after_of, front_of, up_to-append, from_first-append}
+use Rattle.uriparse_text.proofs.lemmas.readings.CutLemmas.{lacks-append, lacks-following, before_after, front_rest, before_of, after_of, front_of, up_to-append, from_first-append}
 use Rattle.uriparse_text.proofs.lemmas.readings.CutLemmas.{cut-whole, from_last-of, up_to_last-of, last-whole, none_of_either, none_of_two}
 use Rattle.uriparse_text.proofs.lemmas.readings.OptionLemmas.{same_option, fed_option}
 use Rattle.uriparse_text.proofs.lemmas.readings.ReadingLemmas.{IsExact, texts_again, texts_found, bind_ok, piece_found, none_or}
@@ -63,7 +63,7 @@ user_lacks : (b : ℕ) → is_gen_delim b ≡ true → (b == colon) ≡ false �
     → IfSome w password.IsPassword → IfSome (userinfo u w) (λ t. lacks b t ≡ true)
 user_lacks b gen other mark None w is also = tt
 user_lacks b gen other mark (Some t) w is also =
-    lacks-append b t (behind colon w) (username_lacks b gen t is) (lacks-behind b colon w mark (some_password b gen other w also))
+    lacks-append b t (following colon w) (username_lacks b gen t is) (lacks-following b colon w mark (some_password b gen other w also))
 
 name_of : (u w : Option (List ℕ)) → IfSome u username.IsUsername → username_in (userinfo u w) ≡ u
 name_of None w is = refl
@@ -75,7 +75,7 @@ password_of None (Some t) is pair = absurd (cc)
 password_of (Some t) w is pair = after_of colon t w refl (username_lacks colon refl t is)
 
 port_of : (g : List ℕ) (n : Option (List ℕ)) → cut_port g ≡ None → IfSome n (λ t. lacks colon t ≡ true) → IfSome n (λ t. lacks right_bracket t ≡ true)
-    → (cut_port (g ++ behind colon n) ≡ n) × (cut_host (g ++ behind colon n) ≡ g)
+    → (cut_port (g ++ following colon n) ≡ n) × (cut_host (g ++ following colon n) ≡ g)
 port_of g None e h k =
     let a : cut_port (g ++ []) ≡ None = ap cut_port (append-nil g) ∙ e in
     (a, ap (λ o. unwrap_or (option_map (λ _. up_to_last ends_host (g ++ [])) o) (g ++ [])) a ∙ append-nil g)
@@ -94,10 +94,10 @@ front_user None right h k =
 
 pub cut_again : (a : List ℕ) (u w : Option (List ℕ)) (g : List ℕ) (n : Option (List ℕ)) → ArePieces u w g n → a ≡ joined u w g n → IsCutInto a u w g n
 cut_again a u w g n are whole =
-    let right : List ℕ = g ++ behind colon n in
+    let right : List ℕ = g ++ following colon n in
     let right_lacks : lacks at_sign right ≡ true =
-    lacks-append at_sign g (behind colon n) (host_text_lacks at_sign refl refl refl refl g are.is_host)
-    (lacks-behind at_sign colon n refl (are.is_port at_sign refl)) in
+    lacks-append at_sign g (following colon n) (host_text_lacks at_sign refl refl refl refl g are.is_host)
+    (lacks-following at_sign colon n refl (are.is_port at_sign refl)) in
     let cut = front_user (userinfo u w) right (user_lacks at_sign refl refl refl u w are.is_username are.is_password) right_lacks in
     let f : userinfo_text a ≡ userinfo u w = ap userinfo_text whole ∙ cut.0 in
     let r : host_and_port_text a ≡ right = ap host_and_port_text whole ∙ cut.1 in
@@ -122,9 +122,9 @@ lacks-joined : (b : ℕ) → is_gen_delim b ≡ true → (b == colon) ≡ false 
     → ((g : List ℕ) → IsHostText g → lacks b g ≡ true) → (u w : Option (List ℕ)) (g : List ℕ) (n : Option (List ℕ)) → ArePieces u w g n
     → lacks b (joined u w g n) ≡ true
 lacks-joined b gen other mark at digit in_host u w g n are =
-    lacks-append b (ahead at_sign (userinfo u w)) (g ++ behind colon n) (lacks-ahead b (userinfo u w) at
+    lacks-append b (ahead at_sign (userinfo u w)) (g ++ following colon n) (lacks-ahead b (userinfo u w) at
     (user_lacks b gen other mark u w are.is_username are.is_password))
-    (lacks-append b g (behind colon n) (in_host g are.is_host) (lacks-behind b colon n mark (are.is_port b digit)))
+    (lacks-append b g (following colon n) (in_host g are.is_host) (lacks-following b colon n mark (are.is_port b digit)))
 
 joined_lacks : (u w : Option (List ℕ)) (g : List ℕ) (n : Option (List ℕ)) → ArePieces u w g n → LacksEnds (joined u w g n)
 joined_lacks u w g n are =
@@ -239,15 +239,15 @@ paired_is (Some i) = by_after (after colon i)
     by_after None = tt
     by_after (Some t) = refl
 
-pub right_is : (t : List ℕ) → cut_host t ++ behind colon (cut_port t) ≡ t
+pub right_is : (t : List ℕ) → cut_host t ++ following colon (cut_port t) ≡ t
 right_is t = by_last (from_last ends_host t) (last-whole ends_host t)
   where
-    by_last : (l : List ℕ) → up_to_last ends_host t ++ l ≡ t → unwrap_or (option_map (λ _. up_to_last ends_host t) (colon_part l)) t ++ behind colon
+    by_last : (l : List ℕ) → up_to_last ends_host t ++ l ≡ t → unwrap_or (option_map (λ _. up_to_last ends_host t) (colon_part l)) t ++ following colon
         (colon_part l) ≡ t
     by_last [] h = append-nil t
     by_last (b ∷ r) h = at_byte (b == colon) refl
       where
-        at_byte : (v : Bool) → (b == colon) ≡ v → unwrap_or (option_map (λ _. up_to_last ends_host t) (cond v (Some r) None)) t ++ behind colon
+        at_byte : (v : Bool) → (b == colon) ≡ v → unwrap_or (option_map (λ _. up_to_last ends_host t) (cond v (Some r) None)) t ++ following colon
             (cond v (Some r) None) ≡ t
         at_byte true e = ap (λ x. up_to_last ends_host t ++ x ∷ r) (sym (eqb-true b colon e)) ∙ h
         at_byte false e = append-nil t

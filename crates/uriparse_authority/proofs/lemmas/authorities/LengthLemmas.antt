@@ -6,7 +6,7 @@ use Rattle.std.specs.Prelude.{◌++◌, IfSome, unwrap_or}
 use Rattle.std.specs.Option.{option_map}
 use Rattle.uriparse_text.specs.Address.{IsOctets, IsSegments, ipv6_text}
 use Rattle.uriparse_text.specs.Bytes.{at_sign, colon, right_bracket}
-use Rattle.uriparse_text.specs.Cuts.{ahead, behind}
+use Rattle.uriparse_text.specs.Cuts.{ahead, following}
 use Rattle.uriparse_text.proofs.lemmas.addresses.LengthLemmas.{length-ipv4_text, length-ipv6_text}
 use Rattle.uriparse_authority.specs.declared.authority.host.Host.{Host}
 use Rattle.uriparse_authority.specs.declared.authority.host.Host.TheVariants.{IPv4Address, IPv6Address}
@@ -32,7 +32,7 @@ length-user None w = omega arith
 length-user (Some t) None = simp length-append (omega arith)
 length-user (Some t) (Some p) = simp length-append (omega arith)
 
-length-port : (n : Option ℕ) → IfSome n port.IsPort → length (behind colon (option_map port.text n)) ≤ 6
+length-port : (n : Option ℕ) → IfSome n port.IsPort → length (following colon (option_map port.text n)) ≤ 6
 length-port None h = omega arith
 length-port (Some n) h = let digits = length-decimal-le 5 n (omega arith) (omega arith) (omega arith) in omega arith
 
@@ -40,7 +40,7 @@ pub length-print : (p : AuthorityParts) → Valid p
     → length (print p) ≤ 8 + length (unwrap_or p.username []) + length (unwrap_or p.password []) + length (host.text p.host)
 length-print p v =
     let front = ahead at_sign (userinfo p.username p.password) in
-    let back = behind colon (option_map port.text p.port) in
+    let back = following colon (option_map port.text p.port) in
     let a = length-user p.username p.password in
     let b = length-port p.port v.is_port in
     omega (arith, length-append front (host.text p.host ++ back), length-append (host.text p.host) back)

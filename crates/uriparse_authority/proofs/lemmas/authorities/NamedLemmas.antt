@@ -3,11 +3,11 @@ use Rattle.std.proofs.Common.{◌≡◌, ◌+◌, ◌≤◌, ℕ, Bool, true, Li
 use Rattle.std.specs.Prelude.{IfSome, is_none}
 use Rattle.std.proofs.Math.Seq.{take-append_seam}
 use Rattle.std.proofs.lemmas.List.{length-append}
-use Rattle.uriparse_text.specs.Cuts.{behind}
+use Rattle.uriparse_text.specs.Cuts.{following}
 use Rattle.uriparse_text.specs.Bytes.{colon}
 use Rattle.uriparse_text.specs.declared.internal.class.Class.TheVariants as class
 use Rattle.uriparse_text.specs.declared.internal.canonical.Case.TheVariants as case
-use Rattle.uriparse_text.specs.Spelling.{IsKept}
+use Rattle.uriparse_text.specs.Spelling.{IsValidText}
 use Rattle.uriparse_authority.specs.declared.authority.host.Host.{Host}
 use Rattle.uriparse_authority.specs.declared.authority.host.Host.TheVariants.{IPv4Address, IPv6Address, IPvFuture, RegisteredName}
 use Rattle.uriparse_authority.specs.Authority as authority
@@ -18,17 +18,17 @@ use Rattle.uriparse_authority.proofs.lemmas.authorities.AuthorityLemmas.{found}
 
 -- the text of such an authority
 name_first : (text g n : List ℕ) (p : Option (List ℕ)) (len : ℕ) (canonical : Bool) (port : Option ℕ) (a : AuthorityParts)
-    → a ≡ record { username = None; password = None; host = RegisteredName n; port = a.port } → text ≡ g ++ behind colon p → n ≡ g → length n ≡ len
-    → IsKept class.Name case.Lowered canonical n → IsNamed len canonical text a
+    → a ≡ record { username = None; password = None; host = RegisteredName n; port = a.port } → text ≡ g ++ following colon p → n ≡ g → length n ≡ len
+    → IsValidText class.Name case.Lowered canonical n → IsNamed len canonical text a
 name_first text g n p len canonical port a parts whole same long kept =
-    let first : take len text ≡ n = ap (λ k. take k text) (sym long) ∙ ap (take (length n)) whole ∙ ap (λ m. take (length m) (g ++ behind colon p)) same
-    ∙ take-append_seam g (behind colon p) ∙ sym same in
-    let sum : length text ≡ length g + length (behind colon p) = ap length whole ∙ length-append g (behind colon p) in
+    let first : take len text ≡ n = ap (λ k. take k text) (sym long) ∙ ap (take (length n)) whole ∙ ap (λ m. take (length m) (g ++ following colon p)) same
+    ∙ take-append_seam g (following colon p) ∙ sym same in
+    let sum : length text ≡ length g + length (following colon p) = ap length whole ∙ length-append g (following colon p) in
     let less : length g ≡ len = ap length (sym same) ∙ long in
     record {
       within = omega arith;
       is_name = parts ∙ ap (λ m. record { username = None; password = None; host = RegisteredName m; port = a.port }) (sym first);
-      is_kept = subst (λ m. IsKept class.Name case.Lowered canonical m) (sym first) kept;
+      is_valid_text = subst (λ m. IsValidText class.Name case.Lowered canonical m) (sym first) kept;
     }
 
 unpaired : (u w : Option (List ℕ)) → IsPaired u w → u ≡ None → w ≡ None

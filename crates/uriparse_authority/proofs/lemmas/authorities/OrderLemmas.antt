@@ -112,13 +112,13 @@ same_rank p q e =
     let user = both_equal (option_cmp (slice_cmp nat_cmp) (option_map canonical p.username) (option_map canonical q.username)) (after_username p q) e in
     let word =
     both_equal (option_cmp (slice_cmp nat_cmp) (option_map canonical p.password) (option_map canonical q.password)) (after_password p q) user.1 in
-    let place = both_equal (slice_cmp nat_cmp (host_rank p.host) (host_rank q.host)) (option_cmp nat_cmp p.port q.port) word.1 in
+    let offset = both_equal (slice_cmp nat_cmp (host_rank p.host) (host_rank q.host)) (option_cmp nat_cmp p.port q.port) word.1 in
     let u = same_options (option_map canonical p.username) (option_map canonical q.username) user.0 in
     let w = same_options (option_map canonical p.password) (option_map canonical q.password) word.0 in
-    let keys = same_host_rank p.host q.host (same_lists (host_rank p.host) (host_rank q.host) place.0) in
+    let keys = same_host_rank p.host q.host (same_lists (host_rank p.host) (host_rank q.host) offset.0) in
     let codes : host.kind_code (kind p) ≡ host.kind_code (kind q) = cc in
     let g : host.canonical_text p.host ≡ host.canonical_text q.host = cc in
-    let n = same_ports p.port q.port place.1 in
+    let n = same_ports p.port q.port offset.1 in
     rw (codes, u, w, g, n) refl
 
 pub ordered : (p q : AuthorityParts) → Valid p → Valid q → rank_cmp (rank p) (rank q) ≡ authority_key_cmp (key p) (key q)

@@ -6,7 +6,7 @@ use Rattle.std.specs.Prelude.{◌==◌, IfSome, Result}
 use Rattle.std.specs.List.{list_any}
 use Rattle.std.specs.Option.{option_map}
 use Rattle.uriparse_text.specs.Bytes.{colon, at_sign, right_bracket}
-use Rattle.uriparse_text.specs.Cuts.{lacks, none_pass, behind, before, after, up_to, from_first, from_last}
+use Rattle.uriparse_text.specs.Cuts.{lacks, none_pass, following, before, after, up_to, from_first, from_last}
 use Rattle.uriparse_text.specs.Readings.{◌>>=◌, fault_in}
 use Rattle.uriparse_text.proofs.lemmas.readings.CutLemmas.{any-some, lacks_by, lacks-before, lacks-after, before_after, before-lacks, up_to-append}
 use Rattle.uriparse_authority.specs.declared.authority.error.AuthorityError.{AuthorityError}
@@ -44,7 +44,7 @@ no_user_lacks_at a h = by_after (after at_sign a) refl h
     by_after : (o : Option (List ℕ)) → after at_sign a ≡ o → username_in (option_map (λ _. before at_sign a) o) ≡ None → lacks at_sign a ≡ true
     by_after None e k =
         let whole : before at_sign a ≡ a =
-        sym (append-nil (before at_sign a)) ∙ sym (ap (λ o. before at_sign a ++ behind at_sign o) e) ∙ before_after at_sign a in
+        sym (append-nil (before at_sign a)) ∙ sym (ap (λ o. before at_sign a ++ following at_sign o) e) ∙ before_after at_sign a in
         subst (λ t. lacks at_sign t ≡ true) whole (before-lacks at_sign a)
     by_after (Some r) e k = absurd (cc)
 
@@ -59,9 +59,9 @@ none_from p (b ∷ t) h = by_test (p b) (none_from p t) h
     by_test false f k = f k
 
 -- after the last byte that passes none does
-behind_last : (p : ℕ → Bool) (t : List ℕ) (b : ℕ) (u : List ℕ) → from_last p t ≡ b ∷ u → none_pass p u ≡ true
-behind_last p [] b u h = absurd (cc)
-behind_last p (c ∷ t) b u h = by_test (list_any p t) refl (p c) (behind_last p t b u) h
+after_last : (p : ℕ → Bool) (t : List ℕ) (b : ℕ) (u : List ℕ) → from_last p t ≡ b ∷ u → none_pass p u ≡ true
+after_last p [] b u h = absurd (cc)
+after_last p (c ∷ t) b u h = by_test (list_any p t) refl (p c) (after_last p t b u) h
   where
     by_test : (v : Bool) → list_any p t ≡ v → (w : Bool) → (from_last p t ≡ b ∷ u → none_pass p u ≡ true)
         → cond v (from_last p t) (cond w (c ∷ t) []) ≡ b ∷ u → none_pass p u ≡ true
@@ -78,7 +78,7 @@ port_lacks_mark mark h a = by_rest (from_last ends_host (host_and_port_text a)) 
 
     by_rest : (r : List ℕ) → from_last ends_host (host_and_port_text a) ≡ r → IfSome (colon_part r) (λ t. lacks mark t ≡ true)
     by_rest [] e = tt
-    by_rest (b ∷ u) e = by_test u (b == colon) (behind_last ends_host (host_and_port_text a) b u e)
+    by_rest (b ∷ u) e = by_test u (b == colon) (after_last ends_host (host_and_port_text a) b u e)
 
 pub port_lacks_colon : (a : List ℕ) → IfSome (port_text a) (λ t. lacks colon t ≡ true)
 port_lacks_colon a = port_lacks_mark colon refl a

@@ -55,11 +55,11 @@ fault_after-large n t h =
 -- ---- where the fault stands
 
 -- what is read after a front of digits, and what they write with a digit more
-behind_digits : (n : ℕ) (front left : List ℕ) → are_digits front ≡ true → fault_after n (front ++ left) ≡ fault_after (digits_value_after 10 n front) left
-behind_digits n [] left h = refl
-behind_digits n (b ∷ front) left h =
+after_digits : (n : ℕ) (front left : List ℕ) → are_digits front ≡ true → fault_after n (front ++ left) ≡ fault_after (digits_value_after 10 n front) left
+after_digits n [] left h = refl
+after_digits n (b ∷ front) left h =
     let both = and_parts (is_digit b 10) (are_digits front) h in
-    fault_after-digit n b (front ++ left) both.0 ∙ behind_digits (n * 10 + digit_value b) front left both.1
+    fault_after-digit n b (front ++ left) both.0 ∙ after_digits (n * 10 + digit_value b) front left both.1
 
 digit_more : (n : ℕ) (front : List ℕ) (b : ℕ) → digits_value_after 10 n (front ++ b ∷ []) ≡ digits_value_after 10 n front * 10 + digit_value b
 digit_more n [] b = refl
@@ -122,13 +122,13 @@ fault_found n (b ∷ t) h = at_byte (is_digit b 10) refl (small_or_large (n * 10
 
 other_there : (t : List ℕ) → IsAt 0 t IsOther → fault_after 0 t ≡ Some InvalidCharacter
 other_there t is =
-    ap (fault_after 0) is.whole ∙ behind_digits 0 is.front (is.byte ∷ is.left) is.digits
+    ap (fault_after 0) is.whole ∙ after_digits 0 is.front (is.byte ∷ is.left) is.digits
     ∙ fault_after-other (digits_value_after 10 0 is.front) is.byte is.left is.in_range is.at_fault
 
 beyond_there : (t : List ℕ) → IsAt 0 t IsBeyond → fault_after 0 t ≡ Some Overflow
 beyond_there t is =
     let at_fault = is.at_fault in
-    ap (fault_after 0) is.whole ∙ behind_digits 0 is.front (is.byte ∷ is.left) is.digits
+    ap (fault_after 0) is.whole ∙ after_digits 0 is.front (is.byte ∷ is.left) is.digits
     ∙ fault_after-digit (digits_value_after 10 0 is.front) is.byte is.left at_fault.0
     ∙ fault_after-large (digits_value_after 10 0 is.front * 10 + digit_value is.byte) is.left at_fault.1
 

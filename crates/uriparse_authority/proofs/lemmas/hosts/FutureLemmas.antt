@@ -14,7 +14,7 @@ use Rattle.uriparse_text.specs.Bytes.{dot, percent, is_hex, is_unreserved, is_su
 use Rattle.uriparse_text.specs.Classes.{is_plain}
 use Rattle.uriparse_text.specs.Faults.{IsIn}
 use Rattle.uriparse_text.specs.Canonical.{canonical_lowered}
-use Rattle.uriparse_text.specs.Cuts.{lacks, behind, before, after}
+use Rattle.uriparse_text.specs.Cuts.{lacks, following, before, after}
 use Rattle.uriparse_text.specs.Readings.{unless_fault}
 use Rattle.uriparse_text.proofs.lemmas.classes.FaultLemmas.{IsIn-plain}
 use Rattle.uriparse_text.proofs.lemmas.classes.ClassLemmas.{well_formed-in_class}
@@ -98,7 +98,7 @@ of_form (b ∷ t) h k =
     let cut = and_parts _ _ letter.1 in
     by_address (after dot t) (before_after dot t) cut.1 letter.0 cut.0 bytes.1
   where
-    by_address : (o : Option (List ℕ)) → before dot t ++ behind dot o ≡ t → has_address o ≡ true → is_future_letter b ≡ true
+    by_address : (o : Option (List ℕ)) → before dot t ++ following dot o ≡ t → has_address o ≡ true → is_future_letter b ≡ true
         → is_some_of is_hex (before dot t) ≡ true → list_all is_future_byte t ≡ true → IsFuture (b ∷ t)
     by_address None e there l v all = absurd (false≢true there)
     by_address (Some []) e there l v all = absurd (false≢true there)

@@ -3,7 +3,7 @@ ghost use Rattle.std.specs.Prelude.{◌≡◌, ◌==◌, IfSome, IsTrue, false};
 ghost use Rattle.uriparse_authority.specs.declared.authority.host.Host.TheVariants as hosts;
 ghost use Rattle.uriparse_text.specs.declared.internal.class.Class.TheVariants as class;
 ghost use Rattle.uriparse_text.specs.declared.internal.canonical.Case.TheVariants as case;
-ghost use Rattle.uriparse_text.specs.Spelling.{IsKept};
+ghost use Rattle.uriparse_text.specs.Spelling.{IsValidText};
 ghost use Rattle.uriparse_authority.specs.Future.{IsFuture};
 ghost use Rattle.uriparse_authority.specs.Found.{IsCanonicalName, IsNameOf, found_host};
 ghost use Rattle.uriparse_authority.specs.Host.{Valid, kind, kind_code};
@@ -45,7 +45,7 @@ impl<'h> Model for FoundHost<'h> {
 /// A name with these bytes, canonical if so marked.
 #[inline(always)]
 pub(in crate::authority) fn found_name(bytes: &[u8], canonical: bool) -> FoundHost<'_>
-    requires { IsKept class.Name case.Lowered canonical bytes.now }
+    requires { IsValidText class.Name case.Lowered canonical bytes.now }
     ensures { result ≡ hosts.RegisteredName bytes.now }
 {
     FoundHost {
@@ -140,7 +140,7 @@ impl<'h> FoundHost<'h> {
         ensures { result ≡ self.now }
     {
         if self.kind == 0 {
-            Host::RegisteredName(RegisteredName::of_kept(self.text, self.canonical == 1))
+            Host::RegisteredName(RegisteredName::from_checked(self.text, self.canonical == 1))
         } else {
             address_host(self.kind, self.text, self.ipv4, self.ipv6)
         }

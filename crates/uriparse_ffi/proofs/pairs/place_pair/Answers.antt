@@ -2,13 +2,13 @@ use Rattle.std.proofs.Common.{◌≡◌, ◌+◌, length, Some, sym, ap, ◌∙�
 use Rattle.std.specs.Prelude.{min}
 use Rattle.std.specs.Option.{option_copied}
 use Rattle.uriparse_text.specs.Bytes.{colon, equals_sign}
-use Rattle.uriparse_text.specs.Cuts.{behind, after, part}
+use Rattle.uriparse_text.specs.Cuts.{following, after, part}
 use Rattle.uriparse_text.specs.Starts.{most}
 use Rattle.uriparse_text.proofs.lemmas.readings.PairLemmas.{piece_back}
 use Rattle.uriparse_ffi.specs.Spans.{span}
 use Rattle.uriparse_ffi.specs.declared.span.UriSpan.{UriSpan}
 use Rattle.uriparse_ffi.proofs.lemmas.PairLemmas.{cut_size}
-use Rattle.uriparse_ffi.proofs.lemmas.PlaceLemmas.{behind_size}
+use Rattle.uriparse_ffi.proofs.lemmas.PlaceLemmas.{after_size}
 use Rattle.uriparse_ffi.proofs.pairs.place_pair.Goals as goal
 
 pub place-name-requires : goal.place-name-requires
@@ -18,20 +18,20 @@ place-name-requires c =
     let whole = cut_size equals_sign c.args.piece.now in
     omega arith
 
-pub place_behind-requires : goal.place_behind-requires
-place_behind-requires c =
+pub offset_after-requires : goal.offset_after-requires
+offset_after-requires c =
     let t = c.args.piece.now in
     let room = c.requires in
     let end = ap (λ (s : UriSpan). s.end) c.place-name.ensures in
     let name = ap length c.split_at_mark.ensures.front in
-    let value : length (behind colon (option_copied c.without_mark.result)) ≡ length (behind equals_sign (after equals_sign t)) =
-    ap (λ o. length (behind colon o)) (c.without_mark.ensures ∙ ap part c.split_at_mark.ensures.rest) ∙ behind_size colon equals_sign (after equals_sign t) in
+    let value : length (following colon (option_copied c.without_mark.result)) ≡ length (following equals_sign (after equals_sign t)) =
+    ap (λ o. length (following colon o)) (c.without_mark.ensures ∙ ap part c.split_at_mark.ensures.rest) ∙ after_size colon equals_sign (after equals_sign t) in
     let whole = cut_size equals_sign t in
     omega arith
 
 pub returns : goal.returns
 returns c = record {
   name = c.place-name.ensures ∙ ap (λ t. span c.args.at (Some t)) c.split_at_mark.ensures.front;
-  value = c.place_behind.ensures ∙ ap (span (c.place-name.result.end + 1)) (c.without_mark.ensures ∙ ap part c.split_at_mark.ensures.rest);
+  value = c.offset_after.ensures ∙ ap (span (c.place-name.result.end + 1)) (c.without_mark.ensures ∙ ap part c.split_at_mark.ensures.rest);
   next = c.saturating_add.ensures ∙ ap (λ t. min (c.args.at + length t + 1) most) (sym (piece_back c.args.piece.now));
 }

@@ -6,9 +6,9 @@ use Rattle.std.proofs.lemmas.Bool.{not-true, and_parts, and_from}
 use Rattle.std.proofs.lemmas.List.Concat.{flat_map-append}
 use Rattle.uriparse_text.specs.Bytes.{slash}
 use Rattle.uriparse_path.specs.Path.{PathParts, text, is_slash, unrooted, pieces, spelled}
-use Rattle.uriparse_path.specs.Dots.{is_single_dot, is_double_dot, is_dot_segment, LacksSlash, IsRest, slashed, without_last, drops, stays, climbs, ends}
+use Rattle.uriparse_path.specs.Dots.{is_single_dot, is_double_dot, is_dot_segment, LacksSlash, IsRest, slashed, without_last, drops, stays, double_dots, ends}
 use Rattle.uriparse_path.specs.Dots.{begins, moves, Reaches, done, more, Undots, all_but_last, replay, is_one, rooted_after, replayed, undot}
-use Rattle.uriparse_path.proofs.lemmas.text.SplitLemmas.{cut, pieces-byte, pieces-slash, joined-behind}
+use Rattle.uriparse_path.proofs.lemmas.text.SplitLemmas.{cut, pieces-byte, pieces-slash, joined-following}
 use Rattle.uriparse_path.proofs.lemmas.text.PathTextLemmas.{text-absolute, text-spelled}
 use Rattle.uriparse_text.proofs.lemmas.canonical.DotLemmas.{empty_no_dot}
 use Rattle.uriparse_path.proofs.lemmas.dots.DotSegmentLemmas.{no_dot, single_dot, double_dot}
@@ -66,14 +66,14 @@ any_some : (s u : List ℕ) → list_any is_slash (s ++ slash ∷ u) ≡ true
 any_some [] u = refl
 any_some (b ∷ s) u = elim (is_slash b) as (λ v. (v || list_any is_slash (s ++ slash ∷ u)) ≡ true) [ true ↦ refl | false ↦ any_some s u ]
 
-cut_behind : (s u : List ℕ) → without_last (s ++ slash ∷ u) ≡ s ++ without_last (slash ∷ u)
-cut_behind [] u = refl
-cut_behind (b ∷ s) u = rw (any_some s u) (ap (λ w. b ∷ w) (cut_behind s u))
+cut_after : (s u : List ℕ) → without_last (s ++ slash ∷ u) ≡ s ++ without_last (slash ∷ u)
+cut_after [] u = refl
+cut_after (b ∷ s) u = rw (any_some s u) (ap (λ w. b ∷ w) (cut_after s u))
 
 cut_slashes : (out : List (List ℕ)) → AreClean out → without_last (slashes out) ≡ slashes (all_but_last out)
 cut_slashes [] h = refl
 cut_slashes (s ∷ []) h = let e : list_any is_slash (s ++ []) ≡ false = ap (list_any is_slash) (append-nil s) ∙ any_none s h.0 in rw e refl
-cut_slashes (s ∷ r ∷ ss) h = rw (any_some s (r ++ slashes ss)) (ap (λ w. slash ∷ w) (cut_behind s (r ++ slashes ss))
+cut_slashes (s ∷ r ∷ ss) h = rw (any_some s (r ++ slashes ss)) (ap (λ w. slash ∷ w) (cut_after s (r ++ slashes ss))
     ∙ ap (λ w. slash ∷ (s ++ w)) (cut_slashes (r ∷ ss) h.1))
 
 no_cut : (s : List ℕ) → LacksSlash s → without_last s ≡ []
@@ -84,7 +84,7 @@ no_cut (b ∷ s) h = let e : list_any is_slash s ≡ false = any_none s (and_par
 cut_joined : (x : List ℕ) (out : List (List ℕ)) → LacksSlash x → AreClean out
     → without_last (x ++ slashes out) ≡ render (is_one (x ∷ out)) (all_but_last (x ∷ out))
 cut_joined x [] h k = ap without_last (append-nil x) ∙ no_cut x h
-cut_joined x (s ∷ out) h k = cut_behind x (s ++ slashes out) ∙ ap (λ u. x ++ u) (cut_slashes (s ∷ out) k)
+cut_joined x (s ∷ out) h k = cut_after x (s ++ slashes out) ∙ ap (λ u. x ++ u) (cut_slashes (s ∷ out) k)
 
 -- ---- after a slash
 
@@ -101,7 +101,7 @@ move_on out s rest u h k r w = more {j = rest} {p = slashes (out ++ s ∷ [])} (
 
 climb_on : (out : List (List ℕ)) (s rest u : List ℕ) → AreClean out → is_double_dot s ≡ true → IsRest rest
     → Reaches u (slashed rest) (slashes (all_but_last out)) → Reaches u (slash ∷ (s ++ rest)) (slashes out)
-climb_on out s rest u c h r w = more {j = slashed rest} {p = slashes (all_but_last out)} (climbs s rest h r refl refl (sym (cut_slashes out c))) w
+climb_on out s rest u c h r w = more {j = slashed rest} {p = slashes (all_but_last out)} (double_dots s rest h r refl refl (sym (cut_slashes out c))) w
 
 stay_on : (out : List (List ℕ)) (s rest u : List ℕ) → is_single_dot s ≡ true → IsRest rest → Reaches u (slashed rest) (slashes out)
     → Reaches u (slash ∷ (s ++ rest)) (slashes out)
@@ -143,13 +143,13 @@ once_rooted out (s ∷ l) = by_kind (is_single_dot s) (is_double_dot s) (once_ro
 -- ---- without a slash before it
 
 -- the text of the replayed segments, by whether the first one was removed
-abbrev Left : List (List ℕ) → List (List ℕ) → List ℕ
-Left out l = render (rooted_after false out l) (replay out l)
+abbrev Remaining : List (List ℕ) → List (List ℕ) → List ℕ
+Remaining out l = render (rooted_after false out l) (replay out l)
 
 rooted_left : (l : List (List ℕ)) → AreClean l → Reaches (render (rooted_after true [] l) (replay [] l)) (slashes l) []
 rooted_left l h = subst (λ v. Reaches (render v (replay [] l)) (slashes l) []) (sym (once_rooted [] l)) (replay_reaches [] l tt h)
 
-joined_reaches : (x : List ℕ) (out l : List (List ℕ)) → LacksSlash x → AreClean out → AreClean l → Reaches (Left (x ∷ out) l) (slashes l) (x ++ slashes out)
+joined_reaches : (x : List ℕ) (out l : List (List ℕ)) → LacksSlash x → AreClean out → AreClean l → Reaches (Remaining (x ∷ out) l) (slashes l) (x ++ slashes out)
 joined_reaches x out [] n h k = done
 joined_reaches x out (s ∷ []) n h k = by_kind (is_single_dot s) refl (is_double_dot s) refl out h
   where
@@ -159,9 +159,9 @@ joined_reaches x out (s ∷ []) n h k = by_kind (is_single_dot s) refl (is_doubl
     by_kind true e w f o c =
         more {j = slash ∷ []} {p = x ++ slashes o} (stays s [] e tt refl refl refl)
         (subst (λ u. Reaches u (slash ∷ []) (x ++ slashes o)) (sym (push_joined x o [])) (last_slash (x ++ slashes o)))
-    by_kind false e true f [] c = more {j = slash ∷ []} {p = []} (climbs s [] f tt refl refl (sym (cut_joined x [] n c))) (last_slash [])
+    by_kind false e true f [] c = more {j = slash ∷ []} {p = []} (double_dots s [] f tt refl refl (sym (cut_joined x [] n c))) (last_slash [])
     by_kind false e true f (t ∷ o) c =
-        more {j = slash ∷ []} {p = x ++ slashes (all_but_last (t ∷ o))} (climbs s [] f tt refl refl (sym (cut_joined x (t ∷ o) n c)))
+        more {j = slash ∷ []} {p = x ++ slashes (all_but_last (t ∷ o))} (double_dots s [] f tt refl refl (sym (cut_joined x (t ∷ o) n c)))
         (subst (λ u. Reaches u (slash ∷ []) (x ++ slashes (all_but_last (t ∷ o)))) (sym (push_joined x (all_but_last (t ∷ o)) []))
         (last_slash (x ++ slashes (all_but_last (t ∷ o)))))
     by_kind false e false f o c = more {j = []} {p = x ++ slashes (o ++ s ∷ [])} (moves s k.0 (no_dot s e f) tt refl (push_joined x o s)) done
@@ -170,13 +170,13 @@ joined_reaches x [] (s ∷ r ∷ l) n h k =
     (joined_reaches x (s ∷ []) (r ∷ l) n (k.0, tt) k.1)
   where
     by_kind : (v : Bool) → is_single_dot s ≡ v → (w : Bool) → is_double_dot s ≡ w
-        → Reaches (Left (x ∷ []) (r ∷ l)) (slashes (r ∷ l)) (x ++ [])
+        → Reaches (Remaining (x ∷ []) (r ∷ l)) (slashes (r ∷ l)) (x ++ [])
         → Reaches (render (rooted_after true [] (r ∷ l)) (replay [] (r ∷ l))) (slashes (r ∷ l)) []
-        → Reaches (Left (x ∷ s ∷ []) (r ∷ l)) (slashes (r ∷ l)) (x ++ slashes (s ∷ []))
+        → Reaches (Remaining (x ∷ s ∷ []) (r ∷ l)) (slashes (r ∷ l)) (x ++ slashes (s ∷ []))
         → Reaches (render (cond v (rooted_after false (x ∷ []) (r ∷ l)) (cond w (rooted_after true [] (r ∷ l)) (rooted_after false (x ∷ s ∷ []) (r ∷ l))))
         (cond v (replay (x ∷ []) (r ∷ l)) (cond w (replay [] (r ∷ l)) (replay (x ∷ s ∷ []) (r ∷ l))))) (slash ∷ (s ++ slashes (r ∷ l))) (x ++ [])
     by_kind true e w f a b c = more {j = slashes (r ∷ l)} {p = x ++ []} (stays s (slashes (r ∷ l)) e refl refl refl refl) a
-    by_kind false e true f a b c = more {j = slashes (r ∷ l)} {p = []} (climbs s (slashes (r ∷ l)) f refl refl refl (sym (cut_joined x [] n tt))) b
+    by_kind false e true f a b c = more {j = slashes (r ∷ l)} {p = []} (double_dots s (slashes (r ∷ l)) f refl refl refl (sym (cut_joined x [] n tt))) b
     by_kind false e false f a b c = more {j = slashes (r ∷ l)} {p = x ++ slashes (s ∷ [])} (moves s k.0 (no_dot s e f) refl refl (push_joined x [] s)) c
 joined_reaches x (t ∷ out) (s ∷ r ∷ l) n h k =
     by_kind (is_single_dot s) refl (is_double_dot s) refl (joined_reaches x (t ∷ out) (r ∷ l) n h k.1)
@@ -184,9 +184,9 @@ joined_reaches x (t ∷ out) (s ∷ r ∷ l) n h k =
     (joined_reaches x ((t ∷ out) ++ s ∷ []) (r ∷ l) n (clean_push (t ∷ out) s h k.0) k.1)
   where
     by_kind : (v : Bool) → is_single_dot s ≡ v → (w : Bool) → is_double_dot s ≡ w
-        → Reaches (Left (x ∷ t ∷ out) (r ∷ l)) (slashes (r ∷ l)) (x ++ slashes (t ∷ out))
-        → Reaches (Left (x ∷ all_but_last (t ∷ out)) (r ∷ l)) (slashes (r ∷ l)) (x ++ slashes (all_but_last (t ∷ out)))
-        → Reaches (Left (x ∷ (t ∷ out) ++ s ∷ []) (r ∷ l)) (slashes (r ∷ l)) (x ++ slashes ((t ∷ out) ++ s ∷ []))
+        → Reaches (Remaining (x ∷ t ∷ out) (r ∷ l)) (slashes (r ∷ l)) (x ++ slashes (t ∷ out))
+        → Reaches (Remaining (x ∷ all_but_last (t ∷ out)) (r ∷ l)) (slashes (r ∷ l)) (x ++ slashes (all_but_last (t ∷ out)))
+        → Reaches (Remaining (x ∷ (t ∷ out) ++ s ∷ []) (r ∷ l)) (slashes (r ∷ l)) (x ++ slashes ((t ∷ out) ++ s ∷ []))
         → Reaches (render (cond v (rooted_after false (x ∷ t ∷ out) (r ∷ l))
         (cond w (rooted_after false (x ∷ all_but_last (t ∷ out)) (r ∷ l)) (rooted_after false (x ∷ (t ∷ out) ++ s ∷ []) (r ∷ l))))
         (cond v (replay (x ∷ t ∷ out) (r ∷ l)) (cond w (replay (x ∷ all_but_last (t ∷ out)) (r ∷ l)) (replay (x ∷ (t ∷ out) ++ s ∷ []) (r ∷ l)))))
@@ -194,18 +194,18 @@ joined_reaches x (t ∷ out) (s ∷ r ∷ l) n h k =
     by_kind true e w f a b c = more {j = slashes (r ∷ l)} {p = x ++ slashes (t ∷ out)} (stays s (slashes (r ∷ l)) e refl refl refl refl) a
     by_kind false e true f a b c =
         more {j = slashes (r ∷ l)} {p = x ++ slashes (all_but_last (t ∷ out))}
-        (climbs s (slashes (r ∷ l)) f refl refl refl (sym (cut_joined x (t ∷ out) n h))) b
+        (double_dots s (slashes (r ∷ l)) f refl refl refl (sym (cut_joined x (t ∷ out) n h))) b
     by_kind false e false f a b c =
         more {j = slashes (r ∷ l)} {p = x ++ slashes ((t ∷ out) ++ s ∷ [])} (moves s k.0 (no_dot s e f) refl refl (push_joined x (t ∷ out) s)) c
 
 begun : (s : List ℕ) (l : List (List ℕ)) → LacksSlash s → is_dot_segment s ≡ false → AreClean l → IsRest (slashes l)
-    → Reaches (Left (s ∷ []) l) (s ++ slashes l) []
+    → Reaches (Remaining (s ∷ []) l) (s ++ slashes l) []
 begun [] l n h k r = joined_reaches [] [] l n tt k
 begun (b ∷ s) l n h k r =
     more {j = slashes l} {p = b ∷ s} (begins (b ∷ s) n (omega arith) h r refl refl)
-    (subst (λ u. Reaches (Left ((b ∷ s) ∷ []) l) (slashes l) u) (append-nil (b ∷ s)) (joined_reaches (b ∷ s) [] l n tt k))
+    (subst (λ u. Reaches (Remaining ((b ∷ s) ∷ []) l) (slashes l) u) (append-nil (b ∷ s)) (joined_reaches (b ∷ s) [] l n tt k))
 
-pub rootless_reaches : (l : List (List ℕ)) → AreClean l → Reaches (Left [] l) (joined l) []
+pub rootless_reaches : (l : List (List ℕ)) → AreClean l → Reaches (Remaining [] l) (joined l) []
 rootless_reaches [] h = done
 rootless_reaches (s ∷ []) h = by_kind (is_single_dot s) refl (is_double_dot s) refl (λ e. begun s [] h.0 e tt tt)
   where
@@ -216,8 +216,8 @@ rootless_reaches (s ∷ []) h = by_kind (is_single_dot s) refl (is_double_dot s)
     by_kind false e false f g = g (no_dot s e f)
 rootless_reaches (s ∷ r ∷ l) h = by_kind (is_single_dot s) refl (is_double_dot s) refl (rootless_reaches (r ∷ l) h.1) (λ e. begun s (r ∷ l) h.0 e h.1 refl)
   where
-    by_kind : (v : Bool) → is_single_dot s ≡ v → (w : Bool) → is_double_dot s ≡ w → Reaches (Left [] (r ∷ l)) (joined (r ∷ l)) []
-        → (is_dot_segment s ≡ false → Reaches (Left (s ∷ []) (r ∷ l)) (s ++ slashes (r ∷ l)) [])
+    by_kind : (v : Bool) → is_single_dot s ≡ v → (w : Bool) → is_double_dot s ≡ w → Reaches (Remaining [] (r ∷ l)) (joined (r ∷ l)) []
+        → (is_dot_segment s ≡ false → Reaches (Remaining (s ∷ []) (r ∷ l)) (s ++ slashes (r ∷ l)) [])
         → Reaches (render (cond v (rooted_after false [] (r ∷ l)) (cond w (rooted_after false [] (r ∷ l)) (rooted_after false (s ∷ []) (r ∷ l))))
         (cond v (replay [] (r ∷ l)) (cond w (replay [] (r ∷ l)) (replay (s ∷ []) (r ∷ l))))) (s ++ slashes (r ∷ l)) []
     by_kind true e w f a g = more {j = joined (r ∷ l)} {p = []} (drops s (single_dot s e) refl refl) a
@@ -252,7 +252,7 @@ replay_some out (s ∷ r ∷ l) h =
 render-text : (a : Bool) (l : List (List ℕ)) → 0 < length l → render a l ≡ text (record { absolute = a; segments = l })
 render-text true l h = sym (text-absolute l h)
 render-text false [] h = absurd (omega arith)
-render-text false (s ∷ l) h = sym (joined-behind s l)
+render-text false (s ∷ l) h = sym (joined-following s l)
 
 -- the text of any path whose segments have no slash is rewritten to that of the replayed path
 pub undots_replayed : (p : PathParts) → 0 < length p.segments → AreClean p.segments → Undots (text p) (text (replayed p))

@@ -4,7 +4,7 @@ use Rattle.std.proofs.lemmas.Bool.{not-true, and_parts}
 use Rattle.uriparse_text.specs.Bytes.{slash}
 use Rattle.uriparse_text.specs.Cuts.{up_to, from_first}
 use Rattle.uriparse_path.specs.Path.{is_slash, is_rooted, unrooted}
-use Rattle.uriparse_path.specs.Dots.{is_single_dot, is_double_dot, is_dot_segment, LacksSlash, IsRest, slashed, without_last, Step, drops, stays, climbs, ends}
+use Rattle.uriparse_path.specs.Dots.{is_single_dot, is_double_dot, is_dot_segment, LacksSlash, IsRest, slashed, without_last, Step, drops, stays, double_dots, ends}
 use Rattle.uriparse_path.specs.Dots.{begins, moves, Reaches, done, more}
 use Rattle.uriparse_path.proofs.lemmas.dots.DotSegmentLemmas.{not_both, neither, single_dot, double_dot, dot_some, single_lacks_slash, double_lacks_slash, dot_lacks_slash}
 
@@ -75,7 +75,7 @@ step_is i o j p (stays d rest h k e f g) =
       f ∙ sym (ap next_input e ∙ rooted_input d rest lacks k ∙ rw (single_dot d h) refl),
       g ∙ sym (ap (λ u. next_output u o) e ∙ rooted_output d rest o lacks k ∙ rw h refl),
     )
-step_is i o j p (climbs d rest h k e f g) =
+step_is i o j p (double_dots d rest h k e f g) =
     let lacks = double_lacks_slash d h in (
       f ∙ sym (ap next_input e ∙ rooted_input d rest lacks k ∙ rw (double_dot d h) refl),
       g ∙ sym (ap (λ u. next_output u o) e ∙ rooted_output d rest o lacks k ∙ rw (not_both d h, h) refl),
@@ -112,7 +112,7 @@ length-slashed d (b ∷ t) n = omega (arith, length-append d (b ∷ t))
 pub shorter : (i o j p : List ℕ) → Step i o j p → length j < length i
 shorter i o j p (drops d h e f) = omega (arith, ap length e, length-append d (slash ∷ j))
 shorter i o j p (stays d rest h k e f g) = omega (arith, ap length e, ap length f, length-slashed d rest (dot_some d (single_dot d h)))
-shorter i o j p (climbs d rest h k e f g) = omega (arith, ap length e, ap length f, length-slashed d rest (dot_some d (double_dot d h)))
+shorter i o j p (double_dots d rest h k e f g) = omega (arith, ap length e, ap length f, length-slashed d rest (dot_some d (double_dot d h)))
 shorter i o j p (ends h e f) = omega (arith, ap length e, dot_some i h)
 shorter i o j p (begins s lacks some h k e f) = omega (arith, ap length e, length-append s j)
 shorter i o j p (moves s lacks h k e f) = omega (arith, ap length e, length-append s j)

@@ -4,32 +4,32 @@ use Rattle.std.specs.List.{join_with_byte, list_all, slice_split}
 use Rattle.std.proofs.lemmas.Bool.{and_parts, or_parts, false≢true}
 use Rattle.uriparse_text.specs.declared.internal.canonical.Case.TheVariants.{Kept}
 use Rattle.uriparse_text.specs.declared.internal.class.Class.TheVariants.{Segment}
-use Rattle.uriparse_text.specs.declared.internal.ends.Form.{Form}
-use Rattle.uriparse_text.specs.declared.internal.ends.Form.TheVariants.{AsIs, Canonical}
+use Rattle.uriparse_text.specs.declared.internal.backward_buffer.Form.{Form}
+use Rattle.uriparse_text.specs.declared.internal.backward_buffer.Form.TheVariants.{AsIs, Canonical}
 use Rattle.uriparse_text.specs.Bytes.{slash}
 use Rattle.uriparse_text.specs.Canonical.{canonical}
 use Rattle.uriparse_text.specs.Ends.{formed}
 use Rattle.uriparse_text.specs.Segment.{is_segment}
 use Rattle.uriparse_text.proofs.lemmas.canonical.CanonicalLemmas.{canonical_in-append}
 use Rattle.uriparse_text.proofs.lemmas.classes.ClassLemmas.{well_formed-in_class}
-use Rattle.uriparse_path.specs.declared.path.text.ending.Ending.{Ending}
+use Rattle.uriparse_path.specs.declared.path.text.backward.BackwardState.{BackwardState}
 use Rattle.uriparse_path.specs.Path.{is_slash, root}
 use Rattle.uriparse_path.specs.Dots.{has_dot_segment, is_dot_segment, is_double_dot, is_single_dot}
-use Rattle.uriparse_path.specs.Left.{Left, back, backs, is_more, kept_text, reached, IsEnding, IsPlaced}
+use Rattle.uriparse_path.specs.Remaining.{Remaining, process_one, process_all, is_more, remaining_text, process_plain, IsBackwardState, IsPlaced}
 use Rattle.uriparse_path.specs.Relative.{has_colon, is_first}
-use Rattle.uriparse_path.proofs.lemmas.text.CanonicalTextLemmas.{canonical-behind}
-use Rattle.uriparse_path.proofs.lemmas.text.SplitLemmas.{joined-behind, joined-pieces, some_pieces}
-use Rattle.uriparse_path.proofs.lemmas.left.EndingLemmas.{kept_more}
+use Rattle.uriparse_path.proofs.lemmas.text.CanonicalTextLemmas.{canonical-following}
+use Rattle.uriparse_path.proofs.lemmas.text.SplitLemmas.{joined-following, joined-pieces, some_pieces}
+use Rattle.uriparse_path.proofs.lemmas.left.BackwardLemmas.{kept_more}
 use Rattle.uriparse_path.proofs.lemmas.left.UndottedLemmas.{map_as_is, map_canonical}
 
 -- kept segments more, none of which is a dot segment
-pub kept_more_all : (form : Form) (ended : Bool) (s : List ℕ) (ss kept : List (List ℕ)) → kept_text form ended ((s ∷ ss) ++ kept)
-    ≡ join_with_byte slash (map (formed form Kept) (s ∷ ss)) ++ (root (is_more kept || ended) ++ kept_text form ended kept)
+pub kept_more_all : (form : Form) (ended : Bool) (s : List ℕ) (ss kept : List (List ℕ)) → remaining_text form ended ((s ∷ ss) ++ kept)
+    ≡ join_with_byte slash (map (formed form Kept) (s ∷ ss)) ++ (root (is_more kept || ended) ++ remaining_text form ended kept)
 kept_more_all form ended s [] kept = kept_more form ended s kept
 kept_more_all form ended s (r ∷ ss) kept =
     kept_more form ended s ((r ∷ ss) ++ kept)
     ∙ ap (λ u. formed form Kept s ++ (slash ∷ u)) (kept_more_all form ended r ss kept)
-    ∙ sym (append_assoc (formed form Kept s) (slash ∷ join_with_byte slash (map (formed form Kept) (r ∷ ss))) (root (is_more kept || ended) ++ kept_text form ended kept))
+    ∙ sym (append_assoc (formed form Kept s) (slash ∷ join_with_byte slash (map (formed form Kept) (r ∷ ss))) (root (is_more kept || ended) ++ remaining_text form ended kept))
 
 -- the text of segments, in this form
 formed_joined : (form : Form) (s : List ℕ) (ss : List (List ℕ)) → list_all is_segment (s ∷ ss) ≡ true
@@ -38,62 +38,62 @@ formed_joined AsIs s ss h = ap (join_with_byte slash) (map_as_is (s ∷ ss))
 formed_joined Canonical s ss h =
     let each = and_parts _ _ h in
     ap (join_with_byte slash) (map_canonical (s ∷ ss))
-    ∙ joined-behind (canonical s) (map canonical ss)
-    ∙ sym (ap canonical (joined-behind s ss)
+    ∙ joined-following (canonical s) (map canonical ss)
+    ∙ sym (ap canonical (joined-following s ss)
     ∙ canonical_in-append Kept s (flat_map (λ r. slash ∷ r) ss) (well_formed-in_class Segment s each.0)
-    ∙ ap (λ u. canonical s ++ u) (canonical-behind ss each.1))
+    ∙ ap (λ u. canonical s ++ u) (canonical-following ss each.1))
 
 -- a text of which all is kept, before what is left
 pub kept_before : (form : Form) (ended : Bool) (text : List ℕ) (kept : List (List ℕ)) → list_all is_segment (slice_split is_slash text) ≡ true
-    → kept_text form ended (slice_split is_slash text ++ kept) ≡ formed form Kept text ++ (root (is_more kept || ended) ++ kept_text form ended kept)
+    → remaining_text form ended (slice_split is_slash text ++ kept) ≡ formed form Kept text ++ (root (is_more kept || ended) ++ remaining_text form ended kept)
 kept_before form ended text kept h = by_pieces (slice_split is_slash text) refl h (some_pieces text)
   where
     by_pieces : (ss : List (List ℕ)) → slice_split is_slash text ≡ ss → list_all is_segment ss ≡ true → 0 < length ss
-        → kept_text form ended (ss ++ kept) ≡ formed form Kept text ++ (root (is_more kept || ended) ++ kept_text form ended kept)
+        → remaining_text form ended (ss ++ kept) ≡ formed form Kept text ++ (root (is_more kept || ended) ++ remaining_text form ended kept)
     by_pieces [] e each some = absurd (omega (arith, some))
     by_pieces (s ∷ ss) e each some =
         kept_more_all form ended s ss kept
-        ∙ ap (λ u. u ++ (root (is_more kept || ended) ++ kept_text form ended kept))
+        ∙ ap (λ u. u ++ (root (is_more kept || ended) ++ remaining_text form ended kept))
         (formed_joined form s ss each ∙ ap (λ l. formed form Kept (join_with_byte slash l)) (sym e) ∙ ap (formed form Kept) (joined-pieces text))
 
 -- a segment that is no dot segment
-back_reached : (s : List ℕ) (l : Left) → is_dot_segment s ≡ false → back s l ≡ reached s l.climbs l
+back_reached : (s : List ℕ) (l : Remaining) → is_dot_segment s ≡ false → process_one s l ≡ process_plain s l.double_dots l
 back_reached s l h = by_test (is_single_dot s) (is_double_dot s) h
   where
     by_test : (v w : Bool) → (v || w) ≡ false
-        → cond v l (cond w (record { climbs = suc l.climbs; kept = l.kept; removed = l.removed }) (reached s l.climbs l)) ≡ reached s l.climbs l
+        → cond v l (cond w (record { double_dots = suc l.double_dots; kept = l.kept; removed = l.removed }) (process_plain s l.double_dots l)) ≡ process_plain s l.double_dots l
     by_test true w e = absurd (false≢true (sym e))
     by_test false true e = absurd (false≢true (sym e))
     by_test false false e = refl
 
 -- where no ".." waits
-back_kept : (s : List ℕ) (l : Left) → l.climbs ≡ 0 → is_dot_segment s ≡ false → back s l ≡ record { climbs = 0; kept = s ∷ l.kept; removed = false }
-back_kept s l none h = back_reached s l h ∙ ap (λ n. reached s n l) none
+back_kept : (s : List ℕ) (l : Remaining) → l.double_dots ≡ 0 → is_dot_segment s ≡ false → process_one s l ≡ record { double_dots = 0; kept = s ∷ l.kept; removed = false }
+back_kept s l none h = back_reached s l h ∙ ap (λ n. process_plain s n l) none
 
 -- segments of which none is a dot segment
-pub backs_kept : (s : List ℕ) (ss : List (List ℕ)) (l : Left) → l.climbs ≡ 0 → has_dot_segment (s ∷ ss) ≡ false
-    → backs (s ∷ ss) l ≡ record { climbs = 0; kept = (s ∷ ss) ++ l.kept; removed = false }
+pub backs_kept : (s : List ℕ) (ss : List (List ℕ)) (l : Remaining) → l.double_dots ≡ 0 → has_dot_segment (s ∷ ss) ≡ false
+    → process_all (s ∷ ss) l ≡ record { double_dots = 0; kept = (s ∷ ss) ++ l.kept; removed = false }
 backs_kept s [] l none h = back_kept s l none (or_parts _ _ h).0
 backs_kept s (r ∷ ss) l none h =
     let parts = or_parts _ _ h in
-    ap (back s) (backs_kept r ss l none parts.1) ∙ back_kept s (record { climbs = 0; kept = (r ∷ ss) ++ l.kept; removed = false }) refl parts.0
+    ap (process_one s) (backs_kept r ss l none parts.1) ∙ back_kept s (record { double_dots = 0; kept = (r ∷ ss) ++ l.kept; removed = false }) refl parts.0
 
 -- what is left once all of a text is kept
-pub kept_all : (form : Form) (ended : Bool) (text : List ℕ) (l : Left) (e : Ending) (buffer t : List ℕ) → l.climbs ≡ 0
+pub kept_all : (form : Form) (ended : Bool) (text : List ℕ) (l : Remaining) (e : BackwardState) (buffer t : List ℕ) → l.double_dots ≡ 0
     → list_all is_segment (slice_split is_slash text) ≡ true → has_dot_segment (slice_split is_slash text) ≡ false
-    → e.climbs ≡ 0 → e.removed ≡ false → e.kept ≡ true → e.colon ≡ is_first has_colon (slice_split is_slash text)
-    → IsPlaced e.text buffer (formed form Kept text ++ (root (is_more l.kept || ended) ++ kept_text form ended l.kept)) t
-    → IsEnding form ended (backs (slice_split is_slash text) l) e buffer t
-kept_all form ended text l e buffer t none each dots climbs removed kept colon placed =
+    → e.double_dots ≡ 0 → e.removed ≡ false → e.kept ≡ true → e.colon ≡ is_first has_colon (slice_split is_slash text)
+    → IsPlaced e.text buffer (formed form Kept text ++ (root (is_more l.kept || ended) ++ remaining_text form ended l.kept)) t
+    → IsBackwardState form ended (process_all (slice_split is_slash text) l) e buffer t
+kept_all form ended text l e buffer t none each dots double_dots removed kept colon placed =
     by_pieces (slice_split is_slash text) dots (some_pieces text) colon (kept_before form ended text l.kept each)
   where
     by_pieces : (ss : List (List ℕ)) → has_dot_segment ss ≡ false → 0 < length ss → e.colon ≡ is_first has_colon ss
-        → kept_text form ended (ss ++ l.kept) ≡ formed form Kept text ++ (root (is_more l.kept || ended) ++ kept_text form ended l.kept)
-        → IsEnding form ended (backs ss l) e buffer t
+        → remaining_text form ended (ss ++ l.kept) ≡ formed form Kept text ++ (root (is_more l.kept || ended) ++ remaining_text form ended l.kept)
+        → IsBackwardState form ended (process_all ss l) e buffer t
     by_pieces [] undotted some first same = absurd (omega (arith, some))
     by_pieces (s ∷ ss) undotted some first same =
-        subst (λ k. IsEnding form ended k e buffer t) (sym (backs_kept s ss l none undotted)) (record {
-          climbs = climbs;
+        subst (λ k. IsBackwardState form ended k e buffer t) (sym (backs_kept s ss l none undotted)) (record {
+          double_dots = double_dots;
           removed = removed;
           kept = kept;
           colon = first;

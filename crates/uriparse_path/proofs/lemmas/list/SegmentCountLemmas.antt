@@ -16,12 +16,12 @@ use Rattle.uriparse_path.specs.declared.path.counts.Counts.{Counts}
 use Rattle.uriparse_text.specs.Segment.{is_segment}
 use Rattle.uriparse_path.specs.Dots.{is_single_dot, is_double_dot, is_dot_segment, has_dot_segment, all_but_last}
 use Rattle.uriparse_path.specs.Relative.{filled}
-use Rattle.uriparse_path.specs.Normal.{is_canonical, climbs_first}
+use Rattle.uriparse_path.specs.Normal.{is_canonical, begins_with_double_dots}
 use Rattle.uriparse_text.specs.declared.segment.error.PathError.{PathError}
 use Rattle.uriparse_text.specs.declared.segment.error.PathError.TheVariants.{OutOfMemory}
 use Rattle.uriparse_path.specs.Edits.{with_last}
 use Rattle.uriparse_path.specs.Path.{IsCounted, max_segments}
-use Rattle.uriparse_path.specs.Counts.{counts, is_stray, IsKept}
+use Rattle.uriparse_path.specs.Counts.{counts, is_non_canonical, CountsAreRight}
 use Rattle.uriparse_text.proofs.lemmas.canonical.DotLemmas.{canonical-nil}
 use Rattle.uriparse_path.proofs.lemmas.normal.RelativeFormLemmas.{all_canonical-canonical, shaped, all_shaped}
 use Rattle.uriparse_path.proofs.lemmas.list.EditLemmas.{counted_popped, counted_pushed}
@@ -30,12 +30,12 @@ use Rattle.uriparse_text.proofs.lemmas.canonical.DotLemmas.{canonical-dot, empty
 use Rattle.uriparse_path.proofs.lemmas.dots.DotSegmentLemmas.{dot_single, single-canonical, double-canonical, no_dot, not_both, neither}
 
 abbrev pub make : ℕ → ℕ → ℕ → ℕ → Counts
-make a b c d = record { single = a; double = b; leading = c; strays = d }
+make a b c d = record { single = a; double = b; leading = c; non_canonical = d }
 
 make-same : (a b c d e f g h : ℕ) → a ≡ e → b ≡ f → c ≡ g → d ≡ h → make a b c d ≡ make e f g h
 make-same a b c d e f g h i j k l = ap (λ x. make x b c d) i ∙ ap (λ x. make e x c d) j ∙ ap (λ x. make e f x d) k ∙ ap (λ x. make e f g x) l
 
-pub counts_are : (ss : List (List ℕ)) → counts ss ≡ make (count_by is_single_dot ss) (count_by is_double_dot ss) (prefix_len is_double_dot ss) (count_by is_stray ss)
+pub counts_are : (ss : List (List ℕ)) → counts ss ≡ make (count_by is_single_dot ss) (count_by is_double_dot ss) (prefix_len is_double_dot ss) (count_by is_non_canonical ss)
 unfolding counts
 counts_are ss = refl
 
@@ -49,14 +49,14 @@ pub record IsFew (c : Counts) (n : ℕ) : Type 0 where
   pub single : c.single ≤ n
   pub double : c.double ≤ n
   pub leading : c.leading ≤ n
-  pub strays : c.strays ≤ n
+  pub non_canonical : c.non_canonical ≤ n
 
 pub few : (c : Counts) (ss : List (List ℕ)) → c ≡ counts ss → IsFew c (length ss)
 few c ss e = subst (λ x. IsFew x (length ss)) (sym (e ∙ counts_are ss)) (record {
   single = count_by-le-length is_single_dot ss;
   double = count_by-le-length is_double_dot ss;
   leading = prefix_len-le-length is_double_dot ss;
-  strays = count_by-le-length is_stray ss;
+  non_canonical = count_by-le-length is_non_canonical ss;
 })
 
 -- ---- one segment more, and one less
@@ -75,29 +75,29 @@ pub counts_push : (c : Counts) (ss : List (List ℕ)) (s : List ℕ) (a b l d : 
     → a ≡ c.single + cond (is_single_dot s) 1 0
     → b ≡ c.double + cond (is_double_dot s) 1 0
     → l ≡ c.leading + cond (is_double_dot s && c.leading == length ss) 1 0
-    → d ≡ c.strays + cond (is_stray s) 1 0
+    → d ≡ c.non_canonical + cond (is_non_canonical s) 1 0
     → make a b l d ≡ counts (ss ++ s ∷ [])
 counts_push c ss s a b l d e f g h i =
-    let are : c ≡ make (count_by is_single_dot ss) (count_by is_double_dot ss) (prefix_len is_double_dot ss) (count_by is_stray ss) = e ∙ counts_are ss in
+    let are : c ≡ make (count_by is_single_dot ss) (count_by is_double_dot ss) (prefix_len is_double_dot ss) (count_by is_non_canonical ss) = e ∙ counts_are ss in
     make-same a b l d _ _ _ _
     (f ∙ ap (λ x. x.single + cond (is_single_dot s) 1 0) are ∙ sym (count_push is_single_dot ss s))
     (g ∙ ap (λ x. x.double + cond (is_double_dot s) 1 0) are ∙ sym (count_push is_double_dot ss s))
     (h ∙ ap (λ x. x.leading + cond (is_double_dot s && x.leading == length ss) 1 0) are ∙ sym (lead_push is_double_dot ss s))
-    (i ∙ ap (λ x. x.strays + cond (is_stray s) 1 0) are ∙ sym (count_push is_stray ss s))
+    (i ∙ ap (λ x. x.non_canonical + cond (is_non_canonical s) 1 0) are ∙ sym (count_push is_non_canonical ss s))
     ∙ sym (counts_are (ss ++ s ∷ []))
 
 -- the counts hold the last segment
 pub record HasLast (c : Counts) (s : List ℕ) : Type 0 where
   pub single : is_single_dot s ≡ true → 0 < c.single
   pub double : is_double_dot s ≡ true → 0 < c.double
-  pub strays : is_stray s ≡ true → 0 < c.strays
+  pub non_canonical : is_non_canonical s ≡ true → 0 < c.non_canonical
 
 pub has_last : (c : Counts) (all front : List (List ℕ)) (s : List ℕ) → c ≡ counts all → all ≡ front ++ s ∷ [] → HasLast c s
 has_last c all front s e f =
     subst (λ x. HasLast x s) (sym (e ∙ ap counts f ∙ counts_are (front ++ s ∷ []))) (record {
       single = λ h. one_at is_single_dot h;
       double = λ h. one_at is_double_dot h;
-      strays = λ h. one_at is_stray h;
+      non_canonical = λ h. one_at is_non_canonical h;
     })
   where
     one_at : (p : List ℕ → Bool) → p s ≡ true → 0 < count_by p (front ++ s ∷ [])
@@ -124,17 +124,17 @@ pub counts_less : (c : Counts) (all front : List (List ℕ)) (s : List ℕ) (a b
     → a + cond (is_single_dot s) 1 0 ≡ c.single
     → b + cond (is_double_dot s) 1 0 ≡ c.double
     → l + cond (is_double_dot s && c.leading == length all) 1 0 ≡ c.leading
-    → d + cond (is_stray s) 1 0 ≡ c.strays
+    → d + cond (is_non_canonical s) 1 0 ≡ c.non_canonical
     → make a b l d ≡ counts (all_but_last all)
 counts_less c all front s a b l d e cut f g h i =
     let are : c ≡ make (count_by is_single_dot (front ++ s ∷ [])) (count_by is_double_dot (front ++ s ∷ [])) (prefix_len is_double_dot (front ++ s ∷ []))
-    (count_by is_stray (front ++ s ∷ [])) = e ∙ ap counts cut ∙ counts_are (front ++ s ∷ []) in
+    (count_by is_non_canonical (front ++ s ∷ [])) = e ∙ ap counts cut ∙ counts_are (front ++ s ∷ []) in
     make-same a b l d _ _ _ _
     (less _ _ (is_single_dot s) a f (ap (λ x. x.single) are ∙ count_push is_single_dot front s))
     (less _ _ (is_double_dot s) b g (ap (λ x. x.double) are ∙ count_push is_double_dot front s))
     (lead_less (is_double_dot s) (length all) (length front) c.leading (prefix_len is_double_dot front) l (ap length cut ∙ length-push front s)
     (prefix_len-le-length is_double_dot front) (ap (λ x. x.leading) are ∙ lead_push is_double_dot front s) h)
-    (less _ _ (is_stray s) d i (ap (λ x. x.strays) are ∙ count_push is_stray front s))
+    (less _ _ (is_non_canonical s) d i (ap (λ x. x.non_canonical) are ∙ count_push is_non_canonical front s))
     ∙ sym (counts_are front) ∙ ap counts (sym (ap all_but_last cut ∙ all_but_last-push front s))
 
 -- one empty segment has the counts of none
@@ -155,7 +155,7 @@ counts_plain ss s h k =
     (more (count_by is_single_dot ss) _ (is_single_dot s) (ap (λ x. x.single) (counts_are ss)) is.0)
     (more (count_by is_double_dot ss) _ (is_double_dot s) (ap (λ x. x.double) (counts_are ss)) is.1)
     (more (prefix_len is_double_dot ss) _ _ (ap (λ x. x.leading) (counts_are ss)) (ap (λ v. v && (counts ss).leading == length ss) is.1))
-    (more (count_by is_stray ss) _ (is_stray s) (ap (λ x. x.strays) (counts_are ss)) (ap not ((bytes_eq-Decides (canonical s) s).1 k)))
+    (more (count_by is_non_canonical ss) _ (is_non_canonical s) (ap (λ x. x.non_canonical) (counts_are ss)) (ap not ((bytes_eq-Decides (canonical s) s).1 k)))
   where
     more : (n m : ℕ) (v : Bool) → m ≡ n → v ≡ false → n ≡ m + cond v 1 0
     more n m true e f = absurd (false≢true (sym f))
@@ -182,9 +182,9 @@ dots_of (s ∷ ss) =
 pub dots_told : (c : Counts) (ss : List (List ℕ)) → c ≡ counts ss → (not (c.single == 0) || not (c.double == 0)) ≡ has_dot_segment ss
 dots_told c ss e = ap (λ x. not (x.single == 0) || not (x.double == 0)) (e ∙ counts_are ss) ∙ dots_of ss
 
-climbs_of : (ss : List (List ℕ)) → (count_by is_single_dot ss == 0 && count_by is_double_dot ss == prefix_len is_double_dot ss) ≡ climbs_first ss
-climbs_of [] = refl
-climbs_of (s ∷ ss) = by (is_double_dot s) refl (climbs_of ss)
+double_dots_of : (ss : List (List ℕ)) → (count_by is_single_dot ss == 0 && count_by is_double_dot ss == prefix_len is_double_dot ss) ≡ begins_with_double_dots ss
+double_dots_of [] = refl
+double_dots_of (s ∷ ss) = by (is_double_dot s) refl (double_dots_of ss)
   where
     apart : (a b : ℕ) → (a == 0 && b == 0) ≡ not (not (a == 0) || not (b == 0))
     apart a b = grind arith
@@ -192,9 +192,9 @@ climbs_of (s ∷ ss) = by (is_double_dot s) refl (climbs_of ss)
     same : (a b l : ℕ) → (cond false 1 0 + a == 0 && cond true 1 0 + b == cond true (1 + l) 0) ≡ (a == 0 && b == l)
     same a b l = grind arith
 
-    by : (v : Bool) → is_double_dot s ≡ v → (count_by is_single_dot ss == 0 && count_by is_double_dot ss == prefix_len is_double_dot ss) ≡ climbs_first ss
+    by : (v : Bool) → is_double_dot s ≡ v → (count_by is_single_dot ss == 0 && count_by is_double_dot ss == prefix_len is_double_dot ss) ≡ begins_with_double_dots ss
         → (count_by is_single_dot (s ∷ ss) == 0 && count_by is_double_dot (s ∷ ss) == cond v (1 + prefix_len is_double_dot ss) 0)
-        ≡ cond v (climbs_first ss) (not (has_dot_segment (s ∷ ss)))
+        ≡ cond v (begins_with_double_dots ss) (not (has_dot_segment (s ∷ ss)))
     by true e rest =
         ap (λ n. n == 0 && count_by is_double_dot (s ∷ ss) == 1 + prefix_len is_double_dot ss)
         (cons_count is_single_dot s ss ∙ ap (λ v. cond v 1 0 + count_by is_single_dot ss) (not_both s e))
@@ -204,50 +204,50 @@ climbs_of (s ∷ ss) = by (is_double_dot s) refl (climbs_of ss)
         ∙ rest
     by false e rest = apart (count_by is_single_dot (s ∷ ss)) (count_by is_double_dot (s ∷ ss)) ∙ ap not (dots_of (s ∷ ss))
 
-pub climbs_told : (c : Counts) (ss : List (List ℕ)) → c ≡ counts ss → (c.single == 0 && c.double == c.leading) ≡ climbs_first ss
-climbs_told c ss e = ap (λ x. x.single == 0 && x.double == x.leading) (e ∙ counts_are ss) ∙ climbs_of ss
+pub double_dots_told : (c : Counts) (ss : List (List ℕ)) → c ≡ counts ss → (c.single == 0 && c.double == c.leading) ≡ begins_with_double_dots ss
+double_dots_told c ss e = ap (λ x. x.single == 0 && x.double == x.leading) (e ∙ counts_are ss) ∙ double_dots_of ss
 
-canonical_of : (ss : List (List ℕ)) → (count_by is_stray ss == 0) ≡ list_all is_canonical ss
+canonical_of : (ss : List (List ℕ)) → (count_by is_non_canonical ss == 0) ≡ list_all is_canonical ss
 canonical_of [] = refl
-canonical_of (s ∷ ss) = ap (λ n. n == 0) (cons_count is_stray s ss) ∙ by (is_canonical s) (count_by is_stray ss) ∙ ap (λ v. is_canonical s && v) (canonical_of ss)
+canonical_of (s ∷ ss) = ap (λ n. n == 0) (cons_count is_non_canonical s ss) ∙ by (is_canonical s) (count_by is_non_canonical ss) ∙ ap (λ v. is_canonical s && v) (canonical_of ss)
   where
     by : (v : Bool) (a : ℕ) → (cond (not v) 1 0 + a == 0) ≡ (v && a == 0)
     by true a = grind arith
     by false a = grind arith
 
-pub canonical_told : (c : Counts) (ss : List (List ℕ)) → c ≡ counts ss → (c.strays == 0) ≡ list_all is_canonical ss
-canonical_told c ss e = ap (λ x. x.strays == 0) (e ∙ counts_are ss) ∙ canonical_of ss
+pub canonical_told : (c : Counts) (ss : List (List ℕ)) → c ≡ counts ss → (c.non_canonical == 0) ≡ list_all is_canonical ss
+canonical_told c ss e = ap (λ x. x.non_canonical == 0) (e ∙ counts_are ss) ∙ canonical_of ss
 
 -- ---- the test of one segment
 
-pub stray_is : (s : List ℕ) (r : Bool) → (IsTrue r ↔ (canonical s ≡ s)) → not r ≡ is_stray s
+pub stray_is : (s : List ℕ) (r : Bool) → (IsTrue r ↔ (canonical s ≡ s)) → not r ≡ is_non_canonical s
 stray_is s r h = ap not (one_answer r (is_canonical s) h (bytes_eq-Decides (canonical s) s))
 
 -- ---- the invariant after a change
 
-pub counted_kept : (ss : List (List ℕ)) (v : Bool) (c : Counts) → IsKept counts ss v c → IsCounted ss
+pub counted_kept : (ss : List (List ℕ)) (v : Bool) (c : Counts) → CountsAreRight counts ss v c → IsCounted ss
 counted_kept ss v c is = record { some = is.some; short = is.short }
 
 pub fits : (ss : List (List ℕ)) → length ss ≤ max_segments → length ss ≤ 4294967295
 fits ss h = let short : length ss ≤ 1000000 = subst (λ n. length ss ≤ n) (sym limit_is) h in omega arith
 
-pub cleared_kept : (l : List (List ℕ)) (c : Counts) → l ≡ [] ∷ [] → c ≡ counts [] → IsKept counts l true c
-cleared_kept l c e f = subst (λ u. IsKept counts u true c) (sym e) (record {
+pub cleared_kept : (l : List (List ℕ)) (c : Counts) → l ≡ [] ∷ [] → c ≡ counts [] → CountsAreRight counts l true c
+cleared_kept l c e f = subst (λ u. CountsAreRight counts u true c) (sym e) (record {
   some = omega arith;
   short = subst (λ n. 1 ≤ n) limit_is (omega arith);
   right = λ _. f ∙ sym counts_empty;
 })
 
-pub popped_kept : (old new : List (List ℕ)) (v : Bool) (c d : Counts) → IsKept counts old v c → new ≡ filled (all_but_last old)
-    → (v ≡ true → d ≡ counts (filled (all_but_last old))) → IsKept counts new v d
+pub popped_kept : (old new : List (List ℕ)) (v : Bool) (c d : Counts) → CountsAreRight counts old v c → new ≡ filled (all_but_last old)
+    → (v ≡ true → d ≡ counts (filled (all_but_last old))) → CountsAreRight counts new v d
 popped_kept old new v c d is e f =
     let counted = counted_popped old (counted_kept old v c is) in
-    subst (λ l. IsKept counts l v d) (sym e) (record { some = counted.some; short = counted.short; right = f })
+    subst (λ l. CountsAreRight counts l v d) (sym e) (record { some = counted.some; short = counted.short; right = f })
 
-pub pushed_kept : (old new : List (List ℕ)) (s : List ℕ) (result : Result (Unit {0}) PathError) (v : Bool) (c d e : Counts) → IsKept counts old v c
+pub pushed_kept : (old new : List (List ℕ)) (s : List ℕ) (result : Result (Unit {0}) PathError) (v : Bool) (c d e : Counts) → CountsAreRight counts old v c
     → length old < max_segments
     → MatchResult result (λ _. new ≡ with_last old s) (λ e. (e ≡ OutOfMemory) × (new ≡ old))
-    → (v ≡ true → d ≡ counts (with_last old s)) → e ≡ cond (is_ok result) d c → IsKept counts new v e
+    → (v ≡ true → d ≡ counts (with_last old s)) → e ≡ cond (is_ok result) d c → CountsAreRight counts new v e
 pushed_kept old new s (Ok x) v c d e is h k f g =
     let counted = counted_pushed old new s (Ok x) (counted_kept old v c is) h k in
     record { some = counted.some; short = counted.short; right = λ t. g ∙ f t ∙ ap counts (sym k) }
@@ -307,17 +307,17 @@ lead_none : (p : List ℕ → Bool) (ss : List (List ℕ)) → list_any p ss ≡
 lead_none p [] h = refl
 lead_none p (s ∷ ss) h = ap (λ v. cond v (1 + prefix_len p ss) 0) (or_parts (p s) (list_any p ss) h).0
 
-no_strays : (ss : List (List ℕ)) → list_all is_canonical ss ≡ true → count_by is_stray ss ≡ 0
-no_strays [] h = refl
-no_strays (s ∷ ss) h =
+no_non_canonical : (ss : List (List ℕ)) → list_all is_canonical ss ≡ true → count_by is_non_canonical ss ≡ 0
+no_non_canonical [] h = refl
+no_non_canonical (s ∷ ss) h =
     let parts = and_parts (is_canonical s) (list_all is_canonical ss) h in
-    cons_count is_stray s ss ∙ ap (λ v. cond (not v) 1 0 + count_by is_stray ss) parts.0 ∙ (let rest = no_strays ss parts.1 in omega arith)
+    cons_count is_non_canonical s ss ∙ ap (λ v. cond (not v) 1 0 + count_by is_non_canonical ss) parts.0 ∙ (let rest = no_non_canonical ss parts.1 in omega arith)
 
 pub counts_undotted : (ss : List (List ℕ)) → has_dot_segment ss ≡ false → list_all is_canonical ss ≡ true → make 0 0 0 0 ≡ counts ss
 counts_undotted ss h k =
     let none = two_none ss h in
     make-same 0 0 0 0 _ _ _ _ (sym (none_of is_single_dot ss none.0)) (sym (none_of is_double_dot ss none.1)) (sym (lead_none is_double_dot ss none.1))
-    (sym (no_strays ss k))
+    (sym (no_non_canonical ss k))
     ∙ sym (counts_are ss)
 
 pub counts_dotted : (ss : List (List ℕ)) → has_dot_segment ss ≡ false → list_all is_canonical ss ≡ true → make 1 0 0 0 ≡ counts ((dot ∷ []) ∷ ss)
@@ -328,8 +328,8 @@ counts_dotted ss h k =
     (sym (cons_count is_single_dot (dot ∷ []) ss ∙ ap (λ v. cond v 1 0 + count_by is_single_dot ss) dot_single ∙ ap (λ n. 1 + n) (none_of is_single_dot ss none.0)))
     (sym (cons_count is_double_dot (dot ∷ []) ss ∙ ap (λ v. cond v 1 0 + count_by is_double_dot ss) other ∙ ap (λ n. 0 + n) (none_of is_double_dot ss none.1)))
     (sym (ap (λ v. cond v (1 + prefix_len is_double_dot ss) 0) other))
-    (sym (cons_count is_stray (dot ∷ []) ss ∙ ap (λ v. cond v 1 0 + count_by is_stray ss) (ap not ((bytes_eq-Decides (canonical (dot ∷ [])) (dot ∷ [])).1 canonical-dot))
-    ∙ ap (λ n. 0 + n) (no_strays ss k)))
+    (sym (cons_count is_non_canonical (dot ∷ []) ss ∙ ap (λ v. cond v 1 0 + count_by is_non_canonical ss) (ap not ((bytes_eq-Decides (canonical (dot ∷ [])) (dot ∷ [])).1 canonical-dot))
+    ∙ ap (λ n. 0 + n) (no_non_canonical ss k)))
     ∙ sym (counts_are ((dot ∷ []) ∷ ss))
   where
     one_dot : is_double_dot (dot ∷ []) ≡ false
@@ -364,7 +364,7 @@ counts-canonical c ss e h =
     (ap (λ x. x.single) are ∙ same_count is_single_dot single-canonical ss h)
     (ap (λ x. x.double) are ∙ same_count is_double_dot double-canonical ss h)
     (ap (λ x. x.leading) are ∙ same_lead is_double_dot double-canonical ss h)
-    (sym (no_strays (map canonical ss) (all_canonical-canonical ss h)))
+    (sym (no_non_canonical (map canonical ss) (all_canonical-canonical ss h)))
     ∙ sym (counts_are (map canonical ss))
 
 lead_joined : (p : List ℕ → Bool) (xs ys : List (List ℕ)) → prefix_len p (xs ++ ys) ≡ prefix_len p xs + cond (prefix_len p xs == length xs) (prefix_len p ys) 0
@@ -374,7 +374,7 @@ lead_joined p xs ys = prefix_len-append p xs ys ∙ by (prefix_len p xs) (length
     by l n m = grind arith
 
 pub counts_joined : (c d : Counts) (xs ys : List (List ℕ)) (l : ℕ) → c ≡ counts xs → d ≡ counts ys → l ≡ cond (c.leading == length xs) d.leading 0
-    → make (c.single + d.single) (c.double + d.double) (c.leading + l) (c.strays + d.strays) ≡ counts (xs ++ ys)
+    → make (c.single + d.single) (c.double + d.double) (c.leading + l) (c.non_canonical + d.non_canonical) ≡ counts (xs ++ ys)
 counts_joined c d xs ys l e f g =
     let are = e ∙ counts_are xs in
     let more = f ∙ counts_are ys in
@@ -385,7 +385,7 @@ counts_joined c d xs ys l e f g =
     ∙ ap (λ x. x.leading + cond (x.leading == length xs) d.leading 0) are
     ∙ ap (λ x. prefix_len is_double_dot xs + cond (prefix_len is_double_dot xs == length xs) x.leading 0) more
     ∙ sym (lead_joined is_double_dot xs ys))
-    (ap (λ x. x.strays + d.strays) are ∙ ap (λ x. count_by is_stray xs + x.strays) more ∙ sym (sum_by-append (λ x. cond (is_stray x) 1 0) xs ys))
+    (ap (λ x. x.non_canonical + d.non_canonical) are ∙ ap (λ x. count_by is_non_canonical xs + x.non_canonical) more ∙ sym (sum_by-append (λ x. cond (is_non_canonical x) 1 0) xs ys))
     ∙ sym (counts_are (xs ++ ys))
 
 -- the segment at a place of canonical ones
@@ -398,7 +398,7 @@ canonical_at ss i s h e k = (bytes_eq-Decides (canonical s) s).0 (by_test (is_ca
 
 -- ---- the invariant, if the counts are known
 
-pub kept_by : (ss : List (List ℕ)) (v : Bool) (d : Counts) → IsCounted ss → (v ≡ true → d ≡ counts ss) → IsKept counts ss v d
+pub kept_by : (ss : List (List ℕ)) (v : Bool) (d : Counts) → IsCounted ss → (v ≡ true → d ≡ counts ss) → CountsAreRight counts ss v d
 kept_by ss v d is right = record { some = is.some; short = is.short; right = right }
 
 pub cond_le : (v : Bool) (n : ℕ) → cond v n 0 ≤ n
@@ -419,8 +419,8 @@ pub double_by_bytes : (s : List ℕ) → canonical s ≡ s → bytes_eq s (dot �
 unfolding is_double_dot
 double_by_bytes s k = ap (λ u. bytes_eq u (dot ∷ dot ∷ [])) (sym k)
 
-pub no_stray : (s : List ℕ) (n : ℕ) → canonical s ≡ s → n ≡ n + cond (is_stray s) 1 0
-no_stray s n k = by_test (is_stray s) (ap not ((bytes_eq-Decides (canonical s) s).1 k))
+pub no_stray : (s : List ℕ) (n : ℕ) → canonical s ≡ s → n ≡ n + cond (is_non_canonical s) 1 0
+no_stray s n k = by_test (is_non_canonical s) (ap not ((bytes_eq-Decides (canonical s) s).1 k))
   where
     by_test : (v : Bool) → v ≡ false → n ≡ n + cond v 1 0
     by_test true e = absurd (false≢true (sym e))

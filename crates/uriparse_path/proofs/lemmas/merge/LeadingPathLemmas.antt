@@ -14,17 +14,17 @@ use Rattle.uriparse_text.specs.Classes.{is_plain}
 use Rattle.uriparse_text.specs.Bytes.{is_unreserved}
 use Rattle.uriparse_path.specs.declared.path.TheConstants.{MAX_SEGMENTS}
 use Rattle.uriparse_text.specs.Segment.{is_segment}
-use Rattle.uriparse_path.specs.Path.{PathParts, IsListed, max_segments, hides_root}
+use Rattle.uriparse_path.specs.Path.{PathParts, IsListed, max_segments, starts_with_empty_segment}
 use Rattle.uriparse_path.specs.Dots.{is_single_dot, is_double_dot, is_dot_segment, has_dot_segment, all_but_last, replay, rooted_after, is_one}
 use Rattle.uriparse_path.specs.Relative.{is_first, has_colon}
-use Rattle.uriparse_path.specs.Relate.{climbs, apart, is_taken, fronted, apart_of, stays_below, have_one_root, may_lead, has_room, leading, climbs_in}
+use Rattle.uriparse_path.specs.Relate.{double_dots, apart, is_taken, fronted, apart_of, stays_below, have_one_root, may_lead, has_room, leading, double_dots_in}
 use Rattle.uriparse_path.specs.Merge.{merged}
 use Rattle.uriparse_path.proofs.lemmas.reading.ReadingLemmas.{limit_is}
 use Rattle.uriparse_text.proofs.lemmas.canonical.DotLemmas.{empty_segment}
 use Rattle.uriparse_path.proofs.lemmas.dots.DotSegmentLemmas.{dot_single, neither, not_both}
 use Rattle.uriparse_path.proofs.lemmas.dots.ReplayLemmas.{once_rooted}
 use Rattle.uriparse_path.proofs.lemmas.normal.NormalFormLemmas.{replay_kept, rooted_kept}
-use Rattle.uriparse_path.proofs.lemmas.merge.MergedNormalFormLemmas.{step_plain, step_double, walk, some_behind, replay_more, replay-append, all_but_last_push, dot_gone, walk_plain}
+use Rattle.uriparse_path.proofs.lemmas.merge.MergedNormalFormLemmas.{step_plain, step_double, walk, some_after, replay_more, replay-append, all_but_last_push, dot_gone, walk_plain}
 
 pub dots_segment : is_segment (dot ∷ dot ∷ []) ≡ true
 unfolding tokens is_plain is_unreserved
@@ -38,25 +38,25 @@ double : is_double_dot (dot ∷ dot ∷ []) ≡ true
 unfolding is_double_dot canonical_in tokens
 double = refl
 
-pub climbs_untaken : (ds ss : List (List ℕ)) → eqb (length ds) 0 ≡ false → is_first is_taken (climbs ds ++ ss) ≡ false
-climbs_untaken [] ss h = absurd (false≢true (sym h))
-climbs_untaken (d ∷ ds) ss h = refl
+pub double_dots_untaken : (ds ss : List (List ℕ)) → eqb (length ds) 0 ≡ false → is_first is_taken (double_dots ds ++ ss) ≡ false
+double_dots_untaken [] ss h = absurd (false≢true (sym h))
+double_dots_untaken (d ∷ ds) ss h = refl
 
 pub listed_empty : IsListed ([] ∷ [])
 listed_empty = record { some = omega arith; short = subst (λ m. 1 ≤ m) limit_is (omega arith); each = and_from _ _ empty_segment refl }
 
 -- ---- the walk over both lists
 
-apart_last : (ds : List (List ℕ)) (s : List ℕ) → apart ds (s ∷ []) ≡ climbs ds ++ s ∷ []
+apart_last : (ds : List (List ℕ)) (s : List ℕ) → apart ds (s ∷ []) ≡ double_dots ds ++ s ∷ []
 apart_last [] s = refl
 apart_last (d ∷ ds) s = refl
 
 -- the last segment is not a directory
-pub shared_last : (ds ss : List (List ℕ)) (n : ℕ) → n + 1 ≡ length ss → apart (drop n ds) (drop n ss) ≡ climbs (drop n ds) ++ drop n ss
+pub shared_last : (ds ss : List (List ℕ)) (n : ℕ) → n + 1 ≡ length ss → apart (drop n ds) (drop n ss) ≡ double_dots (drop n ds) ++ drop n ss
 shared_last ds ss n h =
     let ends : drop (suc n) ss ≡ [] = drop_all (suc n) ss (omega arith) in
     let only : drop n ss ≡ get_or ss n [] ∷ [] = drop-cons ss n [] (omega arith) ∙ ap (λ u. get_or ss n [] ∷ u) ends in
-    ap (apart (drop n ds)) only ∙ apart_last (drop n ds) (get_or ss n []) ∙ ap (λ u. climbs (drop n ds) ++ u) (sym only)
+    ap (apart (drop n ds)) only ∙ apart_last (drop n ds) (get_or ss n []) ∙ ap (λ u. double_dots (drop n ds) ++ u) (sym only)
 
 -- one more segment is the same
 pub same_more : (left right : List (List ℕ)) (n : ℕ) → length left ≡ length right → n < length left → take n left ≡ take n right
@@ -71,9 +71,9 @@ same_more left right n e h is same =
     next n = omega arith
 
 -- one more directory is left
-pub climbs_more : (ds : List (List ℕ)) (n : ℕ) → n < length ds → climbs (take (n + 1) ds) ≡ climbs (take n ds) ++ (dot ∷ dot ∷ []) ∷ []
-climbs_more ds n h =
-    ap (λ m. climbs (take m ds)) (next n) ∙ ap climbs (take-suc ds n [] h) ∙ map-append (λ d. dot ∷ dot ∷ []) (take n ds) (get_or ds n [] ∷ [])
+pub double_dots_more : (ds : List (List ℕ)) (n : ℕ) → n < length ds → double_dots (take (n + 1) ds) ≡ double_dots (take n ds) ++ (dot ∷ dot ∷ []) ∷ []
+double_dots_more ds n h =
+    ap (λ m. double_dots (take m ds)) (next n) ∙ ap double_dots (take-suc ds n [] h) ∙ map-append (λ d. dot ∷ dot ∷ []) (take n ds) (get_or ds n [] ∷ [])
   where
     next : (n : ℕ) → n + 1 ≡ suc n
     next n = omega arith
@@ -81,19 +81,19 @@ climbs_more ds n h =
 -- ---- what is returned, by the code's lists
 
 module _ (b t : PathParts) (whole front own : List (List ℕ)) (n : ℕ) (base : whole ≡ b.segments) (cut : front ≡ all_but_last whole)
-    (behind : own ≡ t.segments) (is : apart front own ≡ climbs (drop n front) ++ drop n own) where
-  apart_is : apart_of b t ≡ climbs (drop n front) ++ drop n own
-  apart_is = ap (λ w. apart (all_but_last w) t.segments) (sym base) ∙ ap (λ d. apart d t.segments) (sym cut) ∙ ap (apart front) (sym behind) ∙ is
+    (following : own ≡ t.segments) (is : apart front own ≡ double_dots (drop n front) ++ drop n own) where
+  apart_is : apart_of b t ≡ double_dots (drop n front) ++ drop n own
+  apart_is = ap (λ w. apart (all_but_last w) t.segments) (sym base) ∙ ap (λ d. apart d t.segments) (sym cut) ∙ ap (apart front) (sym following) ∙ is
 
-  length-climbs : (ds : List (List ℕ)) → length (climbs ds) ≡ length ds
-  length-climbs [] = refl
-  length-climbs (d ∷ ds) = ap suc (length-climbs ds)
+  length-double_dots : (ds : List (List ℕ)) → length (double_dots ds) ≡ length ds
+  length-double_dots [] = refl
+  length-double_dots (d ∷ ds) = ap suc (length-double_dots ds)
 
   length_is : length (all_but_last b.segments) + length (apart_of b t) ≡ length front + (length (drop n front) + length (drop n own))
   length_is =
       let e : length (all_but_last b.segments) ≡ length front = ap (λ w. length (all_but_last w)) (sym base) ∙ ap length (sym cut) in
       let f : length (apart_of b t) ≡ length (drop n front) + length (drop n own) =
-      ap length apart_is ∙ length-append (climbs (drop n front)) (drop n own) ∙ ap (λ k. k + length (drop n own)) (length-climbs (drop n front)) in
+      ap length apart_is ∙ length-append (double_dots (drop n front)) (drop n own) ∙ ap (λ k. k + length (drop n own)) (length-double_dots (drop n front)) in
       ap (λ k. k + length (apart_of b t)) e ∙ ap (λ k. length front + k) f
 
   pub no_room : MAX_SEGMENTS ≤ length front + (length (drop n front) + length (drop n own)) → leading b t ≡ None
@@ -111,17 +111,17 @@ module _ (b t : PathParts) (whole front own : List (List ℕ)) (n : ℕ) (base :
       lt-ltb _ max_segments (subst (λ k. k < max_segments) (sym length_is) (subst (λ m. length front + (length (drop n front) + length (drop n own)) < m) limit_is h))
 
   pub led_path : (made : PathParts) (list left rest : List (List ℕ)) → may_lead b t ≡ true → length front + (length (drop n front) + length (drop n own)) < MAX_SEGMENTS
-      → left ≡ drop n front → rest ≡ drop n own → list ≡ fronted (climbs left ++ rest) → made ≡ record { absolute = false; segments = list } → Some made ≡ leading b t
+      → left ≡ drop n front → rest ≡ drop n own → list ≡ fronted (double_dots left ++ rest) → made ≡ record { absolute = false; segments = list } → Some made ≡ leading b t
   led_path made list left rest h k e f g i =
       let same : list ≡ fronted (apart_of b t) =
-      g ∙ ap (λ u. fronted (climbs u ++ rest)) e ∙ ap (λ u. fronted (climbs (drop n front) ++ u)) f ∙ ap fronted (sym apart_is) in
+      g ∙ ap (λ u. fronted (double_dots u ++ rest)) e ∙ ap (λ u. fronted (double_dots (drop n front) ++ u)) f ∙ ap fronted (sym apart_is) in
       ap Some (i ∙ ap (λ l. record { absolute = false; segments = l }) same)
       ∙ sym (ap (λ v. cond {A = Option PathParts} v (Some (record { absolute = false; segments = fronted (apart_of b t) })) None)
       (and_from _ _ h (led_room k)))
 
 -- the first segment is not read as a slash, as an empty path or as a scheme
 pub record IsFirstPlain (ss : List (List ℕ)) : Type 0 where
-  pub shown : hides_root ss ≡ false
+  pub shown : starts_with_empty_segment ss ≡ false
   pub no_colon : is_first has_colon ss ≡ false
   pub not_empty : is_first is_taken ss ≡ false
 
@@ -155,21 +155,21 @@ apart_some [] (s ∷ ss) h = omega arith
 apart_some (d ∷ ds) (s ∷ []) h = omega arith
 apart_some (d ∷ ds) (s ∷ r ∷ ss) h = by_test (bytes_eq d s) (apart_some ds (r ∷ ss) (omega arith))
   where
-    by_test : (v : Bool) → 0 < length (apart ds (r ∷ ss)) → 0 < length (cond v (apart ds (r ∷ ss)) (climbs (d ∷ ds) ++ s ∷ r ∷ ss))
+    by_test : (v : Bool) → 0 < length (apart ds (r ∷ ss)) → 0 < length (cond v (apart ds (r ∷ ss)) (double_dots (d ∷ ds) ++ s ∷ r ∷ ss))
     by_test true k = k
     by_test false k = omega arith
 
-each_climb : (ds ss : List (List ℕ)) → list_all is_segment ss ≡ true → list_all is_segment (climbs ds ++ ss) ≡ true
+each_climb : (ds ss : List (List ℕ)) → list_all is_segment ss ≡ true → list_all is_segment (double_dots ds ++ ss) ≡ true
 each_climb [] ss h = h
 each_climb (d ∷ ds) ss h = and_from _ _ dots_segment (each_climb ds ss h)
 
 each_apart : (ds ss : List (List ℕ)) → list_all is_segment ss ≡ true → list_all is_segment (apart ds ss) ≡ true
 each_apart [] ss h = h
-each_apart (d ∷ ds) [] h = subst (λ l. list_all is_segment l ≡ true) (append-nil (climbs (d ∷ ds))) (each_climb (d ∷ ds) [] refl)
+each_apart (d ∷ ds) [] h = subst (λ l. list_all is_segment l ≡ true) (append-nil (double_dots (d ∷ ds))) (each_climb (d ∷ ds) [] refl)
 each_apart (d ∷ ds) (s ∷ []) h = each_climb (d ∷ ds) (s ∷ []) h
 each_apart (d ∷ ds) (s ∷ r ∷ ss) h = by_test (bytes_eq d s) (each_apart ds (r ∷ ss) (and_parts (is_segment s) (list_all is_segment (r ∷ ss)) h).1)
   where
-    by_test : (v : Bool) → list_all is_segment (apart ds (r ∷ ss)) ≡ true → list_all is_segment (cond v (apart ds (r ∷ ss)) (climbs (d ∷ ds) ++ s ∷ r ∷ ss)) ≡ true
+    by_test : (v : Bool) → list_all is_segment (apart ds (r ∷ ss)) ≡ true → list_all is_segment (cond v (apart ds (r ∷ ss)) (double_dots (d ∷ ds) ++ s ∷ r ∷ ss)) ≡ true
     by_test true k = k
     by_test false k = each_climb (d ∷ ds) (s ∷ r ∷ ss) h
 
@@ -203,28 +203,28 @@ listed_leading b t p is h = by_test (may_lead b t) (has_room b t) refl h
 
 -- ---- merged with the base's directory it leads to the path
 
-climb_shift : (ds rest : List (List ℕ)) → (dot ∷ dot ∷ []) ∷ (climbs ds ++ rest) ≡ climbs ds ++ (dot ∷ dot ∷ []) ∷ rest
+climb_shift : (ds rest : List (List ℕ)) → (dot ∷ dot ∷ []) ∷ (double_dots ds ++ rest) ≡ double_dots ds ++ (dot ∷ dot ∷ []) ∷ rest
 climb_shift [] rest = refl
 climb_shift (d ∷ ds) rest = ap (λ u. (dot ∷ dot ∷ []) ∷ u) (climb_shift ds rest)
 
 -- directories, and ".." for each
-replay_climbs : (out ds rest : List (List ℕ)) → has_dot_segment ds ≡ false → 0 < length rest → replay out (ds ++ (climbs ds ++ rest)) ≡ replay out rest
-replay_climbs out [] rest h n = refl
-replay_climbs out (d ∷ ds) rest h n =
+replay_double_dots : (out ds rest : List (List ℕ)) → has_dot_segment ds ≡ false → 0 < length rest → replay out (ds ++ (double_dots ds ++ rest)) ≡ replay out rest
+replay_double_dots out [] rest h n = refl
+replay_double_dots out (d ∷ ds) rest h n =
     let parts = or_parts (is_dot_segment d) (has_dot_segment ds) h in
     let shifted = climb_shift ds rest in
     ap (λ u. replay out (d ∷ (ds ++ u))) shifted
-    ∙ replay_more out d (ds ++ (climbs ds ++ (dot ∷ dot ∷ []) ∷ rest))
-    (some_behind ds (climbs ds ++ (dot ∷ dot ∷ []) ∷ rest) (some_behind (climbs ds) ((dot ∷ dot ∷ []) ∷ rest) (omega arith)))
-    ∙ ap (λ u. replay u (ds ++ (climbs ds ++ (dot ∷ dot ∷ []) ∷ rest))) (step_plain out d parts.0)
-    ∙ replay_climbs (out ++ d ∷ []) ds ((dot ∷ dot ∷ []) ∷ rest) parts.1 (omega arith)
+    ∙ replay_more out d (ds ++ (double_dots ds ++ (dot ∷ dot ∷ []) ∷ rest))
+    (some_after ds (double_dots ds ++ (dot ∷ dot ∷ []) ∷ rest) (some_after (double_dots ds) ((dot ∷ dot ∷ []) ∷ rest) (omega arith)))
+    ∙ ap (λ u. replay u (ds ++ (double_dots ds ++ (dot ∷ dot ∷ []) ∷ rest))) (step_plain out d parts.0)
+    ∙ replay_double_dots (out ++ d ∷ []) ds ((dot ∷ dot ∷ []) ∷ rest) parts.1 (omega arith)
     ∙ replay_more (out ++ d ∷ []) (dot ∷ dot ∷ []) rest n
     ∙ ap (λ u. replay u rest) (step_double (out ++ d ∷ []) (dot ∷ dot ∷ []) double ∙ all_but_last_push out d)
 
 replay_apart : (out ds ss : List (List ℕ)) → has_dot_segment ds ≡ false → has_dot_segment ss ≡ false → 0 < length ss → replay out (ds ++ apart ds ss) ≡ out ++ ss
 replay_apart out ds [] h k n = absurd (omega arith)
 replay_apart out [] (s ∷ ss) h k n = replay_kept out (s ∷ ss) k
-replay_apart out (d ∷ ds) (s ∷ []) h k n = replay_climbs out (d ∷ ds) (s ∷ []) h n ∙ replay_kept out (s ∷ []) k
+replay_apart out (d ∷ ds) (s ∷ []) h k n = replay_double_dots out (d ∷ ds) (s ∷ []) h n ∙ replay_kept out (s ∷ []) k
 replay_apart out (d ∷ ds) (s ∷ r ∷ ss) h k n =
     by_test (bytes_eq d s) refl (replay_apart (out ++ d ∷ []) ds (r ∷ ss) parts.1 (or_parts (is_dot_segment s) (has_dot_segment (r ∷ ss)) k).1 (omega arith))
   where
@@ -232,14 +232,14 @@ replay_apart out (d ∷ ds) (s ∷ r ∷ ss) h k n =
     parts = or_parts (is_dot_segment d) (has_dot_segment ds) h
 
     by_test : (v : Bool) → bytes_eq d s ≡ v → replay (out ++ d ∷ []) (ds ++ apart ds (r ∷ ss)) ≡ (out ++ d ∷ []) ++ r ∷ ss
-        → replay out ((d ∷ ds) ++ cond v (apart ds (r ∷ ss)) (climbs (d ∷ ds) ++ s ∷ r ∷ ss)) ≡ out ++ s ∷ r ∷ ss
+        → replay out ((d ∷ ds) ++ cond v (apart ds (r ∷ ss)) (double_dots (d ∷ ds) ++ s ∷ r ∷ ss)) ≡ out ++ s ∷ r ∷ ss
     by_test true e f =
-        replay_more out d (ds ++ apart ds (r ∷ ss)) (some_behind ds (apart ds (r ∷ ss)) (apart_some ds (r ∷ ss) (omega arith)))
+        replay_more out d (ds ++ apart ds (r ∷ ss)) (some_after ds (apart ds (r ∷ ss)) (apart_some ds (r ∷ ss) (omega arith)))
         ∙ ap (λ u. replay u (ds ++ apart ds (r ∷ ss))) (step_plain out d parts.0)
         ∙ f
         ∙ append_assoc out (d ∷ []) (r ∷ ss)
         ∙ ap (λ x. out ++ x ∷ r ∷ ss) ((bytes_eq-Decides d s).0 e)
-    by_test false e f = replay_climbs out (d ∷ ds) (s ∷ r ∷ ss) h (omega arith) ∙ replay_kept out (s ∷ r ∷ ss) k
+    by_test false e f = replay_double_dots out (d ∷ ds) (s ∷ r ∷ ss) h (omega arith) ∙ replay_kept out (s ∷ r ∷ ss) k
 
 replay_fronted : (out ds new : List (List ℕ)) → 0 < length new → replay out (ds ++ fronted new) ≡ replay out (ds ++ new)
 replay_fronted out ds new h = by_test (is_first is_taken new)
@@ -271,16 +271,16 @@ or_not true = refl
 or_not false = refl
 
 some_push : (out : List (List ℕ)) (s : List ℕ) → 0 < length (out ++ s ∷ [])
-some_push out s = some_behind out (s ∷ []) (omega arith)
+some_push out s = some_after out (s ∷ []) (omega arith)
 
-rooted_climbs : (a : Bool) (out ds rest : List (List ℕ)) → 0 < length out → has_dot_segment ds ≡ false
-    → rooted_after a out (ds ++ (climbs ds ++ rest)) ≡ rooted_after a out rest
-rooted_climbs a out [] rest n h = refl
-rooted_climbs a out (d ∷ ds) rest n h =
+rooted_double_dots : (a : Bool) (out ds rest : List (List ℕ)) → 0 < length out → has_dot_segment ds ≡ false
+    → rooted_after a out (ds ++ (double_dots ds ++ rest)) ≡ rooted_after a out rest
+rooted_double_dots a out [] rest n h = refl
+rooted_double_dots a out (d ∷ ds) rest n h =
     let parts = or_parts (is_dot_segment d) (has_dot_segment ds) h in
     ap (λ u. rooted_after a out (d ∷ (ds ++ u))) (climb_shift ds rest)
-    ∙ rooted_step a out d (ds ++ (climbs ds ++ (dot ∷ dot ∷ []) ∷ rest)) parts.0
-    ∙ rooted_climbs a (out ++ d ∷ []) ds ((dot ∷ dot ∷ []) ∷ rest) (some_push out d) parts.1
+    ∙ rooted_step a out d (ds ++ (double_dots ds ++ (dot ∷ dot ∷ []) ∷ rest)) parts.0
+    ∙ rooted_double_dots a (out ++ d ∷ []) ds ((dot ∷ dot ∷ []) ∷ rest) (some_push out d) parts.1
     ∙ rooted_double a (out ++ d ∷ []) (dot ∷ dot ∷ []) rest double
     ∙ ap (λ v. rooted_after (a || v) (all_but_last (out ++ d ∷ [])) rest) (is_one_not out d n)
     ∙ ap (λ v. rooted_after v (all_but_last (out ++ d ∷ [])) rest) (or_not a)
@@ -306,8 +306,8 @@ rooted_apart : (a : Bool) (out ds ss : List (List ℕ)) → 0 < length out → h
     → rooted_after a out (ds ++ apart ds ss) ≡ a
 rooted_apart a out [] ss n h k = rooted_kept a out ss k
 rooted_apart a out (d ∷ ds) [] n h k =
-    ap (λ u. rooted_after a out ((d ∷ ds) ++ u)) (sym (append-nil (climbs (d ∷ ds)))) ∙ rooted_climbs a out (d ∷ ds) [] n h
-rooted_apart a out (d ∷ ds) (s ∷ []) n h k = rooted_climbs a out (d ∷ ds) (s ∷ []) n h ∙ rooted_kept a out (s ∷ []) k
+    ap (λ u. rooted_after a out ((d ∷ ds) ++ u)) (sym (append-nil (double_dots (d ∷ ds)))) ∙ rooted_double_dots a out (d ∷ ds) [] n h
+rooted_apart a out (d ∷ ds) (s ∷ []) n h k = rooted_double_dots a out (d ∷ ds) (s ∷ []) n h ∙ rooted_kept a out (s ∷ []) k
 rooted_apart a out (d ∷ ds) (s ∷ r ∷ ss) n h k =
     by_test (bytes_eq d s)
     (rooted_apart a (out ++ d ∷ []) ds (r ∷ ss) (some_push out d) parts.1 (or_parts (is_dot_segment s) (has_dot_segment (r ∷ ss)) k).1)
@@ -316,9 +316,9 @@ rooted_apart a out (d ∷ ds) (s ∷ r ∷ ss) n h k =
     parts = or_parts (is_dot_segment d) (has_dot_segment ds) h
 
     by_test : (v : Bool) → rooted_after a (out ++ d ∷ []) (ds ++ apart ds (r ∷ ss)) ≡ a
-        → rooted_after a out ((d ∷ ds) ++ cond v (apart ds (r ∷ ss)) (climbs (d ∷ ds) ++ s ∷ r ∷ ss)) ≡ a
+        → rooted_after a out ((d ∷ ds) ++ cond v (apart ds (r ∷ ss)) (double_dots (d ∷ ds) ++ s ∷ r ∷ ss)) ≡ a
     by_test true f = rooted_step a out d (ds ++ apart ds (r ∷ ss)) parts.0 ∙ f
-    by_test false f = rooted_climbs a out (d ∷ ds) (s ∷ r ∷ ss) n h ∙ rooted_kept a out (s ∷ r ∷ ss) k
+    by_test false f = rooted_double_dots a out (d ∷ ds) (s ∷ r ∷ ss) n h ∙ rooted_kept a out (s ∷ r ∷ ss) k
 
 rooted_below : (ds ss : List (List ℕ)) → stays_below ds ss ≡ true → has_dot_segment ds ≡ false → has_dot_segment ss ≡ false
     → rooted_after false [] (ds ++ apart ds ss) ≡ false
@@ -327,7 +327,7 @@ rooted_below (d ∷ ds) [] e h k = absurd (false≢true e)
 rooted_below (d ∷ ds) (s ∷ []) e h k = absurd (false≢true e)
 rooted_below (d ∷ ds) (s ∷ r ∷ ss) e h k =
     let parts = or_parts (is_dot_segment d) (has_dot_segment ds) h in
-    ap (λ v. rooted_after false [] ((d ∷ ds) ++ cond v (apart ds (r ∷ ss)) (climbs (d ∷ ds) ++ s ∷ r ∷ ss))) e
+    ap (λ v. rooted_after false [] ((d ∷ ds) ++ cond v (apart ds (r ∷ ss)) (double_dots (d ∷ ds) ++ s ∷ r ∷ ss))) e
     ∙ rooted_step false [] d (ds ++ apart ds (r ∷ ss)) parts.0
     ∙ rooted_apart false (d ∷ []) ds (r ∷ ss) (omega arith) parts.1 (or_parts (is_dot_segment s) (has_dot_segment (r ∷ ss)) k).1
 
@@ -400,27 +400,27 @@ take_cut (s ∷ r ∷ out) zero h = refl
 take_cut (s ∷ r ∷ out) (suc j) h = ap (λ u. s ∷ u) (take_cut (r ∷ out) j (omega (arith, h)))
 
 -- this many of the stack's first segments are left, and another one follows them
-record IsKept (j : ℕ) (out left : List (List ℕ)) : Type 0 where
+record CountsAreRight (j : ℕ) (out left : List (List ℕ)) : Type 0 where
   same : take j left ≡ take j out
   more : j < length left
 
-kept_push : (j : ℕ) (out : List (List ℕ)) (s : List ℕ) → j ≤ length out → IsKept j out (out ++ s ∷ [])
+kept_push : (j : ℕ) (out : List (List ℕ)) (s : List ℕ) → j ≤ length out → CountsAreRight j out (out ++ s ∷ [])
 kept_push j out s h = record { same = take-append-le j out (s ∷ []) h; more = omega (arith, length-append out (s ∷ []), h) }
 
-kept_cut : (j : ℕ) (out left : List (List ℕ)) → j + 1 ≤ length out → IsKept j (all_but_last out) left → IsKept j out left
+kept_cut : (j : ℕ) (out left : List (List ℕ)) → j + 1 ≤ length out → CountsAreRight j (all_but_last out) left → CountsAreRight j out left
 kept_cut j out left h is = record { same = is.same ∙ take_cut out j h; more = is.more }
 
-kept_from_push : (j : ℕ) (out left : List (List ℕ)) (s : List ℕ) → j ≤ length out → IsKept j (out ++ s ∷ []) left → IsKept j out left
+kept_from_push : (j : ℕ) (out left : List (List ℕ)) (s : List ℕ) → j ≤ length out → CountsAreRight j (out ++ s ∷ []) left → CountsAreRight j out left
 kept_from_push j out left s h is = record { same = is.same ∙ take-append-le j out (s ∷ []) h; more = is.more }
 
 shorter_cut : (j k : ℕ) (out : List (List ℕ)) → j + (k + 1) ≤ length out → j + k ≤ length (all_but_last out)
 shorter_cut j k out h = let e = length_cut_is out (omega (arith, h)) in omega (arith, h, e)
 
-kept : (j : ℕ) (out q : List (List ℕ)) → 0 < length q → j + climbs_in q ≤ length out → IsKept j out (replay out q)
+kept : (j : ℕ) (out q : List (List ℕ)) → 0 < length q → j + double_dots_in q ≤ length out → CountsAreRight j out (replay out q)
 kept j out [] n h = absurd (omega arith)
 kept j out (s ∷ []) n h = by_kind (is_single_dot s) (is_double_dot s) h
   where
-    by_kind : (v w : Bool) → j + cond w (0 + 1) 0 ≤ length out → IsKept j out (cond v (out ++ [] ∷ []) (cond w (all_but_last out ++ [] ∷ []) (out ++ s ∷ [])))
+    by_kind : (v w : Bool) → j + cond w (0 + 1) 0 ≤ length out → CountsAreRight j out (cond v (out ++ [] ∷ []) (cond w (all_but_last out ++ [] ∷ []) (out ++ s ∷ [])))
     by_kind true true h = kept_push j out [] (omega (arith, h))
     by_kind true false h = kept_push j out [] (omega (arith, h))
     by_kind false true h = kept_cut j out (all_but_last out ++ [] ∷ []) (omega (arith, h)) (kept_push j (all_but_last out) [] (let e = shorter_cut j 0 out (omega (arith, h)) in omega (arith, e)))
@@ -430,45 +430,45 @@ kept j out (s ∷ r ∷ q) n h =
     (kept j (out ++ s ∷ []) (r ∷ q) (omega arith))
   where
     k : ℕ
-    k = climbs_in (r ∷ q)
+    k = double_dots_in (r ∷ q)
 
     by_kind : (v w : Bool) → j + cond w (k + 1) k ≤ length out
-        → (j + k ≤ length out → IsKept j out (replay out (r ∷ q)))
-        → (j + k ≤ length (all_but_last out) → IsKept j (all_but_last out) (replay (all_but_last out) (r ∷ q)))
-        → (j + k ≤ length (out ++ s ∷ []) → IsKept j (out ++ s ∷ []) (replay (out ++ s ∷ []) (r ∷ q)))
-        → IsKept j out (cond v (replay out (r ∷ q)) (cond w (replay (all_but_last out) (r ∷ q)) (replay (out ++ s ∷ []) (r ∷ q))))
+        → (j + k ≤ length out → CountsAreRight j out (replay out (r ∷ q)))
+        → (j + k ≤ length (all_but_last out) → CountsAreRight j (all_but_last out) (replay (all_but_last out) (r ∷ q)))
+        → (j + k ≤ length (out ++ s ∷ []) → CountsAreRight j (out ++ s ∷ []) (replay (out ++ s ∷ []) (r ∷ q)))
+        → CountsAreRight j out (cond v (replay out (r ∷ q)) (cond w (replay (all_but_last out) (r ∷ q)) (replay (out ++ s ∷ []) (r ∷ q))))
     by_kind true true h x y z = x (omega (arith, h))
     by_kind true false h x y z = x h
     by_kind false true h x y z = kept_cut j out (replay (all_but_last out) (r ∷ q)) (omega (arith, h)) (y (shorter_cut j k out h))
     by_kind false false h x y z = kept_from_push j out (replay (out ++ s ∷ []) (r ∷ q)) s (omega (arith, h)) (z (omega (arith, h, length-append out (s ∷ []))))
 
-none_climb : (ss : List (List ℕ)) → has_dot_segment ss ≡ false → climbs_in ss ≡ 0
+none_climb : (ss : List (List ℕ)) → has_dot_segment ss ≡ false → double_dots_in ss ≡ 0
 none_climb [] h = refl
 none_climb (s ∷ ss) h =
     let parts = or_parts (is_dot_segment s) (has_dot_segment ss) h in
     let n = or_parts (is_single_dot s) (is_double_dot s) parts.0 in
-    ap (λ w. cond w (climbs_in ss + 1) (climbs_in ss)) n.1 ∙ none_climb ss parts.1
+    ap (λ w. cond w (double_dots_in ss + 1) (double_dots_in ss)) n.1 ∙ none_climb ss parts.1
 
-each_climbs : (ds ss : List (List ℕ)) → climbs_in (climbs ds ++ ss) ≡ length ds + climbs_in ss
-each_climbs [] ss = omega arith
-each_climbs (d ∷ ds) ss =
-    let e = each_climbs ds ss in
-    ap (λ w. cond w (climbs_in (climbs ds ++ ss) + 1) (climbs_in (climbs ds ++ ss))) double ∙ omega (arith, e)
+each_double_dots : (ds ss : List (List ℕ)) → double_dots_in (double_dots ds ++ ss) ≡ length ds + double_dots_in ss
+each_double_dots [] ss = omega arith
+each_double_dots (d ∷ ds) ss =
+    let e = each_double_dots ds ss in
+    ap (λ w. cond w (double_dots_in (double_dots ds ++ ss) + 1) (double_dots_in (double_dots ds ++ ss))) double ∙ omega (arith, e)
 
 -- directories that both start with need no ".."
-few_climbs : (ds ss : List (List ℕ)) (j : ℕ) → has_dot_segment ss ≡ false → take j ds ≡ take j ss → j ≤ length ds → j < length ss → climbs_in (apart ds ss) + j ≤ length ds
-few_climbs ds [] j h e l m = absurd (omega (arith, m))
-few_climbs [] (s ∷ ss) j h e l m = let n = none_climb (s ∷ ss) h in omega (arith, n, l)
-few_climbs (d ∷ ds) (s ∷ []) j h e l m =
+few_double_dots : (ds ss : List (List ℕ)) (j : ℕ) → has_dot_segment ss ≡ false → take j ds ≡ take j ss → j ≤ length ds → j < length ss → double_dots_in (apart ds ss) + j ≤ length ds
+few_double_dots ds [] j h e l m = absurd (omega (arith, m))
+few_double_dots [] (s ∷ ss) j h e l m = let n = none_climb (s ∷ ss) h in omega (arith, n, l)
+few_double_dots (d ∷ ds) (s ∷ []) j h e l m =
     let n = none_climb (s ∷ []) h in
-    let k = each_climbs (d ∷ ds) (s ∷ []) in
+    let k = each_double_dots (d ∷ ds) (s ∷ []) in
     omega (arith, n, k, l, m)
-few_climbs (d ∷ ds) (s ∷ r ∷ ss) j h e l m =
-    by_test (λ i f n k. few_climbs ds (r ∷ ss) i (or_parts (is_dot_segment s) (has_dot_segment (r ∷ ss)) h).1 f n k) (bytes_eq d s) refl j e l m
+few_double_dots (d ∷ ds) (s ∷ r ∷ ss) j h e l m =
+    by_test (λ i f n k. few_double_dots ds (r ∷ ss) i (or_parts (is_dot_segment s) (has_dot_segment (r ∷ ss)) h).1 f n k) (bytes_eq d s) refl j e l m
   where
-    by_test : ((i : ℕ) → take i ds ≡ take i (r ∷ ss) → i ≤ length ds → i < length (r ∷ ss) → climbs_in (apart ds (r ∷ ss)) + i ≤ length ds)
+    by_test : ((i : ℕ) → take i ds ≡ take i (r ∷ ss) → i ≤ length ds → i < length (r ∷ ss) → double_dots_in (apart ds (r ∷ ss)) + i ≤ length ds)
         → (v : Bool) → bytes_eq d s ≡ v → (j : ℕ) → take j (d ∷ ds) ≡ take j (s ∷ r ∷ ss) → j ≤ length (d ∷ ds) → j < length (s ∷ r ∷ ss)
-        → climbs_in (cond v (apart ds (r ∷ ss)) (climbs (d ∷ ds) ++ s ∷ r ∷ ss)) + j ≤ length (d ∷ ds)
+        → double_dots_in (cond v (apart ds (r ∷ ss)) (double_dots (d ∷ ds) ++ s ∷ r ∷ ss)) + j ≤ length (d ∷ ds)
     by_test more true f zero e l m = let k = more 0 refl (omega arith) (omega arith) in omega (arith, k)
     by_test more true f (suc j) e l m =
         let same : take j ds ≡ take j (r ∷ ss) = cc in
@@ -476,7 +476,7 @@ few_climbs (d ∷ ds) (s ∷ r ∷ ss) j h e l m =
         omega (arith, k)
     by_test more false f zero e l m =
         let n = none_climb (s ∷ r ∷ ss) h in
-        let k = each_climbs (d ∷ ds) (s ∷ r ∷ ss) in
+        let k = each_double_dots (d ∷ ds) (s ∷ r ∷ ss) in
         omega (arith, n, k)
     by_test more false f (suc j) e l m =
         let same : d ≡ s = cc in
@@ -486,48 +486,48 @@ not_double : is_double_dot (dot ∷ []) ≡ false
 unfolding is_double_dot canonical_in tokens is_unreserved
 not_double = refl
 
-climbs_fronted : (ss : List (List ℕ)) → climbs_in (fronted ss) ≡ climbs_in ss
-climbs_fronted ss = by_test (is_first is_taken ss)
+double_dots_fronted : (ss : List (List ℕ)) → double_dots_in (fronted ss) ≡ double_dots_in ss
+double_dots_fronted ss = by_test (is_first is_taken ss)
   where
-    by_test : (v : Bool) → climbs_in (cond v ((dot ∷ []) ∷ ss) ss) ≡ climbs_in ss
-    by_test true = ap (λ w. cond w (climbs_in ss + 1) (climbs_in ss)) not_double
+    by_test : (v : Bool) → double_dots_in (cond v ((dot ∷ []) ∷ ss) ss) ≡ double_dots_in ss
+    by_test true = ap (λ w. cond w (double_dots_in ss + 1) (double_dots_in ss)) not_double
     by_test false = refl
 
 fewest_of : (ds ss q : List (List ℕ)) → has_dot_segment ds ≡ false → has_dot_segment ss ≡ false → 0 < length q → 0 < length ss → replay [] (ds ++ q) ≡ ss
-    → climbs_in (apart ds ss) ≤ climbs_in q
+    → double_dots_in (apart ds ss) ≤ double_dots_in q
 fewest_of ds ss q h k n m e =
     let there : replay ds q ≡ ss = sym (replay-append [] ds q n ∙ ap (λ u. replay u q) (walk_plain [] ds h)) ∙ e in
-    by_room (nat_le (climbs_in q) (length ds)) refl there
+    by_room (nat_le (double_dots_in q) (length ds)) refl there
   where
-    by_room : (v : Bool) → nat_le (climbs_in q) (length ds) ≡ v → replay ds q ≡ ss → climbs_in (apart ds ss) ≤ climbs_in q
+    by_room : (v : Bool) → nat_le (double_dots_in q) (length ds) ≡ v → replay ds q ≡ ss → double_dots_in (apart ds ss) ≤ double_dots_in q
     by_room true f there =
-        let room : climbs_in q ≤ length ds = leb-true _ _ f in
-        let is = kept (length ds - climbs_in q) ds q n (omega (arith, room)) in
-        let few = few_climbs ds ss (length ds - climbs_in q) k (sym is.same ∙ ap (take (length ds - climbs_in q)) there) (omega arith)
-        (subst (λ l. length ds - climbs_in q < length l) there is.more) in
+        let room : double_dots_in q ≤ length ds = leb-true _ _ f in
+        let is = kept (length ds - double_dots_in q) ds q n (omega (arith, room)) in
+        let few = few_double_dots ds ss (length ds - double_dots_in q) k (sym is.same ∙ ap (take (length ds - double_dots_in q)) there) (omega arith)
+        (subst (λ l. length ds - double_dots_in q < length l) there is.more) in
         omega (arith, room, few)
     by_room false f there =
-        let long : length ds < climbs_in q = leb-false _ _ f in
-        let few = few_climbs ds ss 0 k refl (omega arith) m in
+        let long : length ds < double_dots_in q = leb-false _ _ f in
+        let few = few_double_dots ds ss 0 k refl (omega arith) m in
         omega (arith, long, few)
 
 pub fewest : (b t p q : PathParts) → leading b t ≡ Some p → 0 < length t.segments → 0 < length q.segments
-    → replay [] (merged b q).segments ≡ t.segments → climbs_in p.segments ≤ climbs_in q.segments
+    → replay [] (merged b q).segments ≡ t.segments → double_dots_in p.segments ≤ double_dots_in q.segments
 fewest b t p q h n m e = by_test (may_lead b t) refl (has_room b t) refl h
   where
-    made : may_lead b t ≡ true → climbs_in (fronted (apart_of b t)) ≤ climbs_in q.segments
+    made : may_lead b t ≡ true → double_dots_in (fronted (apart_of b t)) ≤ double_dots_in q.segments
     made may =
         let one = and_parts (have_one_root b t) (not (has_dot_segment (all_but_last b.segments)) && not (has_dot_segment t.segments)) may in
         let three = and_parts (not (has_dot_segment (all_but_last b.segments))) (not (has_dot_segment t.segments)) one.1 in
         let few = fewest_of (all_but_last b.segments) t.segments q.segments (not-true (has_dot_segment (all_but_last b.segments)) three.0)
         (not-true (has_dot_segment t.segments) three.1) m n e in
-        let front = climbs_fronted (apart_of b t) in
+        let front = double_dots_fronted (apart_of b t) in
         omega (arith, few, front)
 
     by_test : (v : Bool) → may_lead b t ≡ v → (w : Bool) → has_room b t ≡ w
-        → cond {A = Option PathParts} (v && w) (Some (record { absolute = false; segments = fronted (apart_of b t) })) None ≡ Some p → climbs_in p.segments ≤ climbs_in q.segments
+        → cond {A = Option PathParts} (v && w) (Some (record { absolute = false; segments = fronted (apart_of b t) })) None ≡ Some p → double_dots_in p.segments ≤ double_dots_in q.segments
     by_test true e true f g =
-        let same : record { absolute = false; segments = fronted (apart_of b t) } ≡ p = cc in subst (λ p. climbs_in p.segments ≤ climbs_in q.segments) same (made e)
+        let same : record { absolute = false; segments = fronted (apart_of b t) } ≡ p = cc in subst (λ p. double_dots_in p.segments ≤ double_dots_in q.segments) same (made e)
     by_test true e false f g = absurd (cc)
     by_test false e w f g = absurd (cc)
 

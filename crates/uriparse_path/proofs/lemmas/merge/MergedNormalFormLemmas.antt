@@ -5,9 +5,9 @@ use Rattle.std.specs.Prelude.{reverse}
 use Rattle.std.proofs.lemmas.Bool.{false≢true, or_parts}
 use Rattle.std.proofs.lemmas.List.{reverse-append}
 use Rattle.uriparse_text.specs.Bytes.{dot}
-use Rattle.uriparse_path.specs.Path.{PathParts, IsListed, hides_root, respelled}
+use Rattle.uriparse_path.specs.Path.{PathParts, IsListed, starts_with_empty_segment, respelled}
 use Rattle.uriparse_path.specs.Dots.{is_single_dot, is_double_dot, is_dot_segment, has_dot_segment, all_but_last, replay, rooted_after, replayed}
-use Rattle.uriparse_path.specs.Relative.{is_last, closed, needs_guard, guarded, filled, put, put_all, reduced}
+use Rattle.uriparse_path.specs.Relative.{is_last, closed, needs_leading_dot, with_leading_dot, filled, put, put_all, reduced}
 use Rattle.uriparse_path.specs.Normal.{canonical_path, stays_relative, pnormal}
 use Rattle.uriparse_path.proofs.lemmas.text.PathTextLemmas.{listed-respelled}
 use Rattle.uriparse_text.proofs.lemmas.canonical.DotLemmas.{empty_single, empty_double}
@@ -47,8 +47,8 @@ all_but_last_push [] x = refl
 all_but_last_push (y ∷ []) x = refl
 all_but_last_push (y ∷ z ∷ xs) x = ap (λ u. y ∷ u) (all_but_last_push (z ∷ xs) x)
 
-pub some_behind : (a b : List (List ℕ)) → 0 < length b → 0 < length (a ++ b)
-some_behind a b h = omega (arith, length-append a b)
+pub some_after : (a b : List (List ℕ)) → 0 < length b → 0 < length (a ++ b)
+some_after a b h = omega (arith, length-append a b)
 
 -- a segment that is not the last one makes a step
 pub replay_more : (out : List (List ℕ)) (s : List ℕ) (ss : List (List ℕ)) → 0 < length ss → replay out (s ∷ ss) ≡ replay (step out s) ss
@@ -64,7 +64,7 @@ replay_more out s (r ∷ ss) h = by_kind (is_single_dot s) (is_double_dot s)
 
 pub replay-append : (out a b : List (List ℕ)) → 0 < length b → replay out (a ++ b) ≡ replay (walk out a) b
 replay-append out [] b h = refl
-replay-append out (s ∷ a) b h = replay_more out s (a ++ b) (some_behind a b h) ∙ replay-append (step out s) a b h
+replay-append out (s ∷ a) b h = replay_more out s (a ++ b) (some_after a b h) ∙ replay-append (step out s) a b h
 
 -- ---- a deletion does not change the directory
 
@@ -121,35 +121,35 @@ dot_gone out (s ∷ l) h = rw dot_single refl
 pub dot_gone_rooted : (a : Bool) (l : List (List ℕ)) → rooted_after a [] ((dot ∷ []) ∷ l) ≡ rooted_after a [] l
 dot_gone_rooted a l = rw dot_single refl
 
-guard_gone : (out old new : List (List ℕ)) → 0 < length new → replay out (filled (guarded old new)) ≡ replay out new
-guard_gone out old [] h = absurd (omega arith)
-guard_gone out old (s ∷ ss) h = by_guard (needs_guard old (s ∷ ss))
+leading_dot_gone : (out old new : List (List ℕ)) → 0 < length new → replay out (filled (with_leading_dot old new)) ≡ replay out new
+leading_dot_gone out old [] h = absurd (omega arith)
+leading_dot_gone out old (s ∷ ss) h = by_leading_dot (needs_leading_dot old (s ∷ ss))
   where
-    by_guard : (v : Bool) → replay out (filled (cond v ((dot ∷ []) ∷ s ∷ ss) (s ∷ ss))) ≡ replay out (s ∷ ss)
-    by_guard true = dot_gone out (s ∷ ss) (omega arith)
-    by_guard false = refl
+    by_leading_dot : (v : Bool) → replay out (filled (cond v ((dot ∷ []) ∷ s ∷ ss) (s ∷ ss))) ≡ replay out (s ∷ ss)
+    by_leading_dot true = dot_gone out (s ∷ ss) (omega arith)
+    by_leading_dot false = refl
 
 -- ---- the relative normal form is replayed as its source
 
 last_of : (p : List ℕ → Bool) (l : List (List ℕ)) (is : Pushed l) → is_last p l ≡ p is.last
 last_of p l is = ap (is_last p) is.whole ∙ last_push p is.front is.last
 
-closed_dot : (out old m : List (List ℕ)) → replay out (filled (guarded old (closed true m))) ≡ walk out m ++ [] ∷ []
+closed_dot : (out old m : List (List ℕ)) → replay out (filled (with_leading_dot old (closed true m))) ≡ walk out m ++ [] ∷ []
 closed_dot out old [] = replay_empty out
 closed_dot out old (s ∷ l) = by_double (is_last is_double_dot (s ∷ l)) refl
   where
     by_double : (v : Bool) → is_last is_double_dot (s ∷ l) ≡ v
-        → replay out (filled (guarded old (cond (not v) ((s ∷ l) ++ [] ∷ []) (s ∷ l)))) ≡ walk out (s ∷ l) ++ [] ∷ []
+        → replay out (filled (with_leading_dot old (cond (not v) ((s ∷ l) ++ [] ∷ []) (s ∷ l)))) ≡ walk out (s ∷ l) ++ [] ∷ []
     by_double true e =
         let is = pushed s l in
         let d : is_double_dot is.last ≡ true = sym (last_of is_double_dot (s ∷ l) is) ∙ e in
-        guard_gone out old (s ∷ l) (omega arith)
+        leading_dot_gone out old (s ∷ l) (omega arith)
         ∙ ap (replay out) is.whole
         ∙ replay-append out is.front (is.last ∷ []) (omega arith)
         ∙ replay_dot (walk out is.front) is.last (double_dot is.last d)
         ∙ ap (λ u. u ++ [] ∷ []) (sym (ap (walk out) is.whole ∙ walk-append out is.front (is.last ∷ [])))
     by_double false e =
-        guard_gone out old ((s ∷ l) ++ [] ∷ []) (omega arith)
+        leading_dot_gone out old ((s ∷ l) ++ [] ∷ []) (omega arith)
         ∙ replay-append out (s ∷ l) ([] ∷ []) (omega arith)
         ∙ replay_empty (walk out (s ∷ l))
 
@@ -165,14 +165,14 @@ pushed_same out r y = by_dot (is_dot_segment y) refl
   where
     by_dot : (v : Bool) → is_dot_segment y ≡ v → replay out (shaped (r ++ y ∷ [])) ≡ replay out (r ++ y ∷ [])
     by_dot true e =
-        ap (λ u. replay out (filled (guarded (r ++ y ∷ []) (closed u (reduced (r ++ y ∷ [])))))) (last_push is_dot_segment r y ∙ e)
+        ap (λ u. replay out (filled (with_leading_dot (r ++ y ∷ []) (closed u (reduced (r ++ y ∷ [])))))) (last_push is_dot_segment r y ∙ e)
         ∙ closed_dot out (r ++ y ∷ []) (reduced (r ++ y ∷ []))
         ∙ ap (λ u. u ++ [] ∷ []) (walk_reduced out (r ++ y ∷ []) ∙ walk-append out r (y ∷ []))
         ∙ sym (replay-append out r (y ∷ []) (omega arith) ∙ replay_dot (walk out r) y e)
     by_dot false e =
-        ap (λ u. replay out (filled (guarded (r ++ y ∷ []) (closed u (reduced (r ++ y ∷ [])))))) (last_push is_dot_segment r y ∙ e)
-        ∙ ap (λ u. replay out (filled (guarded (r ++ y ∷ []) u))) (closed_not (reduced (r ++ y ∷ [])) ∙ reduced_push r y e)
-        ∙ guard_gone out (r ++ y ∷ []) (reduced r ++ y ∷ []) (some_behind (reduced r) (y ∷ []) (omega arith))
+        ap (λ u. replay out (filled (with_leading_dot (r ++ y ∷ []) (closed u (reduced (r ++ y ∷ [])))))) (last_push is_dot_segment r y ∙ e)
+        ∙ ap (λ u. replay out (filled (with_leading_dot (r ++ y ∷ []) u))) (closed_not (reduced (r ++ y ∷ [])) ∙ reduced_push r y e)
+        ∙ leading_dot_gone out (r ++ y ∷ []) (reduced r ++ y ∷ []) (some_after (reduced r) (y ∷ []) (omega arith))
         ∙ replay-append out (reduced r) (y ∷ []) (omega arith)
         ∙ ap (λ u. replay u (y ∷ [])) (walk_reduced out r)
         ∙ sym (replay-append out r (y ∷ []) (omega arith))
@@ -243,7 +243,7 @@ merged_same b r h n =
     replay-append [] (all_but_last b) r n
     ∙ sym (shaped_same (walk [] (all_but_last b)) r n)
     ∙ sym (ap (λ u. replay [] (u ++ shaped r)) (directory_replayed b h)
-    ∙ replay-append [] (walk [] (all_but_last b)) (shaped r) (some_filled (guarded r (closed (is_last is_dot_segment r) (reduced r))))
+    ∙ replay-append [] (walk [] (all_but_last b)) (shaped r) (some_filled (with_leading_dot r (closed (is_last is_dot_segment r) (reduced r))))
     ∙ ap (λ u. replay u (shaped r)) (walk_twice (all_but_last b)))
 
 -- ---- paths without dot segments
@@ -299,14 +299,14 @@ dot_undotted a l h =
 
 -- ---- a path that comes to begin with an empty segment, and has more, has become shorter
 
-hidden_popped : (s : List ℕ) (out l : List (List ℕ)) → hides_root (s ∷ out) ≡ false → 0 < length s → hides_root (replay (s ∷ out) l) ≡ true
+hidden_popped : (s : List ℕ) (out l : List (List ℕ)) → starts_with_empty_segment (s ∷ out) ≡ false → 0 < length s → starts_with_empty_segment (replay (s ∷ out) l) ≡ true
     → length (replay (s ∷ out) l) ≤ length out + length l
 hidden_popped s out [] h n k = absurd (false≢true (sym h ∙ k))
 hidden_popped [] out (r ∷ l) h n k = absurd (omega arith)
 hidden_popped (b ∷ s) out (r ∷ []) h n k = absurd (by_kind (is_single_dot r) (is_double_dot r) out k)
   where
     by_kind : (v w : Bool) (o : List (List ℕ))
-        → hides_root (cond v (((b ∷ s) ∷ o) ++ [] ∷ []) (cond w (all_but_last ((b ∷ s) ∷ o) ++ [] ∷ []) (((b ∷ s) ∷ o) ++ r ∷ []))) ≡ true → ⊥
+        → starts_with_empty_segment (cond v (((b ∷ s) ∷ o) ++ [] ∷ []) (cond w (all_but_last ((b ∷ s) ∷ o) ++ [] ∷ []) (((b ∷ s) ∷ o) ++ r ∷ []))) ≡ true → ⊥
     by_kind true w o e = false≢true e
     by_kind false true [] e = false≢true e
     by_kind false true (t ∷ o) e = false≢true e
@@ -317,9 +317,9 @@ hidden_popped (b ∷ s) out (r ∷ q ∷ l) h n k =
   where
     by_kind : (v w : Bool) → length (replay ((b ∷ s) ∷ out) (q ∷ l)) ≤ length ((b ∷ s) ∷ out) + length (q ∷ l)
         → length (replay (all_but_last ((b ∷ s) ∷ out)) (q ∷ l)) ≤ length (all_but_last ((b ∷ s) ∷ out)) + length (q ∷ l)
-        → (hides_root (replay ((b ∷ s) ∷ (out ++ r ∷ [])) (q ∷ l)) ≡ true
+        → (starts_with_empty_segment (replay ((b ∷ s) ∷ (out ++ r ∷ [])) (q ∷ l)) ≡ true
         → length (replay ((b ∷ s) ∷ (out ++ r ∷ [])) (q ∷ l)) ≤ length (out ++ r ∷ []) + length (q ∷ l))
-        → hides_root (cond v (replay ((b ∷ s) ∷ out) (q ∷ l))
+        → starts_with_empty_segment (cond v (replay ((b ∷ s) ∷ out) (q ∷ l))
         (cond w (replay (all_but_last ((b ∷ s) ∷ out)) (q ∷ l)) (replay (((b ∷ s) ∷ out) ++ r ∷ []) (q ∷ l)))) ≡ true
         → length (cond v (replay ((b ∷ s) ∷ out) (q ∷ l))
         (cond w (replay (all_but_last ((b ∷ s) ∷ out)) (q ∷ l)) (replay (((b ∷ s) ∷ out) ++ r ∷ []) (q ∷ l)))) ≤ length out + length (r ∷ q ∷ l)
@@ -327,11 +327,11 @@ hidden_popped (b ∷ s) out (r ∷ q ∷ l) h n k =
     by_kind false true x y z e = let c = length_cut ((b ∷ s) ∷ out) in omega (arith, y, c)
     by_kind false false x y z e = let g = z e in omega (arith, g, length-append out (r ∷ []))
 
-pub shorter : (l : List (List ℕ)) → hides_root l ≡ false → hides_root (replay [] l) ≡ true → suc (length (replay [] l)) ≤ length l
+pub shorter : (l : List (List ℕ)) → starts_with_empty_segment l ≡ false → starts_with_empty_segment (replay [] l) ≡ true → suc (length (replay [] l)) ≤ length l
 shorter [] h k = absurd (false≢true k)
 shorter (s ∷ []) h k = absurd (by_kind (is_single_dot s) (is_double_dot s) s k)
   where
-    by_kind : (v w : Bool) (u : List ℕ) → hides_root (cond v ([] ++ [] ∷ []) (cond w (all_but_last [] ++ [] ∷ []) ([] ++ u ∷ []))) ≡ true → ⊥
+    by_kind : (v w : Bool) (u : List ℕ) → starts_with_empty_segment (cond v ([] ++ [] ∷ []) (cond w (all_but_last [] ++ [] ∷ []) ([] ++ u ∷ []))) ≡ true → ⊥
     by_kind true w u e = false≢true e
     by_kind false true u e = false≢true e
     by_kind false false [] e = false≢true e
@@ -341,19 +341,19 @@ shorter ((b ∷ s) ∷ r ∷ l) h k =
     by_kind (is_single_dot (b ∷ s)) (is_double_dot (b ∷ s)) (length_replay [] (r ∷ l)) (hidden_popped (b ∷ s) [] (r ∷ l) refl (omega arith)) k
   where
     by_kind : (v w : Bool) → length (replay [] (r ∷ l)) ≤ 0 + length (r ∷ l)
-        → (hides_root (replay ((b ∷ s) ∷ []) (r ∷ l)) ≡ true → length (replay ((b ∷ s) ∷ []) (r ∷ l)) ≤ 0 + length (r ∷ l))
-        → hides_root (cond v (replay [] (r ∷ l)) (cond w (replay [] (r ∷ l)) (replay ((b ∷ s) ∷ []) (r ∷ l)))) ≡ true
+        → (starts_with_empty_segment (replay ((b ∷ s) ∷ []) (r ∷ l)) ≡ true → length (replay ((b ∷ s) ∷ []) (r ∷ l)) ≤ 0 + length (r ∷ l))
+        → starts_with_empty_segment (cond v (replay [] (r ∷ l)) (cond w (replay [] (r ∷ l)) (replay ((b ∷ s) ∷ []) (r ∷ l)))) ≡ true
         → suc (length (cond v (replay [] (r ∷ l)) (cond w (replay [] (r ∷ l)) (replay ((b ∷ s) ∷ []) (r ∷ l))))) ≤ length ((b ∷ s) ∷ r ∷ l)
     by_kind true w x z e = omega (arith, x)
     by_kind false true x z e = omega (arith, x)
     by_kind false false x z e = let g = z e in omega (arith, g)
 
 -- so there is room for a leading "."
-pub room : (p : PathParts) → hides_root p.segments ≡ false → hides_root (undotted p).segments ≡ true → suc (length (undotted p).segments) ≤ length p.segments
+pub room : (p : PathParts) → starts_with_empty_segment p.segments ≡ false → starts_with_empty_segment (undotted p).segments ≡ true → suc (length (undotted p).segments) ≤ length p.segments
 room p h k = by_shape (rooted_after p.absolute [] p.segments) (replay [] p.segments) (shorter p.segments h) (length_replay [] p.segments) k
   where
-    by_shape : (a : Bool) (l : List (List ℕ)) → (hides_root l ≡ true → suc (length l) ≤ length p.segments) → length l ≤ 0 + length p.segments
-        → hides_root (respelled (record { absolute = a; segments = l })).segments ≡ true
+    by_shape : (a : Bool) (l : List (List ℕ)) → (starts_with_empty_segment l ≡ true → suc (length l) ≤ length p.segments) → length l ≤ 0 + length p.segments
+        → starts_with_empty_segment (respelled (record { absolute = a; segments = l })).segments ≡ true
         → suc (length (respelled (record { absolute = a; segments = l })).segments) ≤ length p.segments
     by_shape true l f g e = f e
     by_shape false [] f g e = absurd (false≢true e)

@@ -8,7 +8,7 @@ use Rattle.uriparse_text.specs.declared.segment.error.PathError.{PathError}
 use Rattle.uriparse_text.specs.declared.segment.error.PathError.TheVariants.{ExceededMaximumLength}
 use Rattle.uriparse_path.specs.declared.path.TheConstants.{MAX_SEGMENTS}
 use Rattle.uriparse_text.specs.Segment.{is_segment}
-use Rattle.uriparse_path.specs.Path.{PathParts, IsListed, hides_root, max_segments}
+use Rattle.uriparse_path.specs.Path.{PathParts, IsListed, starts_with_empty_segment, max_segments}
 use Rattle.uriparse_path.specs.Dots.{all_but_last}
 use Rattle.uriparse_path.specs.Merge.{merged, merging}
 use Rattle.uriparse_path.proofs.lemmas.reading.ReadingLemmas.{limit_is}
@@ -29,7 +29,7 @@ merged_each p q is js = list_all-append is_segment (all_but_last p.segments) q.s
 pub listed_merged : (p q : PathParts) → IsListed p.segments → IsListed q.segments → length (merged p q).segments ≤ max_segments → IsListed (merged p q).segments
 listed_merged p q is js short = record { some = some_before (all_but_last p.segments) q.segments js.some; short = short; each = merged_each p q is js }
 
-pub merged_hides : (l m : List (List ℕ)) → hides_root l ≡ false → hides_root m ≡ false → hides_root (all_but_last l ++ m) ≡ false
+pub merged_hides : (l m : List (List ℕ)) → starts_with_empty_segment l ≡ false → starts_with_empty_segment m ≡ false → starts_with_empty_segment (all_but_last l ++ m) ≡ false
 merged_hides [] m h k = k
 merged_hides (s ∷ []) m h k = k
 merged_hides ([] ∷ r ∷ l) m h k = absurd (false≢true (sym h))
@@ -41,9 +41,9 @@ merging_if : (p q : PathParts) (v : Bool) → nat_le (length (merged p q).segmen
     → merging p q ≡ cond v (Ok (merged p q)) (Err ExceededMaximumLength)
 merging_if p q v h = ap (λ v. cond {A = Result PathParts PathError} v (Ok (merged p q)) (Err ExceededMaximumLength)) h
 
-module _ (p q : PathParts) (whole front back : List (List ℕ)) (base : whole ≡ p.segments) (cut : front ≡ all_but_last whole) (behind : back ≡ q.segments) where
+module _ (p q : PathParts) (whole front back : List (List ℕ)) (base : whole ≡ p.segments) (cut : front ≡ all_but_last whole) (following : back ≡ q.segments) where
   segments_are : front ++ back ≡ (merged p q).segments
-  segments_are = ap (λ l. l ++ back) (cut ∙ ap all_but_last base) ∙ ap (λ l. all_but_last p.segments ++ l) behind
+  segments_are = ap (λ l. l ++ back) (cut ∙ ap all_but_last base) ∙ ap (λ l. all_but_last p.segments ++ l) following
 
   length_is : length front + length back ≡ length (merged p q).segments
   length_is = sym (length-append front back) ∙ ap length segments_are

@@ -19,8 +19,8 @@ not_canonical s n = by_test (is_canonical s) refl
     by_test false e = refl
 
 -- no canonical segment has to be copied
-pub no_strays : (xs : List (List ℕ)) (at : ℕ) (s : List ℕ) → at < length xs → s ≡ get_or xs at s → (canonical s ≡ s → ⊥) → list_all is_canonical xs ≡ true → ⊥
-no_strays xs at s h read n e =
+pub no_non_canonical : (xs : List (List ℕ)) (at : ℕ) (s : List ℕ) → at < length xs → s ≡ get_or xs at s → (canonical s ≡ s → ⊥) → list_all is_canonical xs ≡ true → ⊥
+no_non_canonical xs at s h read n e =
     false≢true (sym (list_all_at is_canonical xs at s h (ap is_canonical (sym read) ∙ not_canonical s n)) ∙ e)
 
 -- ---- copying, from the first to the last

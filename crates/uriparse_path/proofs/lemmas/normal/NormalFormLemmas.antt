@@ -7,11 +7,11 @@ use Rattle.std.proofs.lemmas.List.Folds.{list_all-append}
 use Rattle.uriparse_text.specs.Bytes.{slash}
 use Rattle.uriparse_text.specs.Canonical.{canonical}
 use Rattle.uriparse_text.specs.Segment.{is_segment}
-use Rattle.uriparse_path.specs.Path.{PathParts, IsListed, text, is_slash, is_rooted, pieces, spelled, hides_root, respelled}
+use Rattle.uriparse_path.specs.Path.{PathParts, IsListed, text, is_slash, is_rooted, pieces, spelled, starts_with_empty_segment, respelled}
 use Rattle.uriparse_path.specs.Dots.{is_single_dot, is_double_dot, is_dot_segment, has_dot_segment, all_but_last, replay, rooted_after, replayed, undot}
 use Rattle.uriparse_path.specs.Dots.{without_dots}
 use Rattle.uriparse_path.specs.Relative.{is_first, has_colon, relative_normal}
-use Rattle.uriparse_path.specs.Normal.{canonical_path, stays_relative, pnormal, is_canonical, climbs_first, is_guarded, is_normal, are_normal}
+use Rattle.uriparse_path.specs.Normal.{canonical_path, stays_relative, pnormal, is_canonical, begins_with_double_dots, has_needed_leading_dot, is_normal, are_normal}
 use Rattle.uriparse_path.proofs.lemmas.text.PathTextLemmas.{text-spelled, spelled-text, listed-respelled, pieces-segments, lacks_slash, rooted-relative}
 use Rattle.uriparse_text.proofs.lemmas.canonical.DotLemmas.{canonical-nil}
 use Rattle.uriparse_path.proofs.lemmas.text.CanonicalTextLemmas.{canonical-text, length-canonical, listed-canonical, is_rooted-canonical}
@@ -243,10 +243,10 @@ spelled_canonical_undot p is =
 
 -- ---- whether a text begins with a slash
 
-pub rooted-text : (p : PathParts) → IsListed p.segments → is_rooted (text p) ≡ (p.absolute || hides_root p.segments)
+pub rooted-text : (p : PathParts) → IsListed p.segments → is_rooted (text p) ≡ (p.absolute || starts_with_empty_segment p.segments)
 rooted-text p is = by_shape p.absolute p.segments is
   where
-    by_shape : (a : Bool) (l : List (List ℕ)) → IsListed l → is_rooted (text (record { absolute = a; segments = l })) ≡ (a || hides_root l)
+    by_shape : (a : Bool) (l : List (List ℕ)) → IsListed l → is_rooted (text (record { absolute = a; segments = l })) ≡ (a || starts_with_empty_segment l)
     by_shape true l is = refl
     by_shape false [] is = absurd (omega (arith, is.some))
     by_shape false ([] ∷ []) is = refl
@@ -257,12 +257,12 @@ rooted-text p is = by_shape p.absolute p.segments is
 pub record Relative (p : PathParts) (r : Bool) : Type 0 where
   pub asked : r ≡ true
   pub flag : p.absolute ≡ false
-  pub shown : hides_root p.segments ≡ false
+  pub shown : starts_with_empty_segment p.segments ≡ false
 
 pub relative : (p : PathParts) (r : Bool) → IsListed p.segments → stays_relative p r ≡ true → Relative p r
 relative p r is h =
     let both = and_parts r (not (is_rooted (text p))) h in
-    let parts = or_parts p.absolute (hides_root p.segments) (sym (rooted-text p is) ∙ not-true (is_rooted (text p)) both.1) in
+    let parts = or_parts p.absolute (starts_with_empty_segment p.segments) (sym (rooted-text p is) ∙ not-true (is_rooted (text p)) both.1) in
     record { asked = both.0; flag = parts.0; shown = parts.1 }
 
 not_relative : (r v : Bool) → (r && not v) ≡ false → r ≡ true → v ≡ true
@@ -312,7 +312,7 @@ none_in_normal p is =
 
 -- the test of the case
 abbrev is_normal_by : Bool → PathParts → Bool
-is_normal_by v p = list_all is_canonical p.segments && cond v (climbs_first p.segments || is_guarded p.segments) (not (has_dot_segment p.segments))
+is_normal_by v p = list_all is_canonical p.segments && cond v (begins_with_double_dots p.segments || has_needed_leading_dot p.segments) (not (has_dot_segment p.segments))
 
 pub normal_iff : (p : PathParts) (r : Bool) → IsListed p.segments → (is_normal p r ≡ true) ↔ (text (pnormal p r) ≡ text p)
 normal_iff p r is = by_case p r (λ q. (is_normal p r ≡ true) ↔ (text q ≡ text p))
@@ -321,8 +321,8 @@ normal_iff p r is = by_case p r (λ q. (is_normal p r ≡ true) ↔ (text q ≡ 
     (λ e k. subst (λ v. (is_normal_by v p ≡ true) ↔ (text (spelled (canonical (undot (text p)))) ≡ text p)) (sym e) (never k))
     (λ e k. subst (λ v. (is_normal_by v p ≡ true) ↔ (text (canonical_path p) ≡ text p)) (sym e) (spelled_itself k))
   where
-    by_flag : (a : Bool) (l : List (List ℕ)) → IsListed l → a ≡ false → hides_root l ≡ false
-        → ((list_all is_canonical l && (climbs_first l || is_guarded l)) ≡ true)
+    by_flag : (a : Bool) (l : List (List ℕ)) → IsListed l → a ≡ false → starts_with_empty_segment l ≡ false
+        → ((list_all is_canonical l && (begins_with_double_dots l || has_needed_leading_dot l)) ≡ true)
         ↔ (text (record { absolute = false; segments = relative_normal l }) ≡ text (record { absolute = a; segments = l }))
     by_flag true l is h k = absurd (false≢true (sym h))
     by_flag false l is h k =
@@ -401,7 +401,7 @@ pnormal_spelled p r is h = by_case p r (λ q. spelled (text q) ≡ q)
 pub pnormal_absolute : (p : PathParts) (r : Bool) → IsListed p.segments → p.absolute ≡ true → (pnormal p r).absolute ≡ true
 pnormal_absolute p r is h = by_case p r (λ q. q.absolute ≡ true)
     (λ e. absurd (false≢true (sym (relative p r is e).flag ∙ h)))
-    (λ e k. is_rooted-canonical (undot (text p)) ∙ rooted_undot (text p) (rooted-text p is ∙ ap (λ v. v || hides_root p.segments) h))
+    (λ e k. is_rooted-canonical (undot (text p)) ∙ rooted_undot (text p) (rooted-text p is ∙ ap (λ v. v || starts_with_empty_segment p.segments) h))
     (λ e k. h)
 
 -- a path that is unchanged keeps its parts
@@ -415,7 +415,7 @@ normal_kept p r is n = by_case p r (λ q. text q ≡ text p → q ≡ p)
     (text_same p.absolute (map canonical p.segments) p.segments (listed-canonical p.segments is) is g))
     ((normal_iff p r is).0 n)
   where
-    by_flag : (a : Bool) (l : List (List ℕ)) → IsListed l → a ≡ false → hides_root l ≡ false
+    by_flag : (a : Bool) (l : List (List ℕ)) → IsListed l → a ≡ false → starts_with_empty_segment l ≡ false
         → text (record { absolute = false; segments = relative_normal l }) ≡ text (record { absolute = a; segments = l })
         → ◌≡◌ {A = PathParts} (record { absolute = false; segments = relative_normal l }) (record { absolute = a; segments = l })
     by_flag true l is h k g = absurd (false≢true (sym h))

@@ -10,7 +10,7 @@ use Rattle.uriparse_text.specs.Segment.{is_segment}
 use Rattle.uriparse_path.specs.Path.{PathParts, IsListed, text, spelled, respelled, IsPath, pieces, is_rooted}
 use Rattle.uriparse_path.specs.Dots.{is_single_dot, is_double_dot, is_dot_segment, has_dot_segment, all_but_last, replay, is_one, rooted_after, replayed, undot}
 use Rattle.uriparse_path.specs.Dots.{without_dots}
-use Rattle.uriparse_path.specs.Relative.{is_last, closed, needs_guard, guarded, filled, put, put_all, reduced, relative_normal}
+use Rattle.uriparse_path.specs.Relative.{is_last, closed, needs_leading_dot, with_leading_dot, filled, put, put_all, reduced, relative_normal}
 use Rattle.uriparse_path.specs.Normal.{canonical_path, stays_relative, pnormal}
 use Rattle.uriparse_path.proofs.lemmas.text.PathTextLemmas.{text-spelled}
 use Rattle.uriparse_text.proofs.lemmas.canonical.DotLemmas.{canonical-nil}
@@ -18,7 +18,7 @@ use Rattle.uriparse_path.proofs.lemmas.text.CanonicalTextLemmas.{listed-canonica
 use Rattle.uriparse_text.proofs.lemmas.canonical.DotLemmas.{canonical-dot}
 use Rattle.uriparse_path.proofs.lemmas.dots.DotSegmentLemmas.{single-canonical, double-canonical, dot-canonical}
 use Rattle.uriparse_text.proofs.lemmas.canonical.DotLemmas.{empty_segment}
-use Rattle.uriparse_path.proofs.lemmas.normal.RelativeFormLemmas.{all_put, dot_segment, shaped, relative_is, guard-canonical, has_dot-canonical}
+use Rattle.uriparse_path.proofs.lemmas.normal.RelativeFormLemmas.{all_put, dot_segment, shaped, relative_is, truncate_with_leading_dot-canonical, has_dot-canonical}
 use Rattle.uriparse_path.proofs.lemmas.normal.RelativeFormLemmas.{all_canonical_same}
 use Rattle.uriparse_path.proofs.lemmas.normal.RelativeFormLemmas.{all_canonical-canonical, each_reduced, each_shaped}
 use Rattle.uriparse_path.proofs.lemmas.normal.NormalFormLemmas.{spelled_undot, spelled_canonical_undot, respelled-canonical, pnormal_dots, pnormal_plain, undot_path}
@@ -162,13 +162,13 @@ closed-canonical ended (s ∷ m) h =
     by_test true = sym (push_empty-canonical (s ∷ m))
     by_test false = refl
 
-guarded_list-canonical : (old new : List (List ℕ)) → guarded (map canonical old) (map canonical new) ≡ map canonical (guarded old new)
+guarded_list-canonical : (old new : List (List ℕ)) → with_leading_dot (map canonical old) (map canonical new) ≡ map canonical (with_leading_dot old new)
 guarded_list-canonical old new =
-    ap (λ v. cond v ((dot ∷ []) ∷ map canonical new) (map canonical new)) (guard-canonical old new) ∙ by_guard (needs_guard old new)
+    ap (λ v. cond v ((dot ∷ []) ∷ map canonical new) (map canonical new)) (truncate_with_leading_dot-canonical old new) ∙ by_leading_dot (needs_leading_dot old new)
   where
-    by_guard : (v : Bool) → cond v ((dot ∷ []) ∷ map canonical new) (map canonical new) ≡ map canonical (cond v ((dot ∷ []) ∷ new) new)
-    by_guard true = ap (λ u. u ∷ map canonical new) (sym canonical-dot)
-    by_guard false = refl
+    by_leading_dot : (v : Bool) → cond v ((dot ∷ []) ∷ map canonical new) (map canonical new) ≡ map canonical (cond v ((dot ∷ []) ∷ new) new)
+    by_leading_dot true = ap (λ u. u ∷ map canonical new) (sym canonical-dot)
+    by_leading_dot false = refl
 
 filled-canonical : (l : List (List ℕ)) → filled (map canonical l) ≡ map canonical (filled l)
 filled-canonical [] = ap (λ u. u ∷ []) (sym canonical-nil)
@@ -178,11 +178,11 @@ filled-canonical (s ∷ l) = refl
 pub shaped-canonical : (l : List (List ℕ)) → list_all is_segment l ≡ true → list_all is_segment (reduced l) ≡ true →
     shaped (map canonical l) ≡ relative_normal l
 shaped-canonical l h k =
-    ap (λ v. filled (guarded (map canonical l) (closed v (reduced (map canonical l))))) (last-canonical is_dot_segment dot-canonical l h)
-    ∙ ap (λ m. filled (guarded (map canonical l) (closed (is_last is_dot_segment l) m))) (reduced-canonical l h)
-    ∙ ap (λ m. filled (guarded (map canonical l) m)) (closed-canonical (is_last is_dot_segment l) (reduced l) k)
+    ap (λ v. filled (with_leading_dot (map canonical l) (closed v (reduced (map canonical l))))) (last-canonical is_dot_segment dot-canonical l h)
+    ∙ ap (λ m. filled (with_leading_dot (map canonical l) (closed (is_last is_dot_segment l) m))) (reduced-canonical l h)
+    ∙ ap (λ m. filled (with_leading_dot (map canonical l) m)) (closed-canonical (is_last is_dot_segment l) (reduced l) k)
     ∙ ap filled (guarded_list-canonical l (closed (is_last is_dot_segment l) (reduced l)))
-    ∙ filled-canonical (guarded l (closed (is_last is_dot_segment l) (reduced l)))
+    ∙ filled-canonical (with_leading_dot l (closed (is_last is_dot_segment l) (reduced l)))
     ∙ sym (relative_is l)
 
 -- ---- canonical spelling does not change the result

@@ -28,7 +28,7 @@ use Rattle.uriparse_text.specs.Segment.{error_of}
 use Rattle.uriparse_path.specs.Path.{is_slash}
 use Rattle.uriparse_path.specs.Faults.{fault_within, ends_path, path_front}
 use Rattle.uriparse_path.proofs.lemmas.text.SplitLemmas.{pieces-slash}
-use Rattle.uriparse_path.proofs.lemmas.reading.FaultLemmas.{SameFrom, behind_plain, behind_sign, behind_slash, at_limit, faulty_byte, no_more}
+use Rattle.uriparse_path.proofs.lemmas.reading.FaultLemmas.{SameFrom, after_plain, after_sign, after_slash, at_limit, faulty_byte, no_more}
 
 -- what the walk returns for a whole text
 abbrev pub answer : ℕ → List ℕ → Result (ℕ × ℕ) PathError
@@ -58,7 +58,7 @@ counted_along limit t count rest after is step = record {
 pub counted_plain : (limit : ℕ) (t : List ℕ) (count b : ℕ) (after : List ℕ) → IsCounted limit t count (b ∷ after) → is_plain Segment b ≡ true
     → IsCounted limit t count after
 counted_plain limit t count b after is plain =
-    counted_along limit t count (b ∷ after) after is (behind_plain (limit - count) b after plain)
+    counted_along limit t count (b ∷ after) after is (after_plain (limit - count) b after plain)
 
 pub counted_slash : (limit : ℕ) (t : List ℕ) (count b : ℕ) (after : List ℕ) → IsCounted limit t count (b ∷ after) → is_slash b ≡ true → count ≢ limit
     → IsCounted limit t (count + 1) after
@@ -70,7 +70,7 @@ counted_slash limit t count b after is e room =
       some = omega arith;
       short = short;
       counted = omega (arith, is.counted, long);
-      same = sym (behind_slash (limit - (count + 1)) b after e) ∙ ap (λ n. fault_within (n + 1) (slice_split is_slash (b ∷ after))) (sym left) ∙ is.same;
+      same = sym (after_slash (limit - (count + 1)) b after e) ∙ ap (λ n. fault_within (n + 1) (slice_split is_slash (b ∷ after))) (sym left) ∙ is.same;
     }
 
 pub counted_full : (limit : ℕ) (t : List ℕ) (count b : ℕ) (after : List ℕ) → IsCounted limit t count (b ∷ after) → is_slash b ≡ true → count ≡ limit
@@ -95,7 +95,7 @@ counted_end limit t count is =
 pub counted_sign : (limit : ℕ) (t : List ℕ) (count b : ℕ) (after : List ℕ) → IsCounted limit t count (b ∷ after) → is_escape b after ≡ true
     → IsCounted limit t count after
 counted_sign limit t count b after is escape =
-    counted_along limit t count (b ∷ after) after is (behind_sign (limit - count) b after escape)
+    counted_along limit t count (b ∷ after) after is (after_sign (limit - count) b after escape)
 
 -- ---- a byte with which the path goes on
 
@@ -192,8 +192,8 @@ module _ (limit : ℕ) (ends : Bool) (t : List ℕ) where
   reached_up_to : (count i to : ℕ) → IsReached count i → i ≤ to → to ≤ length t
       → ((j : ℕ) → i ≤ j → j < to → is_plain Segment (get_or t j 0) ≡ true) → IsReached count to
   reached_up_to count i to is le room plain =
-      let place : i + (to - i) ≡ to = omega arith in
-      subst (IsReached count) place (reached_plains count i (to - i) is (omega arith) (λ j low high. plain j low (omega arith)))
+      let offset : i + (to - i) ≡ to = omega arith in
+      subst (IsReached count) offset (reached_plains count i (to - i) is (omega arith) (λ j low high. plain j low (omega arith)))
 
   -- of these bytes those before some place are counted, and the others are plain if their bit is unset
   pub record IsRun (at n count left : ℕ) : Type 0 where
@@ -221,8 +221,8 @@ module _ (limit : ℕ) (ends : Bool) (t : List ℕ) where
       → (j : ℕ) → is.here ≤ j → j < at + to → is_plain Segment (get_or t j 0) ≡ true
   run_plain at n count left to is short unset j from below =
       let low = is.low in
-      let place : at + (j - at) ≡ j = omega arith in
-      subst (λ i. is_plain Segment (get_or t i 0) ≡ true) place (is.passed (j - at) (omega arith) (omega arith) (unset (j - at) (omega arith)))
+      let offset : at + (j - at) ≡ j = omega arith in
+      subst (λ i. is_plain Segment (get_or t i 0) ≡ true) offset (is.passed (j - at) (omega arith) (omega arith) (unset (j - at) (omega arith)))
 
   pub run_within : (at n count left k : ℕ) → IsRun at n count left → bit_at left k ≡ 1 → at + k < length t
   run_within at n count left k is set = let short = (is.waiting k set).1 in let room = is.room in omega arith
@@ -282,8 +282,8 @@ module _ (limit : ℕ) (ends : Bool) (t : List ℕ) where
       let next = ones_next slashes j in
       let unset = unset_is_other at n slashes count j are h other in
       let same : count + count_ones (slashes % 2 ^ j) ≡ count + count_ones (slashes % 2 ^ (j + 1)) = omega (arith, next, unset) in
-      let place : at + j + 1 ≡ at + (j + 1) = omega arith in
-      subst (IsReached (count + count_ones (slashes % 2 ^ (j + 1)))) place (subst (λ c. IsReached c (at + j + 1)) same reached)
+      let offset : at + j + 1 ≡ at + (j + 1) = omega arith in
+      subst (IsReached (count + count_ones (slashes % 2 ^ (j + 1)))) offset (subst (λ c. IsReached c (at + j + 1)) same reached)
 
   swept_next : (at n slashes count j : ℕ) → AreSlashes at n slashes count → j < n
       → (bit_at slashes j ≡ 0 → is_plain Segment (get_or t (at + j) 0) ≡ true) → IsSwept at slashes count j → IsSwept at slashes count (j + 1)
@@ -305,8 +305,8 @@ module _ (limit : ℕ) (ends : Bool) (t : List ℕ) where
           let reached = reached_on so_far (so_far + 1) (at + j) is within goes
           (counted_slash limit (path_front ends t) so_far b (path_front ends (drop (at + j + 1) t)) here e free) in
           let same : so_far + 1 ≡ count + count_ones (slashes % 2 ^ (j + 1)) = omega (arith, next, set) in
-          let place : at + j + 1 ≡ at + (j + 1) = omega arith in
-          subst (IsReached (count + count_ones (slashes % 2 ^ (j + 1)))) place (subst (λ c. IsReached c (at + j + 1)) same reached)
+          let offset : at + j + 1 ≡ at + (j + 1) = omega arith in
+          subst (IsReached (count + count_ones (slashes % 2 ^ (j + 1)))) offset (subst (λ c. IsReached c (at + j + 1)) same reached)
       by_test false e =
           let room = are.room in
           swept_same at n slashes count j are h e
@@ -319,15 +319,15 @@ module _ (limit : ℕ) (ends : Bool) (t : List ℕ) where
       let same : from ≡ from + 0 = omega arith in subst (IsSwept at slashes count) same is
   swept_more at n slashes count from (suc d) are h plain is =
       let before = swept_more at n slashes count from d are (omega arith) (λ j low high. plain j low (omega arith)) is in
-      let place : from + d + 1 ≡ from + suc d = omega arith in
-      subst (IsSwept at slashes count) place (swept_next at n slashes count (from + d) are (omega arith) (plain (from + d) (omega arith) (omega arith)) before)
+      let offset : from + d + 1 ≡ from + suc d = omega arith in
+      subst (IsSwept at slashes count) offset (swept_next at n slashes count (from + d) are (omega arith) (plain (from + d) (omega arith) (omega arith)) before)
 
   swept_up_to : (at n slashes count from to : ℕ) → AreSlashes at n slashes count → from ≤ to → to ≤ n
       → ((j : ℕ) → from ≤ j → j < to → bit_at slashes j ≡ 0 → is_plain Segment (get_or t (at + j) 0) ≡ true)
       → IsSwept at slashes count from → IsSwept at slashes count to
   swept_up_to at n slashes count from to are le h plain is =
-      let place : from + (to - from) ≡ to = omega arith in
-      subst (IsSwept at slashes count) place
+      let offset : from + (to - from) ≡ to = omega arith in
+      subst (IsSwept at slashes count) offset
       (swept_more at n slashes count from (to - from) are (omega arith) (λ j low high. plain j low (omega arith)) is)
 
   -- those before some place are swept, and the others are plain if neither mask has their bit
@@ -350,12 +350,12 @@ module _ (limit : ℕ) (ends : Bool) (t : List ℕ) where
       → ((k : ℕ) → k < 64 → bit_at left k ≡ 0 → bit_at marks k ≡ 1 → bit_at slashes k ≡ 1) → IsSweep at n slashes count left
   sweep_begins at n slashes count marks left are few is outs no_more gone =
       let none : count ≡ count + count_ones (slashes % 2 ^ 0) = omega (arith, ones_none slashes) in
-      let place : at ≡ at + 0 = omega arith in
+      let offset : at ≡ at + 0 = omega arith in
       record {
         are = are;
         here = 0;
         high = omega arith;
-        swept = subst (IsReached (count + count_ones (slashes % 2 ^ 0))) place (subst (λ c. IsReached c at) none is);
+        swept = subst (IsReached (count + count_ones (slashes % 2 ^ 0))) offset (subst (λ c. IsReached c at) none is);
         passed = λ k _ h unset other.
             unset_is_plain Segment t at n marks k outs h (unmarked k h unset other);
         waiting = λ k set.

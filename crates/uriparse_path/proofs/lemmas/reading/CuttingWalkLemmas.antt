@@ -82,8 +82,8 @@ module _ (t : List ℕ) (items : List (List ℕ)) (start at n left : ℕ) (is : 
   no_slash to short unset j from before = elim (cases_lt j at) [
     | inl below ↦ is.none j from below
     | inr past ↦
-        let place : at + (j - at) ≡ j = omega arith in
-        subst (λ i. is_slash (get_or t i 0) ≡ false) place (is.passed (j - at) (omega arith) (omega arith) (unset (j - at) (omega arith)))
+        let offset : at + (j - at) ≡ j = omega arith in
+        subst (λ i. is_slash (get_or t i 0) ≡ false) offset (is.passed (j - at) (omega arith) (omega arith) (unset (j - at) (omega arith)))
   ]
 
   pub run_ends : left ≡ 0 → IsCutTo t items start (at + n)
@@ -117,10 +117,10 @@ module _ (t : List ℕ) (items : List (List ℕ)) (start at n left : ℕ) (is : 
     pieces : slice_split is_slash (drop start t) ≡ piece ∷ slice_split is_slash (drop (at + k + 1) t)
     pieces =
         let from = before_mark in
-        let place : start + (at + k - start) ≡ at + k = omega arith in
+        let offset : start + (at + k - start) ≡ at + k = omega arith in
         let cut : drop start t ≡ piece ++ get_or t (at + k) 0 ∷ drop (at + k + 1) t =
         sym (take-append-drop (at + k - start) (drop start t))
-        ∙ ap (λ r. piece ++ r) (drop-drop (at + k - start) start t ∙ ap (λ i. drop i t) place ∙ drop_more t (at + k) 0 within_run) in
+        ∙ ap (λ r. piece ++ r) (drop-drop (at + k - start) start t ∙ ap (λ i. drop i t) offset ∙ drop_more t (at + k) 0 within_run) in
         ap (slice_split is_slash) cut ∙ slice_split_at is_slash piece (get_or t (at + k) 0) (drop (at + k + 1) t) slashless ((is.waiting k set).2)
 
     pub whole_with : items ++ piece ∷ slice_split is_slash (drop (at + k + 1) t) ≡ slice_split is_slash t

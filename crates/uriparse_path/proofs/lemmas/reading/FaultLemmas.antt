@@ -87,16 +87,16 @@ plain_not_slash b plain = other_than_slash (is_plain Segment) b slash_not_plain 
 pub hex_not_slash : (b : ℕ) → is_hex b ≡ true → is_slash b ≡ false
 hex_not_slash b h = other_than_slash is_hex b refl h
 
-pub behind_plain : (n b : ℕ) (after : List ℕ) → is_plain Segment b ≡ true → SameFrom n (b ∷ after) after
-behind_plain n b after plain =
+pub after_plain : (n b : ℕ) (after : List ℕ) → is_plain Segment b ≡ true → SameFrom n (b ∷ after) after
+after_plain n b after plain =
     let is = cut after in
     same_first n (b ∷ after) after (b ∷ is.first) is.first is.others (pieces-byte b after (plain_not_slash b plain) is) is.pieces
     (ap (option_map segment.error_of) (fault-plain Segment b is.first plain))
 
-pub behind_escape : (n b : ℕ) (after : List ℕ) → is_escape b after ≡ true → SameFrom n (b ∷ after) (drop 2 after)
-behind_escape n b [] h = cc
-behind_escape n b (c ∷ []) h = cc
-behind_escape n b (high ∷ low ∷ rest) h =
+pub after_escape : (n b : ℕ) (after : List ℕ) → is_escape b after ≡ true → SameFrom n (b ∷ after) (drop 2 after)
+after_escape n b [] h = cc
+after_escape n b (c ∷ []) h = cc
+after_escape n b (high ∷ low ∷ rest) h =
     let is = cut rest in
     let outer = and_parts (b == percent && is_hex high) (is_hex low) h in
     let inner = and_parts (b == percent) (is_hex high) outer.0 in
@@ -111,20 +111,20 @@ behind_escape n b (high ∷ low ∷ rest) h =
     (ap (option_map segment.error_of) (fault-escape Segment b (high ∷ low ∷ is.first) h))
 
 -- so does its `%` alone, since its digits are bytes of the class,
-pub behind_sign : (n b : ℕ) (after : List ℕ) → is_escape b after ≡ true → SameFrom n (b ∷ after) after
-behind_sign n b [] h = cc
-behind_sign n b (c ∷ []) h = cc
-behind_sign n b (high ∷ low ∷ rest) h =
-    let whole = behind_escape n b (high ∷ low ∷ rest) h in
+pub after_sign : (n b : ℕ) (after : List ℕ) → is_escape b after ≡ true → SameFrom n (b ∷ after) after
+after_sign n b [] h = cc
+after_sign n b (c ∷ []) h = cc
+after_sign n b (high ∷ low ∷ rest) h =
+    let whole = after_escape n b (high ∷ low ∷ rest) h in
     let both = and_parts (is_hex high) (is_hex low) (escape_at b (high ∷ low ∷ rest) h).digits in
-    let first = behind_plain n high (low ∷ rest) (hex_plain Segment high both.0) in
-    let second = behind_plain n low rest (hex_plain Segment low both.1) in
+    let first = after_plain n high (low ∷ rest) (hex_plain Segment high both.0) in
+    let second = after_plain n low rest (hex_plain Segment low both.1) in
     record { pieces = whole.pieces ∙ sym second.pieces ∙ sym first.pieces; fault = whole.fault ∙ sym second.fault ∙ sym first.fault }
 
 -- a slash starts one segment more,
-pub behind_slash : (n b : ℕ) (after : List ℕ) → is_slash b ≡ true
+pub after_slash : (n b : ℕ) (after : List ℕ) → is_slash b ≡ true
     → fault_within (n + 1 + 1) (slice_split is_slash (b ∷ after)) ≡ fault_within (n + 1) (slice_split is_slash after)
-behind_slash n b after e =
+after_slash n b after e =
     rw (pieces-slash b after e, within-cons (n + 1) [] (slice_split is_slash after), empty_segment) refl
 
 -- or one too many

@@ -36,14 +36,14 @@ split-append (b ∷ s) t = by_test (is_slash b) refl (split-append s t)
         slice_split-cons_no is_slash b (s ++ slash ∷ t) e ∙ ap (onto_first b) (k ∙ ap (λ l. l ++ slice_split is_slash t) is.pieces)
         ∙ ap (λ l. l ++ slice_split is_slash t) (sym (pieces-byte b s e is))
 
-pieces-behind : (front behind : List ℕ) → 1 < length (pieces front) → pieces (front ++ slash ∷ behind) ≡ pieces front ++ slice_split is_slash behind
-pieces-behind [] behind h = absurd (omega arith)
-pieces-behind (b ∷ f) behind h = by_test (is_slash b)
+pieces-following : (front following : List ℕ) → 1 < length (pieces front) → pieces (front ++ slash ∷ following) ≡ pieces front ++ slice_split is_slash following
+pieces-following [] following h = absurd (omega arith)
+pieces-following (b ∷ f) following h = by_test (is_slash b)
   where
-    by_test : (v : Bool) → slice_split is_slash (cond v (f ++ slash ∷ behind) (b ∷ (f ++ slash ∷ behind)))
-        ≡ slice_split is_slash (cond v f (b ∷ f)) ++ slice_split is_slash behind
-    by_test true = split-append f behind
-    by_test false = split-append (b ∷ f) behind
+    by_test : (v : Bool) → slice_split is_slash (cond v (f ++ slash ∷ following) (b ∷ (f ++ slash ∷ following)))
+        ≡ slice_split is_slash (cond v f (b ∷ f)) ++ slice_split is_slash following
+    by_test true = split-append f following
+    by_test false = split-append (b ∷ f) following
 
 -- ---- one segment more
 
@@ -57,11 +57,11 @@ beyond n ps qs full each some =
     longer : (n m : ℕ) → n < m → nat_lt n m ≡ true
     longer n m h = grind (arith, nat_tests)
 
-at_slash : (front behind : List ℕ) → fault front ≡ None → length (pieces front) ≡ max_segments → fault (front ++ slash ∷ behind) ≡ Some ExceededMaximumLength
+at_slash : (front following : List ℕ) → fault front ≡ None → length (pieces front) ≡ max_segments → fault (front ++ slash ∷ following) ≡ Some ExceededMaximumLength
 unfolding fault max_segments
-at_slash front behind none full =
-    ap (fault_within max_segments) (pieces-behind front behind (omega (arith, full)))
-    ∙ beyond max_segments (pieces front) (slice_split is_slash behind) full ((within_none max_segments (pieces front)).0 none).1 (some_pieces behind)
+at_slash front following none full =
+    ap (fault_within max_segments) (pieces-following front following (omega (arith, full)))
+    ∙ beyond max_segments (pieces front) (slice_split is_slash following) full ((within_none max_segments (pieces front)).0 none).1 (some_pieces following)
 
 -- ---- where it is
 
@@ -112,9 +112,9 @@ never_memory t h = by_fault (first_fault (take max_segments (pieces t))) refl h
     by_fault (Some x) e k = no_want (first_told (take max_segments (pieces t)) OutOfMemory (e ∙ k))
 
 -- the segments within the limit have no fault, and there is one more
-long_behind : (n : ℕ) (ps : List (List ℕ)) → fault_within n ps ≡ Some ExceededMaximumLength
+long_after : (n : ℕ) (ps : List (List ℕ)) → fault_within n ps ≡ Some ExceededMaximumLength
     → (list_all segment.is_segment (take n ps) ≡ true) × (n < length ps)
-long_behind n ps h = by_fault (first_fault (take n ps)) refl h
+long_after n ps h = by_fault (first_fault (take n ps)) refl h
   where
     by_test : (v : Bool) → nat_lt n (length ps) ≡ v → cond v (Some ExceededMaximumLength) None ≡ Some ExceededMaximumLength → n < length ps
     by_test true e k = grind (arith, nat_tests)
@@ -133,15 +133,15 @@ joined-append s (q ∷ ss) r rs =
     ∙ sym (append_assoc s (slash ∷ join_with_byte slash (q ∷ ss)) (slash ∷ join_with_byte slash (r ∷ rs)))
 
 -- the text of some segments, if more text after them has the same flag
-pieces-front : (a : Bool) (s : List ℕ) (ss : List (List ℕ)) (behind : List ℕ) → list_all segment.is_segment (s ∷ ss) ≡ true
-    → is_rooted (path.text (record { absolute = a; segments = s ∷ ss }) ++ behind) ≡ a
+pieces-front : (a : Bool) (s : List ℕ) (ss : List (List ℕ)) (following : List ℕ) → list_all segment.is_segment (s ∷ ss) ≡ true
+    → is_rooted (path.text (record { absolute = a; segments = s ∷ ss }) ++ following) ≡ a
     → pieces (path.text (record { absolute = a; segments = s ∷ ss })) ≡ s ∷ ss
-pieces-front true s ss behind each e = pieces-segments s ss each
-pieces-front false s ss behind each e =
+pieces-front true s ss following each e = pieces-segments s ss each
+pieces-front false s ss following each e =
     let joined = join_with_byte slash (s ∷ ss) in
     ap (λ p. p.segments) (spelled-relative joined (not_rooted joined e)) ∙ pieces-segments s ss each
   where
-    not_rooted : (t : List ℕ) → is_rooted (t ++ behind) ≡ false → is_rooted t ≡ false
+    not_rooted : (t : List ℕ) → is_rooted (t ++ following) ≡ false → is_rooted t ≡ false
     not_rooted [] h = refl
     not_rooted (b ∷ t) h = h
 
@@ -153,14 +153,14 @@ cut_front n t (s ∷ ss) [] is e full low some each = absurd (omega arith)
 cut_front n t (s ∷ ss) (r ∷ rs) is e full low some each =
     let a = is_rooted t in
     let front = path.text (record { absolute = a; segments = s ∷ ss }) in
-    let behind = join_with_byte slash (r ∷ rs) in
-    let whole : t ≡ front ++ slash ∷ behind =
+    let following = join_with_byte slash (r ∷ rs) in
+    let whole : t ≡ front ++ slash ∷ following =
     sym (text-spelled t) ∙ ap (λ l. root a ++ join_with_byte slash l) e ∙ ap (λ u. root a ++ u) (joined-append s ss r rs)
-    ∙ sym (append_assoc (root a) (join_with_byte slash (s ∷ ss)) (slash ∷ behind)) in
-    let pieced : pieces front ≡ s ∷ ss = pieces-front a s ss (slash ∷ behind) each (sym (ap is_rooted whole)) in
+    ∙ sym (append_assoc (root a) (join_with_byte slash (s ∷ ss)) (slash ∷ following)) in
+    let pieced : pieces front ≡ s ∷ ss = pieces-front a s ss (slash ∷ following) each (sym (ap is_rooted whole)) in
     record {
       front = front;
-      behind = behind;
+      following = following;
       whole = whole;
       none = (within_none max_segments (pieces front)).1 (omega (arith, ap length pieced, full, is), ap (list_all segment.is_segment) pieced ∙ each);
       full = ap length pieced ∙ full ∙ is;
@@ -169,8 +169,8 @@ cut_front n t (s ∷ ss) (r ∷ rs) is e full low some each =
 pub limit_passed : (t : List ℕ) → (fault t ≡ Some ExceededMaximumLength) ↔ PassesLimit t
 unfolding fault max_segments
 limit_passed t = (
-  λ h. let is = long_behind max_segments (pieces t) h in
+  λ h. let is = long_after max_segments (pieces t) h in
       cut_front max_segments t (take max_segments (pieces t)) (drop max_segments (pieces t)) refl (sym (take-append-drop max_segments (pieces t)))
       (length-take-le max_segments (pieces t) (omega (arith, is.1))) (omega arith) (omega (arith, is.1, length-drop max_segments (pieces t))) is.0,
-  λ p. subst (λ u. fault u ≡ Some ExceededMaximumLength) (sym p.whole) (at_slash p.front p.behind p.none p.full),
+  λ p. subst (λ u. fault u ≡ Some ExceededMaximumLength) (sym p.whole) (at_slash p.front p.following p.none p.full),
 )

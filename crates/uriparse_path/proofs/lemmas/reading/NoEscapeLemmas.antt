@@ -61,8 +61,8 @@ pub free_to : (t : List ℕ) (at n left k : ℕ) → IsFreeRun t at n left → k
 free_to t at n left k is short unset j h = elim (cases_lt j at) [
   | inl below ↦ is.before j below
   | inr past ↦
-      let place : at + (j - at) ≡ j = omega arith in
-      subst (λ i. (get_or t i 0 == percent) ≡ false) place (is.passed (j - at) (omega arith) (unset (j - at) (omega arith)))
+      let offset : at + (j - at) ≡ j = omega arith in
+      subst (λ i. (get_or t i 0 == percent) ≡ false) offset (is.passed (j - at) (omega arith) (unset (j - at) (omega arith)))
 ]
 
 pub free_lacks : (t : List ℕ) (n : ℕ) → IsFree t n → lacks percent (take n t) ≡ true

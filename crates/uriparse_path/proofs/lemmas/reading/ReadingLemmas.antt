@@ -38,9 +38,9 @@ front_unrooted (b ∷ t) = by_slash (is_slash b) refl
     by_slash true e = ap (λ w. unrooted (cond w [] (b ∷ up_to ends_path t))) (not_end b e) ∙ ap (λ v. cond v (up_to ends_path t) (b ∷ up_to ends_path t)) e
     by_slash false e = by_end (ends_path b) e
 
-behind_unrooted : (t : List ℕ) → from_first ends_path (unrooted t) ≡ from_first ends_path t
-behind_unrooted [] = refl
-behind_unrooted (b ∷ t) = by_slash (is_slash b) refl
+after_unrooted : (t : List ℕ) → from_first ends_path (unrooted t) ≡ from_first ends_path t
+after_unrooted [] = refl
+after_unrooted (b ∷ t) = by_slash (is_slash b) refl
   where
     by_slash : (v : Bool) → is_slash b ≡ v → from_first ends_path (cond v t (b ∷ t)) ≡ cond (ends_path b) (b ∷ t) (from_first ends_path t)
     by_slash true e = sym (ap (λ w. cond w (b ∷ t) (from_first ends_path t)) (not_end b e))
@@ -155,16 +155,16 @@ counted_len t n h = by_fault (fault_within MAX_SEGMENTS (slice_split is_slash t)
     by_fault (Some x) k = cc
 
 -- what follows it, and the path itself
-pub behind_front : (t rest : List ℕ) (n : ℕ) → rest ≡ unrooted t → n ≡ length (up_to ends_path (unrooted t)) → drop n rest ≡ from_first ends_path t
-behind_front t rest n is long =
+pub following_front : (t rest : List ℕ) (n : ℕ) → rest ≡ unrooted t → n ≡ length (up_to ends_path (unrooted t)) → drop n rest ≡ from_first ends_path t
+following_front t rest n is long =
     ap (drop n) is ∙ ap (λ m. drop m (unrooted t)) long
     ∙ ap (drop (length (up_to ends_path (unrooted t)))) (sym (cut-whole ends_path (unrooted t)))
-    ∙ drop-append_seam (up_to ends_path (unrooted t)) (from_first ends_path (unrooted t)) ∙ behind_unrooted t
+    ∙ drop-append_seam (up_to ends_path (unrooted t)) (from_first ends_path (unrooted t)) ∙ after_unrooted t
 
-pub front_before : (t behind : List ℕ) → behind ≡ from_first ends_path t → take (length t - length behind) t ≡ up_to ends_path t
-front_before t behind is =
+pub front_before : (t following : List ℕ) → following ≡ from_first ends_path t → take (length t - length following) t ≡ up_to ends_path t
+front_before t following is =
     let whole = cut-whole ends_path t in
     let long : length (up_to ends_path t) + length (from_first ends_path t) ≡ length t =
     sym (length-append (up_to ends_path t) (from_first ends_path t)) ∙ ap length whole in
-    let n : length t - length behind ≡ length (up_to ends_path t) = omega (arith, ap length is, long) in
+    let n : length t - length following ≡ length (up_to ends_path t) = omega (arith, ap length is, long) in
     ap (λ m. take m t) n ∙ ap (take (length (up_to ends_path t))) (sym whole) ∙ take-append_seam (up_to ends_path t) (from_first ends_path t)

@@ -17,18 +17,18 @@ use Rattle.uriparse_path.proofs.lemmas.list.SegmentCountLemmas.{unescaped_stays}
 use Rattle.uriparse_path.specs.Path.{is_slash}
 use Rattle.uriparse_path.specs.Normal.{is_canonical}
 use Rattle.uriparse_path.proofs.lemmas.normal.RelativeFormLemmas.{all_canonical_same}
-use Rattle.uriparse_path.proofs.lemmas.text.CanonicalTextLemmas.{canonical-behind, each-canonical, each_is_canonical}
+use Rattle.uriparse_path.proofs.lemmas.text.CanonicalTextLemmas.{canonical-following, each-canonical, each_is_canonical}
 use Rattle.uriparse_path.proofs.lemmas.text.PathTextLemmas.{pieces-segments}
-use Rattle.uriparse_path.proofs.lemmas.text.SplitLemmas.{joined-behind, joined-pieces, some_pieces}
+use Rattle.uriparse_path.proofs.lemmas.text.SplitLemmas.{joined-following, joined-pieces, some_pieces}
 
 canonical-joined : (s : List ℕ) (ss : List (List ℕ)) → list_all is_segment (s ∷ ss) ≡ true
     → canonical (join_with_byte slash (s ∷ ss)) ≡ join_with_byte slash (map canonical (s ∷ ss))
 canonical-joined s ss h =
     let each = and_parts _ _ h in
-    ap canonical (joined-behind s ss)
+    ap canonical (joined-following s ss)
     ∙ canonical_in-append Kept s (flat_map (λ r. slash ∷ r) ss) (well_formed-in_class Segment s each.0)
-    ∙ ap (λ u. canonical s ++ u) (canonical-behind ss each.1)
-    ∙ sym (joined-behind (canonical s) (map canonical ss))
+    ∙ ap (λ u. canonical s ++ u) (canonical-following ss each.1)
+    ∙ sym (joined-following (canonical s) (map canonical ss))
 
 -- a text and its segments
 unrooted_pieces : (u : List ℕ) (ss : List (List ℕ)) → slice_split is_slash u ≡ ss → list_all is_segment ss ≡ true → 0 < length ss

@@ -34,14 +34,14 @@ pub canonical-root : (a : Bool) (t : List ℕ) → canonical (root a ++ t) ≡ r
 canonical-root true t = canonical-slash t
 canonical-root false t = refl
 
-pub canonical-behind : (ss : List (List ℕ)) → list_all is_segment ss ≡ true →
+pub canonical-following : (ss : List (List ℕ)) → list_all is_segment ss ≡ true →
     canonical (flat_map (λ s. slash ∷ s) ss) ≡ flat_map (λ s. slash ∷ s) (map canonical ss)
-canonical-behind [] h = canonical-nil
-canonical-behind (s ∷ ss) h =
+canonical-following [] h = canonical-nil
+canonical-following (s ∷ ss) h =
     let both = and_parts _ _ h in
     canonical-slash (s ++ flat_map (λ r. slash ∷ r) ss)
     ∙ ap (λ u. slash ∷ u) (canonical_in-append Kept s (flat_map (λ r. slash ∷ r) ss) (well_formed-in_class Segment s both.0)
-    ∙ ap (λ u. canonical s ++ u) (canonical-behind ss both.1))
+    ∙ ap (λ u. canonical s ++ u) (canonical-following ss both.1))
 
 pub canonical-text : (p : PathParts) → IsListed p.segments → canonical (text p) ≡ text (canonical_path p)
 canonical-text p is = by_shape p.absolute p.segments is
@@ -54,7 +54,7 @@ canonical-text p is = by_shape p.absolute p.segments is
         ap canonical (text-cons a (s ∷ ss) s ss refl)
         ∙ canonical-root a (s ++ flat_map (λ r. slash ∷ r) ss)
         ∙ ap (λ u. root a ++ u) (canonical_in-append Kept s (flat_map (λ r. slash ∷ r) ss) (well_formed-in_class Segment s both.0)
-        ∙ ap (λ u. canonical s ++ u) (canonical-behind ss both.1))
+        ∙ ap (λ u. canonical s ++ u) (canonical-following ss both.1))
         ∙ sym (text-cons a (map canonical (s ∷ ss)) (canonical s) (map canonical ss) refl)
 
 pub each-canonical : (ss : List (List ℕ)) → list_all is_segment ss ≡ true → list_all is_segment (map canonical ss) ≡ true

@@ -11,8 +11,8 @@ use Rattle.uriparse_text.proofs.lemmas.canonical.CanonicalLemmas.{canonical_in-a
 use Rattle.uriparse_text.proofs.lemmas.classes.ClassLemmas.{well_formed-in_class, IsIn-canonical_in}
 use Rattle.uriparse_text.specs.Segment.{is_segment}
 use Rattle.uriparse_path.specs.Path.{is_slash, fed, fed_piece}
-use Rattle.uriparse_path.proofs.lemmas.text.CanonicalTextLemmas.{canonical-behind, each-canonical}
-use Rattle.uriparse_path.proofs.lemmas.text.SplitLemmas.{joined-behind}
+use Rattle.uriparse_path.proofs.lemmas.text.CanonicalTextLemmas.{canonical-following, each-canonical}
+use Rattle.uriparse_path.proofs.lemmas.text.SplitLemmas.{joined-following}
 use Rattle.uriparse_path.proofs.lemmas.text.PathTextLemmas.{pieces-segments}
 
 -- the pieces of a path's text in canonical spelling, by what precedes its first slash and the segments after it
@@ -21,8 +21,8 @@ canonical-pieces : (t front : List ℕ) (ss : List (List ℕ)) → t ≡ front +
 canonical-pieces t front ss e h k =
     ap (λ u. slice_split is_slash (canonical u)) e
     ∙ ap (slice_split is_slash) (canonical_in-append Kept front (flat_map (λ s. slash ∷ s) ss) (well_formed-in_class Segment front h)
-    ∙ ap (λ u. canonical front ++ u) (canonical-behind ss k)
-    ∙ sym (joined-behind (canonical front) (map canonical ss)))
+    ∙ ap (λ u. canonical front ++ u) (canonical-following ss k)
+    ∙ sym (joined-following (canonical front) (map canonical ss)))
     ∙ pieces-segments (canonical front) (map canonical ss) (and_from _ _ (IsIn-canonical_in Segment Kept front h) (each-canonical ss k))
 
 each_fed : (ss : List (List ℕ)) → flat_map fed_piece (map canonical ss) ≡ flat_map (λ s. fed_piece (canonical s)) ss
@@ -30,15 +30,15 @@ each_fed [] = refl
 each_fed (s ∷ ss) = ap (λ u. fed_piece (canonical s) ++ u) (each_fed ss)
 
 -- the first piece is fed, then the segments after it, then the end
-pub feeds_path : {S : Type 0} (write : S → List ℕ → S) (s : S) (t front : List ℕ) (behind : List (List ℕ)) → t ≡ front ++ flat_map (λ s. slash ∷ s) behind
-    → is_segment front ≡ true → list_all is_segment behind ≡ true
+pub feeds_path : {S : Type 0} (write : S → List ℕ → S) (s : S) (t front : List ℕ) (following : List (List ℕ)) → t ≡ front ++ flat_map (λ s. slash ∷ s) following
+    → is_segment front ≡ true → list_all is_segment following ≡ true
     → fold write s (fed (canonical t))
-    ≡ write (fold write (fold write s (fed_piece (canonical front))) (flat_map (λ s. fed_piece (canonical s)) behind)) (255 ∷ [])
+    ≡ write (fold write (fold write s (fed_piece (canonical front))) (flat_map (λ s. fed_piece (canonical s)) following)) (255 ∷ [])
 unfolding fed
-feeds_path write s t front behind e h k =
+feeds_path write s t front following e h k =
     let first = fed_piece (canonical front) in
-    let later = flat_map (λ s. fed_piece (canonical s)) behind in
-    ap (λ ps. fold write s (flat_map fed_piece ps ++ (255 ∷ []) ∷ [])) (canonical-pieces t front behind e h k)
-    ∙ ap (λ u. fold write s ((first ++ u) ++ (255 ∷ []) ∷ [])) (each_fed behind)
+    let later = flat_map (λ s. fed_piece (canonical s)) following in
+    ap (λ ps. fold write s (flat_map fed_piece ps ++ (255 ∷ []) ∷ [])) (canonical-pieces t front following e h k)
+    ∙ ap (λ u. fold write s ((first ++ u) ++ (255 ∷ []) ∷ [])) (each_fed following)
     ∙ fold-append write s (first ++ later) ((255 ∷ []) ∷ [])
     ∙ ap (λ r. write r (255 ∷ [])) (fold-append write s first later)

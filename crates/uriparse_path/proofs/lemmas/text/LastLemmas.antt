@@ -12,9 +12,9 @@ use Rattle.uriparse_path.specs.Path.{is_slash}
 use Rattle.uriparse_path.specs.Dots.{is_dot_segment, is_double_dot, has_dot_segment}
 use Rattle.uriparse_path.specs.Relative.{is_first, is_last}
 use Rattle.uriparse_path.specs.Text.{pieces_left}
-use Rattle.uriparse_path.specs.Last.{AreHeadMarks, begins_segment, is_head, LacksDotsAfter, LacksHeads, IsLast, IsLastDots}
-use Rattle.uriparse_path.proofs.lemmas.left.LeftLemmas.{last_behind}
-use Rattle.uriparse_path.proofs.lemmas.text.HeadLemmas.{before, begins_after, begun, has_dots, lacks_all_dots, lower, lower_run}
+use Rattle.uriparse_path.specs.Last.{AreHeadMarks, begins_segment, may_begin_dot_segment, LacksDotsAfter, HasNoDotCandidates, IsLast, IsLastDots}
+use Rattle.uriparse_path.proofs.lemmas.left.RemainingLemmas.{last_after}
+use Rattle.uriparse_path.proofs.lemmas.text.DotCandidateLemmas.{before, begins_after, begun, has_dots, lacks_all_dots, lower, lower_run}
 use Rattle.uriparse_path.proofs.lemmas.text.SplitLemmas.{cut}
 use Rattle.uriparse_path.proofs.lemmas.text.TextWalkLemmas.{pieces_cut}
 
@@ -39,7 +39,7 @@ pub begins_marked : (t : List ℕ) (at n marks k : ℕ) → 0 < at → AreHeadMa
 begins_marked t at n marks k some are h marked =
     let prior : at + k - 1 ≡ at - 1 + k = omega arith in
     begins_after t (at + k) (omega arith) ∙ ap (λ i. is_slash (get_or t i 0)) prior
-    ∙ (and_parts (is_slash (get_or t (at - 1 + k) 0)) (is_head (get_or t (at + k) 0)) (set_bit _ (bit_at marks k) (are k h) marked)).0
+    ∙ (and_parts (is_slash (get_or t (at - 1 + k) 0)) (may_begin_dot_segment (get_or t (at + k) 0)) (set_bit _ (bit_at marks k) (are k h) marked)).0
 
 -- no dot segment begins at places without a mark
 pub lower_unmarked : (t : List ℕ) (at n marks k end : ℕ) → 0 < at → at + n ≤ length t → AreHeadMarks t at n marks → k ≤ end → end ≤ n
@@ -50,12 +50,12 @@ lower_unmarked t at n marks k end some within are order few none later =
     top : at - 1 + end ≡ at - 1 + k + (end - k)
     top = omega arith
 
-    apart : (j : ℕ) → j < end - k → (is_slash (get_or t (at - 1 + k + j) 0) && is_head (get_or t (at - 1 + k + j + 1) 0)) ≡ false
+    apart : (j : ℕ) → j < end - k → (is_slash (get_or t (at - 1 + k + j) 0) && may_begin_dot_segment (get_or t (at - 1 + k + j + 1) 0)) ≡ false
     apart j h =
         let prior : at - 1 + k + j ≡ at - 1 + (k + j) = omega arith in
         let here : at - 1 + k + j + 1 ≡ at + (k + j) = omega arith in
-        ap (λ i. is_slash (get_or t i 0) && is_head (get_or t (at - 1 + k + j + 1) 0)) prior
-        ∙ ap (λ i. is_slash (get_or t (at - 1 + (k + j)) 0) && is_head (get_or t i 0)) here
+        ap (λ i. is_slash (get_or t i 0) && may_begin_dot_segment (get_or t (at - 1 + k + j + 1) 0)) prior
+        ∙ ap (λ i. is_slash (get_or t (at - 1 + (k + j)) 0) && may_begin_dot_segment (get_or t i 0)) here
         ∙ unset_bit _ (bit_at marks (k + j)) (are (k + j) (omega arith)) (none (k + j) (omega arith) (omega arith))
 
 -- nor at a place that has the last of the marks, if none begins there
@@ -104,7 +104,7 @@ ends_at t at is =
     ends (up_to is_slash u) rest (sym (ap (is_first is_dot_segment) (pieces_cut u)) ∙ is.dots)
     (sym (ap (λ l. has_dot_segment (drop 1 l)) (pieces_cut u)) ∙ is.later)
     ∙ sym (ap (is_last is_dot_segment) (begun t at is.begins is.within ∙ ap (λ l. before at t ++ l) (pieces_cut u))
-    ∙ last_behind is_dot_segment (before at t) (up_to is_slash u) (pieces_left (part rest)))
+    ∙ last_after is_dot_segment (before at t) (up_to is_slash u) (pieces_left (part rest)))
 
 -- ---- whether there is one
 
@@ -116,9 +116,9 @@ pub none_last : (t : List ℕ) (o : Option ℕ) (r : Bool) → IsLast o t → is
 none_last t None r h e = told r false (has_dot_segment (slice_split is_slash t)) e (sym h)
 none_last t (Some at) r is e = told r true (has_dot_segment (slice_split is_slash t)) e (sym (has_dots t at is))
 
-pub none_after : (t : List ℕ) (len : ℕ) (o : Option ℕ) (r : Bool) → 0 < len → len ≤ length t → LacksHeads len t
+pub none_after : (t : List ℕ) (len : ℕ) (o : Option ℕ) (r : Bool) → 0 < len → len ≤ length t → HasNoDotCandidates len t
     → MatchOption o (LacksDotsAfter (len - 1) t) (λ at. IsLastDots at t) → is_some o ≡ not r → r ≡ not (has_dot_segment (slice_split is_slash t))
-none_after t len None r some within heads later e =
-    told r false (has_dot_segment (slice_split is_slash t)) e (sym (lacks_all_dots t len some within heads later))
-none_after t len (Some at) r some within heads is e =
+none_after t len None r some within dot_candidates later e =
+    told r false (has_dot_segment (slice_split is_slash t)) e (sym (lacks_all_dots t len some within dot_candidates later))
+none_after t len (Some at) r some within dot_candidates is e =
     told r true (has_dot_segment (slice_split is_slash t)) e (sym (has_dots t at is))

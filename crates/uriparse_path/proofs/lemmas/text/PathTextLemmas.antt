@@ -10,9 +10,9 @@ use Rattle.uriparse_text.specs.Cuts.{lacks}
 use Rattle.uriparse_text.proofs.lemmas.classes.ClassLemmas.{bytes-in_class}
 use Rattle.uriparse_text.proofs.lemmas.readings.CutLemmas.{lacks-append, lacks-in_class}
 use Rattle.uriparse_text.specs.Segment.{is_segment}
-use Rattle.uriparse_path.specs.Path.{PathParts, IsListed, IsCounted, IsPath, root, text, is_slash, is_rooted, unrooted, pieces, spelled, hides_root, respelled}
+use Rattle.uriparse_path.specs.Path.{PathParts, IsListed, IsCounted, IsPath, root, text, is_slash, is_rooted, unrooted, pieces, spelled, starts_with_empty_segment, respelled}
 use Rattle.uriparse_path.specs.Dots.{LacksSlash}
-use Rattle.uriparse_path.proofs.lemmas.text.SplitLemmas.{pieces-joined, joined-pieces, joined-behind}
+use Rattle.uriparse_path.proofs.lemmas.text.SplitLemmas.{pieces-joined, joined-pieces, joined-following}
 use Rattle.uriparse_path.proofs.lemmas.reading.FaultLemmas.{plain_not_slash, hex_not_slash}
 
 -- the number of segments
@@ -36,7 +36,7 @@ text-spelled t = ap (λ u. root (is_rooted t) ++ u) (joined-pieces (unrooted t))
 -- the text of an absolute path is all its segments, each after a slash
 pub text-absolute : (ss : List (List ℕ)) → 0 < length ss → text (record { absolute = true; segments = ss }) ≡ flat_map (λ s. slash ∷ s) ss
 text-absolute [] h = absurd (omega arith)
-text-absolute (s ∷ ss) h = ap (λ x. slash ∷ x) (joined-behind s ss)
+text-absolute (s ∷ ss) h = ap (λ x. slash ∷ x) (joined-following s ss)
 
 -- ---- the path that the text of a path spells
 
@@ -57,10 +57,10 @@ spelled-relative [] h = refl
 spelled-relative (b ∷ t) h =
     ap (λ v. record { absolute = v; segments = slice_split is_slash (cond v t (b ∷ t)) }) h
 
-pub rooted-relative : (s : List ℕ) (ss : List (List ℕ)) → is_segment s ≡ true → hides_root (s ∷ ss) ≡ false → is_rooted (join_with_byte slash (s ∷ ss)) ≡ false
+pub rooted-relative : (s : List ℕ) (ss : List (List ℕ)) → is_segment s ≡ true → starts_with_empty_segment (s ∷ ss) ≡ false → is_rooted (join_with_byte slash (s ∷ ss)) ≡ false
 rooted-relative [] [] h k = refl
 rooted-relative [] (r ∷ ss) h k = cc
-rooted-relative (b ∷ s) ss h k = ap is_rooted (joined-behind (b ∷ s) ss) ∙ first_byte (lacks_slash (b ∷ s) h)
+rooted-relative (b ∷ s) ss h k = ap is_rooted (joined-following (b ∷ s) ss) ∙ first_byte (lacks_slash (b ∷ s) h)
   where
     first_byte : LacksSlash (b ∷ s) → is_slash b ≡ false
     first_byte lacks = not-true (is_slash b) (and_parts _ _ lacks).0
@@ -80,22 +80,22 @@ spelled-text p is = by_shape p.absolute p.segments is
 
 pub text-cons : (a : Bool) (ss : List (List ℕ)) (s : List ℕ) (rest : List (List ℕ)) → ss ≡ s ∷ rest
     → text (record { absolute = a; segments = ss }) ≡ root a ++ (s ++ flat_map (λ r. slash ∷ r) rest)
-text-cons a ss s rest e = ap (λ l. root a ++ join_with_byte slash l) e ∙ ap (λ x. root a ++ x) (joined-behind s rest)
+text-cons a ss s rest e = ap (λ l. root a ++ join_with_byte slash l) e ∙ ap (λ x. root a ++ x) (joined-following s rest)
 
-pub respelled_shown : (p : PathParts) → hides_root p.segments ≡ false → respelled p ≡ p
+pub respelled_shown : (p : PathParts) → starts_with_empty_segment p.segments ≡ false → respelled p ≡ p
 respelled_shown p h = by_flag p.absolute
   where
-    by_flag : (a : Bool) → cond (not a && hides_root p.segments) (record { absolute = true; segments = drop 1 p.segments }) p ≡ p
+    by_flag : (a : Bool) → cond (not a && starts_with_empty_segment p.segments) (record { absolute = true; segments = drop 1 p.segments }) p ≡ p
     by_flag true = refl
     by_flag false = ap (λ v. cond v (record { absolute = true; segments = drop 1 p.segments }) p) h
 
 pub respelled_absolute : (p : PathParts) → p.absolute ≡ true → respelled p ≡ p
-respelled_absolute p h = ap (λ a. cond (not a && hides_root p.segments) (record { absolute = true; segments = drop 1 p.segments }) p) h
+respelled_absolute p h = ap (λ a. cond (not a && starts_with_empty_segment p.segments) (record { absolute = true; segments = drop 1 p.segments }) p) h
 
-pub respelled_hidden : (p : PathParts) → hides_root p.segments ≡ true → p.absolute ≡ false
+pub respelled_hidden : (p : PathParts) → starts_with_empty_segment p.segments ≡ true → p.absolute ≡ false
     → respelled p ≡ record { absolute = true; segments = drop 1 p.segments }
 respelled_hidden p h a =
-    ap (λ v. cond (not v && hides_root p.segments) (record { absolute = true; segments = drop 1 p.segments }) p) a
+    ap (λ v. cond (not v && starts_with_empty_segment p.segments) (record { absolute = true; segments = drop 1 p.segments }) p) a
     ∙ ap (λ v. cond v (record { absolute = true; segments = drop 1 p.segments }) p) h
 
 pub listed-respelled : (p : PathParts) → IsListed p.segments → IsListed (respelled p).segments
@@ -110,26 +110,26 @@ listed-respelled p is = by_shape p.absolute p.segments is
 
 -- ---- bytes that the text of a path does not have
 
-lacks-behind_slashes : (b : ℕ) → is_plain Segment b ≡ false → (percent == b) ≡ false → is_hex b ≡ false → (slash == b) ≡ false → (ss : List (List ℕ))
+lacks-after_slashes : (b : ℕ) → is_plain Segment b ≡ false → (percent == b) ≡ false → is_hex b ≡ false → (slash == b) ≡ false → (ss : List (List ℕ))
     → list_all is_segment ss ≡ true → lacks b (flat_map (λ s. slash ∷ s) ss) ≡ true
-lacks-behind_slashes b plain sign digit other [] h = refl
-lacks-behind_slashes b plain sign digit other (s ∷ ss) h =
+lacks-after_slashes b plain sign digit other [] h = refl
+lacks-after_slashes b plain sign digit other (s ∷ ss) h =
     let both = and_parts _ _ h in
     and_from _ _ (ap not other) (lacks-append b s (flat_map (λ s. slash ∷ s) ss) (lacks-in_class Segment b plain sign digit s both.0)
-    (lacks-behind_slashes b plain sign digit other ss both.1))
+    (lacks-after_slashes b plain sign digit other ss both.1))
 
 pub lacks-path : (b : ℕ) → is_plain Segment b ≡ false → (percent == b) ≡ false → is_hex b ≡ false → (slash == b) ≡ false → (t : List ℕ) → IsPath t
     → lacks b t ≡ true
 lacks-path b plain sign digit other t is = ap (lacks b) (sym (text-spelled t)) ∙ by_shape (is_rooted t) (pieces t) is
   where
     by_shape : (a : Bool) (ss : List (List ℕ)) → IsListed ss → lacks b (text (record { absolute = a; segments = ss })) ≡ true
-    by_shape true ss is = ap (lacks b) (text-absolute ss is.some) ∙ lacks-behind_slashes b plain sign digit other ss is.each
+    by_shape true ss is = ap (lacks b) (text-absolute ss is.some) ∙ lacks-after_slashes b plain sign digit other ss is.each
     by_shape false [] is = absurd (omega (arith, is.some))
     by_shape false (s ∷ ss) is =
         let both = and_parts _ _ is.each in
-        ap (lacks b) (joined-behind s ss)
+        ap (lacks b) (joined-following s ss)
         ∙ lacks-append b s (flat_map (λ s. slash ∷ s) ss) (lacks-in_class Segment b plain sign digit s both.0)
-        (lacks-behind_slashes b plain sign digit other ss both.1)
+        (lacks-after_slashes b plain sign digit other ss both.1)
 
 -- a text is no longer than its segments, each after a slash
 pub length-text : (p : PathParts) → 0 < length p.segments → length (text p) ≤ length (flat_map (λ s. slash ∷ s) p.segments)
@@ -137,5 +137,5 @@ length-text p some = by_shape p.absolute p.segments some
   where
     by_shape : (a : Bool) (ss : List (List ℕ)) → 0 < length ss → length (root a ++ join_with_byte slash ss) ≤ length (flat_map (λ s. slash ∷ s) ss)
     by_shape a [] h = absurd (omega arith)
-    by_shape true (s ∷ ss) h = omega (arith, ap length (joined-behind s ss))
-    by_shape false (s ∷ ss) h = omega (arith, ap length (joined-behind s ss))
+    by_shape true (s ∷ ss) h = omega (arith, ap length (joined-following s ss))
+    by_shape false (s ∷ ss) h = omega (arith, ap length (joined-following s ss))

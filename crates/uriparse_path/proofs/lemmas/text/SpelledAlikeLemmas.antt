@@ -26,16 +26,16 @@ use Rattle.uriparse_text.proofs.lemmas.classes.ClassLemmas.{well_formed-in_class
 use Rattle.uriparse_text.specs.Segment.{is_segment}
 use Rattle.uriparse_path.specs.Path.{is_slash, is_rooted, root, unrooted}
 use Rattle.uriparse_path.specs.Dots.{LacksSlash, IsRest}
-use Rattle.uriparse_path.proofs.lemmas.text.SplitLemmas.{joined-behind}
+use Rattle.uriparse_path.proofs.lemmas.text.SplitLemmas.{joined-following}
 use Rattle.uriparse_path.proofs.lemmas.text.PathTextLemmas.{lacks_slash, pieces-segments, root-unrooted}
 use Rattle.uriparse_text.proofs.lemmas.canonical.DotLemmas.{canonical-nil}
-use Rattle.uriparse_path.proofs.lemmas.text.CanonicalTextLemmas.{canonical-slash, canonical-behind, each-canonical, is_rooted-canonical}
+use Rattle.uriparse_path.proofs.lemmas.text.CanonicalTextLemmas.{canonical-slash, canonical-following, each-canonical, is_rooted-canonical}
 use Rattle.uriparse_path.proofs.lemmas.dots.DotSegmentLemmas.{lacks_slash-canonical, canonical-empty}
 use Rattle.uriparse_text.proofs.lemmas.canonical.DotLemmas.{empty_segment}
 
 -- the segments, a slash before each
-abbrev behind : List (List ℕ) → List ℕ
-behind ss = flat_map (λ s. slash ∷ s) ss
+abbrev following : List (List ℕ) → List ℕ
+following ss = flat_map (λ s. slash ∷ s) ss
 
 -- ---- a text and the rest after it, which is empty or begins with a slash
 
@@ -59,9 +59,9 @@ is_rest-canonical : (r : List ℕ) → IsRest r → IsRest (canonical r)
 is_rest-canonical [] is = subst IsRest (sym canonical-nil) tt
 is_rest-canonical (b ∷ u) is = subst (λ c. IsRest (canonical (c ∷ u))) (sym is) (subst IsRest (sym (canonical-slash u)) refl)
 
-is_rest-behind : (ss : List (List ℕ)) → IsRest (behind ss)
-is_rest-behind [] = tt
-is_rest-behind (s ∷ ss) = refl
+is_rest-following : (ss : List (List ℕ)) → IsRest (following ss)
+is_rest-following [] = tt
+is_rest-following (s ∷ ss) = refl
 
 is_rest-from_first : (t : List ℕ) → IsRest (from_first is_slash t)
 is_rest-from_first t = by_rest (from_first is_slash t) refl
@@ -101,9 +101,9 @@ is_rest-slash (b ∷ u) h = h
 -- a segment's own bytes at the front, with such a rest after them
 pub own_piece : (t s rest : List ℕ) → bytes_eq (take (length s) t) s ≡ true → rest ≡ drop (length s) t → is_segment s ≡ true → IsRest rest
     → SpellsAlike Kept (up_to is_slash t) s × (rest ≡ from_first is_slash t)
-own_piece t s rest same behind h is =
+own_piece t s rest same following h is =
     let whole : t ≡ s ++ rest =
-    sym (take-append-drop (length s) t) ∙ ap (λ u. u ++ drop (length s) t) ((bytes_eq-Decides (take (length s) t) s).0 same) ∙ ap (λ u. s ++ u) (sym behind) in
+    sym (take-append-drop (length s) t) ∙ ap (λ u. u ++ drop (length s) t) ((bytes_eq-Decides (take (length s) t) s).0 same) ∙ ap (λ u. s ++ u) (sym following) in
     let cut = cut_at s rest (lacks_slash s h) is in
     let piece : up_to is_slash t ≡ s = ap (up_to is_slash) whole ∙ cut.0 in
     let formed = well_formed-in_class Segment s h in
@@ -112,24 +112,24 @@ own_piece t s rest same behind h is =
 -- ---- a text that is compared with a path's
 
 -- its piece before the first slash with the front, and its rest with what follows that
-pub alike_front : (t shown front : List ℕ) (ss : List (List ℕ)) → shown ≡ front ++ behind ss → is_segment front ≡ true
-    → (SpellsAlike Kept (up_to is_slash t) front × SpellsAlike Kept (from_first is_slash t) (behind ss)) ↔ SpellsAlike Kept t shown
+pub alike_front : (t shown front : List ℕ) (ss : List (List ℕ)) → shown ≡ front ++ following ss → is_segment front ≡ true
+    → (SpellsAlike Kept (up_to is_slash t) front × SpellsAlike Kept (from_first is_slash t) (following ss)) ↔ SpellsAlike Kept t shown
 alike_front t shown front ss whole h =
     let piece = up_to is_slash t in
     let rest = from_first is_slash t in
     let cut : piece ++ rest ≡ t = cut-whole is_slash t in
     let ends = is_rest-from_first t in
-    let last = is_rest-behind ss in
+    let last = is_rest-following ss in
     let formed : is_well_formed t ≡ (is_well_formed piece && is_well_formed rest) = ap is_well_formed (sym cut) ∙ well_formed-rest piece rest ends in (
       λ (a, b). record {
         formed = formed ∙ and_from _ _ a.formed b.formed;
         same = ap canonical (sym cut) ∙ canonical-rest piece rest ends ∙ ap (λ u. u ++ canonical rest) a.same ∙ ap (λ u. canonical front ++ u) b.same
-            ∙ sym (canonical-rest front (behind ss) last) ∙ ap canonical (sym whole);
+            ∙ sym (canonical-rest front (following ss) last) ∙ ap canonical (sym whole);
       },
       λ s.
           let each = and_parts _ _ (sym formed ∙ s.formed) in
           let both =
-          canonical_cut piece rest front (behind ss) (up_to-none is_slash t) ends (lacks_slash front h) last
+          canonical_cut piece rest front (following ss) (up_to-none is_slash t) ends (lacks_slash front h) last
           (ap canonical cut ∙ s.same ∙ ap canonical whole) in
           (record { formed = each.0; same = both.0 }, record { formed = each.1; same = both.1 }),
     )
@@ -137,8 +137,8 @@ alike_front t shown front ss whole h =
 well_formed-slash : (t : List ℕ) → is_well_formed (slash ∷ t) ≡ is_well_formed t
 well_formed-slash t = ap (list_all is_token) (tokens-byte slash t (not_percent slash t refl))
 
-behind_slash : (t u : List ℕ) → is_rooted t ≡ true → SpellsAlike Kept (unrooted t) u ↔ SpellsAlike Kept t (slash ∷ u)
-behind_slash t u h =
+after_slash : (t u : List ℕ) → is_rooted t ≡ true → SpellsAlike Kept (unrooted t) u ↔ SpellsAlike Kept t (slash ∷ u)
+after_slash t u h =
     let whole : slash ∷ unrooted t ≡ t = ap (λ a. root a ++ unrooted t) (sym h) ∙ root-unrooted t in (
       λ s. record {
         formed = ap is_well_formed (sym whole) ∙ well_formed-slash (unrooted t) ∙ s.formed;
@@ -163,7 +163,7 @@ alike_end t = (
 -- the segments from a place on are left, and the rest of the text spells them if the whole text spells all
 pub record IsAlikeFrom (t : List ℕ) (ss : List (List ℕ)) (i : ℕ) (rest : List ℕ) : Type 0 where
   pub each : list_all is_segment (drop i ss) ≡ true
-  pub alike : SpellsAlike Kept rest (behind (drop i ss)) ↔ SpellsAlike Kept t (behind ss)
+  pub alike : SpellsAlike Kept rest (following (drop i ss)) ↔ SpellsAlike Kept t (following ss)
 
 -- the next segment is that of the text's next piece, if a slash precedes it and the two are alike
 module _ (t : List ℕ) (ss : List (List ℕ)) (i : ℕ) (rest s : List ℕ) (is : IsAlikeFrom t ss i rest) (within : i < length ss) (item : s ≡ get_or ss i s)
@@ -177,16 +177,16 @@ module _ (t : List ℕ) (ss : List (List ℕ)) (i : ℕ) (rest s : List ℕ) (is
   each : (is_segment s ≡ true) × (list_all is_segment others ≡ true)
   each = and_parts _ _ (ap (list_all is_segment) (sym next) ∙ is.each)
 
-  here : SpellsAlike Kept rest (slash ∷ (s ++ behind others)) ↔ SpellsAlike Kept t (behind ss)
-  here = subst (λ l. SpellsAlike Kept rest (behind l) ↔ SpellsAlike Kept t (behind ss)) next is.alike
+  here : SpellsAlike Kept rest (slash ∷ (s ++ following others)) ↔ SpellsAlike Kept t (following ss)
+  here = subst (λ l. SpellsAlike Kept rest (following l) ↔ SpellsAlike Kept t (following ss)) next is.alike
 
-  cut : (SpellsAlike Kept (up_to is_slash inner) s × SpellsAlike Kept (from_first is_slash inner) (behind others)) ↔ SpellsAlike Kept inner (s ++ behind others)
-  cut = alike_front inner (s ++ behind others) s others refl each.0
+  cut : (SpellsAlike Kept (up_to is_slash inner) s × SpellsAlike Kept (from_first is_slash inner) (following others)) ↔ SpellsAlike Kept inner (s ++ following others)
+  cut = alike_front inner (s ++ following others) s others refl each.0
 
-  slashed : rooted ≡ true → SpellsAlike Kept inner (s ++ behind others) ↔ SpellsAlike Kept rest (slash ∷ (s ++ behind others))
+  slashed : rooted ≡ true → SpellsAlike Kept inner (s ++ following others) ↔ SpellsAlike Kept rest (slash ∷ (s ++ following others))
   slashed h =
-      subst (λ u. SpellsAlike Kept u (s ++ behind others) ↔ SpellsAlike Kept rest (slash ∷ (s ++ behind others))) (sym inside)
-      (behind_slash rest (s ++ behind others) (sym root ∙ h))
+      subst (λ u. SpellsAlike Kept u (s ++ following others) ↔ SpellsAlike Kept rest (slash ∷ (s ++ following others))) (sym inside)
+      (after_slash rest (s ++ following others) (sym root ∙ h))
 
   pub alike_more : rooted ≡ true → SpellsAlike Kept (up_to is_slash inner) s → IsAlikeFrom t ss (i + 1) (from_first is_slash inner)
   alike_more h alike = record {
@@ -194,44 +194,44 @@ module _ (t : List ℕ) (ss : List (List ℕ)) (i : ℕ) (rest s : List ℕ) (is
     alike = (λ a. here.0 ((slashed h).0 (cut.0 (alike, a))), λ a. (cut.1 ((slashed h).1 (here.1 a))).1);
   }
 
-  pub other_piece : rooted ≡ true → (SpellsAlike Kept (up_to is_slash inner) s → ⊥) → SpellsAlike Kept t (behind ss) → ⊥
+  pub other_piece : rooted ≡ true → (SpellsAlike Kept (up_to is_slash inner) s → ⊥) → SpellsAlike Kept t (following ss) → ⊥
   other_piece h never a = never (cut.1 ((slashed h).1 (here.1 a))).0
 
-  pub no_root : rooted ≡ false → SpellsAlike Kept t (behind ss) → ⊥
-  no_root h a = no_slash rest (s ++ behind others) (sym root ∙ h) (here.1 a)
+  pub no_root : rooted ≡ false → SpellsAlike Kept t (following ss) → ⊥
+  no_root h a = no_slash rest (s ++ following others) (sym root ∙ h) (here.1 a)
 
-pub alike_ends : (t rest : List ℕ) (ss : List (List ℕ)) (i : ℕ) → IsAlikeFrom t ss i rest → length ss ≤ i → (rest ≡ []) ↔ SpellsAlike Kept t (behind ss)
+pub alike_ends : (t rest : List ℕ) (ss : List (List ℕ)) (i : ℕ) → IsAlikeFrom t ss i rest → length ss ≤ i → (rest ≡ []) ↔ SpellsAlike Kept t (following ss)
 alike_ends t rest ss i is past =
-    let here : SpellsAlike Kept rest [] ↔ SpellsAlike Kept t (behind ss) =
-    subst (λ l. SpellsAlike Kept rest (behind l) ↔ SpellsAlike Kept t (behind ss)) (drop_of_length-le ss past) is.alike in
+    let here : SpellsAlike Kept rest [] ↔ SpellsAlike Kept t (following ss) =
+    subst (λ l. SpellsAlike Kept rest (following l) ↔ SpellsAlike Kept t (following ss)) (drop_of_length-le ss past) is.alike in
     let empty = alike_end rest in
     (λ e. here.0 (empty.0 e), λ a. empty.1 (here.1 a))
 
 -- ---- two paths, by what precedes their first slashes and the segments after them
 
-one_list : (ss rs : List (List ℕ)) → list_all is_segment ss ≡ true → list_all is_segment rs ≡ true → behind ss ≡ behind rs → ss ≡ rs
+one_list : (ss rs : List (List ℕ)) → list_all is_segment ss ≡ true → list_all is_segment rs ≡ true → following ss ≡ following rs → ss ≡ rs
 one_list ss rs h k e =
     let split : [] ∷ ss ≡ [] ∷ rs =
-    sym (pieces-segments [] ss (and_from _ _ empty_segment h)) ∙ ap (slice_split is_slash) (joined-behind [] ss ∙ e ∙ sym (joined-behind [] rs)) ∙ pieces-segments [] rs (and_from _ _ empty_segment k) in
+    sym (pieces-segments [] ss (and_from _ _ empty_segment h)) ∙ ap (slice_split is_slash) (joined-following [] ss ∙ e ∙ sym (joined-following [] rs)) ∙ pieces-segments [] rs (and_from _ _ empty_segment k) in
     cc
 
 same_canonical : (x y : List ℕ) (ss rs : List (List ℕ)) → is_segment x ≡ true → is_segment y ≡ true → list_all is_segment ss ≡ true →
     list_all is_segment rs ≡ true
-    → ((canonical x ≡ canonical y) × (map canonical ss ≡ map canonical rs)) ↔ (canonical (x ++ behind ss) ≡ canonical (y ++ behind rs))
+    → ((canonical x ≡ canonical y) × (map canonical ss ≡ map canonical rs)) ↔ (canonical (x ++ following ss) ≡ canonical (y ++ following rs))
 same_canonical x y ss rs h k each also = (
-  λ (e, f). canonical-rest x (behind ss) (is_rest-behind ss) ∙ ap (λ u. u ++ canonical (behind ss)) e
-      ∙ ap (λ u. canonical y ++ u) (canonical-behind ss each ∙ ap behind f ∙ sym (canonical-behind rs also))
-      ∙ sym (canonical-rest y (behind rs) (is_rest-behind rs)),
+  λ (e, f). canonical-rest x (following ss) (is_rest-following ss) ∙ ap (λ u. u ++ canonical (following ss)) e
+      ∙ ap (λ u. canonical y ++ u) (canonical-following ss each ∙ ap following f ∙ sym (canonical-following rs also))
+      ∙ sym (canonical-rest y (following rs) (is_rest-following rs)),
   λ e.
-      let both = canonical_cut x (behind ss) y (behind rs) (lacks_slash x h) (is_rest-behind ss) (lacks_slash y k) (is_rest-behind rs) e in (
+      let both = canonical_cut x (following ss) y (following rs) (lacks_slash x h) (is_rest-following ss) (lacks_slash y k) (is_rest-following rs) e in (
         both.0,
         one_list (map canonical ss) (map canonical rs) (each-canonical ss each) (each-canonical rs also)
-            (sym (canonical-behind ss each) ∙ both.1 ∙ canonical-behind rs also),
+            (sym (canonical-following ss each) ∙ both.1 ∙ canonical-following rs also),
       ),
 )
 
 -- the fronts are alike, and so are the segments after them
-pub same_paths : (t u x y : List ℕ) (ss rs : List (List ℕ)) (r : Bool) → t ≡ x ++ behind ss → u ≡ y ++ behind rs → is_segment x ≡ true →
+pub same_paths : (t u x y : List ℕ) (ss rs : List (List ℕ)) (r : Bool) → t ≡ x ++ following ss → u ≡ y ++ following rs → is_segment x ≡ true →
     is_segment y ≡ true → list_all is_segment ss ≡ true → list_all is_segment rs ≡ true → SpellsAlike Kept x y →
     r ≡ pointwise (on canonical bytes_eq) ss rs → r ≡ bytes_eq (canonical t) (canonical u)
 same_paths t u x y ss rs r whole other h k each also alike e =
@@ -244,7 +244,7 @@ same_paths t u x y ss rs r whole other h k each also alike e =
     ) (bytes_eq-Decides (canonical t) (canonical u))
 
 -- the fronts differ
-pub other_fronts : (t u x y : List ℕ) (ss rs : List (List ℕ)) (r : Bool) → t ≡ x ++ behind ss → u ≡ y ++ behind rs → is_segment x ≡ true →
+pub other_fronts : (t u x y : List ℕ) (ss rs : List (List ℕ)) (r : Bool) → t ≡ x ++ following ss → u ≡ y ++ following rs → is_segment x ≡ true →
     is_segment y ≡ true → list_all is_segment ss ≡ true → list_all is_segment rs ≡ true → (SpellsAlike Kept x y → ⊥) → r ≡ false →
     r ≡ bytes_eq (canonical t) (canonical u)
 other_fronts t u x y ss rs r whole other h k each also differ e =

@@ -61,9 +61,9 @@ pub joined-pieces : (t : List ℕ) → join_with_byte slash (slice_split is_slas
 joined-pieces t = join_with_byte-slice_split slash t
 
 -- all segments after slashes
-pub joined-behind : (s : List ℕ) (ss : List (List ℕ)) → join_with_byte slash (s ∷ ss) ≡ s ++ flat_map (λ r. slash ∷ r) ss
-joined-behind s [] = sym (append-nil s)
-joined-behind s (r ∷ ss) = ap (λ x. s ++ slash ∷ x) (joined-behind r ss)
+pub joined-following : (s : List ℕ) (ss : List (List ℕ)) → join_with_byte slash (s ∷ ss) ≡ s ++ flat_map (λ r. slash ∷ r) ss
+joined-following s [] = sym (append-nil s)
+joined-following s (r ∷ ss) = ap (λ x. s ++ slash ∷ x) (joined-following r ss)
 
 -- a text with one piece is that piece
 pub one_piece : (t : List ℕ) → length (slice_split is_slash t) ≡ 1 → slice_split is_slash t ≡ t ∷ []

@@ -19,7 +19,7 @@ use Rattle.uriparse_path.specs.Path.{IsPath, is_slash, fed, fed_piece}
 use Rattle.uriparse_path.specs.Text.{pieces_left}
 use Rattle.uriparse_text.proofs.lemmas.canonical.DotLemmas.{empty_segment}
 use Rattle.uriparse_path.proofs.lemmas.text.HashLemmas.{feeds_path}
-use Rattle.uriparse_path.proofs.lemmas.text.SplitLemmas.{cut, pieces-slash, joined-pieces, joined-behind}
+use Rattle.uriparse_path.proofs.lemmas.text.SplitLemmas.{cut, pieces-slash, joined-pieces, joined-following}
 
 -- the first piece of a text, and those of what follows the slash after it
 pub pieces_cut : (t : List ℕ) → slice_split is_slash t ≡ up_to is_slash t ∷ pieces_left (part (from_first is_slash t))
@@ -77,11 +77,11 @@ fed_each ss = flat_map (λ s. fed_piece (canonical s)) ss
 pub fed_more : {S : Type 0} (write : S → List ℕ → S) (s r : S) (t piece : List ℕ) (o : Option (List ℕ)) → piece ≡ up_to is_slash t
     → o ≡ part (from_first is_slash t) → r ≡ fold write s (fed_piece (canonical piece))
     → fold write r (fed_each (pieces_left o)) ≡ fold write s (fed_each (pieces_left (Some t)))
-fed_more write s r t piece o front behind fed_here =
+fed_more write s r t piece o front following fed_here =
     ap (λ x. fold write x (fed_each (pieces_left o))) fed_here
     ∙ sym (fold-append write s (fed_piece (canonical piece)) (fed_each (pieces_left o)))
     ∙ ap (λ u. fold write s (fed_piece (canonical u) ++ fed_each (pieces_left o))) front
-    ∙ ap (λ u. fold write s (fed_piece (canonical (up_to is_slash t)) ++ fed_each (pieces_left u))) behind
+    ∙ ap (λ u. fold write s (fed_piece (canonical (up_to is_slash t)) ++ fed_each (pieces_left u))) following
     ∙ ap (λ ps. fold write s (fed_each ps)) (sym (pieces_cut t))
 
 -- all pieces are fed, then the end
@@ -91,7 +91,7 @@ fed_whole write s r t is e =
     let c = cut t in
     let both = and_parts _ _ (ap (list_all is_segment) (sym c.pieces) ∙ pieces_of_path t is) in
     let whole : t ≡ c.first ++ flat_map (λ s. slash ∷ s) c.others =
-    sym (joined-pieces t) ∙ ap (join_with_byte slash) c.pieces ∙ joined-behind c.first c.others in
+    sym (joined-pieces t) ∙ ap (join_with_byte slash) c.pieces ∙ joined-following c.first c.others in
     sym (feeds_path write s t c.first c.others whole both.0 both.1
     ∙ ap (λ x. write x (255 ∷ [])) (sym (fold-append write s (fed_piece (canonical c.first)) (fed_each c.others))
     ∙ ap (λ ps. fold write s (fed_each ps)) (sym c.pieces) ∙ sym e))

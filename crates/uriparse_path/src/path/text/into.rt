@@ -3,34 +3,34 @@
 ghost use Rattle.std.specs.Prelude.{◌≡◌, ℕ, Bool, ◌<◌, ◌≤◌, ◌++◌, ◌||◌, ◌&&◌, List, length, false, not, true};
 ghost use Rattle.std.specs.List.{join_with_byte, slice_split};
 ghost use Rattle.uriparse_text.specs.declared.internal.canonical.Case.TheVariants as case;
-ghost use Rattle.uriparse_text.specs.declared.internal.ends.Form.{Form};
-ghost use Rattle.uriparse_text.specs.declared.internal.ends.Form.TheVariants.{Canonical};
+ghost use Rattle.uriparse_text.specs.declared.internal.backward_buffer.Form.{Form};
+ghost use Rattle.uriparse_text.specs.declared.internal.backward_buffer.Form.TheVariants.{Canonical};
 ghost use Rattle.uriparse_text.specs.Bytes.{slash};
 ghost use Rattle.uriparse_text.specs.Ends.{EndsWith, Puts, formed};
 ghost use Rattle.uriparse_path.specs.Path as path;
 ghost use Rattle.uriparse_path.specs.Path.{IsPath, is_rooted, is_slash, max_segments, root, spelled, unrooted};
 ghost use Rattle.uriparse_path.specs.Dots.{has_dot_segment, replayed, undot};
 ghost use Rattle.uriparse_path.specs.Last.{IsLast};
-ghost use Rattle.uriparse_path.specs.Edits.{shield_unless};
+ghost use Rattle.uriparse_path.specs.Edits.{with_dot_prefix_unless};
 ghost use Rattle.uriparse_path.specs.Merge.{merged};
 ghost use Rattle.uriparse_path.specs.Relative.{relative_normal};
 ghost use Rattle.uriparse_path.specs.Normal.{normal_at};
-ghost use Rattle.uriparse_path.specs.Left as spec;
+ghost use Rattle.uriparse_path.specs.Remaining as spec;
 
-use super::ending::Ending;
+use super::backward::BackwardState;
 use super::last::{ends_in_dots, last_dots};
-use crate::path::normal::Place;
+use crate::path::normal::PathContext;
 use crate::path::read::split_root;
 use crate::path::segment::has_colon;
 use uriparse_text::internal::{Case, Form, put, put_formed, split_at_mark};
 
 /// The front of a path from which dot segments are removed: its root, and `/.` if it would begin
 /// with two slashes without an authority.
-fn put_front(ending: Ending, rooted: bool, has_authority: bool, out: &mut [u8]) -> usize
+fn put_front(state: BackwardState, rooted: bool, has_authority: bool, out: &mut [u8]) -> usize
     ensures room { length out.new ≡ length out.old }
-    ensures puts { (form : Form) (ended : Bool) (l : spec.Left) (t : List ℕ) → spec.IsEnding form ended l ending out.old t → EndsWith out.new result (path.text (shield_unless has_authority (spelled (root (rooted || l.removed) ++ spec.kept_text form ended l.kept))) ++ t) }
+    ensures puts { (form : Form) (ended : Bool) (l : spec.Remaining) (t : List ℕ) → spec.IsBackwardState form ended l state out.old t → EndsWith out.new result (path.text (with_dot_prefix_unless has_authority (spelled (root (rooted || l.removed) ++ spec.remaining_text form ended l.kept))) ++ t) }
 {
-    let text = ending.text.put_root(rooted || ending.removed, out);
+    let text = state.text.put_root(rooted || state.removed, out);
     if !has_authority && text.twice {
         return put(b"/.", out, text.len);
     }
@@ -39,7 +39,7 @@ fn put_front(ending: Ending, rooted: bool, has_authority: bool, out: &mut [u8]) 
 
 /// Whether no `.` is needed before the text: an authority precedes it, or it does not begin with two
 /// slashes.
-fn needs_no_shield(has_authority: bool, text: &[u8]) -> bool
+fn needs_no_dot_prefix(has_authority: bool, text: &[u8]) -> bool
     ensures { result ≡ not (not has_authority && path.has_two_slashes text.now) }
 {
     has_authority || !matches!(text, [b'/', b'/', ..])
@@ -47,14 +47,14 @@ fn needs_no_shield(has_authority: bool, text: &[u8]) -> bool
 
 /// Whether the removal of dot segments keeps the text as it is. `last` says where the last one begins
 /// in what follows the root.
-fn is_kept(has_authority: bool, last: Option<usize>, text: &[u8]) -> bool
+fn stays_whole(has_authority: bool, last: Option<usize>, text: &[u8]) -> bool
     requires { IsLast last (unrooted text.now) }
-    ensures shield { result ≡ true → (not has_authority && path.has_two_slashes text.now) ≡ false }
+    ensures with_dot_prefix { result ≡ true → (not has_authority && path.has_two_slashes text.now) ≡ false }
     ensures dots { result ≡ true → has_dot_segment (path.pieces text.now) ≡ false }
 {
     match last {
         Some(_) => false,
-        None => needs_no_shield(has_authority, text),
+        None => needs_no_dot_prefix(has_authority, text),
     }
 }
 
@@ -69,16 +69,16 @@ pub fn put_undotted(
 ) -> usize
     requires { IsPath text.now }
     ensures room { length out.new ≡ length out.old }
-    ensures puts { Puts (path.text (shield_unless has_authority (spelled (formed form case.Kept (undot text.now))))) out.old len out.new result }
+    ensures puts { Puts (path.text (with_dot_prefix_unless has_authority (spelled (formed form case.Kept (undot text.now))))) out.old len out.new result }
 {
     let (rooted, rest) = split_root(text);
     let last = last_dots(rest);
-    if is_kept(has_authority, last, text) {
+    if stays_whole(has_authority, last, text) {
         return put_formed(form, Case::Kept, text, out, len);
     }
     let ended = ends_in_dots(last, rest);
-    let ending = Ending::none(len).walk(form, ended, rest, last, out);
-    put_front(ending, rooted, has_authority, out)
+    let state = BackwardState::none(len).process(form, ended, rest, last, out);
+    put_front(state, rooted, has_authority, out)
 }
 
 /// Puts the merged paths without their dot segments: the base's up to its last slash, then the
@@ -95,20 +95,20 @@ pub fn put_merged(
     requires relative { is_rooted reference.now ≡ false }
     requires short { length (merged (spelled base.now) (spelled reference.now)).segments ≤ max_segments }
     ensures room { length out.new ≡ length out.old }
-    ensures puts { Puts (path.text (shield_unless has_authority (spelled (path.text (replayed (merged (spelled base.now) (spelled reference.now))))))) out.old len out.new result }
+    ensures puts { Puts (path.text (with_dot_prefix_unless has_authority (spelled (path.text (replayed (merged (spelled base.now) (spelled reference.now))))))) out.old len out.new result }
 {
     let (rooted, rest) = split_root(base);
     let last = last_dots(reference);
     let ended = ends_in_dots(last, reference);
-    let ending = Ending::none(len).walk(Form::AsIs, ended, reference, last, out);
-    let ending = ending.walk_directory(Form::AsIs, ended, rest, out);
-    put_front(ending, rooted, has_authority, out)
+    let state = BackwardState::none(len).process(Form::AsIs, ended, reference, last, out);
+    let state = state.process_directory(Form::AsIs, ended, rest, out);
+    put_front(state, rooted, has_authority, out)
 }
 
 /// Puts this many `../`.
-fn put_ups(count: usize, out: &mut [u8], len: usize) -> usize
+fn put_parent_steps(count: usize, out: &mut [u8], len: usize) -> usize
     ensures room { length out.new ≡ length out.old }
-    ensures puts { (t : List ℕ) → EndsWith out.old len t → EndsWith out.new result (spec.ups count t) }
+    ensures puts { (t : List ℕ) → EndsWith out.old len t → EndsWith out.new result (spec.with_parent_steps count t) }
 {
     let mut total = len;
     for _ in 0..count {
@@ -118,30 +118,30 @@ fn put_ups(count: usize, out: &mut [u8], len: usize) -> usize
 }
 
 /// Puts this many `..`, with slashes between them, and with one at the end if a text follows.
-fn put_climbs(climbs: usize, more: bool, out: &mut [u8], len: usize) -> usize
-    requires { 0 < climbs }
+fn put_double_dots(double_dots: usize, more: bool, out: &mut [u8], len: usize) -> usize
+    requires { 0 < double_dots }
     ensures room { length out.new ≡ length out.old }
-    ensures puts { (t : List ℕ) → EndsWith out.old len t → EndsWith out.new result (spec.climbed climbs more t) }
+    ensures puts { (t : List ℕ) → EndsWith out.old len t → EndsWith out.new result (spec.climbed double_dots more t) }
 {
     if more {
-        return put_ups(climbs, out, len);
+        return put_parent_steps(double_dots, out, len);
     }
     let len = put(b"..", out, len);
-    put_ups(climbs - 1, out, len)
+    put_parent_steps(double_dots - 1, out, len)
 }
 
 /// The front of a path that stays relative: the `..` that are left, or `./` if it is needed.
-fn put_relative_front(ending: Ending, had_colon: bool, out: &mut [u8]) -> usize
+fn put_relative_front(state: BackwardState, had_colon: bool, out: &mut [u8]) -> usize
     ensures room { length out.new ≡ length out.old }
-    ensures puts { (ended : Bool) (l : spec.Left) (t : List ℕ) → spec.IsEnding Canonical ended l ending out.old t → EndsWith out.new result (spec.relative_text had_colon ended l ++ t) }
+    ensures puts { (ended : Bool) (l : spec.Remaining) (t : List ℕ) → spec.IsBackwardState Canonical ended l state out.old t → EndsWith out.new result (spec.relative_text had_colon ended l ++ t) }
 {
-    if ending.climbs > 0 {
-        return put_climbs(ending.climbs, ending.kept, out, ending.text.len);
+    if state.double_dots > 0 {
+        return put_double_dots(state.double_dots, state.kept, out, state.text.len);
     }
-    if ending.text.rooted || (ending.colon && !had_colon) {
-        return put(b"./", out, ending.text.len);
+    if state.text.rooted || (state.colon && !had_colon) {
+        return put(b"./", out, state.text.len);
     }
-    ending.text.len
+    state.text.len
 }
 
 /// Puts the relative normal form of a text that begins with no slash.
@@ -154,19 +154,19 @@ fn put_relative(text: &[u8], out: &mut [u8], len: usize) -> usize
     let (first, _) = split_at_mark(text, b'/');
     let last = last_dots(text);
     let ended = ends_in_dots(last, text);
-    let ending = Ending::none(len).walk(Form::Canonical, ended, text, last, out);
-    put_relative_front(ending, has_colon(first), out)
+    let state = BackwardState::none(len).process(Form::Canonical, ended, text, last, out);
+    put_relative_front(state, has_colon(first), out)
 }
 
 /// Puts the normal form of a path's text at this place in a reference.
-pub fn put_normal_path(text: &[u8], place: Place, out: &mut [u8], len: usize) -> usize
+pub fn put_normal_path(text: &[u8], context: PathContext, out: &mut [u8], len: usize) -> usize
     requires { IsPath text.now }
     ensures room { length out.new ≡ length out.old }
-    ensures puts { Puts (path.text (normal_at place (spelled text.now))) out.old len out.new result }
+    ensures puts { Puts (path.text (normal_at context (spelled text.now))) out.old len out.new result }
 {
     let (rooted, _) = split_root(text);
-    if place.has_scheme || rooted {
-        put_undotted(Form::Canonical, place.has_authority, text, out, len)
+    if context.has_scheme || rooted {
+        put_undotted(Form::Canonical, context.has_authority, text, out, len)
     } else {
         put_relative(text, out, len)
     }

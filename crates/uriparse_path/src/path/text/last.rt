@@ -8,7 +8,7 @@ ghost use Rattle.uriparse_path.specs.Dots.{has_dot_segment, is_dot_segment};
 ghost use Rattle.uriparse_path.specs.Relative.{is_first, is_last};
 ghost use Rattle.uriparse_path.specs.Last as spec;
 
-use super::heads::is_head_first;
+use super::dot_scan::begins_like_dot_segment;
 use crate::path::segment::is_dots;
 use uriparse_text::internal::{Is, IsAny, bits_below, highest, marks_of_pairs, split_at_mark};
 
@@ -28,7 +28,7 @@ fn begins_with_dots(text: &[u8]) -> bool
     requires { list_all is_segment (slice_split is_slash text.now) ≡ true }
     ensures { result ≡ is_first is_dot_segment (slice_split is_slash text.now) }
 {
-    is_head_first(text) && has_dots_first(text)
+    begins_like_dot_segment(text) && has_dots_first(text)
 }
 
 /// The place of the last dot segment of a short text that follows a slash, of those from `from` on,
@@ -52,7 +52,7 @@ fn last_dots_of_short(from: usize, text: &[u8]) -> Option<usize>
 /// Marks those of the sixteen places from `at` on that follow a slash and hold a byte that a dot
 /// segment begins with.
 #[inline(always)]
-fn marks_of_heads(text: &[u8], at: usize) -> u64
+fn marks_of_dot_candidates(text: &[u8], at: usize) -> u64
     requires after { 0 < at }
     requires room { at + 16 ≤ length text.now }
     ensures { spec.AreHeadMarks text.now at 16 result }
@@ -70,7 +70,7 @@ fn last_dots_marked(text: &[u8], at: usize, count: usize, marks: u64) -> Option<
     requires within { at + count ≤ length text.now }
     requires marks { spec.AreHeadMarks text.now at count marks }
     requires later { spec.LacksDotsAfter (at - 1 + count) text.now }
-    ensures { MatchOption result (spec.LacksDotsAfter (at - 1) text.now) (λ place. spec.IsLastDots place text.now) }
+    ensures { MatchOption result (spec.LacksDotsAfter (at - 1) text.now) (λ offset. spec.IsLastDots offset text.now) }
 {
     let mut end = count;
     let mut left = bits_below(marks, count);
@@ -94,12 +94,12 @@ fn last_dots_by_runs(from: usize, text: &[u8]) -> Option<usize>
     let mut end = text.len();
     'runs: while end - from > 16 {
         end -= 16;
-        let found = last_dots_marked(text, end, 16, marks_of_heads(text, end));
+        let found = last_dots_marked(text, end, 16, marks_of_dot_candidates(text, end));
         if found.is_some() {
             return found;
         }
     }
-    let marks = marks_of_heads(text, from + 1);
+    let marks = marks_of_dot_candidates(text, from + 1);
     last_dots_marked(text, from + 1, end - from - 1, marks)
 }
 
@@ -139,8 +139,8 @@ pub(super) fn ends_in_dots(last: Option<usize>, text: &[u8]) -> bool
 {
     match last {
         Some(at) => {
-            let (_, behind) = split_at_mark(&text[at..], b'/');
-            behind.is_empty()
+            let (_, following) = split_at_mark(&text[at..], b'/');
+            following.is_empty()
         }
         None => false,
     }

@@ -8,22 +8,22 @@ ghost use Rattle.uriparse_text.specs.Segment.{is_segment};
 ghost use Rattle.uriparse_path.specs.Path as path;
 ghost use Rattle.uriparse_path.specs.Path.{IsPath, is_rooted, is_slash, pieces, spelled};
 ghost use Rattle.uriparse_path.specs.Dots.{has_dot_segment};
-ghost use Rattle.uriparse_path.specs.Last.{LacksHeads};
+ghost use Rattle.uriparse_path.specs.Last.{HasNoDotCandidates};
 ghost use Rattle.uriparse_path.specs.Relative as relative;
 ghost use Rattle.uriparse_path.specs.Normal as spec;
 
-use super::heads::plain_len;
+use super::dot_scan::plain_len;
 use super::last::{last_dots, last_dots_after};
 use super::{Segments, segments_of};
-use crate::path::normal::Place;
+use crate::path::normal::PathContext;
 use crate::path::read::split_root;
 use crate::path::segment::has_colon;
 use uriparse_text::internal::{Case, is_canonical, split_at_mark};
 
 impl<'p> Segments<'p> {
     /// Whether the first of the segments that are left is empty and others follow it.
-    fn hide_root(&self) -> bool
-        ensures { result ≡ path.hides_root self.now }
+    fn start_with_empty_segment(&self) -> bool
+        ensures { result ≡ path.starts_with_empty_segment self.now }
     {
         match self.rest {
             Some(rest) => {
@@ -49,7 +49,7 @@ impl<'p> Segments<'p> {
 }
 
 /// Whether each segment is canonical and none is a dot segment.
-fn are_settled(segments: Segments<'_>) -> bool
+fn are_canonical(segments: Segments<'_>) -> bool
     ensures { result ≡ spec.are_normal false segments.entry }
 {
     for segment in segments {
@@ -61,8 +61,8 @@ fn are_settled(segments: Segments<'_>) -> bool
 }
 
 /// Whether `..` segments come first and no dot segment follows them.
-fn climb_first(segments: Segments<'_>) -> bool
-    ensures { result ≡ spec.climbs_first segments.entry }
+fn begin_with_double_dots(segments: Segments<'_>) -> bool
+    ensures { result ≡ spec.begins_with_double_dots segments.entry }
 {
     let mut climbing = true;
     for segment in segments {
@@ -76,14 +76,15 @@ fn climb_first(segments: Segments<'_>) -> bool
 
 /// Whether a `.` comes first and is needed there.
 fn are_guarded(segments: Segments<'_>) -> bool
-    ensures { result ≡ spec.is_guarded segments.entry }
+    ensures { result ≡ spec.has_needed_leading_dot segments.entry }
 {
     let mut later = segments;
     let Some(first) = later.next() else {
         return false;
     };
-    let needed = later.hide_root() || (later.have_first_colon() && !has_colon(first.as_bytes()));
-    first.is_single_dot_segment() && climb_first(later) && needed
+    let needed = later.start_with_empty_segment()
+        || (later.have_first_colon() && !has_colon(first.as_bytes()));
+    first.is_single_dot_segment() && begin_with_double_dots(later) && needed
 }
 
 /// Whether no segment of a text is a dot segment, if none of those that begin among the first `len`
@@ -91,7 +92,7 @@ fn are_guarded(segments: Segments<'_>) -> bool
 fn lacks_dots(len: usize, text: &[u8]) -> bool
     requires segments { list_all is_segment (slice_split is_slash text.now) ≡ true }
     requires within { len ≤ length text.now }
-    requires heads { LacksHeads len text.now }
+    requires dot_candidates { HasNoDotCandidates len text.now }
     ensures { result ≡ not (has_dot_segment (slice_split is_slash text.now)) }
 {
     if len == 0 {
@@ -117,7 +118,7 @@ fn is_canonical_after(len: usize, text: &[u8]) -> bool
 fn is_normal_after(stays_relative: bool, len: usize, text: &[u8]) -> bool
     requires segments { list_all is_segment (slice_split is_slash text.now) ≡ true }
     requires within { len ≤ length text.now }
-    requires heads { LacksHeads len text.now }
+    requires dot_candidates { HasNoDotCandidates len text.now }
     requires escapes { lacks percent (take len text.now) ≡ true }
     ensures { result ≡ spec.are_normal stays_relative (slice_split is_slash text.now) }
 {
@@ -127,14 +128,15 @@ fn is_normal_after(stays_relative: bool, len: usize, text: &[u8]) -> bool
     if !stays_relative {
         return lacks_dots(len, text);
     }
-    climb_first(Segments { rest: Some(text) }) || are_guarded(Segments { rest: Some(text) })
+    begin_with_double_dots(Segments { rest: Some(text) })
+        || are_guarded(Segments { rest: Some(text) })
 }
 
 /// Whether this many bytes are all of a text. If these have no escape, and no segment that begins like
 /// a dot segment, then each segment is canonical, and none is a dot segment.
 #[inline(always)]
 fn is_all(len: usize, text: &[u8]) -> bool
-    requires heads { LacksHeads len text.now }
+    requires dot_candidates { HasNoDotCandidates len text.now }
     requires escapes { lacks percent (take len text.now) ≡ true }
     ensures { result ≡ true → (has_dot_segment (slice_split is_slash text.now) ≡ false) × (list_all spec.is_canonical (slice_split is_slash text.now) ≡ true) }
 {
@@ -155,24 +157,25 @@ fn is_normal(stays_relative: bool, text: &[u8]) -> bool
 
 /// Whether the text is that of an absolute path that is normal except for a leading `.`, which is
 /// needed without an authority.
-fn is_shielded(text: &[u8]) -> bool
+fn is_dot_prefixed(text: &[u8]) -> bool
     requires { IsPath text.now }
-    ensures { result ≡ spec.is_shielded (is_rooted text.now) (pieces text.now) }
+    ensures { result ≡ spec.is_dot_prefixed (is_rooted text.now) (pieces text.now) }
 {
     let (rooted, _) = split_root(text);
     let mut later = segments_of(text);
     let Some(first) = later.next() else {
         return false;
     };
-    rooted && first.as_str() == "." && later.hide_root() && are_settled(later)
+    rooted && first.as_str() == "." && later.start_with_empty_segment() && are_canonical(later)
 }
 
 /// Whether the text of a path is that of its normal form at this place in a reference. Does not
 /// allocate.
-pub fn is_normal_path_text(text: &[u8], place: Place) -> bool
+pub fn is_normal_path_text(text: &[u8], context: PathContext) -> bool
     requires { IsPath text.now }
-    ensures { result ≡ spec.is_normal_at place (spelled text.now) }
+    ensures { result ≡ spec.is_normal_at context (spelled text.now) }
 {
     let (rooted, _) = split_root(text);
-    is_normal(!place.has_scheme && !rooted, text) || (!place.has_authority && is_shielded(text))
+    is_normal(!context.has_scheme && !rooted, text)
+        || (!context.has_authority && is_dot_prefixed(text))
 }

@@ -21,7 +21,7 @@ unfolding read_ipv4 read_ipv6 read_octet read_number read_segment read_segments 
 returns c = record {
   target = refl;
   target_again = refl;
-  shielded = refl;
+  dot_prefixed = refl;
   shielded_again = refl;
   not_rooted = refl;
   not_rooted_again = refl;

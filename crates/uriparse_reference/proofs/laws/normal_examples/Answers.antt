@@ -28,17 +28,17 @@ unfolding digits read_ipv4 read_ipv6 read_octet read_number read_segment read_se
     texts.fault tokens variants row_of authority.reading is_single_dot is_double_dot undot paths.fault max_segments relative_normal reading
 returns-clause-relative_forms c = refl
 
-pub returns-clause-shielded : goal.returns-clause-shielded
+pub returns-clause-dot_prefixed : goal.returns-clause-dot_prefixed
 unfolding digits read_ipv4 read_ipv6 read_octet read_number read_segment read_segments ipv4_reading ipv6_reading is_unreserved is_sub_delim canonical_in
     is_plain
     texts.fault tokens variants row_of authority.reading is_single_dot is_double_dot undot paths.fault max_segments relative_normal reading
-returns-clause-shielded c = refl
+returns-clause-dot_prefixed c = refl
 
-pub returns-clause-guarded : goal.returns-clause-guarded
+pub returns-clause-with_leading_dot : goal.returns-clause-with_leading_dot
 unfolding digits read_ipv4 read_ipv6 read_octet read_number read_segment read_segments ipv4_reading ipv6_reading is_unreserved is_sub_delim canonical_in
     is_plain
     texts.fault tokens variants row_of authority.reading is_single_dot is_double_dot undot paths.fault max_segments relative_normal reading
-returns-clause-guarded c = refl
+returns-clause-with_leading_dot c = refl
 
 pub returns-clause-authority : goal.returns-clause-authority
 unfolding digits read_ipv4 read_ipv6 read_octet read_number read_segment read_segments ipv4_reading ipv6_reading is_unreserved is_sub_delim canonical_in

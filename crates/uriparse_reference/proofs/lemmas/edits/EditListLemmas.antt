@@ -8,7 +8,7 @@ use Rattle.uriparse_reference.specs.declared.uri_reference.error.URIReferenceErr
 use Rattle.uriparse_reference.specs.declared.uri_reference.edit.Edit.TheVariants as edits
 use Rattle.uriparse_reference.specs.Reference.{Parts, Valid, path_refusal}
 use Rattle.uriparse_reference.specs.Normal.{normal}
-use Rattle.uriparse_reference.specs.Edits.{placed, refusal, of_parts, edited, replaced, IsWant, Run, ends, stops, goes}
+use Rattle.uriparse_reference.specs.Edits.{placed, refusal, of_parts, edited, replaced, IsOutOfMemory, Run, ends, stops, goes}
 use Rattle.uriparse_reference.proofs.lemmas.reading.SpellingLemmas.{same_path}
 use Rattle.uriparse_reference.proofs.lemmas.edits.EditLemmas.{build, placed_same, accepts, own_parts, with_scheme}
 use Rattle.uriparse_reference.proofs.lemmas.normalizing.NormalFormLemmas.{normal_valid}
@@ -55,23 +55,23 @@ outcome p (e ∷ es) = next (edited p e) p (λ q. outcome q es)
 
 -- memory ran out, or it is the outcome by the rules
 has_outcome : (p : Parts) (es : List Edit) (n : ℕ) (q : Parts) (o : Option URIReferenceError) → Run p es n q o
-    → IsWant o ⊎ (outcome p es ≡ record { count = n; parts = q; refusal = o })
+    → IsOutOfMemory o ⊎ (outcome p es ≡ record { count = n; parts = q; refusal = o })
 has_outcome _ _ _ _ _ (ends p) = inr refl
 has_outcome _ _ _ _ _ (stops p e es x (inl h)) = inr (ap (λ r. next r p (λ q. outcome q es)) h)
 has_outcome _ _ _ _ _ (stops p e es x (inr w)) = inl (ap Some w.error)
 has_outcome _ _ _ _ _ (goes p r q e es m o h k) = more (has_outcome r es m q o k)
   where
-    more : IsWant o ⊎ (outcome r es ≡ record { count = m; parts = q; refusal = o })
-        → IsWant o ⊎ (outcome p (e ∷ es) ≡ record { count = suc m; parts = q; refusal = o })
+    more : IsOutOfMemory o ⊎ (outcome r es ≡ record { count = m; parts = q; refusal = o })
+        → IsOutOfMemory o ⊎ (outcome p (e ∷ es) ≡ record { count = suc m; parts = q; refusal = o })
     more (inl w) = inl w
     more (inr g) = inr (ap (λ r. next r p (λ q. outcome q es)) h ∙ ap one_more g)
 
 pub one_run : (p q r : Parts) (es : List Edit) (n m : ℕ) (o u : Option URIReferenceError) → Run p es n q o → Run p es m r u
-    → IsWant o ⊎ (IsWant u ⊎ ((n ≡ m) × (q ≡ r) × (o ≡ u)))
+    → IsOutOfMemory o ⊎ (IsOutOfMemory u ⊎ ((n ≡ m) × (q ≡ r) × (o ≡ u)))
 one_run p q r es n m o u h k = by_outcome (has_outcome p es n q o h) (has_outcome p es m r u k)
   where
-    by_outcome : IsWant o ⊎ (outcome p es ≡ record { count = n; parts = q; refusal = o })
-        → IsWant u ⊎ (outcome p es ≡ record { count = m; parts = r; refusal = u }) → IsWant o ⊎ (IsWant u ⊎ ((n ≡ m) × (q ≡ r) × (o ≡ u)))
+    by_outcome : IsOutOfMemory o ⊎ (outcome p es ≡ record { count = n; parts = q; refusal = o })
+        → IsOutOfMemory u ⊎ (outcome p es ≡ record { count = m; parts = r; refusal = u }) → IsOutOfMemory o ⊎ (IsOutOfMemory u ⊎ ((n ≡ m) × (q ≡ r) × (o ≡ u)))
     by_outcome (inl w) y = inl w
     by_outcome (inr e) (inl w) = inr (inl w)
     by_outcome (inr e) (inr f) =

@@ -6,10 +6,10 @@ use Rattle.std.proofs.lemmas.Bool.{false≢true, and_parts, and_from, not-true}
 use Rattle.uriparse_text.specs.Bytes.{dot, slash, colon}
 use Rattle.uriparse_text.specs.Cuts.{lacks, up_to}
 use Rattle.uriparse_text.proofs.lemmas.readings.CutLemmas.{up_to-append}
-use Rattle.uriparse_path.specs.Path.{PathParts, IsListed, max_segments, text, is_slash, is_rooted, hides_root, has_hidden_root, respelled, has_two_slashes}
+use Rattle.uriparse_path.specs.Path.{PathParts, IsListed, max_segments, text, is_slash, is_rooted, starts_with_empty_segment, has_hidden_root, respelled, has_two_slashes}
 use Rattle.uriparse_path.specs.Relative.{is_first, has_colon}
 use Rattle.uriparse_path.specs.Normal.{stays_relative, pnormal}
-use Rattle.uriparse_path.proofs.lemmas.text.SplitLemmas.{joined-behind}
+use Rattle.uriparse_path.proofs.lemmas.text.SplitLemmas.{joined-following}
 use Rattle.uriparse_path.proofs.lemmas.text.PathTextLemmas.{spelled-text, lacks_slash}
 use Rattle.uriparse_path.proofs.lemmas.text.CanonicalTextLemmas.{length-canonical}
 use Rattle.uriparse_path.proofs.lemmas.dots.DotSegmentLemmas.{has-lacks}
@@ -25,7 +25,7 @@ use Rattle.uriparse_text.specs.Fragment.{IsFragment}
 use Rattle.uriparse_reference.specs.declared.uri_reference.error.URIReferenceError.TheVariants as errors
 use Rattle.uriparse_reference.specs.Reference.{Parts, is_noscheme, path_refusal, Valid}
 use Rattle.uriparse_path.specs.Edits.{dotted}
-use Rattle.uriparse_reference.specs.Normal.{shielded}
+use Rattle.uriparse_reference.specs.Normal.{dot_prefixed}
 use Rattle.uriparse_reference.proofs.lemmas.reading.SpellingLemmas.{HasPlace}
 use Rattle.uriparse_reference.proofs.lemmas.reading.CutLemmas.{no_slashes, no_colon}
 use Rattle.uriparse_reference.proofs.lemmas.edits.EditLemmas.{if_there}
@@ -35,35 +35,35 @@ pub record Fits (v : Bool) (p : PathParts) : Type 0 where
   pub listed : IsListed p.segments
   pub formed : respelled p ≡ p
   pub rooted : v ≡ true → p.absolute ≡ true
-  pub shown : v ≡ false → hides_root p.segments ≡ false
+  pub shown : v ≡ false → starts_with_empty_segment p.segments ≡ false
 
 abbrev pub make : Bool → List (List ℕ) → PathParts
 make a l = record { absolute = a; segments = l }
 
 -- a relative path that its text spells does not begin with an empty segment and another
-pub formed_shown : (p : PathParts) → respelled p ≡ p → p.absolute ≡ false → hides_root p.segments ≡ false
-formed_shown p h k = by_hides (hides_root p.segments) refl
+pub formed_shown : (p : PathParts) → respelled p ≡ p → p.absolute ≡ false → starts_with_empty_segment p.segments ≡ false
+formed_shown p h k = by_hides (starts_with_empty_segment p.segments) refl
   where
-    by_hides : (v : Bool) → hides_root p.segments ≡ v → v ≡ false
+    by_hides : (v : Bool) → starts_with_empty_segment p.segments ≡ v → v ≡ false
     by_hides false e = refl
     by_hides true e =
-        let test : (not p.absolute && hides_root p.segments) ≡ true = and_from _ _ (ap not k) e in
+        let test : (not p.absolute && starts_with_empty_segment p.segments) ≡ true = and_from _ _ (ap not k) e in
         absurd (false≢true (sym k ∙ sym (ap (λ q. q.absolute) (sym (ap (λ w. cond w (make true (drop 1 p.segments)) p) test) ∙ h))))
 
 pub absolute_formed : (p : PathParts) → p.absolute ≡ true → respelled p ≡ p
-absolute_formed p h = ap (λ w. cond (not w && hides_root p.segments) (make true (drop 1 p.segments)) p) h
+absolute_formed p h = ap (λ w. cond (not w && starts_with_empty_segment p.segments) (make true (drop 1 p.segments)) p) h
 
-pub two_slashes : (p : PathParts) → IsListed p.segments → respelled p ≡ p → has_two_slashes (text p) ≡ (p.absolute && hides_root p.segments)
+pub two_slashes : (p : PathParts) → IsListed p.segments → respelled p ≡ p → has_two_slashes (text p) ≡ (p.absolute && starts_with_empty_segment p.segments)
 two_slashes p is h = by_flag p.absolute p.segments is (formed_shown p h)
   where
-    by_flag : (a : Bool) (l : List (List ℕ)) → IsListed l → (a ≡ false → hides_root l ≡ false) → has_two_slashes (text (make a l)) ≡ (a && hides_root l)
+    by_flag : (a : Bool) (l : List (List ℕ)) → IsListed l → (a ≡ false → starts_with_empty_segment l ≡ false) → has_two_slashes (text (make a l)) ≡ (a && starts_with_empty_segment l)
     by_flag true l is f = rooted-text (make false l) is
     by_flag false l is f = let no : is_rooted (text (make false l)) ≡ false = rooted-text (make false l) is ∙ f refl in rw no refl
 
 pub rooted_formed : (p : PathParts) → IsListed p.segments → respelled p ≡ p → is_rooted (text p) ≡ p.absolute
 rooted_formed p is h = by_flag p.absolute p.segments is (formed_shown p h)
   where
-    by_flag : (a : Bool) (l : List (List ℕ)) → IsListed l → (a ≡ false → hides_root l ≡ false) → is_rooted (text (make a l)) ≡ a
+    by_flag : (a : Bool) (l : List (List ℕ)) → IsListed l → (a ≡ false → starts_with_empty_segment l ≡ false) → is_rooted (text (make a l)) ≡ a
     by_flag true l is f = refl
     by_flag false l is f = rooted-text (make false l) is ∙ f refl
 
@@ -78,7 +78,7 @@ twice_not false false h = absurd (false≢true h)
 pub noscheme-text : (l : List (List ℕ)) → IsListed l → is_noscheme (text (make false l)) ≡ not (is_first has_colon l)
 noscheme-text [] is = absurd (omega (arith, is.some))
 noscheme-text (s ∷ ss) is =
-    ap is_noscheme (joined-behind s ss)
+    ap is_noscheme (joined-following s ss)
     ∙ ap (lacks colon) (up_to-append is_slash s (flat_map (λ r. slash ∷ r) ss) (lacks_slash s (and_parts _ _ is.each).0) ∙ ap (λ u. s ++ u) (ends ss)
     ∙ append-nil s)
     ∙ twice_not (has_colon s) (lacks colon s) (has-lacks colon s)
@@ -95,7 +95,7 @@ plain_formed p h = ap (λ w. cond w (make true (drop 1 p.segments)) p) h
 formed_plain : (p : PathParts) → respelled p ≡ p → has_hidden_root p ≡ false
 formed_plain p h = by_flag p.absolute (formed_shown p h)
   where
-    by_flag : (a : Bool) → (a ≡ false → hides_root p.segments ≡ false) → (not a && hides_root p.segments) ≡ false
+    by_flag : (a : Bool) → (a ≡ false → starts_with_empty_segment p.segments ≡ false) → (not a && starts_with_empty_segment p.segments) ≡ false
     by_flag true f = refl
     by_flag false f = f refl
 
@@ -103,10 +103,10 @@ in_place : (v w : Bool) (p : PathParts) → HasPlace v w p → Fits w p
 in_place v true p is = record { listed = is.is_path; formed = plain_formed p is.plain; rooted = is.absolute; shown = λ h. absurd (false≢true (sym h)) }
 in_place v false p is =
     let formed : respelled p ≡ p = plain_formed p is.plain in
-    let two : (p.absolute && hides_root p.segments) ≡ false = sym (two_slashes p is.is_path formed) ∙ no_slashes v (text p) is.fit in
+    let two : (p.absolute && starts_with_empty_segment p.segments) ≡ false = sym (two_slashes p is.is_path formed) ∙ no_slashes v (text p) is.fit in
     record { listed = is.is_path; formed = formed; rooted = is.absolute; shown = λ h. by_flag p.absolute two (formed_shown p formed) }
   where
-    by_flag : (a : Bool) → (a && hides_root p.segments) ≡ false → (a ≡ false → hides_root p.segments ≡ false) → hides_root p.segments ≡ false
+    by_flag : (a : Bool) → (a && starts_with_empty_segment p.segments) ≡ false → (a ≡ false → starts_with_empty_segment p.segments ≡ false) → starts_with_empty_segment p.segments ≡ false
     by_flag true two f = two
     by_flag false two f = f refl
 
@@ -176,7 +176,7 @@ valid_made s a p q f vs va is vq vf = record {
 -- ---- the leading "."
 
 pub shielded_cases : (q : PathParts) (P : PathParts → Type 0) → (has_two_slashes (text q) ≡ true → P (dotted q)) → (has_two_slashes (text q) ≡ false → P q)
-    → P (shielded None q)
+    → P (dot_prefixed None q)
 shielded_cases q P f g = by_test (has_two_slashes (text q)) f g
   where
     by_test : (v : Bool) → (v ≡ true → P (dotted q)) → (v ≡ false → P q) → P (cond v (dotted q) q)
@@ -184,10 +184,10 @@ shielded_cases q P f g = by_test (has_two_slashes (text q)) f g
     by_test false f g = g refl
 
 pub fits_shielded : (a : Option AuthorityParts) (q : PathParts) → IsListed q.segments → respelled q ≡ q → (is_some a ≡ true → q.absolute ≡ true)
-    → (is_some a ≡ false → hides_root q.segments ≡ true → suc (length q.segments) ≤ max_segments) → Fits (is_some a) (shielded a q)
+    → (is_some a ≡ false → starts_with_empty_segment q.segments ≡ true → suc (length q.segments) ≤ max_segments) → Fits (is_some a) (dot_prefixed a q)
 fits_shielded (Some a) q is h f g = record { listed = is; formed = h; rooted = f; shown = λ k. absurd (false≢true (sym k)) }
 fits_shielded None q is h f g = shielded_cases q (λ p. Fits false p)
-    (λ e. let both = and_parts q.absolute (hides_root q.segments) (sym (two_slashes q is h) ∙ e) in
+    (λ e. let both = and_parts q.absolute (starts_with_empty_segment q.segments) (sym (two_slashes q is h) ∙ e) in
     let fit = g refl both.1 in
     record {
       listed = record { some = omega arith; short = omega (arith, fit); each = and_from _ _ dot_segment is.each };
@@ -206,20 +206,20 @@ fits_shielded None q is h f g = shielded_cases q (λ p. Fits false p)
     dot_formed true = refl
     dot_formed false = refl
 
-    by_flag : (a : Bool) → (a && hides_root q.segments) ≡ false → (a ≡ false → hides_root q.segments ≡ false) → hides_root q.segments ≡ false
+    by_flag : (a : Bool) → (a && starts_with_empty_segment q.segments) ≡ false → (a ≡ false → starts_with_empty_segment q.segments ≡ false) → starts_with_empty_segment q.segments ≡ false
     by_flag true two f = two
     by_flag false two f = f refl
 
-pub undotted_shielded : (a : Option AuthorityParts) (q : PathParts) → 0 < length q.segments → undotted (shielded a q) ≡ undotted q
+pub undotted_shielded : (a : Option AuthorityParts) (q : PathParts) → 0 < length q.segments → undotted (dot_prefixed a q) ≡ undotted q
 undotted_shielded (Some a) q h = refl
 undotted_shielded None q h = shielded_cases q (λ p. undotted p ≡ undotted q) (λ e. dot_undotted q.absolute q.segments h) (λ e. refl)
 
 -- a path that may be without an authority needs none
-pub shielded_fits : (a : Option AuthorityParts) (q : PathParts) → Fits (is_some a) q → shielded a q ≡ q
+pub shielded_fits : (a : Option AuthorityParts) (q : PathParts) → Fits (is_some a) q → dot_prefixed a q ≡ q
 shielded_fits (Some a) q is = refl
 shielded_fits None q is =
     shielded_cases q (λ p. p ≡ q) (λ e. absurd (false≢true (sym (is.shown refl)
-    ∙ (and_parts q.absolute (hides_root q.segments) (sym (two_slashes q is.listed is.formed) ∙ e)).1))) (λ e. refl)
+    ∙ (and_parts q.absolute (starts_with_empty_segment q.segments) (sym (two_slashes q is.listed is.formed) ∙ e)).1))) (λ e. refl)
 
 -- ---- the normal form of a path that obeys the rules
 
@@ -227,36 +227,36 @@ pub pnormal_formed : (p : PathParts) (r : Bool) → IsListed p.segments → resp
 pnormal_formed p r is h = sym (spelled-text (pnormal p r) (listed_pnormal p r is)) ∙ pnormal_spelled p r is (spelled-text p is ∙ h)
 
 -- if it comes to begin with an empty segment and another, it has become shorter
-pub pnormal_room : (p : PathParts) (r : Bool) → Fits false p → hides_root (pnormal p r).segments ≡ true
+pub pnormal_room : (p : PathParts) (r : Bool) → Fits false p → starts_with_empty_segment (pnormal p r).segments ≡ true
     → suc (length (pnormal p r).segments) ≤ length p.segments
 pnormal_room p r is h = by_case (stays_relative p r) refl
   where
     by_case : (v : Bool) → stays_relative p r ≡ v → suc (length (pnormal p r).segments) ≤ length p.segments
-    by_case true e = absurd (false≢true (sym (hides_relative p.segments) ∙ ap (λ q. hides_root q.segments) (sym (pnormal_relative p r e)) ∙ h))
+    by_case true e = absurd (false≢true (sym (hides_relative p.segments) ∙ ap (λ q. starts_with_empty_segment q.segments) (sym (pnormal_relative p r e)) ∙ h))
     by_case false e =
         let same = pnormal_is p r is.listed is.formed e in
-        let hidden : hides_root (undotted p).segments ≡ true = sym (hides-canonical (undotted p).segments) ∙ ap (λ q. hides_root q.segments) (sym same) ∙ h in
+        let hidden : starts_with_empty_segment (undotted p).segments ≡ true = sym (hides-canonical (undotted p).segments) ∙ ap (λ q. starts_with_empty_segment q.segments) (sym same) ∙ h in
         let k = room p (is.shown refl) hidden in
         omega (arith, ap (λ q. length q.segments) same, length-canonical (undotted p).segments, k)
 
 pub length_shielded : (a : Option AuthorityParts) (p : PathParts) (r : Bool) → Fits (is_some a) p
-    → length (shielded a (pnormal p r)).segments ≤ length p.segments
+    → length (dot_prefixed a (pnormal p r)).segments ≤ length p.segments
 length_shielded (Some a) p r is = length_pnormal p r is.listed
 length_shielded None p r is = shielded_cases (pnormal p r) (λ q. length q.segments ≤ length p.segments)
-    (λ e. let both = and_parts (pnormal p r).absolute (hides_root (pnormal p r).segments)
+    (λ e. let both = and_parts (pnormal p r).absolute (starts_with_empty_segment (pnormal p r).segments)
     (sym (two_slashes (pnormal p r) (listed_pnormal p r is.listed) (pnormal_formed p r is.listed is.formed)) ∙ e) in
     let k = pnormal_room p r is both.1 in omega (arith, k))
     (λ e. length_pnormal p r is.listed)
 
-pub fits_normal : (a : Option AuthorityParts) (p : PathParts) (r : Bool) → Fits (is_some a) p → Fits (is_some a) (shielded a (pnormal p r))
+pub fits_normal : (a : Option AuthorityParts) (p : PathParts) (r : Bool) → Fits (is_some a) p → Fits (is_some a) (dot_prefixed a (pnormal p r))
 fits_normal a p r is = fits_shielded a (pnormal p r) (listed_pnormal p r is.listed) (pnormal_formed p r is.listed is.formed)
     (λ h. pnormal_absolute p r is.listed (is.rooted h))
     (λ h k. let n = pnormal_room p r (subst (λ v. Fits v p) h is) k in let s = is.listed.short in omega (arith, n, s))
 
 -- a schemeless one keeps the colon rule
 pub colon_normal : (a : Option AuthorityParts) (p : PathParts) → Fits false p → is_some a ≡ false
-    → (p.absolute ≡ false → is_first has_colon p.segments ≡ false) → (shielded a (pnormal p true)).absolute ≡ false
-    → is_first has_colon (shielded a (pnormal p true)).segments ≡ false
+    → (p.absolute ≡ false → is_first has_colon p.segments ≡ false) → (dot_prefixed a (pnormal p true)).absolute ≡ false
+    → is_first has_colon (dot_prefixed a (pnormal p true)).segments ≡ false
 colon_normal (Some a) p is h f k = absurd (false≢true (sym h))
 colon_normal None p is h f k = shielded_cases (pnormal p true) (λ q. q.absolute ≡ false
     → is_first has_colon q.segments ≡ false) (λ e k. refl) (λ e k. by_flag p.absolute refl k) k

@@ -4,7 +4,7 @@ use Rattle.std.specs.Prelude.{is_some, nat_lt, Ok, Err}
 use Rattle.std.specs.List.{list_all}
 use Rattle.std.proofs.lemmas.Bool.{false≢true, and_from}
 use Rattle.uriparse_text.specs.Readings.{◌>>=◌, of_piece, unless_fault, SettlesUnless}
-use Rattle.uriparse_path.specs.Path.{PathParts, IsListed, hides_root, max_segments, respelled, text}
+use Rattle.uriparse_path.specs.Path.{PathParts, IsListed, starts_with_empty_segment, max_segments, respelled, text}
 use Rattle.uriparse_text.specs.Segment.{is_segment}
 use Rattle.uriparse_path.specs.Dots.{all_but_last}
 use Rattle.uriparse_path.specs.Relative.{filled, is_first, has_colon}
@@ -44,7 +44,7 @@ listed_popped l is =
     let counted = counted_popped l (record { some = is.some; short = is.short }) in
     record { some = counted.some; short = counted.short; each = each_filled (all_but_last l) (each_cut l is.each) }
 
-hides_popped : (l : List (List ℕ)) → hides_root l ≡ false → hides_root (filled (all_but_last l)) ≡ false
+hides_popped : (l : List (List ℕ)) → starts_with_empty_segment l ≡ false → starts_with_empty_segment (filled (all_but_last l)) ≡ false
 hides_popped [] h = refl
 hides_popped (s ∷ []) h = refl
 hides_popped ([] ∷ r ∷ l) h = absurd (false≢true (sym h))
@@ -67,15 +67,15 @@ fits_popped w p is = record {
     by_flag true l h = refl
     by_flag false l h = plain_formed (popped (make false l)) (hides_popped l (formed_shown (make false l) h refl))
 
-place_popped : (p : Parts) → Valid p → HasPlace (is_some p.scheme) (is_some p.authority) (popped p.path)
-place_popped p v =
+fit_popped : (p : Parts) → Valid p → HasPlace (is_some p.scheme) (is_some p.authority) (popped p.path)
+fit_popped p v =
     placed (is_some p.scheme) (is_some p.authority) (popped p.path) (fits_popped (is_some p.authority) p.path (fits_of p v))
     (λ h k e. colon_popped p.path.segments (colon_of p v h k e))
 
 -- a valid reference stays one without its last segment
 pub valid_popped : (p : Parts) → Valid p → Valid (record p { path = popped p.path })
 valid_popped p v =
-    let z = place_popped p v in
+    let z = fit_popped p v in
     record {
       is_scheme = v.is_scheme;
       is_authority = v.is_authority;

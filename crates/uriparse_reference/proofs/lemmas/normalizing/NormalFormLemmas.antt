@@ -5,7 +5,7 @@ use Rattle.std.specs.Prelude.{is_some, is_none}
 use Rattle.std.specs.Option.{option_map}
 use Rattle.std.proofs.lemmas.Bool.{false≢true, and_parts}
 use Rattle.uriparse_text.specs.declared.internal.class.Class.TheVariants.{Query}
-use Rattle.uriparse_path.specs.Path.{PathParts, IsListed, hides_root, respelled}
+use Rattle.uriparse_path.specs.Path.{PathParts, IsListed, starts_with_empty_segment, respelled}
 use Rattle.uriparse_path.specs.Relative.{is_first, has_colon}
 use Rattle.uriparse_path.specs.Normal.{canonical_path, stays_relative, pnormal}
 use Rattle.uriparse_path.proofs.lemmas.normal.NormalFormLemmas.{listed_pnormal, pnormal_twice}
@@ -16,7 +16,7 @@ use Rattle.uriparse_scheme.specs.declared.scheme.Scheme.{Scheme}
 use Rattle.uriparse_scheme.specs.Normal.{canonical_scheme}
 use Rattle.uriparse_reference.specs.Reference.{Parts, Valid, kind}
 use Rattle.uriparse_path.specs.Edits.{dotted}
-use Rattle.uriparse_reference.specs.Normal.{shielded, normal}
+use Rattle.uriparse_reference.specs.Normal.{dot_prefixed, normal}
 use Rattle.uriparse_reference.proofs.lemmas.reading.SpellingLemmas.{HasPlace}
 use Rattle.uriparse_reference.proofs.lemmas.equality.CanonicalComponentLemmas.{scheme_valid, scheme_twice, text_valid, text_twice, some_map, none_map}
 use Rattle.uriparse_reference.proofs.lemmas.equality.CanonicalComponentLemmas.{authority-kind, authority_valid, authority_twice}
@@ -30,8 +30,8 @@ fits_normal_path p v = fits_normal p.authority p.path (is_none p.scheme) (fits_o
 
 pub colon_there : (p : Parts) → Valid p → (s : Option Scheme) → (is_some s ≡ false → p.path.absolute ≡ false → is_first has_colon p.path.segments ≡ false)
     → is_some s ≡ false → is_some p.authority ≡ false
-    → (shielded p.authority (pnormal p.path (is_none s))).absolute ≡ false
-    → is_first has_colon (shielded p.authority (pnormal p.path (is_none s))).segments ≡ false
+    → (dot_prefixed p.authority (pnormal p.path (is_none s))).absolute ≡ false
+    → is_first has_colon (dot_prefixed p.authority (pnormal p.path (is_none s))).segments ≡ false
 colon_there p v (Some s) f h k e = absurd (false≢true (sym h))
 colon_there p v None f h k e = colon_normal p.authority p.path (subst (λ w. Fits w p.path) k (fits_of p v)) k (f refl) e
 
@@ -82,24 +82,24 @@ pub pnormal_either : (q : PathParts) (r s : Bool) → IsListed q.segments → q.
 pnormal_either q r s is h = pnormal_is q r is (absolute_formed q h) (absolute_stays q r h)
     ∙ sym (pnormal_is q s is (absolute_formed q h) (absolute_stays q s h))
 
-pub pnormal_shielded : (a : Option AuthorityParts) (q : PathParts) (r : Bool) → IsListed q.segments → respelled q ≡ q → Fits (is_some a) (shielded a q)
-    → pnormal (shielded a q) r ≡ pnormal q r
+pub pnormal_shielded : (a : Option AuthorityParts) (q : PathParts) (r : Bool) → IsListed q.segments → respelled q ≡ q → Fits (is_some a) (dot_prefixed a q)
+    → pnormal (dot_prefixed a q) r ≡ pnormal q r
 pnormal_shielded (Some a) q r is h fit = refl
 pnormal_shielded None q r is h fit = shielded_cases q (λ p. Fits false p → pnormal p r ≡ pnormal q r)
-    (λ e f. pnormal_dotted q r is f.listed (and_parts q.absolute (hides_root q.segments) (sym (two_slashes q is h) ∙ e)).0)
+    (λ e f. pnormal_dotted q r is f.listed (and_parts q.absolute (starts_with_empty_segment q.segments) (sym (two_slashes q is h) ∙ e)).0)
     (λ e f. refl) fit
 
 -- ---- twice
 
-pub shielded_map : (f : AuthorityParts → AuthorityParts) (a : Option AuthorityParts) (q : PathParts) → shielded (option_map f a) q ≡ shielded a q
+pub shielded_map : (f : AuthorityParts → AuthorityParts) (a : Option AuthorityParts) (q : PathParts) → dot_prefixed (option_map f a) q ≡ dot_prefixed a q
 shielded_map f None q = refl
 shielded_map f (Some a) q = refl
 
-pub path_twice : (p : Parts) → Valid p → shielded p.authority (pnormal (normal p).path (is_none p.scheme)) ≡ (normal p).path
+pub path_twice : (p : Parts) → Valid p → dot_prefixed p.authority (pnormal (normal p).path (is_none p.scheme)) ≡ (normal p).path
 path_twice p v =
     let is = fits_of p v in
     let r = is_none p.scheme in
-    ap (shielded p.authority) (
+    ap (dot_prefixed p.authority) (
     pnormal_shielded p.authority (pnormal p.path r) r (listed_pnormal p.path r is.listed) (pnormal_formed p.path r is.listed is.formed) (fits_normal_path p v)
     ∙ pnormal_twice p.path r is.listed)
 
@@ -107,7 +107,7 @@ pub normal_twice : (p : Parts) → Valid p → normal (normal p) ≡ normal p
 normal_twice p v =
     let h : (normal (normal p)).path ≡ (normal p).path =
     shielded_map canonical_authority p.authority (pnormal (normal p).path (is_none (option_map canonical_scheme p.scheme)))
-    ∙ ap (λ r. shielded p.authority (pnormal (normal p).path r)) (none_map canonical_scheme p.scheme)
+    ∙ ap (λ r. dot_prefixed p.authority (pnormal (normal p).path r)) (none_map canonical_scheme p.scheme)
     ∙ path_twice p v in
     ap (λ s. build s (normal (normal p)).authority (normal (normal p)).path (normal (normal p)).query (normal (normal p)).fragment)
     (scheme_twice p.scheme v.is_scheme)

@@ -9,10 +9,10 @@ use Rattle.std.proofs.lemmas.Slice.Eq.{bytes_eq-Decides}
 use Rattle.uriparse_text.specs.Bytes.{dot}
 use Rattle.uriparse_text.specs.Canonical.{canonical}
 use Rattle.uriparse_text.specs.Segment.{is_segment}
-use Rattle.uriparse_path.specs.Path.{PathParts, IsListed, text, spelled, hides_root, respelled, has_two_slashes}
+use Rattle.uriparse_path.specs.Path.{PathParts, IsListed, text, spelled, starts_with_empty_segment, respelled, has_two_slashes}
 use Rattle.uriparse_path.specs.Normal.{pnormal}
 use Rattle.uriparse_path.specs.Normal as path
-use Rattle.uriparse_path.specs.Normal.{is_shielded}
+use Rattle.uriparse_path.specs.Normal.{is_dot_prefixed}
 use Rattle.uriparse_path.proofs.lemmas.text.PathTextLemmas.{spelled-text}
 use Rattle.uriparse_path.proofs.lemmas.normal.NormalFormLemmas.{listed_pnormal, pnormal_twice, normal_iff, normal_kept}
 use Rattle.uriparse_authority.specs.Authority as authority
@@ -22,7 +22,7 @@ use Rattle.uriparse_scheme.specs.Scheme as scheme
 use Rattle.uriparse_reference.specs.Reference.{Parts, joined, Valid, scheme_part, authority_part, print, kind}
 use Rattle.uriparse_reference.specs.Cuts.{scheme_text, authority_text, path_text, query_text, fragment_text}
 use Rattle.uriparse_path.specs.Edits.{dotted}
-use Rattle.uriparse_reference.specs.Normal.{shielded, normal, is_normal}
+use Rattle.uriparse_reference.specs.Normal.{dot_prefixed, normal, is_normal}
 use Rattle.uriparse_reference.proofs.lemmas.equality.EqualityLemmas.{print_cut, same_scheme}
 use Rattle.uriparse_authority.proofs.lemmas.authorities.NormalLemmas.{one_printed}
 use Rattle.uriparse_reference.proofs.lemmas.equality.CanonicalComponentLemmas.{scheme-text, same_texts}
@@ -44,17 +44,17 @@ or_right : (v w : Bool) → w ≡ true → (v || w) ≡ true
 or_right true w h = refl
 or_right false w h = h
 
-some_hidden : (l : List (List ℕ)) → hides_root l ≡ true → 0 < length l
+some_hidden : (l : List (List ℕ)) → starts_with_empty_segment l ≡ true → 0 < length l
 some_hidden [] h = absurd (false≢true h)
 some_hidden (s ∷ l) h = omega arith
 
 -- a path with a "." that is needed
-kept_shielded : (a : Bool) (l : List (List ℕ)) (r : Bool) → IsListed l → is_shielded a l ≡ true → text (shielded None (pnormal (make a l) r)) ≡ text (make a l)
+kept_shielded : (a : Bool) (l : List (List ℕ)) (r : Bool) → IsListed l → is_dot_prefixed a l ≡ true → text (dot_prefixed None (pnormal (make a l) r)) ≡ text (make a l)
 kept_shielded a [] r is h = absurd (false≢true h)
 kept_shielded false (s ∷ ss) r is h = absurd (false≢true h)
 kept_shielded true (s ∷ ss) r is h =
-    let x = and_parts (bytes_eq s (dot ∷ []) && hides_root ss) (path.is_normal (make true ss) false) h in
-    let y = and_parts (bytes_eq s (dot ∷ [])) (hides_root ss) x.0 in
+    let x = and_parts (bytes_eq s (dot ∷ []) && starts_with_empty_segment ss) (path.is_normal (make true ss) false) h in
+    let y = and_parts (bytes_eq s (dot ∷ [])) (starts_with_empty_segment ss) x.0 in
     let e : s ≡ dot ∷ [] = (bytes_eq-Decides s (dot ∷ [])).0 y.0 in
     let short = is.short in
     let listed : IsListed ss = record {
@@ -66,17 +66,17 @@ kept_shielded true (s ∷ ss) r is h =
     let same : pnormal (make true ((dot ∷ []) ∷ ss)) r ≡ make true ss = pnormal_dotted (make true ss) r listed more refl
     ∙ pnormal_either (make true ss) r false listed refl ∙ normal_kept (make true ss) false listed x.1 in
     let two : has_two_slashes (text (make true ss)) ≡ true = two_slashes (make true ss) listed refl ∙ y.1 in
-    ap (λ u. text (shielded None (pnormal (make true (u ∷ ss)) r))) e
-    ∙ ap (λ q. text (shielded None q)) same
+    ap (λ u. text (dot_prefixed None (pnormal (make true (u ∷ ss)) r))) e
+    ∙ ap (λ q. text (dot_prefixed None q)) same
     ∙ ap (λ v. text (cond v (dotted (make true ss)) (make true ss))) two
     ∙ ap (λ u. text (make true (u ∷ ss))) (sym e)
 
 -- the path after this authority, or without one, is its own normal form
 abbrev is_normal_path : Option AuthorityParts → PathParts → Bool → Bool
-is_normal_path a p r = path.is_normal p r || (is_none a && is_shielded p.absolute p.segments)
+is_normal_path a p r = path.is_normal p r || (is_none a && is_dot_prefixed p.absolute p.segments)
 
 pub path_iff : (a : Option AuthorityParts) (p : PathParts) (r : Bool) → Fits (is_some a) p
-    → (is_normal_path a p r ≡ true) ↔ (text (shielded a (pnormal p r)) ≡ text p)
+    → (is_normal_path a p r ≡ true) ↔ (text (dot_prefixed a (pnormal p r)) ≡ text p)
 path_iff (Some a) p r is = (
   (λ h. (normal_iff p r is.listed).0 (sym (or_false (path.is_normal p r)) ∙ h)),
   (λ e. or_false (path.is_normal p r)
@@ -84,30 +84,30 @@ path_iff (Some a) p r is = (
 )
 path_iff None p r is = (there, back)
   where
-    by_test : (v : Bool) → path.is_normal p r ≡ v → (v || is_shielded p.absolute p.segments) ≡ true → text (shielded None (pnormal p r)) ≡ text p
-    by_test true e h = ap (λ q. text (shielded None q)) (normal_kept p r is.listed e) ∙ ap text (shielded_fits None p is)
+    by_test : (v : Bool) → path.is_normal p r ≡ v → (v || is_dot_prefixed p.absolute p.segments) ≡ true → text (dot_prefixed None (pnormal p r)) ≡ text p
+    by_test true e h = ap (λ q. text (dot_prefixed None q)) (normal_kept p r is.listed e) ∙ ap text (shielded_fits None p is)
     by_test false e h = kept_shielded p.absolute p.segments r is.listed h
 
-    there : is_normal_path None p r ≡ true → text (shielded None (pnormal p r)) ≡ text p
+    there : is_normal_path None p r ≡ true → text (dot_prefixed None (pnormal p r)) ≡ text p
     there h = by_test (path.is_normal p r) refl h
 
     needed : has_two_slashes (text (pnormal p r)) ≡ true → Fits false (dotted (pnormal p r)) → text (dotted (pnormal p r)) ≡ text p
         → is_normal_path None p r ≡ true
     needed e fit g =
         let listed = listed_pnormal p r is.listed in
-        let both = and_parts (pnormal p r).absolute (hides_root (pnormal p r).segments)
+        let both = and_parts (pnormal p r).absolute (starts_with_empty_segment (pnormal p r).segments)
         (sym (two_slashes (pnormal p r) listed (pnormal_formed p r is.listed is.formed)) ∙ e) in
         let same : dotted (pnormal p r) ≡ p = same_path (dotted (pnormal p r)) p fit.listed fit.formed is.listed is.formed g in
         let own : pnormal (pnormal p r) false ≡ pnormal p r = pnormal_either (pnormal p r) false r listed both.0 ∙ pnormal_twice p r is.listed in
-        let shielded_too : is_shielded (pnormal p r).absolute ((dot ∷ []) ∷ (pnormal p r).segments) ≡ true =
+        let shielded_too : is_dot_prefixed (pnormal p r).absolute ((dot ∷ []) ∷ (pnormal p r).segments) ≡ true =
         and_from _ _ (and_from _ _ (and_from _ _ both.0 ((bytes_eq-Decides (dot ∷ []) (dot ∷ [])).1 refl)) both.1)
         ((normal_iff (pnormal p r) false listed).1 (ap text own)) in
-        or_right (path.is_normal p r) (is_shielded p.absolute p.segments) (subst (λ q. is_shielded q.absolute q.segments ≡ true) same shielded_too)
+        or_right (path.is_normal p r) (is_dot_prefixed p.absolute p.segments) (subst (λ q. is_dot_prefixed q.absolute q.segments ≡ true) same shielded_too)
 
-    back : text (shielded None (pnormal p r)) ≡ text p → is_normal_path None p r ≡ true
+    back : text (dot_prefixed None (pnormal p r)) ≡ text p → is_normal_path None p r ≡ true
     back e = shielded_cases (pnormal p r) (λ q. Fits false q → text q ≡ text p → is_normal_path None p r ≡ true)
         (λ h fit g. needed h fit g)
-        (λ h fit g. or_left (path.is_normal p r) (is_shielded p.absolute p.segments) ((normal_iff p r is.listed).1 g))
+        (λ h fit g. or_left (path.is_normal p r) (is_dot_prefixed p.absolute p.segments) ((normal_iff p r is.listed).1 g))
         (fits_normal None p r is) e
 
 pub normal_exactly : (p : Parts) → Valid p → (is_normal p ≡ true) ↔ (print (normal p) ≡ print p)
@@ -167,7 +167,7 @@ kept_whole p v h =
 
 -- the path's normal form depends only on what precedes it
 pub placed_normal : (s : Option Scheme) (a : Option AuthorityParts) (p : PathParts)
-    → path.normal_at (record { has_scheme = is_some s; has_authority = is_some a }) p ≡ shielded a (pnormal p (is_none s))
+    → path.normal_at (record { has_scheme = is_some s; has_authority = is_some a }) p ≡ dot_prefixed a (pnormal p (is_none s))
 placed_normal s None p = refl
 placed_normal s (Some a) p = refl
 

@@ -12,7 +12,7 @@ use Rattle.uriparse_text.specs.declared.internal.class.Class.TheVariants as clas
 use Rattle.uriparse_text.specs.Bytes.{percent, slash, colon, question_mark, number_sign, at_sign, left_bracket, right_bracket, is_among, is_hex}
 use Rattle.uriparse_text.specs.Bytes.{is_unreserved, is_sub_delim}
 use Rattle.uriparse_text.specs.Classes.{is_plain}
-use Rattle.uriparse_text.specs.Cuts.{behind, ahead}
+use Rattle.uriparse_text.specs.Cuts.{following, ahead}
 use Rattle.uriparse_text.specs.Faults.{IsIn}
 use Rattle.uriparse_text.specs.Readings.{IfPresent}
 use Rattle.uriparse_text.specs.Segment.{is_segment}
@@ -33,7 +33,7 @@ use Rattle.uriparse_scheme.specs.declared.scheme.Scheme.{Scheme}
 use Rattle.uriparse_scheme.specs.Grammar.{is_scheme, is_scheme_byte}
 use Rattle.uriparse_scheme.specs.Scheme as scheme
 use Rattle.uriparse_scheme.proofs.lemmas.schemes.GrammarLemmas.{scheme_bytes}
-use Rattle.uriparse_reference.specs.Reference.{Parts, Spells, Valid, authority_part, behind_slashes, joined, print, scheme_part}
+use Rattle.uriparse_reference.specs.Reference.{Parts, Spells, Valid, authority_part, after_slashes, joined, print, scheme_part}
 use Rattle.uriparse_reference.proofs.lemmas.reading.ReadingLemmas.{scheme_back}
 use Rattle.uriparse_reference.proofs.lemmas.reading.SpellingLemmas.{valid_placed}
 
@@ -100,9 +100,9 @@ some_class : (c : Class) (o : Option (List ℕ)) → IfSome o (IsIn c) → IfSom
 some_class c None h = tt
 some_class c (Some t) h = uri_bytes-in_class c t h
 
-behind_mark : (mark : ℕ) → is_uri_byte mark ≡ true → (o : Option (List ℕ)) → IfSome o AreUriBytes → AreUriBytes (behind mark o)
-behind_mark mark h None k = refl
-behind_mark mark h (Some t) k = one mark h t k
+after_mark : (mark : ℕ) → is_uri_byte mark ≡ true → (o : Option (List ℕ)) → IfSome o AreUriBytes → AreUriBytes (following mark o)
+after_mark mark h None k = refl
+after_mark mark h (Some t) k = one mark h t k
 
 ahead_mark : (mark : ℕ) → is_uri_byte mark ≡ true → (o : Option (List ℕ)) → IfSome o AreUriBytes → AreUriBytes (ahead mark o)
 ahead_mark mark h None k = refl
@@ -128,14 +128,14 @@ of_port (Some t) n h = weaker (λ b. is_digit b 10) is_uri_byte digit_byte t h.d
 
 of_userinfo : (u w : Option (List ℕ)) → IfSome u AreUriBytes → IfSome w AreUriBytes → IfSome (userinfo u w) AreUriBytes
 of_userinfo None w h k = tt
-of_userinfo (Some t) w h k = both t (behind colon w) h (behind_mark colon refl w k)
+of_userinfo (Some t) w h k = both t (following colon w) h (after_mark colon refl w k)
 
 of_parts : (u w : Option (List ℕ)) (g : List ℕ) (o : Option (List ℕ)) → IfSome u (IsIn class.Name) → IfSome w (IsIn class.UserInfo) → IsHostText g
     → IfSome o AreUriBytes → AreUriBytes (authority.joined u w g o)
 of_parts u w g o h k i j =
     let front = ahead_mark at_sign refl (userinfo u w) (of_userinfo u w (some_class class.Name u h) (some_class class.UserInfo w k)) in
-    let back = both g (behind colon o) (of_host g i) (behind_mark colon refl o j) in
-    both (ahead at_sign (userinfo u w)) (g ++ behind colon o) front back
+    let back = both g (following colon o) (of_host g i) (after_mark colon refl o j) in
+    both (ahead at_sign (userinfo u w)) (g ++ following colon o) front back
 
 of_authority : (a : List ℕ) (p : AuthorityParts) → authority.Spells a p → AreUriBytes a
 of_authority a p s =
@@ -146,14 +146,14 @@ printed_port : (o : Option ℕ) → IfSome o port.IsPort → IfSome (option_map 
 printed_port None h = tt
 printed_port (Some n) h = of_port (Some (port.text n)) (Some n) (port_printed n h)
 
-printed_slashes : (o : Option AuthorityParts) → IfSome o authority.Valid → AreUriBytes (behind_slashes (option_map authority.print o))
+printed_slashes : (o : Option AuthorityParts) → IfSome o authority.Valid → AreUriBytes (after_slashes (option_map authority.print o))
 printed_slashes None h = refl
 printed_slashes (Some p) v =
     one slash refl (slash ∷ authority.print p) (one slash refl (authority.print p)
     (of_parts p.username p.password (host.text p.host) (option_map port.text p.port) v.is_username v.is_password (printed_host p.host v.is_host)
     (printed_port p.port v.is_port)))
 
-of_slashes : (o : Option (List ℕ)) (a : Option AuthorityParts) → IfPresent authority.Spells o a → AreUriBytes (behind_slashes o)
+of_slashes : (o : Option (List ℕ)) (a : Option AuthorityParts) → IfPresent authority.Spells o a → AreUriBytes (after_slashes o)
 of_slashes None None h = refl
 of_slashes None (Some a) h = absurd h
 of_slashes (Some t) None h = absurd h
@@ -175,13 +175,13 @@ uri_bytes-path t is =
 
 -- ---- whole texts
 
-of_whole : (x a : Option (List ℕ)) (h : List ℕ) (q f : Option (List ℕ)) → IfSome x AreUriBytes → AreUriBytes (behind_slashes a) → IsPath h
+of_whole : (x a : Option (List ℕ)) (h : List ℕ) (q f : Option (List ℕ)) → IfSome x AreUriBytes → AreUriBytes (after_slashes a) → IsPath h
     → IfSome q (IsIn class.Query) → IfSome f (IsIn class.Query) → AreUriBytes (joined x a h q f)
 of_whole x a h q f i j k m n =
-    let tail = both h (behind question_mark q ++ behind number_sign f) (uri_bytes-path h k) (both (behind question_mark q) (behind number_sign f)
-    (behind_mark question_mark refl q (some_class class.Query q m)) (behind_mark number_sign refl f (some_class class.Query f n))) in
+    let tail = both h (following question_mark q ++ following number_sign f) (uri_bytes-path h k) (both (following question_mark q) (following number_sign f)
+    (after_mark question_mark refl q (some_class class.Query q m)) (after_mark number_sign refl f (some_class class.Query f n))) in
     both (ahead colon x) _ (ahead_mark colon refl x i)
-    (both (behind_slashes a) (h ++ (behind question_mark q ++ behind number_sign f)) j tail)
+    (both (after_slashes a) (h ++ (following question_mark q ++ following number_sign f)) j tail)
 
 pub uri_bytes-spelled : (t : List ℕ) (p : Parts) → Spells t p → AreUriBytes t
 uri_bytes-spelled t p s =

@@ -7,9 +7,9 @@ use Rattle.std.proofs.lemmas.Bool.{false≢true, eqb-true, and_parts, and_from}
 use Rattle.uriparse_text.specs.declared.internal.class.Class.TheVariants.{Query}
 use Rattle.uriparse_text.specs.Bytes.{slash, colon, question_mark, number_sign, is_unreserved, is_sub_delim}
 use Rattle.uriparse_text.specs.Classes.{is_plain}
-use Rattle.uriparse_text.specs.Cuts.{lacks, none_pass, behind, before, after, rest, part, up_to, from_first}
+use Rattle.uriparse_text.specs.Cuts.{lacks, none_pass, following, before, after, rest, part, up_to, from_first}
 use Rattle.uriparse_text.specs.Query.{IsQuery}
-use Rattle.uriparse_text.proofs.lemmas.readings.CutLemmas.{lacks-append, lacks-behind, lacks-in_class, up_to-append}
+use Rattle.uriparse_text.proofs.lemmas.readings.CutLemmas.{lacks-append, lacks-following, lacks-in_class, up_to-append}
 use Rattle.uriparse_text.proofs.lemmas.readings.CutLemmas.{from_first-append, before_of, after_of, front_of}
 use Rattle.uriparse_path.specs.Path.{IsPath, is_slash, is_rooted, has_two_slashes}
 use Rattle.uriparse_path.proofs.lemmas.text.PathTextLemmas.{lacks-path}
@@ -17,7 +17,7 @@ use Rattle.uriparse_authority.specs.Authority.{ends_authority}
 use Rattle.uriparse_authority.proofs.lemmas.authorities.AuthorityLemmas.{LacksEnds}
 use Rattle.uriparse_scheme.specs.Scheme as scheme
 use Rattle.uriparse_reference.specs.declared.uri_reference.error.URIReferenceError.TheVariants as errors
-use Rattle.uriparse_reference.specs.Reference.{behind_slashes, joined, is_abempty, is_noscheme, path_refusal}
+use Rattle.uriparse_reference.specs.Reference.{after_slashes, joined, is_abempty, is_noscheme, path_refusal}
 use Rattle.uriparse_scheme.specs.Cuts.{if_scheme, scheme_text, ends_segment, unless_scheme, after_scheme, has_colon_segment}
 use Rattle.uriparse_scheme.proofs.lemmas.schemes.CutLemmas.{NoScheme, no_scheme, scheme_colon, slash_no_scheme}
 use Rattle.uriparse_reference.specs.Cuts.{cut_authority, authority_text, without_authority}
@@ -35,7 +35,7 @@ pub both_are : (a b : Bool) → a ≡ true → b ≡ true → (a && b) ≡ true
 both_are a b h k = and_from a b h k
 
 abbrev pub tail : Option (List ℕ) → Option (List ℕ) → List ℕ
-tail q f = behind question_mark q ++ behind number_sign f
+tail q f = following question_mark q ++ following number_sign f
 
 -- ---- the scheme
 
@@ -79,17 +79,17 @@ no_colon h = by_tests (has_two_slashes h) (is_noscheme h)
     by_tests false false e = cc
 
 pub none_scheme : (a : Option (List ℕ)) (h : List ℕ) (q f : Option (List ℕ)) → path_refusal false (is_some a) h ≡ None
-    → scheme_text (behind_slashes a ++ (h ++ tail q f)) ≡ None
+    → scheme_text (after_slashes a ++ (h ++ tail q f)) ≡ None
 none_scheme (Some a) h q f k = slash_no_scheme (slash ∷ (a ++ (h ++ tail q f)))
 none_scheme None h q f k = no_scheme (h ++ tail q f) (segment_no_scheme h q f (no_colon h k))
 
 pub scheme_of : (s a : Option (List ℕ)) (h : List ℕ) (q f : Option (List ℕ)) → IfSome s (λ t. scheme.is_scheme t ≡ true)
     → path_refusal (is_some s) (is_some a) h ≡ None
-    → (scheme_text (joined s a h q f) ≡ s) × (after_scheme (joined s a h q f) ≡ behind_slashes a ++ (h ++ tail q f))
+    → (scheme_text (joined s a h q f) ≡ s) × (after_scheme (joined s a h q f) ≡ after_slashes a ++ (h ++ tail q f))
 scheme_of None a h q f i k = let e = none_scheme a h q f k in
-    (e, ap (λ o. unless_scheme o (behind_slashes a ++ (h ++ tail q f)) (rest colon (behind_slashes a ++ (h ++ tail q f)))) e)
+    (e, ap (λ o. unless_scheme o (after_slashes a ++ (h ++ tail q f)) (rest colon (after_slashes a ++ (h ++ tail q f)))) e)
 scheme_of (Some s) a h q f i k =
-    let u : List ℕ = behind_slashes a ++ (h ++ tail q f) in
+    let u : List ℕ = after_slashes a ++ (h ++ tail q f) in
     let w = front_of colon s u refl (scheme_colon s i) in
     let e : scheme_text ((s ++ colon ∷ []) ++ u) ≡ Some s = ap if_scheme w.0 ∙ rw i refl in
     (e, ap (λ o. unless_scheme o ((s ++ colon ∷ []) ++ u) (rest colon ((s ++ colon ∷ []) ++ u))) e ∙ w.1)
@@ -117,7 +117,7 @@ ends_there (b ∷ h) q f k = (rw k refl, rw k refl)
 
 pub authority_of : (v : Bool) (a : Option (List ℕ)) (h : List ℕ) (q f : Option (List ℕ)) → IfSome a (λ t. none_pass ends_authority t ≡ true)
     → IfSome a (λ _. is_abempty h ≡ true) → path_refusal v (is_some a) h ≡ None
-    → (cut_authority (behind_slashes a ++ (h ++ tail q f)) ≡ a) × (without_authority (behind_slashes a ++ (h ++ tail q f)) ≡ h ++ tail q f)
+    → (cut_authority (after_slashes a ++ (h ++ tail q f)) ≡ a) × (without_authority (after_slashes a ++ (h ++ tail q f)) ≡ h ++ tail q f)
 authority_of v None h q f i b k =
     let n : has_two_slashes (h ++ tail q f) ≡ false = two_append h (tail q f) (tail_rooted q f) ∙ no_slashes v h k in (
       ap (λ v. cond v (Some (up_to ends_authority (drop 2 (h ++ tail q f)))) None) n,
@@ -150,15 +150,15 @@ pub tail_of : (h : List ℕ) (q f : Option (List ℕ)) → IsPath h → IfSome q
     × (after number_sign (h ++ tail q f) ≡ f)
 tail_of h q f i k =
     let c = path_question_mark h i in
-    let w : h ++ tail q f ≡ (h ++ behind question_mark q) ++ behind number_sign f = sym (append_assoc h (behind question_mark q) (behind number_sign f)) in
-    let l : lacks number_sign (h ++ behind question_mark q) ≡ true =
-    lacks-append number_sign h (behind question_mark q) (path_number_sign h i) (lacks-behind number_sign question_mark q refl (query_lacks q k)) in
-    let e : before number_sign (h ++ tail q f) ≡ h ++ behind question_mark q = ap (before number_sign) w
-    ∙ before_of number_sign (h ++ behind question_mark q) f refl l in (
+    let w : h ++ tail q f ≡ (h ++ following question_mark q) ++ following number_sign f = sym (append_assoc h (following question_mark q) (following number_sign f)) in
+    let l : lacks number_sign (h ++ following question_mark q) ≡ true =
+    lacks-append number_sign h (following question_mark q) (path_number_sign h i) (lacks-following number_sign question_mark q refl (query_lacks q k)) in
+    let e : before number_sign (h ++ tail q f) ≡ h ++ following question_mark q = ap (before number_sign) w
+    ∙ before_of number_sign (h ++ following question_mark q) f refl l in (
       ap (before question_mark) e ∙ before_of question_mark h q refl c,
       ap (after question_mark) e
           ∙ after_of question_mark h q refl c,
-      ap (after number_sign) w ∙ after_of number_sign (h ++ behind question_mark q) f refl l,
+      ap (after number_sign) w ∙ after_of number_sign (h ++ following question_mark q) f refl l,
     )
 
 -- The path has neither byte, as the text before the first of them.

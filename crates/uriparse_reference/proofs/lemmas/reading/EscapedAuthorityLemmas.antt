@@ -9,7 +9,7 @@ use Rattle.uriparse_text.specs.declared.internal.class.Class.TheVariants.{Name, 
 use Rattle.uriparse_text.specs.Bytes.{at_sign, colon, left_bracket, right_bracket, is_hex, is_among, is_unreserved, is_sub_delim}
 use Rattle.uriparse_text.specs.Classes.{is_plain}
 use Rattle.uriparse_text.specs.Faults.{IsIn}
-use Rattle.uriparse_text.specs.Cuts.{behind, ahead}
+use Rattle.uriparse_text.specs.Cuts.{following, ahead}
 use Rattle.uriparse_text.specs.Readings.{IfPresent}
 use Rattle.uriparse_text.specs.Coding.{may_stand}
 use Rattle.uriparse_text.proofs.lemmas.classes.FaultByByteLemmas.{hex_plain}
@@ -73,14 +73,14 @@ name_stays t h = λ u. escaping.escaped-IsIn UserInfo (codes "@[]") Name name_ma
 password_stays : (t : List ℕ) → IsIn UserInfo t → Stays t
 password_stays t h = λ u. escaping.escaped-IsIn UserInfo (codes "@[]") UserInfo (escaping.own_class UserInfo (codes "@[]")) t u h
 
-behind_stays : (o : Option (List ℕ)) → IfSome o Stays → Stays (behind colon o)
-behind_stays None h = λ u. refl
-behind_stays (Some t) h = stays-append (colon ∷ []) t (delimiter_stays colon colon_may) h
+following_stays : (o : Option (List ℕ)) → IfSome o Stays → Stays (following colon o)
+following_stays None h = λ u. refl
+following_stays (Some t) h = stays-append (colon ∷ []) t (delimiter_stays colon colon_may) h
 
 user_stays : (u w : Option (List ℕ)) → IfSome u username.IsUsername → IfSome w Stays → Stays (ahead at_sign (userinfo u w))
 user_stays None w is also = λ v. refl
 user_stays (Some t) w is also =
-    stays-append (t ++ behind colon w) (at_sign ∷ []) (stays-append t (behind colon w) (name_stays t is) (behind_stays w also))
+    stays-append (t ++ following colon w) (at_sign ∷ []) (stays-append t (following colon w) (name_stays t is) (following_stays w also))
     (delimiter_stays at_sign at_sign_may)
 
 host_stays : (g : List ℕ) → IsHostText g → Stays g
@@ -103,10 +103,10 @@ pub authority_stays : (a : List ℕ) (p : AuthorityParts) → Spells a p → esc
 authority_stays a p s =
     let whole : List ℕ = joined p.username p.password s.host_text s.port_text in
     let all : Stays whole =
-    stays-append (ahead at_sign (userinfo p.username p.password)) (s.host_text ++ behind colon s.port_text)
+    stays-append (ahead at_sign (userinfo p.username p.password)) (s.host_text ++ following colon s.port_text)
     (user_stays p.username p.password s.is_username (passwords_stay p.password s.is_password))
-    (stays-append s.host_text (behind colon s.port_text) (host_stays s.host_text (spelled_host s.host_text p.host s.is_host))
-    (behind_stays s.port_text (ports_stay s.port_text s.is_port.digits))) in
+    (stays-append s.host_text (following colon s.port_text) (host_stays s.host_text (spelled_host s.host_text p.host s.is_host))
+    (following_stays s.port_text (ports_stay s.port_text s.is_port.digits))) in
     ap escaped_authority (s.whole ∙ sym (append-nil whole)) ∙ all [] ∙ append-nil whole ∙ sym s.whole
 
 pub authorities_stay : (o : Option (List ℕ)) (a : Option AuthorityParts) → IfPresent Spells o a → option_map escaped_authority o ≡ o

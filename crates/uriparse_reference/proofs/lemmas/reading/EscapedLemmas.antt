@@ -11,14 +11,14 @@ use Rattle.uriparse_text.specs.declared.internal.class.Class.TheVariants.{UserIn
 use Rattle.uriparse_text.specs.Bytes.{slash, colon, question_mark, number_sign, is_hex, is_among}
 use Rattle.uriparse_text.specs.Classes.{is_plain}
 use Rattle.uriparse_text.specs.Tokens.{is_escape}
-use Rattle.uriparse_text.specs.Cuts.{lacks, none_pass, behind, ahead, before, after, rest, up_to, from_first}
+use Rattle.uriparse_text.specs.Cuts.{lacks, none_pass, following, ahead, before, after, rest, up_to, from_first}
 use Rattle.uriparse_text.specs.Readings.{◌>>=◌, of_piece, some_of, if_present, reading_in, fault_in, unless_fault}
 use Rattle.uriparse_text.specs.Coding.{may_stand, escaped_in}
 use Rattle.uriparse_text.specs.Query.{IsQuery}
 use Rattle.uriparse_text.specs.Query as query
 use Rattle.uriparse_text.specs.Fragment as fragment
 use Rattle.uriparse_text.proofs.lemmas.classes.ClassLemmas.{plain_ascii, hex_ascii}
-use Rattle.uriparse_text.proofs.lemmas.readings.CutLemmas.{lacks-append, lacks-behind, weaker, up_to-append, from_first-append, before_of, after_of, front_of}
+use Rattle.uriparse_text.proofs.lemmas.readings.CutLemmas.{lacks-append, lacks-following, weaker, up_to-append, from_first-append, before_of, after_of, front_of}
 use Rattle.uriparse_text.proofs.lemmas.readings.ReadingLemmas.{texts_again}
 use Rattle.uriparse_text.proofs.lemmas.tokens.EscapingLemmas as escaping
 use Rattle.uriparse_text.specs.declared.segment.error.PathError.{PathError}
@@ -35,7 +35,7 @@ use Rattle.uriparse_scheme.proofs.lemmas.schemes.CutLemmas.{no_scheme, scheme_co
 use Rattle.uriparse_scheme.proofs.lemmas.schemes.GrammarLemmas.{scheme_bytes}
 use Rattle.uriparse_reference.specs.declared.uri_reference.error.URIReferenceError.{URIReferenceError}
 use Rattle.uriparse_reference.specs.declared.uri_reference.error.URIReferenceError.TheVariants as errors
-use Rattle.uriparse_reference.specs.Reference.{Parts, Spells, behind_slashes, joined, is_abempty, path_of, path_refusal}
+use Rattle.uriparse_reference.specs.Reference.{Parts, Spells, after_slashes, joined, is_abempty, path_of, path_refusal}
 use Rattle.uriparse_reference.specs.Cuts.{cut_authority, authority_text, without_authority, after_authority, path_text, query_text, fragment_text}
 use Rattle.uriparse_reference.specs.Reading.{path_reading, reading, fault}
 use Rattle.uriparse_reference.specs.Escaped.{escaped_authority, escaped_path, escaped_component, escaped, fault_left}
@@ -127,7 +127,7 @@ scheme_front (Some s) u i k =
 
 authority_front : (a : Option (List ℕ)) (h : List ℕ) (q f : Option (List ℕ)) → IfSome a (λ t. none_pass ends_authority t ≡ true)
     → IfSome a (λ _. is_abempty h ≡ true) → (a ≡ None → has_two_slashes h ≡ false)
-    → (cut_authority (behind_slashes a ++ (h ++ tail q f)) ≡ a) × (without_authority (behind_slashes a ++ (h ++ tail q f)) ≡ h ++ tail q f)
+    → (cut_authority (after_slashes a ++ (h ++ tail q f)) ≡ a) × (without_authority (after_slashes a ++ (h ++ tail q f)) ≡ h ++ tail q f)
 authority_front None h q f i b k =
     let n : has_two_slashes (h ++ tail q f) ≡ false = two_append h (tail q f) (tail_rooted q f) ∙ k refl in (
       ap (λ v. cond v (Some (up_to ends_authority (drop 2 (h ++ tail q f)))) None) n,
@@ -144,15 +144,15 @@ tail_front : (h : List ℕ) (q f : Option (List ℕ)) → lacks question_mark h 
     → (before question_mark (before number_sign (h ++ tail q f)) ≡ h) × (after question_mark (before number_sign (h ++ tail q f)) ≡ q)
     × (after number_sign (h ++ tail q f) ≡ f)
 tail_front h q f c n k =
-    let w : h ++ tail q f ≡ (h ++ behind question_mark q) ++ behind number_sign f = sym (append_assoc h (behind question_mark q) (behind number_sign f)) in
-    let l : lacks number_sign (h ++ behind question_mark q) ≡ true =
-    lacks-append number_sign h (behind question_mark q) n (lacks-behind number_sign question_mark q refl k) in
-    let e : before number_sign (h ++ tail q f) ≡ h ++ behind question_mark q = ap (before number_sign) w
-    ∙ before_of number_sign (h ++ behind question_mark q) f refl l in (
+    let w : h ++ tail q f ≡ (h ++ following question_mark q) ++ following number_sign f = sym (append_assoc h (following question_mark q) (following number_sign f)) in
+    let l : lacks number_sign (h ++ following question_mark q) ≡ true =
+    lacks-append number_sign h (following question_mark q) n (lacks-following number_sign question_mark q refl k) in
+    let e : before number_sign (h ++ tail q f) ≡ h ++ following question_mark q = ap (before number_sign) w
+    ∙ before_of number_sign (h ++ following question_mark q) f refl l in (
       ap (before question_mark) e ∙ before_of question_mark h q refl c,
       ap (after question_mark) e
           ∙ after_of question_mark h q refl c,
-      ap (after number_sign) w ∙ after_of number_sign (h ++ behind question_mark q) f refl l,
+      ap (after number_sign) w ∙ after_of number_sign (h ++ following question_mark q) f refl l,
     )
 
 -- what follows the scheme
@@ -160,7 +160,7 @@ abbrev later : List ℕ → List ℕ
 later t = escaped_path (path_text t) ++ tail (option_map escaped_component (query_text t)) (option_map escaped_component (fragment_text t))
 
 no_scheme_left : (t : List ℕ) (a : Option (List ℕ)) → authority_text t ≡ a → scheme_text t ≡ None
-    → scheme_text (behind_slashes (option_map escaped_authority a) ++ later t) ≡ None
+    → scheme_text (after_slashes (option_map escaped_authority a) ++ later t) ≡ None
 no_scheme_left t (Some a) e none = slash_no_scheme (slash ∷ (escaped_authority a ++ later t))
 no_scheme_left t None e none =
     let whole : t ≡ path_text t ++ tail (query_text t) (fragment_text t) =
@@ -192,12 +192,12 @@ escaped_cut t =
     let h : List ℕ = escaped_path (path_text t) in
     let q : Option (List ℕ) = option_map escaped_component (query_text t) in
     let f : Option (List ℕ) = option_map escaped_component (fragment_text t) in
-    let b = scheme_front (scheme_text t) (behind_slashes a ++ (h ++ tail q f)) (scheme_is t) (no_scheme_left t (authority_text t) refl) in
+    let b = scheme_front (scheme_text t) (after_slashes a ++ (h ++ tail q f)) (scheme_is t) (no_scheme_left t (authority_text t) refl) in
     let c = authority_front a h q f (authority_ends (authority_text t) (authority_lacks t)) (abempty_left (authority_text t) (path_text t) (abempty_text t))
     (no_slashes_left t (authority_text t) refl) in
     let d = tail_front h q f (path_no_question_mark (path_text t) (path_lacks_question_mark t)) (path_no_number_sign (path_text t) (path_lacks_number_sign t))
     (query_no_number_sign (query_text t) (query_lacks_number_sign t)) in
-    let left_over : after_authority (ahead colon (scheme_text t) ++ (behind_slashes a ++ (h ++ tail q f))) ≡ h ++ tail q f =
+    let left_over : after_authority (ahead colon (scheme_text t) ++ (after_slashes a ++ (h ++ tail q f))) ≡ h ++ tail q f =
     ap without_authority b.1 ∙ c.1 in
     record {
       scheme = b.0;
@@ -373,11 +373,11 @@ none_among b h = absurd (false≢true h)
 low-append : (t u : List ℕ) → list_all is_low t ≡ true → list_all is_low u ≡ true → list_all is_low (t ++ u) ≡ true
 low-append t u h k = list_all-append is_low t u ∙ and_from _ _ h k
 
-low_behind : (mark : ℕ) → is_low mark ≡ true → (o : Option (List ℕ)) → list_all is_low (behind mark (option_map escaped_component o)) ≡ true
-low_behind mark h None = refl
-low_behind mark h (Some t) = and_from _ _ h (low_escaped Query [] none_among t)
+low_after : (mark : ℕ) → is_low mark ≡ true → (o : Option (List ℕ)) → list_all is_low (following mark (option_map escaped_component o)) ≡ true
+low_after mark h None = refl
+low_after mark h (Some t) = and_from _ _ h (low_escaped Query [] none_among t)
 
-low_authority : (o : Option (List ℕ)) → list_all is_low (behind_slashes (option_map escaped_authority o)) ≡ true
+low_authority : (o : Option (List ℕ)) → list_all is_low (after_slashes (option_map escaped_authority o)) ≡ true
 low_authority None = refl
 low_authority (Some a) = low_escaped UserInfo (codes "@[]") low_delimiter a
 
@@ -389,7 +389,7 @@ pub utf8-escaped : (t : List ℕ) → IsUtf8 (escaped t)
 unfolding escaped
 utf8-escaped t =
     escaping.ascii_text _ (low-append (ahead colon (scheme_text t)) _ (low_ahead (scheme_text t) (scheme_is t))
-    (low-append (behind_slashes (option_map escaped_authority (authority_text t))) _ (low_authority (authority_text t))
+    (low-append (after_slashes (option_map escaped_authority (authority_text t))) _ (low_authority (authority_text t))
     (low-append (escaped_path (path_text t)) _ (low_escaped Segment (codes "/") low_slash (path_text t))
-    (low-append (behind question_mark (option_map escaped_component (query_text t))) _ (low_behind question_mark refl (query_text t))
-    (low_behind number_sign refl (fragment_text t))))))
+    (low-append (following question_mark (option_map escaped_component (query_text t))) _ (low_after question_mark refl (query_text t))
+    (low_after number_sign refl (fragment_text t))))))

@@ -10,7 +10,7 @@ use Rattle.uriparse_text.specs.declared.internal.class.Class.TheVariants.{UserIn
 use Rattle.uriparse_text.specs.Bytes.{percent, slash, colon, question_mark, number_sign, is_hex, is_unreserved, is_sub_delim}
 use Rattle.uriparse_text.specs.Classes.{is_plain}
 use Rattle.uriparse_text.specs.Tokens.{is_token, is_escape, is_well_formed}
-use Rattle.uriparse_text.specs.Cuts.{ahead, behind}
+use Rattle.uriparse_text.specs.Cuts.{ahead, following}
 use Rattle.uriparse_text.specs.Coding.{may_stand, escaped_in}
 use Rattle.uriparse_text.proofs.lemmas.readings.CutLemmas.{lacks_by, lacks-append}
 use Rattle.uriparse_text.proofs.lemmas.tokens.TokenLemmas.{tokens-nil, tokens-byte, tokens-escape, not_percent, well_formed-append}
@@ -20,7 +20,7 @@ use Rattle.uriparse_text.proofs.lemmas.tokens.EscapingLemmas.{high_digit, low_di
 use Rattle.uriparse_scheme.specs.Scheme as scheme
 use Rattle.uriparse_scheme.specs.Scheme.{is_scheme_byte}
 use Rattle.uriparse_scheme.proofs.lemmas.schemes.GrammarLemmas.{scheme_bytes}
-use Rattle.uriparse_reference.specs.Reference.{behind_slashes}
+use Rattle.uriparse_reference.specs.Reference.{after_slashes}
 use Rattle.uriparse_reference.specs.Cuts.{scheme_text, authority_text, path_text, query_text, fragment_text}
 use Rattle.uriparse_reference.specs.Escaped.{escaped_authority, escaped_path, escaped_component, escaped}
 use Rattle.uriparse_reference.proofs.lemmas.reading.ComponentByteLemmas.{scheme_is}
@@ -88,11 +88,11 @@ component_sign : may_stand Query [] percent ≡ false
 unfolding is_plain is_unreserved is_sub_delim
 component_sign = refl
 
-well_formed_behind : (mark : ℕ) → not (mark == percent) ≡ true → (o : Option (List ℕ)) → is_well_formed (behind mark (option_map escaped_component o)) ≡ true
-well_formed_behind mark h None = well_formed-nil
-well_formed_behind mark h (Some t) = well_formed-byte mark (escaped_component t) h (well_formed-escaped Query [] component_sign t)
+well_formed_after : (mark : ℕ) → not (mark == percent) ≡ true → (o : Option (List ℕ)) → is_well_formed (following mark (option_map escaped_component o)) ≡ true
+well_formed_after mark h None = well_formed-nil
+well_formed_after mark h (Some t) = well_formed-byte mark (escaped_component t) h (well_formed-escaped Query [] component_sign t)
 
-well_formed_authority : (o : Option (List ℕ)) → is_well_formed (behind_slashes (option_map escaped_authority o)) ≡ true
+well_formed_authority : (o : Option (List ℕ)) → is_well_formed (after_slashes (option_map escaped_authority o)) ≡ true
 well_formed_authority None = well_formed-nil
 well_formed_authority (Some a) =
     well_formed-byte slash (slash ∷ escaped_authority a) refl
@@ -108,7 +108,7 @@ pub escaped_well_formed : (t : List ℕ) → is_well_formed (escaped t) ≡ true
 unfolding escaped
 escaped_well_formed t =
     well_formed-append (ahead colon (scheme_text t)) _ (well_formed_ahead (scheme_text t) (scheme_is t))
-    (well_formed-append (behind_slashes (option_map escaped_authority (authority_text t))) _ (well_formed_authority (authority_text t))
+    (well_formed-append (after_slashes (option_map escaped_authority (authority_text t))) _ (well_formed_authority (authority_text t))
     (well_formed-append (escaped_path (path_text t)) _ (well_formed-escaped Segment (codes "/") path_sign (path_text t))
-    (well_formed-append (behind question_mark (option_map escaped_component (query_text t))) _ (well_formed_behind question_mark refl (query_text t))
-    (well_formed_behind number_sign refl (fragment_text t)))))
+    (well_formed-append (following question_mark (option_map escaped_component (query_text t))) _ (well_formed_after question_mark refl (query_text t))
+    (well_formed_after number_sign refl (fragment_text t)))))

@@ -34,7 +34,7 @@ use Rattle.uriparse_reference.specs.Reading.{fault, path_reading, reading}
 pub data Source (t : List ℕ) (e : URIReferenceError) : Type 0 where
   of_authority : (a : List ℕ) (x : AuthorityError) → authority.fault a ≡ Some x → errors.Authority x ≡ e → Source t e
   of_path : (x : PathError) → paths.fault (path_text t) ≡ Some x → errors.Path x ≡ e → Source t e
-  of_place : path_refusal (is_some (scheme_text t)) (is_some (authority_text t)) (path_text t) ≡ Some e → Source t e
+  of_offset : path_refusal (is_some (scheme_text t)) (is_some (authority_text t)) (path_text t) ≡ Some e → Source t e
   of_query : (x : QueryError) → errors.Query x ≡ e → Source t e
   of_fragment : (x : FragmentError) → errors.Fragment x ≡ e → Source t e
 
@@ -67,14 +67,14 @@ path_told : (v w : Bool) (h : List ℕ) (e : URIReferenceError) → fault_in (pa
     → ((x : PathError) × (paths.fault h ≡ Some x) × (errors.Path x ≡ e)) ⊎ (path_refusal v w h ≡ Some e)
 path_told v w h e = by_fault (paths.fault h) refl
   where
-    by_place : (o : Option URIReferenceError) → fault_in (unless_fault o (path_of w h)) ≡ Some e → o ≡ Some e
-    by_place None k = absurd (cc)
-    by_place (Some x) k = k
+    by_offset : (o : Option URIReferenceError) → fault_in (unless_fault o (path_of w h)) ≡ Some e → o ≡ Some e
+    by_offset None k = absurd (cc)
+    by_offset (Some x) k = k
 
     by_fault : (o : Option PathError) → paths.fault h ≡ o
         → fault_in (of_piece errors.Path (unless_fault o (spelled h)) >>= λ _. unless_fault (path_refusal v w h) (path_of w h)) ≡ Some e
         → ((x : PathError) × (paths.fault h ≡ Some x) × (errors.Path x ≡ e)) ⊎ (path_refusal v w h ≡ Some e)
-    by_fault None f k = inr (by_place (path_refusal v w h) k)
+    by_fault None f k = inr (by_offset (path_refusal v w h) k)
     by_fault (Some x) f k = inl (x, f, cc)
 
 pub source : (t : List ℕ) (e : URIReferenceError) → fault t ≡ Some e → Source t e
@@ -97,16 +97,16 @@ source t e h =
             ⊎ (path_refusal (is_some (scheme_text t)) (is_some (authority_text t)) (path_text t) ≡ Some e)
             → Source t e
         by_path (inl x) = of_path x.0 x.1 x.2
-        by_path (inr refused) = of_place refused
+        by_path (inr refused) = of_offset refused
     told (inr (inr (inl k))) = let x = piece_told errors.Query _ e k in of_query x.0 x.1
     told (inr (inr (inr k))) = let x = piece_told errors.Fragment _ e k in of_fragment x.0 x.1
 
 -- why a path may not follow the scheme and the authority
-place_told : (v w : Bool) (h : List ℕ) (e : URIReferenceError) → path_refusal v w h ≡ Some e
+offset_told : (v w : Bool) (h : List ℕ) (e : URIReferenceError) → path_refusal v w h ≡ Some e
     → (errors.SchemelessPathStartsWithColonSegment ≡ e)
     ⊎ ((w ≡ false) × (has_two_slashes h ≡ true) × (errors.AbsolutePathStartsWithTwoSlashes ≡ e))
-place_told v true h e k = absurd (cc)
-place_told v false h e k = by_slashes (has_two_slashes h) refl k
+offset_told v true h e k = absurd (cc)
+offset_told v false h e k = by_slashes (has_two_slashes h) refl k
   where
     by_colon : (x : Bool) → cond x None (Some errors.SchemelessPathStartsWithColonSegment) ≡ Some e
         → (errors.SchemelessPathStartsWithColonSegment ≡ e)
@@ -155,16 +155,16 @@ no_slashes t none two = by_slashes (has_two_slashes (after_scheme t)) refl none 
 pub never_slashes : (t : List ℕ) → fault t ≡ Some errors.AbsolutePathStartsWithTwoSlashes → ⊥
 never_slashes t h = by_source (source t errors.AbsolutePathStartsWithTwoSlashes h)
   where
-    by_place : (errors.SchemelessPathStartsWithColonSegment ≡ errors.AbsolutePathStartsWithTwoSlashes)
+    by_offset : (errors.SchemelessPathStartsWithColonSegment ≡ errors.AbsolutePathStartsWithTwoSlashes)
         ⊎ ((is_some (authority_text t) ≡ false) × (has_two_slashes (path_text t) ≡ true)
         × (errors.AbsolutePathStartsWithTwoSlashes ≡ errors.AbsolutePathStartsWithTwoSlashes)) → ⊥
-    by_place (inl k) = cc
-    by_place (inr k) = no_slashes t k.0 k.1
+    by_offset (inl k) = cc
+    by_offset (inr k) = no_slashes t k.0 k.1
 
     by_source : Source t errors.AbsolutePathStartsWithTwoSlashes → ⊥
     by_source (of_authority a x f k) = cc
     by_source (of_path x f k) = cc
-    by_source (of_place k) = by_place (place_told (is_some (scheme_text t)) (is_some (authority_text t)) (path_text t) _ k)
+    by_source (of_offset k) = by_offset (offset_told (is_some (scheme_text t)) (is_some (authority_text t)) (path_text t) _ k)
     by_source (of_query x k) = cc
     by_source (of_fragment x k) = cc
 
@@ -172,8 +172,8 @@ never_slashes t h = by_source (source t errors.AbsolutePathStartsWithTwoSlashes 
 abbrev IsElsewhere : URIReferenceError → Type 0
 IsElsewhere e = (errors.SchemelessPathStartsWithColonSegment ≡ e → ⊥) × (errors.AbsolutePathStartsWithTwoSlashes ≡ e → ⊥)
 
-by_place : (t : List ℕ) (e : URIReferenceError) → IsElsewhere e → path_refusal (is_some (scheme_text t)) (is_some (authority_text t)) (path_text t) ≡ Some e → ⊥
-by_place t e not k = by_told (place_told (is_some (scheme_text t)) (is_some (authority_text t)) (path_text t) e k)
+by_offset : (t : List ℕ) (e : URIReferenceError) → IsElsewhere e → path_refusal (is_some (scheme_text t)) (is_some (authority_text t)) (path_text t) ≡ Some e → ⊥
+by_offset t e not k = by_told (offset_told (is_some (scheme_text t)) (is_some (authority_text t)) (path_text t) e k)
   where
     by_told : (errors.SchemelessPathStartsWithColonSegment ≡ e)
         ⊎ ((is_some (authority_text t) ≡ false) × (has_two_slashes (path_text t) ≡ true) × (errors.AbsolutePathStartsWithTwoSlashes ≡ e)) → ⊥
@@ -186,7 +186,7 @@ never_missing t h = by_source (source t errors.MissingPath h)
     by_source : Source t errors.MissingPath → ⊥
     by_source (of_authority a x f k) = cc
     by_source (of_path x f k) = cc
-    by_source (of_place k) = by_place t errors.MissingPath (λ i. cc, λ i. cc) k
+    by_source (of_offset k) = by_offset t errors.MissingPath (λ i. cc, λ i. cc) k
     by_source (of_query x k) = cc
     by_source (of_fragment x k) = cc
 
@@ -196,7 +196,7 @@ never_scheme t e h = by_source (source t (errors.Scheme e) h)
     by_source : Source t (errors.Scheme e) → ⊥
     by_source (of_authority a x f k) = cc
     by_source (of_path x f k) = cc
-    by_source (of_place k) = by_place t (errors.Scheme e) (λ i. cc, λ i. cc) k
+    by_source (of_offset k) = by_offset t (errors.Scheme e) (λ i. cc, λ i. cc) k
     by_source (of_query x k) = cc
     by_source (of_fragment x k) = cc
 
@@ -206,7 +206,7 @@ never_want t h = by_source (source t (errors.Path OutOfMemory) h)
     by_source : Source t (errors.Path OutOfMemory) → ⊥
     by_source (of_authority a x f k) = cc
     by_source (of_path x f k) = let same : x ≡ OutOfMemory = cc in never_memory (path_text t) (f ∙ ap Some same)
-    by_source (of_place k) = by_place t (errors.Path OutOfMemory) (λ i. cc, λ i. cc) k
+    by_source (of_offset k) = by_offset t (errors.Path OutOfMemory) (λ i. cc, λ i. cc) k
     by_source (of_query x k) = cc
     by_source (of_fragment x k) = cc
 
@@ -217,7 +217,7 @@ never_authority t y none h = by_source (source t (errors.Authority y) h)
     by_source : Source t (errors.Authority y) → ⊥
     by_source (of_authority a x f k) = let same : x ≡ y = cc in none a (f ∙ ap Some same)
     by_source (of_path x f k) = cc
-    by_source (of_place k) = by_place t (errors.Authority y) (λ i. cc, λ i. cc) k
+    by_source (of_offset k) = by_offset t (errors.Authority y) (λ i. cc, λ i. cc) k
     by_source (of_query x k) = cc
     by_source (of_fragment x k) = cc
 

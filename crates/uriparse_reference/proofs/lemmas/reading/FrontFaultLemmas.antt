@@ -14,16 +14,16 @@ use Rattle.uriparse_text.specs.Segment as segment
 use Rattle.uriparse_path.specs.Path.{is_slash, max_segments}
 use Rattle.uriparse_path.specs.Faults as path
 use Rattle.uriparse_path.specs.Faults.{ends_path}
-use Rattle.uriparse_path.specs.Place as path_place
+use Rattle.uriparse_path.specs.Offset as path_offset
 use Rattle.uriparse_path.proofs.lemmas.reading.FaultLemmas.{faulty_byte}
-use Rattle.uriparse_path.proofs.lemmas.reading.PlaceLemmas.{place-faulty}
+use Rattle.uriparse_path.proofs.lemmas.reading.OffsetLemmas.{offset-faulty}
 use Rattle.uriparse_scheme.specs.Scheme as scheme
 use Rattle.uriparse_scheme.proofs.lemmas.schemes.CutLemmas.{no_scheme}
 use Rattle.uriparse_reference.specs.declared.uri_reference.error.URIReferenceError.TheVariants as errors
-use Rattle.uriparse_reference.specs.Reference.{behind_slashes}
+use Rattle.uriparse_reference.specs.Reference.{after_slashes}
 use Rattle.uriparse_reference.specs.Cuts.{after_authority, after_scheme, authority_text, cut_authority, path_text, scheme_text, unless_scheme, without_authority}
 use Rattle.uriparse_reference.specs.Reading.{reading}
-use Rattle.uriparse_reference.specs.Place.{fault_place, first_fault, path_begin}
+use Rattle.uriparse_reference.specs.Offset.{fault_offset, first_fault, path_begin}
 
 or_left : (v w : Bool) → (v || w) ≡ false → v ≡ false
 or_left true w h = h
@@ -72,14 +72,14 @@ module _ (b : ℕ) (t : List ℕ) (wrong : (is_plain Query b || (b == number_sig
   outside : is_plain Query b ≡ false
   outside = or_left (is_plain Query b) (b == number_sign || is_escape b t) wrong
 
-  behind_class : (b == number_sign || is_escape b t) ≡ false
-  behind_class = or_right (is_plain Query b) (b == number_sign || is_escape b t) wrong
+  after_class : (b == number_sign || is_escape b t) ≡ false
+  after_class = or_right (is_plain Query b) (b == number_sign || is_escape b t) wrong
 
   no_fragment : (b == number_sign) ≡ false
-  no_fragment = or_left (b == number_sign) (is_escape b t) behind_class
+  no_fragment = or_left (b == number_sign) (is_escape b t) after_class
 
   never : is_escape b (up_to ends_path t) ≡ false
-  never = escape_front ends_path b t (or_right (b == number_sign) (is_escape b t) behind_class)
+  never = escape_front ends_path b t (or_right (b == number_sign) (is_escape b t) after_class)
 
   pub none_scheme : scheme_text (b ∷ t) ≡ None
   none_scheme = no_scheme (b ∷ t) (inr (rw (no_colon b outside, no_scheme_byte b outside) refl))
@@ -90,11 +90,11 @@ module _ (b : ℕ) (t : List ℕ) (wrong : (is_plain Query b || (b == number_sig
   pub none_authority : authority_text (b ∷ t) ≡ None
   none_authority = ap cut_authority whole ∙ rw (no_slash b outside) refl
 
-  behind : after_authority (b ∷ t) ≡ b ∷ t
-  behind = ap without_authority whole ∙ rw (no_slash b outside) refl
+  following : after_authority (b ∷ t) ≡ b ∷ t
+  following = ap without_authority whole ∙ rw (no_slash b outside) refl
 
   path_is : path_text (b ∷ t) ≡ b ∷ up_to ends_path t
-  path_is = ap (up_to ends_path) behind ∙ rw (no_question_mark b outside, no_fragment) refl
+  path_is = ap (up_to ends_path) following ∙ rw (no_question_mark b outside, no_fragment) refl
 
   path_fault : path.fault (path_text (b ∷ t)) ≡ Some (segment.error_of b)
   unfolding path.fault max_segments
@@ -108,19 +108,19 @@ module _ (b : ℕ) (t : List ℕ) (wrong : (is_plain Query b || (b == number_sig
 
   begin : path_begin (b ∷ t) ≡ 0
   begin =
-      ap (λ o. length (ahead colon o ++ behind_slashes (authority_text (b ∷ t)))) none_scheme
-      ∙ ap (λ o. length (behind_slashes o)) none_authority
+      ap (λ o. length (ahead colon o ++ after_slashes (authority_text (b ∷ t)))) none_scheme
+      ∙ ap (λ o. length (after_slashes o)) none_authority
 
-  there : path_place.fault_place (path_text (b ∷ t)) ≡ 0
+  there : path_offset.fault_offset (path_text (b ∷ t)) ≡ 0
   unfolding max_segments
   there =
-      let first = place-faulty 999999 b (up_to ends_path t) (rw (no_segment_byte b outside, never) refl) (no_slash b outside) in
-      ap path_place.fault_place path_is ∙ rw (no_slash b outside) (omega (arith, first))
+      let first = offset-faulty 999999 b (up_to ends_path t) (rw (no_segment_byte b outside, never) refl) (no_slash b outside) in
+      ap path_offset.fault_offset path_is ∙ rw (no_slash b outside) (omega (arith, first))
 
-  pub front_place : fault_place (errors.Path (segment.error_of b)) (b ∷ t) ≡ 0
-  front_place = let x = begin in let y = there in omega (arith, x, y)
+  pub front_offset : fault_offset (errors.Path (segment.error_of b)) (b ∷ t) ≡ 0
+  front_offset = let x = begin in let y = there in omega (arith, x, y)
 
   pub front_first : first_fault (b ∷ t) ≡ Some (0, errors.Path (segment.error_of b))
   front_first =
-      ap (λ r. option_map (λ e. (fault_place e (b ∷ t), e)) (fault_in r)) front_read
-      ∙ ap (λ n. Some (n, errors.Path (segment.error_of b))) front_place
+      ap (λ r. option_map (λ e. (fault_offset e (b ∷ t), e)) (fault_in r)) front_read
+      ∙ ap (λ n. Some (n, errors.Path (segment.error_of b))) front_offset

@@ -3,19 +3,19 @@ use Rattle.std.proofs.Common.{ℕ, ◌+◌, ◌≤◌, List, [], ◌∷◌, leng
 use Rattle.std.proofs.lemmas.List.{length-append}
 use Rattle.std.specs.Prelude.{◌++◌, unwrap_or}
 use Rattle.uriparse_text.specs.Bytes.{colon, number_sign, question_mark}
-use Rattle.uriparse_text.specs.Cuts.{ahead, behind}
+use Rattle.uriparse_text.specs.Cuts.{ahead, following}
 use Rattle.uriparse_path.specs.Path.{text}
-use Rattle.uriparse_reference.specs.Reference.{Parts, authority_part, behind_slashes, print, scheme_part}
+use Rattle.uriparse_reference.specs.Reference.{Parts, authority_part, after_slashes, print, scheme_part}
 
 length-ahead : (mark : ℕ) (o : Option (List ℕ)) → length (ahead mark o) ≤ 1 + length (unwrap_or o [])
 length-ahead mark None = omega arith
 length-ahead mark (Some t) = let whole = length-append t (mark ∷ []) in omega arith
 
-length-behind : (mark : ℕ) (o : Option (List ℕ)) → length (behind mark o) ≤ 1 + length (unwrap_or o [])
-length-behind mark None = omega arith
-length-behind mark (Some t) = omega arith
+length-following : (mark : ℕ) (o : Option (List ℕ)) → length (following mark o) ≤ 1 + length (unwrap_or o [])
+length-following mark None = omega arith
+length-following mark (Some t) = omega arith
 
-length-slashes : (o : Option (List ℕ)) → length (behind_slashes o) ≤ 2 + length (unwrap_or o [])
+length-slashes : (o : Option (List ℕ)) → length (after_slashes o) ≤ 2 + length (unwrap_or o [])
 length-slashes None = omega arith
 length-slashes (Some t) = omega arith
 
@@ -26,9 +26,9 @@ pub length-print : (p : Parts)
     + length (text p.path)
 length-print p =
     let front = ahead colon (scheme_part p) in
-    let slashes = behind_slashes (authority_part p) in
-    let query = behind question_mark p.query in
-    let fragment = behind number_sign p.fragment in
+    let slashes = after_slashes (authority_part p) in
+    let query = following question_mark p.query in
+    let fragment = following number_sign p.fragment in
     omega (
       arith,
       length-append front (slashes ++ (text p.path ++ (query ++ fragment))),
@@ -37,6 +37,6 @@ length-print p =
       length-append query fragment,
       length-ahead colon (scheme_part p),
       length-slashes (authority_part p),
-      length-behind question_mark p.query,
-      length-behind number_sign p.fragment,
+      length-following question_mark p.query,
+      length-following number_sign p.fragment,
     )

@@ -5,10 +5,10 @@ use Rattle.std.proofs.Math.Seq.{drop-append_seam, take-append_seam}
 use Rattle.std.proofs.lemmas.Bool.{false≢true}
 use Rattle.std.proofs.lemmas.List.{length-append}
 use Rattle.uriparse_text.specs.Bytes.{slash, colon, percent, question_mark, number_sign}
-use Rattle.uriparse_text.specs.Cuts.{ahead, behind, lacks, none_pass, up_to}
+use Rattle.uriparse_text.specs.Cuts.{ahead, following, lacks, none_pass, up_to}
 use Rattle.uriparse_text.specs.Found.{AreWords, if_there}
 use Rattle.uriparse_text.specs.Readings.{IfPresent, fault_in}
-use Rattle.uriparse_text.specs.Spelling.{IsKept}
+use Rattle.uriparse_text.specs.Spelling.{IsValidText}
 use Rattle.uriparse_text.specs.declared.internal.class.Class.{Class}
 use Rattle.uriparse_text.specs.declared.internal.class.Class.TheVariants as class
 use Rattle.uriparse_text.specs.declared.internal.canonical.Case.{Case}
@@ -26,7 +26,7 @@ use Rattle.uriparse_reference.specs.declared.uri_reference.error.URIReferenceErr
 use Rattle.uriparse_reference.specs.declared.uri_reference.view.cuts.Cuts.{Cuts}
 use Rattle.uriparse_reference.specs.OwnedText.{AreCuts, IsFront, IsReference, front_at, gap, parts_in, parts_read, path_at, query_at, tail_at, viewed_in}
 use Rattle.uriparse_reference.specs.Reading.{fault, parts_of}
-use Rattle.uriparse_reference.specs.Reference.{Parts, Spells, behind_slashes, joined}
+use Rattle.uriparse_reference.specs.Reference.{Parts, Spells, after_slashes, joined}
 use Rattle.uriparse_reference.specs.View.{AreFound}
 use Rattle.uriparse_reference.proofs.lemmas.reading.CutLemmas.{cut_again}
 use Rattle.uriparse_reference.proofs.lemmas.reading.ReadingLemmas.{again, found, spelled_pieces}
@@ -64,7 +64,7 @@ dropped : (x y : List ℕ) (n : ℕ) → n ≡ length x → drop n (x ++ y) ≡ 
 dropped x y n e = ap (λ k. drop k (x ++ y)) e ∙ drop-append_seam x y
 
 -- what follows its delimiter, if it is present
-unmarked : (mark : ℕ) (o : Option (List ℕ)) → drop 1 (behind mark o) ≡ unwrap_or o []
+unmarked : (mark : ℕ) (o : Option (List ℕ)) → drop 1 (following mark o) ≡ unwrap_or o []
 unmarked mark None = refl
 unmarked mark (Some t) = refl
 
@@ -84,7 +84,7 @@ some_there present t = by_test (present == 0)
     by_test false h = refl
 
 pub start_is : (c : Class) (k : Case) (present len : ℕ) (o : Option (List ℕ)) → AreWords c k present len o → (mark : ℕ) (x : List ℕ) (n : ℕ)
-    → n ≡ length (x ++ behind mark o) → cond (present == 0) n (n - len - 1) ≡ length x
+    → n ≡ length (x ++ following mark o) → cond (present == 0) n (n - len - 1) ≡ length x
 start_is c k present len None are mark x n e = rw (none_there present are.is_there) (e ∙ ap length (append-nil x))
 start_is c k present len (Some t) are mark x n e =
     let sum : length (x ++ mark ∷ t) ≡ length x + length (mark ∷ t) = length-append x (mark ∷ t) in
@@ -101,20 +101,20 @@ scheme_first : (s : List ℕ) (a : List ℕ) → take (length s) (ahead colon (i
 scheme_first [] a = refl
 scheme_first (b ∷ s) a = ap (take (length (b ∷ s))) (scheme_whole b s a) ∙ taken (b ∷ s) (colon ∷ a) (length (b ∷ s)) refl
 
-slashes_skipped : (a : Option (List ℕ)) → drop 2 (behind_slashes a) ≡ unwrap_or a []
+slashes_skipped : (a : Option (List ℕ)) → drop 2 (after_slashes a) ≡ unwrap_or a []
 slashes_skipped None = refl
 slashes_skipped (Some t) = refl
 
-colon_skipped : (a : Option (List ℕ)) → drop 3 (colon ∷ behind_slashes a) ≡ unwrap_or a []
+colon_skipped : (a : Option (List ℕ)) → drop 3 (colon ∷ after_slashes a) ≡ unwrap_or a []
 colon_skipped None = refl
 colon_skipped (Some t) = refl
 
-authority_last : (s : List ℕ) (a : Option (List ℕ)) → drop (gap (length s)) (drop (length s) (ahead colon (if_some s) ++ behind_slashes a)) ≡ unwrap_or a []
+authority_last : (s : List ℕ) (a : Option (List ℕ)) → drop (gap (length s)) (drop (length s) (ahead colon (if_some s) ++ after_slashes a)) ≡ unwrap_or a []
 authority_last [] a = slashes_skipped a
 authority_last (b ∷ s) a =
-    let skipped : drop (length (b ∷ s)) (ahead colon (if_some (b ∷ s)) ++ behind_slashes a) ≡ colon ∷ behind_slashes a =
-    ap (drop (length (b ∷ s))) (scheme_whole b s (behind_slashes a)) ∙ dropped (b ∷ s) (colon ∷ behind_slashes a) (length (b ∷ s)) refl in
-    ap (λ v. drop (cond v 2 3) (drop (length (b ∷ s)) (ahead colon (if_some (b ∷ s)) ++ behind_slashes a))) (not_empty b s)
+    let skipped : drop (length (b ∷ s)) (ahead colon (if_some (b ∷ s)) ++ after_slashes a) ≡ colon ∷ after_slashes a =
+    ap (drop (length (b ∷ s))) (scheme_whole b s (after_slashes a)) ∙ dropped (b ∷ s) (colon ∷ after_slashes a) (length (b ∷ s)) refl in
+    ap (λ v. drop (cond v 2 3) (drop (length (b ∷ s)) (ahead colon (if_some (b ∷ s)) ++ after_slashes a))) (not_empty b s)
     ∙ ap (drop 3) skipped ∙ colon_skipped a
 
 scheme_within : (s : List ℕ) (a : List ℕ) → length s ≤ length (ahead colon (if_some s) ++ a)
@@ -173,12 +173,12 @@ cuts_are t s k a h m e q f are has_query query_len query_words has_fragment frag
     let own : Option (List ℕ) = spelled.authority_text in
     let same_scheme : spelled.scheme_text ≡ if_some s = sym cut.scheme ∙ sym are.is_scheme in
     let same_path : spelled.path_text ≡ h = sym cut.path ∙ sym are.is_cut in
-    let x : List ℕ = ahead colon (if_some s) ++ behind_slashes own in
-    let mark_query : List ℕ = behind question_mark q in
-    let mark_fragment : List ℕ = behind number_sign f in
+    let x : List ℕ = ahead colon (if_some s) ++ after_slashes own in
+    let mark_query : List ℕ = following question_mark q in
+    let mark_fragment : List ℕ = following number_sign f in
     let whole : t ≡ ((x ++ h) ++ mark_query) ++ mark_fragment =
     spelled.whole ∙ ap (λ o. joined o own spelled.path_text q f) same_scheme ∙ ap (λ u. joined (if_some s) own u q f) same_path
-    ∙ joined_left (ahead colon (if_some s)) (behind_slashes own) h mark_query mark_fragment in
+    ∙ joined_left (ahead colon (if_some s)) (after_slashes own) h mark_query mark_fragment in
     let fragment_at : c.fragment ≡ length ((x ++ h) ++ mark_query) =
     fragment_is ∙ start_is class.Query case.Kept has_fragment fragment_len f fragment_words number_sign ((x ++ h) ++ mark_query) (length t) (ap length whole) in
     let query_starts : c.query ≡ length (x ++ h) =
@@ -187,7 +187,7 @@ cuts_are t s k a h m e q f are has_query query_len query_words has_fragment frag
     let path_starts : c.path ≡ length x = omega (arith, path_is, query_starts, sum) in
     let out = laid_out t x h mark_query mark_fragment c.path c.query c.fragment whole fragment_at query_starts path_starts in
     let scheme_again : take c.scheme (front_at c t) ≡ s =
-    ap (λ n. take n (front_at c t)) scheme_is ∙ ap (take (length s)) out.before_path ∙ scheme_first s (behind_slashes own) in
+    ap (λ n. take n (front_at c t)) scheme_is ∙ ap (take (length s)) out.before_path ∙ scheme_first s (after_slashes own) in
     let authority_again : drop (gap c.scheme) (drop c.scheme (front_at c t)) ≡ unwrap_or own [] =
     ap (λ n. drop (gap n) (drop n (front_at c t))) scheme_is ∙ ap (λ u. drop (gap (length s)) (drop (length s) u)) out.before_path ∙ authority_last s own in
     let query_bytes : drop 1 (query_at c t) ≡ unwrap_or q [] = ap (drop 1) out.from_query ∙ unmarked question_mark q in
@@ -198,14 +198,14 @@ cuts_are t s k a h m e q f are has_query query_len query_words has_fragment frag
     ap (λ n. if_there n (drop 1 (tail_at c t))) has_fragment_is ∙ ap (if_there has_fragment) fragment_bytes ∙ fragment_words.is_there in
     let long : length t ≡ length ((x ++ h) ++ mark_query) + length mark_fragment = ap length whole ∙ length-append ((x ++ h) ++ mark_query) mark_fragment in
     let longer : length ((x ++ h) ++ mark_query) ≡ length (x ++ h) + length mark_query = length-append (x ++ h) mark_query in
-    let scheme_fits : length s ≤ length x = scheme_within s (behind_slashes own) in
+    let scheme_fits : length s ≤ length x = scheme_within s (after_slashes own) in
     let path_again : path_at c t ≡ h = out.from_path in
-    let kept_query : IsKept class.Query case.Kept (c.has_query == 2) (drop 1 (query_at c t)) =
-    subst (λ u. IsKept class.Query case.Kept (c.has_query == 2) u) (sym query_bytes)
-    (subst (λ n. IsKept class.Query case.Kept (n == 2) (unwrap_or q [])) (sym has_query_is) query_words.is_kept) in
-    let kept_fragment : IsKept class.Query case.Kept (c.has_fragment == 2) (drop 1 (tail_at c t)) =
-    subst (λ u. IsKept class.Query case.Kept (c.has_fragment == 2) u) (sym fragment_bytes)
-    (subst (λ n. IsKept class.Query case.Kept (n == 2) (unwrap_or f [])) (sym has_fragment_is) fragment_words.is_kept) in
+    let kept_query : IsValidText class.Query case.Kept (c.has_query == 2) (drop 1 (query_at c t)) =
+    subst (λ u. IsValidText class.Query case.Kept (c.has_query == 2) u) (sym query_bytes)
+    (subst (λ n. IsValidText class.Query case.Kept (n == 2) (unwrap_or q [])) (sym has_query_is) query_words.is_valid_text) in
+    let kept_fragment : IsValidText class.Query case.Kept (c.has_fragment == 2) (drop 1 (tail_at c t)) =
+    subst (λ u. IsValidText class.Query case.Kept (c.has_fragment == 2) u) (sym fragment_bytes)
+    (subst (λ n. IsValidText class.Query case.Kept (n == 2) (unwrap_or f [])) (sym has_fragment_is) fragment_words.is_valid_text) in
     let front_again : IsFront c.front c.name c.port (drop (gap c.scheme) (drop c.scheme (front_at c t))) a =
     subst (λ n. IsFront n c.name c.port (drop (gap c.scheme) (drop c.scheme (front_at c t))) a) (sym front_is)
     (subst (λ n. IsFront front n c.port (drop (gap c.scheme) (drop c.scheme (front_at c t))) a) (sym name_is)
@@ -221,7 +221,7 @@ cuts_are t s k a h m e q f are has_query query_len query_words has_fragment frag
             is_path = subst IsPath (sym path_again) are.is_path;
             is_cut = path_again ∙ are.is_cut;
             is_counted = count_is ∙ are.is_counted ∙ ap (λ u. length (pieces u)) (sym path_again);
-            is_plain = λ z. ap (lacks percent) path_again ∙ are.is_plain (escaped_is z);
+            has_no_escape = λ z. ap (lacks percent) path_again ∙ are.has_no_escape (escaped_is z);
             is_read = are.is_read ∙ ap Ok (ap (λ u. parts_of t a u q f) (sym path_again) ∙ ap (λ o. parts_of t a (path_at c t) o f) (sym query_again)
                 ∙ ap (λ o. parts_of t a (path_at c t) (if_there c.has_query (drop 1 (query_at c t))) o) (sym fragment_again));
           };

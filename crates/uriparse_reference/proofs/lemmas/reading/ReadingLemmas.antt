@@ -7,7 +7,7 @@ use Rattle.std.proofs.lemmas.Bool.{false≢true, eqb-true}
 use Rattle.std.proofs.lemmas.Bool.Decides.{nat_tests}
 use Rattle.uriparse_text.specs.declared.internal.class.Class.TheVariants.{Query}
 use Rattle.uriparse_text.specs.Bytes.{slash, colon, question_mark, number_sign}
-use Rattle.uriparse_text.specs.Cuts.{behind, ahead, before, after, front, rest, up_to, from_first}
+use Rattle.uriparse_text.specs.Cuts.{following, ahead, before, after, front, rest, up_to, from_first}
 use Rattle.uriparse_text.specs.Readings.{IsUnless, ◌>>=◌, of_piece, some_of, if_present, fault_in, unless_fault, IfPresent}
 use Rattle.uriparse_text.specs.Query as query
 use Rattle.uriparse_text.specs.Fragment as fragment
@@ -28,7 +28,7 @@ use Rattle.uriparse_text.specs.declared.segment.error.PathError.TheVariants.{Out
 use Rattle.uriparse_reference.specs.declared.uri_reference.error.URIReferenceError.{URIReferenceError}
 use Rattle.uriparse_reference.specs.declared.uri_reference.error.URIReferenceError.TheVariants as errors
 use Rattle.uriparse_authority.specs.declared.authority.error.AuthorityError.{AuthorityError}
-use Rattle.uriparse_reference.specs.Reference.{Parts, behind_slashes, joined, is_abempty, path_refusal, path_of, Spells}
+use Rattle.uriparse_reference.specs.Reference.{Parts, after_slashes, joined, is_abempty, path_refusal, path_of, Spells}
 use Rattle.uriparse_reference.specs.Cuts.{if_scheme, scheme_text, unless_scheme, after_scheme, cut_authority, authority_text, without_authority}
 use Rattle.uriparse_reference.specs.Cuts.{after_authority, path_text, query_text, fragment_text}
 use Rattle.uriparse_reference.specs.Reading.{path_reading, tail_reading, reading, fault, IsAnswer}
@@ -109,22 +109,22 @@ two_slashes (b ∷ u) h = at_slash (is_slash b) refl h
     at_slash true e h = ap (λ x. slash ∷ x) (second u h) ∙ ap (λ x. x ∷ u) (sym (eqb-true b slash e))
     at_slash false e h = absurd (false≢true h)
 
-pub authority_whole : (u : List ℕ) → behind_slashes (cut_authority u) ++ without_authority u ≡ u
+pub authority_whole : (u : List ℕ) → after_slashes (cut_authority u) ++ without_authority u ≡ u
 authority_whole u = at_test (has_two_slashes u) refl
   where
     at_test : (v : Bool) → has_two_slashes u ≡ v
-        → behind_slashes (cond v (Some (up_to ends_authority (drop 2 u))) None) ++ cond v (from_first ends_authority (drop 2 u)) u ≡ u
+        → after_slashes (cond v (Some (up_to ends_authority (drop 2 u))) None) ++ cond v (from_first ends_authority (drop 2 u)) u ≡ u
     at_test true e = ap (λ x. slash ∷ slash ∷ x) (cut-whole ends_authority (drop 2 u)) ∙ two_slashes u e
     at_test false e = refl
 
 pub tail_whole : (u : List ℕ) → up_to ends_path u ++ tail (after question_mark (before number_sign u)) (after number_sign u) ≡ u
 tail_whole u = ap (λ h. h ++ tail (after question_mark (before number_sign u)) (after number_sign u)) (path_cut u)
-    ∙ sym (append_assoc (before question_mark (before number_sign u)) (behind question_mark (after question_mark (before number_sign u)))
-    (behind number_sign (after number_sign u))) ∙ ap (λ x. x ++ behind number_sign (after number_sign u)) (before_after question_mark (before number_sign u))
+    ∙ sym (append_assoc (before question_mark (before number_sign u)) (following question_mark (after question_mark (before number_sign u)))
+    (following number_sign (after number_sign u))) ∙ ap (λ x. x ++ following number_sign (after number_sign u)) (before_after question_mark (before number_sign u))
     ∙ before_after number_sign u
 
 pub whole_is : (t : List ℕ) → t ≡ joined (scheme_text t) (authority_text t) (path_text t) (query_text t) (fragment_text t)
-whole_is t = sym (ap (λ u. ahead colon (scheme_text t) ++ u) (ap (λ u. behind_slashes (authority_text t) ++ u) (tail_whole (after_authority t))
+whole_is t = sym (ap (λ u. ahead colon (scheme_text t) ++ u) (ap (λ u. after_slashes (authority_text t) ++ u) (tail_whole (after_authority t))
     ∙ authority_whole (after_scheme t)) ∙ scheme_whole t)
 
 pub schemes_spell : (t : List ℕ) → IfPresent scheme.Spells (scheme_text t) (option_map scheme.named (scheme_text t))
@@ -169,8 +169,8 @@ accepted (Some e) y x h = cc
 placed_path : (v w : Bool) (h : List ℕ) (p : PathParts) → path_reading v w h ≡ Ok p → IsPath h × (path_refusal v w h ≡ None) × (p ≡ path_of w h)
 placed_path v w h p k =
     let x = bind_ok (of_piece errors.Path (path_faults.reading h)) _ p k in
-    let place = accepted (path_refusal v w h) (path_of w h) p x.2 in
-    ((path_read h x.0 (piece_found errors.Path _ x.0 x.1)).0, place.0, place.1)
+    let offset = accepted (path_refusal v w h) (path_of w h) p x.2 in
+    ((path_read h x.0 (piece_found errors.Path _ x.0 x.1)).0, offset.0, offset.1)
 
 spells_cuts : (t : List ℕ) (a : Option AuthorityParts) (h : PathParts) (q f : Option (List ℕ))
     → if_present authority.reading (authority_text t) ≡ Ok a
@@ -180,7 +180,7 @@ spells_cuts : (t : List ℕ) (a : Option AuthorityParts) (h : PathParts) (q f : 
 spells_cuts t a h q f i j k l =
     let d = texts_found Query query.error_of (query_text t) q k in
     let e = texts_found Query fragment.error_of (fragment_text t) f l in
-    let place = placed_path (is_some (scheme_text t)) (is_some (authority_text t)) (path_text t) h j in
+    let offset = placed_path (is_some (scheme_text t)) (is_some (authority_text t)) (path_text t) h j in
     record {
       scheme_text = scheme_text t;
       authority_text = authority_text t;
@@ -188,12 +188,12 @@ spells_cuts t a h q f i j k l =
       whole = rw (d.0, e.0) (whole_is t);
       is_scheme = schemes_spell t;
       is_authority = present_found authority.Spells authority.reading authorities.exact (authority_text t) a i;
-      is_path = place.0;
+      is_path = offset.0;
       abempty = abempty_text t;
-      fit = place.1;
+      fit = offset.1;
       is_query = d.1;
       is_fragment = e.1;
-      path = place.2;
+      path = offset.2;
     }
 
 pub found : (t : List ℕ) (p : Parts) → reading t ≡ Ok p → Spells t p

@@ -90,7 +90,7 @@ plain_spelled h is = by_flag (path.has_hidden_root (path.spelled h)) refl (sym (
     by_flag : (v : Bool) → path.has_hidden_root (path.spelled h) ≡ v
         → cond {A = PathParts} v (record { absolute = true; segments = drop 1 (path.spelled h).segments }) (path.spelled h) ≡ path.spelled h → v ≡ false
     by_flag false e k = refl
-    by_flag true e k = absurd (false≢true (sym (ap (λ b. not b && path.hides_root (path.spelled h).segments) (sym (ap (λ q. q.absolute) k))) ∙ e))
+    by_flag true e k = absurd (false≢true (sym (ap (λ b. not b && path.starts_with_empty_segment (path.spelled h).segments) (sym (ap (λ q. q.absolute) k))) ∙ e))
 
 pub scheme_valid : (o : Option (List ℕ)) (s : Option Scheme) → IfPresent scheme.Spells o s → (IfSome s scheme.Valid) × (is_some o ≡ is_some s)
 scheme_valid None None h = (tt, refl)

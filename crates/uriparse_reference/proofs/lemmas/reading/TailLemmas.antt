@@ -14,7 +14,7 @@ use Rattle.uriparse_reference.specs.declared.uri_reference.error.URIReferenceErr
 use Rattle.uriparse_reference.specs.declared.uri_reference.error.URIReferenceError.TheVariants as errors
 use Rattle.uriparse_reference.specs.Reference.{path_of, path_refusal}
 use Rattle.uriparse_reference.specs.Cuts.{tail_query, tail_fragment}
-use Rattle.uriparse_reference.specs.Reading.{behind_reading, tail_reading, text_tail}
+use Rattle.uriparse_reference.specs.Reading.{after_reading, tail_reading, text_tail}
 use Rattle.uriparse_reference.proofs.lemmas.reading.CutLemmas.{query_cut, fragment_cut}
 
 abbrev pub Tail : Type 0
@@ -29,11 +29,11 @@ module _ (v w : Bool) where
     path_first e is = rw is refl
 
     module _ (none : paths.fault h ≡ None) where
-      place_next : (e : URIReferenceError) → path_refusal v w h ≡ Some e → tail_reading v w h q f ≡ Err e
-      place_next e is = rw (none, is) refl
+      offset_next : (e : URIReferenceError) → path_refusal v w h ≡ Some e → tail_reading v w h q f ≡ Err e
+      offset_next e is = rw (none, is) refl
 
-      behind_last : path_refusal v w h ≡ None → tail_reading v w h q f ≡ (behind_reading q f >>= λ x. Ok (with_path (path_of w h) x))
-      behind_last is =
+      after_last : path_refusal v w h ≡ None → tail_reading v w h q f ≡ (after_reading q f >>= λ x. Ok (with_path (path_of w h) x))
+      after_last is =
           rw (none, is) (by_results (of_piece errors.Query (if_present query.reading q)) (of_piece errors.Fragment (if_present fragment.reading f)))
         where
           by_results : (q f : Result (Option (List ℕ)) URIReferenceError)
@@ -53,22 +53,22 @@ module _ (v w : Bool) where
     refused_path e is = tail_is ∙ path_first (up_to ends_path u) _ _ e is
 
     module _ (h back : List ℕ) (none : paths.fault (up_to ends_path u) ≡ None) (front : h ≡ up_to ends_path u) (rest : back ≡ from_first ends_path u) where
-      pub refused_place : (e : URIReferenceError) → path_refusal v w h ≡ Some e → text_tail v w u ≡ Err e
-      refused_place e is = tail_is ∙ place_next (up_to ends_path u) _ _ none e (ap (path_refusal v w) (sym front) ∙ is)
+      pub refused_offset : (e : URIReferenceError) → path_refusal v w h ≡ Some e → text_tail v w u ≡ Err e
+      refused_offset e is = tail_is ∙ offset_next (up_to ends_path u) _ _ none e (ap (path_refusal v w) (sym front) ∙ is)
 
       module _ (placed : path_refusal v w h ≡ None) where
-        read_is : (r : Result (Option (List ℕ) × Option (List ℕ)) URIReferenceError) → r ≡ behind_reading (tail_query back) (tail_fragment back)
+        read_is : (r : Result (Option (List ℕ) × Option (List ℕ)) URIReferenceError) → r ≡ after_reading (tail_query back) (tail_fragment back)
             → text_tail v w u ≡ (r >>= λ x. Ok (with_path (path_of w h) x))
         read_is r is =
-            tail_is ∙ behind_last (up_to ends_path u) _ _ none (ap (path_refusal v w) (sym front) ∙ placed)
-            ∙ ap (λ b. behind_reading (tail_query b) (tail_fragment b) >>= λ x. Ok (with_path (path_of w (up_to ends_path u)) x)) (sym rest)
+            tail_is ∙ after_last (up_to ends_path u) _ _ none (ap (path_refusal v w) (sym front) ∙ placed)
+            ∙ ap (λ b. after_reading (tail_query b) (tail_fragment b) >>= λ x. Ok (with_path (path_of w (up_to ends_path u)) x)) (sym rest)
             ∙ ap (λ r. r >>= λ x. Ok (with_path (path_of w (up_to ends_path u)) x)) (sym is)
             ∙ ap (λ t. r >>= λ x. Ok (with_path (path_of w t) x)) (sym front)
 
-        pub refused_behind : (e : URIReferenceError) → Err e ≡ behind_reading (tail_query back) (tail_fragment back) → text_tail v w u ≡ Err e
-        refused_behind e is = read_is (Err e) is
+        pub refused_after : (e : URIReferenceError) → Err e ≡ after_reading (tail_query back) (tail_fragment back) → text_tail v w u ≡ Err e
+        refused_after e is = read_is (Err e) is
 
-        pub accepted_tail : (x : Option (List ℕ) × Option (List ℕ)) → Ok x ≡ behind_reading (tail_query back) (tail_fragment back)
+        pub accepted_tail : (x : Option (List ℕ) × Option (List ℕ)) → Ok x ≡ after_reading (tail_query back) (tail_fragment back)
             → text_tail v w u ≡ Ok (with_path (path_of w h) x)
         accepted_tail x is = read_is (Ok x) is
 

@@ -6,16 +6,16 @@ use Rattle.std.specs.String.Boundary.{IsSplitPoint}
 use Rattle.std.proofs.Math.Seq.{take-append_seam}
 use Rattle.std.proofs.lemmas.List.{length-append}
 use Rattle.uriparse_text.specs.declared.internal.canonical.Case.TheVariants.{Kept}
-use Rattle.uriparse_text.specs.declared.internal.ends.Form.TheVariants.{AsIs}
+use Rattle.uriparse_text.specs.declared.internal.backward_buffer.Form.TheVariants.{AsIs}
 use Rattle.uriparse_text.specs.Ends.{EndsWith, formed}
 use Rattle.uriparse_text.specs.Starts.{most}
 use Rattle.uriparse_text.specs.Bytes.{colon, question_mark, number_sign}
-use Rattle.uriparse_text.specs.Cuts.{ahead, behind}
+use Rattle.uriparse_text.specs.Cuts.{ahead, following}
 use Rattle.uriparse_text.specs.Query.{IsQuery}
 use Rattle.uriparse_text.specs.Fragment.{IsFragment}
 use Rattle.uriparse_reference.specs.Cuts.{scheme_text, authority_text, path_text, query_text, fragment_text}
 use Rattle.uriparse_reference.specs.OwnedText.{IsReference, viewed_in}
-use Rattle.uriparse_reference.specs.Reference.{Parts, Spells, behind_slashes, joined}
+use Rattle.uriparse_reference.specs.Reference.{Parts, Spells, after_slashes, joined}
 use Rattle.uriparse_reference.specs.TextEdits.{with_end, with_fragment, with_query}
 use Rattle.uriparse_reference.specs.View.{Viewed}
 use Rattle.uriparse_reference.proofs.lemmas.reading.AsciiLemmas.{IsAscii-spelled}
@@ -71,14 +71,14 @@ pub then_end : (t : List ℕ) (q f : Option (List ℕ)) → with_end t None None
 unfolding with_end
 then_end t q f =
     let x = ahead colon (scheme_text t) in
-    let y = behind_slashes (authority_text t) in
+    let y = after_slashes (authority_text t) in
     let h = path_text t in
     ap (λ u. (x ++ (y ++ u)) ++ tail q f) (append-nil h) ∙ append_assoc x (y ++ h) (tail q f) ∙ ap (λ u. x ++ u) (append_assoc y h (tail q f))
 
-pub then_fragment : (t : List ℕ) (q f : Option (List ℕ)) → with_end t q None ++ behind number_sign f ≡ with_end t q f
+pub then_fragment : (t : List ℕ) (q f : Option (List ℕ)) → with_end t q None ++ following number_sign f ≡ with_end t q f
 then_fragment t q f =
-    ap (λ u. u ++ behind number_sign f) (sym (then_end t q None) ∙ ap (λ u. with_end t None None ++ u) (append-nil (behind question_mark q)))
-    ∙ append_assoc (with_end t None None) (behind question_mark q) (behind number_sign f) ∙ then_end t q f
+    ap (λ u. u ++ following number_sign f) (sym (then_end t q None) ∙ ap (λ u. with_end t None None ++ u) (append-nil (following question_mark q)))
+    ∙ append_assoc (with_end t None None) (following question_mark q) (following number_sign f) ∙ then_end t q f
 
 -- the text of a reference ends with its own query and fragment
 pub own_end : (t : List ℕ) (p : Parts) → Spells t p → with_end t p.query p.fragment ≡ t
@@ -86,32 +86,32 @@ own_end t p s =
     let cut = own_cut t p s in
     joined_again t s.scheme_text s.authority_text s.path_text p.query p.fragment cut.scheme cut.authority cut.path ∙ sym s.whole
 
-cut_behind : (x y t : List ℕ) (n : ℕ) → x ++ y ≡ t → n ≡ length y → take (length t - n) t ≡ x
-cut_behind x y t n whole e =
+cut_after : (x y t : List ℕ) (n : ℕ) → x ++ y ≡ t → n ≡ length y → take (length t - n) t ≡ x
+cut_after x y t n whole e =
     let sum : length t ≡ length x + length y = ap length (sym whole) ∙ length-append x y in
     let at : length t - n ≡ length x = omega (arith, sum, e) in
     ap (λ k. take k t) at ∙ ap (take (length x)) (sym whole) ∙ take-append_seam x y
 
 pub front_is : (t : List ℕ) (p : Parts) → Spells t p → (n : ℕ) → n ≡ length (tail p.query p.fragment) → take (length t - n) t ≡ with_end t None None
-front_is t p s n e = cut_behind (with_end t None None) (tail p.query p.fragment) t n (then_end t p.query p.fragment ∙ own_end t p s) e
+front_is t p s n e = cut_after (with_end t None None) (tail p.query p.fragment) t n (then_end t p.query p.fragment ∙ own_end t p s) e
 
-pub before_fragment : (t : List ℕ) (p : Parts) → Spells t p → (n : ℕ) → n ≡ length (behind number_sign p.fragment)
+pub before_fragment : (t : List ℕ) (p : Parts) → Spells t p → (n : ℕ) → n ≡ length (following number_sign p.fragment)
     → take (length t - n) t ≡ with_fragment t None
 before_fragment t p s n e =
     let cut = own_cut t p s in
-    cut_behind (with_end t p.query None) (behind number_sign p.fragment) t n (then_fragment t p.query p.fragment ∙ own_end t p s) e
+    cut_after (with_end t p.query None) (following number_sign p.fragment) t n (then_fragment t p.query p.fragment ∙ own_end t p s) e
     ∙ ap (λ q. with_end t q None) (sym cut.query)
 
 -- ---- what is put at the end of a buffer
 
 -- a query and a fragment as they are put, without a change
 abbrev put_tail : Option (List ℕ) → Option (List ℕ) → List ℕ
-put_tail q f = behind question_mark (option_map (formed AsIs Kept) q) ++ behind number_sign (option_map (formed AsIs Kept) f)
+put_tail q f = following question_mark (option_map (formed AsIs Kept) q) ++ following number_sign (option_map (formed AsIs Kept) f)
 
 put_tail_is : (q f x y : Option (List ℕ)) → q ≡ x → f ≡ y → put_tail q f ≡ tail x y
 put_tail_is q f x y e g =
-    ap (λ o. behind question_mark o ++ behind number_sign (option_map (formed AsIs Kept) f)) (as_is q ∙ e)
-    ∙ ap (λ o. behind question_mark x ++ behind number_sign o) (as_is f ∙ g)
+    ap (λ o. following question_mark o ++ following number_sign (option_map (formed AsIs Kept) f)) (as_is q ∙ e)
+    ∙ ap (λ o. following question_mark x ++ following number_sign o) (as_is f ∙ g)
 
 pub put_whole : (t x : List ℕ) (q f : Option (List ℕ)) → x ≡ with_end t None None → x ++ put_tail q f ≡ with_end t q f
 put_whole t x q f e = ap (λ u. u ++ put_tail q f) e ∙ ap (λ u. with_end t None None ++ u) (put_tail_is q f q f refl refl) ∙ then_end t q f
@@ -137,8 +137,8 @@ pub fragment_cut : (t : List ℕ) (p : Parts) → Spells t p → (f : Option (Li
     → EndsWith buffer n (put_tail None f) → length t < most → (n ≤ length t) × (take (length t - n) t ≡ with_fragment t None)
 fragment_cut t p s f g buffer n h small =
     let whole = then_fragment t p.query p.fragment ∙ own_end t p s in
-    let same = counted (with_end t p.query None) (behind number_sign p.fragment) t buffer n (put_tail None f) whole (put_tail_is None f None p.fragment refl g) h small in
-    (within (with_end t p.query None) (behind number_sign p.fragment) t n whole same, before_fragment t p s n same)
+    let same = counted (with_end t p.query None) (following number_sign p.fragment) t buffer n (put_tail None f) whole (put_tail_is None f None p.fragment refl g) h small in
+    (within (with_end t p.query None) (following number_sign p.fragment) t n whole same, before_fragment t p s n same)
 
 -- ---- the text that is made
 

@@ -29,14 +29,14 @@ use Rattle.uriparse_authority.specs.Normal.{canonical_authority}
 use Rattle.uriparse_scheme.specs.declared.scheme.Scheme.{Scheme}
 use Rattle.uriparse_scheme.specs.Normal.{canonical_scheme}
 use Rattle.uriparse_reference.specs.Reference.{Parts, Valid}
-use Rattle.uriparse_reference.specs.Normal.{shielded, normal}
+use Rattle.uriparse_reference.specs.Normal.{dot_prefixed, normal}
 use Rattle.uriparse_reference.specs.Target.{merge, dots_removed, is_empty, target_of, target, is_merged, MergesAlike}
 use Rattle.uriparse_reference.proofs.lemmas.equality.CanonicalComponentLemmas.{scheme_twice, text_twice, some_map, none_map, map_or, or_valid, authority_twice}
 use Rattle.uriparse_reference.proofs.lemmas.edits.PathRuleLemmas.{Fits, make, rooted_formed, fits_of, shielded_cases, shielded_fits}
 use Rattle.uriparse_reference.proofs.lemmas.normalizing.NormalFormLemmas.{fits_normal_path, normal_no_longer, absolute_stays, shielded_map, path_twice}
 use Rattle.uriparse_path.specs.Merge.{merged}
-use Rattle.uriparse_reference.proofs.lemmas.resolving.MergedPathLemmas.{merged_spelled, IsBehind, fits_merged}
-use Rattle.uriparse_reference.proofs.lemmas.resolving.ValidTargetLemmas.{behind, fits_rooted, dots_removed-text}
+use Rattle.uriparse_reference.proofs.lemmas.resolving.MergedPathLemmas.{merged_spelled, IsFollowing, fits_merged}
+use Rattle.uriparse_reference.proofs.lemmas.resolving.ValidTargetLemmas.{following, fits_rooted, dots_removed-text}
 use Rattle.uriparse_reference.proofs.lemmas.resolving.ValidTargetLemmas.{dots_removed-merged, chosen, le_from, merged_now}
 use Rattle.uriparse_reference.proofs.lemmas.resolving.NormalizedTargetLemmas.{settled, build, same_made, settled_normal, still_empty}
 
@@ -45,7 +45,7 @@ use Rattle.uriparse_reference.proofs.lemmas.resolving.NormalizedTargetLemmas.{se
 undotted_rooted : (p : PathParts) → p.absolute ≡ true → undotted p ≡ make true (replay [] p.segments)
 undotted_rooted p h = ap (λ v. respelled (make v (replay [] p.segments))) (ap (λ v. rooted_after v [] p.segments) h ∙ once_rooted [] p.segments)
 
-shielded_flag : (a : Option AuthorityParts) (q : PathParts) → (shielded a q).absolute ≡ q.absolute
+shielded_flag : (a : Option AuthorityParts) (q : PathParts) → (dot_prefixed a q).absolute ≡ q.absolute
 shielded_flag (Some a) q = refl
 shielded_flag None q = shielded_cases q (λ p. p.absolute ≡ q.absolute) (λ e. refl) (λ e. refl)
 
@@ -54,7 +54,7 @@ cut_dot [] n h k = absurd (omega arith)
 cut_dot (s ∷ l) n h k = dot_gone [] (all_but_last (s ∷ l) ++ n) (omega (arith, length-append (all_but_last (s ∷ l)) n, k))
 
 cut_shielded : (a : Option AuthorityParts) (q : PathParts) (n : List (List ℕ)) → 0 < length q.segments → 0 < length n
-    → replay [] (all_but_last (shielded a q).segments ++ n) ≡ replay [] (all_but_last q.segments ++ n)
+    → replay [] (all_but_last (dot_prefixed a q).segments ++ n) ≡ replay [] (all_but_last q.segments ++ n)
 cut_shielded (Some a) q n h k = refl
 cut_shielded None q n h k =
     shielded_cases q (λ p. replay [] (all_but_last p.segments ++ n) ≡ replay [] (all_but_last q.segments ++ n)) (λ e. cut_dot q.segments n h k) (λ e. refl)
@@ -74,7 +74,7 @@ merged_lists b r is js each h =
 
 -- the normal form of a path that is merged
 relative_path : (a : Option AuthorityParts) (p : PathParts) → Fits false p → is_rooted (text p) ≡ false → is_some a ≡ false
-    → shielded a (pnormal p true) ≡ make false (relative_normal p.segments)
+    → dot_prefixed a (pnormal p true) ≡ make false (relative_normal p.segments)
 relative_path (Some a) p is h k = absurd (false≢true (sym k))
 relative_path None p is h k =
     let rootless : is_rooted (text (pnormal p true)) ≡ false = pnormal_rootless p is.listed h in
@@ -82,21 +82,21 @@ relative_path None p is h k =
     ∙ (and_parts (is_rooted (text (pnormal p true))) _ e).0))) (λ e. refl)
     ∙ pnormal_relative p true (ap not h)
 
-settled_merged : (a : Option AuthorityParts) (p q : PathParts) (r : Bool) → Fits (is_some a) p → IsBehind q → length (merged p q).segments ≤ max_segments
+settled_merged : (a : Option AuthorityParts) (p q : PathParts) (r : Bool) → Fits (is_some a) p → IsFollowing q → length (merged p q).segments ≤ max_segments
     → p.absolute ≡ true → is_last is_double_dot p.segments ≡ false
-    → settled (merged (shielded a (pnormal p r)) (make false (relative_normal q.segments))) ≡ settled (merged p q)
+    → settled (merged (dot_prefixed a (pnormal p r)) (make false (relative_normal q.segments))) ≡ settled (merged p q)
 settled_merged a p q r is js short flag last =
     let n = relative_normal q.segments in
     let base : pnormal p r ≡ make true (map canonical (replay [] p.segments)) = pnormal_is p r is.listed is.formed (absolute_stays p r flag)
     ∙ ap canonical_path (undotted_rooted p flag) in
     let m = merged p q in
     let fit = fits_merged (is_some a) p q is js short in
-    let whole : replay [] (all_but_last (shielded a (pnormal p r)).segments ++ relative_normal q.segments)
+    let whole : replay [] (all_but_last (dot_prefixed a (pnormal p r)).segments ++ relative_normal q.segments)
     ≡ map canonical (replay [] (all_but_last p.segments ++ q.segments)) =
     cut_shielded a (pnormal p r) (relative_normal q.segments) (listed_pnormal p r is.listed).some (some_relative q.segments)
     ∙ ap (λ u. replay [] (all_but_last u.segments ++ relative_normal q.segments)) base
     ∙ sym (merged_lists p.segments q.segments is.listed js.listed fit.listed.each last) in
-    ap canonical_path (undotted_rooted (merged (shielded a (pnormal p r)) (make false (relative_normal q.segments))) (shielded_flag a (pnormal p r)
+    ap canonical_path (undotted_rooted (merged (dot_prefixed a (pnormal p r)) (make false (relative_normal q.segments))) (shielded_flag a (pnormal p r)
     ∙ pnormal_absolute p r is.listed flag))
     ∙ ap (λ l. make true (map canonical l)) whole
     ∙ ap (make true) (canonical_twice (replay [] (all_but_last p.segments ++ q.segments)) (listed_replayed (merged p q) fit.listed).each)
@@ -203,7 +203,7 @@ commutes b r t v w h premise given =
         )
 
     empty_normal_path : is_some r.scheme ≡ false → is_some r.authority ≡ false → is_empty (text r.path) ≡ true → is_empty (text (normal r).path) ≡ true
-    empty_normal_path e i j = ap (λ z. is_empty (text (shielded r.authority (pnormal r.path z)))) (no_scheme r.scheme e)
+    empty_normal_path e i j = ap (λ z. is_empty (text (dot_prefixed r.authority (pnormal r.path z)))) (no_scheme r.scheme e)
         ∙ still_empty r.authority r.path (lone i) j i
 
     base_path : is_some r.scheme ≡ false → is_some r.authority ≡ false → is_empty (text r.path) ≡ true
@@ -211,12 +211,12 @@ commutes b r t v w h premise given =
     base_path e i j g =
         let u : Parts = target_of (normal b).scheme (normal b).authority (normal b).path (option_or (normal r).query (normal b).query) (normal r).fragment in
         let own : (normal (target_of b.scheme b.authority b.path (option_or r.query b.query) r.fragment)).path ≡ (normal b).path =
-        ap (λ p. shielded b.authority (pnormal p (is_none b.scheme))) (shielded_fits b.authority b.path fb) in
+        ap (λ p. dot_prefixed b.authority (pnormal p (is_none b.scheme))) (shielded_fits b.authority b.path fb) in
         let again : (normal u).path ≡ (normal b).path =
-        ap (λ p. shielded (normal b).authority (pnormal p (is_none (normal b).scheme))) (shielded_map canonical_authority b.authority (normal b).path
+        ap (λ p. dot_prefixed (normal b).authority (pnormal p (is_none (normal b).scheme))) (shielded_map canonical_authority b.authority (normal b).path
         ∙ shielded_fits b.authority (normal b).path nb)
         ∙ shielded_map canonical_authority b.authority (pnormal (normal b).path (is_none (normal b).scheme))
-        ∙ ap (λ z. shielded b.authority (pnormal (normal b).path z)) (none_map canonical_scheme b.scheme)
+        ∙ ap (λ z. dot_prefixed b.authority (pnormal (normal b).path z)) (none_map canonical_scheme b.scheme)
         ∙ path_twice b v in
         let queries : option_map canonical (option_or (normal r).query (normal b).query) ≡ option_map canonical (option_or r.query b.query) =
         ap (option_map canonical) (sym (map_or r.query b.query))
@@ -260,11 +260,11 @@ commutes b r t v w h premise given =
     merged_path e i j k false z g = absurd (cc)
     merged_path e i j k true z g =
         let need : MergesAlike b r = premise (merged_now (is_some r.scheme) (is_some r.authority) (is_empty (text r.path)) (is_rooted (text r.path)) e i j k) in
-        let js = behind r.path (lone i) k in
+        let js = following r.path (lone i) k in
         let path_is : (normal r).path ≡ make false (relative_normal r.path.segments) =
-        ap (λ y. shielded r.authority (pnormal r.path y)) (no_scheme r.scheme e) ∙ relative_path r.authority r.path (lone i) k i in
+        ap (λ y. dot_prefixed r.authority (pnormal r.path y)) (no_scheme r.scheme e) ∙ relative_path r.authority r.path (lone i) k i in
         let rootless : is_rooted (text (normal r).path) ≡ false = rooted_formed (normal r).path nr.listed nr.formed ∙ ap (λ p. p.absolute) path_is in
-        let ns = behind (normal r).path (lone_normal i) rootless in
+        let ns = following (normal r).path (lone_normal i) rootless in
         let short : length (merged b.path r.path).segments ≤ max_segments =
         le_from _ _ (ap (λ p. nat_le (length p.segments) max_segments) (sym (merged_spelled (is_some b.authority) b.path r.path fb js)) ∙ z) in
         let no_longer : length (merged (normal b).path (normal r).path).segments ≤ length (merged b.path r.path).segments =

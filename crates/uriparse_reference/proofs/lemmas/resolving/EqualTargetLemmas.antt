@@ -24,7 +24,7 @@ use Rattle.uriparse_scheme.specs.Scheme as scheme
 use Rattle.uriparse_reference.specs.Reference.{Parts, joined, Valid, Same, scheme_part, authority_part, print, kind}
 use Rattle.uriparse_reference.specs.Cuts.{scheme_text, authority_text, path_text, query_text, fragment_text}
 use Rattle.uriparse_path.specs.Edits.{dotted}
-use Rattle.uriparse_reference.specs.Normal.{shielded, normal}
+use Rattle.uriparse_reference.specs.Normal.{dot_prefixed, normal}
 use Rattle.uriparse_reference.specs.Target.{merge, dots_removed, is_empty, target_of, target, AreSame}
 use Rattle.uriparse_reference.proofs.lemmas.equality.EqualityLemmas.{canonical_cut}
 use Rattle.uriparse_reference.proofs.lemmas.equality.CanonicalComponentLemmas.{scheme-text, some_map, none_map, map_or, authority-print, authority-kind}
@@ -32,8 +32,8 @@ use Rattle.uriparse_reference.proofs.lemmas.edits.PathRuleLemmas.{Fits, two_slas
 use Rattle.uriparse_reference.proofs.lemmas.normalizing.NormalFormLemmas.{normal_valid}
 use Rattle.uriparse_reference.proofs.lemmas.normalizing.NormalizingLemmas.{same_path, printed_alike}
 use Rattle.uriparse_path.specs.Merge.{merged}
-use Rattle.uriparse_reference.proofs.lemmas.resolving.MergedPathLemmas.{merged_spelled, IsBehind, fits_merged}
-use Rattle.uriparse_reference.proofs.lemmas.resolving.ValidTargetLemmas.{behind, fits_rooted, fits_undotted, dots_removed-text}
+use Rattle.uriparse_reference.proofs.lemmas.resolving.MergedPathLemmas.{merged_spelled, IsFollowing, fits_merged}
+use Rattle.uriparse_reference.proofs.lemmas.resolving.ValidTargetLemmas.{following, fits_rooted, fits_undotted, dots_removed-text}
 use Rattle.uriparse_reference.proofs.lemmas.resolving.ValidTargetLemmas.{dots_removed-merged, chosen, le_from}
 
 -- ---- component by component
@@ -78,7 +78,7 @@ same_none f g x y e = sym (none_map f x) ∙ ap is_none e ∙ none_map g y
 
 -- ---- the leading "."
 
-pub shielded_some : (a b : Option AuthorityParts) (q : PathParts) → is_some a ≡ is_some b → shielded a q ≡ shielded b q
+pub shielded_some : (a b : Option AuthorityParts) (q : PathParts) → is_some a ≡ is_some b → dot_prefixed a q ≡ dot_prefixed b q
 shielded_some None None q h = refl
 shielded_some None (Some b) q h = absurd (false≢true h)
 shielded_some (Some a) None q h = absurd (false≢true (sym h))
@@ -90,10 +90,10 @@ two-canonical q is h =
     ∙ ap (λ v. q.absolute && v) (hides-canonical q.segments)
     ∙ sym (two_slashes q is h)
 
-pub shielded-canonical : (a : Option AuthorityParts) (q : PathParts) → IsListed q.segments → respelled q ≡ q
-    → canonical_path (shielded a q) ≡ shielded a (canonical_path q)
-shielded-canonical (Some a) q is h = refl
-shielded-canonical None q is h = by_test (has_two_slashes (text q))
+pub dot_prefixed-canonical : (a : Option AuthorityParts) (q : PathParts) → IsListed q.segments → respelled q ≡ q
+    → canonical_path (dot_prefixed a q) ≡ dot_prefixed a (canonical_path q)
+dot_prefixed-canonical (Some a) q is h = refl
+dot_prefixed-canonical None q is h = by_test (has_two_slashes (text q))
     ∙ ap (λ v. cond v (dotted (canonical_path q)) (canonical_path q)) (sym (two-canonical q is h))
   where
     by_test : (v : Bool) → canonical_path (cond v (dotted q) q) ≡ cond v (dotted (canonical_path q)) (canonical_path q)
@@ -107,25 +107,25 @@ made_same : (s r : Option Scheme) (a b : Option AuthorityParts) (p q : PathParts
     → option_map authority.canonical_text a ≡ option_map authority.canonical_text b
     → option_map authority.kind a ≡ option_map authority.kind b
     → IsListed p.segments → respelled p ≡ p → IsListed q.segments → respelled q ≡ q
-    → Fits (is_some a) (shielded a p) → Fits (is_some b) (shielded b q)
+    → Fits (is_some a) (dot_prefixed a p) → Fits (is_some b) (dot_prefixed b q)
     → canonical_path p ≡ canonical_path q
     → option_map canonical x ≡ option_map canonical y → option_map canonical f ≡ option_map canonical g
     → Same (target_of s a p x f) (target_of r b q y g)
 made_same s r a b p q x y f g es ea ek is i js j fp fq ep ex ef =
-    let t : canonical (text (shielded a p)) ≡ canonical (text (shielded b q)) =
-    canonical-text (shielded a p) fp.listed
-    ∙ ap text (shielded-canonical a p is i ∙ ap (shielded a) ep
-    ∙ shielded_some a b (canonical_path q) (same_some authority.canonical_text authority.canonical_text a b ea) ∙ sym (shielded-canonical b q js j))
-    ∙ sym (canonical-text (shielded b q) fq.listed) in
+    let t : canonical (text (dot_prefixed a p)) ≡ canonical (text (dot_prefixed b q)) =
+    canonical-text (dot_prefixed a p) fp.listed
+    ∙ ap text (dot_prefixed-canonical a p is i ∙ ap (dot_prefixed a) ep
+    ∙ shielded_some a b (canonical_path q) (same_some authority.canonical_text authority.canonical_text a b ea) ∙ sym (dot_prefixed-canonical b q js j))
+    ∙ sym (canonical-text (dot_prefixed b q) fq.listed) in
     record {
       spelling =
-          ap (λ u. joined u (option_map authority.canonical_text a) (canonical (text (shielded a p))) (option_map canonical x) (option_map canonical f)) es
-          ∙ ap (λ u. joined (option_map scheme.canonical_text r) u (canonical (text (shielded a p))) (option_map canonical x) (option_map canonical f)) ea
+          ap (λ u. joined u (option_map authority.canonical_text a) (canonical (text (dot_prefixed a p))) (option_map canonical x) (option_map canonical f)) es
+          ∙ ap (λ u. joined (option_map scheme.canonical_text r) u (canonical (text (dot_prefixed a p))) (option_map canonical x) (option_map canonical f)) ea
           ∙ ap (λ u. joined (option_map scheme.canonical_text r) (option_map authority.canonical_text b) u (option_map canonical x) (option_map canonical f)) t
-          ∙ ap (λ u. joined (option_map scheme.canonical_text r) (option_map authority.canonical_text b) (canonical (text (shielded b q))) u
+          ∙ ap (λ u. joined (option_map scheme.canonical_text r) (option_map authority.canonical_text b) (canonical (text (dot_prefixed b q))) u
           (option_map canonical f))
           ex
-          ∙ ap (λ u. joined (option_map scheme.canonical_text r) (option_map authority.canonical_text b) (canonical (text (shielded b q)))
+          ∙ ap (λ u. joined (option_map scheme.canonical_text r) (option_map authority.canonical_text b) (canonical (text (dot_prefixed b q)))
           (option_map canonical y) u)
           ef;
       kinds = ek;
@@ -213,7 +213,7 @@ same_targets b c r q vb vc vr vq sb sr =
     lone_too : is_some r.authority ≡ false → Fits false q.path
     lone_too h = subst (λ v. Fits v q.path) (e2 ∙ h) fq
 
-    by_room : IsBehind r.path → IsBehind q.path → (z : Bool) → nat_le (length (pieces (merge b r))) max_segments ≡ z
+    by_room : IsFollowing r.path → IsFollowing q.path → (z : Bool) → nat_le (length (pieces (merge b r))) max_segments ≡ z
         → AreSame (cond z (Some (target_of b.scheme b.authority (dots_removed (merge b r)) r.query r.fragment)) None)
         (cond (nat_le (length (pieces (merge c q))) max_segments) (Some (target_of c.scheme c.authority (dots_removed (merge c q)) q.query q.fragment))
         None)
@@ -269,7 +269,7 @@ same_targets b c r q vb vc vr vq sb sr =
         (fits_rooted (is_some b.authority) r.path (lone i) k) (fits_rooted (is_some c.authority) q.path (lone_too i) (e4
         ∙ k)) ref.paths ref.queries ref.fragments
     by_tests false e false i false j false k =
-        by_room (behind r.path (lone i) k) (behind q.path (lone_too i) (e4 ∙ k)) (nat_le (length (pieces (merge b r))) max_segments) refl
+        by_room (following r.path (lone i) k) (following q.path (lone_too i) (e4 ∙ k)) (nat_le (length (pieces (merge b r))) max_segments) refl
 
 pub same_normal : (p q : Parts) → Valid p → Valid q → Same p q → (print (normal p) ≡ print (normal q)) × (kind (normal p) ≡ kind (normal q))
 same_normal p q v w s =
@@ -280,7 +280,7 @@ same_normal p q v w s =
     let h : pnormal p.path (is_none p.scheme) ≡ pnormal q.path (is_none q.scheme) =
     sym (pnormal-canonical p.path (is_none p.scheme) i.listed) ∙ ap (λ u. pnormal u (is_none p.scheme)) is.paths
     ∙ pnormal-canonical q.path (is_none p.scheme) j.listed ∙ ap (pnormal q.path) r in
-    let t : text (normal p).path ≡ text (normal q).path = ap text (ap (shielded p.authority) h
+    let t : text (normal p).path ≡ text (normal q).path = ap text (ap (dot_prefixed p.authority) h
     ∙ shielded_some p.authority q.authority (pnormal q.path (is_none q.scheme))
     (same_some authority.canonical_text authority.canonical_text p.authority q.authority is.authorities)) in (
       ap (λ u. joined u (authority_part (normal p)) (text (normal p).path) (normal p).query (normal p).fragment) (scheme-text p.scheme ∙ is.schemes

@@ -6,10 +6,10 @@ use Rattle.std.proofs.lemmas.Bool.{false≢true, and_parts}
 use Rattle.std.proofs.lemmas.List.Folds.{list_all-append}
 use Rattle.uriparse_text.specs.Bytes.{slash}
 use Rattle.uriparse_text.specs.Segment.{is_segment}
-use Rattle.uriparse_path.specs.Path.{PathParts, IsListed, max_segments, root, text, is_slash, is_rooted, unrooted, pieces, spelled, hides_root, respelled}
+use Rattle.uriparse_path.specs.Path.{PathParts, IsListed, max_segments, root, text, is_slash, is_rooted, unrooted, pieces, spelled, starts_with_empty_segment, respelled}
 use Rattle.uriparse_path.specs.Merge.{merged}
 use Rattle.uriparse_path.specs.Dots.{LacksSlash, all_but_last}
-use Rattle.uriparse_path.proofs.lemmas.text.SplitLemmas.{joined-behind}
+use Rattle.uriparse_path.proofs.lemmas.text.SplitLemmas.{joined-following}
 use Rattle.uriparse_path.proofs.lemmas.text.PathTextLemmas.{lacks_slash, pieces-segments, rooted-relative}
 use Rattle.uriparse_path.proofs.lemmas.dots.DotSegmentLemmas.{has-lacks}
 use Rattle.uriparse_path.proofs.lemmas.normal.RelativeLengthLemmas.{pushed}
@@ -28,9 +28,9 @@ some_slash (b ∷ s) u = by_byte (is_slash b) (some_slash s u)
     by_byte true h = refl
     by_byte false h = h
 
-pub directory_behind : (s u : List ℕ) → through_last_slash (s ++ slash ∷ u) ≡ s ++ slash ∷ through_last_slash u
-directory_behind [] u = refl
-directory_behind (b ∷ s) u = ap (λ v. cond v (b ∷ through_last_slash (s ++ slash ∷ u)) []) (some_slash (b ∷ s) u) ∙ ap (λ w. b ∷ w) (directory_behind s u)
+pub directory_after : (s u : List ℕ) → through_last_slash (s ++ slash ∷ u) ≡ s ++ slash ∷ through_last_slash u
+directory_after [] u = refl
+directory_after (b ∷ s) u = ap (λ v. cond v (b ∷ through_last_slash (s ++ slash ∷ u)) []) (some_slash (b ∷ s) u) ∙ ap (λ w. b ∷ w) (directory_after s u)
 
 pub directory_none : (s : List ℕ) → LacksSlash s → through_last_slash s ≡ []
 directory_none [] h = refl
@@ -38,7 +38,7 @@ directory_none (b ∷ s) h = ap (λ v. cond v (b ∷ through_last_slash s) []) (
 
 pub joined_cons : (s : List ℕ) (l : List (List ℕ)) → 0 < length l → join_with_byte slash (s ∷ l) ≡ s ++ slash ∷ join_with_byte slash l
 joined_cons s [] h = absurd (omega arith)
-joined_cons s (r ∷ l) h = joined-behind s (r ∷ l) ∙ ap (λ u. s ++ slash ∷ u) (sym (joined-behind r l))
+joined_cons s (r ∷ l) h = joined-following s (r ∷ l) ∙ ap (λ u. s ++ slash ∷ u) (sym (joined-following r l))
 
 pub joined_one : (s : List ℕ) → join_with_byte slash (s ∷ []) ≡ s
 joined_one s = refl
@@ -51,7 +51,7 @@ pub merged_joined : (front : List (List ℕ)) (y : List ℕ) (r : List (List ℕ
 merged_joined [] y r h n = ap (λ u. u ++ join_with_byte slash r) (directory_none y h)
 merged_joined (s ∷ front) y r h n =
     ap (λ u. through_last_slash u ++ join_with_byte slash r) (joined_cons s (front ++ y ∷ []) (some_pushed front y))
-    ∙ ap (λ u. u ++ join_with_byte slash r) (directory_behind s (join_with_byte slash (front ++ y ∷ [])))
+    ∙ ap (λ u. u ++ join_with_byte slash r) (directory_after s (join_with_byte slash (front ++ y ∷ [])))
     ∙ append_assoc s (slash ∷ through_last_slash (join_with_byte slash (front ++ y ∷ []))) (join_with_byte slash r)
     ∙ ap (λ u. s ++ slash ∷ u) (merged_joined front y r h n)
     ∙ sym (joined_cons s (front ++ r) (some_before front r n))
@@ -88,7 +88,7 @@ merged_text p q is js h = by_list p.segments is ∙ refl
         ∙ ap (λ u. root p.absolute ++ join_with_byte slash (u ++ q.segments)) (sym (ap all_but_last cut.whole ∙ all_but_last_push cut.front cut.last))
 
 -- the pieces of joined segments, if their text hides no leading slash; there may be too many of them
-pub pieces_text : (p : PathParts) → 0 < length p.segments → list_all is_segment p.segments ≡ true → (p.absolute ≡ false → hides_root p.segments ≡ false)
+pub pieces_text : (p : PathParts) → 0 < length p.segments → list_all is_segment p.segments ≡ true → (p.absolute ≡ false → starts_with_empty_segment p.segments ≡ false)
     → spelled (text p) ≡ p
 pieces_text p some each f = by_shape p.absolute p.segments some each f
   where
@@ -96,7 +96,7 @@ pieces_text p some each f = by_shape p.absolute p.segments some each f
     unrooted_same [] h = refl
     unrooted_same (b ∷ t) h = ap (λ v. cond v t (b ∷ t)) h
 
-    by_shape : (a : Bool) (l : List (List ℕ)) → 0 < length l → list_all is_segment l ≡ true → (a ≡ false → hides_root l ≡ false)
+    by_shape : (a : Bool) (l : List (List ℕ)) → 0 < length l → list_all is_segment l ≡ true → (a ≡ false → starts_with_empty_segment l ≡ false)
         → spelled (text (make a l)) ≡ make a l
     by_shape a [] some each f = absurd (omega arith)
     by_shape true (s ∷ l) some each f = ap (λ m. make true m) (pieces-segments s l each)
@@ -109,19 +109,19 @@ pieces_text p some each f = by_shape p.absolute p.segments some each f
 -- ---- the case of merged paths
 
 -- a reference's path that is merged
-pub record IsBehind (q : PathParts) : Type 0 where
+pub record IsFollowing (q : PathParts) : Type 0 where
   pub listed : IsListed q.segments
   pub flag : q.absolute ≡ false
-  pub shown : hides_root q.segments ≡ false
+  pub shown : starts_with_empty_segment q.segments ≡ false
 
-pub merged_spelled : (v : Bool) (p q : PathParts) → Fits v p → IsBehind q → spelled (through_last_slash (text p) ++ text q) ≡ merged p q
+pub merged_spelled : (v : Bool) (p q : PathParts) → Fits v p → IsFollowing q → spelled (through_last_slash (text p) ++ text q) ≡ merged p q
 merged_spelled v p q is js =
     ap spelled (merged_text p q is.listed js.listed js.flag)
     ∙ pieces_text (merged p q) (some_before (all_but_last p.segments) q.segments js.listed.some) (merged_each p q is.listed js.listed)
     (λ h. merged_hides p.segments q.segments (formed_shown p is.formed h) js.shown)
 
 -- within the limit it fits as the base's does
-pub fits_merged : (v : Bool) (p q : PathParts) → Fits v p → IsBehind q → length (merged p q).segments ≤ max_segments → Fits v (merged p q)
+pub fits_merged : (v : Bool) (p q : PathParts) → Fits v p → IsFollowing q → length (merged p q).segments ≤ max_segments → Fits v (merged p q)
 fits_merged v p q is js short = record {
   listed = listed_merged p q is.listed js.listed short;
   formed = by_flag p.absolute refl;
@@ -137,5 +137,5 @@ fits_merged v p q is js short = record {
         and_no true = refl
         and_no false = refl
 
-        hidden : p.absolute ≡ false → (not (merged p q).absolute && hides_root (merged p q).segments) ≡ false
+        hidden : p.absolute ≡ false → (not (merged p q).absolute && starts_with_empty_segment (merged p q).segments) ≡ false
         hidden e = ap (λ w. not p.absolute && w) (merged_hides p.segments q.segments (formed_shown p is.formed e) js.shown) ∙ and_no (not p.absolute)

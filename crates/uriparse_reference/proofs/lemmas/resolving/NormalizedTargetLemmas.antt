@@ -25,7 +25,7 @@ use Rattle.uriparse_scheme.specs.declared.scheme.Scheme.{Scheme}
 use Rattle.uriparse_scheme.specs.Scheme as scheme
 use Rattle.uriparse_scheme.specs.Normal.{canonical_scheme}
 use Rattle.uriparse_reference.specs.Reference.{Parts}
-use Rattle.uriparse_reference.specs.Normal.{shielded, normal}
+use Rattle.uriparse_reference.specs.Normal.{dot_prefixed, normal}
 use Rattle.uriparse_reference.specs.Target.{dots_removed, is_empty, target_of}
 use Rattle.uriparse_reference.proofs.lemmas.equality.CanonicalComponentLemmas.{scheme_twice, text_twice, some_map, authority_twice}
 use Rattle.uriparse_reference.proofs.lemmas.edits.PathRuleLemmas.{Fits, make, undotted_shielded}
@@ -47,17 +47,17 @@ with_scheme None h = absurd (false≢true h)
 with_scheme (Some s) h = refl
 
 pub made_path : (a : Option AuthorityParts) (m : PathParts) (r : Bool) → r ≡ false → Fits (is_some a) m
-    → shielded a (pnormal (shielded a (undotted m)) r) ≡ shielded a (settled m)
+    → dot_prefixed a (pnormal (dot_prefixed a (undotted m)) r) ≡ dot_prefixed a (settled m)
 made_path a m r h is =
     let listed = listed_undotted m is.listed in
-    ap (λ v. shielded a (pnormal (shielded a (undotted m)) v)) h
-    ∙ ap (shielded a) (
+    ap (λ v. dot_prefixed a (pnormal (dot_prefixed a (undotted m)) v)) h
+    ∙ ap (dot_prefixed a) (
     pnormal_shielded a (undotted m) false listed (respelled_twice (replayed m)) (fits_undotted a m is)
     ∙ pnormal_is (undotted m) false listed (respelled_twice (replayed m)) refl
     ∙ ap canonical_path (undotted_twice m is.listed))
 
 pub normal_made : (s : Option Scheme) (a : Option AuthorityParts) (m : PathParts) (x f : Option (List ℕ)) → is_some s ≡ true → Fits (is_some a) m
-    → normal (target_of s a (undotted m) x f) ≡ build (option_map canonical_scheme s) (option_map canonical_authority a) (shielded a (settled m))
+    → normal (target_of s a (undotted m) x f) ≡ build (option_map canonical_scheme s) (option_map canonical_authority a) (dot_prefixed a (settled m))
     (option_map canonical x) (option_map canonical f)
 normal_made s a m x f h is =
     ap (λ p. build (option_map canonical_scheme s) (option_map canonical_authority a) p (option_map canonical x) (option_map canonical f))
@@ -80,22 +80,22 @@ same_made s a t u m n x f h vs va vx vf i j is js e =
     ∙ normal_made (option_map canonical_scheme s) (option_map canonical_authority a) n (option_map canonical x) (option_map canonical f)
     (some_map canonical_scheme s
     ∙ h) (subst (λ v. Fits v n) (sym (some_map canonical_authority a)) js)
-    ∙ ap (λ y. build y (option_map canonical_authority (option_map canonical_authority a)) (shielded (option_map canonical_authority a) (settled n))
+    ∙ ap (λ y. build y (option_map canonical_authority (option_map canonical_authority a)) (dot_prefixed (option_map canonical_authority a) (settled n))
     (option_map canonical (option_map canonical x)) (option_map canonical (option_map canonical f))) (scheme_twice s vs)
-    ∙ ap (λ y. build (option_map canonical_scheme s) y (shielded (option_map canonical_authority a) (settled n)) (option_map canonical (option_map canonical x))
+    ∙ ap (λ y. build (option_map canonical_scheme s) y (dot_prefixed (option_map canonical_authority a) (settled n)) (option_map canonical (option_map canonical x))
     (option_map canonical (option_map canonical f))) (authority_twice a va)
     ∙ ap (λ y. build (option_map canonical_scheme s) (option_map canonical_authority a) y (option_map canonical (option_map canonical x))
-    (option_map canonical (option_map canonical f))) (shielded_map canonical_authority a (settled n) ∙ ap (shielded a) e)
-    ∙ ap (λ y. build (option_map canonical_scheme s) (option_map canonical_authority a) (shielded a (settled m)) y (option_map canonical
+    (option_map canonical (option_map canonical f))) (shielded_map canonical_authority a (settled n) ∙ ap (dot_prefixed a) e)
+    ∙ ap (λ y. build (option_map canonical_scheme s) (option_map canonical_authority a) (dot_prefixed a (settled m)) y (option_map canonical
     (option_map canonical f)))
     (text_twice Query x vx)
-    ∙ ap (λ y. build (option_map canonical_scheme s) (option_map canonical_authority a) (shielded a (settled m)) (option_map canonical x) y)
+    ∙ ap (λ y. build (option_map canonical_scheme s) (option_map canonical_authority a) (dot_prefixed a (settled m)) (option_map canonical x) y)
     (text_twice Query f vf))
 
 -- ---- a path that is normalized already
 
 pub settled_normal : (a : Option AuthorityParts) (p : PathParts) (r : Bool) → Fits (is_some a) p → stays_relative p r ≡ false
-    → settled (shielded a (pnormal p r)) ≡ settled p
+    → settled (dot_prefixed a (pnormal p r)) ≡ settled p
 settled_normal a p r is e =
     ap canonical_path (undotted_shielded a (pnormal p r) (listed_pnormal p r is.listed).some)
     ∙ ap settled (pnormal_is p r is.listed is.formed e)
@@ -123,10 +123,10 @@ pub empty_normal : path.is_normal (make false ([] ∷ [])) true ≡ true
 empty_normal = rw (canonical-nil, empty_double, empty_single) refl
 
 pub still_empty : (a : Option AuthorityParts) (p : PathParts) → Fits false p → is_empty (text p) ≡ true → is_some a ≡ false
-    → is_empty (text (shielded a (pnormal p true))) ≡ true
+    → is_empty (text (dot_prefixed a (pnormal p true))) ≡ true
 still_empty (Some a) p is h k = absurd (false≢true (sym k))
 still_empty None p is h k =
     let e = empty_path p is h in
     let listed : IsListed ([] ∷ []) = subst (λ q. IsListed q.segments) e is.listed in
-    ap (λ q. is_empty (text (shielded None (pnormal q true)))) e
-    ∙ ap (λ q. is_empty (text (shielded None q))) (normal_kept (make false ([] ∷ [])) true listed empty_normal)
+    ap (λ q. is_empty (text (dot_prefixed None (pnormal q true)))) e
+    ∙ ap (λ q. is_empty (text (dot_prefixed None q))) (normal_kept (make false ([] ∷ [])) true listed empty_normal)

@@ -6,7 +6,7 @@ use Rattle.std.specs.Option.{option_or}
 use Rattle.std.proofs.lemmas.Bool.{false≢true, and_parts, and_from, not-true, le-leb}
 use Rattle.uriparse_text.specs.Query.{IsQuery}
 use Rattle.uriparse_text.specs.Fragment.{IsFragment}
-use Rattle.uriparse_path.specs.Path.{PathParts, IsListed, max_segments, text, is_rooted, pieces, hides_root, has_two_slashes, respelled}
+use Rattle.uriparse_path.specs.Path.{PathParts, IsListed, max_segments, text, is_rooted, pieces, starts_with_empty_segment, has_two_slashes, respelled}
 use Rattle.uriparse_path.specs.Dots.{has_dot_segment, all_but_last, rooted_after}
 use Rattle.uriparse_path.specs.Merge.{merged}
 use Rattle.uriparse_path.specs.Relative.{is_first, has_colon}
@@ -18,12 +18,12 @@ use Rattle.uriparse_scheme.specs.declared.scheme.Scheme.{Scheme}
 use Rattle.uriparse_scheme.specs.Scheme as scheme
 use Rattle.uriparse_scheme.proofs.lemmas.schemes.SchemeLemmas.{spells_back}
 use Rattle.uriparse_reference.specs.Reference.{Parts, Valid}
-use Rattle.uriparse_reference.specs.Normal.{shielded}
+use Rattle.uriparse_reference.specs.Normal.{dot_prefixed}
 use Rattle.uriparse_reference.specs.Target.{merge, dots_removed, is_empty, target_of, target}
-use Rattle.uriparse_reference.specs.Relate.{without_scheme, behind_path, stands_alone, inner, LeavesOut}
+use Rattle.uriparse_reference.specs.Relate.{without_scheme, following_path, stands_alone, inner, LeavesOut}
 use Rattle.uriparse_reference.specs.Relate.{network, IsInPlace, IsQueryLeft, Relates}
 use Rattle.uriparse_reference.proofs.lemmas.edits.PathRuleLemmas.{Fits, make, fits_of, placed, valid_made, two_slashes, shielded_fits}
-use Rattle.uriparse_reference.proofs.lemmas.resolving.MergedPathLemmas.{IsBehind, merged_spelled}
+use Rattle.uriparse_reference.proofs.lemmas.resolving.MergedPathLemmas.{IsFollowing, merged_spelled}
 use Rattle.uriparse_reference.proofs.lemmas.resolving.ValidTargetLemmas.{dots_removed-text, dots_removed-merged, chosen}
 use Rattle.uriparse_reference.proofs.lemmas.resolving.ResolveLemmas.{target_kept, target_rooted, target_merged}
 
@@ -106,10 +106,10 @@ network_leads b t v s h n = by_authority (is_some t.authority) refl
 
 -- ---- the same path
 
-pub place_target : (b t : Parts) (q : Option (List ℕ)) → Valid b → Valid t → is_some t.scheme ≡ true → b.scheme ≡ t.scheme → b.authority ≡ t.authority → b.path ≡ t.path
+pub fit_target : (b t : Parts) (q : Option (List ℕ)) → Valid b → Valid t → is_some t.scheme ≡ true → b.scheme ≡ t.scheme → b.authority ≡ t.authority → b.path ≡ t.path
     → has_dot_segment t.path.segments ≡ false → option_or q b.query ≡ t.query
     → target b (record { scheme = None; authority = None; path = no_path; query = q; fragment = t.fragment }) ≡ target b t
-place_target b t q vb v h s a p d e =
+fit_target b t q vb v h s a p d e =
     let fits = fits_of t v in
     let same : dots_removed (text t.path) ≡ t.path = dots_removed-text t.path fits.listed ∙ undotted_kept t.path d ∙ fits.formed in
     target_kept b (record { scheme = None; authority = None; path = no_path; query = q; fragment = t.fragment }) refl refl
@@ -121,39 +121,39 @@ place_target b t q vb v h s a p d e =
 
 -- what is left of the query yields the query again
 query_again : (b t : Parts) (q : Option (List ℕ)) → IsInPlace b t → IsQueryLeft b t q → option_or q b.query ≡ t.query
-query_again b t q place left = ⊎_elim (λ k. ap (λ x. option_or x b.query) k.1 ∙ k.0)
-    (λ k. ap (λ x. option_or x b.query) k.1 ∙ ⊎_elim (λ i. there t.query i) (λ none. ap (option_or t.query) none ∙ none_behind t.query) place.query) left
+query_again b t q offset left = ⊎_elim (λ k. ap (λ x. option_or x b.query) k.1 ∙ k.0)
+    (λ k. ap (λ x. option_or x b.query) k.1 ∙ ⊎_elim (λ i. there t.query i) (λ none. ap (option_or t.query) none ∙ none_following t.query) offset.query) left
   where
     there : (o : Option (List ℕ)) → IsSome o → option_or o b.query ≡ o
     there None i = absurd (false≢true i)
     there (Some x) i = refl
 
-    none_behind : (o : Option (List ℕ)) → option_or o None ≡ o
-    none_behind None = refl
-    none_behind (Some x) = refl
+    none_following : (o : Option (List ℕ)) → option_or o None ≡ o
+    none_following None = refl
+    none_following (Some x) = refl
 
 abbrev pub placed_there : Parts → Option (List ℕ) → Parts
 placed_there t q = record { scheme = None; authority = None; path = no_path; query = q; fragment = t.fragment }
 
-pub place_leads : (b t r : Parts) → Valid b → Valid t → is_some t.scheme ≡ true → b.scheme ≡ t.scheme → b.authority ≡ t.authority → IsInPlace b t
+pub fit_leads : (b t r : Parts) → Valid b → Valid t → is_some t.scheme ≡ true → b.scheme ≡ t.scheme → b.authority ≡ t.authority → IsInPlace b t
     → r ≡ placed_there t r.query → IsQueryLeft b t r.query → Relates b t r
-place_leads b t r vb v h s a place e left = subst (Relates b t) (sym e) (made r.query left)
+fit_leads b t r vb v h s a offset e left = subst (Relates b t) (sym e) (made r.query left)
   where
     made : (q : Option (List ℕ)) → IsQueryLeft b t q → Relates b t (placed_there t q)
     made q left = (
-      place_target b t q vb v h s a place.path place.no_dots (query_again b t q place left),
+      fit_target b t q vb v h s a offset.path offset.no_dots (query_again b t q offset left),
       record {
         scheme = λ _ _. refl;
-        path = λ one d p e. absurd (d place);
+        path = λ one d p e. absurd (d offset);
         query = λ one _. refl;
         fragment = λ one _ e. ap (placed_there t) (⊎_elim (λ k. k.1) (λ k. absurd (k.0 e)) left);
-        whole = λ f. absurd ((f (record { scheme = s; authority = a })).0 place);
+        whole = λ f. absurd ((f (record { scheme = s; authority = a })).0 offset);
       },
     )
 
-pub place_valid : (t : Parts) (p : PathParts) (q f : Option (List ℕ)) → p ≡ no_path → IfSome q IsQuery → IfSome f IsFragment
+pub fit_valid : (t : Parts) (p : PathParts) (q f : Option (List ℕ)) → p ≡ no_path → IfSome q IsQuery → IfSome f IsFragment
     → Valid (record { scheme = None; authority = None; path = p; query = q; fragment = f })
-place_valid t p q f e vq vf =
+fit_valid t p q f e vq vf =
     subst (λ p. Valid (record { scheme = None; authority = None; path = p; query = q; fragment = f })) (sym e)
     (valid_made None None no_path q f tt tt
     (placed false false no_path (record { listed = listed_empty; formed = refl; rooted = λ k. absurd (false≢true k); shown = λ _. refl }) (λ _ _ _. refl)) vq vf)
@@ -162,7 +162,7 @@ place_valid t p q f e vq vf =
 
 -- the path may be without a scheme and an authority, and leads to the target
 record IsInner (b t p : PathParts) : Type 0 where
-  shown : hides_root p.segments ≡ false
+  shown : starts_with_empty_segment p.segments ≡ false
   no_colon : p.absolute ≡ false → is_first has_colon p.segments ≡ false
 
 either : (b t p : PathParts) → inner b t ≡ Some p → (leading b t ≡ Some p) ⊎ ((stands_alone t ≡ true) × (t ≡ p))
@@ -191,9 +191,9 @@ is_inner : (b t p : PathParts) (w : Bool) → Fits w t → inner b t ≡ Some p 
 is_inner b t p w fits h = ⊎_elim
     (λ e. let is = leads b t p fits.listed.some e in record { shown = is.first.shown; no_colon = λ _. is.first.no_colon })
     (λ k. let both = and_parts t.absolute (not (has_two_slashes (text t))) k.0 in
-    let two : (t.absolute && hides_root t.segments) ≡ false = sym (two_slashes t fits.listed fits.formed) ∙ not-true (has_two_slashes (text t)) both.1 in
+    let two : (t.absolute && starts_with_empty_segment t.segments) ≡ false = sym (two_slashes t fits.listed fits.formed) ∙ not-true (has_two_slashes (text t)) both.1 in
     subst (IsInner b t) k.1 (record {
-      shown = sym (ap (λ v. v && hides_root t.segments) both.0) ∙ two;
+      shown = sym (ap (λ v. v && starts_with_empty_segment t.segments) both.0) ∙ two;
       no_colon = λ a. absurd (false≢true (sym a ∙ both.0));
     })) (either b t p h)
 
@@ -212,7 +212,7 @@ inner_valid b t p q f v h vq vf =
       shown = λ _. is.shown;
     }) (λ _ _ a. is.no_colon a)) vq vf
   where
-    hidden : (a : Bool) → hides_root p.segments ≡ false → (not a && hides_root p.segments) ≡ false
+    hidden : (a : Bool) → starts_with_empty_segment p.segments ≡ false → (not a && starts_with_empty_segment p.segments) ≡ false
     hidden true e = refl
     hidden false e = e
 
@@ -221,24 +221,24 @@ inner_valid b t p q f v h vq vf =
 
 -- a relative path is merged with the base's, and leads to the target's
 leading_target : (b t : Parts) (p : PathParts) → Valid b → Valid t → IsListed p.segments → is_some t.scheme ≡ true → b.scheme ≡ t.scheme → b.authority ≡ t.authority
-    → leading b.path t.path ≡ Some p → target b (behind_path t p) ≡ target b t
+    → leading b.path t.path ≡ Some p → target b (following_path t p) ≡ target b t
 leading_target b t p vb v listed h s a e =
     let fits = fits_of t v in
     let base = fits_of b vb in
     let is = leads b.path t.path p fits.listed.some e in
-    let js : IsBehind p = record { listed = listed; flag = is.relative; shown = is.first.shown } in
+    let js : IsFollowing p = record { listed = listed; flag = is.relative; shown = is.first.shown } in
     let empty : is_empty (text p) ≡ false = ap (λ w. is_empty (text (make w p.segments))) is.relative ∙ not_empty p.segments is.some is.first.not_empty in
     let spelled_is = merged_spelled (is_some b.authority) b.path p base js in
     let joined : length (merged b.path p).segments ≤ max_segments = subst (λ n. n ≤ max_segments) (sym (length-append (all_but_last b.path.segments) p.segments)) is.room in
-    let long : nat_le (length (pieces (merge b (behind_path t p)))) max_segments ≡ true =
+    let long : nat_le (length (pieces (merge b (following_path t p)))) max_segments ≡ true =
     ap (λ m. nat_le (length m.segments) max_segments) spelled_is ∙ le-leb (length (merged b.path p).segments) max_segments joined in
-    let there : dots_removed (merge b (behind_path t p)) ≡ t.path =
+    let there : dots_removed (merge b (following_path t p)) ≡ t.path =
     dots_removed-merged (is_some b.authority) b.path p base js joined ∙ undotted_there b.path t.path p is fits.formed in
     let own : dots_removed (text t.path) ≡ t.path = dots_removed-text t.path fits.listed ∙ undotted_kept t.path is.plain ∙ fits.formed in
-    target_merged b (behind_path t p) refl empty (rooted_relative p listed is.relative is.first.shown)
-    ∙ ap (λ v. cond {A = Option Parts} v (Some (target_of b.scheme b.authority (dots_removed (merge b (behind_path t p))) t.query t.fragment)) None) long
-    ∙ ap (λ x. Some (target_of x b.authority (dots_removed (merge b (behind_path t p))) t.query t.fragment)) s
-    ∙ ap (λ x. Some (target_of t.scheme x (dots_removed (merge b (behind_path t p))) t.query t.fragment)) a
+    target_merged b (following_path t p) refl empty (rooted_relative p listed is.relative is.first.shown)
+    ∙ ap (λ v. cond {A = Option Parts} v (Some (target_of b.scheme b.authority (dots_removed (merge b (following_path t p))) t.query t.fragment)) None) long
+    ∙ ap (λ x. Some (target_of x b.authority (dots_removed (merge b (following_path t p))) t.query t.fragment)) s
+    ∙ ap (λ x. Some (target_of t.scheme x (dots_removed (merge b (following_path t p))) t.query t.fragment)) a
     ∙ ap (λ x. Some (target_of t.scheme t.authority x t.query t.fragment)) (there ∙ sym own)
     ∙ sym (whole_target b t h)
   where
@@ -248,28 +248,28 @@ leading_target b t p vb v listed h s a e =
         ∙ ap (λ w. respelled (make w t.segments)) is.flag
         ∙ formed
 
-    rooted_relative : (p : PathParts) → IsListed p.segments → p.absolute ≡ false → hides_root p.segments ≡ false → is_rooted (text p) ≡ false
+    rooted_relative : (p : PathParts) → IsListed p.segments → p.absolute ≡ false → starts_with_empty_segment p.segments ≡ false → is_rooted (text p) ≡ false
     rooted_relative p listed e f = ap (λ w. is_rooted (text (make w p.segments))) e ∙ (rooted-text (make false p.segments) listed ∙ f)
 
 -- an absolute path that needs no authority is its own target
 absolute_target : (b t : Parts) → is_some t.scheme ≡ true → b.scheme ≡ t.scheme → b.authority ≡ t.authority → t.path.absolute ≡ true
-    → target b (behind_path t t.path) ≡ target b t
+    → target b (following_path t t.path) ≡ target b t
 absolute_target b t h s a r =
     let is = rooted_absolute t.path r in
-    target_rooted b (behind_path t t.path) refl is.1 is.0
+    target_rooted b (following_path t t.path) refl is.1 is.0
     ∙ ap (λ x. Some (target_of x b.authority (dots_removed (text t.path)) t.query t.fragment)) s
     ∙ ap (λ x. Some (target_of t.scheme x (dots_removed (text t.path)) t.query t.fragment)) a
     ∙ sym (whole_target b t h)
 
 pub inner_leads : (b t : Parts) (p : PathParts) → Valid b → Valid t → IsListed p.segments → is_some t.scheme ≡ true → b.scheme ≡ t.scheme → b.authority ≡ t.authority
-    → (IsInPlace b t → ⊥) → inner b.path t.path ≡ Some p → Relates b t (behind_path t p)
+    → (IsInPlace b t → ⊥) → inner b.path t.path ≡ Some p → Relates b t (following_path t p)
 inner_leads b t p vb v listed h s a n e = (
   ⊎_elim (leading_target b t p vb v listed h s a)
-      (λ k. subst (λ q. target b (behind_path t q) ≡ target b t) k.1
+      (λ k. subst (λ q. target b (following_path t q) ≡ target b t) k.1
       (absolute_target b t h s a (and_parts t.path.absolute (not (has_two_slashes (text t.path))) k.0).0)) (either b.path t.path p e),
   record {
     scheme = λ _ _. refl;
-    path = λ one d q f. ap (behind_path t) (some_is p q (sym e ∙ f));
+    path = λ one d q f. ap (following_path t) (some_is p q (sym e ∙ f));
     query = λ one q. absurd (n q);
     fragment = λ one q f. absurd (n q);
     whole = λ f. absurd (no_inner (inner b.path t.path) p (f (record { scheme = s; authority = a })).1 e);
@@ -290,7 +290,7 @@ left_query b t q v left =
 pub back_again : (b t : Parts) → Valid t → is_some t.scheme ≡ true → has_dot_segment t.path.segments ≡ false → target b t ≡ Some t
 back_again b t v h d =
     let fits = fits_of t v in
-    let own : shielded t.authority (dots_removed (text t.path)) ≡ t.path =
-    ap (shielded t.authority) (dots_removed-text t.path fits.listed ∙ undotted_kept t.path d ∙ fits.formed) ∙ shielded_fits t.authority t.path fits in
+    let own : dot_prefixed t.authority (dots_removed (text t.path)) ≡ t.path =
+    ap (dot_prefixed t.authority) (dots_removed-text t.path fits.listed ∙ undotted_kept t.path d ∙ fits.formed) ∙ shielded_fits t.authority t.path fits in
     whole_target b t h
     ∙ ap (λ p. Some (record { scheme = t.scheme; authority = t.authority; path = p; query = t.query; fragment = t.fragment })) own

@@ -7,9 +7,9 @@ use Rattle.std.proofs.lemmas.Bool.{false≢true, or_parts}
 use Rattle.uriparse_text.specs.Readings.{IsUnless}
 use Rattle.uriparse_text.specs.declared.segment.error.PathError.{PathError}
 use Rattle.uriparse_text.specs.declared.segment.error.PathError.TheVariants.{ExceededMaximumLength, OutOfMemory}
-use Rattle.uriparse_path.specs.Path.{PathParts, hides_root, max_segments, text, is_rooted, pieces}
+use Rattle.uriparse_path.specs.Path.{PathParts, starts_with_empty_segment, max_segments, text, is_rooted, pieces}
 use Rattle.uriparse_path.specs.Dots.{has_dot_segment, without_dots}
-use Rattle.uriparse_path.specs.Edits.{shield}
+use Rattle.uriparse_path.specs.Edits.{with_dot_prefix}
 use Rattle.uriparse_path.specs.Merge.{merged, merging}
 use Rattle.uriparse_path.proofs.lemmas.merge.MergedNormalFormLemmas.{undotted_kept}
 use Rattle.uriparse_authority.specs.Authority.{AuthorityParts}
@@ -17,11 +17,11 @@ use Rattle.uriparse_scheme.specs.declared.scheme.Scheme.{Scheme}
 use Rattle.uriparse_reference.specs.declared.uri_reference.error.URIReferenceError.{URIReferenceError}
 use Rattle.uriparse_reference.specs.declared.uri_reference.error.URIReferenceError.TheVariants as errors
 use Rattle.uriparse_reference.specs.Reference.{Parts, Valid}
-use Rattle.uriparse_reference.specs.Normal.{shielded}
+use Rattle.uriparse_reference.specs.Normal.{dot_prefixed}
 use Rattle.uriparse_reference.specs.Target.{merge, dots_removed, is_empty, target_of, target}
 use Rattle.uriparse_reference.proofs.lemmas.edits.PathRuleLemmas.{Fits, fits_of, make, rooted_formed, shielded_fits}
-use Rattle.uriparse_reference.proofs.lemmas.resolving.MergedPathLemmas.{IsBehind, merged_spelled, fits_merged}
-use Rattle.uriparse_reference.proofs.lemmas.resolving.ValidTargetLemmas.{behind, dots_removed-text, dots_removed-merged, chosen}
+use Rattle.uriparse_reference.proofs.lemmas.resolving.MergedPathLemmas.{IsFollowing, merged_spelled, fits_merged}
+use Rattle.uriparse_reference.proofs.lemmas.resolving.ValidTargetLemmas.{following, dots_removed-text, dots_removed-merged, chosen}
 use Rattle.uriparse_reference.proofs.lemmas.resolving.ValidTargetLemmas.{le_from, target_valid}
 
 -- ---- the target, case by case
@@ -82,11 +82,11 @@ without_dots-text v q is = by_dots (has_dot_segment q.segments) refl
     by_dots false e = sym (dots_removed-text q is.listed ∙ undotted_kept q e ∙ is.formed)
 
 -- after an authority it is unchanged
-in_place : (a : Option AuthorityParts) (w : Bool) (q m : PathParts) → w ≡ is_some a → q ≡ m → cond w q (shield q) ≡ shielded a m
-in_place (Some a) w q m e f = ap (λ v. cond v q (shield q)) e ∙ f
-in_place None w q m e f = ap (λ v. cond v q (shield q)) e ∙ ap shield f
+in_place : (a : Option AuthorityParts) (w : Bool) (q m : PathParts) → w ≡ is_some a → q ≡ m → cond w q (with_dot_prefix q) ≡ dot_prefixed a m
+in_place (Some a) w q m e f = ap (λ v. cond v q (with_dot_prefix q)) e ∙ f
+in_place None w q m e f = ap (λ v. cond v q (with_dot_prefix q)) e ∙ ap with_dot_prefix f
 
-pub flipped : (w : Bool) (q : PathParts) → cond (not w) (shield q) q ≡ cond w q (shield q)
+pub flipped : (w : Bool) (q : PathParts) → cond (not w) (with_dot_prefix q) q ≡ cond w q (with_dot_prefix q)
 flipped true q = refl
 flipped false q = refl
 
@@ -118,15 +118,15 @@ with_parts s u a c q d p f e g h =
 
 module _ (b r : Parts) (s : Option Scheme) (a : Option AuthorityParts) (q : Option (List ℕ)) (given : Result PathParts PathError) where
   module _ (w : Bool) (own : PathParts) (same : own ≡ r.path) (valid : Valid r)
-      (is : MatchResult given (λ p. p ≡ cond w (without_dots own) (shield (without_dots own))) (λ e. e ≡ OutOfMemory)) where
+      (is : MatchResult given (λ p. p ≡ cond w (without_dots own) (with_dot_prefix (without_dots own))) (λ e. e ≡ OutOfMemory)) where
     -- the reference's own path
     own_path : (u : Option Scheme) (c : Option AuthorityParts) → w ≡ is_some c → s ≡ u → a ≡ c → q ≡ r.query
         → IsTarget (Some (target_of u c (dots_removed (text r.path)) r.query r.fragment)) s a q r.fragment given
     own_path u c e f g h = (
-      answered given (cond w (without_dots own) (shield (without_dots own))) (shielded c (dots_removed (text r.path))) is
+      answered given (cond w (without_dots own) (with_dot_prefix (without_dots own))) (dot_prefixed c (dots_removed (text r.path))) is
           (in_place c w (without_dots own) (dots_removed (text r.path)) e
           (ap without_dots same ∙ without_dots-text (is_some r.authority) r.path (fits_of r valid))),
-      with_parts s u a c q r.query (shielded c (dots_removed (text r.path))) r.fragment f g h,
+      with_parts s u a c q r.query (dot_prefixed c (dots_removed (text r.path))) r.fragment f g h,
     )
 
     pub scheme_target : is_some r.scheme ≡ true → w ≡ is_some r.authority → s ≡ r.scheme → a ≡ r.authority → q ≡ r.query → IsTarget (target b r) s a q r.fragment given
@@ -151,8 +151,8 @@ module _ (b r : Parts) (s : Option Scheme) (a : Option AuthorityParts) (q : Opti
       → MatchResult given (λ p. p ≡ inherited) (λ e. e ≡ OutOfMemory) → s ≡ b.scheme → a ≡ b.authority → q ≡ option_or r.query b.query → IsTarget (target b r) s a q r.fragment given
   kept_target inherited same valid h k is f g l =
       subst (λ o. IsTarget o s a q r.fragment given) (sym (target_kept b r h k)) (
-        answered given inherited (shielded b.authority b.path) is (same ∙ sym (shielded_fits b.authority b.path (fits_of b valid))),
-        with_parts s b.scheme a b.authority q (option_or r.query b.query) (shielded b.authority b.path) r.fragment f g l,
+        answered given inherited (dot_prefixed b.authority b.path) is (same ∙ sym (shielded_fits b.authority b.path (fits_of b valid))),
+        with_parts s b.scheme a b.authority q (option_or r.query b.query) (dot_prefixed b.authority b.path) r.fragment f g l,
       )
 
 -- ---- the case of merged paths
@@ -162,8 +162,8 @@ module _ (b r : Parts) (p q : PathParts) (base : p ≡ b.path) (own : q ≡ r.pa
   not_rooted : is_rooted (text r.path) ≡ false
   not_rooted = let fits = alone r valid front in rooted_formed r.path fits.listed fits.formed ∙ sym (ap (λ p. p.absolute) own) ∙ relative
 
-  js : IsBehind r.path
-  js = behind r.path (alone r valid front) not_rooted
+  js : IsFollowing r.path
+  js = following r.path (alone r valid front) not_rooted
 
   is : Fits (is_some b.authority) b.path
   is = fits_of b valid_base
@@ -184,17 +184,17 @@ module _ (b r : Parts) (p q : PathParts) (base : p ≡ b.path) (own : q ≡ r.pa
   merging_is z e = ap (λ x. merging x q) base ∙ ap (λ x. merging b.path x) own
       ∙ ap (λ v. cond {A = Result PathParts PathError} v (Ok (merged b.path r.path)) (Err ExceededMaximumLength)) e
 
-  pub merged_shown : (w : Bool) → w ≡ is_some b.authority → w ≡ false → IfOk (merging p q) (λ m. hides_root m.segments ≡ false)
+  pub merged_shown : (w : Bool) → w ≡ is_some b.authority → w ≡ false → IfOk (merging p q) (λ m. starts_with_empty_segment m.segments ≡ false)
   merged_shown w e none = by_room (nat_le (length (merged b.path r.path).segments) max_segments) refl
     where
-      by_room : (z : Bool) → nat_le (length (merged b.path r.path).segments) max_segments ≡ z → IfOk (merging p q) (λ m. hides_root m.segments ≡ false)
+      by_room : (z : Bool) → nat_le (length (merged b.path r.path).segments) max_segments ≡ z → IfOk (merging p q) (λ m. starts_with_empty_segment m.segments ≡ false)
       by_room true k =
-          subst (λ x. IfOk x (λ m. hides_root m.segments ≡ false)) (sym (merging_is true k))
+          subst (λ x. IfOk x (λ m. starts_with_empty_segment m.segments ≡ false)) (sym (merging_is true k))
           ((fits_merged (is_some b.authority) b.path r.path is js (le_from _ _ k)).shown (sym e ∙ none))
-      by_room false k = subst (λ x. IfOk x (λ m. hides_root m.segments ≡ false)) (sym (merging_is false k)) tt
+      by_room false k = subst (λ x. IfOk x (λ m. starts_with_empty_segment m.segments ≡ false)) (sym (merging_is false k)) tt
 
   pub merged_target : (s : Option Scheme) (a : Option AuthorityParts) (query : Option (List ℕ)) (given : Result PathParts PathError) (w : Bool)
-      → MatchResult (merging p q) (λ m. IsUnless OutOfMemory given (Ok (cond w (without_dots m) (shield (without_dots m))))) (λ e. given ≡ Err e)
+      → MatchResult (merging p q) (λ m. IsUnless OutOfMemory given (Ok (cond w (without_dots m) (with_dot_prefix (without_dots m))))) (λ e. given ≡ Err e)
       → w ≡ is_some b.authority → s ≡ b.scheme → a ≡ b.authority → query ≡ r.query → IsTarget (target b r) s a query r.fragment given
   merged_target s a query given w answer e f g l = by_room (nat_le (length (merged b.path r.path).segments) max_segments) refl
     where
@@ -210,13 +210,13 @@ module _ (b r : Parts) (p q : PathParts) (base : p ≡ b.path) (own : q ≡ r.pa
           let made = in_place b.authority w (without_dots m) (dots_removed (merge b r)) e bare in
           subst (λ o. IsTarget o s a query r.fragment given) (sym (target_is true k)) (
             subst (λ p. IsUnless OutOfMemory given (Ok p)) made
-                (subst (λ x. MatchResult x (λ m. IsUnless OutOfMemory given (Ok (cond w (without_dots m) (shield (without_dots m))))) (λ e. given ≡ Err e))
+                (subst (λ x. MatchResult x (λ m. IsUnless OutOfMemory given (Ok (cond w (without_dots m) (with_dot_prefix (without_dots m))))) (λ e. given ≡ Err e))
                 (merging_is true k) answer),
-            with_parts s b.scheme a b.authority query r.query (shielded b.authority (dots_removed (merge b r))) r.fragment f g l,
+            with_parts s b.scheme a b.authority query r.query (dot_prefixed b.authority (dots_removed (merge b r))) r.fragment f g l,
           )
       by_room false k =
           subst (λ o. IsTarget o s a query r.fragment given) (sym (target_is false k))
-          (subst (λ x. MatchResult x (λ m. IsUnless OutOfMemory given (Ok (cond w (without_dots m) (shield (without_dots m))))) (λ e. given ≡ Err e))
+          (subst (λ x. MatchResult x (λ m. IsUnless OutOfMemory given (Ok (cond w (without_dots m) (with_dot_prefix (without_dots m))))) (λ e. given ≡ Err e))
           (merging_is false k) answer)
 
 -- ---- a merged path, as it was made
@@ -226,11 +226,11 @@ made_of given m path was answer =
     ⊎_elim (λ e. sym e ∙ was) (λ bad. absurd (let worse : ◌≡◌ {A = Result PathParts PathError} (Ok path) (Err OutOfMemory) = sym was ∙ bad in cc)) answer
 
 pub merged_made : (given m : Result PathParts PathError) (path : PathParts) (w : Bool) (new : PathParts) → given ≡ Ok path → IsUnless OutOfMemory given m
-    → new ≡ cond w (without_dots path) (shield (without_dots path))
-    → MatchResult m (λ p. IsUnless OutOfMemory (Ok new) (Ok (cond w (without_dots p) (shield (without_dots p)))))
+    → new ≡ cond w (without_dots path) (with_dot_prefix (without_dots path))
+    → MatchResult m (λ p. IsUnless OutOfMemory (Ok new) (Ok (cond w (without_dots p) (with_dot_prefix (without_dots p)))))
     (λ e. ◌≡◌ {A = Result PathParts PathError} (Ok new) (Err e))
 merged_made given m path w new was answer is =
-    subst (λ x. MatchResult x (λ p. IsUnless OutOfMemory (Ok new) (Ok (cond w (without_dots p) (shield (without_dots p)))))
+    subst (λ x. MatchResult x (λ p. IsUnless OutOfMemory (Ok new) (Ok (cond w (without_dots p) (with_dot_prefix (without_dots p)))))
     (λ e. ◌≡◌ {A = Result PathParts PathError} (Ok new) (Err e)))
     (sym (made_of given m path was answer)) (inl (ap Ok is))
 

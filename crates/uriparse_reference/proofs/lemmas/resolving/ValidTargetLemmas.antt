@@ -19,12 +19,12 @@ use Rattle.uriparse_authority.specs.Authority.{AuthorityParts}
 use Rattle.uriparse_scheme.specs.declared.scheme.Scheme.{Scheme}
 use Rattle.uriparse_scheme.specs.Scheme as scheme
 use Rattle.uriparse_reference.specs.Reference.{Parts, Valid}
-use Rattle.uriparse_reference.specs.Normal.{shielded}
+use Rattle.uriparse_reference.specs.Normal.{dot_prefixed}
 use Rattle.uriparse_reference.specs.Target.{through_last_slash, merge, dots_removed, is_empty, target_of, target, is_merged}
 use Rattle.uriparse_reference.proofs.lemmas.equality.CanonicalComponentLemmas.{or_valid}
 use Rattle.uriparse_reference.proofs.lemmas.edits.PathRuleLemmas.{Fits, make, rooted_formed, fits_of, placed, valid_made, shielded_fits}
 use Rattle.uriparse_reference.proofs.lemmas.edits.PathRuleLemmas.{fits_shielded}
-use Rattle.uriparse_reference.proofs.lemmas.resolving.MergedPathLemmas.{directory_behind, directory_none, merged_text, IsBehind, merged_spelled, fits_merged}
+use Rattle.uriparse_reference.proofs.lemmas.resolving.MergedPathLemmas.{directory_after, directory_none, merged_text, IsFollowing, merged_spelled, fits_merged}
 
 -- ---- dots removed
 
@@ -36,7 +36,7 @@ unfolding undot
 unfolded_undot t = refl
 
 -- the merged text's, in any way that it is spelled
-pub dots_removed-merged : (v : Bool) (p q : PathParts) → Fits v p → IsBehind q → length (merged p q).segments ≤ max_segments
+pub dots_removed-merged : (v : Bool) (p q : PathParts) → Fits v p → IsFollowing q → length (merged p q).segments ≤ max_segments
     → dots_removed (through_last_slash (text p) ++ text q) ≡ undotted (merged p q)
 dots_removed-merged v p q is js short =
     ap dots_removed (merged_text p q is.listed js.listed js.flag)
@@ -49,7 +49,7 @@ undotted_absolute q h = by_flag (rooted_after q.absolute [] q.segments) (ap (λ 
     by_flag true e = refl
     by_flag false e = absurd (false≢true e)
 
-pub fits_undotted : (a : Option AuthorityParts) (q : PathParts) → Fits (is_some a) q → Fits (is_some a) (shielded a (undotted q))
+pub fits_undotted : (a : Option AuthorityParts) (q : PathParts) → Fits (is_some a) q → Fits (is_some a) (dot_prefixed a (undotted q))
 fits_undotted a q is = fits_shielded a (undotted q) (listed_undotted q is.listed) (respelled_twice (replayed q)) (λ h. undotted_absolute q (is.rooted h))
     (λ h k. let n = room q (is.shown h) k in let s = is.listed.short in omega (arith, n, s))
 
@@ -76,21 +76,21 @@ fits_rooted v q is h = record {
   shown = λ k. is.shown refl;
 }
 
-pub behind : (q : PathParts) → Fits false q → is_rooted (text q) ≡ false → IsBehind q
-behind q is h = record { listed = is.listed; flag = sym (rooted_formed q is.listed is.formed) ∙ h; shown = is.shown refl }
+pub following : (q : PathParts) → Fits false q → is_rooted (text q) ≡ false → IsFollowing q
+following q is h = record { listed = is.listed; flag = sym (rooted_formed q is.listed is.formed) ∙ h; shown = is.shown refl }
 
-is_behind : (r : Parts) → Valid r → is_merged r ≡ true → IsBehind r.path
-is_behind r v h =
+is_following : (r : Parts) → Valid r → is_merged r ≡ true → IsFollowing r.path
+is_following r v h =
     let x = and_parts (not (is_some r.scheme)) (not (is_some r.authority) && (not (is_empty (text r.path)) && not (is_rooted (text r.path)))) h in
     let y = and_parts (not (is_some r.authority)) (not (is_empty (text r.path)) && not (is_rooted (text r.path))) x.1 in
     let z = and_parts (not (is_empty (text r.path))) (not (is_rooted (text r.path))) y.1 in
-    behind r.path (subst (λ w. Fits w r.path) (not-true (is_some r.authority) y.0) (fits_of r v)) (not-true (is_rooted (text r.path)) z.1)
+    following r.path (subst (λ w. Fits w r.path) (not-true (is_some r.authority) y.0) (fits_of r v)) (not-true (is_rooted (text r.path)) z.1)
 
 pub merge_text : (b r : Parts) → Valid b → Valid r → is_merged r ≡ true → merge b r ≡ text (merged b.path r.path)
-merge_text b r v w h = let is = is_behind r w h in merged_text b.path r.path (fits_of b v).listed is.listed is.flag
+merge_text b r v w h = let is = is_following r w h in merged_text b.path r.path (fits_of b v).listed is.listed is.flag
 
 pub merge_path : (b r : Parts) → Valid b → Valid r → is_merged r ≡ true → spelled (merge b r) ≡ merged b.path r.path
-merge_path b r v w h = merged_spelled (is_some b.authority) b.path r.path (fits_of b v) (is_behind r w h)
+merge_path b r v w h = merged_spelled (is_some b.authority) b.path r.path (fits_of b v) (is_following r w h)
 
 -- ---- the target is valid
 
@@ -103,7 +103,7 @@ undotted_valid : (s : Option Scheme) (a : Option AuthorityParts) (t : List ℕ) 
     → is_some s ≡ true → IfSome s scheme.Valid → IfSome a authority.Valid → Fits (is_some a) m → IfSome q IsQuery → IfSome f IsFragment
     → Valid (target_of s a (dots_removed t) q f)
 undotted_valid s a t m q f e h vs va is vq vf =
-    subst (λ p. Valid (target_of s a p q f)) (sym e) (made_valid s a (shielded a (undotted m)) q f h vs va (fits_undotted a m is) vq vf)
+    subst (λ p. Valid (target_of s a p q f)) (sym e) (made_valid s a (dot_prefixed a (undotted m)) q f h vs va (fits_undotted a m is) vq vf)
 
 pub le_from : (m n : ℕ) → nat_le m n ≡ true → m ≤ n
 le_from m n h = grind (arith, nat_tests)
@@ -117,7 +117,7 @@ target_valid b r v w h = by_tests (is_some r.scheme) refl (is_some r.authority) 
     by_room : (z : Bool) → nat_le (length (pieces (merge b r))) max_segments ≡ z → is_some r.authority ≡ false → is_rooted (text r.path) ≡ false
         → IfSome (cond z (Some (target_of b.scheme b.authority (dots_removed (merge b r)) r.query r.fragment)) None) Valid
     by_room true e i k =
-        let js = behind r.path (subst (λ u. Fits u r.path) i own) k in
+        let js = following r.path (subst (λ u. Fits u r.path) i own) k in
         let is = fits_of b v in
         let e' : nat_le (length (merged b.path r.path).segments) max_segments ≡ true =
         ap (λ p. nat_le (length p.segments) max_segments) (sym (merged_spelled (is_some b.authority) b.path r.path is js)) ∙ e in
@@ -204,4 +204,4 @@ target_none b r = (
 -- ---- through_last_slash
 
 pub directory_last : (t s : List ℕ) → LacksSlash s → through_last_slash (t ++ slash ∷ s) ≡ t ++ slash ∷ []
-directory_last t s h = directory_behind t s ∙ ap (λ u. t ++ slash ∷ u) (directory_none s h)
+directory_last t s h = directory_after t s ∙ ap (λ u. t ++ slash ∷ u) (directory_none s h)

@@ -4,16 +4,16 @@ use Rattle.std.specs.Prelude.{is_some, is_none}
 use Rattle.std.proofs.Math.ListN.{drop_of_length-le}
 use Rattle.std.specs.Option.{option_map}
 use Rattle.uriparse_text.specs.declared.internal.canonical.Case.TheVariants.{Kept, Lowered}
-use Rattle.uriparse_text.specs.declared.internal.ends.Form.{Form}
-use Rattle.uriparse_text.specs.declared.internal.ends.Form.TheVariants.{AsIs, Canonical}
+use Rattle.uriparse_text.specs.declared.internal.backward_buffer.Form.{Form}
+use Rattle.uriparse_text.specs.declared.internal.backward_buffer.Form.TheVariants.{AsIs, Canonical}
 use Rattle.uriparse_text.specs.Bytes.{colon, question_mark, number_sign}
-use Rattle.uriparse_text.specs.Cuts.{ahead, behind}
+use Rattle.uriparse_text.specs.Cuts.{ahead, following}
 use Rattle.uriparse_text.specs.Ends.{EndsWith, formed}
 use Rattle.uriparse_path.specs.Path.{PathParts, spelled, text}
 use Rattle.uriparse_path.proofs.lemmas.text.PathTextLemmas.{spelled-text}
-use Rattle.uriparse_path.specs.Edits.{shield_unless}
+use Rattle.uriparse_path.specs.Edits.{with_dot_prefix_unless}
 use Rattle.uriparse_path.specs.Normal.{normal_at, pnormal}
-use Rattle.uriparse_path.specs.declared.path.normal.Place.{Place}
+use Rattle.uriparse_path.specs.declared.path.normal.PathContext.{PathContext}
 use Rattle.uriparse_text.specs.Canonical.{canonical}
 use Rattle.uriparse_authority.specs.Authority.{AuthorityParts}
 use Rattle.uriparse_authority.specs.Authority.{print as print_authority}
@@ -23,8 +23,8 @@ use Rattle.uriparse_scheme.specs.declared.scheme.Scheme.{Scheme}
 use Rattle.uriparse_scheme.specs.Scheme as scheme
 use Rattle.uriparse_scheme.specs.Normal.{canonical_scheme}
 use Rattle.uriparse_scheme.proofs.lemmas.schemes.NormalLemmas.{text-canonical}
-use Rattle.uriparse_reference.specs.Reference.{Parts, Valid, behind_slashes, print}
-use Rattle.uriparse_reference.specs.Normal.{normal, shielded}
+use Rattle.uriparse_reference.specs.Reference.{Parts, Valid, after_slashes, print}
+use Rattle.uriparse_reference.specs.Normal.{normal, dot_prefixed}
 use Rattle.uriparse_reference.specs.Into.{formed_scheme}
 use Rattle.uriparse_reference.proofs.lemmas.edits.PathRuleLemmas.{fits_of}
 
@@ -61,7 +61,7 @@ scheme_text form o s x t e f =
 pub path_spelled : (p : Parts) → Valid p → spelled (text p.path) ≡ p.path
 path_spelled p v = let fits = fits_of p v in spelled-text p.path fits.listed ∙ fits.formed
 
-pub shielded_unless : (a : Option AuthorityParts) (q : PathParts) → shield_unless (is_some a) q ≡ shielded a q
+pub shielded_unless : (a : Option AuthorityParts) (q : PathParts) → with_dot_prefix_unless (is_some a) q ≡ dot_prefixed a q
 shielded_unless None q = refl
 shielded_unless (Some a) q = refl
 
@@ -70,20 +70,20 @@ not_some None = refl
 not_some (Some x) = refl
 
 -- the text of the path of a normal form
-pub normal_path : (p : Parts) (place : Place) → Valid p → place.has_scheme ≡ is_some p.scheme → place.has_authority ≡ is_some p.authority
-    → text (normal_at place (spelled (text p.path))) ≡ text (normal p).path
-normal_path p place v e f =
-    ap (λ q. text (normal_at place q)) (path_spelled p v)
-    ∙ ap (λ w. text (shield_unless w (pnormal p.path (not place.has_scheme)))) f
-    ∙ ap (λ w. text (shield_unless (is_some p.authority) (pnormal p.path (not w)))) e
-    ∙ ap (λ w. text (shield_unless (is_some p.authority) (pnormal p.path w))) (not_some p.scheme)
+pub normal_path : (p : Parts) (context : PathContext) → Valid p → context.has_scheme ≡ is_some p.scheme → context.has_authority ≡ is_some p.authority
+    → text (normal_at context (spelled (text p.path))) ≡ text (normal p).path
+normal_path p context v e f =
+    ap (λ q. text (normal_at context q)) (path_spelled p v)
+    ∙ ap (λ w. text (with_dot_prefix_unless w (pnormal p.path (not context.has_scheme)))) f
+    ∙ ap (λ w. text (with_dot_prefix_unless (is_some p.authority) (pnormal p.path (not w)))) e
+    ∙ ap (λ w. text (with_dot_prefix_unless (is_some p.authority) (pnormal p.path w))) (not_some p.scheme)
     ∙ ap text (shielded_unless p.authority (pnormal p.path (is_none p.scheme)))
 
 -- the texts of the components, put together
 abbrev pub put_text : Form → Option Scheme → Option AuthorityParts → List ℕ → Option (List ℕ) → Option (List ℕ) → List ℕ
 put_text form s a x q f =
-    (ahead colon (option_map scheme.text (option_map (formed_scheme form) s)) ++ behind_slashes (option_map print_authority (option_map (formed_authority form) a)))
-    ++ (x ++ (behind question_mark (option_map (formed form Kept) q) ++ behind number_sign (option_map (formed form Kept) f)))
+    (ahead colon (option_map scheme.text (option_map (formed_scheme form) s)) ++ after_slashes (option_map print_authority (option_map (formed_authority form) a)))
+    ++ (x ++ (following question_mark (option_map (formed form Kept) q) ++ following number_sign (option_map (formed form Kept) f)))
 
 -- those of a reference
 pub same_text : (form : Form) (p : Parts) (s : Option Scheme) (a : Option AuthorityParts) (x y : List ℕ) (q f : Option (List ℕ)) → s ≡ p.scheme
@@ -98,20 +98,20 @@ same_text form p s a x y q f e g h i j =
 pub normal_text : (p : Parts) → put_text Canonical p.scheme p.authority (text (normal p).path) p.query p.fragment ≡ print (normal p)
 normal_text p =
     append_assoc (ahead colon (option_map scheme.text (option_map canonical_scheme p.scheme)))
-    (behind_slashes (option_map print_authority (option_map canonical_authority p.authority)))
-    (text (normal p).path ++ (behind question_mark (option_map canonical p.query) ++ behind number_sign (option_map canonical p.fragment)))
+    (after_slashes (option_map print_authority (option_map canonical_authority p.authority)))
+    (text (normal p).path ++ (following question_mark (option_map canonical p.query) ++ following number_sign (option_map canonical p.fragment)))
 
 pub printed_text : (p : Parts) → put_text AsIs p.scheme p.authority (text p.path) p.query p.fragment ≡ print p
 printed_text p =
-    ap (λ u. (ahead colon (option_map scheme.text u) ++ behind_slashes (option_map print_authority (option_map (formed_authority AsIs) p.authority)))
-    ++ (text p.path ++ (behind question_mark (option_map (formed AsIs Kept) p.query) ++ behind number_sign (option_map (formed AsIs Kept) p.fragment))))
+    ap (λ u. (ahead colon (option_map scheme.text u) ++ after_slashes (option_map print_authority (option_map (formed_authority AsIs) p.authority)))
+    ++ (text p.path ++ (following question_mark (option_map (formed AsIs Kept) p.query) ++ following number_sign (option_map (formed AsIs Kept) p.fragment))))
     (scheme_as_is p.scheme)
-    ∙ ap (λ u. (ahead colon (option_map scheme.text p.scheme) ++ behind_slashes (option_map print_authority u))
-    ++ (text p.path ++ (behind question_mark (option_map (formed AsIs Kept) p.query) ++ behind number_sign (option_map (formed AsIs Kept) p.fragment))))
+    ∙ ap (λ u. (ahead colon (option_map scheme.text p.scheme) ++ after_slashes (option_map print_authority u))
+    ++ (text p.path ++ (following question_mark (option_map (formed AsIs Kept) p.query) ++ following number_sign (option_map (formed AsIs Kept) p.fragment))))
     (authority_as_is p.authority)
-    ∙ ap (λ u. (ahead colon (option_map scheme.text p.scheme) ++ behind_slashes (option_map print_authority p.authority))
-    ++ (text p.path ++ (behind question_mark u ++ behind number_sign (option_map (formed AsIs Kept) p.fragment)))) (as_is p.query)
-    ∙ ap (λ u. (ahead colon (option_map scheme.text p.scheme) ++ behind_slashes (option_map print_authority p.authority))
-    ++ (text p.path ++ (behind question_mark p.query ++ behind number_sign u))) (as_is p.fragment)
-    ∙ append_assoc (ahead colon (option_map scheme.text p.scheme)) (behind_slashes (option_map print_authority p.authority))
-    (text p.path ++ (behind question_mark p.query ++ behind number_sign p.fragment))
+    ∙ ap (λ u. (ahead colon (option_map scheme.text p.scheme) ++ after_slashes (option_map print_authority p.authority))
+    ++ (text p.path ++ (following question_mark u ++ following number_sign (option_map (formed AsIs Kept) p.fragment)))) (as_is p.query)
+    ∙ ap (λ u. (ahead colon (option_map scheme.text p.scheme) ++ after_slashes (option_map print_authority p.authority))
+    ++ (text p.path ++ (following question_mark p.query ++ following number_sign u))) (as_is p.fragment)
+    ∙ append_assoc (ahead colon (option_map scheme.text p.scheme)) (after_slashes (option_map print_authority p.authority))
+    (text p.path ++ (following question_mark p.query ++ following number_sign p.fragment))

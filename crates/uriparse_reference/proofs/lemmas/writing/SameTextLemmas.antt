@@ -22,7 +22,7 @@ use Rattle.uriparse_scheme.specs.Normal.{canonical_scheme}
 use Rattle.std.specs.Str.{str_to_ascii_lowercase}
 use Rattle.uriparse_reference.specs.Cuts.{authority_text, if_some, path_text, scheme_text}
 use Rattle.uriparse_reference.specs.Reference.{Parts, Spells, authority_part, joined, print, scheme_part}
-use Rattle.uriparse_reference.specs.Normal.{IsPrintedFront, is_normal, is_normal_outside, normal, place}
+use Rattle.uriparse_reference.specs.Normal.{HasOwnTexts, is_normal, is_normal_outside, normal, context}
 use Rattle.uriparse_reference.proofs.lemmas.equality.CanonicalComponentLemmas.{authority-print, same_texts}
 use Rattle.uriparse_reference.proofs.lemmas.equality.EqualityLemmas.{print_cut}
 use Rattle.uriparse_reference.proofs.lemmas.normalizing.NormalizingLemmas.{normal_exactly}
@@ -188,15 +188,15 @@ normal_printed t p s e =
 -- ---- the tests of both, first of the path, the scheme and the authority
 
 module _ (t : List ℕ) (p : Parts) (s : Spells t p) where
-  normal_texts : print (normal p) ≡ t → IsPrintedFront t p
+  normal_texts : print (normal p) ≡ t → HasOwnTexts t p
   normal_texts e =
       let are = parts_printed t p s (normal_printed t p s e) in
       (are.is_path, are.is_scheme, sym (print_cut (normal p) (normal_valid p (valid t p s))).authority ∙ ap authority_text e)
 
-  pub other_front : (r : Bool) → IsTrue r ↔ IsPrintedFront t p → r ≡ false → IsTrue r ↔ (print (normal p) ≡ t)
+  pub other_front : (r : Bool) → IsTrue r ↔ HasOwnTexts t p → r ≡ false → IsTrue r ↔ (print (normal p) ≡ t)
   other_front r test e = ((λ i. absurd (false≢true (sym e ∙ i))), (λ h. test.1 (normal_texts h)))
 
-  pub same_front : (x r : Bool) → IsTrue x ↔ IsPrintedFront t p → x ≡ true → r ≡ is_normal_outside p → IsTrue r ↔ (print (normal p) ≡ t)
+  pub same_front : (x r : Bool) → IsTrue x ↔ HasOwnTexts t p → x ≡ true → r ≡ is_normal_outside p → IsTrue r ↔ (print (normal p) ≡ t)
   same_front x r front e test =
       let are = front.0 e in
       let printed : authority_part p ≡ authority_text t = authority_printed (authority_text t) p.authority (authority_there t p s) are.2 in
@@ -205,7 +205,7 @@ module _ (t : List ℕ) (p : Parts) (s : Spells t p) where
       (same_texts _ _).1 (sym (authority-print p.authority) ∙ are.2 ∙ sym printed) in
       let normal_too : is_normal p ≡ is_normal_outside p =
       ap (λ v. option_eq bytes_eq (option_map scheme.canonical_text p.scheme) (scheme_part p)
-      && (v && (paths.is_normal_at (place p) p.path
+      && (v && (paths.is_normal_at (context p) p.path
       && (option_eq bytes_eq (option_map canonical p.query) p.query && option_eq bytes_eq (option_map canonical p.fragment) p.fragment)))) canon in
       let exactly = normal_exactly p (valid t p s) in
       ((λ i. exactly.0 (normal_too ∙ sym test ∙ i) ∙ whole), (λ h. test ∙ sym normal_too ∙ exactly.1 (h ∙ sym whole)))

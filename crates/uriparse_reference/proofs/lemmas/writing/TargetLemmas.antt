@@ -5,13 +5,13 @@ use Rattle.std.specs.Option.{option_map, option_or}
 use Rattle.std.proofs.lemmas.Bool.{false≢true, and_parts, not-true, le-leb}
 use Rattle.std.proofs.lemmas.Bool.Decides.{nat_tests}
 use Rattle.uriparse_text.specs.declared.internal.canonical.Case.TheVariants.{Kept}
-use Rattle.uriparse_text.specs.declared.internal.ends.Form.TheVariants.{AsIs}
+use Rattle.uriparse_text.specs.declared.internal.backward_buffer.Form.TheVariants.{AsIs}
 use Rattle.uriparse_text.specs.Bytes.{colon, question_mark, number_sign}
-use Rattle.uriparse_text.specs.Cuts.{ahead, behind}
+use Rattle.uriparse_text.specs.Cuts.{ahead, following}
 use Rattle.uriparse_text.specs.Ends.{formed}
 use Rattle.uriparse_path.specs.Path.{PathParts, has_two_slashes, is_rooted, max_segments, pieces, spelled, text}
 use Rattle.uriparse_path.specs.Dots.{all_but_last, replayed, undot}
-use Rattle.uriparse_path.specs.Edits.{dotted, shield, shield_unless}
+use Rattle.uriparse_path.specs.Edits.{dotted, with_dot_prefix, with_dot_prefix_unless}
 use Rattle.uriparse_path.specs.Merge.{merged}
 use Rattle.uriparse_authority.specs.Authority.{AuthorityParts}
 use Rattle.uriparse_authority.specs.Authority.{print as print_authority}
@@ -19,8 +19,8 @@ use Rattle.uriparse_authority.specs.Ends.{formed_authority}
 use Rattle.uriparse_scheme.specs.declared.scheme.Scheme.{Scheme}
 use Rattle.uriparse_scheme.specs.Scheme as scheme
 use Rattle.uriparse_reference.specs.declared.uri_reference.error.BufferError.{BufferError}
-use Rattle.uriparse_reference.specs.Reference.{Parts, Valid, behind_slashes, path_refusal, print}
-use Rattle.uriparse_reference.specs.Normal.{shielded}
+use Rattle.uriparse_reference.specs.Reference.{Parts, Valid, after_slashes, path_refusal, print}
+use Rattle.uriparse_reference.specs.Normal.{dot_prefixed}
 use Rattle.uriparse_reference.specs.Target.{dots_removed, is_empty, is_merged, merge, target, target_of}
 use Rattle.uriparse_reference.specs.Into.{Writes, formed_scheme, print_if, tail_if, tail_text}
 use Rattle.uriparse_reference.proofs.lemmas.edits.PathRuleLemmas.{fits_of}
@@ -29,12 +29,12 @@ use Rattle.uriparse_reference.proofs.lemmas.writing.EndLemmas.{as_is, authority_
 
 -- the end of a text, as it is
 pub same_tail : (q f r g : Option (List ℕ)) (x y : List ℕ) → q ≡ r → f ≡ g → x ≡ y
-    → x ++ (behind question_mark (option_map (formed AsIs Kept) q) ++ behind number_sign (option_map (formed AsIs Kept) f))
-    ≡ y ++ (behind question_mark r ++ behind number_sign g)
+    → x ++ (following question_mark (option_map (formed AsIs Kept) q) ++ following number_sign (option_map (formed AsIs Kept) f))
+    ≡ y ++ (following question_mark r ++ following number_sign g)
 same_tail q f r g x y e h k =
-    ap (λ u. x ++ (behind question_mark u ++ behind number_sign (option_map (formed AsIs Kept) f))) (as_is q ∙ e)
-    ∙ ap (λ u. x ++ (behind question_mark r ++ behind number_sign u)) (as_is f ∙ h)
-    ∙ ap (λ u. u ++ (behind question_mark r ++ behind number_sign g)) k
+    ap (λ u. x ++ (following question_mark u ++ following number_sign (option_map (formed AsIs Kept) f))) (as_is q ∙ e)
+    ∙ ap (λ u. x ++ (following question_mark r ++ following number_sign u)) (as_is f ∙ h)
+    ∙ ap (λ u. u ++ (following question_mark r ++ following number_sign g)) k
 
 -- ---- merged paths
 
@@ -78,30 +78,30 @@ merged_length b r v w h =
 -- ---- the text of a target
 
 -- without an authority the base's own path needs no "."
-own_path : (a : Option AuthorityParts) (s : Bool) (q : PathParts) → path_refusal s (is_some a) (text q) ≡ None → shielded a q ≡ q
+own_path : (a : Option AuthorityParts) (s : Bool) (q : PathParts) → path_refusal s (is_some a) (text q) ≡ None → dot_prefixed a q ≡ q
 own_path (Some a) s q h = refl
 own_path None s q h = by_test (has_two_slashes (text q)) refl
   where
-    by_test : (v : Bool) → has_two_slashes (text q) ≡ v → shield q ≡ q
+    by_test : (v : Bool) → has_two_slashes (text q) ≡ v → with_dot_prefix q ≡ q
     by_test true e = let f = rw e at h in absurd (cc)
     by_test false e = ap (λ v. cond v (dotted q) q) e
 
 -- the scheme and the authority, and the components after them
 pub printed_tail : (t : Parts) (z : Option Scheme) (b : Option AuthorityParts) → z ≡ t.scheme → b ≡ t.authority
-    → (ahead colon (option_map scheme.text (option_map (formed_scheme AsIs) z)) ++ behind_slashes (option_map print_authority (option_map (formed_authority AsIs) b)))
+    → (ahead colon (option_map scheme.text (option_map (formed_scheme AsIs) z)) ++ after_slashes (option_map print_authority (option_map (formed_authority AsIs) b)))
     ++ tail_text t.path t.query t.fragment
     ≡ print t
 printed_tail t z b e g =
-    ap (λ u. (ahead colon (option_map scheme.text u) ++ behind_slashes (option_map print_authority (option_map (formed_authority AsIs) b)))
+    ap (λ u. (ahead colon (option_map scheme.text u) ++ after_slashes (option_map print_authority (option_map (formed_authority AsIs) b)))
     ++ tail_text t.path t.query t.fragment) (scheme_as_is z ∙ e)
-    ∙ ap (λ u. (ahead colon (option_map scheme.text t.scheme) ++ behind_slashes (option_map print_authority u)) ++ tail_text t.path t.query t.fragment)
+    ∙ ap (λ u. (ahead colon (option_map scheme.text t.scheme) ++ after_slashes (option_map print_authority u)) ++ tail_text t.path t.query t.fragment)
     (authority_as_is b ∙ g)
-    ∙ append_assoc (ahead colon (option_map scheme.text t.scheme)) (behind_slashes (option_map print_authority t.authority)) (tail_text t.path t.query t.fragment)
+    ∙ append_assoc (ahead colon (option_map scheme.text t.scheme)) (after_slashes (option_map print_authority t.authority)) (tail_text t.path t.query t.fragment)
 
 -- a target's end, by the path before a "." is put
 tail_shielded : (a : Option AuthorityParts) (w : Bool) (p : PathParts) (q f : Option (List ℕ)) → w ≡ is_some a
-    → tail_text (shield_unless w p) q f ≡ tail_text (shielded a p) q f
-tail_shielded a w p q f e = ap (λ v. tail_text (shield_unless v p) q f) e ∙ ap (λ u. tail_text u q f) (shielded_unless a p)
+    → tail_text (with_dot_prefix_unless w p) q f ≡ tail_text (dot_prefixed a p) q f
+tail_shielded a w p q f e = ap (λ v. tail_text (with_dot_prefix_unless v p) q f) e ∙ ap (λ u. tail_text u q f) (shielded_unless a p)
 
 -- ---- case by case
 
@@ -124,11 +124,11 @@ module _ (b r : Parts) where
   -- a reference with a scheme
   pub scheme_target : (w : Bool) (z : Option Scheme) (a : Option AuthorityParts) → is_some r.scheme ≡ true → w ≡ is_some r.authority → z ≡ r.scheme
       → a ≡ r.authority
-      → (ahead colon (option_map scheme.text (option_map (formed_scheme AsIs) z)) ++ behind_slashes (option_map print_authority (option_map (formed_authority AsIs) a)))
-      ++ tail_text (shield_unless w (dots_removed (text r.path))) r.query r.fragment
+      → (ahead colon (option_map scheme.text (option_map (formed_scheme AsIs) z)) ++ after_slashes (option_map print_authority (option_map (formed_authority AsIs) a)))
+      ++ tail_text (with_dot_prefix_unless w (dots_removed (text r.path))) r.query r.fragment
       ≡ print_if (target b r)
   scheme_target w z a h e f g =
-      ap (λ u. (ahead colon (option_map scheme.text (option_map (formed_scheme AsIs) z)) ++ behind_slashes (option_map print_authority (option_map (formed_authority AsIs) a))) ++ u)
+      ap (λ u. (ahead colon (option_map scheme.text (option_map (formed_scheme AsIs) z)) ++ after_slashes (option_map print_authority (option_map (formed_authority AsIs) a))) ++ u)
       (tail_shielded r.authority w (dots_removed (text r.path)) r.query r.fragment e)
       ∙ printed_tail (target_of r.scheme r.authority (dots_removed (text r.path)) r.query r.fragment) z a f g
       ∙ ap print_if (sym (by_scheme h))
@@ -136,11 +136,11 @@ module _ (b r : Parts) where
   -- a reference with an authority
   pub authority_target : (z : Option Scheme) (a : Option AuthorityParts) → is_some r.scheme ≡ false → is_some r.authority ≡ true → z ≡ b.scheme
       → a ≡ r.authority
-      → (ahead colon (option_map scheme.text (option_map (formed_scheme AsIs) z)) ++ behind_slashes (option_map print_authority (option_map (formed_authority AsIs) a)))
-      ++ tail_text (shield_unless true (dots_removed (text r.path))) r.query r.fragment
+      → (ahead colon (option_map scheme.text (option_map (formed_scheme AsIs) z)) ++ after_slashes (option_map print_authority (option_map (formed_authority AsIs) a)))
+      ++ tail_text (with_dot_prefix_unless true (dots_removed (text r.path))) r.query r.fragment
       ≡ print_if (target b r)
   authority_target z a h k f g =
-      ap (λ u. (ahead colon (option_map scheme.text (option_map (formed_scheme AsIs) z)) ++ behind_slashes (option_map print_authority (option_map (formed_authority AsIs) a))) ++ u)
+      ap (λ u. (ahead colon (option_map scheme.text (option_map (formed_scheme AsIs) z)) ++ after_slashes (option_map print_authority (option_map (formed_authority AsIs) a))) ++ u)
       (tail_shielded r.authority true (dots_removed (text r.path)) r.query r.fragment (sym k))
       ∙ printed_tail (target_of b.scheme r.authority (dots_removed (text r.path)) r.query r.fragment) z a f g
       ∙ ap print_if (sym (by_authority h k))
@@ -154,7 +154,7 @@ module _ (b r : Parts) where
 
   some_inherited : (x y z : Bool) (s : Option Scheme) (a : Option AuthorityParts) → s ≡ b.scheme → a ≡ b.authority
       → (x ≡ false → y ≡ false → z ≡ true)
-      → (ahead colon (option_map scheme.text (option_map (formed_scheme AsIs) s)) ++ behind_slashes (option_map print_authority (option_map (formed_authority AsIs) a)))
+      → (ahead colon (option_map scheme.text (option_map (formed_scheme AsIs) s)) ++ after_slashes (option_map print_authority (option_map (formed_authority AsIs) a)))
       ++ tail_if (by_tests x y z)
       ≡ print_if (by_tests x y z)
   some_inherited true y z s a e g h =
@@ -165,11 +165,11 @@ module _ (b r : Parts) where
 
   pub inherited_target : (s : Option Scheme) (a : Option AuthorityParts) → is_some r.scheme ≡ false → is_some r.authority ≡ false → s ≡ b.scheme → a ≡ b.authority
       → (is_merged r ≡ true → length (pieces (merge b r)) ≤ max_segments)
-      → (ahead colon (option_map scheme.text (option_map (formed_scheme AsIs) s)) ++ behind_slashes (option_map print_authority (option_map (formed_authority AsIs) a)))
+      → (ahead colon (option_map scheme.text (option_map (formed_scheme AsIs) s)) ++ after_slashes (option_map print_authority (option_map (formed_authority AsIs) a)))
       ++ tail_if (target b r)
       ≡ print_if (target b r)
   inherited_target s a h k e g short =
-      ap (λ o. (ahead colon (option_map scheme.text (option_map (formed_scheme AsIs) s)) ++ behind_slashes (option_map print_authority (option_map (formed_authority AsIs) a))) ++ tail_if o)
+      ap (λ o. (ahead colon (option_map scheme.text (option_map (formed_scheme AsIs) s)) ++ after_slashes (option_map print_authority (option_map (formed_authority AsIs) a))) ++ tail_if o)
       (by_path h k)
       ∙ some_inherited (is_empty (text r.path)) (is_rooted (text r.path)) (nat_le (length (pieces (merge b r))) max_segments) s a e g
       (λ x y. le-leb (length (pieces (merge b r))) max_segments (short (merged_now (is_some r.scheme) (is_some r.authority) (is_empty (text r.path))
@@ -186,7 +186,7 @@ module _ (b r : Parts) where
   -- a path that begins with a slash
   pub rooted_target : (w : Bool) → w ≡ is_some b.authority → is_some r.scheme ≡ false → is_some r.authority ≡ false → is_empty (text r.path) ≡ false
       → is_rooted (text r.path) ≡ true
-      → tail_text (shield_unless w (dots_removed (text r.path))) r.query r.fragment ≡ tail_if (target b r)
+      → tail_text (with_dot_prefix_unless w (dots_removed (text r.path))) r.query r.fragment ≡ tail_if (target b r)
   rooted_target w e h k x y =
       tail_shielded b.authority w (dots_removed (text r.path)) r.query r.fragment e
       ∙ ap tail_if (sym (by_path h k ∙ ap (λ u. chosen false false u (is_rooted (text r.path)) b r) x ∙ ap (λ u. chosen false false false u b r) y))
@@ -194,7 +194,7 @@ module _ (b r : Parts) where
   -- a path that is merged
   pub merged_target : (w : Bool) → w ≡ is_some b.authority → is_some r.scheme ≡ false → is_some r.authority ≡ false → is_empty (text r.path) ≡ false
       → is_rooted (text r.path) ≡ false → length (pieces (merge b r)) ≤ max_segments
-      → tail_text (shield_unless w (dots_removed (merge b r))) r.query r.fragment ≡ tail_if (target b r)
+      → tail_text (with_dot_prefix_unless w (dots_removed (merge b r))) r.query r.fragment ≡ tail_if (target b r)
   merged_target w e h k x y short =
       tail_shielded b.authority w (dots_removed (merge b r)) r.query r.fragment e
       ∙ ap tail_if (sym (by_path h k ∙ ap (λ u. chosen false false u (is_rooted (text r.path)) b r) x ∙ ap (λ u. chosen false false false u b r) y

@@ -2,16 +2,17 @@
 ghost use Rattle.std.specs.Prelude.{◌≡◌, length};
 ghost use Rattle.std.specs.Option.{option_copied, option_map};
 ghost use Rattle.uriparse_text.specs.Bytes.{colon};
-ghost use Rattle.uriparse_text.specs.Cuts.{ahead, behind};
+ghost use Rattle.uriparse_text.specs.Cuts.{ahead, following};
 ghost use Rattle.uriparse_text.specs.Starts.{Appends, LeavesRest, StartsWith, Writes};
 ghost use Rattle.uriparse_scheme.specs.Cuts.{if_some};
 ghost use Rattle.uriparse_reference.specs.Escaped as spec;
-ghost use Rattle.uriparse_reference.specs.Reference.{behind_slashes};
+ghost use Rattle.uriparse_reference.specs.Reference.{after_slashes};
 
 use super::super::read::split_authority;
 use uriparse_scheme::internal::split_scheme;
 use uriparse_text::internal::{
-    Case, Class, TooSmall, append, append_escaped, split_at_mark, split_settled, without_mark,
+    Case, Class, TooSmall, append, append_escaped, split_at_mark, split_canonical_prefix,
+    without_mark,
 };
 
 /// Appends the scheme and its colon, if it is present: its text is not empty.
@@ -30,7 +31,7 @@ fn append_scheme(scheme: &[u8], out: &mut [u8], len: usize) -> usize
 /// Appends two slashes and the escaped authority, if it is present.
 fn append_authority(authority: Option<&[u8]>, out: &mut [u8], len: usize) -> usize
     ensures room { length out.new ≡ length out.old }
-    ensures appends { Appends (behind_slashes (option_map spec.escaped_authority (option_copied authority.entry))) out.old len out.new result }
+    ensures appends { Appends (after_slashes (option_map spec.escaped_authority (option_copied authority.entry))) out.old len out.new result }
     ensures rest { LeavesRest out.old len out.new result }
 {
     match authority {
@@ -43,9 +44,9 @@ fn append_authority(authority: Option<&[u8]>, out: &mut [u8], len: usize) -> usi
 }
 
 /// Appends a delimiter and the escaped component that follows it, if it is present.
-fn append_behind(mark: u8, component: Option<&[u8]>, out: &mut [u8], len: usize) -> usize
+fn append_after(mark: u8, component: Option<&[u8]>, out: &mut [u8], len: usize) -> usize
     ensures room { length out.new ≡ length out.old }
-    ensures appends { Appends (behind mark (option_map spec.escaped_component (option_copied component.entry))) out.old len out.new result }
+    ensures appends { Appends (following mark (option_map spec.escaped_component (option_copied component.entry))) out.old len out.new result }
     ensures rest { LeavesRest out.old len out.new result }
 {
     match component {
@@ -65,11 +66,11 @@ fn append_end(end: &[u8], out: &mut [u8], len: usize) -> usize
     ensures appends { Appends (spec.escaped_end end.now) out.old len out.new result }
     ensures rest { LeavesRest out.old len out.new result }
 {
-    let (plain, later) = split_settled(Class::Query, Case::Kept, end);
+    let (plain, later) = split_canonical_prefix(Class::Query, Case::Kept, end);
     let len = append(plain, out, len);
     let (front, fragment) = split_at_mark(later, b'#');
     let len = append_escaped(Class::Query, b"", front, out, len);
-    append_behind(b'#', without_mark(fragment), out, len)
+    append_after(b'#', without_mark(fragment), out, len)
 }
 
 /// Writes the text with its components escaped to the start of the buffer. Returns its length. If

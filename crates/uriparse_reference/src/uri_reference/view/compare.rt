@@ -7,7 +7,7 @@ ghost use Rattle.std.specs.Cmp.Rules.{comparing, hashing};
 ghost use Rattle.uriparse_text.specs.Canonical.{canonical};
 ghost use Rattle.uriparse_path.specs.Path.{text};
 ghost use Rattle.uriparse_authority.specs.Authority as authorities;
-ghost use Rattle.uriparse_reference.specs.Key.{each_alike, ends_alike, fed, fed_key, key, middle_alike};
+ghost use Rattle.uriparse_reference.specs.Key.{each_alike, ends_alike, fed, fed_key, key, authority_and_path_alike};
 ghost use Rattle.uriparse_reference.specs.Reference.{Same};
 ghost use Rattle.uriparse_reference.specs.View.{view_key};
 
@@ -27,8 +27,8 @@ impl<'t> ReferenceView<'t> {
     }
 
     /// Whether the authorities and paths are equal, each in canonical spelling.
-    fn has_middle_alike(&self, other: &ReferenceView<'t>) -> bool
-        ensures { result ≡ middle_alike self.now.parts other.now.parts }
+    fn eq_authority_and_path(&self, other: &ReferenceView<'t>) -> bool
+        ensures { result ≡ authority_and_path_alike self.now.parts other.now.parts }
     {
         self.authority() == other.authority()
             && are_path_texts_alike(self.path_bytes(), other.path_bytes())
@@ -38,7 +38,7 @@ impl<'t> ReferenceView<'t> {
     fn is_each_alike(&self, other: &ReferenceView<'t>) -> bool
         ensures { result ≡ each_alike self.now.parts other.now.parts }
     {
-        self.has_ends_alike(other) && self.has_middle_alike(other)
+        self.has_ends_alike(other) && self.eq_authority_and_path(other)
     }
 
     /// Whether the schemes, fragments and queries are those of the reference, each in canonical

@@ -104,13 +104,13 @@ impl Cuts {
         let (text_before, fragment) = text.split_at(self.fragment as usize);
         let (front_and_path, query) = text_before.split_at(self.query as usize);
         let (front, path) = front_and_path.split_at(self.path as usize);
-        let (scheme, behind) = front.split_at(self.scheme as usize);
+        let (scheme, following) = front.split_at(self.scheme as usize);
         ReferenceView {
             text,
             pieces: Pieces {
                 scheme,
                 known: self.known,
-                authority: self.authority(skip(gap(self.scheme), behind)),
+                authority: self.authority(skip(gap(self.scheme), following)),
                 tail: FoundTail {
                     path,
                     count: self.count as usize,

@@ -9,7 +9,7 @@ ghost use Rattle.uriparse_text.specs.Starts.{most};
 ghost use Rattle.uriparse_reference.specs.TextEdits.{with_end, with_fragment};
 
 use super::ReferenceView;
-use super::into::put_end;
+use super::into::put_query_and_fragment;
 use std::alloc::{AllocError, Global};
 use uriparse_text::fragment::Fragment;
 use uriparse_text::internal::{Form, put};
@@ -21,7 +21,7 @@ impl<'t> ReferenceView<'t> {
         ensures { result.now ≡ with_end self.now.text None None }
     {
         let text = self.as_str().as_bytes();
-        let len = put_end(Form::AsIs, &self.query(), &self.fragment(), &mut []);
+        let len = put_query_and_fragment(Form::AsIs, &self.query(), &self.fragment(), &mut []);
         &text[..text.len() - len]
     }
 
@@ -31,7 +31,7 @@ impl<'t> ReferenceView<'t> {
         ensures text { take result self.now.text ≡ with_fragment self.now.text None }
     {
         let text = self.as_str().as_bytes();
-        let len = put_end(Form::AsIs, &None, &self.fragment(), &mut []);
+        let len = put_query_and_fragment(Form::AsIs, &None, &self.fragment(), &mut []);
         text.len() - len
     }
 
@@ -46,7 +46,7 @@ impl<'t> ReferenceView<'t> {
         ensures room { length out.new ≡ length out.old }
         ensures ends { EndsWith out.new result (with_end self.now.text query.now fragment.now) }
     {
-        let len = put_end(Form::AsIs, query, fragment, out);
+        let len = put_query_and_fragment(Form::AsIs, query, fragment, out);
         put(self.front(), out, len)
     }
 

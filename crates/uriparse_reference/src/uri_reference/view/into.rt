@@ -3,12 +3,12 @@ ghost use Rattle.std.specs.Prelude.{◌≡◌, ℕ, ◌≤◌, List, ◌++◌, M
 ghost use Rattle.std.specs.Option.{option_map};
 ghost use Rattle.uriparse_text.specs.declared.internal.canonical.Case.TheVariants as case;
 ghost use Rattle.uriparse_text.specs.Bytes.{colon, number_sign, question_mark};
-ghost use Rattle.uriparse_text.specs.Cuts.{ahead, behind};
+ghost use Rattle.uriparse_text.specs.Cuts.{ahead, following};
 ghost use Rattle.uriparse_text.specs.Ends.{EndsWith, Puts, formed};
 ghost use Rattle.uriparse_scheme.specs.Scheme as schemes;
 ghost use Rattle.uriparse_authority.specs.Authority as authorities;
 ghost use Rattle.uriparse_authority.specs.Ends.{formed_authority};
-ghost use Rattle.uriparse_reference.specs.Reference.{behind_slashes, print};
+ghost use Rattle.uriparse_reference.specs.Reference.{after_slashes, print};
 ghost use Rattle.uriparse_reference.specs.Normal.{normal};
 ghost use Rattle.uriparse_reference.specs.Into as spec;
 
@@ -16,31 +16,31 @@ use super::super::error::BufferError;
 use super::ReferenceView;
 use uriparse_authority::authority::Authority;
 use uriparse_authority::internal as authority;
-use uriparse_path::internal::{Place, put_normal_path};
+use uriparse_path::internal::{PathContext, put_normal_path};
 use uriparse_scheme::scheme::Scheme;
 use uriparse_text::fragment::Fragment;
-use uriparse_text::internal::{Case, Form, put, put_behind, put_formed};
+use uriparse_text::internal::{Case, Form, put, put_after, put_formed};
 use uriparse_text::query::Query;
 
 /// Puts the query and the fragment, each with its delimiter, if present, at the end of the buffer.
 /// Returns their length. If there is no room, only the length is counted.
-pub(super) fn put_end(
+pub(super) fn put_query_and_fragment(
     form: Form,
     query: &Option<Query<'_>>,
     fragment: &Option<Fragment<'_>>,
     out: &mut [u8],
 ) -> usize
     ensures room { length out.new ≡ length out.old }
-    ensures ends { EndsWith out.new result (behind question_mark (option_map (formed form case.Kept) query.now) ++ behind number_sign (option_map (formed form case.Kept) fragment.now)) }
+    ensures ends { EndsWith out.new result (following question_mark (option_map (formed form case.Kept) query.now) ++ following number_sign (option_map (formed form case.Kept) fragment.now)) }
 {
-    let len = put_behind(form, b'#', fragment, out, 0);
-    put_behind(form, b'?', query, out, len)
+    let len = put_after(form, b'#', fragment, out, 0);
+    put_after(form, b'?', query, out, len)
 }
 
 /// Puts two slashes and the authority, if there is one.
 fn put_authority(form: Form, authority: &Option<Authority<'_>>, out: &mut [u8], len: usize) -> usize
     ensures room { length out.new ≡ length out.old }
-    ensures puts { Puts (behind_slashes (option_map authorities.print (option_map (formed_authority form) authority.now))) out.old len out.new result }
+    ensures puts { Puts (after_slashes (option_map authorities.print (option_map (formed_authority form) authority.now))) out.old len out.new result }
 {
     match authority {
         Some(authority) => {
@@ -66,7 +66,7 @@ fn put_scheme(form: Form, scheme: &Option<Scheme<'_>>, out: &mut [u8], len: usiz
 }
 
 /// Puts the scheme and the authority, each with its delimiter, if present.
-pub(super) fn put_front(
+pub(super) fn put_scheme_and_authority(
     form: Form,
     scheme: &Option<Scheme<'_>>,
     authority: &Option<Authority<'_>>,
@@ -74,7 +74,7 @@ pub(super) fn put_front(
     len: usize,
 ) -> usize
     ensures room { length out.new ≡ length out.old }
-    ensures puts { Puts (ahead colon (option_map schemes.text (option_map (spec.formed_scheme form) scheme.now)) ++ behind_slashes (option_map authorities.print (option_map (formed_authority form) authority.now))) out.old len out.new result }
+    ensures puts { Puts (ahead colon (option_map schemes.text (option_map (spec.formed_scheme form) scheme.now)) ++ after_slashes (option_map authorities.print (option_map (formed_authority form) authority.now))) out.old len out.new result }
 {
     let len = put_authority(form, authority, out, len);
     put_scheme(form, scheme, out, len)
@@ -121,13 +121,13 @@ impl<'t> ReferenceView<'t> {
         ensures room { length out.new ≡ length out.old }
         ensures ends { EndsWith out.new result (print (normal self.now.parts)) }
     {
-        let place = Place {
+        let context = PathContext {
             has_scheme: self.has_scheme(),
             has_authority: self.has_authority(),
         };
-        let len = put_end(Form::Canonical, &self.query(), &self.fragment(), out);
-        let len = put_normal_path(self.path_bytes(), place, out, len);
-        put_front(Form::Canonical, &self.scheme(), &self.authority(), out, len)
+        let len = put_query_and_fragment(Form::Canonical, &self.query(), &self.fragment(), out);
+        let len = put_normal_path(self.path_bytes(), context, out, len);
+        put_scheme_and_authority(Form::Canonical, &self.scheme(), &self.authority(), out, len)
     }
 
     /// Writes the text of the normal form to the start of the buffer and returns its length in

@@ -7,11 +7,11 @@ ghost use Rattle.uriparse_scheme.specs.Scheme as schemes;
 ghost use Rattle.uriparse_path.specs.Normal.{is_normal_at};
 ghost use Rattle.uriparse_reference.specs.Reference.{authority_part, print, scheme_part};
 ghost use Rattle.uriparse_reference.specs.Normal.{is_normal, is_normal_outside, normal};
-ghost use Rattle.uriparse_reference.specs.Normal.{place as place_of};
+ghost use Rattle.uriparse_reference.specs.Normal.{context as context_of};
 
 use super::super::normal::{is_canonical_authority, is_canonical_scheme};
 use super::ReferenceView;
-use uriparse_path::internal::{Place, is_normal_path_text};
+use uriparse_path::internal::{PathContext, is_normal_path_text};
 use uriparse_text::internal::is_canonical_part;
 
 impl<'t> ReferenceView<'t> {
@@ -44,17 +44,17 @@ impl<'t> ReferenceView<'t> {
     }
 
     /// Whether the path has the text of its normal form at this place.
-    fn has_normal_path(&self, place: Place) -> bool
-        ensures { result ≡ is_normal_at place self.now.parts.path }
+    fn has_normal_path(&self, context: PathContext) -> bool
+        ensures { result ≡ is_normal_at context self.now.parts.path }
     {
-        is_normal_path_text(self.path_bytes(), place)
+        is_normal_path_text(self.path_bytes(), context)
     }
 
     /// What precedes the path.
-    pub(super) fn place(&self) -> Place
-        ensures { result ≡ place_of self.now.parts }
+    pub(super) fn context(&self) -> PathContext
+        ensures { result ≡ context_of self.now.parts }
     {
-        Place {
+        PathContext {
             has_scheme: self.pieces.has_scheme(),
             has_authority: self.pieces.authority.is_some(),
         }
@@ -62,24 +62,24 @@ impl<'t> ReferenceView<'t> {
 
     /// Whether each component but the authority has the text of its normal form, with the path at
     /// this place.
-    pub(super) fn is_normal_outside(&self, place: Place) -> bool
-        requires { place ≡ place_of self.now.parts }
+    pub(super) fn is_normal_outside(&self, context: PathContext) -> bool
+        requires { context ≡ context_of self.now.parts }
         ensures { result ≡ is_normal_outside self.now.parts }
     {
         self.has_canonical_scheme()
-            && self.has_normal_path(place)
+            && self.has_normal_path(context)
             && self.has_canonical_query()
             && self.has_canonical_fragment()
     }
 
     /// Whether each component has the text of its normal form, with the path at this place.
-    fn is_normal(&self, place: Place) -> bool
-        requires { place ≡ place_of self.now.parts }
+    fn is_normal(&self, context: PathContext) -> bool
+        requires { context ≡ context_of self.now.parts }
         ensures { result ≡ is_normal self.now.parts }
     {
         self.has_canonical_scheme()
             && self.has_canonical_authority()
-            && self.has_normal_path(place)
+            && self.has_normal_path(context)
             && self.has_canonical_query()
             && self.has_canonical_fragment()
     }
@@ -95,6 +95,6 @@ impl<'t> ReferenceView<'t> {
     {
         // The view is valid, which is known once a field is read.
         let _text = &self.text;
-        self.is_normal(self.place())
+        self.is_normal(self.context())
     }
 }

@@ -4,7 +4,7 @@ ghost use Rattle.std.specs.Prelude.{◌≡◌, ◌↔◌, [], IsTrue, unwrap_or}
 ghost use Rattle.uriparse_path.specs.Path.{text};
 ghost use Rattle.uriparse_reference.specs.Cuts.{authority_text, path_text, scheme_text};
 ghost use Rattle.uriparse_reference.specs.Reference.{authority_part, print, scheme_part};
-ghost use Rattle.uriparse_reference.specs.Normal.{IsPrintedFront, normal};
+ghost use Rattle.uriparse_reference.specs.Normal.{HasOwnTexts, normal};
 
 use super::super::read::split_authority;
 use super::ReferenceView;
@@ -12,7 +12,7 @@ use uriparse_scheme::internal::split_scheme;
 
 impl<'t> ReferenceView<'t> {
     /// Whether the scheme, if present, prints its text.
-    fn has_printed_scheme(&self) -> bool
+    fn has_own_scheme_text(&self) -> bool
         ensures { IsTrue result ↔ (scheme_part self.now.parts ≡ scheme_text self.now.text) }
     {
         match self.scheme() {
@@ -42,7 +42,7 @@ impl<'t> ReferenceView<'t> {
     }
 
     /// Whether the path prints its text.
-    fn has_printed_path(&self) -> bool
+    fn has_own_path_text(&self) -> bool
         ensures { IsTrue result ↔ (text self.now.parts.path ≡ path_text self.now.text) }
     {
         self.path_bytes() == self.pieces.tail.path
@@ -50,10 +50,10 @@ impl<'t> ReferenceView<'t> {
 
     /// Whether the path, and the scheme, if present, print their texts, and that of the authority, if
     /// present, is that of its normal form.
-    fn has_printed_front(&self) -> bool
-        ensures { IsTrue result ↔ IsPrintedFront self.now.text self.now.parts }
+    fn has_own_texts(&self) -> bool
+        ensures { IsTrue result ↔ HasOwnTexts self.now.text self.now.parts }
     {
-        self.has_printed_path() && self.has_printed_scheme() && self.has_normal_authority_text()
+        self.has_own_path_text() && self.has_own_scheme_text() && self.has_normal_authority_text()
     }
 
     /// Whether the text that was read is that of the normal form, byte for byte: what
@@ -72,6 +72,6 @@ impl<'t> ReferenceView<'t> {
     {
         // The view is valid, which is known once a field is read.
         let _text = &self.text;
-        self.has_printed_front() && self.is_normal_outside(self.place())
+        self.has_own_texts() && self.is_normal_outside(self.context())
     }
 }

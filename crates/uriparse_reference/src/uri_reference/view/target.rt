@@ -2,7 +2,7 @@
 ghost use Rattle.std.specs.Prelude.{◌≡◌, ◌≤◌, ◌&&◌, Err, MatchOption, false, is_some, length, nat_lt, true};
 ghost use Rattle.std.specs.Option.{option_or};
 ghost use Rattle.uriparse_text.specs.Ends.{EndsWith};
-ghost use Rattle.uriparse_path.specs.Edits.{shield_unless};
+ghost use Rattle.uriparse_path.specs.Edits.{with_dot_prefix_unless};
 ghost use Rattle.uriparse_path.specs.Path.{is_rooted, max_segments, pieces, text};
 ghost use Rattle.uriparse_reference.specs.declared.uri_reference.error.BufferError.TheVariants as errors;
 ghost use Rattle.uriparse_reference.specs.Reference.{Valid, print};
@@ -11,7 +11,9 @@ ghost use Rattle.uriparse_reference.specs.Into as spec;
 
 use super::super::error::BufferError;
 use super::ReferenceView;
-use super::into::{BLOCK, LONG_BLOCK, copy_end, put_end, put_front, serves_block};
+use super::into::{
+    BLOCK, LONG_BLOCK, copy_end, put_query_and_fragment, put_scheme_and_authority, serves_block,
+};
 use uriparse_path::internal::{put_merged, put_undotted};
 use uriparse_path::path::MAX_SEGMENTS;
 use uriparse_text::internal::{Form, put};
@@ -69,9 +71,9 @@ impl<'t> ReferenceView<'t> {
     /// Puts the path without its dot segments, the query and the fragment at the end of the buffer.
     fn put_own_tail(&self, has_authority: bool, out: &mut [u8]) -> usize
         ensures room { length out.new ≡ length out.old }
-        ensures ends { EndsWith out.new result (spec.tail_text (shield_unless has_authority (dots_removed (text self.now.parts.path))) self.now.parts.query self.now.parts.fragment) }
+        ensures ends { EndsWith out.new result (spec.tail_text (with_dot_prefix_unless has_authority (dots_removed (text self.now.parts.path))) self.now.parts.query self.now.parts.fragment) }
     {
-        let len = put_end(Form::AsIs, &self.query(), &self.fragment(), out);
+        let len = put_query_and_fragment(Form::AsIs, &self.query(), &self.fragment(), out);
         put_undotted(Form::AsIs, has_authority, self.path_bytes(), out, len)
     }
 
@@ -83,7 +85,7 @@ impl<'t> ReferenceView<'t> {
         ensures ends { EndsWith out.new result (spec.tail_text self.now.parts.path (option_or reference.now.parts.query self.now.parts.query) reference.now.parts.fragment) }
     {
         let query = reference.query().or(self.query());
-        let len = put_end(Form::AsIs, &query, &reference.fragment(), out);
+        let len = put_query_and_fragment(Form::AsIs, &query, &reference.fragment(), out);
         put(self.path_bytes(), out, len)
     }
 
@@ -93,9 +95,14 @@ impl<'t> ReferenceView<'t> {
         requires merged { is_merged reference.now.parts ≡ true }
         requires short { length (pieces (merge self.now.parts reference.now.parts)) ≤ max_segments }
         ensures room { length out.new ≡ length out.old }
-        ensures ends { EndsWith out.new result (spec.tail_text (shield_unless (is_some self.now.parts.authority) (dots_removed (merge self.now.parts reference.now.parts))) reference.now.parts.query reference.now.parts.fragment) }
+        ensures ends { EndsWith out.new result (spec.tail_text (with_dot_prefix_unless (is_some self.now.parts.authority) (dots_removed (merge self.now.parts reference.now.parts))) reference.now.parts.query reference.now.parts.fragment) }
     {
-        let len = put_end(Form::AsIs, &reference.query(), &reference.fragment(), out);
+        let len = put_query_and_fragment(
+            Form::AsIs,
+            &reference.query(),
+            &reference.fragment(),
+            out,
+        );
         let has_authority = self.has_authority();
         put_merged(
             has_authority,
@@ -133,7 +140,7 @@ impl<'t> ReferenceView<'t> {
     {
         if reference.has_scheme() {
             let len = reference.put_own_tail(reference.has_authority(), out);
-            return put_front(
+            return put_scheme_and_authority(
                 Form::AsIs,
                 &reference.scheme(),
                 &reference.authority(),
@@ -143,10 +150,16 @@ impl<'t> ReferenceView<'t> {
         }
         if reference.has_authority() {
             let len = reference.put_own_tail(true, out);
-            return put_front(Form::AsIs, &self.scheme(), &reference.authority(), out, len);
+            return put_scheme_and_authority(
+                Form::AsIs,
+                &self.scheme(),
+                &reference.authority(),
+                out,
+                len,
+            );
         }
         let len = self.put_inherited_tail(reference, out);
-        put_front(Form::AsIs, &self.scheme(), &self.authority(), out, len)
+        put_scheme_and_authority(Form::AsIs, &self.scheme(), &self.authority(), out, len)
     }
 
     /// The number of bytes of the texts that the target is put together from: those of the reference,

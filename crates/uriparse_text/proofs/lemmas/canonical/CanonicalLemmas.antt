@@ -167,9 +167,9 @@ canonical_more case rest after t e f g =
     )
 
 -- a run that stays as it is, in front
-pub canonical_behind : (case : Case) (whole run rest : List ℕ) → whole ≡ run ++ rest → canonical_in case whole ≡ run ++ canonical_in case rest
+pub canonical_following : (case : Case) (whole run rest : List ℕ) → whole ≡ run ++ rest → canonical_in case whole ≡ run ++ canonical_in case rest
     → (canonical_in case rest ≡ rest) ↔ (canonical_in case whole ≡ whole)
-canonical_behind case whole run rest e f =
+canonical_following case whole run rest e f =
     (λ h. f ∙ ap (λ u. run ++ u) h ∙ sym e, λ h. append_cancel_left run (canonical_in case rest) rest (sym f ∙ h ∙ e))
 
 not_percent : (case : Case) (b : ℕ) → is_unreserved b ≡ true → in_case case b ≡ percent → ⊥

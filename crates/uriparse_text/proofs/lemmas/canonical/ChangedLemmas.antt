@@ -83,7 +83,7 @@ pub none_more : (text : List ℕ) (seen at : ℕ) → NoneChanged text seen → 
     → NoneChanged text (at + 16)
 none_more text seen at before from more k h = elim (cases_lt k seen) [
   | inl is ↦ before k is
-  | inr past ↦ let place : at + (k - at) ≡ k = omega arith in ap (λ i. begins_changed (drop i text)) (sym place) ∙ more (k - at) (omega arith)
+  | inr past ↦ let offset : at + (k - at) ≡ k = omega arith in ap (λ i. begins_changed (drop i text)) (sym offset) ∙ more (k - at) (omega arith)
 ]
 
 -- the last two bytes begin no escape
@@ -131,7 +131,7 @@ pub no_mark : (text : List ℕ) (at : ℕ) → at + 18 ≤ length text → (firs
 no_mark text at room firsts seconds f s signs kinds e g k h clear = by_value (begins_changed (drop (at + k) text)) refl
   where
     byte_at : (j : ℕ) → get_or (drop (at + k) text) j 0 ≡ get_or text (at + j + k) 0
-    byte_at j = let place : at + k + j ≡ at + j + k = omega arith in get_or-drop (at + k) text j 0 ∙ ap (λ i. get_or text i 0) place
+    byte_at j = let offset : at + k + j ≡ at + j + k = omega arith in get_or-drop (at + k) text j 0 ∙ ap (λ i. get_or text i 0) offset
 
     by_value : (v : Bool) → begins_changed (drop (at + k) text) ≡ v → v ≡ false
     by_value false _ = refl

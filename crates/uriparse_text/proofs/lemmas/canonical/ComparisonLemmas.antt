@@ -146,15 +146,15 @@ more_same case x y l r same plain =
     plain_front case y r (ap (λ b. b == percent) (sym same) ∙ plain) ∙ ap (λ b. Byte (in_case case b) ∷ canonical_tokens case r) (sym same) in
     (λ h. front ∙ ap (λ ts. Byte (in_case case x) ∷ ts) h ∙ sym other, λ h. let joined = sym front ∙ h ∙ other in cc)
 
-pub behind_common : (case : Case) (n : ℕ) (left right : List ℕ) → AreCommon left right n → n ≤ length left → n ≤ length right
+pub after_common : (case : Case) (n : ℕ) (left right : List ℕ) → AreCommon left right n → n ≤ length left → n ≤ length right
     → (canonical_tokens case (drop n left) ≡ canonical_tokens case (drop n right)) ↔ (canonical_tokens case left ≡ canonical_tokens case right)
-behind_common case zero left right are h k = (λ e. e, λ e. e)
-behind_common case (suc n) [] right are h k = absurd (omega arith)
-behind_common case (suc n) (x ∷ left) [] are h k = absurd (omega arith)
-behind_common case (suc n) (x ∷ left) (y ∷ right) are h k =
+after_common case zero left right are h k = (λ e. e, λ e. e)
+after_common case (suc n) [] right are h k = absurd (omega arith)
+after_common case (suc n) (x ∷ left) [] are h k = absurd (omega arith)
+after_common case (suc n) (x ∷ left) (y ∷ right) are h k =
     let first = are 0 (omega arith) in
     let here = more_same case x y left right first.0 first.1 in
-    let later = behind_common case n left right (λ i l. are (suc i) (omega arith)) (omega arith) (omega arith) in
+    let later = after_common case n left right (λ i l. are (suc i) (omega arith)) (omega arith) (omega arith) in
     (λ e. here.0 (later.0 e), λ e. later.1 (here.1 e))
 
 -- that many more from a place on
@@ -163,9 +163,9 @@ pub common_more : (left right : List ℕ) (at n : ℕ) → AreCommon left right 
 common_more left right at n are more k h = elim (cases_lt k at) [
   | inl before ↦ are k before
   | inr past ↦
-      let place : at + (k - at) ≡ k = omega arith in
+      let offset : at + (k - at) ≡ k = omega arith in
       let here = more (k - at) (omega arith) in
-      (ap (λ i. get_or left i 0) (sym place) ∙ here.0 ∙ ap (λ i. get_or right i 0) place, ap (λ i. get_or left i 0 == percent) (sym place) ∙ here.1)
+      (ap (λ i. get_or left i 0) (sym offset) ∙ here.0 ∙ ap (λ i. get_or right i 0) offset, ap (λ i. get_or left i 0 == percent) (sym offset) ∙ here.1)
 ]
 
 -- ---- marks of two runs of bytes

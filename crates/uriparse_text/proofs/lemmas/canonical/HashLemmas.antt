@@ -27,13 +27,13 @@ fed_first block bytes h =
     let n : ℕ = length bytes / 64 in
     let more : length (block ++ bytes) / 64 ≡ suc n = omega (arith, h, length-append block bytes) in
     let front : take 64 (block ++ bytes) ≡ block = ap (λ k. take k (block ++ bytes)) (sym h) ∙ take-append_seam block bytes in
-    let behind : drop 64 (block ++ bytes) ≡ bytes = ap (λ k. drop k (block ++ bytes)) (sym h) ∙ drop-append_seam block bytes in
+    let following : drop 64 (block ++ bytes) ≡ bytes = ap (λ k. drop k (block ++ bytes)) (sym h) ∙ drop-append_seam block bytes in
     let further : suc n * 64 ≡ 64 + n * 64 = omega arith in
     ap (λ k. first_chunks 64 k (block ++ bytes) ++ drop (k * 64) (block ++ bytes) ∷ []) more
     ∙ ap (λ b. (b ∷ first_chunks 64 n (drop 64 (block ++ bytes))) ++ drop (suc n * 64) (block ++ bytes) ∷ []) front
-    ∙ ap (λ r. (block ∷ first_chunks 64 n r) ++ drop (suc n * 64) (block ++ bytes) ∷ []) behind
+    ∙ ap (λ r. (block ∷ first_chunks 64 n r) ++ drop (suc n * 64) (block ++ bytes) ∷ []) following
     ∙ ap (λ r. (block ∷ first_chunks 64 n bytes) ++ r ∷ [])
-    (ap (λ k. drop k (block ++ bytes)) further ∙ sym (drop-drop (n * 64) 64 (block ++ bytes)) ∙ ap (drop (n * 64)) behind)
+    (ap (λ k. drop k (block ++ bytes)) further ∙ sym (drop-drop (n * 64) 64 (block ++ bytes)) ∙ ap (drop (n * 64)) following)
 
 -- blocks, and then what is left
 pub fed_blocks : (blocks : List (List ℕ)) (last : List ℕ) → list_all (λ b. length b == 64) blocks ≡ true → length last < 64

@@ -172,7 +172,7 @@ module _ (text : List ℕ) (k : ℕ) where
       it = changed_bytes (drop j raised) h
 
       here : get_or raised j 0 ≡ percent
-      here = ap (λ i. get_or raised i 0) (let place : j ≡ j + 0 = omega arith in place) ∙ sym (get_or-drop j raised 0 0) ∙ it.sign
+      here = ap (λ i. get_or raised i 0) (let offset : j ≡ j + 0 = omega arith in offset) ∙ sym (get_or-drop j raised 0 0) ∙ it.sign
 
       not_first : j ≢ k + 1
       not_first e = no_sign (to_ascii_uppercase high) (upper_digit high is.first) (sym at_first ∙ ap (λ i. get_or raised i 0) (sym e) ∙ here)
@@ -189,14 +189,14 @@ module _ (text : List ℕ) (k : ℕ) where
       same_byte : (i : ℕ) → i < 3 → get_or (drop j raised) i 0 ≡ get_or (drop j text) i 0
       same_byte i l =
           get_or-drop j raised i 0
-          ∙ elsewhere (j + i) (λ e. by_place i l e) (λ e. by_other i l e)
+          ∙ elsewhere (j + i) (λ e. by_offset i l e) (λ e. by_other i l e)
           ∙ sym (get_or-drop j text i 0)
         where
-          by_place : (i : ℕ) → i < 3 → j + i ≡ k + 1 → ⊥
-          by_place zero l e = not_first (omega arith)
-          by_place (suc zero) l e = n (omega arith)
-          by_place (suc (suc zero)) l e = not_before (omega arith)
-          by_place (suc (suc (suc i))) l e = absurd (omega arith)
+          by_offset : (i : ℕ) → i < 3 → j + i ≡ k + 1 → ⊥
+          by_offset zero l e = not_first (omega arith)
+          by_offset (suc zero) l e = n (omega arith)
+          by_offset (suc (suc zero)) l e = not_before (omega arith)
+          by_offset (suc (suc (suc i))) l e = absurd (omega arith)
 
           by_other : (i : ℕ) → i < 3 → j + i ≡ k + 2 → ⊥
           by_other zero l e = not_second (omega arith)
@@ -224,7 +224,7 @@ module _ (text : List ℕ) (k : ℕ) where
       let it = escape_at (get_or text k 0) (drop (k + 1) text) h in
       let next : k + 1 + 0 ≡ k + 1 = omega arith in
       let last : k + 1 + 1 ≡ k + 2 = omega arith in
-      let behind = it.long in
+      let following = it.long in
       let digits = and_parts (is_hex (get_or (drop (k + 1) text) 0 0)) (is_hex (get_or (drop (k + 1) text) 1 0)) it.digits in
       record {
         long = omega (arith, length-drop (k + 1) text);
@@ -268,8 +268,8 @@ marks_first text seen at marks before from are k h changed = elim (cases_lt k at
     past,
     elim (cases_lt (bit_at marks (k - at)) 1) [
       | inl unset ↦
-          let place : at + (k - at) ≡ k = omega arith in
-          absurd (false≢true (sym (ap (λ i. begins_changed (drop i text)) (sym place) ∙ are (k - at) (omega arith) (omega arith)) ∙ changed))
+          let offset : at + (k - at) ≡ k = omega arith in
+          absurd (false≢true (sym (ap (λ i. begins_changed (drop i text)) (sym offset) ∙ are (k - at) (omega arith) (omega arith)) ∙ changed))
       | inr set ↦ omega (arith, bit_at-lt marks (k - at))
     ],
   )

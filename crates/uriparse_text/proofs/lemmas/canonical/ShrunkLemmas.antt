@@ -204,8 +204,8 @@ short_none (b ∷ []) h = omega (arith, shrunk_nil, shrunk_cons b [])
 short_none (b ∷ c ∷ []) h = omega (arith, shrunk_nil, shrunk_cons b (c ∷ []), shrunk_cons c [])
 short_none (b ∷ c ∷ d ∷ t) h = absurd (omega arith)
 
-one_place : (text : List ℕ) (i : ℕ) → i < length text → shrunk_count (drop i text) ≡ cond (begins_shrunk (drop i text)) 1 0 + shrunk_count (drop (i + 1) text)
-one_place text i h =
+one_offset : (text : List ℕ) (i : ℕ) → i < length text → shrunk_count (drop i text) ≡ cond (begins_shrunk (drop i text)) 1 0 + shrunk_count (drop (i + 1) text)
+one_offset text i h =
     let e = drop_more text i 0 h in
     ap shrunk_count e ∙ shrunk_cons (get_or text i 0) (drop (i + 1) text) ∙ ap (λ u. cond (begins_shrunk u) 1 0 + shrunk_count (drop (i + 1) text)) (sym e)
 
@@ -213,15 +213,15 @@ module _ (text : List ℕ) (at marks n : ℕ) (room : at + n ≤ length text)
     (are : (k : ℕ) → k < n → bit_at marks k ≡ cond (begins_shrunk (drop (at + k) text)) 1 0) (past : (k : ℕ) → n ≤ k → bit_at marks k ≡ 0) where
   along : (j : ℕ) → j ≤ n → shrunk_count (drop at text) ≡ count_ones (marks % 2 ^ j) + shrunk_count (drop (at + j) text)
   along zero h =
-      let place : at ≡ at + 0 = omega arith in
-      let same : shrunk_count (drop at text) ≡ shrunk_count (drop (at + 0) text) = ap (λ i. shrunk_count (drop i text)) place in
+      let offset : at ≡ at + 0 = omega arith in
+      let same : shrunk_count (drop at text) ≡ shrunk_count (drop (at + 0) text) = ap (λ i. shrunk_count (drop i text)) offset in
       omega (arith, same, ones_none marks)
   along (suc j) h =
       let next : j + 1 ≡ suc j = omega arith in
-      let place : at + j + 1 ≡ at + suc j = omega arith in
+      let offset : at + j + 1 ≡ at + suc j = omega arith in
       let before = along j (omega arith) in
       let one : shrunk_count (drop (at + j) text) ≡ cond (begins_shrunk (drop (at + j) text)) 1 0 + shrunk_count (drop (at + suc j) text) =
-      one_place text (at + j) (omega arith) ∙ ap (λ i. cond (begins_shrunk (drop (at + j) text)) 1 0 + shrunk_count (drop i text)) place in
+      one_offset text (at + j) (omega arith) ∙ ap (λ i. cond (begins_shrunk (drop (at + j) text)) 1 0 + shrunk_count (drop i text)) offset in
       let bits : count_ones (marks % 2 ^ suc j) ≡ count_ones (marks % 2 ^ j) + bit_at marks j = sym (ap (λ e. count_ones (marks % 2 ^ e)) next) ∙ ones_next marks j in
       omega (arith, before, one, bits, are j (omega arith))
 
@@ -248,8 +248,8 @@ counted_last text count at m last long within end before are past shifted =
   where
     marks_are : (k : ℕ) → k < length text - 2 - at → bit_at last k ≡ cond (begins_shrunk (drop (at + k) text)) 1 0
     marks_are k h =
-        let place : length text - 18 + (at - (length text - 18) + k) ≡ at + k = omega arith in
-        shifted k ∙ are (at - (length text - 18) + k) (omega arith) ∙ ap (λ i. cond (begins_shrunk (drop i text)) 1 0) place
+        let offset : length text - 18 + (at - (length text - 18) + k) ≡ at + k = omega arith in
+        shifted k ∙ are (at - (length text - 18) + k) (omega arith) ∙ ap (λ i. cond (begins_shrunk (drop i text)) 1 0) offset
 
     marks_past : (k : ℕ) → length text - 2 - at ≤ k → bit_at last k ≡ 0
     marks_past k h = shifted k ∙ past (at - (length text - 18) + k) (omega arith)

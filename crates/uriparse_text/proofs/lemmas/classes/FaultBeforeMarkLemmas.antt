@@ -11,14 +11,14 @@ use Rattle.uriparse_text.specs.declared.internal.class.Class.{Class}
 use Rattle.uriparse_text.specs.Bytes.{percent, is_hex}
 use Rattle.uriparse_text.specs.Classes.{is_plain}
 use Rattle.uriparse_text.specs.Tokens.{is_escape}
-use Rattle.uriparse_text.specs.Faults.{fault, begins_fine, EndsClass, IsFaultPlace, IsIn}
+use Rattle.uriparse_text.specs.Faults.{fault, begins_fine, EndsClass, IsFaultOffset, IsIn}
 use Rattle.uriparse_text.specs.Cuts.{up_to, part, before, after}
 use Rattle.uriparse_text.specs.Readings.{reading_in, unless_fault}
 use Rattle.uriparse_text.proofs.lemmas.tokens.TokenLemmas.{no_escape_with, no_escape_across, not_percent}
 use Rattle.uriparse_text.proofs.lemmas.classes.FaultLemmas.{fault-nil, fault-here, no_fault}
 use Rattle.uriparse_text.proofs.lemmas.classes.FaultByByteLemmas.{fault-begins_fine, fault_of_rest, fault_found, fault_absent}
 use Rattle.uriparse_text.proofs.lemmas.scans.ScanLemmas.{NoneBefore, found_here, found_nowhere}
-use Rattle.uriparse_text.proofs.lemmas.readings.CutLemmas.{take_place, drop_place}
+use Rattle.uriparse_text.proofs.lemmas.readings.CutLemmas.{take_offset, drop_offset}
 
 -- a fault other than the mark
 abbrev pub other_fault : ℕ → Option ℕ → Option ℕ
@@ -72,12 +72,12 @@ module _ (class : Class) (mark : ℕ) (ends : EndsClass class mark) where
       by_mark false e h = by_fine (begins_fine class (b ∷ rest)) refl e h
 
   -- the class as a call returns it
-  module _ (answered : Class) (same_class : answered ≡ class) (t : List ℕ) (place : ℕ) (found : IsFaultPlace answered t place) where
-    is : IsFaultPlace class t place
-    is = subst (λ k. IsFaultPlace k t place) same_class found
+  module _ (answered : Class) (same_class : answered ≡ class) (t : List ℕ) (offset : ℕ) (found : IsFaultOffset answered t offset) where
+    is : IsFaultOffset class t offset
+    is = subst (λ k. IsFaultOffset k t offset) same_class found
 
     -- a byte at which a token of the class begins isn't the mark
-    no_mark_before : (k : ℕ) → k < place → (get_or t k 0 == mark) ≡ false
+    no_mark_before : (k : ℕ) → k < offset → (get_or t k 0 == mark) ≡ false
     no_mark_before k h = by_test (get_or t k 0 == mark) refl
       where
         fine : begins_fine class (get_or t k 0 ∷ drop (k + 1) t) ≡ true
@@ -91,42 +91,42 @@ module _ (class : Class) (mark : ℕ) (ends : EndsClass class mark) where
             absurd (false≢true (sym (rw (ap (is_plain class) same ∙ ends.outside, never) refl) ∙ fine))
         by_test false e = refl
 
-    none_before : NoneBefore (λ b. b == mark) t place
+    none_before : NoneBefore (λ b. b == mark) t offset
     none_before = record { within = is.within; fail = no_mark_before }
 
-    front_is_before : (o : Option ℕ) → fault class t ≡ o → place ≡ position_or_len (λ b. b == mark) t → other_fault mark o ≡ None
-        → (take place t ≡ before mark t) × IsIn class (take place t)
+    front_is_before : (o : Option ℕ) → fault class t ≡ o → offset ≡ position_or_len (λ b. b == mark) t → other_fault mark o ≡ None
+        → (take offset t ≡ before mark t) × IsIn class (take offset t)
     front_is_before o e at none =
-        let same : take place t ≡ before mark t = ap (λ n. take n t) at ∙ take_place (λ b. b == mark) t in
-        (same, (no_fault class (take place t)).0 (ap (fault class) same ∙ fault-before t ∙ ap (other_fault mark) e ∙ none))
+        let same : take offset t ≡ before mark t = ap (λ n. take n t) at ∙ take_offset (λ b. b == mark) t in
+        (same, (no_fault class (take offset t)).0 (ap (fault class) same ∙ fault-before t ∙ ap (other_fault mark) e ∙ none))
 
     -- the whole text is of the class and has no mark,
-    pub whole_text : place ≡ length t → (t ≡ before mark t) × IsIn class t × (None ≡ after mark t)
+    pub whole_text : offset ≡ length t → (t ≡ before mark t) × IsIn class t × (None ≡ after mark t)
     whole_text end =
-        let at : place ≡ position_or_len (λ b. b == mark) t = found_nowhere (λ b. b == mark) t place none_before (omega arith) in
-        let nothing : drop place t ≡ [] = drop_of_length-le t (omega arith) in
-        let all : take place t ≡ t = take_all place t (omega arith) in
-        let front = front_is_before None (sym (fault_absent class t place is (omega arith))) at refl in (
+        let at : offset ≡ position_or_len (λ b. b == mark) t = found_nowhere (λ b. b == mark) t offset none_before (omega arith) in
+        let nothing : drop offset t ≡ [] = drop_of_length-le t (omega arith) in
+        let all : take offset t ≡ t = take_all offset t (omega arith) in
+        let front = front_is_before None (sym (fault_absent class t offset is (omega arith))) at refl in (
           sym all ∙ front.0,
           subst (IsIn class) all front.1,
-          ap part (sym nothing ∙ ap (λ n. drop n t) at ∙ drop_place (λ b. b == mark) t),
+          ap part (sym nothing ∙ ap (λ n. drop n t) at ∙ drop_offset (λ b. b == mark) t),
         )
 
     -- or what precedes the mark is,
-    pub text_before : place < length t → (get_or t place 0 == mark) ≡ true
-        → (take place t ≡ before mark t) × IsIn class (take place t) × (Some (drop (place + 1) t) ≡ after mark t)
+    pub text_before : offset < length t → (get_or t offset 0 == mark) ≡ true
+        → (take offset t ≡ before mark t) × IsIn class (take offset t) × (Some (drop (offset + 1) t) ≡ after mark t)
     text_before more e =
-        let at : place ≡ position_or_len (λ b. b == mark) t = found_here (λ b. b == mark) t place none_before e in
-        let front = front_is_before (Some (get_or t place 0)) (sym (fault_found class t place is more)) at (rw e refl) in (
+        let at : offset ≡ position_or_len (λ b. b == mark) t = found_here (λ b. b == mark) t offset none_before e in
+        let front = front_is_before (Some (get_or t offset 0)) (sym (fault_found class t offset is more)) at (rw e refl) in (
           front.0,
           front.1,
-          ap part (sym (drop_more t place 0 more) ∙ ap (λ n. drop n t) at ∙ drop_place (λ b. b == mark) t),
+          ap part (sym (drop_more t offset 0 more) ∙ ap (λ n. drop n t) at ∙ drop_offset (λ b. b == mark) t),
         )
 
     -- or it has another byte's fault
-    pub fault_before : place < length t → (get_or t place 0 == mark) ≡ false → fault class (before mark t) ≡ Some (get_or t place 0)
+    pub fault_before : offset < length t → (get_or t offset 0 == mark) ≡ false → fault class (before mark t) ≡ Some (get_or t offset 0)
     fault_before more e =
-        fault-before t ∙ ap (other_fault mark) (sym (fault_found class t place is more)) ∙ ap (λ v. cond v None (Some (get_or t place 0))) e
+        fault-before t ∙ ap (other_fault mark) (sym (fault_found class t offset is more)) ∙ ap (λ v. cond v None (Some (get_or t offset 0))) e
 
 -- the result of reading a text of the class
 pub reading-in : {E : Type 0} (class : Class) (error_of : ℕ → E) (t u : List ℕ) → u ≡ t → IsIn class u → reading_in class error_of t ≡ Ok u

@@ -13,7 +13,7 @@ use Rattle.uriparse_text.specs.declared.internal.class.Class.{Class}
 use Rattle.uriparse_text.specs.Bytes.{percent, is_hex, is_unreserved}
 use Rattle.uriparse_text.specs.Classes.{is_plain}
 use Rattle.uriparse_text.specs.Tokens.{is_escape}
-use Rattle.uriparse_text.specs.Faults.{fault, begins_fine, AllFine, AreInDoubt, IsFaultFrom, IsFaultPlace}
+use Rattle.uriparse_text.specs.Faults.{fault, begins_fine, AllFine, AreInDoubt, IsFaultFrom, IsFaultOffset}
 use Rattle.uriparse_text.specs.Marks.{AreMarks}
 use Rattle.uriparse_text.proofs.lemmas.classes.ClassLemmas.{unreserved_plain}
 use Rattle.uriparse_text.proofs.lemmas.scans.MarkLemmas.{marked}
@@ -122,8 +122,8 @@ module _ (class : Class) (text : List ℕ) (at n : ℕ) (room : at + n ≤ lengt
   -- all bytes are of the class
   pub none_outside : (m : ℕ) → AreMarks (outside class) text at n m → m ≡ 0 → AllFine class text at (at + n)
   none_outside m are none k from before =
-      let place : at + (k - at) ≡ k = omega arith in
-      subst (λ i. begins_fine class (drop i text) ≡ true) place
+      let offset : at + (k - at) ≡ k = omega arith in
+      subst (λ i. begins_fine class (drop i text) ≡ true) offset
       (marked_outside m (k - at) are (omega arith) (ap (λ x. bit_at x (k - at)) none ∙ bit_at-zero (k - at)))
 
   escape_is_fine : (signs digits k : ℕ) → AreMarks (λ b. b == percent) text at n signs → AreMarks is_hex text at n digits
@@ -135,13 +135,13 @@ module _ (class : Class) (text : List ℕ) (at n : ℕ) (room : at + n ≤ lengt
       let short = l.0 in
       let second : at + (1 + k) ≡ at + k + 1 = omega arith in
       let third : at + (2 + k) ≡ at + k + 1 + 1 = omega arith in
-      let behind : drop (at + k + 1) text ≡ get_or text (at + k + 1) 0 ∷ get_or text (at + k + 1 + 1) 0 ∷ drop (at + k + 1 + 1 + 1) text =
+      let following : drop (at + k + 1) text ≡ get_or text (at + k + 1) 0 ∷ get_or text (at + k + 1 + 1) 0 ∷ drop (at + k + 1 + 1 + 1) text =
       drop_more text (at + k + 1) 0 (omega arith)
       ∙ ap (λ r. get_or text (at + k + 1) 0 ∷ r) (drop_more text (at + k + 1 + 1) 0 (omega arith)) in
       let digits_are =
       and_from _ _ (and_from _ _ s.1 (ap (λ i. is_hex (get_or text i 0)) (sym second) ∙ h.1))
       (ap (λ i. is_hex (get_or text i 0)) (sym third) ∙ l.1) in
-      is_fine_escape class text (at + k) (omega arith) (ap (is_escape (get_or text (at + k) 0)) behind ∙ digits_are)
+      is_fine_escape class text (at + k) (omega arith) (ap (is_escape (get_or text (at + k) 0)) following ∙ digits_are)
 
   -- a byte outside the class is in doubt unless it is a sign that two digits follow
   pub in_doubt : (outs signs digits left : ℕ) → n ≤ 16 → AreMarks (outside class) text at n outs
@@ -167,20 +167,20 @@ module _ (class : Class) (text : List ℕ) (at n : ℕ) (room : at + n ≤ lengt
   pub left_after : (left k next : ℕ) → AreLeft class text at n left → bit_at left k ≡ 1 → is_escape (get_or text (at + k) 0) (drop (at + k + 1) text) ≡ true
       → ((j : ℕ) → j ≢ k → bit_at next j ≡ bit_at left j) → ((j : ℕ) → bit_at next j ≡ 1 → bit_at left j ≡ 1) → AreLeft class text at n next
   left_after left k next is set escape kept no_more = record {
-    passed = λ j h unset. by_place j h unset (eqb j k) refl;
+    passed = λ j h unset. by_offset j h unset (eqb j k) refl;
     waiting = λ j h. is.waiting j (no_more j h);
   }
     where
-      by_place : (j : ℕ) → j < n → bit_at next j ≡ 0 → (v : Bool) → eqb j k ≡ v → begins_fine class (drop (at + j) text) ≡ true
-      by_place j h unset true e =
+      by_offset : (j : ℕ) → j < n → bit_at next j ≡ 0 → (v : Bool) → eqb j k ≡ v → begins_fine class (drop (at + j) text) ≡ true
+      by_offset j h unset true e =
           let same : j ≡ k = eqb-true j k e in
           subst (λ i. begins_fine class (drop (at + i) text) ≡ true) (sym same) (is_fine_escape class text (at + k) (left_within left k is set) escape)
-      by_place j h unset false e = is.passed j h (sym (kept j (eqb-false j k e)) ∙ unset)
+      by_offset j h unset false e = is.passed j h (sym (kept j (eqb-false j k e)) ∙ unset)
 
   fine_from : (left to : ℕ) → AreLeft class text at n left → to ≤ n → ((j : ℕ) → j < to → bit_at left j ≡ 0) → AllFine class text at (at + to)
   fine_from left to is short unset k from before =
-      let place : at + (k - at) ≡ k = omega arith in
-      subst (λ i. begins_fine class (drop i text) ≡ true) place (is.passed (k - at) (omega arith) (unset (k - at) (omega arith)))
+      let offset : at + (k - at) ≡ k = omega arith in
+      subst (λ i. begins_fine class (drop i text) ≡ true) offset (is.passed (k - at) (omega arith) (unset (k - at) (omega arith)))
 
   pub none_left : AreLeft class text at n 0 → AllFine class text at (at + n)
   none_left is = fine_from 0 n is (omega arith) (λ j _. bit_at-zero j)
@@ -199,20 +199,20 @@ module _ (class : Class) (text : List ℕ) (at n : ℕ) (room : at + n ≤ lengt
 
 -- ---- the place of the leftmost fault
 
-pub no_fault_place : (class : Class) (text : List ℕ) (at : ℕ) → AllFine class text 0 at → at ≡ length text → IsFaultPlace class text at
-no_fault_place class text at fine end = record { within = omega arith; fine = fine; faulty = λ more. absurd (omega arith) }
+pub no_fault_offset : (class : Class) (text : List ℕ) (at : ℕ) → AllFine class text 0 at → at ≡ length text → IsFaultOffset class text at
+no_fault_offset class text at fine end = record { within = omega arith; fine = fine; faulty = λ more. absurd (omega arith) }
 
-pub fault_place_from : (class : Class) (text : List ℕ) (at place : ℕ) → AllFine class text 0 at → IsFaultFrom class text at place
-    → IsFaultPlace class text place
-fault_place_from class text at place fine is =
+pub fault_offset_from : (class : Class) (text : List ℕ) (at offset : ℕ) → AllFine class text 0 at → IsFaultFrom class text at offset
+    → IsFaultOffset class text offset
+fault_offset_from class text at offset fine is =
     let within = is.within in
-    record { within = omega arith; fine = all_fine_then class text at place fine is.fine; faulty = λ _. is.faulty }
+    record { within = omega arith; fine = all_fine_then class text at offset fine is.fine; faulty = λ _. is.faulty }
 
-pub last_run : (class : Class) (text : List ℕ) (at to : ℕ) (o : Option ℕ) → MatchOption o (AllFine class text at to) (λ place. IsFaultFrom class text at place)
-    → AllFine class text 0 at → to ≡ length text → IsFaultPlace class text (unwrap_or o (length text))
+pub last_run : (class : Class) (text : List ℕ) (at to : ℕ) (o : Option ℕ) → MatchOption o (AllFine class text at to) (λ offset. IsFaultFrom class text at offset)
+    → AllFine class text 0 at → to ≡ length text → IsFaultOffset class text (unwrap_or o (length text))
 last_run class text at to None h fine end =
-    no_fault_place class text (length text) (all_fine_then class text at (length text) fine (λ k from before. h k from (omega arith))) refl
-last_run class text at to (Some place) h fine end = fault_place_from class text at place fine h
+    no_fault_offset class text (length text) (all_fine_then class text at (length text) fine (λ k from before. h k from (omega arith))) refl
+last_run class text at to (Some offset) h fine end = fault_offset_from class text at offset fine h
 
 -- what stands there decides
 pub fault_of_rest : (class : Class) (rest : List ℕ) → (0 < length rest → begins_fine class rest ≡ false) → fault class rest ≡ slice_get rest 0
@@ -224,16 +224,16 @@ fault_of_rest class (b ∷ after) h = by_test (is_plain class b) refl (is_escape
     by_test false e true f k = absurd (false≢true (sym k ∙ fine_escape class b after f))
     by_test false e false f k = fault-here class b after e f
 
-pub fault_at_place : (class : Class) (text : List ℕ) (place : ℕ) → IsFaultPlace class text place → fault class text ≡ slice_get (drop place text) 0
-fault_at_place class text place is =
+pub fault_at_offset : (class : Class) (text : List ℕ) (offset : ℕ) → IsFaultOffset class text offset → fault class text ≡ slice_get (drop offset text) 0
+fault_at_offset class text offset is =
     let within = is.within in
-    sym (fault-drop class text place is.fine)
-    ∙ fault_of_rest class (drop place text) (λ more. is.faulty (omega (arith, length-drop place text)))
+    sym (fault-drop class text offset is.fine)
+    ∙ fault_of_rest class (drop offset text) (λ more. is.faulty (omega (arith, length-drop offset text)))
 
-pub fault_found : (class : Class) (text : List ℕ) (place : ℕ) → IsFaultPlace class text place → place < length text → Some (get_or text place 0) ≡ fault class text
-fault_found class text place is within =
-    sym (fault_at_place class text place is ∙ ap (λ r. slice_get r 0) (drop_more text place 0 within))
+pub fault_found : (class : Class) (text : List ℕ) (offset : ℕ) → IsFaultOffset class text offset → offset < length text → Some (get_or text offset 0) ≡ fault class text
+fault_found class text offset is within =
+    sym (fault_at_offset class text offset is ∙ ap (λ r. slice_get r 0) (drop_more text offset 0 within))
 
-pub fault_absent : (class : Class) (text : List ℕ) (place : ℕ) → IsFaultPlace class text place → length text ≤ place → None ≡ fault class text
-fault_absent class text place is past =
-    sym (fault_at_place class text place is ∙ ap (λ r. slice_get r 0) (drop_of_length-le text past))
+pub fault_absent : (class : Class) (text : List ℕ) (offset : ℕ) → IsFaultOffset class text offset → length text ≤ offset → None ≡ fault class text
+fault_absent class text offset is past =
+    sym (fault_at_offset class text offset is ∙ ap (λ r. slice_get r 0) (drop_of_length-le text past))

@@ -29,9 +29,9 @@ none_iff class text =
 -- ---- from a fault to its place
 
 -- a fault after a token of the class
-behind_token : (class : Class) (text : List ℕ) (t : Token) (rest : List ℕ) (byte : ℕ) → allows class t ≡ true → text ≡ spell t ++ rest
+after_token : (class : Class) (text : List ℕ) (t : Token) (rest : List ℕ) (byte : ℕ) → allows class t ≡ true → text ≡ spell t ++ rest
     → HasFaultAt class rest byte → HasFaultAt class text byte
-behind_token class text t rest byte fine cut at = record {
+after_token class text t rest byte fine cut at = record {
   before = spell t ++ at.before;
   after = at.after;
   whole = cut ∙ ap (λ x. spell t ++ x) at.whole ∙ sym (append_assoc (spell t) at.before (byte ∷ at.after));
@@ -62,7 +62,7 @@ at_front class b after later past byte h = by_plain (is_plain class b) refl
     by_escape : (v : Bool) → is_escape b after ≡ v → is_plain class b ≡ false → HasFaultAt class (b ∷ after) byte
     by_escape true e plain =
         let at = escape_at b after e in
-        behind_token class (b ∷ after) (Escape (get_or after 0 0) (get_or after 1 0)) (drop 2 after) byte at.digits at.whole
+        after_token class (b ∷ after) (Escape (get_or after 0 0) (get_or after 1 0)) (drop 2 after) byte at.digits at.whole
         (past byte (sym (fault-escape class b after e) ∙ h))
     by_escape false e plain =
         let same : b ≡ byte = let here = fault-here class b after plain e in cc in
@@ -76,7 +76,7 @@ at_front class b after later past byte h = by_plain (is_plain class b) refl
 
     by_plain : (v : Bool) → is_plain class b ≡ v → HasFaultAt class (b ∷ after) byte
     by_plain true e =
-        behind_token class (b ∷ after) (Byte b) after byte e refl (later byte (sym (fault-plain class b after e) ∙ h))
+        after_token class (b ∷ after) (Byte b) after byte e refl (later byte (sym (fault-plain class b after e) ∙ h))
     by_plain false e = by_escape (is_escape b after) refl e
 
 at_end : (class : Class) → Placed class []
@@ -90,15 +90,15 @@ placed class (b ∷ c ∷ d ∷ rest) = at_front class b (c ∷ d ∷ rest) (pla
 
 -- ---- from a place to the fault
 
-fault-behind : (class : Class) (ts : List Token) (rest : List ℕ) → list_all (allows class) ts ≡ true
+fault-following : (class : Class) (ts : List Token) (rest : List ℕ) → list_all (allows class) ts ≡ true
     → fault class (flat_map spell ts ++ rest) ≡ fault class rest
-fault-behind class [] rest h = refl
-fault-behind class (t ∷ ts) rest h =
+fault-following class [] rest h = refl
+fault-following class (t ∷ ts) rest h =
     let both = and_parts _ _ h in
     ap (fault class) (append_assoc (spell t) (flat_map spell ts) rest)
     ∙ fault-fine class (spell t ++ (flat_map spell ts ++ rest)) t (flat_map spell ts ++ rest)
     (tokens-spell t (flat_map spell ts ++ rest) (is_token-allows class t both.0)) both.0
-    ∙ fault-behind class ts rest both.1
+    ∙ fault-following class ts rest both.1
 
 fault_stands : (class : Class) (b : ℕ) (after : List ℕ) → BeginsWithNone class (b ∷ after) → fault class (b ∷ after) ≡ Some b
 fault_stands class b after none = fault-here class b after (plain (is_plain class b) refl) (never (is_escape b after) refl)
@@ -117,6 +117,6 @@ fault_stands class b after none = fault-here class b after (plain (is_plain clas
 pub leftmost : (class : Class) (text : List ℕ) (byte : ℕ) → (fault class text ≡ Some byte) ↔ HasFaultAt class text byte
 leftmost class text byte = (
   λ h. placed class text byte h,
-  λ at. ap (fault class) (at.whole ∙ ap (λ x. x ++ byte ∷ at.after) at.fine.whole) ∙ fault-behind class at.fine.ts (byte ∷ at.after) at.fine.each
+  λ at. ap (fault class) (at.whole ∙ ap (λ x. x ++ byte ∷ at.after) at.fine.whole) ∙ fault-following class at.fine.ts (byte ∷ at.after) at.fine.each
       ∙ fault_stands class byte at.after at.here,
 )

@@ -12,7 +12,7 @@ use Rattle.uriparse_text.specs.declared.internal.class.Class.{Class}
 use Rattle.uriparse_text.specs.Bytes.{percent, is_hex}
 use Rattle.uriparse_text.specs.Classes.{is_plain}
 use Rattle.uriparse_text.specs.Faults.{IsIn}
-use Rattle.uriparse_text.specs.Cuts.{lacks, none_pass, behind, ahead, up_to, from_first, from_last, up_to_last, part, before, after, front, rest}
+use Rattle.uriparse_text.specs.Cuts.{lacks, none_pass, following, ahead, up_to, from_first, from_last, up_to_last, part, before, after, front, rest}
 use Rattle.uriparse_text.proofs.lemmas.classes.ClassLemmas.{bytes-in_class}
 
 -- ---- bytes that a text does not have
@@ -35,9 +35,9 @@ lacks_by p b t h k = weaker p (λ c. not (c == b)) (λ c e. other_byte p b c h e
 pub lacks-append : (b : ℕ) (t u : List ℕ) → lacks b t ≡ true → lacks b u ≡ true → lacks b (t ++ u) ≡ true
 lacks-append b t u h k = list_all-append (λ c. not (c == b)) t u ∙ and_from _ _ h k
 
-pub lacks-behind : (b mark : ℕ) (o : Option (List ℕ)) → not (mark == b) ≡ true → IfSome o (λ t. lacks b t ≡ true) → lacks b (behind mark o) ≡ true
-lacks-behind b mark None h k = refl
-lacks-behind b mark (Some t) h k = and_from _ _ h k
+pub lacks-following : (b mark : ℕ) (o : Option (List ℕ)) → not (mark == b) ≡ true → IfSome o (λ t. lacks b t ≡ true) → lacks b (following mark o) ≡ true
+lacks-following b mark None h k = refl
+lacks-following b mark (Some t) h k = and_from _ _ h k
 
 -- a text of a class has no byte that neither the class nor an escape has
 pub lacks-in_class : (class : Class) (b : ℕ) → is_plain class b ≡ false → (percent == b) ≡ false → is_hex b ≡ false → (t : List ℕ) → IsIn class t
@@ -90,27 +90,27 @@ cut-whole p (b ∷ t) =
     elim (p b) as (λ v. cond v [] (b ∷ up_to p t) ++ cond v (b ∷ t) (from_first p t) ≡ b ∷ t)
     [ true ↦ refl | false ↦ ap (λ u. b ∷ u) (cut-whole p t) ]
 
-rest_is : (mark : ℕ) (t : List ℕ) → from_first (λ b. b == mark) t ≡ behind mark (after mark t)
+rest_is : (mark : ℕ) (t : List ℕ) → from_first (λ b. b == mark) t ≡ following mark (after mark t)
 rest_is mark [] = refl
 rest_is mark (b ∷ t) = by_test (b == mark) refl (rest_is mark t)
   where
-    by_test : (v : Bool) → (b == mark) ≡ v → from_first (λ b. b == mark) t ≡ behind mark (part (from_first (λ b. b == mark) t))
-        → cond v (b ∷ t) (from_first (λ b. b == mark) t) ≡ behind mark (part (cond v (b ∷ t) (from_first (λ b. b == mark) t)))
+    by_test : (v : Bool) → (b == mark) ≡ v → from_first (λ b. b == mark) t ≡ following mark (part (from_first (λ b. b == mark) t))
+        → cond v (b ∷ t) (from_first (λ b. b == mark) t) ≡ following mark (part (cond v (b ∷ t) (from_first (λ b. b == mark) t)))
     by_test true e h = ap (λ x. x ∷ t) (eqb-true b mark e)
     by_test false e h = h
 
 -- t = before [ mark after ]
-pub before_after : (mark : ℕ) (t : List ℕ) → before mark t ++ behind mark (after mark t) ≡ t
+pub before_after : (mark : ℕ) (t : List ℕ) → before mark t ++ following mark (after mark t) ≡ t
 before_after mark t = ap (λ u. before mark t ++ u) (sym (rest_is mark t)) ∙ cut-whole (λ b. b == mark) t
 
 -- the texts before and after a delimiter have no byte that the whole does not have, and the one before it has no delimiter
 pub lacks-before : (b mark : ℕ) (t : List ℕ) → lacks b t ≡ true → lacks b (before mark t) ≡ true
-lacks-before b mark t h = lacks-left b (before mark t) (behind mark (after mark t)) (ap (lacks b) (before_after mark t) ∙ h)
+lacks-before b mark t h = lacks-left b (before mark t) (following mark (after mark t)) (ap (lacks b) (before_after mark t) ∙ h)
 
 pub lacks-after : (b mark : ℕ) (t : List ℕ) → lacks b t ≡ true → IfSome (after mark t) (λ u. lacks b u ≡ true)
-lacks-after b mark t h = by_after (after mark t) (lacks-right b (before mark t) (behind mark (after mark t)) (ap (lacks b) (before_after mark t) ∙ h))
+lacks-after b mark t h = by_after (after mark t) (lacks-right b (before mark t) (following mark (after mark t)) (ap (lacks b) (before_after mark t) ∙ h))
   where
-    by_after : (o : Option (List ℕ)) → lacks b (behind mark o) ≡ true → IfSome o (λ u. lacks b u ≡ true)
+    by_after : (o : Option (List ℕ)) → lacks b (following mark o) ≡ true → IfSome o (λ u. lacks b u ≡ true)
     by_after None k = tt
     by_after (Some u) k = (and_parts (not (mark == b)) (lacks b u) k).1
 
@@ -121,16 +121,16 @@ before-lacks mark t = up_to-none (λ b. b == mark) t
 pub front_rest : (mark : ℕ) (t : List ℕ) → ahead mark (front mark t) ++ rest mark t ≡ t
 front_rest mark t = by_after (after mark t) (before_after mark t)
   where
-    by_after : (o : Option (List ℕ)) → before mark t ++ behind mark o ≡ t → ahead mark (option_map (λ _. before mark t) o) ++ unwrap_or o t ≡ t
+    by_after : (o : Option (List ℕ)) → before mark t ++ following mark o ≡ t → ahead mark (option_map (λ _. before mark t) o) ++ unwrap_or o t ≡ t
     by_after None h = refl
     by_after (Some r) h = append_assoc (before mark t) (mark ∷ []) r ∙ h
 
-pub before_of : (mark : ℕ) (u : List ℕ) (o : Option (List ℕ)) → (mark == mark) ≡ true → lacks mark u ≡ true → before mark (u ++ behind mark o) ≡ u
+pub before_of : (mark : ℕ) (u : List ℕ) (o : Option (List ℕ)) → (mark == mark) ≡ true → lacks mark u ≡ true → before mark (u ++ following mark o) ≡ u
 before_of mark u None r h = up_to-append (λ b. b == mark) u [] h ∙ append-nil u
 before_of mark u (Some t) r h =
     up_to-append (λ b. b == mark) u (mark ∷ t) h ∙ ap (λ v. u ++ cond v [] (mark ∷ up_to (λ b. b == mark) t)) r ∙ append-nil u
 
-pub after_of : (mark : ℕ) (u : List ℕ) (o : Option (List ℕ)) → (mark == mark) ≡ true → lacks mark u ≡ true → after mark (u ++ behind mark o) ≡ o
+pub after_of : (mark : ℕ) (u : List ℕ) (o : Option (List ℕ)) → (mark == mark) ≡ true → lacks mark u ≡ true → after mark (u ++ following mark o) ≡ o
 after_of mark u None r h = ap part (from_first-append (λ b. b == mark) u [] h)
 after_of mark u (Some t) r h =
     ap part (from_first-append (λ b. b == mark) u (mark ∷ t) h) ∙ ap (λ v. part (cond v (mark ∷ t) (from_first (λ b. b == mark) t))) r
@@ -138,27 +138,27 @@ after_of mark u (Some t) r h =
 pub front_of : (mark : ℕ) (s u : List ℕ) → (mark == mark) ≡ true → lacks mark s ≡ true
     → (front mark (ahead mark (Some s) ++ u) ≡ Some s) × (rest mark (ahead mark (Some s) ++ u) ≡ u)
 front_of mark s u r h =
-    let w : (s ++ mark ∷ []) ++ u ≡ s ++ behind mark (Some u) = append_assoc s (mark ∷ []) u in
+    let w : (s ++ mark ∷ []) ++ u ≡ s ++ following mark (Some u) = append_assoc s (mark ∷ []) u in
     let a : after mark ((s ++ mark ∷ []) ++ u) ≡ Some u = ap (after mark) w ∙ after_of mark s (Some u) r h in
     let b : before mark ((s ++ mark ∷ []) ++ u) ≡ s = ap (before mark) w ∙ before_of mark s (Some u) r h in
     (ap (λ o. option_map (λ _. before mark ((s ++ mark ∷ []) ++ u)) o) a ∙ ap Some b, ap (λ o. unwrap_or o ((s ++ mark ∷ []) ++ u)) a)
 
 -- ---- by the place of the first byte that passes
 
-pub take_place : (p : ℕ → Bool) (t : List ℕ) → take (position_or_len p t) t ≡ up_to p t
-take_place p [] = refl
-take_place p (b ∷ t) =
+pub take_offset : (p : ℕ → Bool) (t : List ℕ) → take (position_or_len p t) t ≡ up_to p t
+take_offset p [] = refl
+take_offset p (b ∷ t) =
     elim (p b) as (λ v. take (cond (not v) (1 + position_or_len p t) 0) (b ∷ t) ≡ cond v [] (b ∷ up_to p t))
-    [ true ↦ refl | false ↦ rw one-add (ap (λ u. b ∷ u) (take_place p t)) ]
+    [ true ↦ refl | false ↦ rw one-add (ap (λ u. b ∷ u) (take_offset p t)) ]
 
-pub drop_place : (p : ℕ → Bool) (t : List ℕ) → drop (position_or_len p t) t ≡ from_first p t
-drop_place p [] = refl
-drop_place p (b ∷ t) =
+pub drop_offset : (p : ℕ → Bool) (t : List ℕ) → drop (position_or_len p t) t ≡ from_first p t
+drop_offset p [] = refl
+drop_offset p (b ∷ t) =
     elim (p b) as (λ v. drop (cond (not v) (1 + position_or_len p t) 0) (b ∷ t) ≡ cond v (b ∷ t) (from_first p t))
-    [ true ↦ refl | false ↦ rw one-add (drop_place p t) ]
+    [ true ↦ refl | false ↦ rw one-add (drop_offset p t) ]
 
-pub place_or_length : (p : ℕ → Bool) (t : List ℕ) → unwrap_or (position p t) (length t) ≡ position_or_len p t
-place_or_length p t =
+pub offset_or_length : (p : ℕ → Bool) (t : List ℕ) → unwrap_or (position p t) (length t) ≡ position_or_len p t
+offset_or_length p t =
     let bound = prefix_len-le-length (λ b. not (p b)) t in
     elim (cases_lt (position_or_len p t) (length t)) [
       | inl below ↦ rw (lt-ltb _ _ below) refl

@@ -15,7 +15,7 @@ use Rattle.uriparse_text.specs.Bytes.{percent, ampersand, equals_sign, is_hex, i
 use Rattle.uriparse_text.specs.Classes.{is_plain}
 use Rattle.uriparse_text.specs.Tokens.{tokens, spell}
 use Rattle.uriparse_text.specs.Faults.{allows, IsIn}
-use Rattle.uriparse_text.specs.Cuts.{lacks, behind, before, after}
+use Rattle.uriparse_text.specs.Cuts.{lacks, following, before, after}
 use Rattle.uriparse_text.specs.Coding.{value_of, decoded, are_bytes, token_without, encoded_without, escape_of}
 use Rattle.uriparse_text.specs.Query.{IsQuery}
 use Rattle.uriparse_text.specs.Pairs.{Pair, is_ampersand, pair_of, pairs, pairs_left, piece_of, joined_pairs, decoded_pair, encoded_in_pair, encoded_pair, are_pair_bytes, given}
@@ -23,7 +23,7 @@ use Rattle.uriparse_text.proofs.lemmas.tokens.TokenLemmas.{tokens-mark, tokens_o
 use Rattle.uriparse_text.proofs.lemmas.tokens.CodingLemmas.{small_byte}
 use Rattle.uriparse_text.proofs.lemmas.tokens.EscapingLemmas.{high_digit, low_digit, high_is_hex, low_is_hex}
 use Rattle.uriparse_text.proofs.lemmas.classes.ClassLemmas.{all_tokens-allowed}
-use Rattle.uriparse_text.proofs.lemmas.readings.CutLemmas.{before_after, before_of, after_of, lacks-append, lacks-behind}
+use Rattle.uriparse_text.proofs.lemmas.readings.CutLemmas.{before_after, before_of, after_of, lacks-append, lacks-following}
 
 -- ---- the parts of a text at a delimiter are in the class of the text
 
@@ -37,7 +37,7 @@ module _ (class : Class) (mark : ℕ) (digit : is_hex mark ≡ false) (sign : no
   pub in_parts : (t : List ℕ) → IsIn class t → IsIn class (before mark t) × IfSome (after mark t) (IsIn class)
   in_parts t h = by_after (after mark t) (before_after mark t)
     where
-      by_after : (o : Option (List ℕ)) → before mark t ++ behind mark o ≡ t → IsIn class (before mark t) × IfSome o (IsIn class)
+      by_after : (o : Option (List ℕ)) → before mark t ++ following mark o ≡ t → IsIn class (before mark t) × IfSome o (IsIn class)
       by_after None e = (subst (IsIn class) (sym (sym (append-nil (before mark t)) ∙ e)) h, tt)
       by_after (Some u) e = in_both (before mark t) u (subst (IsIn class) (sym e) h)
 
@@ -108,9 +108,9 @@ split_joined mark same s (r ∷ ss) h k =
     let both = and_parts _ _ k in
     split_front mark same s (join_with_byte mark (r ∷ ss)) h ∙ ap (λ l. s ∷ l) (split_joined mark same r ss both.0 both.1)
 
-pub joined_behind : (mark : ℕ) (s : List ℕ) (ss : List (List ℕ)) → join_with_byte mark (s ∷ ss) ≡ s ++ flat_map (λ r. mark ∷ r) ss
-joined_behind mark s [] = sym (append-nil s)
-joined_behind mark s (r ∷ ss) = ap (λ x. s ++ mark ∷ x) (joined_behind mark r ss)
+pub joined_following : (mark : ℕ) (s : List ℕ) (ss : List (List ℕ)) → join_with_byte mark (s ∷ ss) ≡ s ++ flat_map (λ r. mark ∷ r) ss
+joined_following mark s [] = sym (append-nil s)
+joined_following mark s (r ∷ ss) = ap (λ x. s ++ mark ∷ x) (joined_following mark r ss)
 
 -- ---- the bytes of a name or a value
 
@@ -195,8 +195,8 @@ value_lacks (Some t) = name_lacks ampersand refl refl refl t
 
 pub piece_lacks : (p : Pair) → lacks ampersand (piece_of (encoded_pair p)) ≡ true
 piece_lacks p =
-    lacks-append ampersand (encoded_in_pair p.0) (behind equals_sign (option_map encoded_in_pair p.1)) (name_lacks ampersand refl refl refl p.0)
-    (lacks-behind ampersand equals_sign (option_map encoded_in_pair p.1) refl (value_lacks p.1))
+    lacks-append ampersand (encoded_in_pair p.0) (following equals_sign (option_map encoded_in_pair p.1)) (name_lacks ampersand refl refl refl p.0)
+    (lacks-following ampersand equals_sign (option_map encoded_in_pair p.1) refl (value_lacks p.1))
 
 pieces_lack : (ps : List Pair) → list_all (lacks ampersand) (map piece_of (map encoded_pair ps)) ≡ true
 pieces_lack [] = refl
@@ -258,7 +258,7 @@ piece_query p = by_value p.1
     name : IsQuery (encoded_in_pair p.0)
     name = IsIn-encoded_without Query (codes "&=+") p.0
 
-    by_value : (o : Option (List ℕ)) → IsQuery (encoded_in_pair p.0 ++ behind equals_sign (option_map encoded_in_pair o))
+    by_value : (o : Option (List ℕ)) → IsQuery (encoded_in_pair p.0 ++ following equals_sign (option_map encoded_in_pair o))
     by_value None = subst IsQuery (sym (append-nil (encoded_in_pair p.0))) name
     by_value (Some t) =
         in_join (encoded_in_pair p.0) (encoded_in_pair t) equals_sign refl refl equals_sign_plain name (IsIn-encoded_without Query (codes "&=+") t)
@@ -275,15 +275,15 @@ abbrev pub Slices : Type 0
 Slices = Bor (List ℕ) × Option (Bor (List ℕ))
 
 -- what is written for the pairs after the first one
-abbrev pub written_behind : List Slices → List ℕ
-written_behind ps = flat_map (λ p. ampersand ∷ piece_of (encoded_pair (given p))) ps
+abbrev pub written_after : List Slices → List ℕ
+written_after ps = flat_map (λ p. ampersand ∷ piece_of (encoded_pair (given p))) ps
 
-written_behind_is : (ps : List Slices) → flat_map (λ r. ampersand ∷ r) (map piece_of (map encoded_pair (map given ps))) ≡ written_behind ps
-written_behind_is [] = refl
-written_behind_is (p ∷ ps) = ap (λ l. (ampersand ∷ piece_of (encoded_pair (given p))) ++ l) (written_behind_is ps)
+written_after_is : (ps : List Slices) → flat_map (λ r. ampersand ∷ r) (map piece_of (map encoded_pair (map given ps))) ≡ written_after ps
+written_after_is [] = refl
+written_after_is (p ∷ ps) = ap (λ l. (ampersand ∷ piece_of (encoded_pair (given p))) ++ l) (written_after_is ps)
 
 pub written_joined : (p : Slices) (ps : List Slices)
-    → joined_pairs (map encoded_pair (map given (p ∷ ps))) ≡ piece_of (encoded_pair (given p)) ++ written_behind ps
+    → joined_pairs (map encoded_pair (map given (p ∷ ps))) ≡ piece_of (encoded_pair (given p)) ++ written_after ps
 written_joined p ps =
-    joined_behind ampersand (piece_of (encoded_pair (given p))) (map piece_of (map encoded_pair (map given ps)))
-    ∙ ap (λ l. piece_of (encoded_pair (given p)) ++ l) (written_behind_is ps)
+    joined_following ampersand (piece_of (encoded_pair (given p))) (map piece_of (map encoded_pair (map given ps)))
+    ∙ ap (λ l. piece_of (encoded_pair (given p)) ++ l) (written_after_is ps)

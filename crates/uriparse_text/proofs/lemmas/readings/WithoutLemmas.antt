@@ -9,7 +9,7 @@ use Rattle.std.proofs.lemmas.List.Concat.{flat_map-append}
 use Rattle.std.proofs.lemmas.List.Folds.{list_all-append}
 use Rattle.std.proofs.lemmas.List.Elements.{filter_from_retain}
 use Rattle.uriparse_text.specs.Bytes.{ampersand}
-use Rattle.uriparse_text.specs.Cuts.{lacks, behind, before, after}
+use Rattle.uriparse_text.specs.Cuts.{lacks, following, before, after}
 use Rattle.uriparse_text.specs.Query.{IsQuery}
 use Rattle.uriparse_text.specs.Pairs.{Pair, is_ampersand, is_named, joined_pairs, pair_of, pairs, pairs_left, without_name, IsWithout}
 use Rattle.uriparse_text.specs.Written.{is_piece, AreWritten}
@@ -152,7 +152,7 @@ left_of (Some t) = 1 + length t
 pub left_of-after : (left : List ℕ) → left_of (after ampersand left) < left_of (Some left)
 left_of-after left = by_after (after ampersand left) (before_after ampersand left)
   where
-    by_after : (o : Option (List ℕ)) → before ampersand left ++ behind ampersand o ≡ left → left_of o < 1 + length left
+    by_after : (o : Option (List ℕ)) → before ampersand left ++ following ampersand o ≡ left → left_of o < 1 + length left
     by_after None e = omega arith
     by_after (Some t) e =
         let size = ap length (sym e) ∙ length-append (before ampersand left) (ampersand ∷ t) in

@@ -70,11 +70,11 @@ ones_none m = let below = mod-lt m (pow_pos 0) in let none : m % 2 ^ 0 ≡ 0 = o
 
 pub ones_next : (m j : ℕ) → count_ones (m % 2 ^ (j + 1)) ≡ count_ones (m % 2 ^ j) + bit_at m j
 ones_next m j =
-    let place : j + 1 ≡ 1 + j = omega arith in
+    let offset : j + 1 ≡ 1 + j = omega arith in
     let split : count_ones (m % 2 ^ (1 + j)) ≡ count_ones (bit_at m j * 2 ^ j + m % 2 ^ j) = ap count_ones (mod-pow-add m 1 j) in
     let cat = ones_cat j (bit_at m j) (m % 2 ^ j) (mod-lt m (pow_pos j)) in
     let bit = one_bit (bit_at m j) (bit_at-lt m j) in
-    ap (λ e. count_ones (m % 2 ^ e)) place ∙ split ∙ omega (arith, cat, bit)
+    ap (λ e. count_ones (m % 2 ^ e)) offset ∙ split ∙ omega (arith, cat, bit)
 
 pub ones_below : (m j : ℕ) → count_ones (m % 2 ^ j) ≤ count_ones m
 ones_below m j =
@@ -83,13 +83,13 @@ ones_below m j =
     omega (arith, split, cat)
 
 ones_up : (m n d : ℕ) → ((k : ℕ) → n ≤ k → bit_at m k ≡ 0) → count_ones (m % 2 ^ (n + d)) ≡ count_ones (m % 2 ^ n)
-ones_up m n zero none = let place : n + 0 ≡ n = omega arith in ap (λ e. count_ones (m % 2 ^ e)) place
+ones_up m n zero none = let offset : n + 0 ≡ n = omega arith in ap (λ e. count_ones (m % 2 ^ e)) offset
 ones_up m n (suc d) none =
-    let place : n + suc d ≡ n + d + 1 = omega arith in
+    let offset : n + suc d ≡ n + d + 1 = omega arith in
     let next = ones_next m (n + d) in
     let before = ones_up m n d none in
     let unset = none (n + d) (omega arith) in
-    ap (λ e. count_ones (m % 2 ^ e)) place ∙ omega (arith, next, before, unset)
+    ap (λ e. count_ones (m % 2 ^ e)) offset ∙ omega (arith, next, before, unset)
 
 below_own_power : (m : ℕ) → m < 2 ^ m
 below_own_power zero = omega arith

@@ -53,8 +53,8 @@ looked_up t g v js fits e small =
     let within : i < length v = omega (arith, fits.0) in
     let is : get_or js i 0 ≡ g (get_or v i 0) = ap (λ l. get_or l i 0) e ∙ get_or-map g v i 0 0 within in
     let below : get_or js i 0 < 16 = omega (arith, small (get_or v i 0) (lane_fits v i fits.1)) in
-    let place : 16 * ((0 + i) / 16) + get_or js i 0 ≡ g (get_or v i 0) = omega arith in
-    get_or-swz_l_below w8 16 t 0 js i (omega arith) below ∙ ap (λ k. get_or t k 0) place
+    let offset : 16 * ((0 + i) / 16) + get_or js i 0 ≡ g (get_or v i 0) = omega arith in
+    get_or-swz_l_below w8 16 t 0 js i (omega arith) below ∙ ap (λ k. get_or t k 0) offset
     ∙ sym (get_or-map (λ x. get_or t (g x) 0) v i 0 0 within))
 
 pub looked_up_low : (t v : List ℕ) → AreLanes v → swz_l w8 16 t 0 (zip2 bit_and v (replicate 16 15)) ≡ map (λ b. get_or t (bit_and b 15) 0) v

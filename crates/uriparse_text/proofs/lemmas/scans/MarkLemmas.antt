@@ -65,7 +65,7 @@ module _ (p : ℕ → Bool) where
               ∙ ap (λ b. cond (p b) 1 0)
               (get_or-append_right front back w (w + w + w - length text + (k - w)) 0 (length-chunk 0 w text (omega arith)) (omega arith)
               ∙ get_or-chunk (length text - w) w text (w + w + w - length text + (k - w) - w) 0 (omega arith)
-              ∙ (let place : length text - w + (w + w + w - length text + (k - w) - w) ≡ 0 + k = omega arith in ap (λ i. get_or text i 0) place))
+              ∙ (let offset : length text - w + (w + w + w - length text + (k - w) - w) ≡ 0 + k = omega arith in ap (λ i. get_or text i 0) offset))
         ]
 
         outside : (k : ℕ) → length text ≤ k → bit_at marks k ≡ 0
@@ -80,9 +80,9 @@ module _ (p : ℕ → Bool) where
 
         inside : (k : ℕ) → k < at + 16 - from → bit_at marks k ≡ cond (p (get_or text (from + k) 0)) 1 0
         inside k h =
-            let place : at + (from - at + k) ≡ from + k = omega arith in
+            let offset : at + (from - at + k) ≡ from + k = omega arith in
             bits k ∙ ap (λ n. bit_at n (from - at + k)) e ∙ lane_bit (chunk at 16 text) (from - at + k) (omega (arith, long))
-            ∙ ap (λ b. cond (p b) 1 0) (get_or-chunk at 16 text (from - at + k) 0 (omega arith) ∙ ap (λ i. get_or text i 0) place)
+            ∙ ap (λ b. cond (p b) 1 0) (get_or-chunk at 16 text (from - at + k) 0 (omega arith) ∙ ap (λ i. get_or text i 0) offset)
 
         outside : (k : ℕ) → at + 16 - from ≤ k → bit_at marks k ≡ 0
         outside k h =
@@ -136,8 +136,8 @@ module _ (p : ℕ → Bool) where
 
   unmarked_front : (text : List ℕ) (m : ℕ) → AreMarks p text 0 (length text) m → (k : ℕ) → k < length text → bit_at m k ≡ 0 → p (get_or text k 0) ≡ false
   unmarked_front text m are k h unset =
-      let place : k ≡ 0 + k = omega arith in
-      ap (λ i. p (get_or text i 0)) place ∙ unmarked text 0 (length text) m are k h unset
+      let offset : k ≡ 0 + k = omega arith in
+      ap (λ i. p (get_or text i 0)) offset ∙ unmarked text 0 (length text) m are k h unset
 
   -- the lowest mark of a text's bytes is that of the first that passes
   pub first_marked : (text : List ℕ) (m : ℕ) → AreMarks p text 0 (length text) m → (k : ℕ) → bit_at m k ≡ 1 → ((j : ℕ) → j < k → bit_at m j ≡ 0)
@@ -145,9 +145,9 @@ module _ (p : ℕ → Bool) where
   first_marked text m are k set below =
       let w = marked text 0 (length text) m are k set in
       let within = w.0 in
-      let place : k ≡ 0 + k = omega arith in
+      let offset : k ≡ 0 + k = omega arith in
       sym (position_or_len_is p text k 0 (omega arith) (λ j h. unmarked_front text m are j (omega arith) (below j h))
-      (λ _. ap (λ i. p (get_or text i 0)) place ∙ w.1))
+      (λ _. ap (λ i. p (get_or text i 0)) offset ∙ w.1))
 
   -- and if there is none, no byte passes
   pub none_marked : (text : List ℕ) (m : ℕ) → AreMarks p text 0 (length text) m → m ≡ 0 → length text ≡ position_or_len p text

@@ -63,5 +63,5 @@ run_empty p text at n is room counted none =
     let full : n ≡ 16 = omega arith in
     subst (λ m. NoneBefore p text (at + m)) full (run_passed p text at at n is (omega arith) room counted)
 
-pub place_within : (p : ℕ → Bool) (text : List ℕ) (n : ℕ) → n ≡ position_or_len p text → n ≤ length text
-place_within p text n is = omega (arith, is, prefix_len-le-length (λ b. not (p b)) text)
+pub offset_within : (p : ℕ → Bool) (text : List ℕ) (n : ℕ) → n ≡ position_or_len p text → n ≤ length text
+offset_within p text n is = omega (arith, is, prefix_len-le-length (λ b. not (p b)) text)

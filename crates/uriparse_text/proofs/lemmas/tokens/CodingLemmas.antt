@@ -301,24 +301,24 @@ compared_other Equal whole rest other h = absurd (other refl)
 same_order : (x y : ℕ) → x ≡ y → nat_cmp x y ≡ Equal
 same_order x y e = sym (nat_cmp_is x y Equal e)
 
-pub behind_represented : (n : ℕ) (left right : List ℕ) → AreCommon left right n → n ≤ length left → n ≤ length right
+pub after_represented : (n : ℕ) (left right : List ℕ) → AreCommon left right n → n ≤ length left → n ≤ length right
     → bytes_eq (decoded (drop n left)) (drop n right) ≡ bytes_eq (decoded left) right
-behind_represented zero left right are h k = refl
-behind_represented (suc n) [] right are h k = absurd (omega arith)
-behind_represented (suc n) (x ∷ left) [] are h k = absurd (omega arith)
-behind_represented (suc n) (x ∷ left) (y ∷ right) are h k =
+after_represented zero left right are h k = refl
+after_represented (suc n) [] right are h k = absurd (omega arith)
+after_represented (suc n) (x ∷ left) [] are h k = absurd (omega arith)
+after_represented (suc n) (x ∷ left) (y ∷ right) are h k =
     let first = are 0 (omega arith) in
-    behind_represented n left right (λ i l. are (suc i) (omega arith)) (omega arith) (omega arith)
+    after_represented n left right (λ i l. are (suc i) (omega arith)) (omega arith) (omega arith)
     ∙ sym (ap (λ u. bytes_eq u (y ∷ right)) (decoded-byte x left first.1) ∙ ap (λ v. v && bytes_eq (decoded left) right) (eq-eqb x y first.0))
 
-pub behind_compared : (n : ℕ) (left right : List ℕ) → AreCommon left right n → n ≤ length left → n ≤ length right
+pub after_compared : (n : ℕ) (left right : List ℕ) → AreCommon left right n → n ≤ length left → n ≤ length right
     → slice_cmp nat_cmp (decoded (drop n left)) (decoded (drop n right)) ≡ slice_cmp nat_cmp (decoded left) (decoded right)
-behind_compared zero left right are h k = refl
-behind_compared (suc n) [] right are h k = absurd (omega arith)
-behind_compared (suc n) (x ∷ left) [] are h k = absurd (omega arith)
-behind_compared (suc n) (x ∷ left) (y ∷ right) are h k =
+after_compared zero left right are h k = refl
+after_compared (suc n) [] right are h k = absurd (omega arith)
+after_compared (suc n) (x ∷ left) [] are h k = absurd (omega arith)
+after_compared (suc n) (x ∷ left) (y ∷ right) are h k =
     let first = are 0 (omega arith) in
-    behind_compared n left right (λ i l. are (suc i) (omega arith)) (omega arith) (omega arith)
+    after_compared n left right (λ i l. are (suc i) (omega arith)) (omega arith) (omega arith)
     ∙ sym (ap (λ u. slice_cmp nat_cmp u (decoded (y ∷ right))) (decoded-byte x left first.1)
     ∙ ap (slice_cmp nat_cmp (x ∷ decoded left)) (decoded-byte y right (ap (λ b. b == percent) (sym first.0) ∙ first.1))
     ∙ ap (λ o. ordering_then o (slice_cmp nat_cmp (decoded left) (decoded right))) (same_order x y first.0))

@@ -20,7 +20,7 @@ use Rattle.uriparse_text.specs.Cuts.{up_to, from_first}
 use Rattle.uriparse_text.specs.Pieces.{Keeps}
 use Rattle.uriparse_text.proofs.lemmas.canonical.RunLemmas.{no_escape}
 use Rattle.uriparse_text.proofs.lemmas.tokens.CodingLemmas.{decoded-nil, decoded-byte, encoded-nil, form_decoded-nil, range_byte}
-use Rattle.uriparse_text.proofs.lemmas.canonical.SettledLemmas.{masks_of_either}
+use Rattle.uriparse_text.proofs.lemmas.canonical.CanonicalPrefixLemmas.{masks_of_either}
 use Rattle.uriparse_text.proofs.lemmas.tokens.EscapingLemmas.{becomes, escape_digits, or_true, stay_digits, stays, stays_allowed, stays_escape, stays_plain}
 use Rattle.uriparse_text.proofs.lemmas.tokens.TokenLemmas.{escape_at, spell-tokens, tokens-byte}
 

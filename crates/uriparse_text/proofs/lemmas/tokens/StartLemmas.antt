@@ -2,7 +2,7 @@
 use Rattle.std.proofs.Common.{◌≡◌, ℕ, ◌+◌, ◌-◌, ◌^◌, ◌<◌, ◌≤◌, List, [], ◌∷◌, ◌++◌, length, take, drop, get_or, Result, Ok, Err, refl, sym, ap, subst, ◌∙◌, append-nil, append_assoc, arith, suc}
 use Rattle.std.proofs.Math.Seq.{take-suc}
 use Rattle.std.proofs.lemmas.List.{drop-drop, length-append, take-append-drop}
-use Rattle.uriparse_text.specs.declared.internal.starts.TooSmall.{TooSmall}
+use Rattle.uriparse_text.specs.declared.internal.forward_buffer.TooSmall.{TooSmall}
 use Rattle.uriparse_text.specs.declared.internal.class.Class.{Class}
 use Rattle.uriparse_text.specs.Coding.{encoded, token_for}
 use Rattle.uriparse_text.specs.Starts.{Appends, LeavesRest, StartsWith, Writes}

@@ -3,7 +3,7 @@ use Rattle.uriparse.specs.Escaped.{escaped}
 use Rattle.uriparse.specs.Link.{link}
 use Rattle.uriparse.specs.Reference.{Spells}
 use Rattle.uriparse.specs.Target.{target}
-use Rattle.uriparse.specs.Uri.{told}
+use Rattle.uriparse.specs.Uri.{map_error}
 use Rattle.uses.proofs.LinkLemmas.{one_target, rejected, rejected_target, rejected_text, unread_link, untargeted_link}
 use Rattle.uses.proofs.RedirectLemmas.{resolved}
 use Rattle.uses.proofs.links.read_link.Goals as goal
@@ -32,7 +32,7 @@ returns-in_err-reference-clause-only c u g =
     let reads : c.as_str.result.now ≡ escaped (link c.args.link.now) =
     c.as_str.ensures.value ∙ c.in_ok-text.ensures.text ∙ ap escaped c.trim_link.ensures.link in
     let e = c.in_err-reference.field-0.0 in
-    let is : c.from_residual-in_err-reference.result ≡ Err (told e) = search rules in
+    let is : c.from_residual-in_err-reference.result ≡ Err (map_error e) = search rules in
     inr (is ∙ unread_link e g.0 (c.in_err-reference.ensures.only g.0 (subst (λ t. Spells t g.0) (sym reads) g.1)))
 
 pub returns-in_err-resolve-clause-only : goal.returns-in_err-resolve-clause-only
@@ -49,8 +49,8 @@ returns-in_err-reference-clause-refused c =
     let reads : c.as_str.result.now ≡ escaped (link c.args.link.now) =
     c.as_str.ensures.value ∙ c.in_ok-text.ensures.text ∙ ap escaped c.trim_link.ensures.link in
     let e = c.in_err-reference.field-0.0 in
-    let is : c.from_residual-in_err-reference.result ≡ Err (told e) = search rules in
-    rejected c.args.base.now c.args.link.now (told e) c.from_residual-in_err-reference.result is
+    let is : c.from_residual-in_err-reference.result ≡ Err (map_error e) = search rules in
+    rejected c.args.base.now c.args.link.now (map_error e) c.from_residual-in_err-reference.result is
     (rejected_text c.args.base.now c.args.link.now c.as_str.result.now e reads c.in_err-reference.ensures.fault)
 
 pub returns-in_err-resolve-clause-refused : goal.returns-in_err-resolve-clause-refused

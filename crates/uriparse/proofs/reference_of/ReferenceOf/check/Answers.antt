@@ -9,9 +9,9 @@ pub returns-in-Ok : goal.returns-in-Ok
 returns-in-Ok g c =
     let found = c.in-Ok.ensures in
     c.check_kind.ensures
-    ∙ checked g.K.ReferenceKind.has_scheme g.K.ReferenceKind.told g.K.ReferenceKind.other c.args.bytes.now _ c.has_scheme.result
+    ∙ checked g.K.ReferenceKind.has_scheme g.K.ReferenceKind.map_error g.K.ReferenceKind.other c.args.bytes.now _ c.has_scheme.result
     (c.has_scheme.ensures ∙ ap is_some found.0 ∙ sym (map_some named (scheme_text c.args.bytes.now))) found.4
 
 pub returns-in-Err : goal.returns-in-Err
 returns-in-Err g c =
-    ap Err c.told.ensures ∙ unchecked g.K.ReferenceKind.has_scheme g.K.ReferenceKind.told g.K.ReferenceKind.other c.args.bytes.now c.in-Err.error c.in-Err.ensures
+    ap Err c.map_error.ensures ∙ unchecked g.K.ReferenceKind.has_scheme g.K.ReferenceKind.map_error g.K.ReferenceKind.other c.args.bytes.now c.in-Err.error c.in-Err.ensures

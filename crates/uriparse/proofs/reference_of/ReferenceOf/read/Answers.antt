@@ -10,8 +10,8 @@ use Rattle.uriparse.proofs.reference_of.ReferenceOf.read.Goals as goal
 
 pub returns-in-Ok-clause-answer : goal.returns-in-Ok-clause-answer
 returns-in-Ok-clause-answer g c =
-    subst (λ r. IsUnless (g.K.ReferenceKind.told (errors.Path OutOfMemory)) c.of_view.result r)
-    (sym (read_of g.K.ReferenceKind.has_scheme g.K.ReferenceKind.told g.K.ReferenceKind.other c.args.bytes.now c.in-Ok.view.parts c.in-Ok.ensures.found))
+    subst (λ r. IsUnless (g.K.ReferenceKind.map_error (errors.Path OutOfMemory)) c.of_view.result r)
+    (sym (read_of g.K.ReferenceKind.has_scheme g.K.ReferenceKind.map_error g.K.ReferenceKind.other c.args.bytes.now c.in-Ok.view.parts c.in-Ok.ensures.found))
     c.of_view.ensures.answer
 
 pub returns-in-Ok-clause-takes_no_memory : goal.returns-in-Ok-clause-takes_no_memory

@@ -1,7 +1,7 @@
 use Rattle.std.proofs.Common.{Ok, Err, refl, ap, ◌∙◌}
 use Rattle.uriparse_reference.specs.Builder.{Held}
-use Rattle.uriparse.specs.Kinds.{told_of}
-use Rattle.uriparse.specs.RelativeReference.{told, relative_built}
+use Rattle.uriparse.specs.Kinds.{with_mapped_error}
+use Rattle.uriparse.specs.RelativeReference.{map_error, relative_built}
 use Rattle.uriparse.proofs.lemmas.BuilderLemmas.{built_scheme}
 use Rattle.uriparse.proofs.relative_reference.RelativeReferenceBuilder.build.Goals as goal
 
@@ -11,7 +11,7 @@ of_checked-requires c =
     built_scheme given given.path c.in-Ok.reference c.in-Ok.ensures ∙ c.self.invariant refl
 
 pub returns-in-Ok : goal.returns-in-Ok
-returns-in-Ok c = ap Ok c.of_checked.ensures ∙ ap (told_of told) c.in-Ok.ensures ∙ ap relative_built c.self.view_is
+returns-in-Ok c = ap Ok c.of_checked.ensures ∙ ap (with_mapped_error map_error) c.in-Ok.ensures ∙ ap relative_built c.self.view_is
 
 pub returns-in-Err : goal.returns-in-Err
-returns-in-Err c = ap Err c.told.ensures ∙ ap (told_of told) c.in-Err.ensures ∙ ap relative_built c.self.view_is
+returns-in-Err c = ap Err c.map_error.ensures ∙ ap (with_mapped_error map_error) c.in-Err.ensures ∙ ap relative_built c.self.view_is

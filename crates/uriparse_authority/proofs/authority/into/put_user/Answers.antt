@@ -10,4 +10,4 @@ returns-in-Some-clause-puts c = λ t h.
     subst (EndsWith c.put_formed.new.out c.put_formed.result)
     (user_text c.args.form c.args.username.now (option_map (formed c.args.form Kept) c.args.password.now) _ c.as_bytes.result.now t c.in-Some.is
     c.as_bytes.ensures.value)
-    (c.put_formed.ensures.puts _ (c.put_behind-len.ensures.puts _ (c.put-len.ensures.puts t h)))
+    (c.put_formed.ensures.puts _ (c.put_after-len.ensures.puts _ (c.put-len.ensures.puts t h)))

@@ -1,12 +1,12 @@
 use Rattle.std.proofs.Common.{◌∷◌, refl, sym, ap, ◌∙◌}
 use Rattle.std.proofs.Output.{has_written_styled_append, has_written_styled_of_eq}
 use Rattle.uriparse_text.specs.Bytes.{colon}
-use Rattle.uriparse_text.specs.Cuts.{behind}
+use Rattle.uriparse_text.specs.Cuts.{following}
 use Rattle.uriparse_authority.proofs.authority.print.write_password.Goals as goal
 
 pub returns-in_ok-write_str-2-clause-styled : goal.returns-in_ok-write_str-2-clause-styled
 returns-in_ok-write_str-2-clause-styled g c flush ok =
     let first = c.in_ok-write_str.ensures.styled flush refl in
     let second = c.in_ok-write_str-2.ensures.styled first.flush refl in
-    has_written_styled_of_eq _ _ _ _ _ (ap (λ t. colon ∷ t) c.as_str.ensures.value ∙ sym (ap (behind colon) c.in-Some.is))
+    has_written_styled_of_eq _ _ _ _ _ (ap (λ t. colon ∷ t) c.as_str.ensures.value ∙ sym (ap (following colon) c.in-Some.is))
     (has_written_styled_append _ _ _ _ _ _ first second)

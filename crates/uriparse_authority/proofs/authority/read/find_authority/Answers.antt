@@ -6,9 +6,9 @@ use Rattle.uriparse_authority.proofs.authority.read.find_authority.Goals as goal
 
 pub returns-then-ends_before : goal.returns-then-ends_before
 returns-then-ends_before c =
-    let name = c.split_settled.result.0.now in
-    let rest = c.split_settled.result.1.now in
-    let whole = c.split_settled.ensures.whole in
+    let name = c.split_canonical_prefix.result.0.now in
+    let rest = c.split_canonical_prefix.result.1.now in
+    let whole = c.split_canonical_prefix.ensures.whole in
     let alone = c.find_host_alone.ensures in
     let ends = c.ends_before.ensures c.if-ends_before.true in
     let cut = cut_there name rest c.find_host_alone.result (found name c.find_host_alone.result alone) ends.0 ends.1 in

@@ -9,7 +9,7 @@ returns-in-Some c =
     let split = c.split_front.ensures in
     let cut = alike_front c.args.bytes.now (text c.args.self.now) c.split_front.result.0.now c.split_front.result.1.now split.text split.front in
     let piece = rw c.as_bytes.ensures.value at c.in-Some.ensures.alike in
-    let rest = rw c.in-Some.ensures.rest at c.spells_behind_slashes.ensures in
+    let rest = rw c.in-Some.ensures.rest at c.spells_after_slashes.ensures in
     (λ h. cut.0 (piece.0 refl, rest.0 h), λ s. rest.1 (cut.1 s).1)
 
 pub returns-in-None : goal.returns-in-None

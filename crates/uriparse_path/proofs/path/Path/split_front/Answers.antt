@@ -14,7 +14,7 @@ returns-then-is_absolute c =
     rw c.segments-segments.ensures.value (record {
       text = ap (λ a. text (record { absolute = a; segments = c.args.self.now.segments })) flag ∙ text-absolute c.args.self.now.segments listed.some;
       front = empty_segment;
-      behind = listed.each;
+      following = listed.each;
     })
 
 pub returns-in-Some : goal.returns-in-Some
@@ -27,7 +27,7 @@ returns-in-Some c =
       text = text-cons c.args.self.now.absolute c.args.self.now.segments first later cut
           ∙ rw (sym c.is_absolute.ensures, c.if-is_absolute.false) refl;
       front = each.0;
-      behind = each.1;
+      following = each.1;
     })
 
 pub returns-in-None : goal.returns-in-None

@@ -15,7 +15,7 @@ returns-then-same_spelling c =
     let right = c.split_front-2 in
     let fronts = rw (c.as_bytes.ensures.value, c.as_bytes-2.ensures.value) at c.same_spelling.ensures in
     same_paths (text c.args.self.now) (text c.args.other.now) left.result.0.now right.result.0.now left.result.1.now right.result.1.now c.eq.result
-    left.ensures.text right.ensures.text left.ensures.front right.ensures.front left.ensures.behind right.ensures.behind
+    left.ensures.text right.ensures.text left.ensures.front right.ensures.front left.ensures.following right.ensures.following
     (fronts.0 c.if-same_spelling.true) c.eq.ensures
 
 pub returns-else-same_spelling : goal.returns-else-same_spelling
@@ -24,5 +24,5 @@ returns-else-same_spelling c =
     let right = c.split_front-2 in
     let fronts = rw (c.as_bytes.ensures.value, c.as_bytes-2.ensures.value) at c.same_spelling.ensures in
     other_fronts (text c.args.self.now) (text c.args.other.now) left.result.0.now right.result.0.now left.result.1.now right.result.1.now c.same_spelling.result
-    left.ensures.text right.ensures.text left.ensures.front right.ensures.front left.ensures.behind right.ensures.behind
+    left.ensures.text right.ensures.text left.ensures.front right.ensures.front left.ensures.following right.ensures.following
     (λ s. false≢true (sym c.if-same_spelling.false ∙ fronts.1 s)) c.if-same_spelling.false

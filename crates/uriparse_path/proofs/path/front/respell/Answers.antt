@@ -1,12 +1,12 @@
 use Rattle.std.proofs.Common.{◌≡◌, true, false, drop, sym, ap, ◌∙◌}
-use Rattle.uriparse_path.specs.Path.{hides_root}
+use Rattle.uriparse_path.specs.Path.{starts_with_empty_segment}
 use Rattle.uriparse_path.proofs.lemmas.text.PathTextLemmas.{spelled-text, respelled_shown, respelled_absolute, respelled_hidden}
 use Rattle.uriparse_path.proofs.path.front.respell.Goals as goal
 
-pub returns-then-not-hides_root : goal.returns-then-not-hides_root
-returns-then-not-hides_root c =
-    let shown : hides_root c.args.path.now.segments ≡ false = ap hides_root (sym c.segments.ensures.value) ∙ sym c.hides_root.ensures
-    ∙ c.if-not-hides_root.true in
+pub returns-then-not-starts_with_empty_segment : goal.returns-then-not-starts_with_empty_segment
+returns-then-not-starts_with_empty_segment c =
+    let shown : starts_with_empty_segment c.args.path.now.segments ≡ false = ap starts_with_empty_segment (sym c.segments.ensures.value) ∙ sym c.starts_with_empty_segment.ensures
+    ∙ c.if-not-starts_with_empty_segment.true in
     sym (spelled-text c.args.path.now c.segments.ensures.listed ∙ respelled_shown c.args.path.now shown)
 
 pub returns-then-is_absolute : goal.returns-then-is_absolute
@@ -15,8 +15,8 @@ returns-then-is_absolute c =
 
 pub returns : goal.returns
 returns c =
-    let hidden : hides_root c.args.path.now.segments ≡ true = ap hides_root (sym c.segments.ensures.value) ∙ sym c.hides_root.ensures
-    ∙ c.if-not-hides_root.false in
+    let hidden : starts_with_empty_segment c.args.path.now.segments ≡ true = ap starts_with_empty_segment (sym c.segments.ensures.value) ∙ sym c.starts_with_empty_segment.ensures
+    ∙ c.if-not-starts_with_empty_segment.false in
     ap (λ l. record { absolute = true; segments = l }) (c.remove_first.ensures ∙ ap (λ q. drop 1 q.segments) c.path.view_is)
     ∙ sym (spelled-text c.args.path.now c.segments.ensures.listed
     ∙ respelled_hidden c.args.path.now hidden (sym c.is_absolute.ensures ∙ c.if-is_absolute.false))

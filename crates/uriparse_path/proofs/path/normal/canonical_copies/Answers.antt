@@ -2,7 +2,7 @@ use Rattle.std.proofs.Common.{◌+◌, ◌++◌, ◌∷◌, [], sym, ap, ◌∙�
 use Rattle.std.proofs.Common.{arith}
 use Rattle.std.proofs.lemmas.Bool.{false≢true}
 use Rattle.uriparse_path.specs.Copies.{placed}
-use Rattle.uriparse_path.proofs.lemmas.normal.CanonicalCopyLemmas.{copied_kept, copied_more, no_strays, none_left}
+use Rattle.uriparse_path.proofs.lemmas.normal.CanonicalCopyLemmas.{copied_kept, copied_more, no_non_canonical, none_left}
 use Rattle.uriparse_path.proofs.path.normal.canonical_copies.Goals.{then-not-is_normalized+in_ok-normalized_text+in_ok-push, else-not-is_normalized}
 use Rattle.uriparse_path.proofs.path.normal.canonical_copies.Goals as goal
 
@@ -23,12 +23,12 @@ loop-at-preserved c =
 
 pub returns-in_err-normalized_text-clause-takes_no_memory : goal.returns-in_err-normalized_text-clause-takes_no_memory
 returns-in_err-normalized_text-clause-takes_no_memory c h =
-    absurd (no_strays c.args.segments.now c.loop-at.at c.index-segments-at.result c.loop-at-test.true c.index-segments-at.is
+    absurd (no_non_canonical c.args.segments.now c.loop-at.at c.index-segments-at.result c.loop-at-test.true c.index-segments-at.is
     (λ e. false≢true (sym c.if-not-is_normalized.true ∙ c.is_normalized.ensures.1 e)) h)
 
 pub returns-in_err-push-clause-takes_no_memory : goal.returns-in_err-push-clause-takes_no_memory
 returns-in_err-push-clause-takes_no_memory c h =
-    absurd (no_strays c.args.segments.now c.loop-at.at c.index-segments-at.result c.loop-at-test.true c.index-segments-at.is
+    absurd (no_non_canonical c.args.segments.now c.loop-at.at c.index-segments-at.result c.loop-at-test.true c.index-segments-at.is
     (λ e. false≢true (sym c.if-not-is_normalized.true ∙ c.is_normalized.ensures.1 e)) h)
 
 pub returns-clause-copies : goal.returns-clause-copies

@@ -76,7 +76,7 @@ marks-preserved c =
     let next = c.without_lowest-left.ensures in
     let within = run_within limit ends text c.runs.at n c.marks.count c.marks.left k c.marks.invariant low.set in
     let reached = run_to limit ends text c.runs.at n c.marks.count c.marks.left k c.marks.invariant low.set low.below in
-    let behind = path_front ends (drop (i + 1) text) in
+    let following = path_front ends (drop (i + 1) text) in
     let on = λ (more : ℕ).
     run_on limit ends text c.runs.at n c.marks.count more c.marks.left k c.without_lowest-left.result c.marks.invariant low.set low.below
     (λ j. next.kept k j (low.set, low.below)) next.no_more (next.cleared k (low.set, low.below)) in
@@ -87,14 +87,14 @@ marks-preserved c =
           let here = reached_here limit ends text c.marks.count i reached within goes in
           rw w.count-is
           (on _ (reached_on limit ends text c.marks.count (c.marks.count + 1) i reached within goes
-          (counted_slash limit (path_front ends text) c.marks.count (get_or text i 0) behind here slash w.if-count-limit.false)))
+          (counted_slash limit (path_front ends text) c.marks.count (get_or text i 0) following here slash w.if-count-limit.false)))
       | else-b-eq47+else-is_end+else-not-is_escape w ↦
           let escape : is_escape (get_or text i 0) (drop (i + 1) text) ≡ true = ap (is_escape (get_or text i 0)) (sym (take_rest text (i + 1))) ∙ (cc) in
           let goes = sign_goes_on ends (get_or text i 0) (drop (i + 1) text) escape in
           let here = reached_here limit ends text c.marks.count i reached within goes in
           rw w.count-is
           (on _ (reached_on limit ends text c.marks.count c.marks.count i reached within goes
-          (counted_sign limit (path_front ends text) c.marks.count (get_or text i 0) behind here
+          (counted_sign limit (path_front ends text) c.marks.count (get_or text i 0) following here
           (front_escape ends (get_or text i 0) (drop (i + 1) text) ∙ escape))))
     ]
 

@@ -8,7 +8,7 @@ use Rattle.uriparse_path.specs.declared.path.TheConstants.{MAX_SEGMENTS}
 use Rattle.uriparse_path.specs.Path.{unrooted}
 use Rattle.uriparse_path.specs.Faults.{ends_path, measured}
 use Rattle.uriparse_path.proofs.lemmas.reading.CountingWalkLemmas.{answer}
-use Rattle.uriparse_path.proofs.lemmas.reading.ReadingLemmas.{counted_front, refused_front, front_counts, behind_front, front_before}
+use Rattle.uriparse_path.proofs.lemmas.reading.ReadingLemmas.{counted_front, refused_front, front_counts, following_front, front_before}
 use Rattle.uriparse_path.proofs.lemmas.reading.FaultLemmas.{within_none}
 use Rattle.uriparse_path.proofs.lemmas.reading.NoEscapeLemmas.{front_lacks}
 use Rattle.uriparse_text.proofs.lemmas.canonical.DotLemmas.{empty_segment}
@@ -33,11 +33,11 @@ returns c =
     let was : measured c.count_segments.result ≡ Ok m = ap measured c.in_ok-count.was in
     let counted : answer MAX_SEGMENTS (up_to ends_path (unrooted text)) ≡ Ok m =
     ap (λ t. answer MAX_SEGMENTS (up_to ends_path t)) (sym c.split_root.ensures.rest) ∙ sym told ∙ was in
-    let behind = c.split_at-2.ensures.back ∙ behind_front text c.split_root.result.1.now c.in_ok-count.len c.split_root.ensures.rest (front_counts text m counted).1 in
-    let front = c.split_at-3.ensures.front ∙ front_before text c.split_at-2.result.1.now behind in (
+    let following = c.split_at-2.ensures.back ∙ following_front text c.split_root.result.1.now c.in_ok-count.len c.split_root.ensures.rest (front_counts text m counted).1 in
+    let front = c.split_at-3.ensures.front ∙ front_before text c.split_at-2.result.1.now following in (
       counted_front text m counted,
       front,
-      behind,
+      following,
       (front_counts text m counted).0,
       λ h. ap (lacks percent) front
           ∙ front_lacks text c.in_ok-count.len (front_counts text m counted).1
@@ -57,11 +57,11 @@ returns-then-ends_at_once c =
     let rest = c.split_root.result.1.now in
     let counted = no_front text (ap (up_to ends_path) (sym c.split_root.ensures.rest) ∙ c.ends_at_once.ensures c.if-ends_at_once.true) in
     let counts = front_counts text (1, 0) counted in
-    let behind = behind_front text rest 0 c.split_root.ensures.rest counts.1 in
-    let front = c.split_at.ensures.front ∙ front_before text rest behind in (
+    let following = following_front text rest 0 c.split_root.ensures.rest counts.1 in
+    let front = c.split_at.ensures.front ∙ front_before text rest following in (
       counted_front text (1, 0) counted,
       front,
-      behind,
+      following,
       counts.0,
       λ h. ap (lacks percent) front ∙ front_lacks text 0 counts.1 refl,
     )

@@ -9,8 +9,8 @@ use Rattle.uriparse_path.proofs.lemmas.reading.NoEscapeLemmas.{any_push}
 use Rattle.uriparse_path.proofs.lemmas.list.SegmentCountLemmas.{unescaped_stays}
 use Rattle.uriparse_path.proofs.path.read.split_segments.Goals as goal
 
-pub kept_text-requires : goal.kept_text-requires
-kept_text-requires c = record {
+pub text_from_checked-requires : goal.text_from_checked-requires
+text_from_checked-requires c = record {
   inside =
       piece_is_segment c.args.text.now c.marks.segments.items c.marks.start c.runs.at c.next_marks-marks.result.1 c.marks.left c.marks.invariant.0
       c.lowest.result c.lowest.ensures.set c.lowest.ensures.below c.requires.segments;
@@ -42,15 +42,15 @@ marks-preserved c =
     let low = c.lowest.ensures in
     let next = c.without_lowest-left.ensures in
     let k = c.lowest.result in (
-      rw (c.push_reserved.ensures.items, c.kept_text.ensures)
+      rw (c.push_reserved.ensures.items, c.text_from_checked.ensures)
           (run_on c.args.text.now c.marks.segments.items c.marks.start c.runs.at c.next_marks-marks.result.1 c.marks.left c.marks.invariant.0
           k low.set low.below c.without_lowest-left.result (λ j. next.kept k j (low.set, low.below)) next.no_more (next.cleared k (low.set, low.below))),
       c.is_dotted-dotted.ensures
           ∙ any_push begins_with_dot c.marks.segments.items _ c.marks.dotted c.marks.invariant.1
-          ∙ ap (λ s. list_any begins_with_dot (c.marks.segments.items ++ s ∷ [])) (sym c.kept_text.ensures)
+          ∙ ap (λ s. list_any begins_with_dot (c.marks.segments.items ++ s ∷ [])) (sym c.text_from_checked.ensures)
           ∙ ap (list_any begins_with_dot) (sym c.push_reserved.ensures.items),
       (let items = ap length c.push_reserved.ensures.items in let len = c.push_reserved.ensures.len in let was = c.marks.invariant.2 in
-          let more = length-append c.marks.segments.items (c.kept_text.result ∷ []) in omega (arith, items, len, was, more)),
+          let more = length-append c.marks.segments.items (c.text_from_checked.result ∷ []) in omega (arith, items, len, was, more)),
       c.push_reserved.ensures.capacity ∙ c.marks.invariant.3,
     )
 
@@ -62,8 +62,8 @@ runs-preserved c = (
   c.marks.invariant.3,
 )
 
-pub kept_text-requires-2 : goal.kept_text-requires-2
-kept_text-requires-2 c = record {
+pub text_from_checked-requires-2 : goal.text_from_checked-requires-2
+text_from_checked-requires-2 c = record {
   inside =
       ap is_segment (take_rest c.args.text.now c.runs.start)
       ∙ last_is_segment c.args.text.now c.runs.segments.items c.runs.start c.runs.at c.runs.invariant.0 c.runs-test.false c.requires.segments;
@@ -74,7 +74,7 @@ pub returns : goal.returns
 returns c =
     let whole = last_whole c.args.text.now c.runs.segments.items c.runs.start c.runs.at c.runs.invariant.0 c.runs-test.false in
     let rest = take_rest c.args.text.now c.runs.start in (
-      rw (c.push_reserved-2.ensures.items, c.kept_text-2.ensures, rest) whole,
+      rw (c.push_reserved-2.ensures.items, c.text_from_checked-2.ensures, rest) whole,
       c.is_dotted-dotted-2.ensures
           ∙ any_push begins_with_dot c.runs.segments.items _ c.runs.dotted c.runs.invariant.1
           ∙ ap (λ s. list_any begins_with_dot (c.runs.segments.items ++ s ∷ [])) rest

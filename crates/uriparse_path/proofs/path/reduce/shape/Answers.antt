@@ -1,8 +1,8 @@
 use Rattle.std.proofs.Common.{◌≡◌, ◌∷◌, [], ℕ, List, arith, ap, ◌∙◌, ◌&&◌, ◌||◌, cond, not, length, take}
 use Rattle.uriparse_text.specs.Bytes.{dot}
-use Rattle.uriparse_path.specs.Path.{hides_root}
+use Rattle.uriparse_path.specs.Path.{starts_with_empty_segment}
 use Rattle.uriparse_path.specs.Dots.{is_dot_segment}
-use Rattle.uriparse_path.specs.Relative.{is_last, is_first, has_colon, closed, needs_guard, filled, reduced}
+use Rattle.uriparse_path.specs.Relative.{is_last, is_first, has_colon, closed, needs_leading_dot, filled, reduced}
 use Rattle.uriparse_path.proofs.lemmas.normal.RelativeLengthLemmas.{length_closed_end, length_shaped}
 use Rattle.uriparse_path.proofs.path.reduce.shape.Goals.{After-reduce-left}
 use Rattle.uriparse_path.proofs.path.reduce.shape.Goals as goal
@@ -26,14 +26,14 @@ pub returns-clause-shaped : goal.returns-clause-shaped
 returns-clause-shaped c =
     let at = (goal.at.returns-clause-shaped c).After-reduce-left in
     let kept : take c.close-kept.result c.close-kept.new.segments ≡ end c.args.segments.now = c.close-kept.ensures.closed ∙ left_end at in
-    let guards : c.needs_guard-guarded.result ≡ needs_guard c.args.segments.now (end c.args.segments.now) =
-    c.needs_guard-guarded.ensures
-    ∙ ap (λ u. hides_root u || (is_first has_colon u && not c.has_first_colon-had_colon.result)) kept
-    ∙ ap (λ v. hides_root (end c.args.segments.now) || (is_first has_colon (end c.args.segments.now) && not v))
+    let guards : c.needs_leading_dot-with_leading_dot.result ≡ needs_leading_dot c.args.segments.now (end c.args.segments.now) =
+    c.needs_leading_dot-with_leading_dot.ensures
+    ∙ ap (λ u. starts_with_empty_segment u || (is_first has_colon u && not c.has_first_colon-had_colon.result)) kept
+    ∙ ap (λ v. starts_with_empty_segment (end c.args.segments.now) || (is_first has_colon (end c.args.segments.now) && not v))
     c.has_first_colon-had_colon.ensures in
     ap (λ v. filled (cond v ((dot ∷ []) ∷ take c.close-kept.result c.close-kept.new.segments)
     (take c.close-kept.result c.close-kept.new.segments))) guards
-    ∙ ap (λ u. filled (cond (needs_guard c.args.segments.now (end c.args.segments.now)) ((dot ∷ []) ∷ u) u)) kept
+    ∙ ap (λ u. filled (cond (needs_leading_dot c.args.segments.now (end c.args.segments.now)) ((dot ∷ []) ∷ u) u)) kept
 
 pub returns-clause-room : goal.returns-clause-room
 returns-clause-room c = omega (arith, length_shaped c.args.segments.now (omega arith) c.requires.shown)

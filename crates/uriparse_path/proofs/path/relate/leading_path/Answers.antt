@@ -12,8 +12,8 @@ returns-then-directories-left-ge-MAX_SEGMENTS c =
     (rw (sym (take_rest c.directory-directories.result.now c.shared_len-shared.result), sym (take_rest c.segments-segments.result.now c.shared_len-shared.result))
     (omega arith)))
 
-pub led-requires : goal.led-requires
-led-requires c =
+pub relative_segments-requires : goal.relative_segments-requires
+relative_segments-requires c =
     let front = c.directory-directories.result.now in
     let own = c.segments-segments.result.now in
     let n = c.shared_len-shared.result in

@@ -1,6 +1,6 @@
 use Rattle.std.proofs.Common.{◌≡◌, Some, None, sym, subst, rules}
 use Rattle.uriparse_reference.specs.Relate.{IsInPlace, Relates, inner, network}
-use Rattle.uriparse_reference.proofs.lemmas.resolving.RelativizeLemmas.{whole_leads, network_leads, place_leads, inner_leads, ok_more}
+use Rattle.uriparse_reference.proofs.lemmas.resolving.RelativizeLemmas.{whole_leads, network_leads, fit_leads, inner_leads, ok_more}
 use Rattle.uriparse_reference.proofs.uri_reference.relate.relativize.Goals as goal
 
 pub returns-then-not-has_same_scheme-clause-relates : goal.returns-then-not-has_same_scheme-clause-relates
@@ -25,8 +25,8 @@ returns-then-is_in_place-clause-relates c =
     let t = c.args.target.now in
     let schemes : b.scheme ≡ t.scheme = search rules in
     let authorities : b.authority ≡ t.authority = search rules in
-    let place : IsInPlace b t = search rules in
-    place_leads b t c.in_place.result c.path-base_path.ensures.valid c.path-target_path.ensures.valid c.requires schemes authorities place
+    let offset : IsInPlace b t = search rules in
+    fit_leads b t c.in_place.result c.path-base_path.ensures.valid c.path-target_path.ensures.valid c.requires schemes authorities offset
     c.in_place.ensures.left c.in_place.ensures.query
 
 pub returns-in-Some-clause-relates : goal.returns-in-Some-clause-relates
@@ -37,7 +37,7 @@ returns-in-Some-clause-relates c =
     let authorities : b.authority ≡ t.authority = search rules in
     let no_place : IsInPlace b t → ⊥ = search rules in
     let leads : inner b.path t.path ≡ Some c.in-Some.path = search rules in
-    subst (Relates b t) (sym c.behind_path.ensures)
+    subst (Relates b t) (sym c.following_path.ensures)
     (inner_leads b t c.in-Some.path c.path-base_path.ensures.valid c.path-target_path.ensures.valid (search rules) c.requires schemes authorities no_place leads)
 
 pub returns-in-None-clause-relates : goal.returns-in-None-clause-relates

@@ -1,8 +1,8 @@
 use Rattle.std.proofs.Common.{◌≡◌, false, Result, Ok, Err, IfOk, ap, subst}
 use Rattle.std.specs.Result.{IsErrAnd}
-use Rattle.uriparse_path.specs.Path.{hides_root}
+use Rattle.uriparse_path.specs.Path.{starts_with_empty_segment}
 use Rattle.uriparse_path.specs.Dots.{without_dots}
-use Rattle.uriparse_path.specs.Edits.{shield}
+use Rattle.uriparse_path.specs.Edits.{with_dot_prefix}
 use Rattle.uriparse_path.specs.Merge.{merging}
 use Rattle.std.specs.Prelude.{if◌then◌else◌}
 use Rattle.uriparse_reference.proofs.lemmas.resolving.ResolveLemmas.{made_of, merged_made, not_made}
@@ -15,7 +15,7 @@ error_is (Ok a) x same = absurd same
 
 pub remove_dots-requires : goal.remove_dots-requires
 remove_dots-requires c h =
-    subst (λ m. IfOk m (λ p. hides_root p.segments ≡ false))
+    subst (λ m. IfOk m (λ p. starts_with_empty_segment p.segments ≡ false))
     (made_of c.merged_path.result (merging c.args.base.now c.args.path.now) c.in_ok-merged.merged c.in_ok-merged.was c.merged_path.ensures.answer)
     (c.requires h)
 
@@ -23,7 +23,7 @@ pub returns-in_err-merged : goal.returns-in_err-merged
 returns-in_err-merged c =
     let error = c.in_err-merged.field-0.0 in
     not_made (merging c.args.base.now c.args.path.now) c.merged_path.result error c.from_residual.result
-    (λ p. if c.args.has_authority then without_dots p else shield (without_dots p)) c.merged_path.ensures.answer c.merged_path.ensures.always
+    (λ p. if c.args.has_authority then without_dots p else with_dot_prefix (without_dots p)) c.merged_path.ensures.answer c.merged_path.ensures.always
     c.in_err-merged.was (error_is c.from_residual.result error c.from_residual.ensures.1)
 
 pub returns : goal.returns

@@ -12,14 +12,14 @@ returns-in_default c =
 
 pub returns-else-is_scheme : goal.returns-else-is_scheme
 returns-else-is_scheme c =
-    let some : after_colon (from_first ends_scheme c.args.text.now) ≡ Some c.in-Some.behind.now = search rules in
-    let cut = uncut_there c.args.text.now c.split_at_scheme_end.result.0.now c.in-Some.behind.now some c.split_at_scheme_end.ensures.front
+    let some : after_colon (from_first ends_scheme c.args.text.now) ≡ Some c.in-Some.following.now = search rules in
+    let cut = uncut_there c.args.text.now c.split_at_scheme_end.result.0.now c.in-Some.following.now some c.split_at_scheme_end.ensures.front
     (sym c.is_scheme.ensures ∙ c.if-is_scheme.false) in
     record { scheme = cut.scheme; known = tt; rest = cut.rest; colon = cut.colon }
 
 pub returns-then-is_scheme : goal.returns-then-is_scheme
 returns-then-is_scheme c =
-    let some : after_colon (from_first ends_scheme c.args.text.now) ≡ Some c.in-Some.behind.now = search rules in
-    let cut = cut_there c.args.text.now c.split_at_scheme_end.result.0.now c.in-Some.behind.now some c.split_at_scheme_end.ensures.front
+    let some : after_colon (from_first ends_scheme c.args.text.now) ≡ Some c.in-Some.following.now = search rules in
+    let cut = cut_there c.args.text.now c.split_at_scheme_end.result.0.now c.in-Some.following.now some c.split_at_scheme_end.ensures.front
     (sym c.is_scheme.ensures ∙ c.if-is_scheme.true) in
     record { scheme = cut.scheme; known = tt; rest = cut.rest; colon = cut.colon }

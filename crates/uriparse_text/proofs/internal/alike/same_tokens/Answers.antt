@@ -7,7 +7,7 @@ use Rattle.uriparse_text.proofs.lemmas.canonical.ComparisonLemmas.{same_fronts, 
 use Rattle.uriparse_text.proofs.internal.alike.same_tokens.Goals as goal
 
 pub tokens-init : goal.tokens-init
-tokens-init c = c.behind_common.ensures.same c.args.case
+tokens-init c = c.after_common.ensures.same c.args.case
 
 pub returns-in_default-split_code : goal.returns-in_default-split_code
 returns-in_default-split_code c = (
@@ -29,11 +29,11 @@ returns-then-x-y c = (
 
 pub tokens-preserved : goal.tokens-preserved
 tokens-preserved c =
-    let behind = c.behind_common-in-Some.ensures.same c.args.case in
+    let following = c.after_common-in-Some.ensures.same c.args.case in
     let cut = same_fronts (canonical_tokens c.args.case c.tokens.left.now) (canonical_tokens c.args.case c.tokens.right.now)
     (canonical_tokens c.args.case c.in-Some.after_x.now) (canonical_tokens c.args.case c.in-Some-split_code.after_y.now)
     c.in-Some.x c.in-Some-split_code.y c.in-Some.ensures.cut c.in-Some-split_code.ensures.cut c.if-x-y.false in
-    (λ h. c.tokens.invariant.0 (cut.0 (behind.0 h)), λ h. behind.1 (cut.1 (c.tokens.invariant.1 h)))
+    (λ h. c.tokens.invariant.0 (cut.0 (following.0 h)), λ h. following.1 (cut.1 (c.tokens.invariant.1 h)))
 
 pub returns : goal.returns
 returns c =

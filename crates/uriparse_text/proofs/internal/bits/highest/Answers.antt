@@ -9,8 +9,8 @@ use Rattle.uriparse_text.proofs.internal.bits.highest.Goals as goal
 pub returns-clause-set : goal.returns-clause-set
 returns-clause-set c =
     let top = leading_top 64 c.args.m (omega (arith, c.requires)) c.ranges.m.fits in
-    let place : 63 - count_leading_zeros 64 c.args.m ≡ top.0 = omega (arith, top.1) in
-    ap (bit_at c.args.m) place ∙ highest-set c.args.m top.0 top.2 top.3
+    let offset : 63 - count_leading_zeros 64 c.args.m ≡ top.0 = omega (arith, top.1) in
+    ap (bit_at c.args.m) offset ∙ highest-set c.args.m top.0 top.2 top.3
 
 pub returns-clause-above : goal.returns-clause-above
 returns-clause-above c k h =

@@ -1,7 +1,7 @@
 use Rattle.std.proofs.Common.{◌≡◌, [], refl, sym, ap, ◌∙◌}
 use Rattle.std.proofs.lemmas.Bool.{false≢true}
 use Rattle.uriparse_text.specs.Canonical as spec
-use Rattle.uriparse_text.proofs.lemmas.canonical.CanonicalLemmas.{canonical_in-nil, canonical_behind, canonical_more, canonical_never}
+use Rattle.uriparse_text.proofs.lemmas.canonical.CanonicalLemmas.{canonical_in-nil, canonical_following, canonical_more, canonical_never}
 use Rattle.uriparse_text.proofs.internal.canonical.walks_canonical.Goals as goal
 
 pub returns-then-not-is_canonical : goal.returns-then-not-is_canonical
@@ -17,9 +17,9 @@ pub tokens-preserved : goal.tokens-preserved
 tokens-preserved c =
     let same : spec.canonical_token c.args.case c.in-Some.token ≡ c.in-Some.token = c.is_canonical.ensures.0 c.if-not-is_canonical.false in
     let more = canonical_more c.args.case c.tokens.rest.now c.in-Some.after.now c.in-Some.token c.in-Some.ensures.cut c.in-Some.ensures.spelled same in
-    let behind = canonical_behind c.args.case c.in-Some.after.now c.split_run.result.0.now c.split_run.result.1.now
+    let following = canonical_following c.args.case c.in-Some.after.now c.split_run.result.0.now c.split_run.result.1.now
     c.split_run.ensures.whole c.split_run.ensures.spelled in
-    (λ h. c.tokens.invariant.0 (more.0 (behind.0 h)), λ h. behind.1 (more.1 (c.tokens.invariant.1 h)))
+    (λ h. c.tokens.invariant.0 (more.0 (following.0 h)), λ h. following.1 (more.1 (c.tokens.invariant.1 h)))
 
 pub returns : goal.returns
 returns c =

@@ -2,7 +2,7 @@ use Rattle.std.proofs.Common.{◌≡◌, ◌+◌, true, false, drop, get_or, ap,
 use Rattle.std.proofs.lemmas.List.{take_rest}
 use Rattle.uriparse_text.specs.Classes.{is_plain}
 use Rattle.uriparse_text.specs.Tokens.{is_escape}
-use Rattle.uriparse_text.proofs.lemmas.classes.FaultByByteLemmas.{one_more_fine, is_fine_plain, is_fine_escape, not_fine_at, no_fault_place}
+use Rattle.uriparse_text.proofs.lemmas.classes.FaultByByteLemmas.{one_more_fine, is_fine_plain, is_fine_escape, not_fine_at, no_fault_offset}
 use Rattle.uriparse_text.proofs.internal.class.fault_by_one.Goals as goal
 use Rattle.uriparse_text.proofs.internal.class.fault_by_one.Goals.{else-not-has-via-then-not-has+else-not-is_escape, else-not-has-via-else-not-has}
 
@@ -32,4 +32,4 @@ bytes-preserved c =
     )
 
 pub returns : goal.returns
-returns c = no_fault_place c.args.class c.args.text.now c.bytes.at c.bytes.invariant.1 (omega arith)
+returns c = no_fault_offset c.args.class c.args.text.now c.bytes.at c.bytes.invariant.1 (omega arith)

@@ -23,5 +23,5 @@ returns c =
     let text = c.args.text.now in
     let from = c.args.from in
     let end : from + (c.args.at + 16 - from) ≡ c.args.at + 16 = omega arith in
-    subst (λ to. MatchOption c.fault_at_marks.result (AllFine class text from to) (λ place. IsFaultFrom class text from place)) end
+    subst (λ to. MatchOption c.fault_at_marks.result (AllFine class text from to) (λ offset. IsFaultFrom class text from offset)) end
     c.fault_at_marks.ensures

@@ -1,13 +1,13 @@
 use Rattle.std.proofs.Common.{◌≡◌, ◌+◌, length, refl, subst, arith}
 use Rattle.uriparse_text.specs.Faults.{AllFine}
-use Rattle.uriparse_text.proofs.lemmas.classes.FaultByByteLemmas.{in_doubt, none_outside, no_fault_place, last_run}
+use Rattle.uriparse_text.proofs.lemmas.classes.FaultByByteLemmas.{in_doubt, none_outside, no_fault_offset, last_run}
 use Rattle.uriparse_text.proofs.internal.class.fault_of_short.Goals as goal
 
 pub returns-then-outside-eq0 : goal.returns-then-outside-eq0
 returns-then-outside-eq0 c =
     let text = c.args.text.now in
     let end : 0 + length text ≡ length text = omega arith in
-    no_fault_place c.args.class text (length text)
+    no_fault_offset c.args.class text (length text)
     (subst (AllFine c.args.class text 0) end
     (none_outside c.args.class text 0 (length text) (omega arith) c.marks_of_short-outside.result c.marks_of_short-outside.ensures c.if-outside-eq0.true))
     refl

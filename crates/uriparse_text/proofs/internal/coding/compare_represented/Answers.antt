@@ -3,7 +3,7 @@ use Rattle.uriparse_text.proofs.lemmas.tokens.CodingLemmas.{compared-cons, compa
 use Rattle.uriparse_text.proofs.internal.coding.compare_represented.Goals as goal
 
 pub tokens-init : goal.tokens-init
-tokens-init c = c.behind_common.ensures.compared
+tokens-init c = c.after_common.ensures.compared
 
 pub returns-in_default-split_token : goal.returns-in_default-split_token
 returns-in_default-split_token c = compared_more _ _ _ _ _ c.in-Some.ensures.cut c.in_default-split_token.ensures.cut c.tokens.invariant
@@ -16,7 +16,7 @@ returns-in_default-cmp c =
 
 pub tokens-preserved : goal.tokens-preserved
 tokens-preserved c =
-    c.behind_common-in-Some.ensures.compared
+    c.after_common-in-Some.ensures.compared
     ∙ compared_same _ _ _ c.in-Equal.is
     (compared-cons _ _ _ _ _ _ _ _ _ _ c.in-Some.ensures.cut c.in-Some-split_token.ensures.cut c.value.ensures c.value-in-Some.ensures c.cmp.ensures
     c.tokens.invariant)

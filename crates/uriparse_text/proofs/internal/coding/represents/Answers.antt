@@ -4,7 +4,7 @@ use Rattle.uriparse_text.proofs.lemmas.tokens.CodingLemmas.{represents_end, repr
 use Rattle.uriparse_text.proofs.internal.coding.represents.Goals as goal
 
 pub tokens-init : goal.tokens-init
-tokens-init c = c.behind_common.ensures.represents
+tokens-init c = c.after_common.ensures.represents
 
 pub returns-then-value-b : goal.returns-then-value-b
 returns-then-value-b c =
@@ -21,7 +21,7 @@ pub tokens-preserved : goal.tokens-preserved
 tokens-preserved c =
     let first : c.tokens.left.now ≡ c.in-Some-split_first.b ∷ c.in-Some-split_first.later.now = search rules in
     let same : (c.value.result == c.in-Some-split_first.b) ≡ true = search rules in
-    c.behind_common-in-Some.ensures.represents
+    c.after_common-in-Some.ensures.represents
     ∙ represents_next _ _ _ c.in-Some-split_first.later.now _ c.value.result c.in-Some-split_first.b _ c.in-Some.ensures.cut first c.value.ensures same c.tokens.invariant
 
 pub returns : goal.returns

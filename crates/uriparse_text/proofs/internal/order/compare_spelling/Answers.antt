@@ -5,7 +5,7 @@ use Rattle.uriparse_text.proofs.lemmas.canonical.OrderLemmas.{follow_on, is_less
 use Rattle.uriparse_text.proofs.internal.order.compare_spelling.Goals as goal
 
 pub tokens-init : goal.tokens-init
-tokens-init c = c.behind_common.ensures.front c.args.case
+tokens-init c = c.after_common.ensures.front c.args.case
 
 pub returns-in_default-split_code : goal.returns-in_default-split_code
 returns-in_default-split_code c = is_more _ _ _ _ _ c.in-Some.after.now c.in-Some.x c.tokens.invariant c.in-Some.ensures.cut c.in_default-split_code.ensures.cut
@@ -13,7 +13,7 @@ returns-in_default-split_code c = is_more _ _ _ _ _ c.in-Some.after.now c.in-Som
 pub tokens-preserved : goal.tokens-preserved
 tokens-preserved c =
     follow_on _ _ _ _ _ c.in-Some.after.now c.in-Some-split_code.later.now _ _ c.in-Some.x c.in-Some-split_code.y c.tokens.invariant c.in-Some.ensures.cut c.in-Some-split_code.ensures.cut c.if-x-y.false
-    (c.behind_common-in-Some.ensures.front c.args.case)
+    (c.after_common-in-Some.ensures.front c.args.case)
 
 pub returns-in-None : goal.returns-in-None
 returns-in-None c = is_same _ _ _ _ _ c.tokens.invariant c.in_default.ensures.cut c.in-None.ensures.cut

@@ -11,12 +11,12 @@ returns-then-zeros-gt1-clause-puts c = λ t h.
     let start = c.longest_zero_run-start.result.0 in
     let zeros = c.longest_zero_run-start.result.1 in
     let tail = groups_text (drop (start + zeros) a) in
-    let behind = subst (λ l. EndsWith c.put_groups-len.new.out c.put_groups-len.result (groups_text l ++ t)) (take_rest a (start + zeros))
+    let following = subst (λ l. EndsWith c.put_groups-len.new.out c.put_groups-len.result (groups_text l ++ t)) (take_rest a (start + zeros))
     (c.put_groups-len.ensures.puts t h) in
     let same : hex_groups_text a ++ t ≡ groups_text (take start a) ++ (58 ∷ 58 ∷ (tail ++ t)) =
     ap (λ u. u ++ t) (long_text a start zeros c.longest_zero_run-start.ensures.value c.if-zeros-gt1.true)
     ∙ append_assoc (groups_text (take start a)) (58 ∷ 58 ∷ tail) t in
-    subst (EndsWith c.put_groups.new.out c.put_groups.result) (sym same) (c.put_groups.ensures.puts _ (c.put-len.ensures.puts (tail ++ t) behind))
+    subst (EndsWith c.put_groups.new.out c.put_groups.result) (sym same) (c.put_groups.ensures.puts _ (c.put-len.ensures.puts (tail ++ t) following))
 
 pub returns-else-zeros-gt1-clause-puts : goal.returns-else-zeros-gt1-clause-puts
 returns-else-zeros-gt1-clause-puts c = λ t h.

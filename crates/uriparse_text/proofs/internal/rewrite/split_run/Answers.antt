@@ -1,16 +1,16 @@
 use Rattle.std.proofs.Common.{◌++◌, ap, sym, drop, take, ◌∙◌}
 use Rattle.uriparse_text.specs.Cuts.{from_first}
-use Rattle.uriparse_text.proofs.lemmas.readings.CutLemmas.{drop_place, take_place}
+use Rattle.uriparse_text.proofs.lemmas.readings.CutLemmas.{drop_offset, take_offset}
 use Rattle.uriparse_text.proofs.lemmas.tokens.PieceLemmas.{rewritten-run}
 use Rattle.uriparse_text.proofs.internal.rewrite.split_run.Goals as goal
 
 pub returns-clause-run : goal.returns-clause-run
 returns-clause-run g c =
-    c.split_at.ensures.front ∙ ap (λ n. take n c.args.text.now) c.run_len.ensures.place ∙ take_place (g.R.ByteTest.passes c.args.way.now) c.args.text.now
+    c.split_at.ensures.front ∙ ap (λ n. take n c.args.text.now) c.run_len.ensures.offset ∙ take_offset (g.R.ByteTest.passes c.args.way.now) c.args.text.now
 
 pub returns-clause-rest : goal.returns-clause-rest
 returns-clause-rest g c =
-    c.split_at.ensures.back ∙ ap (λ n. drop n c.args.text.now) c.run_len.ensures.place ∙ drop_place (g.R.ByteTest.passes c.args.way.now) c.args.text.now
+    c.split_at.ensures.back ∙ ap (λ n. drop n c.args.text.now) c.run_len.ensures.offset ∙ drop_offset (g.R.ByteTest.passes c.args.way.now) c.args.text.now
 
 pub returns-clause-kept : goal.returns-clause-kept
 returns-clause-kept g c =

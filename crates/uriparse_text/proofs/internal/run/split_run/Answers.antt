@@ -1,7 +1,7 @@
 use Rattle.std.proofs.Common.{◌++◌, take, sym, ap, ◌∙◌}
 use Rattle.std.proofs.lemmas.List.{take-append-drop}
 use Rattle.uriparse_text.specs.Canonical.{may_change}
-use Rattle.uriparse_text.proofs.lemmas.readings.CutLemmas.{take_place, drop_place}
+use Rattle.uriparse_text.proofs.lemmas.readings.CutLemmas.{take_offset, drop_offset}
 use Rattle.uriparse_text.proofs.lemmas.canonical.RunLemmas.{canonical_in-run}
 use Rattle.uriparse_text.proofs.internal.run.split_run.Goals as goal
 
@@ -14,7 +14,7 @@ returns-clause-spelled c =
     rw (
       c.split_at.ensures.front,
       c.split_at.ensures.back,
-      c.first-2.ensures.place,
-      take_place (may_change c.args.case) c.args.text.now,
-      drop_place (may_change c.args.case) c.args.text.now,
+      c.first-2.ensures.offset,
+      take_offset (may_change c.args.case) c.args.text.now,
+      drop_offset (may_change c.args.case) c.args.text.now,
     ) (canonical_in-run c.args.case c.args.text.now)

@@ -10,8 +10,8 @@ returns-in-None c = λ ss w.
     let none : length c.args.text.items ≡ 0 = search rules in
     ap (map pair_of) (sym (none_written ss c.args.text.items w none))
 
-pub made_text-requires : goal.made_text-requires
-made_text-requires c =
+pub text_from_checked_vec-requires : goal.text_from_checked_vec-requires
+text_from_checked_vec-requires c =
     let some : 0 < length c.args.text.items = search rules in
     let size : vec_len c.args.text ≡ length c.args.text.items = search rules in
     let left = c.pop.ensures.rest ∙ ap (λ n. take (n - 1) c.args.text.items) size in
@@ -22,4 +22,4 @@ returns c = λ ss w.
     let some : 0 < length c.args.text.items = search rules in
     let size : vec_len c.args.text ≡ length c.args.text.items = search rules in
     let left = c.pop.ensures.rest ∙ ap (λ n. take (n - 1) c.args.text.items) size in
-    ap pairs (c.made_text.ensures ∙ left) ∙ (shortened ss c.args.text.items w some).1
+    ap pairs (c.text_from_checked_vec.ensures ∙ left) ∙ (shortened ss c.args.text.items w some).1

@@ -11,7 +11,7 @@ use Rattle.uriparse.proofs.uri.resolve.URI.resolve.Goals as goal
 
 pub returns-in-Err-clause-answer : goal.returns-in-Err-clause-answer
 returns-in-Err-clause-answer c =
-    refusal_told (target c.args.self.now c.args.reference.now) c.in-Err.error c.told.result c.told.ensures
+    refusal_told (target c.args.self.now c.args.reference.now) c.in-Err.error c.map_error.result c.map_error.ensures
     (subst (λ p. Answers (references.Path paths.ExceededMaximumLength) (references.Path paths.OutOfMemory) (target p c.args.reference.now)
     (Err c.in-Err.error)) c.self.view_is c.in-Err.ensures.answer)
 

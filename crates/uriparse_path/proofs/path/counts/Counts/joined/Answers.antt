@@ -30,8 +30,8 @@ overflow_add-result-3 c =
 
 pub overflow_add-result-4 : goal.overflow_add-result-4
 overflow_add-result-4 c =
-    let one = (few c.args.self c.args.front.now c.requires.front).strays in
-    let two = (few c.args.more c.args.back.now c.requires.back).strays in
+    let one = (few c.args.self c.args.front.now c.requires.front).non_canonical in
+    let two = (few c.args.more c.args.back.now c.requires.back).non_canonical in
     omega (arith, c.requires.room)
 
 pub returns : goal.returns

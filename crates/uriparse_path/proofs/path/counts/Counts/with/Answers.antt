@@ -15,7 +15,7 @@ pub one_more-requires-3 : goal.one_more-requires-3
 one_more-requires-3 c = let are = few c.args.self c.args.segments.now c.requires.counted in let at = are.leading in omega (arith, c.requires.room)
 
 pub one_more-requires-4 : goal.one_more-requires-4
-one_more-requires-4 c = let are = few c.args.self c.args.segments.now c.requires.counted in let at = are.strays in omega (arith, c.requires.room)
+one_more-requires-4 c = let are = few c.args.self c.args.segments.now c.requires.counted in let at = are.non_canonical in omega (arith, c.requires.room)
 
 pub returns : goal.returns
 returns c =
@@ -29,4 +29,4 @@ returns c =
     (c.one_more.ensures ∙ ap (λ v. c.args.self.single + cond v 1 0) c.is_single_dot_segment.ensures)
     (c.one_more-2.ensures ∙ ap (λ v. c.args.self.double + cond v 1 0) c.is_double_dot_segment-is_double.ensures)
     (c.one_more-3.ensures ∙ ap (λ v. c.args.self.leading + cond v 1 0) leads)
-    (c.one_more-4.ensures ∙ ap (λ v. c.args.self.strays + cond v 1 0) (stray_is c.args.last.now c.is_normalized.result c.is_normalized.ensures))
+    (c.one_more-4.ensures ∙ ap (λ v. c.args.self.non_canonical + cond v 1 0) (stray_is c.args.last.now c.is_normalized.result c.is_normalized.ensures))

@@ -30,4 +30,4 @@ returns c =
     (c.one_more.ensures ∙ ap (λ v. c.args.self.single + cond v 1 0) single)
     (c.one_more-2.ensures ∙ ap (λ v. c.args.self.double + cond v 1 0) double)
     (c.one_more-3.ensures ∙ ap (λ v. c.args.self.leading + cond v 1 0) leads)
-    (no_stray last c.args.self.strays c.requires.canonical)
+    (no_stray last c.args.self.non_canonical c.requires.canonical)

@@ -17,7 +17,7 @@ one_less-requires-in-Some c h =
 
 pub one_less-requires-in-Some-3 : goal.one_less-requires-in-Some-3
 one_less-requires-in-Some-3 c h =
-    (has_last c.args.self c.args.segments.now c.in-Some.field-0-1.now c.in-Some.last.now c.requires c.in-Some.ensures.cases.0).strays
+    (has_last c.args.self c.args.segments.now c.in-Some.field-0-1.now c.in-Some.last.now c.requires c.in-Some.ensures.cases.0).non_canonical
     (sym (stray_is c.in-Some.last.now c.is_normalized.result c.is_normalized.ensures) ∙ h)
 
 pub returns-after-is_double : goal.returns-after-is_double

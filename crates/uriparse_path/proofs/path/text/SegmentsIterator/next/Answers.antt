@@ -21,9 +21,9 @@ each : (c : After-without_mark-self-inside)
     → list_all is_segment (c.split_at_mark.result.0.now ∷ pieces_left (option_copied c.without_mark-self-inside.result)) ≡ true
 each c = ap (list_all is_segment) (sym (cut c)) ∙ c.self.invariant
 
-pub kept_text-requires : goal.kept_text-requires
-kept_text-requires c = record {
-  inside = (and_parts _ _ (each (goal.at.kept_text-requires c).After-without_mark-self-inside)).0;
+pub text_from_checked-requires : goal.text_from_checked-requires
+text_from_checked-requires c = record {
+  inside = (and_parts _ _ (each (goal.at.text_from_checked-requires c).After-without_mark-self-inside)).0;
   canonical = λ h. absurd (false≢true h);
 }
 
@@ -33,7 +33,7 @@ invariant_of-self c = (and_parts _ _ (each (goal.at.invariant_of-self c).After-w
 pub returns-clause-steps : goal.returns-clause-steps
 returns-clause-steps c =
     sym c.self.view_is ∙ cut (goal.at.returns-clause-steps c).After-without_mark-self-inside
-    ∙ ap (λ s. s ∷ pieces_left (option_copied c.without_mark-self-inside.result)) (sym c.kept_text.ensures)
+    ∙ ap (λ s. s ∷ pieces_left (option_copied c.without_mark-self-inside.result)) (sym c.text_from_checked.ensures)
 
 pub returns-clause-goes : goal.returns-clause-goes
 returns-clause-goes c =

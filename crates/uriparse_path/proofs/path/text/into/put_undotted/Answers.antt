@@ -4,24 +4,24 @@ use Rattle.uriparse_text.specs.Ends.{EndsWith, formed}
 use Rattle.uriparse_text.specs.declared.internal.canonical.Case.TheVariants.{Kept}
 use Rattle.uriparse_path.specs.Path.{is_slash, max_segments, pieces, root, spelled, text}
 use Rattle.uriparse_path.specs.Dots.{is_dot_segment, undot}
-use Rattle.uriparse_path.specs.Edits.{shield_unless}
+use Rattle.uriparse_path.specs.Edits.{with_dot_prefix_unless}
 use Rattle.uriparse_path.specs.Relative.{is_last}
 use Rattle.uriparse_path.specs.Last.{IsLast}
-use Rattle.uriparse_path.specs.Left.{kept_text, left_of, nothing}
+use Rattle.uriparse_path.specs.Remaining.{remaining_text, remaining_of, nothing}
 use Rattle.uriparse_path.proofs.lemmas.left.UndottedLemmas.{kept_whole, undotted_text}
 use Rattle.uriparse_path.proofs.path.text.into.put_undotted.Goals as goal
 
-pub walk-ending-requires-clause-few : goal.walk-ending-requires-clause-few
+pub process-state-requires-clause-few : goal.process-state-requires-clause-few
 unfolding max_segments
-walk-ending-requires-clause-few c =
+process-state-requires-clause-few c =
     let short = c.requires.short in
     let rest : length (slice_split is_slash c.split_root-rooted.result.1.now) ≡ length (pieces c.args.text.now) =
     ap (λ u. length (slice_split is_slash u)) c.split_root-rooted.ensures.rest in
-    let none = c.none.ensures.climbs in
+    let none = c.none.ensures.double_dots in
     omega arith
 
-pub is_kept-requires : goal.is_kept-requires
-is_kept-requires c = subst (IsLast c.last_dots-last.result) c.split_root-rooted.ensures.rest c.last_dots-last.ensures
+pub stays_whole-requires : goal.stays_whole-requires
+stays_whole-requires c = subst (IsLast c.last_dots-last.result) c.split_root-rooted.ensures.rest c.last_dots-last.ensures
 
 pub returns-clause-puts : goal.returns-clause-puts
 returns-clause-puts c = λ t h.
@@ -29,20 +29,20 @@ returns-clause-puts c = λ t h.
     let u = c.args.text.now in
     let ended = c.ends_in_dots-ended.result in
     let rest = c.split_root-rooted.result.1.now in
-    let end = c.put_front.ensures.puts form ended (left_of (slice_split is_slash rest)) t
-    (c.walk-ending.ensures.is nothing t (c.none.ensures.is form ended c.args.out.now t h)) in
-    let same : root (c.split_root-rooted.result.0 || (left_of (slice_split is_slash rest)).removed) ++ kept_text form ended (left_of (slice_split is_slash rest)).kept
+    let end = c.put_front.ensures.puts form ended (remaining_of (slice_split is_slash rest)) t
+    (c.process-state.ensures.is nothing t (c.none.ensures.is form ended c.args.out.now t h)) in
+    let same : root (c.split_root-rooted.result.0 || (remaining_of (slice_split is_slash rest)).removed) ++ remaining_text form ended (remaining_of (slice_split is_slash rest)).kept
     ≡ formed form Kept (undot u) =
-    ap (λ v. root (c.split_root-rooted.result.0 || (left_of (slice_split is_slash rest)).removed) ++ kept_text form v (left_of (slice_split is_slash rest)).kept)
+    ap (λ v. root (c.split_root-rooted.result.0 || (remaining_of (slice_split is_slash rest)).removed) ++ remaining_text form v (remaining_of (slice_split is_slash rest)).kept)
     c.ends_in_dots-ended.ensures
-    ∙ ap (λ x. root (c.split_root-rooted.result.0 || (left_of (slice_split is_slash x)).removed)
-    ++ kept_text form (is_last is_dot_segment (slice_split is_slash x)) (left_of (slice_split is_slash x)).kept) c.split_root-rooted.ensures.rest
-    ∙ ap (λ v. root (v || (left_of (pieces u)).removed) ++ kept_text form (is_last is_dot_segment (pieces u)) (left_of (pieces u)).kept)
+    ∙ ap (λ x. root (c.split_root-rooted.result.0 || (remaining_of (slice_split is_slash x)).removed)
+    ++ remaining_text form (is_last is_dot_segment (slice_split is_slash x)) (remaining_of (slice_split is_slash x)).kept) c.split_root-rooted.ensures.rest
+    ∙ ap (λ v. root (v || (remaining_of (pieces u)).removed) ++ remaining_text form (is_last is_dot_segment (pieces u)) (remaining_of (pieces u)).kept)
     c.split_root-rooted.ensures.root
     ∙ undotted_text form u c.requires in
-    subst (λ x. EndsWith c.put_front.new.out c.put_front.result (text (shield_unless c.args.has_authority (spelled x)) ++ t)) same end
+    subst (λ x. EndsWith c.put_front.new.out c.put_front.result (text (with_dot_prefix_unless c.args.has_authority (spelled x)) ++ t)) same end
 
-pub returns-then-is_kept-clause-puts : goal.returns-then-is_kept-clause-puts
-returns-then-is_kept-clause-puts c = λ t h.
+pub returns-then-stays_whole-clause-puts : goal.returns-then-stays_whole-clause-puts
+returns-then-stays_whole-clause-puts c = λ t h.
     kept_whole c.args.form c.args.has_authority c.args.text.now t c.put_formed.new.out c.put_formed.result c.requires
-    (c.is_kept.ensures.shield c.if-is_kept.true) (c.is_kept.ensures.dots c.if-is_kept.true) (c.put_formed.ensures.puts t h)
+    (c.stays_whole.ensures.with_dot_prefix c.if-stays_whole.true) (c.stays_whole.ensures.dots c.if-stays_whole.true) (c.put_formed.ensures.puts t h)

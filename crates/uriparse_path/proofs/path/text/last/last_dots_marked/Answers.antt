@@ -8,7 +8,7 @@ use Rattle.uriparse_path.specs.Path.{is_slash}
 use Rattle.uriparse_path.specs.Dots.{is_dot_segment}
 use Rattle.uriparse_path.specs.Last.{LacksDotsAfter, begins_segment}
 use Rattle.uriparse_path.specs.Relative.{is_first}
-use Rattle.uriparse_path.proofs.lemmas.text.HeadLemmas.{segments_from}
+use Rattle.uriparse_path.proofs.lemmas.text.DotCandidateLemmas.{segments_from}
 use Rattle.uriparse_path.proofs.lemmas.text.LastLemmas.{begins_marked, below_unset, lower_marked, lower_unmarked}
 use Rattle.uriparse_path.proofs.path.text.last.last_dots_marked.Goals as goal
 

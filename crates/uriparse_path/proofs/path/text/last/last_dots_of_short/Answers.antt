@@ -3,7 +3,7 @@ use Rattle.std.specs.List.{list_all, slice_split}
 use Rattle.std.proofs.lemmas.List.{take_rest}
 use Rattle.uriparse_text.specs.Segment.{is_segment}
 use Rattle.uriparse_path.specs.Path.{is_slash}
-use Rattle.uriparse_path.proofs.lemmas.text.HeadLemmas.{begins_after, lacks_last, raised, segments_from}
+use Rattle.uriparse_path.proofs.lemmas.text.DotCandidateLemmas.{begins_after, lacks_last, raised, segments_from}
 use Rattle.uriparse_path.proofs.path.text.last.last_dots_of_short.Goals as goal
 
 pub bytes-init : goal.bytes-init

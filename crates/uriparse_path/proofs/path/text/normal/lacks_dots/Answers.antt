@@ -7,5 +7,5 @@ returns-then-len-eq0 c = none_last c.args.text.now c.last_dots.result c.is_none.
 
 pub returns : goal.returns
 returns c =
-    none_after c.args.text.now c.args.len c.last_dots_after.result _ (omega arith) c.requires.within c.requires.heads c.last_dots_after.ensures
+    none_after c.args.text.now c.args.len c.last_dots_after.result _ (omega arith) c.requires.within c.requires.dot_candidates c.last_dots_after.ensures
     c.is_none-2.ensures

@@ -8,5 +8,5 @@ pub returns : goal.returns
 returns c =
     let valid = c.path_bytes.ensures.valid in
     c.is_normal_path_text.ensures
-    ∙ ap (λ t. is_normal_at c.args.place (spelled t)) c.path_bytes.ensures.text
-    ∙ ap (is_normal_at c.args.place) (same_path c.args.self.now.parts.path valid.is_path valid.plain)
+    ∙ ap (λ t. is_normal_at c.args.context (spelled t)) c.path_bytes.ensures.text
+    ∙ ap (is_normal_at c.args.context) (same_path c.args.self.now.parts.path valid.is_path valid.plain)

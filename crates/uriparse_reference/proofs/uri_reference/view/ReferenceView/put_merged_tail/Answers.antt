@@ -2,7 +2,7 @@ use Rattle.std.proofs.Common.{◌≤◌, ◌∙◌, sym, ap, length, subst}
 use Rattle.std.specs.Prelude.{is_some}
 use Rattle.uriparse_text.specs.Ends.{EndsWith}
 use Rattle.uriparse_path.specs.Dots.{replayed}
-use Rattle.uriparse_path.specs.Edits.{shield_unless}
+use Rattle.uriparse_path.specs.Edits.{with_dot_prefix_unless}
 use Rattle.uriparse_path.specs.Merge.{merged}
 use Rattle.uriparse_path.specs.Path.{is_rooted, max_segments, spelled, text}
 use Rattle.uriparse_reference.proofs.lemmas.writing.TargetLemmas.{merged_relative, merged_short, merged_undot, same_tail}
@@ -25,12 +25,12 @@ returns-clause-ends c =
     let r = c.args.reference.now.parts in
     subst (EndsWith c.put_merged.new.out c.put_merged.result)
     (same_tail c.query.result c.fragment.result r.query r.fragment
-    (text (shield_unless c.has_authority-has_authority.result
+    (text (with_dot_prefix_unless c.has_authority-has_authority.result
     (spelled (text (replayed (merged (spelled c.path_bytes.result.now) (spelled c.path_bytes-2.result.now))))))) _
     c.query.ensures c.fragment.ensures
-    (ap (λ v. text (shield_unless v (spelled (text (replayed (merged (spelled c.path_bytes.result.now) (spelled c.path_bytes-2.result.now)))))))
+    (ap (λ v. text (with_dot_prefix_unless v (spelled (text (replayed (merged (spelled c.path_bytes.result.now) (spelled c.path_bytes-2.result.now)))))))
     c.has_authority-has_authority.ensures
-    ∙ ap (λ u. text (shield_unless (is_some b.authority) (spelled (text (replayed (merged (spelled u) (spelled c.path_bytes-2.result.now))))))) c.path_bytes.ensures.text
-    ∙ ap (λ u. text (shield_unless (is_some b.authority) (spelled (text (replayed (merged (spelled (text b.path)) (spelled u))))))) c.path_bytes-2.ensures.text
-    ∙ ap (λ u. text (shield_unless (is_some b.authority) (spelled u))) (merged_undot b r c.path_bytes.ensures.valid c.path_bytes-2.ensures.valid c.requires.merged)))
-    (c.put_merged.ensures.puts _ c.put_end-len.ensures.ends)
+    ∙ ap (λ u. text (with_dot_prefix_unless (is_some b.authority) (spelled (text (replayed (merged (spelled u) (spelled c.path_bytes-2.result.now))))))) c.path_bytes.ensures.text
+    ∙ ap (λ u. text (with_dot_prefix_unless (is_some b.authority) (spelled (text (replayed (merged (spelled (text b.path)) (spelled u))))))) c.path_bytes-2.ensures.text
+    ∙ ap (λ u. text (with_dot_prefix_unless (is_some b.authority) (spelled u))) (merged_undot b r c.path_bytes.ensures.valid c.path_bytes-2.ensures.valid c.requires.merged)))
+    (c.put_merged.ensures.puts _ c.put_query_and_fragment-len.ensures.ends)

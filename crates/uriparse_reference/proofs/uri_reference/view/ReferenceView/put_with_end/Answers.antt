@@ -7,4 +7,4 @@ pub returns-clause-ends : goal.returns-clause-ends
 returns-clause-ends c =
     subst (EndsWith c.put.new.out c.put.result)
     (put_whole c.args.self.now.text c.front.result.now c.args.query.now c.args.fragment.now c.front.ensures)
-    (c.put.ensures.puts _ c.put_end-len.ensures.ends)
+    (c.put.ensures.puts _ c.put_query_and_fragment-len.ensures.ends)

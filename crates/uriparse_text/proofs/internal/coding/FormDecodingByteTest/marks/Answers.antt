@@ -1,7 +1,7 @@
 use Rattle.std.proofs.Common.{refl}
 use Rattle.std.specs.Prelude.{◌==◌, ◌||◌}
 use Rattle.uriparse_text.specs.Bytes.{percent, plus_sign}
-use Rattle.uriparse_text.proofs.lemmas.canonical.SettledLemmas.{masks_of_either}
+use Rattle.uriparse_text.proofs.lemmas.canonical.CanonicalPrefixLemmas.{masks_of_either}
 use Rattle.uriparse_text.proofs.internal.coding.FormDecodingByteTest.marks.Goals as goal
 
 pub returns : goal.returns

@@ -7,5 +7,5 @@ use Rattle.uriparse_text.proofs.internal.found.Found.words.Goals as goal
 pub returns-in-0 : goal.returns-in-0
 returns-in-0 g c =
     let none : AreWords g.K.TextKind.class g.K.TextKind.case 0 0 None =
-    record { is_there = refl; is_long = refl; is_kept = record { inside = IsIn-plain g.K.TextKind.class [] refl; canonical = λ h. absurd (false≢true h) } } in
+    record { is_there = refl; is_long = refl; is_valid_text = record { inside = IsIn-plain g.K.TextKind.class [] refl; canonical = λ h. absurd (false≢true h) } } in
     search rules

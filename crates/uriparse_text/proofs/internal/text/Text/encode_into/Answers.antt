@@ -1,7 +1,7 @@
 use Rattle.std.proofs.Common.{◌≡◌, ℕ, List, true, take, Ok, Err, IfOk, subst, arith}
 use Rattle.std.specs.Prelude.{Result}
 use Rattle.uriparse_text.specs.declared.internal.class.Class.{Class}
-use Rattle.uriparse_text.specs.declared.internal.starts.TooSmall.{TooSmall}
+use Rattle.uriparse_text.specs.declared.internal.forward_buffer.TooSmall.{TooSmall}
 use Rattle.uriparse_text.specs.Coding.{are_bytes, decoded, encoded}
 use Rattle.uriparse_text.specs.Starts.{Writes}
 use Rattle.uriparse_text.proofs.lemmas.tokens.CodingLemmas.{decoded-written}

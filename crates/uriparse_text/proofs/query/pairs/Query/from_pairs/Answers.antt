@@ -6,24 +6,24 @@ use Rattle.uriparse_text.proofs.lemmas.readings.PairLemmas.{joined_query, writte
 use Rattle.uriparse_text.proofs.lemmas.tokens.BackLemmas.{form_back}
 use Rattle.uriparse_text.proofs.query.pairs.Query.from_pairs.Goals as goal
 
-pub made_text-requires : goal.made_text-requires
-made_text-requires c =
+pub text_from_checked_vec-requires : goal.text_from_checked_vec-requires
+text_from_checked_vec-requires c =
     let is : c.push_pairs.new.text.items ≡ joined_pairs (map encoded_pair (map given c.args.pairs.now)) =
     c.in_ok-push_pairs.ensures.text ∙ ap (λ l. l ++ joined_pairs (map encoded_pair (map given c.args.pairs.now))) c.in_ok-text.ensures.items in
     subst IsQuery (sym is) (joined_query (map given c.args.pairs.now))
 
 pub returns-clause-back : goal.returns-clause-back
 returns-clause-back c = λ some.
-    let is : c.made_text.result ≡ joined_pairs (map encoded_pair (map given c.args.pairs.now)) =
-    c.made_text.ensures ∙ c.in_ok-push_pairs.ensures.text
+    let is : c.text_from_checked_vec.result ≡ joined_pairs (map encoded_pair (map given c.args.pairs.now)) =
+    c.text_from_checked_vec.ensures ∙ c.in_ok-push_pairs.ensures.text
     ∙ ap (λ l. l ++ joined_pairs (map encoded_pair (map given c.args.pairs.now))) c.in_ok-text.ensures.items in
     ap (λ q. map decoded_pair (pairs q)) is
     ∙ written_back (map given c.args.pairs.now) (subst (λ n. 0 < n) (sym (length-map c.args.pairs.now given)) some) c.in_ok-push_pairs.ensures.bytes
 
 pub returns-clause-form_back : goal.returns-clause-form_back
 returns-clause-form_back c = λ some.
-    let is : c.made_text.result ≡ joined_pairs (map encoded_pair (map given c.args.pairs.now)) =
-    c.made_text.ensures ∙ c.in_ok-push_pairs.ensures.text
+    let is : c.text_from_checked_vec.result ≡ joined_pairs (map encoded_pair (map given c.args.pairs.now)) =
+    c.text_from_checked_vec.ensures ∙ c.in_ok-push_pairs.ensures.text
     ∙ ap (λ l. l ++ joined_pairs (map encoded_pair (map given c.args.pairs.now))) c.in_ok-text.ensures.items in
     ap (λ q. map form_decoded_pair (pairs q)) is
     ∙ form_back (map given c.args.pairs.now) (subst (λ n. 0 < n) (sym (length-map c.args.pairs.now given)) some) c.in_ok-push_pairs.ensures.bytes

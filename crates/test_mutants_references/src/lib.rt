@@ -1,0 +1,177 @@
+//! Promises of `URIReference` and of schemes for which the must-fail edits beside this file put mutants.
+//!
+//! Each function hands on what the library returns, and its clauses follow from the contracts of
+//! the calls alone. So a body that breaks a clause breaks the library's too: what the prover
+//! refuses here, no body of the library does. No proof is written for a function: the search finds
+//! it.
+#![tactic(auto)]
+
+ghost use Rattle.std.specs.Prelude.{◌≡◌, ◌↔◌, Err, IfOk, IsTrue, MatchOption, MatchResult, None, Ok, OnErr, OnOk, Some, bytes_eq, false, is_some, length, string_bytes, true};
+ghost use Rattle.uriparse_text.specs.Readings.{IsUnless, Settles, SettlesUnless};
+ghost use Rattle.uriparse_text.specs.declared.segment.error.PathError.TheVariants.{OutOfMemory};
+ghost use Rattle.uriparse_scheme.specs.Scheme as schemes;
+ghost use Rattle.uriparse_path.specs.Edits.{popped};
+ghost use Rattle.uriparse_reference.specs.Edits.{Run, edited, segment_pushed};
+ghost use Rattle.uriparse_reference.specs.declared.uri_reference.edit.Edit.TheVariants as edits;
+ghost use Rattle.uriparse_reference.specs.declared.uri_reference.error.URIReferenceError.{URIReferenceError};
+ghost use Rattle.uriparse_reference.specs.declared.uri_reference.error.URIReferenceError.TheVariants as errors;
+ghost use Rattle.uriparse_reference.specs.declared.uri_reference.error.BufferError.TheVariants as buffers;
+ghost use Rattle.uriparse_reference.specs.declared.uri_reference.error.TargetError.TheVariants as targets;
+ghost use Rattle.uriparse_reference.specs.Escaped.{escaped};
+ghost use Rattle.uriparse_reference.specs.Into.{Writes};
+ghost use Rattle.uriparse_reference.specs.Key.{key};
+ghost use Rattle.uriparse_reference.specs.Normal.{normal};
+ghost use Rattle.uriparse_reference.specs.Offset.{first_fault};
+ghost use Rattle.uriparse_reference.specs.Reading.{fault};
+ghost use Rattle.uriparse_reference.specs.Reference.{Parts, Spells, print};
+ghost use Rattle.uriparse_reference.specs.Target.{target};
+ghost use Rattle.uriparse_reference.specs.View.{viewed};
+
+use std::alloc::{AllocError, Global};
+use uriparse_authority::authority::Authority;
+use uriparse_path::path::{Path, Segment};
+use uriparse_reference::uri_reference::{
+    BufferError, Edit, ReferenceView, TargetError, URIReference, URIReferenceError, escape_invalid,
+};
+use uriparse_scheme::scheme::{Scheme, SchemeError};
+
+/// Reads a scheme, which is looked up in the table of registered ones.
+pub fn read_scheme(bytes: &[u8]) -> Result<Scheme<'_>, SchemeError>
+    ensures { result ≡ schemes.reading bytes.now }
+{
+    Scheme::try_from_bytes(bytes)
+}
+
+/// Reads a reference: what is read is what the grammar spells, what it spells is read unless memory
+/// runs out, and a fault is returned whatever memory there is.
+pub fn read(alloc: Global, bytes: &[u8]) -> Result<URIReference<'_>, URIReferenceError>
+    ensures found { IfOk result (λ r. Spells bytes.now r) }
+    ensures only { (p : Parts) → Spells bytes.now p → IsUnless (errors.Path OutOfMemory) result (Ok p) }
+    ensures fault { (e : URIReferenceError) → fault bytes.now ≡ Some e → result ≡ Err e }
+{
+    URIReference::try_from_bytes(alloc, bytes)
+}
+
+/// The text of a reference, made of any text.
+pub fn escape(alloc: Global, text: &[u8]) -> Result<String, AllocError>
+    ensures text { IfOk result (λ s. string_bytes s ≡ escaped text.now) }
+    ensures kept { fault text.now ≡ None → IfOk result (λ s. string_bytes s ≡ text.now) }
+{
+    escape_invalid(alloc, text)
+}
+
+/// Sets a reference's authority, or removes it.
+pub fn set_authority<'r>(
+    reference: &mut URIReference<'r>,
+    authority: Option<Authority<'r>>,
+) -> Result<(), URIReferenceError>
+    ensures { Settles reference.old reference.new result (edited reference.old (edits.Authority authority.entry)) }
+{
+    reference.set_authority(authority)
+}
+
+/// Where a text is wrong, and why.
+pub fn offset_and_fault(bytes: &[u8]) -> Option<(usize, URIReferenceError)>
+    ensures { result ≡ first_fault bytes.now }
+{
+    URIReference::first_fault(bytes)
+}
+
+/// Makes the edits up to the first that is rejected, and returns its index.
+pub fn apply_all<'r>(
+    alloc: Global,
+    reference: &mut URIReference<'r>,
+    edits: Vec<Edit<'r>>,
+) -> Result<(), (usize, URIReferenceError)>
+    ensures { MatchResult result (λ _. Run reference.old edits.entry.items (length edits.entry.items) reference.new None) (λ e. Run reference.old edits.entry.items e.0 reference.new (Some e.1)) }
+{
+    reference.apply_all(alloc, edits)
+}
+
+/// Appends a segment to a reference's path, or leaves the reference as it was.
+pub fn push_segment<'r>(
+    alloc: Global,
+    reference: &mut URIReference<'r>,
+    segment: Segment<'r>,
+) -> Result<(), URIReferenceError>
+    ensures { SettlesUnless (errors.Path OutOfMemory) reference.old reference.new result (segment_pushed reference.old segment.entry) }
+{
+    reference.push_segment(alloc, segment)
+}
+
+/// Removes the last segment of a reference's path.
+pub fn pop_segment(reference: &mut URIReference<'_>)
+    ensures { reference.new ≡ record reference.old { path = popped reference.old.path } }
+{
+    reference.pop_segment();
+}
+
+/// Brings a reference into its normal form, or leaves it as it was.
+pub fn normalize(alloc: Global, reference: &mut URIReference<'_>) -> Result<(), AllocError>
+    ensures ok { OnOk result (reference.new ≡ normal reference.old) }
+    ensures err { OnErr result (reference.new ≡ reference.old) }
+{
+    reference.normalize(alloc)
+}
+
+/// Sets a reference's path, and returns whether the reference then prints as its normal form.
+pub fn set_path_and_test<'r>(
+    reference: &mut URIReference<'r>,
+    path: Path<'r>,
+) -> Result<bool, URIReferenceError>
+    ensures { IfOk result (λ r. IsTrue r ↔ (print (normal reference.new) ≡ print reference.new)) }
+{
+    reference.set_path(path)?;
+    Ok(reference.is_normalized())
+}
+
+/// Views a reference in its text: exactly what the grammar spells, or the fault.
+pub fn view(bytes: &[u8]) -> Result<ReferenceView<'_>, URIReferenceError>
+    ensures { result ≡ viewed bytes.now }
+{
+    ReferenceView::try_from_bytes(bytes)
+}
+
+/// The text that was viewed.
+pub fn text_of_view<'t>(view: &ReferenceView<'t>) -> &'t str
+    ensures { result.now ≡ view.now.text }
+{
+    view.as_str()
+}
+
+/// Whether two views are equal.
+pub fn are_equal_views(left: &ReferenceView<'_>, right: &ReferenceView<'_>) -> bool
+    ensures { result ≡ bytes_eq (key left.now.parts) (key right.now.parts) }
+{
+    left == right
+}
+
+/// Writes the text of the normal form to a buffer.
+pub fn normalize_into(view: &ReferenceView<'_>, out: &mut [u8]) -> Result<usize, BufferError>
+    ensures { Writes (print (normal view.now.parts)) result out.old out.new }
+{
+    view.normalize_into(out)
+}
+
+/// Writes the text of the target to a buffer, if the base has a scheme.
+pub fn resolve_into(
+    base: &ReferenceView<'_>,
+    reference: &ReferenceView<'_>,
+    out: &mut [u8],
+) -> Result<usize, BufferError>
+    ensures { is_some base.now.parts.scheme ≡ true → MatchOption (target base.now.parts reference.now.parts) ((result ≡ Err buffers.TooManySegments) × (out.new ≡ out.old)) (λ t. Writes (print t) result out.old out.new) }
+{
+    base.resolve_into(reference, out)
+}
+
+/// The text of the target, if the base has a scheme.
+pub fn resolve_to_string(
+    base: &ReferenceView<'_>,
+    alloc: Global,
+    reference: &ReferenceView<'_>,
+) -> Result<String, TargetError>
+    ensures base { is_some base.now.parts.scheme ≡ false → result ≡ Err targets.RelativeBase }
+    ensures target { is_some base.now.parts.scheme ≡ true → MatchOption (target base.now.parts reference.now.parts) (result ≡ Err targets.TooManySegments) (λ t. MatchResult result (λ s. string_bytes s ≡ print t) (λ e. e ≡ targets.OutOfMemory)) }
+{
+    base.resolve_to_string(alloc, reference)
+}

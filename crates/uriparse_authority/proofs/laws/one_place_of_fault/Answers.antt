@@ -1,6 +1,0 @@
-use Rattle.uriparse_authority.proofs.lemmas.authorities.PlaceLemmas.{before_end}
-use Rattle.uriparse_authority.proofs.lemmas.authorities.PlaceByteLemmas.{byte_there, password_escape, username_escape}
-use Rattle.uriparse_authority.proofs.laws.one_place_of_fault.Goals as goal
-
-pub returns : goal.returns
-returns c = record { byte = byte_there; username_escape = username_escape; password_escape = password_escape; within = before_end }

@@ -1,5 +1,0 @@
-use Rattle.uriparse_text.proofs.lemmas.classes.PlaceLemmas.{fault_there, faultless_before, fault_before_end}
-use Rattle.uriparse_text.proofs.laws.one_place_of_fault.Goals as goal
-
-pub returns : goal.returns
-returns c = record { byte = fault_there; before = faultless_before; within = fault_before_end }

@@ -1,0 +1,104 @@
+//! A text that is put together from its end, in the last bytes of a buffer. If it is longer than
+//! the buffer, only its length is counted.
+ghost use Rattle.std.specs.Prelude.{◌≡◌, length};
+ghost use Rattle.std.specs.Option.{option_map};
+ghost use Rattle.uriparse_text.specs.Canonical.{canonical_in};
+ghost use Rattle.uriparse_text.specs.Cuts.{following};
+ghost use Rattle.uriparse_text.specs.Ends.{Puts, formed};
+
+use super::canonical::{Case, is_canonical};
+use super::forward_buffer::append_rewritten;
+use super::length::{only_raises, spelling_len};
+use super::raise::raise_digits;
+use super::run::MayChange;
+use super::text::{Text, TextKind};
+
+/// Whether texts are put as they are or in canonical spelling.
+#[derive(Clone, Copy, Debug, PartialEq, Eq)]
+pub enum Form {
+    AsIs,
+    Canonical,
+}
+
+/// Puts bytes in front of a text of `len` bytes. Returns the length of both.
+pub fn put(bytes: &[u8], out: &mut [u8], len: usize) -> usize
+    ensures room { length out.new ≡ length out.old }
+    ensures puts { Puts bytes.now out.old len out.new result }
+{
+    let total = len.saturating_add(bytes.len());
+    if total <= out.len() {
+        let at = out.len() - total;
+        out[at..at + bytes.len()].copy_from_slice(bytes);
+    }
+    total
+}
+
+/// Writes the text's canonical spelling to a buffer of its length. A text that only has small digits
+/// is copied whole, and of others the runs that do not change.
+fn write_spelling(case: Case, text: &[u8], out: &mut [u8])
+    requires { length out.old ≡ length (canonical_in case text.now) }
+    ensures { out.new ≡ canonical_in case text.now }
+{
+    if only_raises(case, text, out.len()) {
+        out.copy_from_slice(text);
+        raise_digits(out);
+    } else {
+        let _ = append_rewritten(&MayChange(case), text, out, 0);
+    }
+}
+
+/// Puts the text's canonical spelling. Most texts are their own, and are copied whole.
+pub fn put_spelling(case: Case, text: &[u8], out: &mut [u8], len: usize) -> usize
+    ensures room { length out.new ≡ length out.old }
+    ensures puts { Puts (canonical_in case text.now) out.old len out.new result }
+{
+    if is_canonical(case, text) {
+        return put(text, out, len);
+    }
+    put_respelled(case, text, out, len)
+}
+
+/// Puts the canonical spelling of any text.
+fn put_respelled(case: Case, text: &[u8], out: &mut [u8], len: usize) -> usize
+    ensures room { length out.new ≡ length out.old }
+    ensures puts { Puts (canonical_in case text.now) out.old len out.new result }
+{
+    let spelling = spelling_len(case, text);
+    let total = len.saturating_add(spelling);
+    if total <= out.len() {
+        let at = out.len() - total;
+        write_spelling(case, text, &mut out[at..at + spelling]);
+    }
+    total
+}
+
+/// Puts the text in this form.
+pub fn put_formed(form: Form, case: Case, text: &[u8], out: &mut [u8], len: usize) -> usize
+    ensures room { length out.new ≡ length out.old }
+    ensures puts { Puts (formed form case text.now) out.old len out.new result }
+{
+    match form {
+        Form::AsIs => put(text, out, len),
+        Form::Canonical => put_spelling(case, text, out, len),
+    }
+}
+
+/// Puts a delimiter and the text that follows it, if there is one.
+pub fn put_after<K: TextKind>(
+    form: Form,
+    mark: u8,
+    text: &Option<Text<'_, K>>,
+    out: &mut [u8],
+    len: usize,
+) -> usize
+    ensures room { length out.new ≡ length out.old }
+    ensures puts { Puts (following mark (option_map (formed form K.case) text.now)) out.old len out.new result }
+{
+    match text {
+        Some(text) => {
+            let len = put_formed(form, K::case(), text.as_bytes(), out, len);
+            put(&[mark], out, len)
+        }
+        None => len,
+    }
+}
