@@ -3,10 +3,10 @@
 
 #include <string.h>
 
-enum { CALLS = 12 };
+enum { CALLS = 13 };
 
-static const char *const names[CALLS] = {"parse",  "is_uri", "equal",  "hash",      "first_fault", "normalize",
-                                         "decode", "encode", "escape", "next_pair", "origin",      "resolve"};
+static const char *const names[CALLS] = {"parse",  "is_uri", "equal",  "hash",      "first_fault", "normalize", "decode",
+                                         "encode", "escape", "next_pair", "origin", "relativize",  "resolve"};
 
 /* What a call writes. */
 struct written {
@@ -32,6 +32,7 @@ static uint32_t call(int which, const char *base, size_t base_len, const char *t
   case 8: return uriparse_escape(text, len, to->out, ROOM, &to->needed);
   case 9: return uriparse_next_pair(text, len, len / 2, &to->pair) ? URIPARSE_OK : URIPARSE_NO_ROOM;
   case 10: return uriparse_origin(text, len, to->out, ROOM, &to->needed);
+  case 11: return uriparse_relativize(base, base_len, text, len, to->out, ROOM, &to->needed);
   default: return uriparse_resolve(base, base_len, text, len, to->out, ROOM, &to->needed);
   }
 }

@@ -78,7 +78,8 @@ int main(void) {
   }
   size_t most = 0;
   for (which = 0; which < CALLS; which++) {
-    bool has_base = strcmp(names[which], "equal") == 0 || strcmp(names[which], "resolve") == 0;
+    bool has_base = strcmp(names[which], "equal") == 0 || strcmp(names[which], "resolve") == 0
+                    || strcmp(names[which], "relativize") == 0;
     size_t largest = 0;
     for (size_t i = 0; i < (has_base ? TEXTS : 1); i++) {
       for (size_t j = 0; j < TEXTS; j++) {

@@ -1,6 +1,6 @@
-/* Rows with what is expected: the tables of RFC 3986, section 5.4, normal forms, components, texts that are rejected, and
- * texts that are decoded, encoded, escaped and cut into pairs. Prints a line for each check that fails and how many passed;
- * the status is 0 if all did. */
+/* Rows with what is expected: the tables of RFC 3986, section 5.4, references that lead to a URI, normal forms, components,
+ * texts that are rejected, and texts that are decoded, encoded, escaped and cut into pairs. Prints a line for each check that
+ * fails and how many passed; the status is 0 if all did. */
 #include "uriparse.h"
 
 #include <stdio.h>
@@ -161,6 +161,30 @@ static void hashes(const char *left, const char *right, bool alike) {
             && (one == other) == alike, "hash", right);
 }
 
+static const char *base_of;
+
+static uint32_t relativize(const char *text, size_t len, uint8_t *out, size_t room, size_t *needed) {
+  return uriparse_relativize(base_of, strlen(base_of), text, len, out, room, needed);
+}
+
+/* What leads from a base to a URI has the target that the URI itself has. */
+static void relates(const char *base, const char *text, const char *expected) {
+  base_of = base;
+  writes(relativize, "relativize", text, strlen(text), expected, strlen(expected));
+  uint8_t own[100], target[100];
+  size_t own_len, len;
+  check(uriparse_resolve(base, strlen(base), text, strlen(text), own, sizeof own, &own_len) == URIPARSE_OK
+            && uriparse_resolve(base, strlen(base), expected, strlen(expected), target, sizeof target, &len) == URIPARSE_OK
+            && len == own_len && memcmp(own, target, len) == 0, "target of what leads there", text);
+}
+
+static void relates_not(const char *base, const char *text, uint32_t expected) {
+  uint8_t out[4] = {1, 2, 3, 4};
+  size_t needed = 7;
+  check(uriparse_relativize(base, strlen(base), text, strlen(text), out, 4, &needed) == expected && needed == 0 && out[0] == 1,
+        "relativize rejects", text);
+}
+
 static uint32_t origin(const char *text, size_t len, uint8_t *out, size_t room, size_t *needed) {
   return uriparse_origin(text, len, out, room, needed);
 }
@@ -228,6 +252,56 @@ int main(void) {
     resolves(base, rows[i][0], rows[i][1]);
   }
   resolves("s:/a/b", "..//c", "s:/.//c");
+
+  /* Each a base, a URI, and what leads from one to the other. */
+  static const char *const relations[][3] = {
+      {"http://a/b/c/d;p?q", "http://a/b/c/g", "g"}, {"http://a/b/c/d;p?q", "g:h", "g:h"},
+      {"http://a/b/c/d;p?q", "http:g", "http:g"}, {"http://a/b/c/d;p?q", "http://a/b/c/g/", "g/"},
+      {"http://a/b/c/d;p?q", "http://a/b/c/g?y", "g?y"}, {"http://a/b/c/d;p?q", "http://a/b/c/g#s", "g#s"},
+      {"http://a/b/c/d;p?q", "http://a/b/c/g?y#s", "g?y#s"}, {"http://a/b/c/d;p?q", "http://a/b/c/;x", ";x"},
+      {"http://a/b/c/d;p?q", "http://a/b/c/g;x", "g;x"}, {"http://a/b/c/d;p?q", "http://a/b/c/g;x?y#s", "g;x?y#s"},
+      {"http://a/b/c/d;p?q", "http://a/b/g", "../g"}, {"http://a/b/c/d;p?q", "http://a/b/c/g.", "g."},
+      {"http://a/b/c/d;p?q", "http://a/b/c/.g", ".g"}, {"http://a/b/c/d;p?q", "http://a/b/c/g..", "g.."},
+      {"http://a/b/c/d;p?q", "http://a/b/c/..g", "..g"}, {"http://a/b/c/d;p?q", "http://a/b/c/g/h", "g/h"},
+      {"http://a/b/c/d;p?q", "http://a/b/c/h", "h"}, {"http://a/b/c/d;p?q", "http://a/b/c/g;x=1/y", "g;x=1/y"},
+      {"http://a/b/c/d;p?q", "http://a/b/c/y", "y"}, {"http://a/b/c/d;p?q", "http://a/b/c/g?y/./x", "g?y/./x"},
+      {"http://a/b/c/d;p?q", "http://a/b/c/g?y/../x", "g?y/../x"}, {"http://a/b/c/d;p?q", "http://a/b/c/g#s/./x", "g#s/./x"},
+      {"http://a/b/c/d;p?q", "http://a/b/c/g#s/../x", "g#s/../x"}, {"http://a/b/c/d;p?q", "http://a/b/c/d;p?q", ""},
+      {"http://a/b/c/d;p?q", "http://a/b/c/d;p?q#s", "#s"}, {"http://a/b/c/d;p?q", "http://a/b/c/d;p?y", "?y"},
+      {"http://a/b/c/d;p?q", "http://a/b/c/d;p", "d;p"}, {"http://a/b/c/d;p?q", "http://a/b/c/", "./"},
+      {"http://a/b/c/d;p?q", "http://a/b/", "../"}, {"http://a/b/c/d;p?q", "http://a/", "../../"},
+      {"http://a/b/c/d;p?q", "http://a", "../../"}, {"http://a/b/c/d;p?q", "http://a/g", "../../g"},
+      {"http://a/b/c/d;p?q", "http://g", "//g/"}, {"http://a/b/c/d;p?q", "https://a/b/c/g", "https://a/b/c/g"},
+      {"http://a/b/c/d;p?q", "http://a/b/c/g:h", "./g:h"}, {"http://a/b/c/d;p?q", "http://a/b/c//g", ".//g"},
+      {"http://a/b", "http://a//c", ".//c"}, {"http://a/b/c", "http://a//c", "..//c"}, {"http://a/b/../c", "http://a/b/d", "/b/d"},
+      {"http://a/b/c", "http://a/b/./d", "/b/./d"}, {"http://a/b/c", "http://a//b/./d", "//a//b/./d"},
+      {"file:///a/b", "file:///a/c", "c"}, {"file:/a/b", "file:/a/c", "c"}, {"file:///a/b", "file:/a/c", "file:/a/c"},
+      {"mailto:a", "mailto:b", "b"}, {"mailto:a", "mailto:a#f", "#f"}, {"urn:isbn:1", "urn:isbn:2", "./isbn:2"},
+      {"urn:a/b/c", "urn:a/d", "../d"}, {"urn:a/b/c", "urn:d", "urn:d"}, {"x:", "x:a", "a"},
+      {"http://a/b/c/", "http://a/b/c", "../c"}, {"http://a/b/c", "http://a/b/c/", "c/"}, {"http://a/b/c?x", "http://a/b/c", "c"},
+      {"http://a/b/?x", "http://a/b/", "./"}, {"HTTP://a/b", "http://a/c", "c"}, {"http://A/b", "http://a/c", "//a/c"},
+      {"http://a/%7Eb/c", "http://a/~b/d", "../~b/d"}, {"http://a/b/c/d", "http://a/b", "../../b"},
+      {"http://a/b/c?", "http://a/b/c", "c"}, {"http://a/b/c", "http://a/b/c?", "?"}, {"http://a/b?q", "http://a/b?q", ""},
+      {"http://u@h/a", "http://u@h/b", "b"}, {"http://u@h/a", "http://h/b", "//h/b"}, {"http://h:80/a", "http://h/b", "//h/b"},
+      {"http://1.2.3.4/a", "http://1.2.3.4/b", "b"}, {"http://[::1]/a", "http://[::1]/b/", "b/"},
+      {"http://[::1]/a", "http://[0::1]/b", "b"}, {"s:/.//a", "s:/.//b", "/.//b"}, {"s:/a", "s:/.//b", "/.//b"},
+      {"s:/a", "s:", "s:"}, {"s:", "s:", ""}, {"s:a?q", "s:a", "a"}, {"s:a", "s:a?q", "?q"}, {"s:a/b", "s:a/b", ""},
+      {"s:a/../b", "s:a/../b", "s:a/../b"}, {"http://a/b/..", "http://a/b/c", "c"}, {"http://a/b/%2e%2E", "http://a/c", "../c"},
+      {"http://a/%2E/b", "http://a/c", "/c"}, {"http://a/b/c//d", "http://a/b/c//e", "e"}, {"http://a//", "http://a/", "../"},
+      {"http://a/", "http://a//", ".//"}, {"http://a/b/c", "http://a/b//", ".//"}, {"http://a/A/b", "http://a/%41/b", "../%41/b"},
+      {"foo:/a/b", "Foo:/a/c", "Foo:/a/c"}, {"foo:/a/b", "foo:/a/c", "c"}, {"foo:/a/b", "FOO:/a/c", "FOO:/a/c"},
+      {"http://a/b#f", "http://a/b", ""}, {"http://a/b#f", "http://a/b#f", "#f"}, {"s:a/b/c", "s:a/b", "../b"},
+      {"s:a/b/c", "s:a/", "../"}, {"s:a/b/c", "s:a", "s:a"}, {"s:a/b", "s:b/c", "s:b/c"}, {"s:", "s:?q", "?q"}, {"s:a", "s:", "./"},
+      {"s:a/b", "s:/a/c", "/a/c"}, {"s:a/b?q", "s:a/b", "b"}, {"s:a:b/c", "s:a:b/d:e", "./d:e"}};
+  for (size_t i = 0; i < sizeof relations / sizeof relations[0]; i++) {
+    relates(relations[i][0], relations[i][1], relations[i][2]);
+  }
+  relates_not("/a", "s:a", URIPARSE_NO_SCHEME | URIPARSE_IN_BASE);
+  relates_not("1:2", "%", URIPARSE_NO_SCHEME | URIPARSE_IN_BASE);
+  relates_not("s:%", "%", URIPARSE_PATH_ESCAPE | URIPARSE_IN_BASE);
+  relates_not("s:a", "/a", URIPARSE_NO_SCHEME);
+  relates_not("s:a", "1:2", URIPARSE_NO_SCHEME);
+  relates_not("s:a", "s:a#%", URIPARSE_FRAGMENT_ESCAPE);
 
   normalizes("HTTP://U@EXAMPLE.com:80/a/./b/../%7e%2f?%7E#%41", "http://U@example.com:80/a/~%2F?~#A");
   normalizes("", "");
@@ -346,6 +420,11 @@ int main(void) {
     needed = 7;
     check(uriparse_resolve("s:/b/c", 6, many, most, out, 4, &needed) == URIPARSE_TOO_MANY_SEGMENTS && needed == 0,
           "1,000,001 segments, resolved", "a////..");
+    memcpy(many, "s:/a", 4);
+    check(uriparse_relativize("s:/b", 4, many, most, out, 4, &needed) == URIPARSE_NO_ROOM && needed == most - 3, "long text, related", "s:/a//..");
+    check(uriparse_relativize(many, most, "s:/b", 4, out, 4, &needed) == URIPARSE_OK && needed == 2 && memcmp(out, "/b", 2) == 0,
+          "too many segments, related", "s:/a//..");
+    memcpy(many, "a///", 4);
     check(uriparse_normalize(many, most, out, 4, &needed) == URIPARSE_NO_ROOM && needed == most, "long normal form", "a////..");
     check(uriparse_escape(many, most + 1, out, 4, &needed) == URIPARSE_NO_ROOM && needed == most + 1, "long text, escaped", "a////..");
     check(uriparse_encode(URIPARSE_SEGMENT, many, most, out, 4, &needed) == URIPARSE_NO_ROOM && needed == 3 * most - 2,
@@ -386,6 +465,7 @@ int main(void) {
     check(uriparse_hash(NULL, 0, &hash) == URIPARSE_OK, "hash", "NULL");
     check(uriparse_normalize(NULL, 0, NULL, 0, &needed) == URIPARSE_OK && needed == 0, "normalize", "NULL");
     check(uriparse_resolve("s:", 2, NULL, 0, NULL, 0, &needed) == URIPARSE_NO_ROOM && needed == 2, "resolve", "NULL");
+    check(uriparse_relativize("s:", 2, NULL, 0, NULL, 0, &needed) == URIPARSE_NO_SCHEME && needed == 0, "relativize", "NULL");
     check(uriparse_origin(NULL, 0, NULL, 0, &needed) == URIPARSE_NO_ORIGIN && needed == 0, "origin", "NULL");
     check(uriparse_decode(NULL, 0, NULL, 0, &needed) == URIPARSE_OK && needed == 0, "decode", "NULL");
     check(uriparse_encode(URIPARSE_QUERY, NULL, 0, NULL, 0, &needed) == URIPARSE_OK && needed == 0, "encode", "NULL");

@@ -74,6 +74,7 @@ static void check_null() {
   check(uriparse_encode(URIPARSE_QUERY, nullptr, 0, nullptr, 0, &needed) == URIPARSE_OK && needed == 0, "encode null");
   check(uriparse_escape(nullptr, 0, nullptr, 0, &needed) == URIPARSE_OK && needed == 0, "escape null");
   check(uriparse_origin(nullptr, 0, nullptr, 0, &needed) == URIPARSE_NO_ORIGIN && needed == 0, "origin null");
+  check(uriparse_relativize("s:", 2, nullptr, 0, nullptr, 0, &needed) == URIPARSE_NO_SCHEME && needed == 0, "relativize null");
   uriparse_pair pair;
   check(uriparse_next_pair(nullptr, 0, 0, &pair) && pair.next == 1 && !uriparse_next_pair(none.data(), 0, 1, &pair), "next_pair null");
 }

@@ -35,6 +35,7 @@ def test_calls() -> None:
     assert uriparse.hash_of(b"a%7e") == uriparse.hash_of(b"a~")
     assert uriparse.normalize(b"HTTP://H/%7e/../x") == b"http://h/x"
     assert uriparse.resolve(b"http://a/b/c", b"../g#s") == b"http://a/g#s"
+    assert uriparse.relativize(b"http://a/b/c", b"http://a/g#s") == b"../g#s" and uriparse.relativize(b"s:a", b"s:a") == b""
     assert uriparse.decode(b"a%20b%00+") == b"a b\0+" and uriparse.decode(b"") == b""
     assert uriparse.encode("segment", b"a/b c") == b"a%2Fb%20c" and uriparse.encode("query", b"") == b""
     assert [uriparse.encode(name, b":/") for name in uriparse.ENCODED] == [b"%3A%2F", b":%2F", b":%2F", b":/", b":/"]
@@ -54,6 +55,10 @@ def test_rejected() -> None:
     rejects(0x51, 1, b"a b", uriparse.resolve, b"s:", b"a b")
     rejects(0x152, 2, b"s:%", uriparse.resolve, b"s:%", b"%")
     rejects(0x103, 0, b"/a", uriparse.resolve, b"/a", b"b")
+    rejects(0x51, 3, b"s:a b", uriparse.relativize, b"s:", b"s:a b")
+    rejects(0x152, 2, b"s:%", uriparse.relativize, b"s:%", b"%")
+    rejects(3, 0, b"/a", uriparse.relativize, b"s:", b"/a")
+    rejects(0x103, 0, b"/a", uriparse.relativize, b"/a", b"b")
     rejects(10, 0, b"file:///a", uriparse.origin, b"file:///a")
     rejects(0x51, 9, b"http://h/ ", uriparse.origin, b"http://h/ ")
 
@@ -76,7 +81,7 @@ def test_components() -> None:
 
 def test_messages() -> None:
     assert str(raised(uriparse.parse, b"http://h/a b")) == "first wrong byte 10: invalid byte in the path: b'http://h/a b'"
-    assert str(raised(uriparse.resolve, b"/a", b"")) == "the base has no scheme: b'/a'"
+    assert str(raised(uriparse.resolve, b"/a", b"")) == "base: the scheme is missing: b'/a'"
     assert str(raised(uriparse.origin, b"/a")) == "the reference has no origin: b'/a'"
     assert str(raised(uriparse.resolve, b"s:%", b"")) == (
         "base: first wrong byte 2: invalid percent-encoding in the path: b's:%'")

@@ -1,4 +1,4 @@
-/* URIs and URI references of RFC 3986: read, compare, hash, normalize, resolve, decode, encode and escape them, write
+/* URIs and URI references of RFC 3986: read, compare, hash, normalize, resolve, relativize, decode, encode and escape them, write
  * their origins, and read the pairs of a query. The code behind these calls is proved: it is safe, it terminates, and it computes what this header says of results, codes and
  * what is written. That no call allocates, and what it says of threads, signal handlers and the stack, is only tested.
  * README.md says more.
@@ -34,13 +34,13 @@
 
 /* What a call returns. The error of a text is its first one: of the authority (user name, password, host, port), then
  * of the path, the colon rule, the query, the fragment; and within each of these the leftmost one. `code & 0xf0` names
- * the component, unless it is 0, and `code & URIPARSE_IN_BASE` is set if `uriparse_resolve` rejects the base. Later
- * versions may add codes. */
+ * the component, unless it is 0, and `code & URIPARSE_IN_BASE` is set if `uriparse_resolve` or `uriparse_relativize`
+ * rejects the base. Later versions may add codes. */
 enum uriparse_code {
   URIPARSE_OK = 0,
   URIPARSE_OUT_OF_MEMORY = 1,     /* reserved: earlier versions allocated */
   URIPARSE_NO_ROOM = 2,           /* `room` is too small: `*needed` bytes are enough */
-  URIPARSE_NO_SCHEME = 3,         /* of a base alone: it has no scheme, and no error but code 4 */
+  URIPARSE_NO_SCHEME = 3,         /* of a base, and of the URI of `uriparse_relativize`: no scheme, and no error but code 4 */
   URIPARSE_COLON_IN_SEGMENT = 4,  /* without a scheme, a colon precedes the path's first slash: "1:2" */
   URIPARSE_TOO_MANY_SEGMENTS = 5, /* a path, or the one merged of both, has more than 1,000,000 segments */
   URIPARSE_NO_COMPONENT = 8,      /* of `uriparse_encode` alone: the number is none of uriparse_component */
@@ -164,7 +164,7 @@ uint32_t uriparse_hash(const uint8_t *text, size_t len, uint64_t *hash);
  * `*needed` its length. If `room` is less, returns URIPARSE_NO_ROOM, and `out` is unchanged. No zero byte follows the
  * text; what follows it in `out` is unchanged. Does not allocate.
  *
- * In each text that is written, also by `uriparse_resolve`, a registered scheme is in lower case, a port has no leading
+ * In each text that is written, also by `uriparse_resolve` and `uriparse_relativize`, a registered scheme is in lower case, a port has no leading
  * zeros, an empty port is left out, an IPv6 address is as RFC 5952 writes it, and an empty path after an authority is
  * "/".
  *
@@ -184,6 +184,20 @@ uint32_t uriparse_normalize(const uint8_t *text, size_t len, uint8_t *out, size_
  * The caller ensures: each text is readable for its length; `out` is writable for `room` bytes; `needed` is writable. */
 uint32_t uriparse_resolve(const uint8_t *base, size_t base_len, const uint8_t *text, size_t len, uint8_t *out,
                           size_t room, size_t *needed);
+
+/* Writes to `out` the text of the reference that leads from a base to a URI, as `uriparse_normalize` does: resolved against
+ * the base, it yields what the URI itself yields, which is the URI again if its path has no dot segments. It is "../g#s" of
+ * "http://a/b/c/d" and "http://a/b/g#s".
+ *
+ * It omits what both have in the same spelling, from the front: the scheme, then the authority, then directories; and the
+ * query if all before it is the same. A relative path has a ".." for each directory of the base that the URI isn't in. Where
+ * none leads there, as to or from a path with dot segments, the reference has the whole path, or the authority or the scheme
+ * too. A base or a URI without a scheme is rejected; a base's fragment is ignored. If both texts are faulty, the
+ * error is the base's. Does not allocate.
+ *
+ * The caller ensures: each text is readable for its length; `out` is writable for `room` bytes; `needed` is writable. */
+uint32_t uriparse_relativize(const uint8_t *base, size_t base_len, const uint8_t *text, size_t len, uint8_t *out,
+                             size_t room, size_t *needed);
 
 /* Writes to `out` the text of the origin of a URI (RFC 6454, sections 4 and 6.2), as `uriparse_normalize` does: its scheme,
  * its host and, unless that is the scheme's default port, its port. It is "https://example.com" of
@@ -288,6 +302,12 @@ inline uint32_t uriparse_resolve(const void *base, size_t base_len, const void *
                                       needed);
 }
 
+inline uint32_t uriparse_relativize(const void *base, size_t base_len, const void *text, size_t len, void *out,
+                                    size_t room, size_t *needed) {
+  return uriparse_c::uriparse_relativize(uriparse_text(base), base_len, uriparse_text(text), len, uriparse_room(out), room,
+                                         needed);
+}
+
 inline uint32_t uriparse_origin(const void *text, size_t len, void *out, size_t room, size_t *needed) {
   return uriparse_c::uriparse_origin(uriparse_text(text), len, uriparse_room(out), room, needed);
 }
@@ -329,6 +349,8 @@ static inline uint8_t *uriparse_room(void *out) {
   (uriparse_normalize)(uriparse_text(text), len, uriparse_room(out), room, needed)
 #define uriparse_resolve(base, base_len, text, len, out, room, needed)                                                 \
   (uriparse_resolve)(uriparse_text(base), base_len, uriparse_text(text), len, uriparse_room(out), room, needed)
+#define uriparse_relativize(base, base_len, text, len, out, room, needed)                                              \
+  (uriparse_relativize)(uriparse_text(base), base_len, uriparse_text(text), len, uriparse_room(out), room, needed)
 #define uriparse_origin(text, len, out, room, needed)                                                                  \
   (uriparse_origin)(uriparse_text(text), len, uriparse_room(out), room, needed)
 #define uriparse_next_pair(query, len, at, pair) (uriparse_next_pair)(uriparse_text(query), len, at, pair)
@@ -346,7 +368,7 @@ static inline const char *uriparse_error_text(uint32_t code) {
   case URIPARSE_OK: return "no error";
   case URIPARSE_OUT_OF_MEMORY: return "out of memory";
   case URIPARSE_NO_ROOM: return "the buffer is too small";
-  case URIPARSE_NO_SCHEME: return "the base has no scheme";
+  case URIPARSE_NO_SCHEME: return "the scheme is missing";
   case URIPARSE_COLON_IN_SEGMENT: return "a colon in the first segment of a reference without a scheme";
   case URIPARSE_TOO_MANY_SEGMENTS: return "the path has too many segments";
   case URIPARSE_NO_COMPONENT: return "no component has this number";

@@ -36,7 +36,8 @@ def row(base, text):
     return {
         "text": text.decode(), "base": base.decode(), "parts": result(parts, text), "fault": uriparse.first_fault(text),
         "is_uri": uriparse.is_uri(text), "equal": result(uriparse.equal, base, text), "normal": result(uriparse.normalize, text),
-        "target": result(uriparse.resolve, base, text), "origin": result(uriparse.origin, text), "pairs": pairs(text),
+        "target": result(uriparse.resolve, base, text), "relative": result(uriparse.relativize, base, text),
+        "origin": result(uriparse.origin, text), "pairs": pairs(text),
         "hash": str(number) if isinstance(number, int) else number}
 
 

@@ -34,7 +34,8 @@ function row(base, text) {
   return {
     text, base, parts: result(() => parts(text)), fault: fault && [fault.code, fault.place],
     is_uri: uris.isURI(text), equal: result(() => uris.equal(base, text)), normal: result(() => uris.normalize(text)),
-    target: result(() => uris.resolve(base, text)), origin: result(() => uris.origin(text)), pairs: uris.pairs(text),
+    target: result(() => uris.resolve(base, text)), relative: result(() => uris.relativize(base, text)),
+    origin: result(() => uris.origin(text)), pairs: uris.pairs(text),
     hash: typeof hash === "bigint" ? String(hash) : hash,
   };
 }

@@ -119,7 +119,7 @@ await test("the messages are those of the header", async () => {
 });
 
 await test("no fault", () => assert.equal(uris.fault("http://h/a"), null));
-await test("a base without a scheme", () => assert.throws(() => uris.resolve("/a", "b"), { inBase: true, argument: "base", component: "scheme", code: 0x103, place: 0, message: "the base has no scheme" }));
+await test("a base without a scheme", () => assert.throws(() => uris.resolve("/a", "b"), { inBase: true, argument: "base", component: "scheme", code: 0x103, place: 0, message: "base: the scheme is missing" }));
 await test("the base's error comes first", () => assert.throws(() => uris.resolve("s:%", "%"), { inBase: true, argument: "base", text: "s:%" }));
 await test("the reference's error", () => assert.throws(() => uris.resolve("s:a", "%"), { inBase: false, argument: "reference", text: "%", place: 0 }));
 await test("the merged path has too many segments", () => {
@@ -175,6 +175,13 @@ await test("decoded", () => {
   assert.throws(() => uris.decode("a%2"), { name: "URIParseError", code: 0x62, component: "query", place: 1, text: "a%2" });
   assert.throws(() => uris.decode("é"), { code: 0x61, place: 0 });
   assert.throws(() => uris.decode("a#%"), { code: 0x61, place: 1 });
+});
+await test("what leads to a URI", () => {
+  assert.equal(uris.relativize("http://a/b/c/d?q", "http://a/b/g#s"), "../g#s");
+  assert.equal(uris.relativize(new URL("http://a/b"), new URL("http://c/")), "//c/");
+  assert.equal(uris.relativize("s:a", "s:a"), "");
+  assert.throws(() => uris.relativize("s:", "/a"), { inBase: false, argument: "reference", component: "scheme", code: 3, place: 0, message: "reference: the scheme is missing" });
+  assert.throws(() => uris.relativize("/a", "%"), { inBase: true, argument: "base", code: 0x103 });
 });
 await test("origins", () => {
   assert.equal(uris.origin("HTTPS://u@EXAMPLE.com:443/b?c"), "https://example.com");

@@ -17,7 +17,8 @@ async function told(text: string): Promise<string> {
   const values: (string | null)[] = pairs.map(([name, value]) => value ?? name);
   const hash: bigint = uris.hash(text) % 2n;
   const equal: boolean = uris.equal(text, uris.normalize(text)) && uris.isURI(uris.resolve(text, "a"));
-  return [host?.[0], kind, parts.port?.toFixed(), segments, names, bytes.length, values, hash, equal, uris.escape(text), uris.origin(text)].join();
+  return [host?.[0], kind, parts.port?.toFixed(), segments, names, bytes.length, values, hash, equal, uris.escape(text), uris.origin(text),
+    uris.relativize(text, text)].join();
 }
 
 // @ts-expect-error no component is encoded as a path

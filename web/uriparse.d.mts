@@ -40,9 +40,9 @@ export class URIParseError extends Error {
   readonly place: number;
   /** The text that is rejected. */
   readonly text: string;
-  /** Which text of the call it is. */
+  /** Which text of the call it is; the URI of `relativize` is its reference. */
   readonly argument: "text" | "base" | "reference" | "left" | "right";
-  /** Whether it is the base of `resolve`. */
+  /** Whether it is the base of `resolve` or `relativize`. */
   readonly inBase: boolean;
 }
 
@@ -63,6 +63,7 @@ export interface URIs {
   hash(text: Input): bigint;
   normalize(text: Input): string;
   resolve(base: Input, reference: Input): string;
+  relativize(base: Input, uri: Input): string;
   origin(text: Input): string;
   /** A lone surrogate is a `TypeError`. */
   escape(text: Input): string;

@@ -7,7 +7,7 @@
 // It needs a browser or a runtime with WebAssembly memories of 64-bit addresses: `isSupported()` says whether it is one.
 
 const CODES = {
-  3: ["scheme", "the base has no scheme"],
+  3: ["scheme", "the scheme is missing"],
   4: ["path", "a colon in the first segment of a reference without a scheme"],
   5: ["path", "the path has too many segments"],
   8: [null, "no component has this number"],
@@ -32,7 +32,6 @@ const CODES = {
 };
 
 const NO_ROOM = 2;
-const NO_SCHEME = 3;
 const IN_BASE = 0x100;
 const HOST_KINDS = { 1: "name", 4: "ipv4", 6: "ipv6", 7: "ipvfuture" };
 const ENCODED = { username: 0x10, password: 0x20, segment: 0x50, query: 0x60, fragment: 0x70 };
@@ -71,7 +70,7 @@ function meaning(code) {
 export class URIParseError extends Error {
   constructor(code, place, text, argument = "text") {
     const [component, message] = meaning(code);
-    const one = argument === "text" || (code & ~IN_BASE) === NO_SCHEME ? "" : `${argument}: `;
+    const one = argument === "text" ? "" : `${argument}: `;
     super(`${one}${message}${place === null ? "" : `, at index ${place}`}`);
     this.name = "URIParseError";
     this.code = code;
@@ -316,6 +315,11 @@ class URIs {
   /** The text of the target of a reference against a base: section 5.2.2. */
   resolve(base, reference) {
     return this.#written("uriparse_resolve", [textOf(base), textOf(reference)]);
+  }
+
+  /** The text of the reference that leads from a base to a URI: resolved against the base, it yields what the URI yields. */
+  relativize(base, uri) {
+    return this.#written("uriparse_relativize", [textOf(base), textOf(uri)]);
   }
 
   /** The text of a reference, made of any text: with escapes for what may not stand where it does. */

@@ -16,7 +16,8 @@ from ._library import COMPONENTS, Buffer, Parts, Span, called
 __all__ = [
     "COMPONENTS", "ENCODED", "IN_BASE", "NO_ROOM", "Buffer", "Components", "Encodable", "HostKind", "Parts", "Span", "URIError",
     "decode", "encode", "equal", "error_text", "escape", "first_fault", "get_many", "hash_of", "is_uri", "normalize",
-    "normalize_many", "origin", "pairs", "parse", "parse_many", "resolve", "resolve_many", "spans"]
+    "normalize_many", "origin", "pairs", "parse", "parse_many", "relativize", "resolve",
+    "resolve_many", "spans"]
 __version__ = "0.3.0"
 
 Encodable = Literal["username", "password", "segment", "query", "fragment"]
@@ -34,7 +35,7 @@ _ERROR_TEXTS = {
     0: "no error",
     1: "out of memory",
     2: "the buffer is too small",
-    3: "the base has no scheme",
+    3: "the scheme is missing",
     4: "a colon in the first segment of a reference without a scheme",
     5: "the path has too many segments",
     8: "no component has this number",
@@ -76,7 +77,7 @@ def _excerpt(text: bytes, place: int) -> str:
 
 def _message(code: int, text: bytes, place: int) -> str:
     why = code & ~IN_BASE
-    whose = "base: " if code & IN_BASE and why != _NO_SCHEME else ""
+    whose = "base: " if code & IN_BASE else ""
     is_placed = why not in (_NO_SCHEME, _NO_ORIGIN) and (why != _TOO_MANY_SEGMENTS or place)
     where = "first wrong byte %d: " % place if is_placed else ""
     return "%s%s%s: %s" % (whose, where, error_text(code), _excerpt(text, place))
@@ -228,6 +229,11 @@ def normalize(text: Buffer) -> bytes:
 def resolve(base: Buffer, reference: Buffer) -> bytes:
     """The text of the target of a reference against a base."""
     return _written(_library.resolve, base, reference)
+
+
+def relativize(base: Buffer, uri: Buffer) -> bytes:
+    """The text of the reference that leads from a base to a URI: resolved against the base, it yields what the URI yields."""
+    return _written(_library.relativize, base, uri)
 
 
 def origin(text: Buffer) -> bytes:

@@ -153,6 +153,7 @@ equal = _export("equal", ctypes.c_uint32, *_text, *_text, ctypes.POINTER(ctypes.
 hash_of = _export("hash", ctypes.c_uint32, *_text, ctypes.POINTER(ctypes.c_uint64))
 normalize = _export("normalize", ctypes.c_uint32, *_text, *_out)
 resolve = _export("resolve", ctypes.c_uint32, *_text, *_text, *_out)
+relativize = _export("relativize", ctypes.c_uint32, *_text, *_text, *_out)
 origin = _export("origin", ctypes.c_uint32, *_text, *_out)
 next_pair = _export("next_pair", ctypes.c_bool, *_text, _size, ctypes.POINTER(Pair))
 decode = _export("decode", ctypes.c_uint32, *_text, *_out)

@@ -19,6 +19,7 @@ ghost use Rattle.uriparse_reference.specs.Normal.{normal};
 ghost use Rattle.uriparse_reference.specs.Offset.{first_fault};
 ghost use Rattle.uriparse_reference.specs.Reading.{fault};
 ghost use Rattle.uriparse_reference.specs.Reference.{Parts, Spells, print};
+ghost use Rattle.uriparse_reference.specs.Relate.{Relates};
 ghost use Rattle.uriparse_reference.specs.Target.{target};
 ghost use Rattle.uriparse.specs.declared.uri.origin.Origin.{Origin};
 ghost use Rattle.uriparse.specs.Origin.{origin, text as origin_text};
@@ -35,6 +36,7 @@ use uriparse_ffi::coding::{write_decoded, write_encoded, write_escaped};
 use uriparse_ffi::origins::write_origin;
 use uriparse_ffi::pairs::{UriPair, pair_at};
 use uriparse_ffi::places::{UriParts, places};
+use uriparse_ffi::relatives::write_relative;
 use uriparse_ffi::texts::{equal_texts, hashed, write_normal, write_target};
 use uriparse_reference::internal::find_pieces;
 use uriparse_reference::uri_reference::URIReference;
@@ -156,6 +158,27 @@ pub extern "C" fn uriparse_resolve(
     ensures reference { (b : Parts) (e : URIReferenceError) → Spells base.now b → is_some b.scheme ≡ true → fault reference.now ≡ Some e → IsRefused (spec.code_of e) out.old out.new needed.new result }
 {
     write_target(base, reference, out, needed)
+}
+
+/// Writes the text of the reference that leads from a base to a URI to the buffer. Does not allocate.
+#[unsafe(no_mangle)]
+pub extern "C" fn uriparse_relativize(
+    base: &[u8],
+    uri: &[u8],
+    out: &mut [u8],
+    needed: &mut usize,
+) -> u32
+    // The buffer holds the text of a reference that has the target of the URI and leaves out what it
+    // can, or it is too small.
+    ensures written { (b t : Parts) → Spells base.now b → is_some b.scheme ≡ true → Spells uri.now t → is_some t.scheme ≡ true → (r : Parts) × Relates b t r × IsPut (print r) out.old out.new needed.new result }
+
+    // A base or a URI without a scheme is rejected, and so is a faulty text, the base first.
+    ensures relative_base { (b : Parts) → Spells base.now b → is_some b.scheme ≡ false → IsRefused (spec.base_code spec.no_scheme) out.old out.new needed.new result }
+    ensures base { (e : URIReferenceError) → fault base.now ≡ Some e → IsRefused (spec.base_code (spec.uri_code (map_error e))) out.old out.new needed.new result }
+    ensures relative { (b t : Parts) → Spells base.now b → is_some b.scheme ≡ true → Spells uri.now t → is_some t.scheme ≡ false → IsRefused spec.no_scheme out.old out.new needed.new result }
+    ensures refused { (b : Parts) (e : URIReferenceError) → Spells base.now b → is_some b.scheme ≡ true → fault uri.now ≡ Some e → IsRefused (spec.uri_code (map_error e)) out.old out.new needed.new result }
+{
+    write_relative(base, uri, out, needed)
 }
 
 /// Writes the text of the origin of a URI to the buffer. Does not allocate.

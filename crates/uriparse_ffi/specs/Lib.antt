@@ -5,4 +5,5 @@ pub mod Origins
 pub mod Pairs
 pub mod Put
 pub mod Places
+pub mod Relatives
 pub mod Spans

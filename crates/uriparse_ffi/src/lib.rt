@@ -11,5 +11,6 @@ pub mod origins;
 pub mod pairs;
 pub mod places;
 pub mod put;
+pub mod relatives;
 pub mod span;
 pub mod texts;

@@ -28,7 +28,7 @@ pub(crate) fn view(text: &[u8]) -> Result<ReferenceView<'_>, u32>
 }
 
 /// Views a base in its text, or returns the code of its error.
-fn view_base(text: &[u8]) -> Result<ReferenceView<'_>, u32>
+pub(crate) fn view_base(text: &[u8]) -> Result<ReferenceView<'_>, u32>
     ensures found { (p : Parts) → Spells text.now p → is_some p.scheme ≡ true → result ≡ Ok (record { text = text.now; parts = p }) }
     ensures kind { IfOk result (λ b. is_some b.parts.scheme ≡ true) }
     ensures relative { (p : Parts) → Spells text.now p → is_some p.scheme ≡ false → result ≡ Err (spec.base_code spec.no_scheme) }

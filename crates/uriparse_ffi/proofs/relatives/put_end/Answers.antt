@@ -1,0 +1,19 @@
+use Rattle.std.proofs.Common.{◌++◌, ap, append-nil, subst, ◌∙◌}
+use Rattle.std.specs.Option.{option_map}
+use Rattle.uriparse_text.specs.declared.internal.canonical.Case.TheVariants.{Kept}
+use Rattle.uriparse_text.specs.declared.internal.backward_buffer.Form.TheVariants.{AsIs}
+use Rattle.uriparse_text.specs.Bytes.{number_sign, question_mark}
+use Rattle.uriparse_text.specs.Cuts.{following}
+use Rattle.uriparse_text.specs.Ends.{EndsWith, formed}
+use Rattle.uriparse_reference.proofs.lemmas.writing.EndLemmas.{as_is, ends_none}
+use Rattle.uriparse_ffi.proofs.relatives.put_end.Goals as goal
+
+pub returns-clause-ends : goal.returns-clause-ends
+returns-clause-ends c =
+    let query = following question_mark (option_map (formed AsIs Kept) c.args.query.now) in
+    let fragment = following number_sign (option_map (formed AsIs Kept) c.args.fragment.now) in
+    subst (EndsWith c.put_after.new.out c.put_after.result)
+    (ap (λ u. query ++ u) (append-nil fragment)
+    ∙ ap (λ o. following question_mark o ++ fragment) (as_is c.args.query.now)
+    ∙ ap (λ o. following question_mark c.args.query.now ++ following number_sign o) (as_is c.args.fragment.now))
+    (c.put_after.ensures.puts _ (c.put_after-len.ensures.puts _ (ends_none c.args.out.now)))

@@ -1,0 +1,283 @@
+//! The text of the reference that leads from a base to a URI, in a caller's buffer: the reverse of
+//! RFC 3986, section 5.2. Nothing here allocates.
+ghost use Rattle.std.specs.Prelude.{◌≡◌, ◌↔◌, ◌++◌, IfOk, IsTrue, None, Ok, Err, Some, is_some, length, true, false};
+ghost use Rattle.std.specs.Option.{option_map};
+ghost use Rattle.uriparse_text.specs.Bytes.{colon, number_sign, question_mark};
+ghost use Rattle.uriparse_text.specs.Cuts.{ahead, following};
+ghost use Rattle.uriparse_text.specs.Ends.{EndsWith, Puts};
+ghost use Rattle.uriparse_text.specs.Starts.{Writes};
+ghost use Rattle.uriparse_scheme.specs.Scheme as schemes;
+ghost use Rattle.uriparse_authority.specs.Authority as authorities;
+ghost use Rattle.uriparse_path.specs.Path.{PathParts, text};
+ghost use Rattle.uriparse_path.specs.Relate.{no_path};
+ghost use Rattle.uriparse_reference.specs.declared.uri_reference.error.URIReferenceError.{URIReferenceError};
+ghost use Rattle.uriparse_reference.specs.Reading.{fault};
+ghost use Rattle.uriparse_reference.specs.Reference.{Parts, Spells, Valid, after_slashes, print};
+ghost use Rattle.uriparse_reference.specs.Relate.{IsInPlace, IsQueryLeft, Relates, following_path, network};
+ghost use Rattle.uriparse.specs.Uri.{map_error};
+ghost use Rattle.uriparse_ffi.specs.Code as codes;
+ghost use Rattle.uriparse_ffi.specs.Put.{IsPut, IsRefused};
+ghost use Rattle.uriparse_ffi.specs.Relatives as spec;
+
+use crate::code::uri_code;
+use crate::put::{answer_room, refuse};
+use crate::texts::view_base;
+use uriparse::{Authority, Fragment, Query, ReferenceView, Scheme, TooSmall, URIError};
+use uriparse_authority::internal as authority;
+use uriparse_text::internal::{Form, put, put_after};
+
+mod path;
+mod same;
+
+use path::{PathText, has_dots, inner, put_path, whole_path};
+use same::{has_same_authority, has_same_scheme, has_same_text};
+
+/// What a reference is put together from that leads to a target. It borrows the target's texts.
+#[derive(Drop)]
+struct RelativeParts<'t> {
+    scheme: Option<Scheme<'t>>,
+    authority: Option<Authority<'t>>,
+    path: PathText<'t>,
+    query: Option<Query<'t>>,
+    fragment: Option<Fragment<'t>>,
+}
+
+/// What a view has found is valid. Does nothing.
+#[inline]
+fn is_valid(view: &ReferenceView<'_>)
+    ensures { Valid view.now.parts }
+{
+    let _text = view.as_str();
+}
+
+/// The target.
+fn whole<'t>(target: &ReferenceView<'t>) -> RelativeParts<'t>
+    ensures { spec.IsOf result target.now.parts }
+{
+    RelativeParts {
+        scheme: target.scheme(),
+        authority: target.authority(),
+        path: whole_path(target.path().as_bytes()),
+        query: target.query(),
+        fragment: target.fragment(),
+    }
+}
+
+/// The target, without its scheme if it has an authority.
+fn without_scheme<'t>(target: &ReferenceView<'t>) -> RelativeParts<'t>
+    ensures { spec.IsOf result (network target.now.parts) }
+{
+    let mut relative = whole(target);
+    if relative.authority.is_some() {
+        relative.scheme = None;
+    }
+    relative
+}
+
+/// Whether the paths are the same, segment for segment, with the same spelling.
+fn is_same_path(base: &ReferenceView<'_>, target: &ReferenceView<'_>) -> bool
+    ensures { IsTrue result ↔ (base.now.parts.path ≡ target.now.parts.path) }
+{
+    is_valid(base);
+    is_valid(target);
+    base.path().as_bytes() == target.path().as_bytes()
+}
+
+/// Whether the paths are equal and have no dot segments, and the target has a query or the base has
+/// none.
+fn is_in_place(base: &ReferenceView<'_>, target: &ReferenceView<'_>) -> bool
+    ensures { IsTrue result ↔ IsInPlace base.now.parts target.now.parts }
+{
+    is_same_path(base, target)
+        && !has_dots(target.segments())
+        && (target.query().is_some() || base.query().is_none())
+}
+
+/// The target's query, or none if the base has the same.
+fn query_left<'t>(base: &ReferenceView<'_>, target: &ReferenceView<'t>) -> Option<Query<'t>>
+    ensures { IsQueryLeft base.now.parts target.now.parts result }
+{
+    let query = target.query();
+    if has_same_text(base.query().as_ref(), query.as_ref()) {
+        return None;
+    }
+    query
+}
+
+/// What leads to a target with the same path: a query, if it differs, and a fragment.
+fn in_place<'t>(base: &ReferenceView<'_>, target: &ReferenceView<'t>) -> RelativeParts<'t>
+    ensures left { spec.IsOf result (record { scheme = None; authority = None; path = no_path; query = result.query; fragment = target.now.parts.fragment }) }
+    ensures query { IsQueryLeft base.now.parts target.now.parts result.query }
+{
+    RelativeParts {
+        scheme: None,
+        authority: None,
+        path: whole_path(b""),
+        query: query_left(base, target),
+        fragment: target.fragment(),
+    }
+}
+
+/// This path, with the target's query and fragment.
+fn following<'t>(path: PathText<'t>, target: &ReferenceView<'t>) -> RelativeParts<'t>
+    ensures { (p : PathParts) → spec.path_text path.entry ≡ text p → spec.IsOf result (following_path target.now.parts p) }
+{
+    RelativeParts {
+        scheme: None,
+        authority: None,
+        path,
+        query: target.query(),
+        fragment: target.fragment(),
+    }
+}
+
+/// The reference that leads from a base to a target with a scheme.
+fn relative<'t>(base: &ReferenceView<'_>, target: &ReferenceView<'t>) -> RelativeParts<'t>
+    requires { is_some target.now.parts.scheme ≡ true }
+    ensures { (r : Parts) × Relates base.now.parts target.now.parts r × spec.IsOf result r }
+{
+    is_valid(base);
+    is_valid(target);
+    if !has_same_scheme(base.scheme().as_ref(), target.scheme().as_ref()) {
+        return whole(target);
+    }
+    if !has_same_authority(base.authority().as_ref(), target.authority().as_ref()) {
+        return without_scheme(target);
+    }
+    if is_in_place(base, target) {
+        return in_place(base, target);
+    }
+    match inner(base.path().as_bytes(), target.path().as_bytes()) {
+        Some(path) => following(path, target),
+        None => without_scheme(target),
+    }
+}
+
+// ---- its text
+
+/// Puts the query and the fragment, each with its delimiter, if present, at the end of the buffer.
+fn put_end(query: &Option<Query<'_>>, fragment: &Option<Fragment<'_>>, out: &mut [u8]) -> usize
+    ensures room { length out.new ≡ length out.old }
+    ensures ends { EndsWith out.new result (following question_mark query.now ++ following number_sign fragment.now) }
+{
+    let len = put_after(Form::AsIs, b'#', fragment, out, 0);
+    put_after(Form::AsIs, b'?', query, out, len)
+}
+
+/// Puts two slashes and the authority, if there is one.
+fn put_authority(authority: &Option<Authority<'_>>, out: &mut [u8], len: usize) -> usize
+    ensures room { length out.new ≡ length out.old }
+    ensures puts { Puts (after_slashes (option_map authorities.print authority.now)) out.old len out.new result }
+{
+    match authority {
+        Some(authority) => {
+            let len = authority::put_authority(authority, Form::AsIs, out, len);
+            put(b"//", out, len)
+        }
+        None => len,
+    }
+}
+
+/// Puts the scheme and a colon, if there is one.
+fn put_scheme(scheme: &Option<Scheme<'_>>, out: &mut [u8], len: usize) -> usize
+    ensures room { length out.new ≡ length out.old }
+    ensures puts { Puts (ahead colon (option_map schemes.text scheme.now)) out.old len out.new result }
+{
+    match scheme {
+        Some(scheme) => {
+            let len = put(b":", out, len);
+            put(scheme.as_str().as_bytes(), out, len)
+        }
+        None => len,
+    }
+}
+
+/// Puts the reference at the end of the buffer. Returns the length of its text. If there is no room,
+/// only the length is counted.
+fn put_relative(relative: &RelativeParts<'_>, out: &mut [u8]) -> usize
+    ensures room { length out.new ≡ length out.old }
+    ensures ends { EndsWith out.new result (spec.text_of relative.now) }
+{
+    let len = put_end(&relative.query, &relative.fragment, out);
+    let len = put_path(&relative.path, out, len);
+    let len = put_authority(&relative.authority, out, len);
+    put_scheme(&relative.scheme, out, len)
+}
+
+/// Writes the reference to the start of the buffer.
+fn write(relative: &RelativeParts<'_>, out: &mut [u8]) -> Result<usize, TooSmall>
+    ensures room { length out.new ≡ length out.old }
+    ensures writes { Writes (spec.text_of relative.now) result out.old out.new }
+{
+    let needed = put_relative(relative, &mut []);
+    if needed > out.len() {
+        return Err(TooSmall { needed });
+    }
+    Ok(put_relative(relative, &mut out[..needed]))
+}
+
+/// Writes the text of the reference that leads from a base to a target with a scheme.
+fn write_between(
+    base: &ReferenceView<'_>,
+    target: &ReferenceView<'_>,
+    out: &mut [u8],
+    needed: &mut usize,
+) -> u32
+    requires { is_some target.now.parts.scheme ≡ true }
+    ensures { (r : Parts) × Relates base.now.parts target.now.parts r × IsPut (print r) out.old out.new needed.new result }
+{
+    let relative = relative(base, target);
+    answer_room(write(&relative, out), needed)
+}
+
+/// Views a URI in its text, or returns the code of its error.
+fn view_uri(text: &[u8]) -> Result<ReferenceView<'_>, u32>
+    ensures found { (p : Parts) → Spells text.now p → is_some p.scheme ≡ true → result ≡ Ok (record { text = text.now; parts = p }) }
+    ensures kind { IfOk result (λ t. is_some t.parts.scheme ≡ true) }
+    ensures relative { (p : Parts) → Spells text.now p → is_some p.scheme ≡ false → result ≡ Err codes.no_scheme }
+    ensures fault { (e : URIReferenceError) → fault text.now ≡ Some e → result ≡ Err (codes.uri_code (map_error e)) }
+{
+    match ReferenceView::try_from_bytes(text) {
+        Ok(view) => {
+            if view.has_scheme() {
+                Ok(view)
+            } else {
+                Err(uri_code(URIError::NotURI))
+            }
+        }
+        Err(error) => Err(uri_code(URIError::from(error))),
+    }
+}
+
+/// Writes the text of the reference that leads from a base to the URI that a text spells, or returns
+/// the code of the text's error.
+fn write_relative_to(
+    base: &ReferenceView<'_>,
+    uri: &[u8],
+    out: &mut [u8],
+    needed: &mut usize,
+) -> u32
+    ensures written { (t : Parts) → Spells uri.now t → is_some t.scheme ≡ true → (r : Parts) × Relates base.now.parts t r × IsPut (print r) out.old out.new needed.new result }
+    ensures relative { (t : Parts) → Spells uri.now t → is_some t.scheme ≡ false → IsRefused codes.no_scheme out.old out.new needed.new result }
+    ensures refused { (e : URIReferenceError) → fault uri.now ≡ Some e → IsRefused (codes.uri_code (map_error e)) out.old out.new needed.new result }
+{
+    match view_uri(uri) {
+        Ok(target) => write_between(base, &target, out, needed),
+        Err(code) => refuse(code, needed),
+    }
+}
+
+/// Writes the text of the reference that leads from a base to a URI, both read from texts, or returns
+/// the code of a text's error. Of two faulty texts the base is rejected.
+pub fn write_relative(base: &[u8], uri: &[u8], out: &mut [u8], needed: &mut usize) -> u32
+    ensures written { (b t : Parts) → Spells base.now b → is_some b.scheme ≡ true → Spells uri.now t → is_some t.scheme ≡ true → (r : Parts) × Relates b t r × IsPut (print r) out.old out.new needed.new result }
+    ensures relative_base { (b : Parts) → Spells base.now b → is_some b.scheme ≡ false → IsRefused (codes.base_code codes.no_scheme) out.old out.new needed.new result }
+    ensures base { (e : URIReferenceError) → fault base.now ≡ Some e → IsRefused (codes.base_code (codes.uri_code (map_error e))) out.old out.new needed.new result }
+    ensures relative { (b t : Parts) → Spells base.now b → is_some b.scheme ≡ true → Spells uri.now t → is_some t.scheme ≡ false → IsRefused codes.no_scheme out.old out.new needed.new result }
+    ensures refused { (b : Parts) (e : URIReferenceError) → Spells base.now b → is_some b.scheme ≡ true → fault uri.now ≡ Some e → IsRefused (codes.uri_code (map_error e)) out.old out.new needed.new result }
+{
+    match view_base(base) {
+        Ok(base) => write_relative_to(&base, uri, out, needed),
+        Err(code) => refuse(code, needed),
+    }
+}
