@@ -245,8 +245,8 @@ fn faults(
                 .pick(&[" x", "%", "%x0", "\"y", "[", "?a#b#c"])
                 .as_bytes(),
         )?;
-        if let Some((offset, error)) = URIReference::first_fault(texts.whole()) {
-            digest.add(offset as u64);
+        if let Some((place, error)) = URIReference::first_fault(texts.whole()) {
+            digest.add(place as u64);
             write!(digest, "{error}")?;
         }
     }
