@@ -1,7 +1,7 @@
-/* URIs and URI references of RFC 3986: read, compare, hash, normalize, resolve, relativize, decode, encode and escape them, write
- * their origins, and read the pairs of a query. The code behind these calls is proved: it is safe, it terminates, and it computes what this header says of results, codes and
- * what is written. That no call allocates, and what it says of threads, signal handlers and the stack, is only tested.
- * README.md says more.
+/* URIs and URI references of RFC 3986: read, compare, hash, normalize, resolve, relativize, decode, encode and escape
+ * them, write their origins, and read the pairs of a query. The code behind these calls is proved: it is safe, it
+ * terminates, and it computes what this header says of results, codes and what is written. That no call allocates, and
+ * what it says of threads, signal handlers and the stack, is only tested. README.md says more.
  *
  * The library is for Linux on x86-64 processors of level x86-64-v2 or later, those with SSE4.2 and POPCNT. It doesn't
  * check the processor.
@@ -13,9 +13,9 @@
  *
  * A text isn't written and isn't kept: after the call nothing points into it. Its bytes are initialized, and nothing
  * changes them during the call, be it another thread, a signal handler or another process that shares the memory: a
- * call reads a text more than once. What a call writes to (`out`, `needed`, `parts`, `place`, `equal`, `hash`, `pair`) overlaps no
- * other argument. It need not be initialized, and nothing else uses it during the call. On an error nothing is written except
- * `*needed`, which becomes 0, or with URIPARSE_NO_ROOM the length of the text, and `*place`.
+ * call reads a text more than once. What a call writes to (`out`, `needed`, `parts`, `place`, `equal`, `hash`, `pair`)
+ * overlaps no other argument. It need not be initialized, and nothing else uses it during the call. On an error
+ * nothing is written except `*needed`, which becomes 0, or with URIPARSE_NO_ROOM the length of the text, and `*place`.
  *
  * There is no state between calls, so calls may run concurrently in any threads. No call allocates, so each may be called
  * in a signal handler, and in the forked child of a process with threads. A call takes at most 6,144 bytes of stack,
