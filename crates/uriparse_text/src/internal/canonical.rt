@@ -5,7 +5,7 @@ ghost use Rattle.uriparse_text.specs.Canonical as spec;
 
 use super::class::is_unreserved;
 use super::digit::hex_value;
-use super::length::{only_raises, spelling_len};
+use super::length::{may_raise, only_raises, spelling_len};
 use super::pairs::{is_canonical_escape, lacks_changes};
 use super::raise::raise_digits;
 use super::rewrite::push_rewritten;
@@ -219,7 +219,7 @@ pub fn canonical_bytes(alloc: Global, case: Case, text: &[u8]) -> Result<Vec<u8>
     ensures { IfOk result (λ v. v.items ≡ spec.canonical_in case text.now) }
 {
     let mut bytes = Vec::with_capacity(alloc, text.len())?;
-    if case == Case::Kept && only_raises(case, text, spelling_len(case, text)) {
+    if may_raise(case, text) && only_raises(case, text, spelling_len(case, text)) {
         bytes.extend_from_slice(text)?;
         raise_digits(&mut bytes);
     } else {

@@ -56,6 +56,19 @@ fn short_spelling_len(case: Case, text: &[u8]) -> usize
     len
 }
 
+/// Whether the small digits of a text are made large in place, if nothing else changes: letters keep
+/// their case, and the text is not short, since those are rewritten as quickly.
+#[inline(always)]
+pub(super) fn may_raise(case: Case, text: &[u8]) -> bool
+    ensures case { result ≡ true → case ≡ Kept }
+    ensures long { result ≡ true → 18 ≤ length text.now }
+{
+    match case {
+        Case::Kept => text.len() >= 18,
+        Case::Lowered => false,
+    }
+}
+
 /// Whether the text, which is not short, differs from its canonical spelling of `len` bytes in small
 /// digits alone: letters keep their case, and no escape becomes a byte.
 #[inline(always)]
@@ -64,8 +77,5 @@ pub(super) fn only_raises(case: Case, text: &[u8], len: usize) -> bool
     ensures long { result ≡ true → 18 ≤ length text.now }
     ensures whole { result ≡ true → len ≡ length text.now }
 {
-    match case {
-        Case::Kept => text.len() >= 18 && len == text.len(),
-        Case::Lowered => false,
-    }
+    may_raise(case, text) && len == text.len()
 }
