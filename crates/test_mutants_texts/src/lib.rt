@@ -4,7 +4,7 @@
 
 ghost use Rattle.std.specs.Prelude.{◌≡◌, ◌↔◌, IfOk, IsTrue, Some, bytes_eq, fold, map};
 ghost use Rattle.std.specs.Fmt.{DisplaysOnOk};
-ghost use Rattle.uriparse_text.specs.declared.internal.canonical.Case.TheVariants as case;
+ghost use Rattle.uriparse_text.specs.declared.internal.case.Case.TheVariants as case;
 ghost use Rattle.uriparse_text.specs.Address.{ipv4_reading, ipv6_text};
 ghost use Rattle.uriparse_text.specs.Canonical.{SpellsAlike, canonical, fed_text};
 ghost use Rattle.uriparse_text.specs.Coding.{decoded, encoded};

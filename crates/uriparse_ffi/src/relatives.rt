@@ -24,13 +24,12 @@ use crate::put::{answer_room, refuse};
 use crate::texts::view_base;
 use uriparse::{Authority, Fragment, Query, ReferenceView, Scheme, TooSmall, URIError};
 use uriparse_authority::internal as authority;
+use uriparse_reference::internal::{has_same_authority, has_same_scheme, has_same_text};
 use uriparse_text::internal::{Form, put, put_after};
 
 mod path;
-mod same;
 
 use path::{PathText, has_dots, inner, put_path, whole_path};
-use same::{has_same_authority, has_same_scheme, has_same_text};
 
 /// What a reference is put together from that leads to a target. It borrows the target's texts.
 #[derive(Drop)]

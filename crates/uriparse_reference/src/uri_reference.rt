@@ -41,6 +41,7 @@ mod print;
 pub(crate) mod read;
 pub(crate) mod relate;
 pub(crate) mod resolve;
+pub(crate) mod same;
 mod segment;
 mod text;
 mod view;

@@ -5,6 +5,7 @@ mod backward_buffer;
 mod bits;
 mod canonical;
 mod canonical_prefix;
+mod case;
 mod class;
 mod clear;
 mod coding;
@@ -31,9 +32,10 @@ mod token;
 pub use alike::same_spelling;
 pub use backward_buffer::{Form, put, put_after, put_formed};
 pub use bits::{bits_below, count_below, has_adjacent, highest, lowest, without, without_lowest};
-pub use canonical::{Case, canonical_bytes, feed_spelling, feed_text, is_canonical};
+pub use canonical::{canonical_bytes, feed_spelling, feed_text, is_canonical};
 pub use canonical_prefix::{check_bytes, split_canonical_prefix};
-pub use class::Class;
+pub use case::Case;
+pub use class::{Class, Outside};
 pub use clear::{has_pair, marks_of_pairs};
 pub use coding::{
     compare_represented, form_decoded_bytes, most_escaped_bytes, push_encoded, push_escaped,
@@ -47,7 +49,7 @@ pub use offset::offset_of_fault;
 pub use order::compare_spelling;
 pub use print::write_plain;
 pub use printed::{put_decimal, put_ipv4, put_ipv6};
-pub use scan::{ByteTest, Is, IsAny, Outside, first, next_marks, next_marks_by_two};
+pub use scan::{ByteTest, Is, IsAny, first, next_marks, next_marks_by_two};
 pub use text::{
     Text, TextKind, checked_text, len_of, normalized_text, text_from_checked, text_from_checked_vec,
 };

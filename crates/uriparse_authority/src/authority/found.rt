@@ -8,7 +8,7 @@ ghost use Rattle.uriparse_authority.specs.declared.authority.host.Host.TheVarian
 ghost use Rattle.uriparse_text.specs.Found.{if_there};
 ghost use Rattle.uriparse_text.specs.Spelling.{IsValidText};
 ghost use Rattle.uriparse_text.specs.declared.internal.class.Class.TheVariants as class;
-ghost use Rattle.uriparse_text.specs.declared.internal.canonical.Case.TheVariants as case;
+ghost use Rattle.uriparse_text.specs.declared.internal.case.Case.TheVariants as case;
 
 use super::host::found::{FoundHost, found_name};
 use super::password::PasswordKind;

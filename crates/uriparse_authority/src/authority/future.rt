@@ -11,7 +11,7 @@ ghost use Rattle.std.specs.Cmp.Rules.{comparing, hashing};
 ghost use Rattle.uriparse_text.specs.Bytes.{dot, is_hex};
 ghost use Rattle.uriparse_text.specs.Cuts.{before, after};
 ghost use Rattle.uriparse_text.specs.declared.internal.class.Class.TheVariants as class;
-ghost use Rattle.uriparse_text.specs.declared.internal.canonical.Case.TheVariants as case;
+ghost use Rattle.uriparse_text.specs.declared.internal.case.Case.TheVariants as case;
 ghost use Rattle.uriparse_text.specs.Canonical.{canonical_lowered, fed_text};
 ghost use Rattle.uriparse_authority.specs.declared.authority.error.HostError.TheVariants as errors;
 ghost use Rattle.uriparse_authority.specs.Future as spec;

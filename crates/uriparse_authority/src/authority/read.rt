@@ -2,7 +2,7 @@
 ghost use Rattle.std.specs.Prelude.{◌≡◌, MatchResult, Err, Ok, IsTrue, [], position, true};
 ghost use Rattle.std.specs.Option.{option_copied};
 ghost use Rattle.uriparse_text.specs.declared.internal.class.Class.TheVariants as class;
-ghost use Rattle.uriparse_text.specs.declared.internal.canonical.Case.TheVariants as case;
+ghost use Rattle.uriparse_text.specs.declared.internal.case.Case.TheVariants as case;
 ghost use Rattle.uriparse_text.specs.Cuts.{up_to, from_first};
 ghost use Rattle.uriparse_text.specs.Spelling.{IsValidText};
 ghost use Rattle.uriparse_authority.specs.Authority as authority;

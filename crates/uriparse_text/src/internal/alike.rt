@@ -11,7 +11,7 @@ ghost use Rattle.uriparse_text.specs.Coding.{decoded};
 ghost use Rattle.uriparse_text.specs.Alike.{AreCommon, Follow, token_of};
 
 use super::bits::lowest;
-use super::canonical::Case;
+use super::case::Case;
 use super::class::is_unreserved;
 use super::digit::hex_value;
 use super::token::begins_escape;

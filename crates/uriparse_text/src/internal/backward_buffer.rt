@@ -6,7 +6,8 @@ ghost use Rattle.uriparse_text.specs.Canonical.{canonical_in};
 ghost use Rattle.uriparse_text.specs.Cuts.{following};
 ghost use Rattle.uriparse_text.specs.Ends.{Puts, formed};
 
-use super::canonical::{Case, is_canonical};
+use super::canonical::is_canonical;
+use super::case::Case;
 use super::forward_buffer::append_rewritten;
 use super::length::{only_raises, spelling_len};
 use super::raise::raise_digits;

@@ -1,12 +1,11 @@
 //! Canonical spelling: RFC 3986, sections 6.2.2.1 and 6.2.2.2.
 ghost use Rattle.std.specs.Prelude.{◌≡◌, ◌++◌, ◌∷◌, ◌↔◌, ◌<◌, ℕ, List, IsTrue, IfOk, true, fold, take};
-ghost use Rattle.uriparse_text.specs.Tokens.{has_digits, spell};
+ghost use Rattle.uriparse_text.specs.Tokens.{spell};
 ghost use Rattle.uriparse_text.specs.Canonical as spec;
 
-use super::class::is_unreserved;
-use super::digit::hex_value;
+use super::case::Case;
 use super::length::{may_raise, only_raises, spelling_len};
-use super::pairs::{is_canonical_escape, lacks_changes};
+use super::pairs::lacks_changes;
 use super::raise::raise_digits;
 use super::rewrite::push_rewritten;
 use super::run::{MayChange, split_run};
@@ -16,60 +15,6 @@ use std::hash::Hasher;
 
 /// How many bytes a hasher is fed at a time.
 const BLOCK: usize = 64;
-
-/// What a canonical spelling does to letters. The digits of escapes are always in upper case.
-#[derive(Clone, Copy, Debug, PartialEq, Eq)]
-pub enum Case {
-    /// They keep their case.
-    Kept,
-    /// They become lower case, as in schemes and in hosts that are texts.
-    Lowered,
-}
-
-impl Case {
-    #[inline]
-    pub(super) fn of(self, b: u8) -> u8
-        ensures { result ≡ spec.in_case self b }
-    {
-        match self {
-            Case::Kept => b,
-            Case::Lowered => b.to_ascii_lowercase(),
-        }
-    }
-}
-
-impl Token {
-    /// The token's canonical form.
-    #[inline]
-    pub fn canonical(self, case: Case) -> Token
-        requires { has_digits self ≡ true }
-        ensures { result ≡ spec.canonical_token case self }
-    {
-        match self {
-            Token::Byte(b) => Token::Byte(case.of(b)),
-            Token::Escape(high, low) => {
-                let b = 16 * hex_value(high) + hex_value(low);
-                if is_unreserved(b) {
-                    Token::Byte(case.of(b))
-                } else {
-                    Token::Escape(high.to_ascii_uppercase(), low.to_ascii_uppercase())
-                }
-            }
-        }
-    }
-
-    /// Whether the token is its own canonical form.
-    #[inline]
-    fn is_canonical(self, case: Case) -> bool
-        requires { has_digits self ≡ true }
-        ensures { IsTrue result ↔ (spec.canonical_token case self ≡ self) }
-    {
-        match self {
-            Token::Byte(b) => case.of(b) == b,
-            Token::Escape(high, low) => is_canonical_escape(high, low),
-        }
-    }
-}
 
 /// Feeds bytes to the hasher.
 #[inline]

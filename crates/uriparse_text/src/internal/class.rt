@@ -1,12 +1,13 @@
 //! The classes of bytes, by one table of flags: RFC 3986, sections 2.2, 2.3 and 3.2.1 to 3.5.
-ghost use Rattle.std.specs.Prelude.{◌≡◌, ◌+◌, ◌≤◌, length, MatchOption};
+ghost use Rattle.std.specs.Prelude.{◌≡◌, ◌+◌, ◌≤◌, length, not, MatchOption};
 ghost use Rattle.uriparse_text.specs.Bytes as spec;
 ghost use Rattle.uriparse_text.specs.Classes.{is_plain};
 ghost use Rattle.uriparse_text.specs.Faults.{fault, AllFine, AreInDoubt, IsFaultFrom, IsFaultOffset};
 
 use super::bits::{lowest, without_lowest, without_triples};
-use super::scan::{Is, IsHex, Outside, marks_of_run, marks_of_short};
+use super::scan::{ByteTest, Is, IsHex, by_high, by_low, marks_of_run, marks_of_short};
 use super::token::is_escape;
+use std::simd::prelude::*;
 
 /// Which bytes a component may have unescaped. Escapes are allowed in each class.
 #[derive(Clone, Copy, Debug, PartialEq, Eq)]
@@ -90,6 +91,48 @@ impl Class {
             Class::Query => QUERY,
         };
         FLAGS[b as usize] & flag != 0
+    }
+}
+
+/// The byte is not in this class.
+#[derive(Clone, Copy, Debug)]
+pub struct Outside(pub Class);
+
+// Eight kinds of bytes, one bit each. A byte is of a kind if both tables have its bit: LOW at the
+// byte's low half, HIGH at its high half.
+//
+//   1  `A` to `O`, `a` to `o`
+//   2  `P` to `Z`, `_`
+//   4  `p` to `z`, `~`
+//   8  `!`, `$`, `&` to `.`
+//  16  the digits, `;`, `=`
+//  32  `:`
+//  64  `@`
+// 128  `/`, `?`
+const LOW: [u8; 16] = [
+    86, 31, 23, 23, 31, 23, 31, 31, 31, 31, 47, 25, 9, 25, 13, 131,
+];
+
+const HIGH: [u8; 16] = [0, 0, 136, 176, 65, 2, 1, 4, 0, 0, 0, 0, 0, 0, 0, 0];
+
+impl ByteTest for Outside {
+    ghost passes = { λ s b. not (is_plain s.0 b) };
+
+    #[inline(always)]
+    fn has(&self, b: u8) -> bool {
+        !self.0.has(b)
+    }
+
+    #[inline(always)]
+    fn marks(&self, lanes: u8x16) -> u64 {
+        let kinds: u8 = match self.0 {
+            Class::Name => 31,
+            Class::UserInfo => 63,
+            Class::Segment => 127,
+            Class::Query => 255,
+        };
+        let found = by_low(LOW, lanes) & by_high(HIGH, lanes) & u8x16::splat(kinds);
+        found.simd_eq(u8x16::splat(0)).to_bitmask()
     }
 }
 

@@ -9,10 +9,10 @@ ghost use Rattle.uriparse_text.specs.Coding.{are_bytes, decoded, encoded, encode
 ghost use Rattle.uriparse_text.specs.Tokens.{has_digits};
 
 use super::alike::after_common;
-use super::class::Class;
+use super::class::{Class, Outside};
 use super::digit::{hex_value, upper_digit};
 use super::rewrite::{Rewriting, push_rewritten};
-use super::scan::{ByteTest, Is, Outside, next_marks};
+use super::scan::{ByteTest, Is, next_marks};
 use super::token::{Token, begins_escape, first_token, split_token};
 use std::alloc::{AllocError, Global};
 use std::cmp::Ordering;

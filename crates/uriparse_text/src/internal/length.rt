@@ -1,10 +1,10 @@
 //! How long canonical spellings are.
 ghost use Rattle.std.specs.Prelude.{◌≡◌, ◌+◌, ◌≤◌, length, true};
 ghost use Rattle.uriparse_text.specs.Canonical.{canonical_in, canonical_token};
-ghost use Rattle.uriparse_text.specs.declared.internal.canonical.Case.TheVariants.{Kept};
+ghost use Rattle.uriparse_text.specs.declared.internal.case.Case.TheVariants.{Kept};
 ghost use Rattle.uriparse_text.specs.Tokens.{has_digits, spell};
 
-use super::canonical::Case;
+use super::case::Case;
 use super::class::is_unreserved;
 use super::rewrite::split_run;
 use super::run::MayChange;

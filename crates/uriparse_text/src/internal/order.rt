@@ -8,7 +8,7 @@ ghost use Rattle.uriparse_text.specs.Canonical.{canonical_in};
 ghost use Rattle.uriparse_text.specs.Tokens.{is_well_formed};
 
 use super::alike::{after_common, split_code};
-use super::canonical::Case;
+use super::case::Case;
 use std::cmp::Ordering;
 
 /// Compares two texts by the bytes of their canonical spellings, which are not built. Walks both

@@ -3,7 +3,7 @@ ghost use Rattle.std.specs.Prelude.{◌≡◌, ◌≤◌, ◌<◌, ◌+◌, ℕ,
 ghost use Rattle.std.specs.Int.{bit_at};
 ghost use Rattle.uriparse_text.specs.Bytes.{is_hex};
 ghost use Rattle.uriparse_text.specs.Canonical.{canonical_in};
-ghost use Rattle.uriparse_text.specs.declared.internal.canonical.Case.TheVariants.{Kept};
+ghost use Rattle.uriparse_text.specs.declared.internal.case.Case.TheVariants.{Kept};
 ghost use Rattle.uriparse_text.specs.Escapes as spec;
 
 use super::scan::{ByteTest, Is, by_high, by_low};

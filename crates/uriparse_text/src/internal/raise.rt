@@ -2,7 +2,7 @@
 //! changes, so all else stays where it is.
 ghost use Rattle.std.specs.Prelude.{◌≡◌, ◌≢◌, ◌≤◌, ◌<◌, ◌+◌, ℕ, drop, length, true};
 ghost use Rattle.uriparse_text.specs.Canonical.{canonical_in};
-ghost use Rattle.uriparse_text.specs.declared.internal.canonical.Case.TheVariants.{Kept};
+ghost use Rattle.uriparse_text.specs.declared.internal.case.Case.TheVariants.{Kept};
 ghost use Rattle.uriparse_text.specs.Escapes as spec;
 
 use super::bits::{lowest, without_lowest};

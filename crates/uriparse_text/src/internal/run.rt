@@ -3,7 +3,7 @@ ghost use Rattle.std.specs.Prelude.{◌≡◌, ◌≤◌, ◌++◌, length, map}
 ghost use Rattle.std.specs.List.{position_or_len};
 ghost use Rattle.uriparse_text.specs.Canonical as spec;
 
-use super::canonical::Case;
+use super::case::Case;
 use super::rewrite::Rewriting;
 use super::scan::{ByteTest, Is, by_high, by_low, first};
 use super::token::{Token, first_token};

@@ -1,13 +1,11 @@
 //! Searches that test sixteen bytes at a time.
-ghost use Rattle.std.specs.Prelude.{◌≡◌, ◌==◌, ◌+◌, ◌-◌, ◌<◌, ◌≤◌, ◌/◌, ◌||◌, ◌++◌, if◌then◌else◌, ℕ, Bool, not, map, length, slice_index, bit_and};
+ghost use Rattle.std.specs.Prelude.{◌≡◌, ◌==◌, ◌+◌, ◌-◌, ◌<◌, ◌≤◌, ◌/◌, ◌||◌, ◌++◌, if◌then◌else◌, ℕ, Bool, map, length, slice_index, bit_and};
 ghost use Rattle.std.specs.List.{position_or_len};
 ghost use Rattle.std.specs.Simd.Lanes.{mask_l, chunk};
 ghost use Rattle.uriparse_text.specs.Bytes.{is_hex};
-ghost use Rattle.uriparse_text.specs.Classes.{is_plain};
 ghost use Rattle.uriparse_text.specs.Marks.{AreMarks};
 
 use super::bits::{joined_ends, lowest, shifted_down};
-use super::class::Class;
 use std::simd::prelude::*;
 
 /// A test of one byte, and of sixteen at once.
@@ -69,27 +67,6 @@ impl ByteTest for IsAny {
     }
 }
 
-/// The byte is not in this class.
-#[derive(Clone, Copy, Debug)]
-pub struct Outside(pub Class);
-
-// Eight kinds of bytes, one bit each. A byte is of a kind if both tables have its bit: LOW at the
-// byte's low half, HIGH at its high half.
-//
-//   1  `A` to `O`, `a` to `o`
-//   2  `P` to `Z`, `_`
-//   4  `p` to `z`, `~`
-//   8  `!`, `$`, `&` to `.`
-//  16  the digits, `;`, `=`
-//  32  `:`
-//  64  `@`
-// 128  `/`, `?`
-const LOW: [u8; 16] = [
-    86, 31, 23, 23, 31, 23, 31, 31, 31, 31, 47, 25, 9, 25, 13, 131,
-];
-
-const HIGH: [u8; 16] = [0, 0, 136, 176, 65, 2, 1, 4, 0, 0, 0, 0, 0, 0, 0, 0];
-
 #[inline(always)]
 pub(super) fn by_low(table: [u8; 16], lanes: u8x16) -> u8x16
     ensures { result ≡ map (λ b. slice_index table (bit_and b 15)) lanes }
@@ -104,32 +81,11 @@ pub(super) fn by_high(table: [u8; 16], lanes: u8x16) -> u8x16
     u8x16::from_array(table).swizzle_dyn(lanes >> u8x16::splat(4))
 }
 
-impl ByteTest for Outside {
-    ghost passes = { λ s b. not (is_plain s.0 b) };
-
-    #[inline(always)]
-    fn has(&self, b: u8) -> bool {
-        !self.0.has(b)
-    }
-
-    #[inline(always)]
-    fn marks(&self, lanes: u8x16) -> u64 {
-        let kinds: u8 = match self.0 {
-            Class::Name => 31,
-            Class::UserInfo => 63,
-            Class::Segment => 127,
-            Class::Query => 255,
-        };
-        let found = by_low(LOW, lanes) & by_high(HIGH, lanes) & u8x16::splat(kinds);
-        found.simd_eq(u8x16::splat(0)).to_bitmask()
-    }
-}
-
 /// The byte is a hexadecimal digit.
 #[derive(Clone, Copy, Debug)]
 pub struct IsHex;
 
-// Two kinds, in the same way: 1 the digits, 2 `A` to `F` and `a` to `f`.
+// Two kinds of digits, one bit each, by the low half and the high half of a byte: 1 `0` to `9`, 2 `A` to `F` and `a` to `f`.
 const HEX_LOW: [u8; 16] = [1, 3, 3, 3, 3, 3, 3, 1, 1, 1, 0, 0, 0, 0, 0, 0];
 
 const HEX_HIGH: [u8; 16] = [0, 0, 0, 1, 2, 0, 2, 0, 0, 0, 0, 0, 0, 0, 0, 0];

@@ -6,7 +6,7 @@ ghost use Rattle.std.specs.Cmp.Lexicographic.{on_texts, slice_cmp, texts_po, tex
 ghost use Rattle.std.specs.Ordering.{as_partial_cmp, nat_cmp, on};
 ghost use Rattle.std.specs.Cmp.Rules.{comparing, hashing};
 ghost use Rattle.uriparse_text.specs.declared.internal.class.Class.{Class};
-ghost use Rattle.uriparse_text.specs.declared.internal.canonical.Case.{Case};
+ghost use Rattle.uriparse_text.specs.declared.internal.case.Case.{Case};
 ghost use Rattle.uriparse_text.specs.Tokens.{is_well_formed};
 ghost use Rattle.uriparse_text.specs.Faults.{IsIn};
 ghost use Rattle.uriparse_text.specs.Canonical.{canonical_in, fed_text, SpellsAlike};
@@ -14,11 +14,12 @@ ghost use Rattle.uriparse_text.specs.Spelling.{IsValidText};
 ghost use Rattle.uriparse_text.specs.Readings.{reading_in};
 ghost use Rattle.uriparse_text.specs.Coding.{decoded, encoded};
 ghost use Rattle.uriparse_text.specs.Starts.{Writes};
-ghost use Rattle.uriparse_text.specs.declared.internal.canonical.Case.TheVariants.{Kept};
+ghost use Rattle.uriparse_text.specs.declared.internal.case.Case.TheVariants.{Kept};
 
 use super::alike::same_spelling;
-use super::canonical::{Case, canonical_bytes, feed_known, feed_text, is_canonical};
+use super::canonical::{canonical_bytes, feed_known, feed_text, is_canonical};
 use super::canonical_prefix::check_bytes;
+use super::case::Case;
 use super::class::Class;
 use super::coding::{decoded_bytes, encoded_bytes};
 use super::forward_buffer;

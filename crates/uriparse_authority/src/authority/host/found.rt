@@ -2,7 +2,7 @@
 ghost use Rattle.std.specs.Prelude.{◌≡◌, ◌==◌, IfSome, IsTrue, false};
 ghost use Rattle.uriparse_authority.specs.declared.authority.host.Host.TheVariants as hosts;
 ghost use Rattle.uriparse_text.specs.declared.internal.class.Class.TheVariants as class;
-ghost use Rattle.uriparse_text.specs.declared.internal.canonical.Case.TheVariants as case;
+ghost use Rattle.uriparse_text.specs.declared.internal.case.Case.TheVariants as case;
 ghost use Rattle.uriparse_text.specs.Spelling.{IsValidText};
 ghost use Rattle.uriparse_authority.specs.Future.{IsFuture};
 ghost use Rattle.uriparse_authority.specs.Found.{IsCanonicalName, IsNameOf, found_host};
@@ -29,7 +29,7 @@ pub(in crate::authority) struct FoundHost<'h> {
 
 impl<'h> Model for FoundHost<'h> {
     ghost use Rattle.std.specs.Prelude.{◌≡◌, ◌==◌, true};
-    ghost use Rattle.uriparse_text.specs.declared.internal.canonical.Case.TheVariants as case;
+    ghost use Rattle.uriparse_text.specs.declared.internal.case.Case.TheVariants as case;
     ghost use Rattle.uriparse_text.specs.Canonical.{canonical_in};
     ghost use Rattle.uriparse_authority.specs.declared.authority.host.Host.{Host};
     ghost use Rattle.uriparse_authority.specs.Found.{found_host};

@@ -4,7 +4,7 @@
 ghost use Rattle.std.specs.Prelude.{◌≡◌, ℕ, Bool, ◌+◌, ◌<◌, ◌≤◌, ◌++◌, ◌∷◌, [], List, drop, length, true, false};
 ghost use Rattle.std.specs.List.{list_all, slice_split};
 ghost use Rattle.std.specs.Option.{option_copied};
-ghost use Rattle.uriparse_text.specs.declared.internal.canonical.Case.TheVariants as case;
+ghost use Rattle.uriparse_text.specs.declared.internal.case.Case.TheVariants as case;
 ghost use Rattle.uriparse_text.specs.declared.internal.backward_buffer.Form.{Form};
 ghost use Rattle.uriparse_text.specs.Ends.{EndsWith, formed};
 ghost use Rattle.uriparse_text.specs.Segment.{is_segment};

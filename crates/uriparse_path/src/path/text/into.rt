@@ -2,7 +2,7 @@
 //! in the last bytes of a buffer: RFC 3986, sections 5.2.3, 5.2.4 and 6.2.2.
 ghost use Rattle.std.specs.Prelude.{◌≡◌, ℕ, Bool, ◌<◌, ◌≤◌, ◌++◌, ◌||◌, ◌&&◌, List, length, false, not, true};
 ghost use Rattle.std.specs.List.{join_with_byte, slice_split};
-ghost use Rattle.uriparse_text.specs.declared.internal.canonical.Case.TheVariants as case;
+ghost use Rattle.uriparse_text.specs.declared.internal.case.Case.TheVariants as case;
 ghost use Rattle.uriparse_text.specs.declared.internal.backward_buffer.Form.{Form};
 ghost use Rattle.uriparse_text.specs.declared.internal.backward_buffer.Form.TheVariants.{Canonical};
 ghost use Rattle.uriparse_text.specs.Bytes.{slash};

@@ -10,7 +10,7 @@ use Rattle.std.proofs.lemmas.Slice.Eq.{bytes_eq-Decides}
 use Rattle.uriparse_text.specs.declared.internal.token.Token.{Token}
 use Rattle.uriparse_text.specs.declared.internal.token.Token.TheVariants.{Byte, Escape}
 use Rattle.uriparse_text.specs.declared.internal.class.Class.TheVariants.{Query}
-use Rattle.uriparse_text.specs.declared.internal.canonical.Case.TheVariants.{Kept}
+use Rattle.uriparse_text.specs.declared.internal.case.Case.TheVariants.{Kept}
 use Rattle.uriparse_text.specs.Bytes.{colon, is_hex, is_unreserved}
 use Rattle.uriparse_text.specs.Cuts.{lacks, up_to}
 use Rattle.uriparse_text.specs.Tokens.{tokens, spell, has_digits}

@@ -1,7 +1,7 @@
 //! The text of a reference's normal form in a buffer of the caller: RFC 3986, section 6.2.2.
 ghost use Rattle.std.specs.Prelude.{◌≡◌, ℕ, ◌≤◌, List, ◌++◌, MatchOption, length};
 ghost use Rattle.std.specs.Option.{option_map};
-ghost use Rattle.uriparse_text.specs.declared.internal.canonical.Case.TheVariants as case;
+ghost use Rattle.uriparse_text.specs.declared.internal.case.Case.TheVariants as case;
 ghost use Rattle.uriparse_text.specs.Bytes.{colon, number_sign, question_mark};
 ghost use Rattle.uriparse_text.specs.Cuts.{ahead, following};
 ghost use Rattle.uriparse_text.specs.Ends.{EndsWith, Puts, formed};

@@ -1,6 +1,6 @@
 use Rattle.std.proofs.Common.{◌≡◌, ◌∷◌, ◌++◌, length, drop, sym, ap, ◌∙◌, rules, arith}
 use Rattle.std.proofs.lemmas.List.{nil_from_length, take_rest}
-use Rattle.uriparse_text.specs.declared.internal.canonical.Case.TheVariants.{Kept}
+use Rattle.uriparse_text.specs.declared.internal.case.Case.TheVariants.{Kept}
 use Rattle.uriparse_text.specs.Canonical.{canonical_in, may_change}
 use Rattle.uriparse_text.specs.Cuts.{up_to}
 use Rattle.uriparse_text.specs.Tokens.{tokens}

@@ -1,5 +1,5 @@
 use Rattle.std.proofs.Common.{length}
-use Rattle.uriparse_text.specs.declared.internal.canonical.Case.TheVariants.{Kept}
+use Rattle.uriparse_text.specs.declared.internal.case.Case.TheVariants.{Kept}
 use Rattle.uriparse_text.specs.Canonical.{canonical_in}
 use Rattle.uriparse_text.proofs.lemmas.canonical.SpellingLengthLemmas.{IsCounted}
 use Rattle.uriparse_text.proofs.internal.length.short_spelling_len.Given as goal

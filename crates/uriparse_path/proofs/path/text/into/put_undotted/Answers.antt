@@ -1,7 +1,7 @@
 use Rattle.std.proofs.Common.{◌≡◌, ◌++◌, ◌||◌, ◌∙◌, length, ap, subst, arith}
 use Rattle.std.specs.List.{slice_split}
 use Rattle.uriparse_text.specs.Ends.{EndsWith, formed}
-use Rattle.uriparse_text.specs.declared.internal.canonical.Case.TheVariants.{Kept}
+use Rattle.uriparse_text.specs.declared.internal.case.Case.TheVariants.{Kept}
 use Rattle.uriparse_path.specs.Path.{is_slash, max_segments, pieces, root, spelled, text}
 use Rattle.uriparse_path.specs.Dots.{is_dot_segment, undot}
 use Rattle.uriparse_path.specs.Edits.{with_dot_prefix_unless}

@@ -1,6 +1,6 @@
 use Rattle.std.proofs.Common.{◌++◌, ap, append-nil, subst}
 use Rattle.std.specs.Option.{option_map}
-use Rattle.uriparse_text.specs.declared.internal.canonical.Case.TheVariants.{Kept}
+use Rattle.uriparse_text.specs.declared.internal.case.Case.TheVariants.{Kept}
 use Rattle.uriparse_text.specs.Bytes.{number_sign, question_mark}
 use Rattle.uriparse_text.specs.Cuts.{following}
 use Rattle.uriparse_text.specs.Ends.{EndsWith, formed}

@@ -1,6 +1,6 @@
 use Rattle.std.proofs.Common.{map, sym, ap, ◌∙◌}
 use Rattle.std.specs.Simd.Lanes.{mask_l}
-use Rattle.uriparse_text.specs.declared.internal.canonical.Case.TheVariants.{Lowered}
+use Rattle.uriparse_text.specs.declared.internal.case.Case.TheVariants.{Lowered}
 use Rattle.uriparse_text.specs.declared.internal.run.TheConstants.{CHANGE_LOW, CHANGE_HIGH}
 use Rattle.uriparse_text.specs.Canonical.{may_change}
 use Rattle.uriparse_text.proofs.lemmas.scans.LaneLemmas.{marks_by_tables, change_kind, kept_marks}

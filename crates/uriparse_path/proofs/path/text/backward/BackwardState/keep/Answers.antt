@@ -1,6 +1,6 @@
 use Rattle.std.proofs.Common.{◌≡◌, ◌++◌, ◌||◌, ◌∙◌, refl, sym, ap, subst, rules}
 use Rattle.std.specs.List.{slice_split}
-use Rattle.uriparse_text.specs.declared.internal.canonical.Case.TheVariants.{Kept}
+use Rattle.uriparse_text.specs.declared.internal.case.Case.TheVariants.{Kept}
 use Rattle.uriparse_text.specs.Ends.{formed}
 use Rattle.uriparse_path.specs.Path.{is_slash, root}
 use Rattle.uriparse_path.specs.Relative.{has_colon, is_first}

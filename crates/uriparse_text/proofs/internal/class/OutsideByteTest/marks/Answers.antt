@@ -1,7 +1,7 @@
 use Rattle.uriparse_text.specs.declared.internal.class.Class.TheVariants.{Name, UserInfo, Segment, Query}
 use Rattle.uriparse_text.proofs.lemmas.scans.LaneLemmas.{class_marks, name_kinds, user_info_kinds, segment_kinds, query_kinds}
-use Rattle.uriparse_text.proofs.internal.scan.OutsideByteTest.marks.Goals as goal
-use Rattle.uriparse_text.proofs.internal.scan.OutsideByteTest.marks.Goals.{in-Name, in-UserInfo, in-Segment, in-Query}
+use Rattle.uriparse_text.proofs.internal.class.OutsideByteTest.marks.Goals as goal
+use Rattle.uriparse_text.proofs.internal.class.OutsideByteTest.marks.Goals.{in-Name, in-UserInfo, in-Segment, in-Query}
 
 pub returns : goal.returns
 returns c = elim c.match-self.branch [

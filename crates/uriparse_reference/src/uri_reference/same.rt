@@ -1,7 +1,9 @@
-//! Equality of components in the same spelling.
+//! Equality of components in the same spelling, where `==` compares canonical spellings.
 ghost use Rattle.std.specs.Prelude.{◌≡◌, ◌↔◌, IsTrue, option_copied};
 
-use uriparse::{Authority, Host, Scheme, Text, TextKind};
+use uriparse_authority::authority::{Authority, Host};
+use uriparse_scheme::scheme::Scheme;
+use uriparse_text::internal::{Text, TextKind};
 
 /// Whether the schemes are equal, in the same spelling.
 fn is_same_scheme(left: &Scheme<'_>, right: &Scheme<'_>) -> bool
@@ -11,7 +13,7 @@ fn is_same_scheme(left: &Scheme<'_>, right: &Scheme<'_>) -> bool
 }
 
 /// Whether both are absent, or present and equal in the same spelling.
-pub(super) fn has_same_scheme(left: Option<&Scheme<'_>>, right: Option<&Scheme<'_>>) -> bool
+pub fn has_same_scheme(left: Option<&Scheme<'_>>, right: Option<&Scheme<'_>>) -> bool
     ensures { IsTrue result ↔ (option_copied left.entry ≡ option_copied right.entry) }
 {
     match (left, right) {
@@ -22,10 +24,7 @@ pub(super) fn has_same_scheme(left: Option<&Scheme<'_>>, right: Option<&Scheme<'
 }
 
 /// Whether both are absent, or present and equal in the same spelling.
-pub(super) fn has_same_text<K: TextKind>(
-    left: Option<&Text<'_, K>>,
-    right: Option<&Text<'_, K>>,
-) -> bool
+pub fn has_same_text<K: TextKind>(left: Option<&Text<'_, K>>, right: Option<&Text<'_, K>>) -> bool
     ensures { IsTrue result ↔ (option_copied left.entry ≡ option_copied right.entry) }
 {
     match (left, right) {
@@ -61,10 +60,7 @@ fn is_same_authority(left: &Authority<'_>, right: &Authority<'_>) -> bool
 }
 
 /// Whether both are absent, or present and equal in the same spelling.
-pub(super) fn has_same_authority(
-    left: Option<&Authority<'_>>,
-    right: Option<&Authority<'_>>,
-) -> bool
+pub fn has_same_authority(left: Option<&Authority<'_>>, right: Option<&Authority<'_>>) -> bool
     ensures { IsTrue result ↔ (option_copied left.entry ≡ option_copied right.entry) }
 {
     match (left, right) {
