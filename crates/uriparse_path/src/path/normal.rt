@@ -1,9 +1,8 @@
 //! Normal forms of paths: RFC 3986, sections 4.2 and 6.2.2.
-ghost use Rattle.std.specs.Prelude.{◌≡◌, ◌↔◌, ◌<◌, ◌||◌, ◌&&◌, true, false, not, IfOk, IsOk, IsTrue, OnOk, OnErr, length, map, slice_set};
+ghost use Rattle.std.specs.Prelude.{◌≡◌, ◌↔◌, ◌<◌, true, false, not, IfOk, IsOk, IsTrue, OnOk, OnErr, length, map, slice_set};
 ghost use Rattle.std.specs.List.{list_all};
 ghost use Rattle.uriparse_text.specs.Canonical.{canonical};
 ghost use Rattle.uriparse_path.specs.Path.{IsListed, starts_with_empty_segment, text};
-ghost use Rattle.uriparse_path.specs.Dots.{is_dot_segment};
 ghost use Rattle.uriparse_path.specs.Relative as relative;
 ghost use Rattle.uriparse_path.specs.Normal as spec;
 ghost use Rattle.uriparse_path.specs.Copies as copy;

@@ -1,5 +1,5 @@
-//! What normal forms ask of segments, whether a list holds them or the text of a path: RFC 3986,
-//! sections 4.2 and 6.2.2.
+//! What is asked of segments in order, of those in a list and of those in the text of a path: RFC
+//! 3986, sections 4.2 and 6.2.2.
 ghost use Rattle.std.specs.Prelude.{◌≡◌, ◌∷◌, ◌&&◌, ◌||◌, [], ℕ, List, MatchOption, false, not};
 ghost use Rattle.uriparse_path.specs.Path as path;
 ghost use Rattle.uriparse_path.specs.Normal as spec;
@@ -8,7 +8,7 @@ ghost use Rattle.uriparse_path.specs.Relative as relative;
 use super::Segment;
 use super::segment::has_colon;
 
-/// Segments in order.
+/// Segments in order, in a list or in the text of a path.
 pub(super) trait SegmentSequence<'t>: Drop {
     ghost listed: { Self → List (List ℕ) };
 

@@ -1,5 +1,5 @@
 //! Lists of segments: what dot removal, normal forms, merging and edits share.
-ghost use Rattle.std.specs.Prelude.{◌≡◌, ◌<◌, ◌≤◌, ◌∷◌, ◌++◌, ◌&&◌, ◌||◌, [], true, not, if◌then◌else◌, OnOk, length, take, drop};
+ghost use Rattle.std.specs.Prelude.{◌≡◌, ◌<◌, ◌≤◌, ◌∷◌, ◌++◌, ◌&&◌, ◌||◌, [], true, if◌then◌else◌, OnOk, length, take, drop};
 ghost use Rattle.uriparse_text.specs.Bytes.{dot};
 ghost use Rattle.uriparse_path.specs.Path as path;
 ghost use Rattle.uriparse_path.specs.Dots as dots;
