@@ -2,6 +2,7 @@
 //! 3986, sections 4.2 and 6.2.2.
 ghost use Rattle.std.specs.Prelude.{◌≡◌, ◌∷◌, ◌&&◌, ◌||◌, [], ℕ, List, MatchOption, false, not};
 ghost use Rattle.uriparse_path.specs.Path as path;
+ghost use Rattle.uriparse_path.specs.Dots as dots;
 ghost use Rattle.uriparse_path.specs.Normal as spec;
 ghost use Rattle.uriparse_path.specs.Relative as relative;
 
@@ -66,16 +67,28 @@ pub(super) fn needs_leading_dot<'t, L: SegmentSequence<'t>>(had_colon: bool, seg
     starts_with_empty_segment(segments.again()) || (has_first_colon(segments) && !had_colon)
 }
 
+/// Whether there is a dot segment.
+pub(super) fn has_dot_segment<'t, L: SegmentSequence<'t>>(segments: L) -> bool
+    ensures { result ≡ dots.has_dot_segment (L.listed segments) }
+{
+    let mut left = segments;
+    'segments: while let Some((segment, later)) = left.split() {
+        if segment.is_dot_segment() {
+            return true;
+        }
+        left = later;
+    }
+    false
+}
+
 /// Whether `..` segments come first and no dot segment follows them.
 pub(super) fn begins_with_double_dots<'t, L: SegmentSequence<'t>>(segments: L) -> bool
     ensures { result ≡ spec.begins_with_double_dots (L.listed segments) }
 {
     let mut left = segments;
-    let mut climbing = true;
     'segments: while let Some((segment, later)) = left.split() {
-        climbing = climbing && segment.is_double_dot_segment();
-        if !climbing && segment.is_dot_segment() {
-            return false;
+        if !segment.is_double_dot_segment() {
+            return !has_dot_segment(left);
         }
         left = later;
     }

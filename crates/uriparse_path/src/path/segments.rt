@@ -12,13 +12,6 @@ use super::rules::starts_with_empty_segment;
 use super::segment::single_dot;
 use std::alloc::AllocError;
 
-/// Whether there is a dot segment.
-pub(super) fn has_dot_segment(segments: &[Segment<'_>]) -> bool
-    ensures { result ≡ dots.has_dot_segment segments.now }
-{
-    segments.iter().any(|segment| segment.is_dot_segment())
-}
-
 /// Whether the text of the path with these segments begins with two slashes.
 pub(super) fn starts_with_two_slashes(absolute: bool, segments: &[Segment<'_>]) -> bool
     ensures { result ≡ (path.starts_with_empty_segment segments.now && (absolute || path.starts_with_empty_segment (drop 1 segments.now))) }
