@@ -37,6 +37,7 @@ pub(crate) mod offset;
 pub(crate) mod read;
 mod reduce;
 pub(crate) mod relate;
+mod rules;
 mod segment;
 mod segments;
 pub(crate) mod text;
@@ -45,8 +46,8 @@ use counts::{Counts, Dotted};
 use front::most_path_bytes;
 use list::SegmentList;
 use read::{count_segments, counted_path, split_root};
+use rules::starts_with_empty_segment;
 use segment::each_is_segment;
-use segments::starts_with_empty_segment;
 pub use text::Segments;
 
 /// The maximum number of segments of a path.

@@ -6,9 +6,8 @@ ghost use Rattle.uriparse_path.specs.Edits.{with_dot_prefix_unless};
 
 use super::counts::Counts;
 use super::list::SegmentList;
-use super::segments::{
-    has_dot_segment, starts_with_empty_segment, starts_with_two_slashes, truncate_with_leading_dot,
-};
+use super::rules::{has_dot_segment, starts_with_empty_segment};
+use super::segments::{starts_with_two_slashes, truncate_with_leading_dot};
 use super::{Path, Segment, word_of};
 
 /// Replays the segment at `at` on the output so far, which is the first `kept` of the list. Returns

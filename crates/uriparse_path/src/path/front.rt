@@ -6,7 +6,8 @@ ghost use Rattle.uriparse_text.specs.Cuts.{lacks, up_to};
 ghost use Rattle.uriparse_path.specs.Path as spec;
 
 use super::Path;
-use super::segments::{has_first_colon, starts_with_empty_segment, starts_with_two_slashes};
+use super::rules::{has_first_colon, starts_with_empty_segment};
+use super::segments::starts_with_two_slashes;
 
 /// An upper bound of the length of the path's text in bytes, or `usize::MAX`.
 pub fn most_path_bytes(path: &Path<'_>) -> usize

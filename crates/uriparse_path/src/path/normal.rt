@@ -1,9 +1,8 @@
 //! Normal forms of paths: RFC 3986, sections 4.2 and 6.2.2.
-ghost use Rattle.std.specs.Prelude.{◌≡◌, ◌↔◌, ◌<◌, ◌||◌, ◌&&◌, true, false, not, IfOk, IsOk, IsTrue, OnOk, OnErr, length, map, slice_set};
+ghost use Rattle.std.specs.Prelude.{◌≡◌, ◌↔◌, ◌<◌, true, false, not, IfOk, IsOk, IsTrue, OnOk, OnErr, length, map, slice_set};
 ghost use Rattle.std.specs.List.{list_all};
 ghost use Rattle.uriparse_text.specs.Canonical.{canonical};
 ghost use Rattle.uriparse_path.specs.Path.{IsListed, starts_with_empty_segment, text};
-ghost use Rattle.uriparse_path.specs.Dots.{is_dot_segment};
 ghost use Rattle.uriparse_path.specs.Relative as relative;
 ghost use Rattle.uriparse_path.specs.Normal as spec;
 ghost use Rattle.uriparse_path.specs.Copies as copy;
@@ -13,8 +12,9 @@ use super::counts::Counts;
 use super::dots::remove_dots;
 use super::list::SegmentList;
 use super::reduce::make_relative;
-use super::segment::has_colon;
-use super::segments::{needs_leading_dot, starts_with_empty_segment};
+use super::rules::{
+    are_canonical, begins_with_double_dots, has_needed_leading_dot, is_dot_prefixed,
+};
 use super::{Path, Segment};
 use std::alloc::{AllocError, Global};
 use uriparse_text::internal::normalized_text;
@@ -40,47 +40,11 @@ impl PathContext {
     }
 }
 
-/// Whether `..` segments come first and no dot segment follows them.
-fn begins_with_double_dots(segments: &[Segment<'_>]) -> bool
-    ensures { result ≡ spec.begins_with_double_dots segments.now }
-{
-    let mut climbing = true;
-    for segment in segments {
-        climbing = climbing && segment.is_double_dot_segment();
-        if !climbing && segment.is_dot_segment() {
-            return false;
-        }
-    }
-    true
-}
-
-/// Whether a `.` comes first and is needed there. A call of its own, since few paths need it.
-#[inline(never)]
-fn has_needed_leading_dot(segments: &[Segment<'_>]) -> bool
-    ensures { result ≡ spec.has_needed_leading_dot segments.now }
-{
-    match segments.split_first() {
-        Some((first, later)) => {
-            first.is_single_dot_segment()
-                && begins_with_double_dots(later)
-                && needs_leading_dot(has_colon(first.as_bytes()), later)
-        },
-        None => false,
-    }
-}
-
 /// Whether each segment is canonical.
 fn all_canonical(segments: &[Segment<'_>]) -> bool
     ensures { result ≡ list_all spec.is_canonical segments.now }
 {
     segments.iter().all(|segment| segment.is_normalized())
-}
-
-/// Whether each segment is canonical and none is a dot segment. Stops at the first that is not so.
-fn are_canonical(segments: &[Segment<'_>]) -> bool
-    ensures { result ≡ list_all (λ s. spec.is_canonical s && not (is_dot_segment s)) segments.now }
-{
-    segments.iter().all(|segment| segment.is_normalized() && !segment.is_dot_segment())
 }
 
 /// Whether the segments are in normal form, for a path that stays relative or for another. A call
@@ -203,23 +167,6 @@ impl<'p> Path<'p> {
         }
     }
 
-    /// Whether the path is absolute and normal except for a leading `.`, which is needed without an
-    /// authority. A call of its own, since few paths need it.
-    #[inline(never)]
-    fn is_dot_prefixed(&self) -> bool
-        ensures { result ≡ spec.is_dot_prefixed self.now.absolute self.now.segments }
-    {
-        match self.segments().split_first() {
-            Some((first, later)) => {
-                self.is_absolute()
-                    && first.as_str() == "."
-                    && starts_with_empty_segment(later)
-                    && is_normal(false, later)
-            }
-            None => false,
-        }
-    }
-
     /// Counts the segments, which are canonical, if their counts are not known.
     fn count_canonical(&mut self)
         requires { list_all spec.is_canonical self.old.segments ≡ true }
@@ -304,7 +251,8 @@ pub fn is_normal_path(path: &Path<'_>, context: PathContext) -> bool
     ensures { result ≡ spec.is_normal_at context path.now }
 {
     let stays_relative = path.stays_relative(!context.has_scheme);
-    path.is_normal(stays_relative) || (!context.has_authority && path.is_dot_prefixed())
+    path.is_normal(stays_relative)
+        || (!context.has_authority && is_dot_prefixed(path.is_absolute(), path.segments()))
 }
 
 /// Brings the path into its normal form as [`Path::normalize`] does. Without an authority, a path

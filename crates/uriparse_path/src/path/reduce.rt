@@ -7,7 +7,8 @@ ghost use Rattle.uriparse_path.specs.Relative as relative;
 
 use super::Segment;
 use super::list::SegmentList;
-use super::segments::{has_first_colon, needs_leading_dot, truncate_with_leading_dot};
+use super::rules::{has_first_colon, needs_leading_dot};
+use super::segments::truncate_with_leading_dot;
 
 /// Whether the last segment is a dot segment.
 fn ends_in_dots(segments: &[Segment<'_>]) -> bool
@@ -108,7 +109,7 @@ fn shape(segments: &mut [Segment<'_>]) -> (bool, usize)
     ensures room { length (relative.ended segments.old (relative.reduced segments.old)) ≤ length segments.old }
 {
     let ended_in_dots = ends_in_dots(segments);
-    let had_colon = has_first_colon(segments);
+    let had_colon = has_first_colon(&*segments);
     let left = reduce(segments);
     let kept = close(segments, ended_in_dots, left);
     let with_leading_dot = needs_leading_dot(had_colon, &segments[..kept]);

@@ -8,8 +8,9 @@ ghost use Rattle.uriparse_path.specs.Relative.{is_first};
 
 use super::counts::Counts;
 use super::list::SegmentList;
+use super::rules::has_dot_segment;
 use super::segment::{double_dot, has_colon, single_dot};
-use super::segments::{directory, has_dot_segment, push_borrowed};
+use super::segments::{directory, push_borrowed};
 use super::{MAX_SEGMENTS, Path, Segment};
 use std::alloc::{AllocError, Global};
 

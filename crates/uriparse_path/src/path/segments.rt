@@ -1,5 +1,5 @@
 //! Lists of segments: what dot removal, normal forms, merging and edits share.
-ghost use Rattle.std.specs.Prelude.{◌≡◌, ◌<◌, ◌≤◌, ◌∷◌, ◌++◌, ◌&&◌, ◌||◌, [], true, not, if◌then◌else◌, OnOk, length, take, drop};
+ghost use Rattle.std.specs.Prelude.{◌≡◌, ◌<◌, ◌≤◌, ◌∷◌, ◌++◌, ◌&&◌, ◌||◌, [], true, if◌then◌else◌, OnOk, length, take, drop};
 ghost use Rattle.uriparse_text.specs.Bytes.{dot};
 ghost use Rattle.uriparse_path.specs.Path as path;
 ghost use Rattle.uriparse_path.specs.Dots as dots;
@@ -8,25 +8,9 @@ ghost use Rattle.uriparse_path.specs.Relative as relative;
 
 use super::Segment;
 use super::list::SegmentList;
-use super::segment::{has_colon, single_dot};
+use super::rules::starts_with_empty_segment;
+use super::segment::single_dot;
 use std::alloc::AllocError;
-
-/// Whether there is a dot segment.
-pub(super) fn has_dot_segment(segments: &[Segment<'_>]) -> bool
-    ensures { result ≡ dots.has_dot_segment segments.now }
-{
-    segments.iter().any(|segment| segment.is_dot_segment())
-}
-
-/// Whether the first segment is empty and others follow it. Then their text begins with a slash.
-pub(super) fn starts_with_empty_segment(segments: &[Segment<'_>]) -> bool
-    ensures { result ≡ path.starts_with_empty_segment segments.now }
-{
-    match segments {
-        [first, _, ..] => first.as_bytes().is_empty(),
-        _ => false,
-    }
-}
 
 /// Whether the text of the path with these segments begins with two slashes.
 pub(super) fn starts_with_two_slashes(absolute: bool, segments: &[Segment<'_>]) -> bool
@@ -37,24 +21,6 @@ pub(super) fn starts_with_two_slashes(absolute: bool, segments: &[Segment<'_>]) 
             && (absolute || starts_with_empty_segment(followers)),
         [] => false,
     }
-}
-
-/// Whether the first segment has a colon.
-pub(super) fn has_first_colon(segments: &[Segment<'_>]) -> bool
-    ensures { result ≡ relative.is_first relative.has_colon segments.now }
-{
-    match segments.first() {
-        Some(first) => has_colon(first.as_bytes()),
-        None => false,
-    }
-}
-
-/// Whether segments that replace others need a leading `.`. `had_colon` says whether the first of
-/// the others had a colon.
-pub(super) fn needs_leading_dot(had_colon: bool, segments: &[Segment<'_>]) -> bool
-    ensures { result ≡ (path.starts_with_empty_segment segments.now || (relative.is_first relative.has_colon segments.now && not had_colon)) }
-{
-    starts_with_empty_segment(segments) || (has_first_colon(segments) && !had_colon)
 }
 
 /// Whether a pushed segment replaces the only one: that one is empty, and the pushed one is not.

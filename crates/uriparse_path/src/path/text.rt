@@ -5,6 +5,7 @@ ghost use Rattle.uriparse_text.specs.Canonical.{canonical};
 ghost use Rattle.uriparse_path.specs.Path.{IsPath, fed, pieces};
 
 use super::read::split_root;
+use super::rules::SegmentSequence;
 use super::{Segment, feed_piece};
 use std::hash::Hasher;
 use std::marker::Model;
@@ -54,6 +55,20 @@ impl<'p> Iterator for Segments<'p> {
         let (piece, following) = split_at_mark(rest, b'/');
         self.rest = without_mark(following);
         Some(text_from_checked(piece, false))
+    }
+}
+
+impl<'p> SegmentSequence<'p> for Segments<'p> {
+    ghost listed = { λ s. s };
+
+    fn again(&self) -> Segments<'p> {
+        Segments { rest: self.rest }
+    }
+
+    fn split(&self) -> Option<(Segment<'p>, Segments<'p>)> {
+        let mut later = self.again();
+        let first = later.next()?;
+        Some((first, later))
     }
 }
 

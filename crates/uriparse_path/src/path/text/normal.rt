@@ -5,11 +5,9 @@ ghost use Rattle.std.specs.List.{list_all, slice_split};
 ghost use Rattle.uriparse_text.specs.Bytes.{percent};
 ghost use Rattle.uriparse_text.specs.Cuts.{lacks};
 ghost use Rattle.uriparse_text.specs.Segment.{is_segment};
-ghost use Rattle.uriparse_path.specs.Path as path;
 ghost use Rattle.uriparse_path.specs.Path.{IsPath, is_rooted, is_slash, pieces, spelled};
 ghost use Rattle.uriparse_path.specs.Dots.{has_dot_segment};
 ghost use Rattle.uriparse_path.specs.Last.{HasNoDotCandidates};
-ghost use Rattle.uriparse_path.specs.Relative as relative;
 ghost use Rattle.uriparse_path.specs.Normal as spec;
 
 use super::dot_scan::plain_len;
@@ -17,75 +15,10 @@ use super::last::{last_dots, last_dots_after};
 use super::{Segments, segments_of};
 use crate::path::normal::PathContext;
 use crate::path::read::split_root;
-use crate::path::segment::has_colon;
-use uriparse_text::internal::{Case, is_canonical, split_at_mark};
-
-impl<'p> Segments<'p> {
-    /// Whether the first of the segments that are left is empty and others follow it.
-    fn start_with_empty_segment(&self) -> bool
-        ensures { result ≡ path.starts_with_empty_segment self.now }
-    {
-        match self.rest {
-            Some(rest) => {
-                let (rooted, _) = split_root(rest);
-                rooted
-            }
-            None => false,
-        }
-    }
-
-    /// Whether the first of the segments that are left has a colon.
-    fn have_first_colon(&self) -> bool
-        ensures { result ≡ relative.is_first relative.has_colon self.now }
-    {
-        match self.rest {
-            Some(rest) => {
-                let (first, _) = split_at_mark(rest, b'/');
-                has_colon(first)
-            }
-            None => false,
-        }
-    }
-}
-
-/// Whether each segment is canonical and none is a dot segment.
-fn are_canonical(segments: Segments<'_>) -> bool
-    ensures { result ≡ spec.are_normal false segments.entry }
-{
-    for segment in segments {
-        if !segment.is_normalized() || segment.is_dot_segment() {
-            return false;
-        }
-    }
-    true
-}
-
-/// Whether `..` segments come first and no dot segment follows them.
-fn begin_with_double_dots(segments: Segments<'_>) -> bool
-    ensures { result ≡ spec.begins_with_double_dots segments.entry }
-{
-    let mut climbing = true;
-    for segment in segments {
-        climbing = climbing && segment.is_double_dot_segment();
-        if !climbing && segment.is_dot_segment() {
-            return false;
-        }
-    }
-    true
-}
-
-/// Whether a `.` comes first and is needed there.
-fn are_guarded(segments: Segments<'_>) -> bool
-    ensures { result ≡ spec.has_needed_leading_dot segments.entry }
-{
-    let mut later = segments;
-    let Some(first) = later.next() else {
-        return false;
-    };
-    let needed = later.start_with_empty_segment()
-        || (later.have_first_colon() && !has_colon(first.as_bytes()));
-    first.is_single_dot_segment() && begin_with_double_dots(later) && needed
-}
+use crate::path::rules::{
+    SegmentSequence, begins_with_double_dots, has_needed_leading_dot, is_dot_prefixed,
+};
+use uriparse_text::internal::{Case, is_canonical};
 
 /// Whether no segment of a text is a dot segment, if none of those that begin among the first `len`
 /// bytes begins like one.
@@ -128,8 +61,8 @@ fn is_normal_after(stays_relative: bool, len: usize, text: &[u8]) -> bool
     if !stays_relative {
         return lacks_dots(len, text);
     }
-    begin_with_double_dots(Segments { rest: Some(text) })
-        || are_guarded(Segments { rest: Some(text) })
+    let segments = Segments { rest: Some(text) };
+    begins_with_double_dots(segments.again()) || has_needed_leading_dot(segments)
 }
 
 /// Whether this many bytes are all of a text. If these have no escape, and no segment that begins like
@@ -157,16 +90,12 @@ fn is_normal(stays_relative: bool, text: &[u8]) -> bool
 
 /// Whether the text is that of an absolute path that is normal except for a leading `.`, which is
 /// needed without an authority.
-fn is_dot_prefixed(text: &[u8]) -> bool
+fn is_text_dot_prefixed(text: &[u8]) -> bool
     requires { IsPath text.now }
     ensures { result ≡ spec.is_dot_prefixed (is_rooted text.now) (pieces text.now) }
 {
     let (rooted, _) = split_root(text);
-    let mut later = segments_of(text);
-    let Some(first) = later.next() else {
-        return false;
-    };
-    rooted && first.as_str() == "." && later.start_with_empty_segment() && are_canonical(later)
+    is_dot_prefixed(rooted, segments_of(text))
 }
 
 /// Whether the text of a path is that of its normal form at this place in a reference. Does not
@@ -177,5 +106,5 @@ pub fn is_normal_path_text(text: &[u8], context: PathContext) -> bool
 {
     let (rooted, _) = split_root(text);
     is_normal(!context.has_scheme && !rooted, text)
-        || (!context.has_authority && is_dot_prefixed(text))
+        || (!context.has_authority && is_text_dot_prefixed(text))
 }
