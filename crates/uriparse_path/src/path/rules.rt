@@ -88,7 +88,7 @@ pub(super) fn begins_with_double_dots<'t, L: SegmentSequence<'t>>(segments: L) -
     let mut left = segments;
     'segments: while let Some((segment, later)) = left.split() {
         if !segment.is_double_dot_segment() {
-            return !has_dot_segment(left);
+            return !segment.is_dot_segment() && !has_dot_segment(later);
         }
         left = later;
     }
