@@ -6,7 +6,7 @@
 //! it.
 #![tactic(auto)]
 
-ghost use Rattle.std.specs.Prelude.{◌≡◌, ◌↔◌, Err, IfOk, IsTrue, MatchOption, MatchResult, None, Ok, OnErr, OnOk, Some, bytes_eq, false, is_some, length, string_bytes, true};
+ghost use Rattle.std.specs.Prelude.{◌≡◌, ◌↔◌, Err, IfOk, IsTrue, MatchResult, None, Ok, OnErr, OnOk, Some, bytes_eq, false, is_some, length, string_bytes, true};
 ghost use Rattle.uriparse_text.specs.Readings.{IsUnless, Settles, SettlesUnless};
 ghost use Rattle.uriparse_text.specs.declared.segment.error.PathError.TheVariants.{OutOfMemory};
 ghost use Rattle.uriparse_scheme.specs.Scheme as schemes;
@@ -15,16 +15,15 @@ ghost use Rattle.uriparse_reference.specs.Edits.{Run, edited, segment_pushed};
 ghost use Rattle.uriparse_reference.specs.declared.uri_reference.edit.Edit.TheVariants as edits;
 ghost use Rattle.uriparse_reference.specs.declared.uri_reference.error.URIReferenceError.{URIReferenceError};
 ghost use Rattle.uriparse_reference.specs.declared.uri_reference.error.URIReferenceError.TheVariants as errors;
-ghost use Rattle.uriparse_reference.specs.declared.uri_reference.error.BufferError.TheVariants as buffers;
 ghost use Rattle.uriparse_reference.specs.declared.uri_reference.error.TargetError.TheVariants as targets;
 ghost use Rattle.uriparse_reference.specs.Escaped.{escaped};
-ghost use Rattle.uriparse_reference.specs.Into.{Writes};
+ghost use Rattle.uriparse_reference.specs.Into.{Writes, WritesTarget};
 ghost use Rattle.uriparse_reference.specs.Key.{key};
 ghost use Rattle.uriparse_reference.specs.Normal.{normal};
 ghost use Rattle.uriparse_reference.specs.Offset.{first_fault};
 ghost use Rattle.uriparse_reference.specs.Reading.{fault};
 ghost use Rattle.uriparse_reference.specs.Reference.{Parts, Spells, print};
-ghost use Rattle.uriparse_reference.specs.Target.{target};
+ghost use Rattle.uriparse_reference.specs.Target.{ResolvesTo};
 ghost use Rattle.uriparse_reference.specs.View.{viewed};
 
 use std::alloc::{AllocError, Global};
@@ -159,7 +158,7 @@ pub fn resolve_into(
     reference: &ReferenceView<'_>,
     out: &mut [u8],
 ) -> Result<usize, BufferError>
-    ensures { is_some base.now.parts.scheme ≡ true → MatchOption (target base.now.parts reference.now.parts) ((result ≡ Err buffers.TooManySegments) × (out.new ≡ out.old)) (λ t. Writes (print t) result out.old out.new) }
+    ensures { is_some base.now.parts.scheme ≡ true → WritesTarget base.now.parts reference.now.parts result out.old out.new }
 {
     base.resolve_into(reference, out)
 }
@@ -171,7 +170,7 @@ pub fn resolve_to_string(
     reference: &ReferenceView<'_>,
 ) -> Result<String, TargetError>
     ensures base { is_some base.now.parts.scheme ≡ false → result ≡ Err targets.RelativeBase }
-    ensures target { is_some base.now.parts.scheme ≡ true → MatchOption (target base.now.parts reference.now.parts) (result ≡ Err targets.TooManySegments) (λ t. MatchResult result (λ s. string_bytes s ≡ print t) (λ e. e ≡ targets.OutOfMemory)) }
+    ensures target { is_some base.now.parts.scheme ≡ true → ResolvesTo (λ t s. string_bytes s ≡ print t) base.now.parts reference.now.parts result }
 {
     base.resolve_to_string(alloc, reference)
 }

@@ -141,6 +141,10 @@ userinfo_reading i = do
 abbrev pub ends_authority : ℕ → Bool
 ends_authority b = b == slash || (b == question_mark || b == number_sign)
 
+-- the result of reading the authority that a text begins with: a word of a private function's clause alone
+abbrev pub front_reading : List ℕ → Result AuthorityParts AuthorityError
+front_reading u = reading (up_to ends_authority u)
+
 -- the byte after the authority has no place in its last part: a port, or else the host
 abbrev pub rest_error : Option ℕ → host.Kind → AuthorityError
 rest_error (Some n) k = errors.Port port_errors.InvalidCharacter

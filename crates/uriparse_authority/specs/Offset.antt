@@ -1,9 +1,9 @@
 -- Where the fault of an authority is: RFC 3986, section 3.2.
-use Rattle.std.specs.Prelude.{◌≡◌, ℕ, Bool, true, false, not, ◌+◌, List, [], ◌++◌, length, unwrap_or}
+use Rattle.std.specs.Prelude.{◌≡◌, ◌↔◌, ℕ, Bool, true, false, not, ◌+◌, List, [], ◌++◌, length, Some, slice_get, unwrap_or}
 use Rattle.std.specs.List.{position_or_len}
 use Rattle.uriparse_text.specs.declared.internal.class.Class.TheVariants as class
 use Rattle.uriparse_text.specs.Address.{is_ipv6_byte}
-use Rattle.uriparse_text.specs.Bytes.{at_sign, left_bracket}
+use Rattle.uriparse_text.specs.Bytes.{at_sign, left_bracket, percent}
 use Rattle.uriparse_text.specs.Classes.{is_plain}
 use Rattle.uriparse_text.specs.Cuts.{ahead}
 use Rattle.uriparse_text.specs.Offset as text
@@ -14,7 +14,7 @@ use Rattle.uriparse_authority.specs.declared.authority.error.HostError.{HostErro
 use Rattle.uriparse_authority.specs.declared.authority.error.HostError.TheVariants as host
 use Rattle.uriparse_authority.specs.declared.authority.error.PortError.{PortError}
 use Rattle.uriparse_authority.specs.declared.authority.error.PortError.TheVariants as port
-use Rattle.uriparse_authority.specs.Authority.{userinfo_text, username_text, password_text, host_text, port_text}
+use Rattle.uriparse_authority.specs.Authority.{fault, userinfo_text, username_text, password_text, host_text, port_text}
 use Rattle.uriparse_authority.specs.Future.{is_future_byte}
 use Rattle.uriparse_authority.specs.Host.{in_brackets}
 use Rattle.uriparse_authority.specs.Password as password
@@ -47,6 +47,10 @@ fault_offset (errors.Host e) a = length (ahead at_sign (userinfo_text a)) + host
 fault_offset (errors.Port e) a = length (ahead at_sign (userinfo_text a) ++ host_text a) + offset_after 1 (port_offset e) (port_text a)
 
 -- ---- the byte at the place
+
+-- If this is the fault of the text, the byte at its place is a `%` exactly if P holds.
+abbrev pub IsAtPercentIff : List ℕ → AuthorityError → Type 0 → Type 0
+IsAtPercentIff a e P = fault a ≡ Some e → P ↔ (slice_get a (fault_offset e a) ≡ Some percent)
 
 -- A byte at which this error of a host may be: one that may not stand there, or the bracket before an address of a wrong form.
 abbrev pub IsHostByte : HostError → ℕ → Type 0

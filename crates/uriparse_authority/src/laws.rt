@@ -1,7 +1,7 @@
 //! Laws of the definitions that contracts cite. Each function does nothing: its contract is the
 //! law.
 ghost use Rattle.std.specs.Prelude.{◌≡◌, ◌↔◌, ◌⊎◌, ◌∷◌, ◌++◌, true, false, ℕ, ◌<◌, codes, length, slice_get, IfSome, IsSomeAnd, List, [], Err, None, Ok, Option, Some, decimal};
-ghost use Rattle.uriparse_text.specs.Bytes.{at_sign, colon, percent, right_bracket};
+ghost use Rattle.uriparse_text.specs.Bytes.{at_sign, colon, right_bracket};
 ghost use Rattle.uriparse_text.specs.Cuts.{lacks, none_pass};
 ghost use Rattle.uriparse_authority.specs.declared.authority.error.AuthorityError.{AuthorityError};
 ghost use Rattle.uriparse_authority.specs.declared.authority.error.PasswordError.{PasswordError};
@@ -20,7 +20,7 @@ ghost use Rattle.uriparse_authority.specs.Future as future;
 ghost use Rattle.uriparse_authority.specs.Host as host;
 ghost use Rattle.uriparse_authority.specs.Port as port;
 ghost use Rattle.uriparse_authority.specs.Normal.{canonical_host, canonical_authority};
-ghost use Rattle.uriparse_authority.specs.Offset.{IsWrongByte, fault_offset};
+ghost use Rattle.uriparse_authority.specs.Offset.{IsAtPercentIff, IsWrongByte, fault_offset};
 ghost use Rattle.uriparse_authority.specs.Authority.{AuthorityParts, Spells, Valid, ReadsBack, canonical_text, ends_authority, fault, fed, fed_key, host_text, joined, key, kind, password_text, port_text, print, reading, rest_error, username_text, whole_reading};
 
 /// Reading returns exactly what a text spells: a host, a name by itself, an address of a later
@@ -61,8 +61,8 @@ pub fn first_fault()
 /// it is a `%` exactly if the error is about a percent-encoding; for one of a host it may be one too.
 pub fn one_offset_of_fault()
     ensures byte { (a : List ℕ) (e : AuthorityError) → fault a ≡ Some e → IsSomeAnd (slice_get a (fault_offset e a)) (IsWrongByte e) }
-    ensures username_escape { (a : List ℕ) (e : UsernameError) → fault a ≡ Some (errors.Username e) → (e ≡ username_errors.InvalidPercentEncoding) ↔ (slice_get a (fault_offset (errors.Username e) a) ≡ Some percent) }
-    ensures password_escape { (a : List ℕ) (e : PasswordError) → fault a ≡ Some (errors.Password e) → (e ≡ password_errors.InvalidPercentEncoding) ↔ (slice_get a (fault_offset (errors.Password e) a) ≡ Some percent) }
+    ensures username_escape { (a : List ℕ) (e : UsernameError) → IsAtPercentIff a (errors.Username e) (e ≡ username_errors.InvalidPercentEncoding) }
+    ensures password_escape { (a : List ℕ) (e : PasswordError) → IsAtPercentIff a (errors.Password e) (e ≡ password_errors.InvalidPercentEncoding) }
     ensures within { (a : List ℕ) (e : AuthorityError) → fault a ≡ Some e → fault_offset e a < length a }
 {}
 

@@ -1,9 +1,9 @@
 -- Faults of a text that is no path: RFC 3986, section 3.3, and the limit of segments.
-use Rattle.std.specs.Prelude.{◌≡◌, ℕ, Bool, nat_lt, ◌==◌, ◌&&◌, ◌||◌, List, [], ◌∷◌, ◌++◌, length, take, Option, Some, None, Result, if◌then◌else◌}
+use Rattle.std.specs.Prelude.{◌≡◌, ℕ, Bool, true, nat_lt, ◌==◌, ◌&&◌, ◌||◌, List, [], ◌∷◌, ◌++◌, length, take, Option, Some, None, Result, if◌then◌else◌}
 use Rattle.std.specs.Option.{option_or}
 use Rattle.std.specs.Result.{result_map_both}
-use Rattle.uriparse_text.specs.Bytes.{slash, question_mark, number_sign}
-use Rattle.uriparse_text.specs.Cuts.{up_to}
+use Rattle.uriparse_text.specs.Bytes.{percent, slash, question_mark, number_sign}
+use Rattle.uriparse_text.specs.Cuts.{from_first, lacks, up_to}
 use Rattle.uriparse_text.specs.Readings.{unless_fault}
 use Rattle.uriparse_text.specs.declared.segment.error.PathError.{PathError}
 use Rattle.uriparse_text.specs.declared.segment.error.PathError.TheVariants.{ExceededMaximumLength}
@@ -42,6 +42,16 @@ fault_within limit ps = option_or (first_fault (take limit ps)) (length_fault li
 
 unfoldable pub fault : List ℕ → Option PathError
 fault t = fault_within max_segments (pieces t)
+
+-- The text u begins with a path without fault: its text and what follows it, with this number of segments, and no escape if escaped is 0. For the
+-- clause of a private function.
+abbrev pub BeginsWithPath : (u path following : List ℕ) (count escaped : ℕ) → Type 0
+BeginsWithPath u path following count escaped =
+    (fault (up_to ends_path u) ≡ None)
+    × (path ≡ up_to ends_path u)
+    × (following ≡ from_first ends_path u)
+    × (count ≡ length (pieces (up_to ends_path u)))
+    × (escaped ≡ 0 → lacks percent path ≡ true)
 
 -- A prefix without fault has as many segments as a path may have, and a slash follows it, which would start one more.
 pub record PassesLimit (t : List ℕ) : Type 0 where

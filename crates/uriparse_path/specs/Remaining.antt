@@ -8,7 +8,8 @@ use Rattle.uriparse_text.specs.Bytes.{dot, slash}
 use Rattle.uriparse_text.specs.Ends.{EndsWith, formed}
 use Rattle.uriparse_path.specs.declared.path.text.backward.Placed.{Placed}
 use Rattle.uriparse_path.specs.declared.path.text.backward.BackwardState.{BackwardState}
-use Rattle.uriparse_path.specs.Path.{is_rooted, is_slash, has_two_slashes, root}
+use Rattle.uriparse_path.specs.Path.{is_rooted, is_slash, has_two_slashes, root, spelled, text}
+use Rattle.uriparse_path.specs.Edits.{with_dot_prefix_unless}
 use Rattle.uriparse_path.specs.Dots.{is_single_dot, is_double_dot}
 use Rattle.uriparse_path.specs.Relative.{is_first, has_colon}
 
@@ -79,6 +80,12 @@ relative_text had_colon ended l =
     let t = remaining_text Canonical ended l.kept in
     with_double_dots l.double_dots (is_more l.kept) (is_rooted t || (is_first has_colon l.kept && not had_colon)) t
 
+-- The text of a path with what is left after its root, which it had or which the removal of its first segment uncovered. Without an authority it
+-- does not begin with two slashes.
+abbrev pub rooted_text : Bool → Bool → Form → Bool → Remaining → List ℕ
+rooted_text has_authority rooted form ended l =
+    text (with_dot_prefix_unless has_authority (spelled (root (rooted || l.removed) ++ remaining_text form ended l.kept)))
+
 -- ---- buffers
 
 -- the text begins with two slashes before one that begins with a slash, or with two, if the flags say so
@@ -99,3 +106,20 @@ pub record IsBackwardState (form : Form) (ended : Bool) (l : Remaining) (e : Bac
   pub kept : e.kept ≡ is_more l.kept
   pub colon : e.colon ≡ is_first has_colon l.kept
   pub placed : IsPlaced e.text buffer (remaining_text form ended l.kept) t
+
+-- One segment more leads from this state to that one, in any buffer.
+abbrev pub ProcessesOne : List ℕ → BackwardState → BackwardState → Type 0
+ProcessesOne s old new =
+    (form : Form) (ended : Bool) (l : Remaining) (buffer t : List ℕ) → IsBackwardState form ended l old buffer t
+    → IsBackwardState form ended (process_one s l) new buffer t
+
+-- These segments more lead from a state and its buffer to a state and its buffer.
+abbrev pub ProcessesAll : Form → Bool → List (List ℕ) → BackwardState → List ℕ → BackwardState → List ℕ → Type 0
+ProcessesAll form ended ss old buffer new filled =
+    (l : Remaining) (t : List ℕ) → IsBackwardState form ended l old buffer t → IsBackwardState form ended (process_all ss l) new filled t
+
+-- The text that this state has in a buffer is, after its root, at the end of that buffer.
+abbrev pub PutsFront : Bool → Bool → BackwardState → List ℕ → ℕ → List ℕ → Type 0
+PutsFront has_authority rooted state buffer len filled =
+    (form : Form) (ended : Bool) (l : Remaining) (t : List ℕ) → IsBackwardState form ended l state buffer t
+    → EndsWith filled len (rooted_text has_authority rooted form ended l ++ t)

@@ -1,6 +1,6 @@
 //! Laws of the definitions that contracts cite. Each function does nothing: its contract is the
 //! law.
-ghost use Rattle.std.specs.Prelude.{◌≡◌, ◌<◌, ◌≤◌, ◌↔◌, ◌∷◌, [], ℕ, List, Bool, None, Some, Ok, Err, codes, length, map, slice_get, take, true, false};
+ghost use Rattle.std.specs.Prelude.{◌≡◌, ◌<◌, ◌≤◌, ◌↔◌, ◌∷◌, ℕ, List, Bool, None, Some, Ok, Err, codes, length, slice_get, take, true, false};
 ghost use Rattle.std.specs.List.{list_all, slice_split, join_with_byte};
 ghost use Rattle.std.specs.Option.{option_map};
 ghost use Rattle.uriparse_text.specs.Bytes.{percent, slash};
@@ -10,12 +10,12 @@ ghost use Rattle.uriparse_path.specs.Path.{PathParts, IsListed, IsPath, max_segm
 ghost use Rattle.uriparse_path.specs.Faults.{PassesLimit, error_of, fault};
 ghost use Rattle.uriparse_text.specs.declared.segment.error.PathError.{PathError};
 ghost use Rattle.uriparse_path.specs.Offset.{fault_offset};
-ghost use Rattle.uriparse_path.specs.Dots.{has_dot_segment, Step, Undots, replay, rooted_after, replayed, undot, without_dots};
+ghost use Rattle.uriparse_path.specs.Dots.{has_dot_segment, Step, Undots, rooted_after, replayed, undot, without_dots};
 ghost use Rattle.uriparse_path.specs.Relative.{is_first, has_colon, Leads, IsIrreducible, IsRelNormal, reduced, relative_normal};
 ghost use Rattle.uriparse_path.specs.Edits.{cleared, popped, pushed, pushing};
 ghost use Rattle.uriparse_text.specs.Segment as segment;
 ghost use Rattle.uriparse_text.specs.declared.segment.error.PathError.TheVariants as errors;
-ghost use Rattle.uriparse_path.specs.Merge.{merged};
+ghost use Rattle.uriparse_path.specs.Merge.{LeadsTo};
 ghost use Rattle.uriparse_path.specs.Relate.{double_dots_in, leading};
 ghost use Rattle.uriparse_path.specs.Normal.{canonical_path, pnormal, begins_with_double_dots, is_normal};
 
@@ -187,8 +187,8 @@ pub fn examples_of_other_normal_forms()
 /// removing the dot segments, yields the other path's segments. No relative path leads there with
 /// fewer `..`.
 pub fn fewest_double_dots()
-    ensures leads { (b t p : PathParts) → 0 < length t.segments → leading b t ≡ Some p → replay [] (merged b p).segments ≡ t.segments }
-    ensures fewest { (b t p q : PathParts) → leading b t ≡ Some p → 0 < length t.segments → 0 < length q.segments → replay [] (merged b q).segments ≡ t.segments → double_dots_in p.segments ≤ double_dots_in q.segments }
+    ensures leads { (b t p : PathParts) → 0 < length t.segments → leading b t ≡ Some p → LeadsTo b p t }
+    ensures fewest { (b t p q : PathParts) → leading b t ≡ Some p → 0 < length t.segments → 0 < length q.segments → LeadsTo b q t → double_dots_in p.segments ≤ double_dots_in q.segments }
 {}
 
 /// Relative paths that lead from a base's path to another one, if there is one.

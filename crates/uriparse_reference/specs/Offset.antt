@@ -1,8 +1,8 @@
 -- Where the fault of a text is, as a number of bytes from its beginning.
-use Rattle.std.specs.Prelude.{◌≡◌, ℕ, ◌+◌, false, List, ◌++◌, length, Option}
+use Rattle.std.specs.Prelude.{◌≡◌, ◌↔◌, ℕ, ◌+◌, false, List, ◌++◌, length, Option, Some, slice_get}
 use Rattle.std.specs.Option.{option_map}
 use Rattle.uriparse_text.specs.declared.internal.class.Class.TheVariants.{Query}
-use Rattle.uriparse_text.specs.Bytes.{colon, question_mark, number_sign}
+use Rattle.uriparse_text.specs.Bytes.{colon, percent, question_mark, number_sign}
 use Rattle.uriparse_text.specs.Cuts.{ahead, after, before, following, up_to}
 use Rattle.uriparse_text.specs.Offset as text
 use Rattle.uriparse_text.specs.Offset.{offset_after}
@@ -44,6 +44,10 @@ fault_offset (errors.Scheme e) t = 0
 -- the fault of a text, and where it is
 abbrev pub first_fault : List ℕ → Option (ℕ × URIReferenceError)
 first_fault t = option_map (λ e. (fault_offset e t, e)) (fault t)
+
+-- If this is the fault of the text, the byte at its place is a `%` exactly if P holds.
+abbrev pub IsAtPercentIff : List ℕ → URIReferenceError → Type 0 → Type 0
+IsAtPercentIff t e P = fault t ≡ Some e → P ↔ (slice_get t (fault_offset e t) ≡ Some percent)
 
 -- A byte at which this error may be: one that may not stand in its component, or at which the path begins that may not follow what
 -- precedes it. Of the errors without a byte no text has one.

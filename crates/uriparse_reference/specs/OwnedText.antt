@@ -1,5 +1,5 @@
 -- A reference in a text that is owned, and where its components lie there.
-use Rattle.std.specs.Prelude.{◌≡◌, ◌≤◌, ◌==◌, ◌+◌, ℕ, Bool, true, false, List, [], Option, Some, None, Result, Ok, Err, IfSome, take, drop, length, if◌then◌else◌}
+use Rattle.std.specs.Prelude.{◌≡◌, ◌≤◌, ◌==◌, ℕ, true, false, List, [], Option, Some, None, Result, Ok, Err, take, drop, length, if◌then◌else◌}
 use Rattle.uriparse_text.specs.Found.{if_there}
 use Rattle.uriparse_text.specs.Spelling.{IsValidText}
 use Rattle.uriparse_text.specs.declared.internal.class.Class.TheVariants as class

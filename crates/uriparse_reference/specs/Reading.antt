@@ -15,7 +15,7 @@ use Rattle.uriparse_scheme.specs.Scheme as scheme
 use Rattle.uriparse_reference.specs.declared.uri_reference.error.URIReferenceError.{URIReferenceError}
 use Rattle.uriparse_reference.specs.declared.uri_reference.error.URIReferenceError.TheVariants as errors
 use Rattle.uriparse_reference.specs.Reference.{Parts, path_of, path_refusal}
-use Rattle.uriparse_reference.specs.Cuts.{scheme_text, authority_text, path_text, query_text, fragment_text}
+use Rattle.uriparse_reference.specs.Cuts.{scheme_text, authority_text, cut_authority, path_text, query_text, fragment_text}
 
 -- The path that a text stands for, with or without a scheme and an authority; or its fault, or else why it may not follow them.
 abbrev pub path_reading : Bool → Bool → List ℕ → Result PathParts URIReferenceError
@@ -44,6 +44,10 @@ IsUnlessMemory answer right = (answer ≡ right) ⊎ ((fault_in right ≡ None) 
 
 abbrev pub IsAnswer : List ℕ → Result Parts URIReferenceError → Type 0
 IsAnswer t answer = IsUnlessMemory answer (reading t)
+
+-- reading the authority after two leading slashes, if present
+abbrev pub front_reading : List ℕ → Result (Option authority.AuthorityParts) URIReferenceError
+front_reading u = of_piece errors.Authority (if_present authority.reading (cut_authority u))
 
 -- reading a query and a fragment
 abbrev pub after_reading : Option (List ℕ) → Option (List ℕ) → Result (Option (List ℕ) × Option (List ℕ)) URIReferenceError

@@ -1,5 +1,5 @@
 -- Resolving a reference against a base: RFC 3986, sections 5.2.2 to 5.2.4.
-use Rattle.std.specs.Prelude.{◌≡◌, ℕ, Bool, true, false, not, ◌&&◌, nat_le, if◌then◌else◌, List, [], ◌∷◌, ◌++◌, length, Option, Some, None, is_some}
+use Rattle.std.specs.Prelude.{◌≡◌, ℕ, Bool, true, false, not, ◌&&◌, nat_le, if◌then◌else◌, List, [], ◌∷◌, ◌++◌, length, Option, Some, None, is_some, Result, Err, MatchOption, MatchResult}
 use Rattle.std.specs.Option.{option_or}
 use Rattle.std.specs.List.{list_any}
 use Rattle.uriparse_path.specs.Path.{PathParts, max_segments, is_slash, is_rooted, pieces, spelled, text}
@@ -7,6 +7,8 @@ use Rattle.uriparse_path.specs.Dots.{is_double_dot, undot}
 use Rattle.uriparse_path.specs.Relative.{is_last}
 use Rattle.uriparse_authority.specs.Authority as authority
 use Rattle.uriparse_scheme.specs.declared.scheme.Scheme.{Scheme}
+use Rattle.uriparse_reference.specs.declared.uri_reference.error.TargetError.{TargetError}
+use Rattle.uriparse_reference.specs.declared.uri_reference.error.TargetError.TheVariants as errors
 use Rattle.uriparse_reference.specs.Reference.{Parts, Same}
 use Rattle.uriparse_reference.specs.Normal.{dot_prefixed, normal}
 
@@ -50,6 +52,10 @@ target b r =
     then Some (target_of b.scheme b.authority (dots_removed (merge b r)) r.query r.fragment)
     else None
 
+-- The result is the target of r against b in the form that Is says, unless memory runs out; without a target, it is the error that says so.
+abbrev pub ResolvesTo : {A : Type 0} → (Parts → A → Type 0) → Parts → Parts → Result A TargetError → Type 0
+ResolvesTo Is b r result = MatchOption (target b r) (result ≡ Err errors.TooManySegments) (λ t. MatchResult result (Is t) (λ e. e ≡ errors.OutOfMemory))
+
 -- The paths of base and reference are merged: the last case.
 abbrev pub is_merged : Parts → Bool
 is_merged r =
@@ -61,6 +67,10 @@ pub record MergesAlike (b r : Parts) : Type 0 where
   pub rooted : is_rooted (text b.path) ≡ true
   pub no_double_dot : is_last is_double_dot b.path.segments ≡ false
   pub not_empty : is_empty (text (normal r).path) ≡ false
+
+-- The normal forms of base and reference have a target, and its normal form is that of t.
+abbrev pub NormalizesAlike : Parts → Parts → Parts → Type 0
+NormalizesAlike b r t = (u : Parts) × (target (normal b) (normal r) ≡ Some u) × (normal t ≡ normal u)
 
 -- Two targets are the same, or both are absent.
 abbrev pub AreSame : Option Parts → Option Parts → Type 0

@@ -1,8 +1,9 @@
 -- A reference in its text.
-use Rattle.std.specs.Prelude.{◌≡◌, ℕ, true, length, List, Option, IfSome, Result, Ok}
+use Rattle.std.specs.Prelude.{◌≡◌, ℕ, Bool, true, length, List, Option, IfSome, Result, Ok}
 use Rattle.uriparse_text.specs.Bytes.{percent}
-use Rattle.uriparse_text.specs.Cuts.{lacks}
+use Rattle.uriparse_text.specs.Cuts.{lacks, up_to}
 use Rattle.uriparse_text.specs.Readings.{◌>>=◌}
+use Rattle.uriparse_path.specs.Faults.{ends_path}
 use Rattle.uriparse_path.specs.Path.{IsPath, pieces}
 use Rattle.uriparse_authority.specs.Authority as authority
 use Rattle.uriparse_scheme.specs.declared.scheme.registered.RegisteredScheme.{RegisteredScheme}
@@ -10,8 +11,8 @@ use Rattle.uriparse_scheme.specs.Registered.{name_of}
 use Rattle.uriparse_reference.specs.declared.uri_reference.error.URIReferenceError.{URIReferenceError}
 use Rattle.uriparse_reference.specs.Cuts.{scheme_text, path_text, if_some}
 use Rattle.uriparse_reference.specs.Key.{key}
-use Rattle.uriparse_reference.specs.Reading.{reading, parts_of}
-use Rattle.uriparse_reference.specs.Reference.{Parts}
+use Rattle.uriparse_reference.specs.Reading.{reading, parts_of, text_tail}
+use Rattle.uriparse_reference.specs.Reference.{Parts, path_of, print}
 
 -- the text that was read, and the components that it spells
 pub record Viewed : Type 0 where
@@ -24,11 +25,15 @@ viewed t = do
   parts ← reading t
   Ok (record { text = t; parts = parts })
 
+-- the text that a reference prints, and its components
+abbrev pub printed : Parts → Viewed
+printed p = record { text = print p; parts = p }
+
 -- Views are equal if their components are.
 abbrev pub view_key : Viewed → List ℕ
 view_key v = key v.parts
 
--- ---- what a view keeps of its text: a word of its invariant alone
+-- ---- what a view keeps of its text: words of its invariant and of private functions' clauses alone
 
 -- These pieces were found in the text t: the texts of the scheme, if it is not empty, and of the path, and the other components. The scheme
 -- is known by its name, and the path has no escape, where so said. The path has count segments.
@@ -41,3 +46,11 @@ pub record AreFound (t scheme : List ℕ) (known : Option RegisteredScheme) (a :
   pub is_counted : count ≡ length (pieces path)
   pub has_no_escape : escaped ≡ 0 → lacks percent path ≡ true
   pub is_read : reading t ≡ Ok (parts_of t a path q f)
+
+-- The same for what follows the authority, with or without a scheme and an authority.
+pub record AreFoundInTail (has_scheme has_authority : Bool) (u path : List ℕ) (count escaped : ℕ) (q f : Option (List ℕ)) : Type 0 where
+  pub is_path : IsPath path
+  pub is_cut : path ≡ up_to ends_path u
+  pub is_counted : count ≡ length (pieces path)
+  pub has_no_escape : escaped ≡ 0 → lacks percent path ≡ true
+  pub is_read : text_tail has_scheme has_authority u ≡ Ok (path_of has_authority path, q, f)

@@ -3,7 +3,7 @@ ghost use Rattle.std.specs.Cmp.{IsTotalOrder};
 ghost use Rattle.std.specs.Option.{option_map};
 ghost use Rattle.std.specs.declared.cmp.Ordering.TheVariants.{Equal, Greater, Less};
 ghost use Rattle.std.specs.Prelude.{◌≡◌, ◌↔◌, ◌⊎◌, ◌<◌, ◌≤◌, ◌∷◌, ◌++◌, ℕ, List, [], Option, None, Some, Ok, IfSome, IsSomeAnd, is_some, length, slice_get, true, false, codes};
-ghost use Rattle.uriparse_text.specs.Bytes.{percent, slash, question_mark, number_sign};
+ghost use Rattle.uriparse_text.specs.Bytes.{slash, question_mark, number_sign};
 ghost use Rattle.uriparse_text.specs.Cuts.{lacks, none_pass};
 ghost use Rattle.uriparse_text.specs.Tokens.{is_well_formed};
 ghost use Rattle.uriparse_path.specs.Path.{max_segments, pieces, spelled, text};
@@ -34,7 +34,7 @@ ghost use Rattle.uriparse_reference.specs.declared.uri_reference.edit.Edit.{Edit
 ghost use Rattle.uriparse_reference.specs.declared.uri_reference.error.URIReferenceError.{URIReferenceError};
 ghost use Rattle.uriparse_reference.specs.declared.uri_reference.error.URIReferenceError.TheVariants as errors;
 ghost use Rattle.uriparse_reference.specs.Reading.{reading, fault};
-ghost use Rattle.uriparse_reference.specs.Offset.{IsWrongByte, fault_offset, first_fault};
+ghost use Rattle.uriparse_reference.specs.Offset.{IsAtPercentIff, IsWrongByte, fault_offset, first_fault};
 ghost use Rattle.uriparse_path.specs.Offset.{offset_within};
 ghost use Rattle.uriparse_text.specs.declared.segment.error.PathError.TheVariants as path_errors;
 ghost use Rattle.uriparse_text.specs.declared.query.QueryError.TheVariants as query_errors;
@@ -44,7 +44,7 @@ ghost use Rattle.uriparse_authority.specs.declared.authority.error.PasswordError
 ghost use Rattle.uriparse_authority.specs.declared.authority.error.PortError.TheVariants as port_errors;
 ghost use Rattle.uriparse_authority.specs.declared.authority.error.UsernameError.TheVariants as username_errors;
 ghost use Rattle.uriparse_reference.specs.Normal.{normal, is_normal};
-ghost use Rattle.uriparse_reference.specs.Target.{through_last_slash, merge, target, is_merged, MergesAlike, AreSame};
+ghost use Rattle.uriparse_reference.specs.Target.{through_last_slash, merge, target, is_merged, MergesAlike, NormalizesAlike, AreSame};
 
 /// A text spells at most one reference. Reading returns that reference if there is one, and a fault
 /// otherwise. What a text spells is valid.
@@ -92,11 +92,11 @@ pub fn faults_of_reading()
 /// of a host, or of a path that needs a scheme before it, it may be one too.
 pub fn one_offset_of_fault()
     ensures byte { (t : List ℕ) (e : URIReferenceError) → fault t ≡ Some e → IsSomeAnd (slice_get t (fault_offset e t)) (IsWrongByte e) }
-    ensures username_escape { (t : List ℕ) (e : UsernameError) → fault t ≡ Some (errors.Authority (authority_errors.Username e)) → (e ≡ username_errors.InvalidPercentEncoding) ↔ (slice_get t (fault_offset (errors.Authority (authority_errors.Username e)) t) ≡ Some percent) }
-    ensures password_escape { (t : List ℕ) (e : PasswordError) → fault t ≡ Some (errors.Authority (authority_errors.Password e)) → (e ≡ password_errors.InvalidPercentEncoding) ↔ (slice_get t (fault_offset (errors.Authority (authority_errors.Password e)) t) ≡ Some percent) }
-    ensures path_escape { (t : List ℕ) (e : PathError) → fault t ≡ Some (errors.Path e) → (e ≡ path_errors.InvalidPercentEncoding) ↔ (slice_get t (fault_offset (errors.Path e) t) ≡ Some percent) }
-    ensures query_escape { (t : List ℕ) (e : QueryError) → fault t ≡ Some (errors.Query e) → (e ≡ query_errors.InvalidPercentEncoding) ↔ (slice_get t (fault_offset (errors.Query e) t) ≡ Some percent) }
-    ensures fragment_escape { (t : List ℕ) (e : FragmentError) → fault t ≡ Some (errors.Fragment e) → (e ≡ fragment_errors.InvalidPercentEncoding) ↔ (slice_get t (fault_offset (errors.Fragment e) t) ≡ Some percent) }
+    ensures username_escape { (t : List ℕ) (e : UsernameError) → IsAtPercentIff t (errors.Authority (authority_errors.Username e)) (e ≡ username_errors.InvalidPercentEncoding) }
+    ensures password_escape { (t : List ℕ) (e : PasswordError) → IsAtPercentIff t (errors.Authority (authority_errors.Password e)) (e ≡ password_errors.InvalidPercentEncoding) }
+    ensures path_escape { (t : List ℕ) (e : PathError) → IsAtPercentIff t (errors.Path e) (e ≡ path_errors.InvalidPercentEncoding) }
+    ensures query_escape { (t : List ℕ) (e : QueryError) → IsAtPercentIff t (errors.Query e) (e ≡ query_errors.InvalidPercentEncoding) }
+    ensures fragment_escape { (t : List ℕ) (e : FragmentError) → IsAtPercentIff t (errors.Fragment e) (e ≡ fragment_errors.InvalidPercentEncoding) }
     ensures within { (t : List ℕ) (e : URIReferenceError) → fault t ≡ Some e → fault_offset e t < length t }
 {}
 
@@ -226,7 +226,7 @@ pub fn equal_in_equal_out()
 /// are merged, this holds only if the base's path begins with a slash and does not end in a double
 /// dot segment, and the path of the reference's normal form is not empty.
 pub fn normalising_commutes()
-    ensures { (b r t : Parts) → Valid b → Valid r → is_some b.scheme ≡ true → (is_merged r ≡ true → MergesAlike b r) → target b r ≡ Some t → (u : Parts) × (target (normal b) (normal r) ≡ Some u) × (normal t ≡ normal u) }
+    ensures { (b r t : Parts) → Valid b → Valid r → is_some b.scheme ≡ true → (is_merged r ≡ true → MergesAlike b r) → target b r ≡ Some t → NormalizesAlike b r t }
 {}
 
 /// The components of a valid reference build that reference. An edit returns what the components

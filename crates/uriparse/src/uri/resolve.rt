@@ -1,10 +1,10 @@
 //! The target of a reference against a base: RFC 3986, section 5.2.
-ghost use Rattle.std.specs.Prelude.{◌≡◌, Err, IfOk, MatchOption, Ok, Some, true};
+ghost use Rattle.std.specs.Prelude.{◌≡◌, Err, IfOk, MatchOption, Ok, true};
 ghost use Rattle.uriparse_text.specs.Readings.{IsUnless};
 ghost use Rattle.uriparse_text.specs.declared.segment.error.PathError.TheVariants as paths;
 ghost use Rattle.uriparse_reference.specs.Normal.{normal};
 ghost use Rattle.uriparse_reference.specs.Reference.{Parts, Same, Valid};
-ghost use Rattle.uriparse_reference.specs.Target.{AreSame, MergesAlike, is_merged, target};
+ghost use Rattle.uriparse_reference.specs.Target.{AreSame, MergesAlike, NormalizesAlike, is_merged, target};
 ghost use Rattle.uriparse.specs.declared.uri.error.URIError.TheVariants as errors;
 
 use super::{URI, URIError, WithScheme};
@@ -45,7 +45,7 @@ impl<'u> URI<'u> {
 
         // The normal forms of both have a target with the same normal form, unless paths are merged
         // that do not merge alike.
-        ensures commutes { IfOk result (λ t. (is_merged reference.now ≡ true → MergesAlike self.now reference.now) → (u : Parts) × (target (normal self.now) (normal reference.now) ≡ Some u) × (normal t ≡ normal u)) }
+        ensures commutes { IfOk result (λ t. (is_merged reference.now ≡ true → MergesAlike self.now reference.now) → NormalizesAlike self.now reference.now t) }
     {
         match resolve(alloc, &self.reference, reference) {
             Ok(target) => Ok(ReferenceOf::of_checked(target)),

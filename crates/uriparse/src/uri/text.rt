@@ -1,8 +1,7 @@
 //! A URI in a text that it owns: RFC 3986, sections 3 and 5.2.
-ghost use Rattle.std.specs.Prelude.{◌≡◌, Err, MatchOption, MatchResult, Some};
-ghost use Rattle.uriparse_reference.specs.Reference.{print};
-ghost use Rattle.uriparse_reference.specs.Target.{target};
-ghost use Rattle.uriparse_reference.specs.declared.uri_reference.error.TargetError.TheVariants as targets;
+ghost use Rattle.std.specs.Prelude.{◌≡◌};
+ghost use Rattle.uriparse_reference.specs.Target.{ResolvesTo};
+ghost use Rattle.uriparse_reference.specs.View.{printed};
 
 use super::WithScheme;
 use super::view::URIView;
@@ -34,7 +33,7 @@ impl<'u> URIView<'u> {
         alloc: Global,
         reference: &ReferenceView<'_>,
     ) -> Result<URIText, TargetError>
-        ensures { MatchOption (target self.now.parts reference.now.parts) (result ≡ Err targets.TooManySegments) (λ t. MatchResult result (λ v. v ≡ record { text = print t; parts = t }) (λ e. e ≡ targets.OutOfMemory)) }
+        ensures { ResolvesTo (λ t v. v ≡ printed t) self.now.parts reference.now.parts result }
     {
         match self.as_reference_view().resolve_to_text(alloc, reference) {
             Ok(text) => Ok(TextOf::of_checked(text)),

@@ -1,10 +1,8 @@
 //! A URI in its text, read without memory: RFC 3986, sections 3 and 5.2.
-ghost use Rattle.std.specs.Prelude.{◌≡◌, Err, IfOk, IsOk, MatchOption, MatchResult, Some, length, string_bytes};
-ghost use Rattle.uriparse_reference.specs.Into.{Writes};
+ghost use Rattle.std.specs.Prelude.{◌≡◌, IfOk, IsOk, Some, length, string_bytes};
+ghost use Rattle.uriparse_reference.specs.Into.{WritesTarget};
 ghost use Rattle.uriparse_reference.specs.Reference.{print};
-ghost use Rattle.uriparse_reference.specs.Target.{target};
-ghost use Rattle.uriparse_reference.specs.declared.uri_reference.error.BufferError.TheVariants as buffers;
-ghost use Rattle.uriparse_reference.specs.declared.uri_reference.error.TargetError.TheVariants as targets;
+ghost use Rattle.uriparse_reference.specs.Target.{ResolvesTo};
 
 use super::{URI, WithScheme};
 use crate::view_of::ViewOf;
@@ -56,7 +54,7 @@ impl<'u> URIView<'u> {
         reference: &ReferenceView<'_>,
         out: &mut [u8],
     ) -> Result<usize, BufferError>
-        ensures { MatchOption (target self.now.parts reference.now.parts) ((result ≡ Err buffers.TooManySegments) × (out.new ≡ out.old)) (λ t. Writes (print t) result out.old out.new) }
+        ensures { WritesTarget self.now.parts reference.now.parts result out.old out.new }
     {
         self.view.resolve_into(reference, out)
     }
@@ -72,7 +70,7 @@ impl<'u> URIView<'u> {
         alloc: Global,
         reference: &ReferenceView<'_>,
     ) -> Result<String, TargetError>
-        ensures { MatchOption (target self.now.parts reference.now.parts) (result ≡ Err targets.TooManySegments) (λ t. MatchResult result (λ s. string_bytes s ≡ print t) (λ e. e ≡ targets.OutOfMemory)) }
+        ensures { ResolvesTo (λ t s. string_bytes s ≡ print t) self.now.parts reference.now.parts result }
     {
         self.view.resolve_to_string(alloc, reference)
     }

@@ -144,7 +144,7 @@ fn ends_before(rest: &[u8]) -> bool
 /// walked once.
 #[inline(always)]
 pub fn find_authority(text: &[u8]) -> Result<(FoundAuthority<'_>, &[u8]), AuthorityError>
-    ensures { MatchResult result (λ r. (authority.reading (up_to authority.ends_authority text.now) ≡ Ok r.0) × (r.1.now ≡ from_first authority.ends_authority text.now)) (λ e. authority.reading (up_to authority.ends_authority text.now) ≡ Err e) }
+    ensures { MatchResult result (λ r. (authority.front_reading text.now ≡ Ok r.0) × (r.1.now ≡ from_first authority.ends_authority text.now)) (λ e. authority.front_reading text.now ≡ Err e) }
 {
     let (name, rest) = split_canonical_prefix(Class::Name, Case::Lowered, text);
     if ends_before(rest) {

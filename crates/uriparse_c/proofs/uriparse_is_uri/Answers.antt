@@ -6,7 +6,7 @@ use Rattle.uriparse_c.proofs.uriparse_is_uri.Goals as goal
 pub returns-in-Ok : goal.returns-in-Ok
 returns-in-Ok c =
     let found = c.in-Ok.ensures in
-    is_uri c.args.text.now _ c.has_scheme.result found.4 (c.has_scheme.ensures ∙ ap is_some found.0)
+    is_uri c.args.text.now _ c.has_scheme.result found.is_read (c.has_scheme.ensures ∙ ap is_some found.is_scheme)
 
 pub returns-in-Err : goal.returns-in-Err
 returns-in-Err c = is_no_uri c.args.text.now c.in-Err.field-0 c.in-Err.ensures

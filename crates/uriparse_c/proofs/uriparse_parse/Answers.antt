@@ -7,14 +7,14 @@ use Rattle.uriparse_ffi.proofs.lemmas.ParseLemmas.{query_of, fragment_of, places
 use Rattle.uriparse_c.proofs.uriparse_parse.Goals as goal
 
 pub places-requires-clause-query : goal.places-requires-clause-query
-places-requires-clause-query c = sym (query_of c.args.text.now _ c.in-Ok.ensures.4)
+places-requires-clause-query c = sym (query_of c.args.text.now _ c.in-Ok.ensures.is_read)
 
 pub places-requires-clause-fragment : goal.places-requires-clause-fragment
-places-requires-clause-fragment c = sym (fragment_of c.args.text.now _ c.in-Ok.ensures.4)
+places-requires-clause-fragment c = sym (fragment_of c.args.text.now _ c.in-Ok.ensures.is_read)
 
 pub returns-in-Ok-clause-parsed : goal.returns-in-Ok-clause-parsed
 returns-in-Ok-clause-parsed c p s =
-    let one = read_one c.args.text.now p _ s c.in-Ok.ensures.4 in
+    let one = read_one c.args.text.now p _ s c.in-Ok.ensures.is_read in
     let authority = ap (λ (q : Parts). q.authority) one in (
       refl,
       places_of c.args.text.now p s c.places.result c.places.ensures.places,
@@ -23,7 +23,7 @@ returns-in-Ok-clause-parsed c p s =
     )
 
 pub returns-in-Ok-clause-refused : goal.returns-in-Ok-clause-refused
-returns-in-Ok-clause-refused c e h = absurd (no_fault_read c.args.text.now _ e c.in-Ok.ensures.4 h)
+returns-in-Ok-clause-refused c e h = absurd (no_fault_read c.args.text.now _ e c.in-Ok.ensures.is_read h)
 
 pub returns-in-Err-clause-parsed : goal.returns-in-Err-clause-parsed
 returns-in-Err-clause-parsed c p s = absurd (no_fault c.args.text.now p c.in-Err.error s (ap fault_in c.in-Err.ensures))

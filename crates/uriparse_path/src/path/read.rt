@@ -1,13 +1,13 @@
 //! Reading of paths: one pass finds the leftmost fault and counts the segments, another one cuts
 //! the text.
-ghost use Rattle.std.specs.Prelude.{◌≡◌, ◌<◌, ◌≤◌, ◌&&◌, [], IfOk, IsOk, MatchResult, None, Some, true, false, length, take, ◌||◌};
+ghost use Rattle.std.specs.Prelude.{◌≡◌, ◌<◌, ◌≤◌, ◌&&◌, [], IfOk, IsOk, MatchResult, Some, true, false, length, take, ◌||◌};
 ghost use Rattle.std.specs.List.{list_all, list_any, slice_split};
 ghost use Rattle.uriparse_text.specs.Readings.{unless_fault};
 ghost use Rattle.uriparse_text.specs.Segment as segment;
 ghost use Rattle.uriparse_text.specs.Bytes.{percent};
-ghost use Rattle.uriparse_text.specs.Cuts.{from_first, lacks, up_to};
+ghost use Rattle.uriparse_text.specs.Cuts.{lacks, up_to};
 ghost use Rattle.uriparse_path.specs.Path.{IsPath, is_slash, is_rooted, pieces, spelled, unrooted};
-ghost use Rattle.uriparse_path.specs.Faults.{ends_path, fault, fault_within, measured, path_front};
+ghost use Rattle.uriparse_path.specs.Faults.{BeginsWithPath, ends_path, fault, fault_within, measured, path_front};
 ghost use Rattle.uriparse_path.specs.Counts as tally;
 
 use super::counts::Counts;
@@ -220,7 +220,7 @@ fn ends_at_once(text: &[u8]) -> bool
 /// once. Does not allocate.
 #[inline(always)]
 pub fn split_path(text: &[u8]) -> Result<PathFront<'_>, PathError>
-    ensures { MatchResult result (λ r. (fault (up_to ends_path text.now) ≡ None) × (r.text.now ≡ up_to ends_path text.now) × (r.following.now ≡ from_first ends_path text.now) × (r.count ≡ length (pieces (up_to ends_path text.now))) × (r.escaped ≡ 0 → lacks percent r.text.now ≡ true)) (λ e. fault (up_to ends_path text.now) ≡ Some e) }
+    ensures { MatchResult result (λ r. BeginsWithPath text.now r.text.now r.following.now r.count r.escaped) (λ e. fault (up_to ends_path text.now) ≡ Some e) }
 {
     let (_, rest) = split_root(text);
     if ends_at_once(rest) {

@@ -1,22 +1,21 @@
 //! Cutting the text of a reference into its components, and reading these: RFC 3986, sections 3 and
 //! 4.
-ghost use Rattle.std.specs.Prelude.{◌≡◌, not, drop, length, IfSome, IsOk, is_some, true, false, Ok, Err, MatchOption, MatchResult};
+ghost use Rattle.std.specs.Prelude.{◌≡◌, not, drop, length, IsOk, is_some, true, false, Ok, Err, MatchOption, MatchResult};
 ghost use Rattle.std.specs.Option.{option_copied};
-ghost use Rattle.uriparse_text.specs.Readings.{if_present, of_piece, unless_fault};
+ghost use Rattle.uriparse_text.specs.Readings.{if_present, unless_fault};
 ghost use Rattle.uriparse_text.specs.Bytes.{percent};
 ghost use Rattle.uriparse_text.specs.Query as query;
-ghost use Rattle.uriparse_authority.specs.Authority as authority;
 ghost use Rattle.uriparse_text.specs.Cuts.{lacks, up_to};
 ghost use Rattle.uriparse_path.specs.Path as path;
 ghost use Rattle.uriparse_path.specs.Path.{IsPath, has_two_slashes};
 ghost use Rattle.uriparse_path.specs.Faults.{ends_path};
-ghost use Rattle.uriparse_scheme.specs.Registered.{name_of};
-ghost use Rattle.uriparse_scheme.specs.Cuts.{if_some, scheme_text};
-ghost use Rattle.uriparse_reference.specs.Cuts.{cut_authority, path_text, tail_fragment, tail_query, without_authority};
+ghost use Rattle.uriparse_scheme.specs.Cuts.{if_some};
+ghost use Rattle.uriparse_reference.specs.Cuts.{cut_authority, tail_fragment, tail_query, without_authority};
 ghost use Rattle.uriparse_text.specs.declared.segment.error.PathError.TheVariants.{OutOfMemory};
 ghost use Rattle.uriparse_reference.specs.declared.uri_reference.error.URIReferenceError.TheVariants as errors;
-ghost use Rattle.uriparse_reference.specs.Reading.{after_reading, parts_of, reading, text_tail};
+ghost use Rattle.uriparse_reference.specs.Reading.{after_reading, front_reading, reading, text_tail};
 ghost use Rattle.uriparse_reference.specs.Reference.{is_noscheme, path_of, path_refusal};
+ghost use Rattle.uriparse_reference.specs.View.{AreFound, AreFoundInTail};
 
 use super::error::URIReferenceError;
 use std::alloc::Global;
@@ -66,7 +65,7 @@ pub(super) fn split_authority(text: &[u8]) -> (Option<&[u8]>, &[u8])
 /// Finds the authority after two leading slashes, and what follows it; or none, and the whole text.
 #[inline(always)]
 fn find_front(text: &[u8]) -> Result<(Option<FoundAuthority<'_>>, &[u8]), URIReferenceError>
-    ensures { MatchResult result (λ r. (of_piece errors.Authority (if_present authority.reading (cut_authority text.now)) ≡ Ok r.0) × (r.1.now ≡ without_authority text.now)) (λ e. of_piece errors.Authority (if_present authority.reading (cut_authority text.now)) ≡ Err e) }
+    ensures { MatchResult result (λ r. (front_reading text.now ≡ Ok r.0) × (r.1.now ≡ without_authority text.now)) (λ e. front_reading text.now ≡ Err e) }
 {
     match after_two_slashes(text) {
         Some(following) => match find_authority(following) {
@@ -144,7 +143,7 @@ fn find_tail(
     text: &[u8],
 ) -> Result<FoundTail<'_>, URIReferenceError>
     requires { has_scheme ≡ false → has_authority ≡ false → is_noscheme (up_to ends_path text.now) ≡ not has_colon_segment }
-    ensures { MatchResult result (λ t. IsPath t.path.now × (t.count ≡ length (path.pieces t.path.now)) × (t.escaped ≡ 0 → lacks percent t.path.now ≡ true) × (text_tail has_scheme has_authority text.now ≡ Ok (path_of has_authority t.path.now, t.query, t.fragment)) × (t.path.now ≡ up_to ends_path text.now)) (λ e. text_tail has_scheme has_authority text.now ≡ Err e) }
+    ensures { MatchResult result (λ t. AreFoundInTail has_scheme has_authority text.now t.path.now t.count t.escaped t.query t.fragment) (λ e. text_tail has_scheme has_authority text.now ≡ Err e) }
 {
     let front = split_path(text)?;
     check_path(has_scheme, has_authority, has_colon_segment, front.text)?;
@@ -181,7 +180,7 @@ impl<'t> Pieces<'t> {
 #[inline(always)]
 #[tactic(auto, unfolding(crate::specs::Reading::reading))]
 pub fn find_pieces(text: &[u8]) -> Result<Pieces<'_>, URIReferenceError>
-    ensures { MatchResult result (λ p. (if_some p.scheme.now ≡ scheme_text text.now) × IsPath p.tail.path.now × (p.tail.count ≡ length (path.pieces p.tail.path.now)) × (p.tail.escaped ≡ 0 → lacks percent p.tail.path.now ≡ true) × (reading text.now ≡ Ok (parts_of text.now p.authority p.tail.path.now p.tail.query p.tail.fragment)) × IfSome p.known (λ s. p.scheme.now ≡ name_of s) × (p.tail.path.now ≡ path_text text.now)) (λ e. reading text.now ≡ Err e) }
+    ensures { MatchResult result (λ p. AreFound text.now p.scheme.now p.known p.authority p.tail.path.now p.tail.count p.tail.escaped p.tail.query p.tail.fragment) (λ e. reading text.now ≡ Err e) }
 {
     let cut = split_scheme(text);
     let (authority, rest) = find_front(cut.rest)?;

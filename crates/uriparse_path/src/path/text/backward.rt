@@ -128,7 +128,7 @@ impl BackwardState {
         requires dots { has_dot_segment (slice_split is_slash text.now) ≡ false }
         ensures room { length out.new ≡ length out.old }
         ensures double_dots { result.double_dots ≡ 0 }
-        ensures is { (l : spec.Remaining) (t : List ℕ) → spec.IsBackwardState form ended l self out.old t → spec.IsBackwardState form ended (spec.process_all (slice_split is_slash text.now) l) result out.new t }
+        ensures is { spec.ProcessesAll form ended (slice_split is_slash text.now) self out.old result out.new }
     {
         let (first, _) = split_at_mark(text, b'/');
         let placed = self.text.put_root(self.kept || ended, out);
@@ -145,7 +145,7 @@ impl BackwardState {
     fn remove(self) -> BackwardState
         requires { 0 < self.double_dots }
         ensures double_dots { result.double_dots + 1 ≡ self.double_dots }
-        ensures is { (form : Form) (ended : Bool) (l : spec.Remaining) (s buffer t : List ℕ) → is_dot_segment s ≡ false → spec.IsBackwardState form ended l self buffer t → spec.IsBackwardState form ended (spec.process_one s l) result buffer t }
+        ensures is { (s : List ℕ) → is_dot_segment s ≡ false → spec.ProcessesOne s self result }
     {
         BackwardState {
             double_dots: self.double_dots - 1,
@@ -160,7 +160,7 @@ impl BackwardState {
         requires segment { is_segment segment.now ≡ true }
         requires dots { is_dot_segment segment.now ≡ true }
         ensures double_dots { result.double_dots ≤ self.double_dots + 1 }
-        ensures is { (form : Form) (ended : Bool) (l : spec.Remaining) (buffer t : List ℕ) → spec.IsBackwardState form ended l self buffer t → spec.IsBackwardState form ended (spec.process_one segment.now l) result buffer t }
+        ensures is { spec.ProcessesOne segment.now self result }
     {
         if !is_double_dots(segment) {
             return self;
@@ -178,7 +178,7 @@ impl BackwardState {
         requires dots { has_dot_segment (slice_split is_slash text.now) ≡ false }
         ensures room { length out.new ≡ length out.old }
         ensures double_dots { result.double_dots ≤ self.double_dots }
-        ensures is { (l : spec.Remaining) (t : List ℕ) → spec.IsBackwardState form ended l self out.old t → spec.IsBackwardState form ended (spec.process_all (slice_split is_slash text.now) l) result out.new t }
+        ensures is { spec.ProcessesAll form ended (slice_split is_slash text.now) self out.old result out.new }
     {
         let mut state = self;
         let mut rest = text;
@@ -201,7 +201,7 @@ impl BackwardState {
         requires later { has_dot_segment (drop 1 (slice_split is_slash text.now)) ≡ false }
         ensures room { length out.new ≡ length out.old }
         ensures double_dots { result.double_dots ≤ self.double_dots + 1 }
-        ensures is { (l : spec.Remaining) (t : List ℕ) → spec.IsBackwardState form ended l self out.old t → spec.IsBackwardState form ended (spec.process_all (slice_split is_slash text.now) l) result out.new t }
+        ensures is { spec.ProcessesAll form ended (slice_split is_slash text.now) self out.old result out.new }
     {
         let (first, following) = split_at_mark(text, b'/');
         match without_mark(following) {
@@ -226,7 +226,7 @@ impl BackwardState {
         requires last { IsLast last text.now }
         ensures room { length out.new ≡ length out.old }
         ensures double_dots { result.double_dots ≤ self.double_dots + length (slice_split is_slash text.now) }
-        ensures is { (l : spec.Remaining) (t : List ℕ) → spec.IsBackwardState form ended l self out.old t → spec.IsBackwardState form ended (spec.process_all (slice_split is_slash text.now) l) result out.new t }
+        ensures is { spec.ProcessesAll form ended (slice_split is_slash text.now) self out.old result out.new }
     {
         let mut state = self;
         let mut rest = text;
@@ -254,7 +254,7 @@ impl BackwardState {
         requires few { self.double_dots + length (slice_split is_slash text.now) ≤ usize.MAX }
         requires segments { list_all is_segment (slice_split is_slash text.now) ≡ true }
         ensures room { length out.new ≡ length out.old }
-        ensures is { (l : spec.Remaining) (t : List ℕ) → spec.IsBackwardState form ended l self out.old t → spec.IsBackwardState form ended (spec.process_all (all_but_last (slice_split is_slash text.now)) l) result out.new t }
+        ensures is { spec.ProcessesAll form ended (all_but_last (slice_split is_slash text.now)) self out.old result out.new }
     {
         let (front, _) = split_last(text);
         match front {

@@ -28,7 +28,7 @@ use uriparse_text::internal::{Case, Form, put, put_formed, split_at_mark};
 /// with two slashes without an authority.
 fn put_front(state: BackwardState, rooted: bool, has_authority: bool, out: &mut [u8]) -> usize
     ensures room { length out.new ≡ length out.old }
-    ensures puts { (form : Form) (ended : Bool) (l : spec.Remaining) (t : List ℕ) → spec.IsBackwardState form ended l state out.old t → EndsWith out.new result (path.text (with_dot_prefix_unless has_authority (spelled (root (rooted || l.removed) ++ spec.remaining_text form ended l.kept))) ++ t) }
+    ensures puts { spec.PutsFront has_authority rooted state out.old result out.new }
 {
     let text = state.text.put_root(rooted || state.removed, out);
     if !has_authority && text.twice {

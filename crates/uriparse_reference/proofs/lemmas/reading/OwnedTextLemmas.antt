@@ -1,10 +1,10 @@
 -- Where the components of a text lie in it, and that they are found there again.
-use Rattle.std.proofs.Common.{◌≡◌, Result, ◌+◌, ◌-◌, ◌<◌, ◌≤◌, ℕ, Bool, true, false, cond, List, [], ◌∷◌, ◌++◌, Option, Some, None, Ok, Err, length, take, drop, refl, sym, ap, subst, ◌∙◌, append-nil, append_assoc, arith}
+use Rattle.std.proofs.Common.{◌≡◌, Result, ◌+◌, ◌-◌, ◌≤◌, ℕ, Bool, true, false, cond, List, [], ◌∷◌, ◌++◌, Option, Some, None, Ok, Err, length, take, drop, refl, sym, ap, subst, ◌∙◌, append-nil, append_assoc, arith}
 use Rattle.std.specs.Prelude.{◌==◌, IfSome, unwrap_or}
 use Rattle.std.proofs.Math.Seq.{drop-append_seam, take-append_seam}
 use Rattle.std.proofs.lemmas.Bool.{false≢true}
 use Rattle.std.proofs.lemmas.List.{length-append}
-use Rattle.uriparse_text.specs.Bytes.{slash, colon, percent, question_mark, number_sign}
+use Rattle.uriparse_text.specs.Bytes.{colon, percent, question_mark, number_sign}
 use Rattle.uriparse_text.specs.Cuts.{ahead, following, lacks, none_pass, up_to}
 use Rattle.uriparse_text.specs.Found.{AreWords, if_there}
 use Rattle.uriparse_text.specs.Readings.{IfPresent, fault_in}

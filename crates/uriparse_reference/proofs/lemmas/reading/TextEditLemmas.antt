@@ -1,5 +1,5 @@
 -- The text of a reference with another query or another fragment.
-use Rattle.std.proofs.Common.{◌≡◌, ◌-◌, ◌+◌, ◌<◌, ◌≤◌, ℕ, List, [], ◌++◌, Option, Some, None, length, take, refl, sym, ap, subst, ◌∙◌, append-nil, append_assoc, arith}
+use Rattle.std.proofs.Common.{◌≡◌, ◌-◌, ◌+◌, ◌<◌, ◌≤◌, ℕ, List, ◌++◌, Option, None, length, take, refl, sym, ap, subst, ◌∙◌, append-nil, append_assoc, arith}
 use Rattle.std.specs.Prelude.{IfSome, min}
 use Rattle.std.specs.Option.{option_map}
 use Rattle.std.specs.String.Boundary.{IsSplitPoint}
@@ -13,7 +13,7 @@ use Rattle.uriparse_text.specs.Bytes.{colon, question_mark, number_sign}
 use Rattle.uriparse_text.specs.Cuts.{ahead, following}
 use Rattle.uriparse_text.specs.Query.{IsQuery}
 use Rattle.uriparse_text.specs.Fragment.{IsFragment}
-use Rattle.uriparse_reference.specs.Cuts.{scheme_text, authority_text, path_text, query_text, fragment_text}
+use Rattle.uriparse_reference.specs.Cuts.{scheme_text, authority_text, path_text}
 use Rattle.uriparse_reference.specs.OwnedText.{IsReference, viewed_in}
 use Rattle.uriparse_reference.specs.Reference.{Parts, Spells, after_slashes, joined}
 use Rattle.uriparse_reference.specs.TextEdits.{with_end, with_fragment, with_query}

@@ -17,7 +17,6 @@ use Rattle.uriparse_authority.specs.Port as port
 use Rattle.uriparse_authority.proofs.lemmas.hosts.HostLemmas.{host_back}
 use Rattle.uriparse_scheme.specs.declared.scheme.Scheme.{Scheme}
 use Rattle.uriparse_scheme.specs.Scheme as scheme
-use Rattle.uriparse_scheme.specs.Normal.{canonical_scheme}
 use Rattle.uriparse_reference.specs.Reference.{Parts, Spells, Valid, ReadsBack, joined, print}
 use Rattle.uriparse_reference.specs.Normal.{normal}
 use Rattle.uriparse_reference.specs.Target.{dots_removed, is_empty, merge, target, target_of}

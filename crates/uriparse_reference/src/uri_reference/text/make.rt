@@ -4,7 +4,8 @@ ghost use Rattle.std.specs.Prelude.{◌≡◌, Err, IfOk, IfSome, IsOk, MatchOpt
 ghost use Rattle.uriparse_reference.specs.Normal.{normal};
 ghost use Rattle.uriparse_reference.specs.OwnedText.{AreCuts, IsReference, viewed_in};
 ghost use Rattle.uriparse_reference.specs.Reference.{ReadsBack, print};
-ghost use Rattle.uriparse_reference.specs.Target.{target};
+ghost use Rattle.uriparse_reference.specs.Target.{ResolvesTo};
+ghost use Rattle.uriparse_reference.specs.View.{printed};
 ghost use Rattle.uriparse_reference.specs.declared.uri_reference.error.TargetError.TheVariants as targets;
 
 use super::super::URIReference;
@@ -91,7 +92,7 @@ impl<'t> ReferenceView<'t> {
         ensures base { is_some self.now.parts.scheme ≡ false → result ≡ Err targets.RelativeBase }
 
         // Else the result is the target, if there is one, in its printed text, unless memory runs out.
-        ensures target { is_some self.now.parts.scheme ≡ true → MatchOption (target self.now.parts reference.now.parts) (result ≡ Err targets.TooManySegments) (λ t. MatchResult result (λ v. v ≡ record { text = print t; parts = t }) (λ e. e ≡ targets.OutOfMemory)) }
+        ensures target { is_some self.now.parts.scheme ≡ true → ResolvesTo (λ t v. v ≡ printed t) self.now.parts reference.now.parts result }
     {
         let (_base, _reference) = (self.as_str(), reference.as_str());
         match self.resolve_to_string(alloc, reference) {

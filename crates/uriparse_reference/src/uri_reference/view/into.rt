@@ -2,13 +2,10 @@
 ghost use Rattle.std.specs.Prelude.{◌≡◌, ℕ, ◌≤◌, List, ◌++◌, MatchOption, length};
 ghost use Rattle.std.specs.Option.{option_map};
 ghost use Rattle.uriparse_text.specs.declared.internal.case.Case.TheVariants as case;
-ghost use Rattle.uriparse_text.specs.Bytes.{colon, number_sign, question_mark};
-ghost use Rattle.uriparse_text.specs.Cuts.{ahead, following};
+ghost use Rattle.uriparse_text.specs.Bytes.{number_sign, question_mark};
+ghost use Rattle.uriparse_text.specs.Cuts.{following};
 ghost use Rattle.uriparse_text.specs.Ends.{EndsWith, Puts, formed};
-ghost use Rattle.uriparse_scheme.specs.Scheme as schemes;
-ghost use Rattle.uriparse_authority.specs.Authority as authorities;
-ghost use Rattle.uriparse_authority.specs.Ends.{formed_authority};
-ghost use Rattle.uriparse_reference.specs.Reference.{after_slashes, print};
+ghost use Rattle.uriparse_reference.specs.Reference.{print};
 ghost use Rattle.uriparse_reference.specs.Normal.{normal};
 ghost use Rattle.uriparse_reference.specs.Into as spec;
 
@@ -40,7 +37,7 @@ pub(super) fn put_query_and_fragment(
 /// Puts two slashes and the authority, if there is one.
 fn put_authority(form: Form, authority: &Option<Authority<'_>>, out: &mut [u8], len: usize) -> usize
     ensures room { length out.new ≡ length out.old }
-    ensures puts { Puts (after_slashes (option_map authorities.print (option_map (formed_authority form) authority.now))) out.old len out.new result }
+    ensures puts { Puts (spec.authority_front form authority.now) out.old len out.new result }
 {
     match authority {
         Some(authority) => {
@@ -54,7 +51,7 @@ fn put_authority(form: Form, authority: &Option<Authority<'_>>, out: &mut [u8], 
 /// Puts the scheme and a colon, if there is one.
 fn put_scheme(form: Form, scheme: &Option<Scheme<'_>>, out: &mut [u8], len: usize) -> usize
     ensures room { length out.new ≡ length out.old }
-    ensures puts { Puts (ahead colon (option_map schemes.text (option_map (spec.formed_scheme form) scheme.now))) out.old len out.new result }
+    ensures puts { Puts (spec.scheme_front form scheme.now) out.old len out.new result }
 {
     match scheme {
         Some(scheme) => {
@@ -74,7 +71,7 @@ pub(super) fn put_scheme_and_authority(
     len: usize,
 ) -> usize
     ensures room { length out.new ≡ length out.old }
-    ensures puts { Puts (ahead colon (option_map schemes.text (option_map (spec.formed_scheme form) scheme.now)) ++ after_slashes (option_map authorities.print (option_map (formed_authority form) authority.now))) out.old len out.new result }
+    ensures puts { Puts (spec.scheme_front form scheme.now ++ spec.authority_front form authority.now) out.old len out.new result }
 {
     let len = put_authority(form, authority, out, len);
     put_scheme(form, scheme, out, len)

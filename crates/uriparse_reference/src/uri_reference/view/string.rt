@@ -1,13 +1,13 @@
 //! The normal form of a reference and the target of another against it, each as a `String`: RFC
 //! 3986, sections 5.2 and 6.2.2.
-ghost use Rattle.std.specs.Prelude.{◌≡◌, ◌≤◌, Err, IfOk, MatchOption, MatchResult, false, is_some, length, min, string_bytes, true};
+ghost use Rattle.std.specs.Prelude.{◌≡◌, ◌≤◌, Err, IfOk, false, is_some, length, min, string_bytes, true};
 ghost use Rattle.std.specs.Str.{IsUtf8};
 ghost use Rattle.uriparse_text.specs.Starts.{most};
 ghost use Rattle.uriparse_path.specs.Path.{max_segments, pieces};
 ghost use Rattle.uriparse_reference.specs.declared.uri_reference.error.TargetError.TheVariants as errors;
 ghost use Rattle.uriparse_reference.specs.Reference.{print};
 ghost use Rattle.uriparse_reference.specs.Normal.{normal};
-ghost use Rattle.uriparse_reference.specs.Target.{is_merged, merge, target};
+ghost use Rattle.uriparse_reference.specs.Target.{ResolvesTo, is_merged, merge, target};
 ghost use Rattle.uriparse_reference.specs.Into as spec;
 
 use super::super::error::TargetError;
@@ -109,7 +109,7 @@ impl<'t> ReferenceView<'t> {
         ensures base { is_some self.now.parts.scheme ≡ false → result ≡ Err errors.RelativeBase }
 
         // Else the result is the target's text, if there is a target, unless memory runs out.
-        ensures target { is_some self.now.parts.scheme ≡ true → MatchOption (target self.now.parts reference.now.parts) (result ≡ Err errors.TooManySegments) (λ t. MatchResult result (λ s. string_bytes s ≡ print t) (λ e. e ≡ errors.OutOfMemory)) }
+        ensures target { is_some self.now.parts.scheme ≡ true → ResolvesTo (λ t s. string_bytes s ≡ print t) self.now.parts reference.now.parts result }
     {
         if !self.has_scheme() {
             return Err(TargetError::RelativeBase);

@@ -5,7 +5,7 @@ ghost use Rattle.uriparse_text.specs.Ends.{EndsWith};
 ghost use Rattle.uriparse_path.specs.Edits.{with_dot_prefix_unless};
 ghost use Rattle.uriparse_path.specs.Path.{is_rooted, max_segments, pieces, text};
 ghost use Rattle.uriparse_reference.specs.declared.uri_reference.error.BufferError.TheVariants as errors;
-ghost use Rattle.uriparse_reference.specs.Reference.{Valid, print};
+ghost use Rattle.uriparse_reference.specs.Reference.{Valid};
 ghost use Rattle.uriparse_reference.specs.Target.{dots_removed, is_empty, is_merged, merge, target};
 ghost use Rattle.uriparse_reference.specs.Into as spec;
 
@@ -95,7 +95,7 @@ impl<'t> ReferenceView<'t> {
         requires merged { is_merged reference.now.parts ≡ true }
         requires short { length (pieces (merge self.now.parts reference.now.parts)) ≤ max_segments }
         ensures room { length out.new ≡ length out.old }
-        ensures ends { EndsWith out.new result (spec.tail_text (with_dot_prefix_unless (is_some self.now.parts.authority) (dots_removed (merge self.now.parts reference.now.parts))) reference.now.parts.query reference.now.parts.fragment) }
+        ensures ends { EndsWith out.new result (spec.merged_tail self.now.parts reference.now.parts) }
     {
         let len = put_query_and_fragment(
             Form::AsIs,
@@ -258,7 +258,7 @@ impl<'t> ReferenceView<'t> {
         ensures base { is_some self.now.parts.scheme ≡ false → (result ≡ Err errors.RelativeBase) × (out.new ≡ out.old) }
 
         // Else the target's text is written, if there is a target.
-        ensures target { is_some self.now.parts.scheme ≡ true → MatchOption (target self.now.parts reference.now.parts) ((result ≡ Err errors.TooManySegments) × (out.new ≡ out.old)) (λ t. spec.Writes (print t) result out.old out.new) }
+        ensures target { is_some self.now.parts.scheme ≡ true → spec.WritesTarget self.now.parts reference.now.parts result out.old out.new }
     {
         if !self.has_scheme() {
             return Err(BufferError::RelativeBase);

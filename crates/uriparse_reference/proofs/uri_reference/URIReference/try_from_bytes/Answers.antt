@@ -10,7 +10,7 @@ use Rattle.uriparse_reference.proofs.uri_reference.URIReference.try_from_bytes.G
 use Rattle.uriparse_reference.proofs.uri_reference.URIReference.try_from_bytes.Goals as goal
 
 pub scheme_if-requires-clause-text : goal.scheme_if-requires-clause-text
-scheme_if-requires-clause-text c = is_scheme_text c.args.bytes.now c.in_ok-pieces.pieces.scheme.now c.in_ok-pieces.ensures.0
+scheme_if-requires-clause-text c = is_scheme_text c.args.bytes.now c.in_ok-pieces.pieces.scheme.now c.in_ok-pieces.ensures.is_scheme
 
 read : (c : After-to_text-2)
     → reading c.args.bytes.now ≡ Ok (record { scheme = c.scheme_if.result; authority = c.match-pieces.result; path = c.in_ok-path.path; query = c.to_text.result; fragment = c.to_text-2.result })
@@ -20,7 +20,7 @@ read c =
       | in-Some w ↦ search rules
       | in-None w ↦ search rules
     ] in
-    rw (c.scheme_if.ensures, told.0, a, c.in_ok-path.ensures.path, c.to_text.ensures, c.to_text-2.ensures, c.is_some-has_authority.ensures) told.4
+    rw (c.scheme_if.ensures, told.is_scheme, a, c.in_ok-path.ensures.path, c.to_text.ensures, c.to_text-2.ensures, c.is_some-has_authority.ensures) told.is_read
 
 pub invariant_of-result : goal.invariant_of-result
 invariant_of-result c = let t = c.args.bytes.now in valid t _ (found t _ (read c))
@@ -45,15 +45,15 @@ returns-in_err-path c =
     let told = c.in_ok-pieces.ensures in
     let found = c.in_ok-pieces.pieces in
     let is : c.from_residual-in_err-path.result ≡ Err c.in_err-path.field-0.0 = search rules in
-    let all = answered t c.from_residual-in_err-path.result (inr (ap fault_in told.4, is ∙ ap Err c.in_err-path.ensures.path)) in record {
+    let all = answered t c.from_residual-in_err-path.result (inr (ap fault_in told.is_read, is ∙ ap Err c.in_err-path.ensures.path)) in record {
       found = all.0;
       only = all.1;
       fault = all.2;
       always = all.3;
       takes_no_memory = λ p s one.
           let same : parts_of t found.authority found.tail.path.now found.tail.query found.tail.fragment ≡ p =
-          let read : reading t ≡ Ok p = again t p s in let whole = told.4 in cc in
+          let read : reading t ≡ Ok p = again t p s in let whole = told.is_read in cc in
           let count : found.tail.count ≡ 1 =
-          told.2 ∙ ap length (sym (path_segments (is_some found.authority) found.tail.path.now)) ∙ ap (λ q. length q.path.segments) same ∙ one in
+          told.is_counted ∙ ap length (sym (path_segments (is_some found.authority) found.tail.path.now)) ∙ ap (λ q. length q.path.segments) same ∙ one in
           absurd (false≢true (c.in_err-path.ensures.takes_no_memory count));
     }

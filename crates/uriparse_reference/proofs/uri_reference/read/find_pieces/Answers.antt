@@ -54,15 +54,15 @@ returns-in_err-tail c =
 
 pub returns : goal.returns
 returns c =
-    let is = c.in_ok-tail.ensures in (
-      c.split_scheme-cut.ensures.scheme,
-      is.0,
-      is.1,
-      is.2,
-      told (goal.at.returns c).After-find_tail _ is.3
+    let is = c.in_ok-tail.ensures in record {
+      is_scheme = c.split_scheme-cut.ensures.scheme;
+      is_known = c.split_scheme-cut.ensures.known;
+      is_path = is.is_path;
+      is_cut = is.is_cut ∙ ap (up_to ends_path) (c.in_ok-authority.ensures.1 ∙ ap without_authority c.split_scheme-cut.ensures.rest);
+      is_counted = is.is_counted;
+      has_no_escape = is.has_no_escape;
+      is_read = told (goal.at.returns c).After-find_tail _ is.is_read
           ∙ ap Ok (in_place (option_map named (scheme_text c.args.text.now)) c.in_ok-authority.authority c.is_some.result
           c.is_some.ensures
-          c.in_ok-tail.tail.path.now c.in_ok-tail.tail.query c.in_ok-tail.tail.fragment),
-      c.split_scheme-cut.ensures.known,
-      is.4 ∙ ap (up_to ends_path) (c.in_ok-authority.ensures.1 ∙ ap without_authority c.split_scheme-cut.ensures.rest),
-    )
+          c.in_ok-tail.tail.path.now c.in_ok-tail.tail.query c.in_ok-tail.tail.fragment);
+    }

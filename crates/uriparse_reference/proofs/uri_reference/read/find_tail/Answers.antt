@@ -45,11 +45,11 @@ returns c =
     let cut = c.in_ok-front.ensures in
     let front = c.in_ok-front.front in
     let read : Ok (c.in_ok-query.query, c.in_ok-query.fragment) ≡ after_reading (tail_query front.following.now) (tail_fragment front.following.now) =
-    c.in_ok-query.ensures in (
-      (no_fault_iff front.text.now).0 (ap paths.fault cut.1 ∙ cut.0),
-      cut.3 ∙ ap (λ t. length (pieces t)) (sym cut.1),
-      cut.4,
-      accepted_tail c.args.has_scheme c.args.has_authority c.args.text.now front.text.now front.following.now cut.0 cut.1 cut.2
-          (is_placed (path_refusal c.args.has_scheme c.args.has_authority front.text.now) c.in_ok-check_path.ensures) (c.in_ok-query.query, c.in_ok-query.fragment) read,
-      cut.1,
-    )
+    c.in_ok-query.ensures in record {
+      is_path = (no_fault_iff front.text.now).0 (ap paths.fault cut.1 ∙ cut.0);
+      is_cut = cut.1;
+      is_counted = cut.3 ∙ ap (λ t. length (pieces t)) (sym cut.1);
+      has_no_escape = cut.4;
+      is_read = accepted_tail c.args.has_scheme c.args.has_authority c.args.text.now front.text.now front.following.now cut.0 cut.1 cut.2
+          (is_placed (path_refusal c.args.has_scheme c.args.has_authority front.text.now) c.in_ok-check_path.ensures) (c.in_ok-query.query, c.in_ok-query.fragment) read;
+    }

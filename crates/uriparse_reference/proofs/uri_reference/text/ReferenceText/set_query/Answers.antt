@@ -1,4 +1,4 @@
-use Rattle.std.proofs.Common.{◌≡◌, ◌∙◌, ap, sym}
+use Rattle.std.proofs.Common.{◌∙◌, ap, sym}
 use Rattle.std.specs.Prelude.{Ok, string_bytes}
 use Rattle.uriparse_reference.specs.TextEdits.{with_query}
 use Rattle.uriparse_reference.specs.View.{Viewed}

@@ -1,5 +1,5 @@
 use Rattle.std.proofs.Common.{◌≡◌, sym, ap, ◌∙◌, rules}
-use Rattle.std.specs.Prelude.{Some, string_bytes}
+use Rattle.std.specs.Prelude.{string_bytes}
 use Rattle.uriparse_reference.specs.Reading.{fault}
 use Rattle.uriparse_reference.proofs.lemmas.reading.OwnedTextLemmas.{faultless, spelled_in}
 use Rattle.uriparse_reference.specs.OwnedText.{IsReference}

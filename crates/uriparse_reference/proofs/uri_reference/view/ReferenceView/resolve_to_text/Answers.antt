@@ -1,4 +1,3 @@
-use Rattle.std.proofs.Common.{◌≡◌, ap, rules}
 use Rattle.std.specs.Prelude.{string_bytes}
 use Rattle.uriparse_reference.specs.Target.{target}
 use Rattle.uriparse_reference.specs.declared.uri_reference.error.TargetError.TheVariants as targets

@@ -21,7 +21,7 @@ walked c =
     walked_run c.args.form c.args.ended (slice_split is_slash c.args.text.now) (slice_split is_slash c.removed.rest.now)
     (pieces_left (option_copied c.split_last.result.0)) (c.split_last.result.1.now ∷ []) c.args.self c.removed.state c.remove-state.result
     out out out c.removed.invariant.walked c.split_last.ensures (omega arith) (omega (arith, c.remove-state.ensures.double_dots)) refl
-    (λ l t h. c.remove-state.ensures.is c.args.form c.args.ended l c.split_last.result.1.now out t (parts c).1 h)
+    (λ l t h. c.remove-state.ensures.is c.split_last.result.1.now (parts c).1 c.args.form c.args.ended l out t h)
 
 pub removed-preserved : goal.removed-preserved
 removed-preserved c =
