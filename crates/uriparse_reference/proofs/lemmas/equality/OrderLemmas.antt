@@ -5,7 +5,7 @@ use Rattle.std.specs.Option.{option_cmp, option_map}
 use Rattle.std.specs.Cmp.Lexicographic.{slice_cmp}
 use Rattle.std.specs.Ordering.{nat_cmp, on, ordering_then}
 use Rattle.std.specs.declared.cmp.Ordering.{Ordering}
-use Rattle.std.specs.declared.cmp.Ordering.TheVariants.{Less, Equal, Greater}
+use Rattle.std.specs.declared.cmp.Ordering.TheVariants.{Equal}
 use Rattle.std.proofs.lemmas.Cmp.{tied_itself}
 use Rattle.uriparse_text.specs.Canonical.{canonical}
 use Rattle.uriparse_path.specs.Path as path
@@ -135,16 +135,3 @@ pub authorities_compared : (a b x y : Option AuthorityParts) (r : Ordering) → 
 authorities_compared a b x y r v w i j e =
     e ∙ ap (λ z. option_cmp (on authority.key order.authority_key_cmp) z y) i ∙ ap (option_cmp (on authority.key order.authority_key_cmp) a) j
     ∙ authorities_ordered a b v w
-
-pub paths_compared : (t u x y : List ℕ) (r : Ordering) → x ≡ t → y ≡ u → r ≡ slice_cmp nat_cmp (canonical x) (canonical y)
-    → r ≡ slice_cmp nat_cmp (canonical t) (canonical u)
-paths_compared t u x y r i j e = e ∙ ap (λ z. slice_cmp nat_cmp (canonical z) (canonical y)) i ∙ ap (λ z. slice_cmp nat_cmp (canonical t) (canonical z)) j
-
--- a component that differs decides, and one that doesn't leaves it to what follows
-pub decides : (o p later : Ordering) → o ≡ p → (o ≡ Equal → ⊥) → o ≡ ordering_then p later
-decides Less p later e other = ap (λ r. ordering_then r later) e
-decides Equal p later e other = absurd (other refl)
-decides Greater p later e other = ap (λ r. ordering_then r later) e
-
-pub passes : (o p later whole : Ordering) → o ≡ p → o ≡ Equal → whole ≡ later → whole ≡ ordering_then p later
-passes o p later whole e same is = is ∙ ap (λ r. ordering_then r later) (sym same ∙ e)

@@ -1,8 +1,11 @@
 //! The order of references in their texts, component by component, each by its canonical spelling.
 //! Nothing here allocates.
 ghost use Rattle.std.specs.Prelude.{◌≡◌, refl};
-ghost use Rattle.std.specs.Ordering.{as_partial_cmp, on};
-ghost use Rattle.uriparse_reference.specs.Order.{ordered_po, ordered_ties, ordered_total, reference_cmp, reference_key_cmp};
+ghost use Rattle.std.specs.Cmp.Lexicographic.{slice_cmp};
+ghost use Rattle.std.specs.Option.{option_cmp};
+ghost use Rattle.std.specs.Ordering.{as_partial_cmp, nat_cmp, on};
+ghost use Rattle.uriparse_authority.specs.Order.{rank_cmp};
+ghost use Rattle.uriparse_reference.specs.Order.{ordered_po, ordered_ties, ordered_total, rank, reference_cmp, reference_key_cmp};
 ghost use Rattle.uriparse_reference.specs.Reference.{Valid};
 ghost use Rattle.uriparse_reference.specs.TextKey.{keyed};
 ghost use Rattle.uriparse_reference.specs.View.{view_key};
@@ -13,6 +16,36 @@ use std::cmp::Ordering;
 use uriparse_path::internal::compare_path_texts;
 
 impl<'t> ReferenceView<'t> {
+    /// Compares the schemes.
+    fn compare_schemes(&self, other: &ReferenceView<'t>) -> Ordering
+        ensures { result ≡ option_cmp (slice_cmp nat_cmp) (rank self.now.parts).scheme (rank other.now.parts).scheme }
+    {
+        self.scheme().cmp(&other.scheme())
+    }
+
+    /// Compares the authorities.
+    fn compare_authorities(&self, other: &ReferenceView<'t>) -> Ordering
+        requires valid { Valid self.now.parts }
+        requires valid_other { Valid other.now.parts }
+        ensures { result ≡ option_cmp rank_cmp (rank self.now.parts).authority (rank other.now.parts).authority }
+    {
+        self.authority().cmp(&other.authority())
+    }
+
+    /// Compares the queries.
+    fn compare_queries(&self, other: &ReferenceView<'t>) -> Ordering
+        ensures { result ≡ option_cmp (slice_cmp nat_cmp) (rank self.now.parts).query (rank other.now.parts).query }
+    {
+        self.query().cmp(&other.query())
+    }
+
+    /// Compares the fragments.
+    fn compare_fragments(&self, other: &ReferenceView<'t>) -> Ordering
+        ensures { result ≡ option_cmp (slice_cmp nat_cmp) (rank self.now.parts).fragment (rank other.now.parts).fragment }
+    {
+        self.fragment().cmp(&other.fragment())
+    }
+
     /// Compares the components in their order.
     fn compare_each(&self, other: &ReferenceView<'t>) -> Ordering
         ensures test { result ≡ reference_cmp self.now.parts other.now.parts }
@@ -20,11 +53,11 @@ impl<'t> ReferenceView<'t> {
     {
         let path = self.path_bytes();
         let other_path = other.path_bytes();
-        match self.scheme().cmp(&other.scheme()) {
+        match self.compare_schemes(other) {
             Ordering::Equal => {}
             order => return order,
         }
-        match self.authority().cmp(&other.authority()) {
+        match self.compare_authorities(other) {
             Ordering::Equal => {}
             order => return order,
         }
@@ -32,11 +65,11 @@ impl<'t> ReferenceView<'t> {
             Ordering::Equal => {}
             order => return order,
         }
-        match self.query().cmp(&other.query()) {
+        match self.compare_queries(other) {
             Ordering::Equal => {}
             order => return order,
         }
-        self.fragment().cmp(&other.fragment())
+        self.compare_fragments(other)
     }
 }
 

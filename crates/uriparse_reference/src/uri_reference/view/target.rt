@@ -1,7 +1,8 @@
 //! The text of the target of a reference in a buffer of the caller: RFC 3986, section 5.2.
-ghost use Rattle.std.specs.Prelude.{◌≡◌, ◌≤◌, ◌&&◌, Err, MatchOption, false, is_some, length, nat_lt, true};
+ghost use Rattle.std.specs.Prelude.{◌≡◌, ◌≤◌, ◌&&◌, ◌++◌, Err, MatchOption, false, is_some, length, nat_lt, true};
 ghost use Rattle.std.specs.Option.{option_or};
-ghost use Rattle.uriparse_text.specs.Ends.{EndsWith};
+ghost use Rattle.uriparse_text.specs.declared.internal.backward_buffer.Form.TheVariants.{AsIs};
+ghost use Rattle.uriparse_text.specs.Ends.{EndsWith, Puts};
 ghost use Rattle.uriparse_path.specs.Edits.{with_dot_prefix_unless};
 ghost use Rattle.uriparse_path.specs.Path.{is_rooted, max_segments, pieces, text};
 ghost use Rattle.uriparse_reference.specs.declared.uri_reference.error.BufferError.TheVariants as errors;
@@ -131,6 +132,25 @@ impl<'t> ReferenceView<'t> {
         self.put_merged_tail(reference, out)
     }
 
+    /// Puts the scheme and the authority, each with its delimiter, if present.
+    #[inline(always)]
+    fn put_own_front(&self, out: &mut [u8], len: usize) -> usize
+        ensures room { length out.new ≡ length out.old }
+        ensures puts { Puts (spec.scheme_front AsIs self.now.parts.scheme ++ spec.authority_front AsIs self.now.parts.authority) out.old len out.new result }
+    {
+        put_scheme_and_authority(Form::AsIs, &self.scheme(), &self.authority(), out, len)
+    }
+
+    /// Puts the scheme of this base and the authority of a reference, each with its delimiter, if
+    /// present.
+    #[inline(always)]
+    fn put_merged_front(&self, reference: &ReferenceView<'_>, out: &mut [u8], len: usize) -> usize
+        ensures room { length out.new ≡ length out.old }
+        ensures puts { Puts (spec.scheme_front AsIs self.now.parts.scheme ++ spec.authority_front AsIs reference.now.parts.authority) out.old len out.new result }
+    {
+        put_scheme_and_authority(Form::AsIs, &self.scheme(), &reference.authority(), out, len)
+    }
+
     /// Puts the text of the target at the end of the buffer. Returns its length. If there is no
     /// room, only the length is counted.
     pub(super) fn put_target(&self, reference: &ReferenceView<'_>, out: &mut [u8]) -> usize
@@ -140,26 +160,14 @@ impl<'t> ReferenceView<'t> {
     {
         if reference.has_scheme() {
             let len = reference.put_own_tail(reference.has_authority(), out);
-            return put_scheme_and_authority(
-                Form::AsIs,
-                &reference.scheme(),
-                &reference.authority(),
-                out,
-                len,
-            );
+            return reference.put_own_front(out, len);
         }
         if reference.has_authority() {
             let len = reference.put_own_tail(true, out);
-            return put_scheme_and_authority(
-                Form::AsIs,
-                &self.scheme(),
-                &reference.authority(),
-                out,
-                len,
-            );
+            return self.put_merged_front(reference, out, len);
         }
         let len = self.put_inherited_tail(reference, out);
-        put_scheme_and_authority(Form::AsIs, &self.scheme(), &self.authority(), out, len)
+        self.put_own_front(out, len)
     }
 
     /// The number of bytes of the texts that the target is put together from: those of the reference,

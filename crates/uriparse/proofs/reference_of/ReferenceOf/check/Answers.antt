@@ -10,7 +10,7 @@ returns-in-Ok g c =
     let found = c.in-Ok.ensures in
     c.check_kind.ensures
     ∙ checked g.K.ReferenceKind.has_scheme g.K.ReferenceKind.map_error g.K.ReferenceKind.other c.args.bytes.now _ c.has_scheme.result
-    (c.has_scheme.ensures ∙ ap is_some found.0 ∙ sym (map_some named (scheme_text c.args.bytes.now))) found.4
+    (c.has_scheme.ensures ∙ ap is_some found.is_scheme ∙ sym (map_some named (scheme_text c.args.bytes.now))) found.is_read
 
 pub returns-in-Err : goal.returns-in-Err
 returns-in-Err g c =
