@@ -1,11 +1,6 @@
 //! A log in a pipe: commands of the program `uri` on many lines.
 
-use crate::digest::Digest;
-use crate::error::JobError;
-use crate::links::link_models;
-use crate::make::put_like;
-use crate::random::Random;
-use crate::texts::Texts;
+use job_library::{Digest, JobError, Random, Texts, link_models, put_like};
 use std::alloc::{AllocError, Global};
 use uri_commands::run_with_input;
 

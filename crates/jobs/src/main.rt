@@ -5,35 +5,15 @@
 //! jobs but `texts` and `store` together, and then that of `texts`.
 #![tactic(auto)]
 
-mod awkward;
-mod buffers;
-mod digest;
-mod error;
-mod languages;
-mod letters;
 mod lines;
-mod links;
-mod make;
-mod random;
-mod registry;
-mod requests;
-mod store;
-mod texts;
 
-use awkward::awkward;
-use buffers::buffers;
-use digest::Digest;
-use error::JobError;
-use languages::languages;
+use job_library::{
+    Digest, JobError, Random, awkward, buffers, languages, links, registry, requests, store,
+};
 use lines::lines;
-use links::links;
-use random::Random;
-use registry::registry;
-use requests::requests;
 use std::alloc::Global;
 use std::process::ExitCode;
 use std::{env, io};
-use store::store;
 
 /// Runs the job of this name.
 fn run_job(
