@@ -1,6 +1,11 @@
 //! A log in a pipe: commands of the program `uri` on many lines.
 
-use job_library::{Digest, JobError, Random, Texts, link_models, put_like};
+use job_library::digest::Digest;
+use job_library::error::JobError;
+use job_library::links::link_models;
+use job_library::make::put_like;
+use job_library::random::Random;
+use job_library::texts::Texts;
 use std::alloc::{AllocError, Global};
 use uri_commands::run_with_input;
 

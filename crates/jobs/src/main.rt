@@ -7,9 +7,16 @@
 
 mod lines;
 
-use job_library::{
-    Digest, JobError, Random, awkward, buffers, languages, links, registry, requests, store,
-};
+use job_library::awkward::awkward;
+use job_library::buffers::buffers;
+use job_library::digest::Digest;
+use job_library::error::JobError;
+use job_library::languages::languages;
+use job_library::links::links;
+use job_library::random::Random;
+use job_library::registry::registry;
+use job_library::requests::requests;
+use job_library::store::store;
 use lines::lines;
 use std::alloc::Global;
 use std::process::ExitCode;
