@@ -1,18 +1,13 @@
 //! The text of the reference that leads from a base to a URI, in a caller's buffer: the reverse of
 //! RFC 3986, section 5.2. Nothing here allocates.
-ghost use Rattle.std.specs.Prelude.{◌≡◌, ◌↔◌, ◌++◌, IfOk, IsTrue, None, Ok, Err, Some, is_some, length, true, false};
-ghost use Rattle.std.specs.Option.{option_map};
-ghost use Rattle.uriparse_text.specs.Bytes.{colon, number_sign, question_mark};
-ghost use Rattle.uriparse_text.specs.Cuts.{ahead, following};
-ghost use Rattle.uriparse_text.specs.Ends.{EndsWith, Puts};
+ghost use Rattle.std.specs.Prelude.{◌≡◌, ◌↔◌, IfOk, IsTrue, None, Ok, Err, Some, is_some, length, true, false};
+ghost use Rattle.uriparse_text.specs.Ends.{EndsWith};
 ghost use Rattle.uriparse_text.specs.Starts.{Writes};
-ghost use Rattle.uriparse_scheme.specs.Scheme as schemes;
-ghost use Rattle.uriparse_authority.specs.Authority as authorities;
 ghost use Rattle.uriparse_path.specs.Path.{PathParts, text};
 ghost use Rattle.uriparse_path.specs.Relate.{no_path};
 ghost use Rattle.uriparse_reference.specs.declared.uri_reference.error.URIReferenceError.{URIReferenceError};
 ghost use Rattle.uriparse_reference.specs.Reading.{fault};
-ghost use Rattle.uriparse_reference.specs.Reference.{Parts, Spells, Valid, after_slashes, print};
+ghost use Rattle.uriparse_reference.specs.Reference.{Parts, Spells, Valid, print};
 ghost use Rattle.uriparse_reference.specs.Relate.{IsInPlace, IsQueryLeft, Relates, following_path, network};
 ghost use Rattle.uriparse.specs.Uri.{map_error};
 ghost use Rattle.uriparse_ffi.specs.Code as codes;
@@ -23,9 +18,11 @@ use crate::code::uri_code;
 use crate::put::{answer_room, refuse};
 use crate::texts::view_base;
 use uriparse::{Authority, Fragment, Query, ReferenceView, Scheme, TooSmall, URIError};
-use uriparse_authority::internal as authority;
-use uriparse_reference::internal::{has_same_authority, has_same_scheme, has_same_text};
-use uriparse_text::internal::{Form, put, put_after};
+use uriparse_reference::internal::{
+    has_same_authority, has_same_scheme, has_same_text, put_query_and_fragment,
+    put_scheme_and_authority,
+};
+use uriparse_text::internal::Form;
 
 mod path;
 
@@ -154,53 +151,15 @@ fn relative<'t>(base: &ReferenceView<'_>, target: &ReferenceView<'t>) -> Relativ
 
 // ---- its text
 
-/// Puts the query and the fragment, each with its delimiter, if present, at the end of the buffer.
-fn put_end(query: &Option<Query<'_>>, fragment: &Option<Fragment<'_>>, out: &mut [u8]) -> usize
-    ensures room { length out.new ≡ length out.old }
-    ensures ends { EndsWith out.new result (following question_mark query.now ++ following number_sign fragment.now) }
-{
-    let len = put_after(Form::AsIs, b'#', fragment, out, 0);
-    put_after(Form::AsIs, b'?', query, out, len)
-}
-
-/// Puts two slashes and the authority, if there is one.
-fn put_authority(authority: &Option<Authority<'_>>, out: &mut [u8], len: usize) -> usize
-    ensures room { length out.new ≡ length out.old }
-    ensures puts { Puts (after_slashes (option_map authorities.print authority.now)) out.old len out.new result }
-{
-    match authority {
-        Some(authority) => {
-            let len = authority::put_authority(authority, Form::AsIs, out, len);
-            put(b"//", out, len)
-        }
-        None => len,
-    }
-}
-
-/// Puts the scheme and a colon, if there is one.
-fn put_scheme(scheme: &Option<Scheme<'_>>, out: &mut [u8], len: usize) -> usize
-    ensures room { length out.new ≡ length out.old }
-    ensures puts { Puts (ahead colon (option_map schemes.text scheme.now)) out.old len out.new result }
-{
-    match scheme {
-        Some(scheme) => {
-            let len = put(b":", out, len);
-            put(scheme.as_str().as_bytes(), out, len)
-        }
-        None => len,
-    }
-}
-
 /// Puts the reference at the end of the buffer. Returns the length of its text. If there is no room,
 /// only the length is counted.
 fn put_relative(relative: &RelativeParts<'_>, out: &mut [u8]) -> usize
     ensures room { length out.new ≡ length out.old }
     ensures ends { EndsWith out.new result (spec.text_of relative.now) }
 {
-    let len = put_end(&relative.query, &relative.fragment, out);
+    let len = put_query_and_fragment(Form::AsIs, &relative.query, &relative.fragment, out);
     let len = put_path(&relative.path, out, len);
-    let len = put_authority(&relative.authority, out, len);
-    put_scheme(&relative.scheme, out, len)
+    put_scheme_and_authority(Form::AsIs, &relative.scheme, &relative.authority, out, len)
 }
 
 /// Writes the reference to the start of the buffer.

@@ -44,7 +44,7 @@ pub(crate) mod resolve;
 pub(crate) mod same;
 mod segment;
 mod text;
-mod view;
+pub(crate) mod view;
 
 pub use builder::URIReferenceBuilder;
 pub use edit::Edit;
