@@ -1,6 +1,6 @@
 //! The text of the reference that leads from a base to a URI, in a caller's buffer: the reverse of
 //! RFC 3986, section 5.2. Nothing here allocates.
-ghost use Rattle.std.specs.Prelude.{◌≡◌, ◌↔◌, IfOk, IsTrue, None, Ok, Err, Some, is_some, length, true, false};
+ghost use Rattle.std.specs.Prelude.{◌≡◌, ◌↔◌, IsTrue, None, Some, is_some, length, true, false};
 ghost use Rattle.uriparse_text.specs.Ends.{EndsWith};
 ghost use Rattle.uriparse_text.specs.Starts.{Writes};
 ghost use Rattle.uriparse_path.specs.Path.{PathParts, text};
@@ -14,10 +14,10 @@ ghost use Rattle.uriparse_ffi.specs.Code as codes;
 ghost use Rattle.uriparse_ffi.specs.Put.{IsPut, IsRefused};
 ghost use Rattle.uriparse_ffi.specs.Relatives as spec;
 
-use crate::code::uri_code;
+use crate::code::{base_code, uri_code};
 use crate::put::{answer_room, refuse};
-use crate::texts::view_base;
-use uriparse::{Authority, Fragment, Query, ReferenceView, Scheme, TooSmall, URIError};
+use crate::texts::view_uri;
+use uriparse::{Authority, Fragment, Query, ReferenceView, Scheme, TooSmall};
 use uriparse_reference::internal::{
     has_same_authority, has_same_scheme, has_same_text, put_query_and_fragment,
     put_scheme_and_authority,
@@ -188,25 +188,6 @@ fn write_between(
     answer_room(write(&relative, out), needed)
 }
 
-/// Views a URI in its text, or returns the code of its error.
-fn view_uri(text: &[u8]) -> Result<ReferenceView<'_>, u32>
-    ensures found { (p : Parts) → Spells text.now p → is_some p.scheme ≡ true → result ≡ Ok (record { text = text.now; parts = p }) }
-    ensures kind { IfOk result (λ t. is_some t.parts.scheme ≡ true) }
-    ensures relative { (p : Parts) → Spells text.now p → is_some p.scheme ≡ false → result ≡ Err codes.no_scheme }
-    ensures fault { (e : URIReferenceError) → fault text.now ≡ Some e → result ≡ Err (codes.uri_code (map_error e)) }
-{
-    match ReferenceView::try_from_bytes(text) {
-        Ok(view) => {
-            if view.has_scheme() {
-                Ok(view)
-            } else {
-                Err(uri_code(URIError::NotURI))
-            }
-        }
-        Err(error) => Err(uri_code(URIError::from(error))),
-    }
-}
-
 /// Writes the text of the reference that leads from a base to the URI that a text spells, or returns
 /// the code of the text's error.
 fn write_relative_to(
@@ -221,7 +202,7 @@ fn write_relative_to(
 {
     match view_uri(uri) {
         Ok(target) => write_between(base, &target, out, needed),
-        Err(code) => refuse(code, needed),
+        Err(error) => refuse(uri_code(error), needed),
     }
 }
 
@@ -234,8 +215,8 @@ pub fn write_relative(base: &[u8], uri: &[u8], out: &mut [u8], needed: &mut usiz
     ensures relative { (b t : Parts) → Spells base.now b → is_some b.scheme ≡ true → Spells uri.now t → is_some t.scheme ≡ false → IsRefused codes.no_scheme out.old out.new needed.new result }
     ensures refused { (b : Parts) (e : URIReferenceError) → Spells base.now b → is_some b.scheme ≡ true → fault uri.now ≡ Some e → IsRefused (codes.uri_code (map_error e)) out.old out.new needed.new result }
 {
-    match view_base(base) {
+    match view_uri(base) {
         Ok(base) => write_relative_to(&base, uri, out, needed),
-        Err(code) => refuse(code, needed),
+        Err(error) => refuse(base_code(error), needed),
     }
 }
