@@ -7,11 +7,11 @@ ghost use Rattle.uriparse_path.specs.Path.{PathParts, text};
 ghost use Rattle.uriparse_path.specs.Relate.{no_path};
 ghost use Rattle.uriparse_reference.specs.declared.uri_reference.error.URIReferenceError.{URIReferenceError};
 ghost use Rattle.uriparse_reference.specs.Reading.{fault};
-ghost use Rattle.uriparse_reference.specs.Reference.{Parts, Spells, Valid, print};
+ghost use Rattle.uriparse_reference.specs.Reference.{Parts, Spells, Valid};
 ghost use Rattle.uriparse_reference.specs.Relate.{IsInPlace, IsQueryLeft, Relates, following_path, network};
 ghost use Rattle.uriparse.specs.Uri.{map_error};
 ghost use Rattle.uriparse_ffi.specs.Code as codes;
-ghost use Rattle.uriparse_ffi.specs.Put.{IsPut, IsRefused};
+ghost use Rattle.uriparse_ffi.specs.Put.{IsRefused, IsRelativePut};
 ghost use Rattle.uriparse_ffi.specs.Relatives as spec;
 
 use crate::code::{base_code, uri_code};
@@ -182,7 +182,7 @@ fn write_between(
     needed: &mut usize,
 ) -> u32
     requires { is_some target.now.parts.scheme ≡ true }
-    ensures { (r : Parts) × Relates base.now.parts target.now.parts r × IsPut (print r) out.old out.new needed.new result }
+    ensures { IsRelativePut base.now.parts target.now.parts out.old out.new needed.new result }
 {
     let relative = relative(base, target);
     answer_room(write(&relative, out), needed)
@@ -196,7 +196,7 @@ fn write_relative_to(
     out: &mut [u8],
     needed: &mut usize,
 ) -> u32
-    ensures written { (t : Parts) → Spells uri.now t → is_some t.scheme ≡ true → (r : Parts) × Relates base.now.parts t r × IsPut (print r) out.old out.new needed.new result }
+    ensures written { (t : Parts) → Spells uri.now t → is_some t.scheme ≡ true → IsRelativePut base.now.parts t out.old out.new needed.new result }
     ensures relative { (t : Parts) → Spells uri.now t → is_some t.scheme ≡ false → IsRefused codes.no_scheme out.old out.new needed.new result }
     ensures refused { (e : URIReferenceError) → fault uri.now ≡ Some e → IsRefused (codes.uri_code (map_error e)) out.old out.new needed.new result }
 {
@@ -209,7 +209,7 @@ fn write_relative_to(
 /// Writes the text of the reference that leads from a base to a URI, both read from texts, or returns
 /// the code of a text's error. Of two faulty texts the base is rejected.
 pub fn write_relative(base: &[u8], uri: &[u8], out: &mut [u8], needed: &mut usize) -> u32
-    ensures written { (b t : Parts) → Spells base.now b → is_some b.scheme ≡ true → Spells uri.now t → is_some t.scheme ≡ true → (r : Parts) × Relates b t r × IsPut (print r) out.old out.new needed.new result }
+    ensures written { (b t : Parts) → Spells base.now b → is_some b.scheme ≡ true → Spells uri.now t → is_some t.scheme ≡ true → IsRelativePut b t out.old out.new needed.new result }
     ensures relative_base { (b : Parts) → Spells base.now b → is_some b.scheme ≡ false → IsRefused (codes.base_code codes.no_scheme) out.old out.new needed.new result }
     ensures base { (e : URIReferenceError) → fault base.now ≡ Some e → IsRefused (codes.base_code (codes.uri_code (map_error e))) out.old out.new needed.new result }
     ensures relative { (b t : Parts) → Spells base.now b → is_some b.scheme ≡ true → Spells uri.now t → is_some t.scheme ≡ false → IsRefused codes.no_scheme out.old out.new needed.new result }

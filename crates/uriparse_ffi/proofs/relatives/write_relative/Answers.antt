@@ -1,18 +1,15 @@
 use Rattle.std.proofs.Common.{ap, subst}
 use Rattle.uriparse.specs.declared.uri.error.URIError.TheVariants.{NotURI}
 use Rattle.uriparse.specs.Uri.{map_error}
-use Rattle.uriparse_reference.specs.Reference.{Parts, print}
-use Rattle.uriparse_reference.specs.Relate.{Relates}
 use Rattle.uriparse_reference.specs.View.{Viewed}
-use Rattle.uriparse_ffi.specs.Put.{IsPut}
+use Rattle.uriparse_ffi.specs.Put.{IsRelativePut}
 use Rattle.uriparse_ffi.proofs.lemmas.TextLemmas.{no_error, no_ok, ok_is}
 use Rattle.uriparse_ffi.proofs.relatives.write_relative.Goals as goal
 
 pub returns-in-Ok-clause-written : goal.returns-in-Ok-clause-written
 returns-in-Ok-clause-written c b t s k s' k' =
     let same = ap (λ (v : Viewed). v.parts) (ok_is c.in-Ok.base _ (c.in-Ok.ensures.found b s k)) in
-    subst (λ p. (r : Parts) × Relates p t r × IsPut (print r) c.args.out.now c.write_relative_to.new.out c.write_relative_to.new.needed c.write_relative_to.result)
-    same (c.write_relative_to.ensures.written t s' k')
+    subst (λ p. IsRelativePut p t c.args.out.now c.write_relative_to.new.out c.write_relative_to.new.needed c.write_relative_to.result) same (c.write_relative_to.ensures.written t s' k')
 
 pub returns-in-Ok-clause-relative_base : goal.returns-in-Ok-clause-relative_base
 returns-in-Ok-clause-relative_base c b s k = absurd (no_error c.in-Ok.base NotURI (c.in-Ok.ensures.relative b s k))
