@@ -19,7 +19,6 @@ ghost use Rattle.uriparse_reference.specs.Normal.{normal};
 ghost use Rattle.uriparse_reference.specs.Offset.{first_fault};
 ghost use Rattle.uriparse_reference.specs.Reading.{fault};
 ghost use Rattle.uriparse_reference.specs.Reference.{Parts, Spells, print};
-ghost use Rattle.uriparse_reference.specs.Relate.{Relates};
 ghost use Rattle.uriparse_reference.specs.Target.{target};
 ghost use Rattle.uriparse.specs.declared.uri.origin.Origin.{Origin};
 ghost use Rattle.uriparse.specs.Origin.{origin, text as origin_text};
@@ -28,8 +27,8 @@ ghost use Rattle.uriparse_ffi.specs.Code as spec;
 ghost use Rattle.uriparse_ffi.specs.Components.{class_of};
 ghost use Rattle.uriparse_ffi.specs.Hash.{hash_of};
 ghost use Rattle.uriparse_ffi.specs.Pairs.{IsPairAt, left_from};
-ghost use Rattle.uriparse_ffi.specs.Places.{ArePlaces, host_number, port_number};
-ghost use Rattle.uriparse_ffi.specs.Put.{IsPut, IsRefused};
+ghost use Rattle.uriparse_ffi.specs.Places.{ArePlacesOf};
+ghost use Rattle.uriparse_ffi.specs.Put.{IsPut, IsRefused, IsRelativePut};
 
 use uriparse_ffi::code::{ACCEPTED, code_of, truth_of};
 use uriparse_ffi::coding::{write_decoded, write_encoded, write_escaped};
@@ -45,7 +44,7 @@ use uriparse_reference::uri_reference::URIReference;
 #[unsafe(no_mangle)]
 pub extern "C" fn uriparse_parse(text: &[u8], out: &mut UriParts) -> u32
     // If the text spells a reference, each span is that of the component.
-    ensures parsed { (p : Parts) (s : Spells text.now p) → (result ≡ spec.accepted) × ArePlaces s.scheme_text s.authority_text s.path_text p.query p.fragment out.new × (out.new.host_kind ≡ host_number p.authority) × (out.new.port_number ≡ port_number p.authority) }
+    ensures parsed { (p : Parts) (s : Spells text.now p) → (result ≡ spec.accepted) × ArePlacesOf text.now p s out.new }
 
     // Any other text is rejected with its fault, and nothing is written.
     ensures refused { (e : URIReferenceError) → fault text.now ≡ Some e → (result ≡ spec.code_of e) × (out.new ≡ out.old) }
@@ -170,7 +169,7 @@ pub extern "C" fn uriparse_relativize(
 ) -> u32
     // The buffer holds the text of a reference that has the target of the URI and leaves out what it
     // can, or it is too small.
-    ensures written { (b t : Parts) → Spells base.now b → is_some b.scheme ≡ true → Spells uri.now t → is_some t.scheme ≡ true → (r : Parts) × Relates b t r × IsPut (print r) out.old out.new needed.new result }
+    ensures written { (b t : Parts) → Spells base.now b → is_some b.scheme ≡ true → Spells uri.now t → is_some t.scheme ≡ true → IsRelativePut b t out.old out.new needed.new result }
 
     // A base or a URI without a scheme is rejected, and so is a faulty text, the base first.
     ensures relative_base { (b : Parts) → Spells base.now b → is_some b.scheme ≡ false → IsRefused (spec.base_code spec.no_scheme) out.old out.new needed.new result }

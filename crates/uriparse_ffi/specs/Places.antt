@@ -5,7 +5,7 @@ use Rattle.uriparse_text.specs.Bytes.{colon, at_sign, question_mark}
 use Rattle.uriparse_text.specs.Cuts.{ahead, following}
 use Rattle.uriparse_authority.specs.Authority.{AuthorityParts, userinfo_text, username_text, password_text, host_text, port_text, kind}
 use Rattle.uriparse_authority.specs.Host.{kind_code}
-use Rattle.uriparse_reference.specs.Reference.{after_slashes}
+use Rattle.uriparse_reference.specs.Reference.{Parts, Spells, after_slashes}
 use Rattle.uriparse_ffi.specs.Spans.{span}
 use Rattle.uriparse_ffi.specs.declared.places.InAuthority.{InAuthority}
 use Rattle.uriparse_ffi.specs.declared.places.UriParts.{UriParts}
@@ -35,3 +35,8 @@ host_number (Some a) = kind_code (kind a)
 abbrev pub port_number : Option AuthorityParts → ℕ
 port_number None = 0
 port_number (Some a) = unwrap_or a.port 0
+
+-- They are those of the components that a text spells, with the number of the host's kind and the port's number.
+abbrev pub ArePlacesOf : (t : List ℕ) (p : Parts) → Spells t p → UriParts → Type 0
+ArePlacesOf t p s o =
+    ArePlaces s.scheme_text s.authority_text s.path_text p.query p.fragment o × (o.host_kind ≡ host_number p.authority) × (o.port_number ≡ port_number p.authority)

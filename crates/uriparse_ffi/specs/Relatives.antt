@@ -1,11 +1,11 @@
 -- What the text of a reference that leads from a base to a target is put together from: words of private functions' clauses.
-use Rattle.std.specs.Prelude.{◌≡◌, ℕ, ◌++◌, if◌then◌else◌, List, ◌∷◌}
+use Rattle.std.specs.Prelude.{◌≡◌, ℕ, ◌++◌, if◌then◌else◌, List, ◌∷◌, Option, None, Some, MatchOption}
 use Rattle.std.specs.List.{slice_split}
 use Rattle.std.specs.Option.{option_map}
 use Rattle.uriparse_text.specs.Bytes.{dot, slash}
 use Rattle.uriparse_scheme.specs.Scheme as schemes
 use Rattle.uriparse_authority.specs.Authority as authorities
-use Rattle.uriparse_path.specs.Path.{is_slash, text}
+use Rattle.uriparse_path.specs.Path.{PathParts, is_slash, text}
 use Rattle.uriparse_path.specs.Dots.{all_but_last}
 use Rattle.uriparse_path.specs.Relate.{apart, double_dots}
 use Rattle.uriparse_path.specs.Remaining.{with_parent_steps}
@@ -32,6 +32,10 @@ abbrev pub path_text : PathText → List ℕ
 path_text p =
     let steps = with_parent_steps p.parents p.rest.now in
     if p.dotted then dot ∷ slash ∷ steps else steps
+
+-- It is put together for this path, if there is one.
+abbrev pub IsOfPath : Option PathText → Option PathParts → Type 0
+IsOfPath l path = MatchOption l (path ≡ None) (λ l. (p : PathParts) × (path ≡ Some p) × (path_text l ≡ text p))
 
 -- ---- references
 

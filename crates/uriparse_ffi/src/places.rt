@@ -8,7 +8,7 @@ ghost use Rattle.uriparse_ffi.specs.Places.{AreInAuthority, ArePlaces, host_numb
 ghost use Rattle.uriparse_ffi.specs.Spans.{span};
 
 use crate::span::{UriSpan, delimited_len, offset_after, place};
-use uriparse::{Fragment, Query};
+use uriparse::{Text, TextKind};
 use uriparse_authority::internal::{FoundAuthority, split_port, split_userinfo};
 use uriparse_reference::internal::Pieces;
 use uriparse_text::internal::{split_at_mark, without_mark};
@@ -121,22 +121,12 @@ fn scheme_of(text: &[u8]) -> Option<&[u8]>
     }
 }
 
-/// The text of a query, if there is one.
-fn query_bytes<'q>(query: &'q Option<Query<'_>>) -> Option<&'q [u8]>
-    ensures { option_copied result ≡ query.now }
+/// The bytes of a query or a fragment, if it is present.
+fn bytes_of<'c, K: TextKind>(component: &'c Option<Text<'_, K>>) -> Option<&'c [u8]>
+    ensures { option_copied result ≡ component.now }
 {
-    match query {
-        Some(query) => Some(query.as_bytes()),
-        None => None,
-    }
-}
-
-/// The text of a fragment, if there is one.
-fn fragment_bytes<'f>(fragment: &'f Option<Fragment<'_>>) -> Option<&'f [u8]>
-    ensures { option_copied result ≡ fragment.now }
-{
-    match fragment {
-        Some(fragment) => Some(fragment.as_bytes()),
+    match component {
+        Some(text) => Some(text.as_bytes()),
         None => None,
     }
 }
@@ -225,8 +215,8 @@ pub fn places(text: &[u8], pieces: &Pieces<'_>) -> UriParts
         text,
         scheme_of(pieces.scheme),
         pieces.tail.path,
-        query_bytes(&query),
-        fragment_bytes(&fragment),
+        bytes_of(&query),
+        bytes_of(&fragment),
     );
     UriParts {
         host_kind: host_kind_of(&pieces.authority),

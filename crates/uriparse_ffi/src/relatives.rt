@@ -1,31 +1,28 @@
 //! The text of the reference that leads from a base to a URI, in a caller's buffer: the reverse of
 //! RFC 3986, section 5.2. Nothing here allocates.
-ghost use Rattle.std.specs.Prelude.{◌≡◌, ◌↔◌, ◌++◌, IfOk, IsTrue, None, Ok, Err, Some, is_some, length, true, false};
-ghost use Rattle.std.specs.Option.{option_map};
-ghost use Rattle.uriparse_text.specs.Bytes.{colon, number_sign, question_mark};
-ghost use Rattle.uriparse_text.specs.Cuts.{ahead, following};
-ghost use Rattle.uriparse_text.specs.Ends.{EndsWith, Puts};
+ghost use Rattle.std.specs.Prelude.{◌≡◌, ◌↔◌, IsTrue, None, Some, is_some, length, true, false};
+ghost use Rattle.uriparse_text.specs.Ends.{EndsWith};
 ghost use Rattle.uriparse_text.specs.Starts.{Writes};
-ghost use Rattle.uriparse_scheme.specs.Scheme as schemes;
-ghost use Rattle.uriparse_authority.specs.Authority as authorities;
 ghost use Rattle.uriparse_path.specs.Path.{PathParts, text};
 ghost use Rattle.uriparse_path.specs.Relate.{no_path};
 ghost use Rattle.uriparse_reference.specs.declared.uri_reference.error.URIReferenceError.{URIReferenceError};
 ghost use Rattle.uriparse_reference.specs.Reading.{fault};
-ghost use Rattle.uriparse_reference.specs.Reference.{Parts, Spells, Valid, after_slashes, print};
+ghost use Rattle.uriparse_reference.specs.Reference.{Parts, Spells, Valid};
 ghost use Rattle.uriparse_reference.specs.Relate.{IsInPlace, IsQueryLeft, Relates, following_path, network};
 ghost use Rattle.uriparse.specs.Uri.{map_error};
 ghost use Rattle.uriparse_ffi.specs.Code as codes;
-ghost use Rattle.uriparse_ffi.specs.Put.{IsPut, IsRefused};
+ghost use Rattle.uriparse_ffi.specs.Put.{IsRefused, IsRelativePut};
 ghost use Rattle.uriparse_ffi.specs.Relatives as spec;
 
-use crate::code::uri_code;
+use crate::code::{base_code, uri_code};
 use crate::put::{answer_room, refuse};
-use crate::texts::view_base;
-use uriparse::{Authority, Fragment, Query, ReferenceView, Scheme, TooSmall, URIError};
-use uriparse_authority::internal as authority;
-use uriparse_reference::internal::{has_same_authority, has_same_scheme, has_same_text};
-use uriparse_text::internal::{Form, put, put_after};
+use crate::texts::view_uri;
+use uriparse::{Authority, Fragment, Query, ReferenceView, Scheme, TooSmall};
+use uriparse_reference::internal::{
+    has_same_authority, has_same_scheme, has_same_text, put_query_and_fragment,
+    put_scheme_and_authority,
+};
+use uriparse_text::internal::Form;
 
 mod path;
 
@@ -154,53 +151,15 @@ fn relative<'t>(base: &ReferenceView<'_>, target: &ReferenceView<'t>) -> Relativ
 
 // ---- its text
 
-/// Puts the query and the fragment, each with its delimiter, if present, at the end of the buffer.
-fn put_end(query: &Option<Query<'_>>, fragment: &Option<Fragment<'_>>, out: &mut [u8]) -> usize
-    ensures room { length out.new ≡ length out.old }
-    ensures ends { EndsWith out.new result (following question_mark query.now ++ following number_sign fragment.now) }
-{
-    let len = put_after(Form::AsIs, b'#', fragment, out, 0);
-    put_after(Form::AsIs, b'?', query, out, len)
-}
-
-/// Puts two slashes and the authority, if there is one.
-fn put_authority(authority: &Option<Authority<'_>>, out: &mut [u8], len: usize) -> usize
-    ensures room { length out.new ≡ length out.old }
-    ensures puts { Puts (after_slashes (option_map authorities.print authority.now)) out.old len out.new result }
-{
-    match authority {
-        Some(authority) => {
-            let len = authority::put_authority(authority, Form::AsIs, out, len);
-            put(b"//", out, len)
-        }
-        None => len,
-    }
-}
-
-/// Puts the scheme and a colon, if there is one.
-fn put_scheme(scheme: &Option<Scheme<'_>>, out: &mut [u8], len: usize) -> usize
-    ensures room { length out.new ≡ length out.old }
-    ensures puts { Puts (ahead colon (option_map schemes.text scheme.now)) out.old len out.new result }
-{
-    match scheme {
-        Some(scheme) => {
-            let len = put(b":", out, len);
-            put(scheme.as_str().as_bytes(), out, len)
-        }
-        None => len,
-    }
-}
-
 /// Puts the reference at the end of the buffer. Returns the length of its text. If there is no room,
 /// only the length is counted.
 fn put_relative(relative: &RelativeParts<'_>, out: &mut [u8]) -> usize
     ensures room { length out.new ≡ length out.old }
     ensures ends { EndsWith out.new result (spec.text_of relative.now) }
 {
-    let len = put_end(&relative.query, &relative.fragment, out);
+    let len = put_query_and_fragment(Form::AsIs, &relative.query, &relative.fragment, out);
     let len = put_path(&relative.path, out, len);
-    let len = put_authority(&relative.authority, out, len);
-    put_scheme(&relative.scheme, out, len)
+    put_scheme_and_authority(Form::AsIs, &relative.scheme, &relative.authority, out, len)
 }
 
 /// Writes the reference to the start of the buffer.
@@ -223,29 +182,10 @@ fn write_between(
     needed: &mut usize,
 ) -> u32
     requires { is_some target.now.parts.scheme ≡ true }
-    ensures { (r : Parts) × Relates base.now.parts target.now.parts r × IsPut (print r) out.old out.new needed.new result }
+    ensures { IsRelativePut base.now.parts target.now.parts out.old out.new needed.new result }
 {
     let relative = relative(base, target);
     answer_room(write(&relative, out), needed)
-}
-
-/// Views a URI in its text, or returns the code of its error.
-fn view_uri(text: &[u8]) -> Result<ReferenceView<'_>, u32>
-    ensures found { (p : Parts) → Spells text.now p → is_some p.scheme ≡ true → result ≡ Ok (record { text = text.now; parts = p }) }
-    ensures kind { IfOk result (λ t. is_some t.parts.scheme ≡ true) }
-    ensures relative { (p : Parts) → Spells text.now p → is_some p.scheme ≡ false → result ≡ Err codes.no_scheme }
-    ensures fault { (e : URIReferenceError) → fault text.now ≡ Some e → result ≡ Err (codes.uri_code (map_error e)) }
-{
-    match ReferenceView::try_from_bytes(text) {
-        Ok(view) => {
-            if view.has_scheme() {
-                Ok(view)
-            } else {
-                Err(uri_code(URIError::NotURI))
-            }
-        }
-        Err(error) => Err(uri_code(URIError::from(error))),
-    }
 }
 
 /// Writes the text of the reference that leads from a base to the URI that a text spells, or returns
@@ -256,27 +196,27 @@ fn write_relative_to(
     out: &mut [u8],
     needed: &mut usize,
 ) -> u32
-    ensures written { (t : Parts) → Spells uri.now t → is_some t.scheme ≡ true → (r : Parts) × Relates base.now.parts t r × IsPut (print r) out.old out.new needed.new result }
+    ensures written { (t : Parts) → Spells uri.now t → is_some t.scheme ≡ true → IsRelativePut base.now.parts t out.old out.new needed.new result }
     ensures relative { (t : Parts) → Spells uri.now t → is_some t.scheme ≡ false → IsRefused codes.no_scheme out.old out.new needed.new result }
     ensures refused { (e : URIReferenceError) → fault uri.now ≡ Some e → IsRefused (codes.uri_code (map_error e)) out.old out.new needed.new result }
 {
     match view_uri(uri) {
         Ok(target) => write_between(base, &target, out, needed),
-        Err(code) => refuse(code, needed),
+        Err(error) => refuse(uri_code(error), needed),
     }
 }
 
 /// Writes the text of the reference that leads from a base to a URI, both read from texts, or returns
 /// the code of a text's error. Of two faulty texts the base is rejected.
 pub fn write_relative(base: &[u8], uri: &[u8], out: &mut [u8], needed: &mut usize) -> u32
-    ensures written { (b t : Parts) → Spells base.now b → is_some b.scheme ≡ true → Spells uri.now t → is_some t.scheme ≡ true → (r : Parts) × Relates b t r × IsPut (print r) out.old out.new needed.new result }
+    ensures written { (b t : Parts) → Spells base.now b → is_some b.scheme ≡ true → Spells uri.now t → is_some t.scheme ≡ true → IsRelativePut b t out.old out.new needed.new result }
     ensures relative_base { (b : Parts) → Spells base.now b → is_some b.scheme ≡ false → IsRefused (codes.base_code codes.no_scheme) out.old out.new needed.new result }
     ensures base { (e : URIReferenceError) → fault base.now ≡ Some e → IsRefused (codes.base_code (codes.uri_code (map_error e))) out.old out.new needed.new result }
     ensures relative { (b t : Parts) → Spells base.now b → is_some b.scheme ≡ true → Spells uri.now t → is_some t.scheme ≡ false → IsRefused codes.no_scheme out.old out.new needed.new result }
     ensures refused { (b : Parts) (e : URIReferenceError) → Spells base.now b → is_some b.scheme ≡ true → fault uri.now ≡ Some e → IsRefused (codes.uri_code (map_error e)) out.old out.new needed.new result }
 {
-    match view_base(base) {
+    match view_uri(base) {
         Ok(base) => write_relative_to(&base, uri, out, needed),
-        Err(code) => refuse(code, needed),
+        Err(error) => refuse(base_code(error), needed),
     }
 }

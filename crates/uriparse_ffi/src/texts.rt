@@ -6,6 +6,7 @@ ghost use Rattle.uriparse_reference.specs.Normal.{normal};
 ghost use Rattle.uriparse_reference.specs.Reading.{fault};
 ghost use Rattle.uriparse_reference.specs.Reference.{Parts, Spells, print};
 ghost use Rattle.uriparse_reference.specs.Target.{target};
+ghost use Rattle.uriparse.specs.declared.uri.error.URIError.TheVariants as errors;
 ghost use Rattle.uriparse.specs.Uri.{map_error};
 ghost use Rattle.uriparse_ffi.specs.Code as spec;
 ghost use Rattle.uriparse_ffi.specs.Hash.{hash_of};
@@ -27,22 +28,22 @@ pub(crate) fn view(text: &[u8]) -> Result<ReferenceView<'_>, u32>
     }
 }
 
-/// Views a base in its text, or returns the code of its error.
-pub(crate) fn view_base(text: &[u8]) -> Result<ReferenceView<'_>, u32>
+/// Views a URI in its text, or returns why the text spells none.
+pub(crate) fn view_uri(text: &[u8]) -> Result<ReferenceView<'_>, URIError>
     ensures found { (p : Parts) → Spells text.now p → is_some p.scheme ≡ true → result ≡ Ok (record { text = text.now; parts = p }) }
-    ensures kind { IfOk result (λ b. is_some b.parts.scheme ≡ true) }
-    ensures relative { (p : Parts) → Spells text.now p → is_some p.scheme ≡ false → result ≡ Err (spec.base_code spec.no_scheme) }
-    ensures fault { (e : URIReferenceError) → fault text.now ≡ Some e → result ≡ Err (spec.base_code (spec.uri_code (map_error e))) }
+    ensures kind { IfOk result (λ v. is_some v.parts.scheme ≡ true) }
+    ensures relative { (p : Parts) → Spells text.now p → is_some p.scheme ≡ false → result ≡ Err errors.NotURI }
+    ensures fault { (e : URIReferenceError) → fault text.now ≡ Some e → result ≡ Err (map_error e) }
 {
     match ReferenceView::try_from_bytes(text) {
         Ok(view) => {
             if view.has_scheme() {
                 Ok(view)
             } else {
-                Err(base_code(URIError::NotURI))
+                Err(URIError::NotURI)
             }
         }
-        Err(error) => Err(base_code(URIError::from(error))),
+        Err(error) => Err(URIError::from(error)),
     }
 }
 
@@ -86,9 +87,9 @@ pub fn write_target(base: &[u8], reference: &[u8], out: &mut [u8], needed: &mut 
     ensures base { (e : URIReferenceError) → fault base.now ≡ Some e → IsRefused (spec.base_code (spec.uri_code (map_error e))) out.old out.new needed.new result }
     ensures reference { (b : Parts) (e : URIReferenceError) → Spells base.now b → is_some b.scheme ≡ true → fault reference.now ≡ Some e → IsRefused (spec.code_of e) out.old out.new needed.new result }
 {
-    match view_base(base) {
+    match view_uri(base) {
         Ok(base) => write_target_of(&base, reference, out, needed),
-        Err(code) => refuse(code, needed),
+        Err(error) => refuse(base_code(error), needed),
     }
 }
 

@@ -26,7 +26,7 @@ Writes t result old new = WritesOr errors.TooSmall t result old new
 abbrev pub WritesTarget : Parts → Parts → Result ℕ BufferError → List ℕ → List ℕ → Type 0
 WritesTarget b r result old new = MatchOption (target b r) ((result ≡ Err errors.TooManySegments) × (new ≡ old)) (λ t. Writes (print t) result old new)
 
--- ---- words of private functions' clauses alone
+-- ---- words of the clauses of private and internal functions alone
 
 -- the scheme as it is, or in canonical spelling
 abbrev pub formed_scheme : Form → Scheme → Scheme

@@ -31,10 +31,10 @@ IsReference t = reading t ≡ Ok (parts_in t)
 
 -- The authority with this text: 0 says that there is none, 3 that it is to be read; else it is a name of so many bytes, canonical if the word is
 -- 2, and at most a port.
-abbrev pub IsFront : ℕ → ℕ → Option ℕ → List ℕ → Option authority.AuthorityParts → Type 0
-IsFront front name port t None = (front == 0) ≡ true
-IsFront front name port t (Some a) =
-    ((front == 0) ≡ false) × (authority.reading t ≡ Ok a) × ((front == 3) ≡ false → IsNamed name (front == 2) t a × (port ≡ a.port))
+abbrev pub IsAuthorityOf : ℕ → ℕ → Option ℕ → List ℕ → Option authority.AuthorityParts → Type 0
+IsAuthorityOf kind name port t None = (kind == 0) ≡ true
+IsAuthorityOf kind name port t (Some a) =
+    ((kind == 0) ≡ false) × (authority.reading t ≡ Ok a) × ((kind == 3) ≡ false → IsNamed name (kind == 2) t a × (port ≡ a.port))
 
 -- how many bytes stand between the text of a scheme and that of an authority
 abbrev pub gap : ℕ → ℕ
@@ -59,7 +59,7 @@ pub record AreCuts (t : List ℕ) (c : Cuts) : Type 0 where
   pub authority : Option authority.AuthorityParts
   pub is_found : AreFound t (take c.scheme (front_at c t)) c.known authority (path_at c t) c.count c.escaped (if_there c.has_query (drop 1 (query_at c t)))
       (if_there c.has_fragment (drop 1 (tail_at c t)))
-  pub is_front : IsFront c.front c.name c.port (drop (gap c.scheme) (drop c.scheme (front_at c t))) authority
+  pub is_authority : IsAuthorityOf c.authority_kind c.name c.port (drop (gap c.scheme) (drop c.scheme (front_at c t))) authority
   pub is_query : IsValidText class.Query case.Kept (c.has_query == 2) (drop 1 (query_at c t))
   pub is_fragment : IsValidText class.Query case.Kept (c.has_fragment == 2) (drop 1 (tail_at c t))
   pub fragment_within : c.fragment ≤ length t

@@ -44,14 +44,14 @@ pub(crate) mod resolve;
 pub(crate) mod same;
 mod segment;
 mod text;
-mod view;
+pub(crate) mod view;
 
 pub use builder::URIReferenceBuilder;
 pub use edit::Edit;
 pub use error::{BufferError, RejectedText, TargetError, URIReferenceError};
 pub use escape::{escape_invalid, escape_invalid_into};
 pub use masked::WithoutPassword;
-use offset::{front_fault, offset_of};
+use offset::{first_byte_fault, offset_of};
 use print::{len_of_scheme, most_of_authority, write_authority, write_back, write_scheme};
 use read::{find_pieces, make_path};
 pub use text::{ReferenceKey, ReferenceText};
@@ -196,7 +196,7 @@ impl<'r> URIReference<'r> {
         ensures fault { result ≡ first_fault bytes.now }
         ensures within { IfSome result (λ f. f.0 < length bytes.now) }
     {
-        if let Some(error) = front_fault(bytes) {
+        if let Some(error) = first_byte_fault(bytes) {
             return Some((0, URIReferenceError::Path(error)));
         }
         match URIReference::check(bytes) {

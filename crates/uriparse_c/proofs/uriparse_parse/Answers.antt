@@ -17,9 +17,11 @@ returns-in-Ok-clause-parsed c p s =
     let one = read_one c.args.text.now p _ s c.in-Ok.ensures.is_read in
     let authority = ap (λ (q : Parts). q.authority) one in (
       refl,
-      places_of c.args.text.now p s c.places.result c.places.ensures.places,
-      c.places.ensures.kind ∙ ap host_number authority,
-      c.places.ensures.port ∙ ap port_number authority,
+      (
+        places_of c.args.text.now p s c.places.result c.places.ensures.places,
+        c.places.ensures.kind ∙ ap host_number authority,
+        c.places.ensures.port ∙ ap port_number authority,
+      ),
     )
 
 pub returns-in-Ok-clause-refused : goal.returns-in-Ok-clause-refused

@@ -1,5 +1,5 @@
 -- How long the components of a text are together.
-use Rattle.std.proofs.Common.{◌≡◌, ℕ, ◌+◌, ◌≤◌, List, [], ◌∷◌, ◌++◌, length, drop, take, Option, Some, None, refl, sym, ap, ◌∙◌, arith}
+use Rattle.std.proofs.Common.{◌≡◌, ℕ, ◌+◌, ◌-◌, ◌≤◌, List, [], ◌∷◌, ◌++◌, length, drop, take, Option, Some, None, refl, sym, ap, ◌∙◌, arith}
 use Rattle.std.specs.Prelude.{unwrap_or}
 use Rattle.std.proofs.lemmas.List.{length-append}
 use Rattle.std.proofs.Math.Seq.{drop-append_seam, take-append_seam}
@@ -32,7 +32,7 @@ pub after_size : (m n : ℕ) (o : Option (List ℕ)) → length (following m o) 
 after_size m n None = refl
 after_size m n (Some t) = refl
 
-pub ahead_after : (o : Option (List ℕ)) → length (following colon o) ≡ length (ahead colon o)
+ahead_after : (o : Option (List ℕ)) → length (following colon o) ≡ length (ahead colon o)
 ahead_after None = refl
 ahead_after (Some t) = let whole = length-append t (colon ∷ []) in omega arith
 
@@ -40,7 +40,7 @@ pub slashes_size : (o : Option (List ℕ)) → length (unwrap_or o []) ≤ lengt
 slashes_size None = omega arith
 slashes_size (Some t) = omega arith
 
-pub sizes : (t : List ℕ) → length t ≡ length (ahead colon (scheme_text t)) + (length (after_slashes (authority_text t)) + (length (path_text t)
+sizes : (t : List ℕ) → length t ≡ length (ahead colon (scheme_text t)) + (length (after_slashes (authority_text t)) + (length (path_text t)
     + (length (following question_mark (query_text t)) + length (following number_sign (fragment_text t)))))
 sizes t =
     let s = ahead colon (scheme_text t) in
@@ -59,12 +59,35 @@ after_front t =
     let rest = after_slashes (authority_text t) ++ (path_text t ++ (following question_mark (query_text t) ++ following number_sign (fragment_text t))) in
     ap (drop (length (ahead colon (scheme_text t)))) (whole_is t) ∙ drop-append_seam (ahead colon (scheme_text t)) rest
 
+-- The lengths of a text's scheme and query, each with its delimiter, and of its path; f is that of its fragment.
+pub record AreSizes (t : List ℕ) (s p q f : ℕ) : Type 0 where
+  pub scheme : s ≡ length (ahead colon (scheme_text t))
+  pub path : p ≡ length (path_text t)
+  pub query : q ≡ length (following question_mark (query_text t))
+  pub whole : length t ≡ s + (length (after_slashes (authority_text t)) + (p + (q + f)))
+
+-- as they are found
+pub sizes_of : (t x : List ℕ) (s q f : Option (List ℕ)) (n m k : ℕ) → s ≡ scheme_text t → x ≡ path_text t → q ≡ query_text t → f ≡ fragment_text t
+    → n ≡ length (following colon s) → m ≡ length (following colon q) → k ≡ length (following colon f) → AreSizes t n (length x) m k
+sizes_of t x s q f n m k is_scheme is_path is_query is_fragment at_scheme at_query at_fragment =
+    let scheme : n ≡ length (ahead colon (scheme_text t)) = at_scheme ∙ ap (λ o. length (following colon o)) is_scheme ∙ ahead_after (scheme_text t) in
+    let path : length x ≡ length (path_text t) = ap length is_path in
+    let query : m ≡ length (following question_mark (query_text t)) =
+    at_query ∙ ap (λ o. length (following colon o)) is_query ∙ after_size colon question_mark (query_text t) in
+    let fragment : k ≡ length (following number_sign (fragment_text t)) =
+    at_fragment ∙ ap (λ o. length (following colon o)) is_fragment ∙ after_size colon number_sign (fragment_text t) in
+    let whole = sizes t in
+    record { scheme = scheme; path = path; query = query; whole = omega (arith, scheme, path, query, fragment, whole) }
+
 -- between the scheme and the path is the authority with its slashes
-pub between : (t : List ℕ) (b n : ℕ) → b ≡ length (ahead colon (scheme_text t)) → n ≡ length (after_slashes (authority_text t))
-    → take n (drop b t) ≡ after_slashes (authority_text t)
-between t b n f g =
+pub between : (t : List ℕ) (s p q f : ℕ) → AreSizes t s p q f → take (length t - f - q - p - s) (drop s t) ≡ after_slashes (authority_text t)
+between t s p q f sizes =
     let rest = path_text t ++ (following question_mark (query_text t) ++ following number_sign (fragment_text t)) in
-    ap (λ x. take n (drop x t)) f ∙ ap (take n) (after_front t) ∙ ap (λ x. take x (after_slashes (authority_text t) ++ rest)) g
+    let whole = sizes.whole in
+    let many : length t - f - q - p - s ≡ length (after_slashes (authority_text t)) = omega (arith, whole) in
+    ap (λ x. take (length t - f - q - p - s) (drop x t)) sizes.scheme
+    ∙ ap (take (length t - f - q - p - s)) (after_front t)
+    ∙ ap (λ x. take x (after_slashes (authority_text t) ++ rest)) many
     ∙ take-append_seam (after_slashes (authority_text t)) rest
 
 abbrev span_from : ℕ → ℕ → UriSpan

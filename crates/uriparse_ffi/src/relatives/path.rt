@@ -1,12 +1,12 @@
 //! The path that leads from a base's path to another one, by a walk over their texts: RFC 3986,
 //! sections 4.2 and 5.2.
-ghost use Rattle.std.specs.Prelude.{◌≡◌, ◌==◌, ◌&&◌, ℕ, List, ◌+◌, ◌<◌, ◌++◌, IfSome, MatchOption, None, Some, is_some, length, nat_lt};
+ghost use Rattle.std.specs.Prelude.{◌≡◌, ◌==◌, ◌&&◌, ℕ, List, ◌+◌, ◌<◌, ◌++◌, IfSome, MatchOption, is_some, length, nat_lt};
 ghost use Rattle.std.specs.List.{slice_split};
 ghost use Rattle.std.specs.Option.{option_copied};
 ghost use Rattle.uriparse_text.specs.Cuts.{from_first, part};
 ghost use Rattle.uriparse_text.specs.Ends.{EndsWith, Puts};
 ghost use Rattle.uriparse_path.specs.Dots as dots;
-ghost use Rattle.uriparse_path.specs.Path.{IsPath, PathParts, is_rooted, is_slash, max_segments, spelled, text, unrooted};
+ghost use Rattle.uriparse_path.specs.Path.{IsPath, is_rooted, is_slash, max_segments, spelled, unrooted};
 ghost use Rattle.uriparse_path.specs.Relate as relate;
 ghost use Rattle.uriparse_path.specs.Relative.{is_first};
 ghost use Rattle.uriparse_path.specs.Remaining.{with_parent_steps};
@@ -194,7 +194,7 @@ fn needs_dot(parents: usize, text: &[u8]) -> bool
 fn leading<'t>(base: &[u8], target: &'t [u8]) -> Option<PathText<'t>>
     requires base { IsPath base.now }
     requires target { IsPath target.now }
-    ensures { MatchOption result (relate.leading (spelled base.now) (spelled target.now) ≡ None) (λ l. (p : PathParts) × (relate.leading (spelled base.now) (spelled target.now) ≡ Some p) × (spec.path_text l ≡ text p)) }
+    ensures { spec.IsOfPath result (relate.leading (spelled base.now) (spelled target.now)) }
 {
     if !may_lead(base, target) {
         return None;
@@ -226,7 +226,7 @@ fn stands_alone(path: &[u8]) -> bool
 pub(super) fn inner<'t>(base: &[u8], target: &'t [u8]) -> Option<PathText<'t>>
     requires base { IsPath base.now }
     requires target { IsPath target.now }
-    ensures { MatchOption result (reference.inner (spelled base.now) (spelled target.now) ≡ None) (λ l. (p : PathParts) × (reference.inner (spelled base.now) (spelled target.now) ≡ Some p) × (spec.path_text l ≡ text p)) }
+    ensures { spec.IsOfPath result (reference.inner (spelled base.now) (spelled target.now)) }
 {
     if let Some(path) = leading(base, target) {
         return Some(path);

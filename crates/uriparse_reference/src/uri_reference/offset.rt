@@ -35,7 +35,7 @@ fn may_come_first(b: u8, after: &[u8]) -> bool
 /// The fault of a text that is wrong at its first byte, which is found before the search for a scheme
 /// walks the text. Neither a scheme nor an authority begins with such a byte, so it is the first of
 /// the path, and the first fault is there whatever follows.
-pub(super) fn front_fault(text: &[u8]) -> Option<PathError>
+pub(super) fn first_byte_fault(text: &[u8]) -> Option<PathError>
     ensures offset { IfSome result (λ e. spec.first_fault text.now ≡ Some (0, errors.Path e)) }
     ensures some { IfSome result (λ _. 0 < length text.now) }
 {

@@ -64,7 +64,7 @@ pub(super) fn split_authority(text: &[u8]) -> (Option<&[u8]>, &[u8])
 
 /// Finds the authority after two leading slashes, and what follows it; or none, and the whole text.
 #[inline(always)]
-fn find_front(text: &[u8]) -> Result<(Option<FoundAuthority<'_>>, &[u8]), URIReferenceError>
+fn find_authority_if(text: &[u8]) -> Result<(Option<FoundAuthority<'_>>, &[u8]), URIReferenceError>
     ensures { MatchResult result (λ r. (front_reading text.now ≡ Ok r.0) × (r.1.now ≡ without_authority text.now)) (λ e. front_reading text.now ≡ Err e) }
 {
     match after_two_slashes(text) {
@@ -183,7 +183,7 @@ pub fn find_pieces(text: &[u8]) -> Result<Pieces<'_>, URIReferenceError>
     ensures { MatchResult result (λ p. AreFound text.now p.scheme.now p.known p.authority p.tail.path.now p.tail.count p.tail.escaped p.tail.query p.tail.fragment) (λ e. reading text.now ≡ Err e) }
 {
     let cut = split_scheme(text);
-    let (authority, rest) = find_front(cut.rest)?;
+    let (authority, rest) = find_authority_if(cut.rest)?;
     let has_scheme = is_there(cut.scheme);
     let tail = find_tail(has_scheme, authority.is_some(), cut.has_colon_segment, rest)?;
     Ok(Pieces {

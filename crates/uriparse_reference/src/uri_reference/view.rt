@@ -23,7 +23,7 @@ use uriparse_text::query::Query;
 mod compare;
 pub(in crate::uri_reference) mod cuts;
 mod end;
-mod into;
+pub(crate) mod into;
 mod kind;
 mod normal;
 mod order;

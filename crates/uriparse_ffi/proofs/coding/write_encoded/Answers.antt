@@ -1,4 +1,4 @@
-use Rattle.std.proofs.Common.{◌≡◌, length, Some, None, refl, sym, subst, ◌∙◌, rules}
+use Rattle.std.proofs.Common.{◌≡◌, length, refl, sym, subst, ◌∙◌, rules}
 use Rattle.uriparse_text.specs.Coding.{encoded}
 use Rattle.uriparse_text.specs.Starts.{Writes}
 use Rattle.uriparse_ffi.proofs.lemmas.TextLemmas.{no_some, some_is}

@@ -24,7 +24,7 @@ use Rattle.uriparse_scheme.specs.Registered.{name_of}
 use Rattle.uriparse_path.specs.Path.{IsPath, pieces}
 use Rattle.uriparse_reference.specs.declared.uri_reference.error.URIReferenceError.{URIReferenceError}
 use Rattle.uriparse_reference.specs.declared.uri_reference.view.cuts.Cuts.{Cuts}
-use Rattle.uriparse_reference.specs.OwnedText.{AreCuts, IsFront, IsReference, front_at, gap, parts_in, parts_read, path_at, query_at, tail_at, viewed_in}
+use Rattle.uriparse_reference.specs.OwnedText.{AreCuts, IsAuthorityOf, IsReference, front_at, gap, parts_in, parts_read, path_at, query_at, tail_at, viewed_in}
 use Rattle.uriparse_reference.specs.Reading.{fault, parts_of}
 use Rattle.uriparse_reference.specs.Reference.{Parts, Spells, after_slashes, joined}
 use Rattle.uriparse_reference.specs.View.{AreFound}
@@ -41,17 +41,17 @@ up_to-all p t h = ap (up_to p) (sym (append-nil t)) ∙ up_to-append p t [] h �
 ends_nowhere : (t : List ℕ) (a : AuthorityParts) → authority.reading t ≡ Ok a → up_to ends_authority t ≡ t
 ends_nowhere t a h = up_to-all ends_authority t (authorities.spelled_lacks t a (authorities.found t a h))
 
-pub read_again : (front name : ℕ) (port : Option ℕ) (t : List ℕ) (a : Option AuthorityParts) → (front == 0) ≡ false → IsFront front name port t a
+pub read_again : (kind name : ℕ) (port : Option ℕ) (t : List ℕ) (a : Option AuthorityParts) → (kind == 0) ≡ false → IsAuthorityOf kind name port t a
     → (b : AuthorityParts) → authority.reading (up_to ends_authority t) ≡ Ok b → Some b ≡ a
-read_again front name port t None there is b h = absurd (false≢true (sym there ∙ is))
-read_again front name port t (Some a) there is b h =
+read_again kind name port t None there is b h = absurd (false≢true (sym there ∙ is))
+read_again kind name port t (Some a) there is b h =
     let same : ◌≡◌ {A = Result AuthorityParts AuthorityError} (Ok b) (Ok a) = sym h ∙ ap authority.reading (ends_nowhere t a is.1) ∙ is.1 in
     cc
 
-pub never_fails : {A : Type 0} (front name : ℕ) (port : Option ℕ) (t : List ℕ) (a : Option AuthorityParts) → (front == 0) ≡ false → IsFront front name port t a
+pub never_fails : {A : Type 0} (kind name : ℕ) (port : Option ℕ) (t : List ℕ) (a : Option AuthorityParts) → (kind == 0) ≡ false → IsAuthorityOf kind name port t a
     → (e : AuthorityError) → authority.reading (up_to ends_authority t) ≡ Err e → A
-never_fails front name port t None there is e h = absurd (false≢true (sym there ∙ is))
-never_fails front name port t (Some a) there is e h =
+never_fails kind name port t None there is e h = absurd (false≢true (sym there ∙ is))
+never_fails kind name port t (Some a) there is e h =
     let same : ◌≡◌ {A = Result AuthorityParts AuthorityError} (Err e) (Ok a) = sym h ∙ ap authority.reading (ends_nowhere t a is.1) ∙ is.1 in
     absurd (cc)
 
@@ -160,13 +160,13 @@ pub cuts_are : (t s : List ℕ) (k : Option RegisteredScheme) (a : Option Author
     → AreFound t s k a h m e q f
     → (has_query query_len : ℕ) → AreWords class.Query case.Kept has_query query_len q
     → (has_fragment fragment_len : ℕ) → AreWords class.Query case.Kept has_fragment fragment_len f
-    → (front name : ℕ) (port : Option ℕ) → ((x : List ℕ) → IfSome a (λ p. authority.reading x ≡ Ok p) → IsFront front name port x a)
+    → (kind name : ℕ) (port : Option ℕ) → ((x : List ℕ) → IfSome a (λ p. authority.reading x ≡ Ok p) → IsAuthorityOf kind name port x a)
     → (c : Cuts) → c.fragment ≡ cond (has_fragment == 0) (length t) (length t - fragment_len - 1)
     → c.query ≡ cond (has_query == 0) c.fragment (c.fragment - query_len - 1) → c.path ≡ c.query - length h → c.scheme ≡ length s → c.count ≡ m
-    → c.name ≡ name → c.port ≡ port → c.known ≡ k → c.front ≡ front → c.has_query ≡ has_query → c.has_fragment ≡ has_fragment
+    → c.name ≡ name → c.port ≡ port → c.known ≡ k → c.authority_kind ≡ kind → c.has_query ≡ has_query → c.has_fragment ≡ has_fragment
     → (c.escaped ≡ 0 → e ≡ 0) → AreCuts t c
-cuts_are t s k a h m e q f are has_query query_len query_words has_fragment fragment_len fragment_words front name port at_front c fragment_is query_is
-    path_is scheme_is count_is name_is port_is known_is front_is has_query_is has_fragment_is escaped_is =
+cuts_are t s k a h m e q f are has_query query_len query_words has_fragment fragment_len fragment_words kind name port at_authority c fragment_is query_is
+    path_is scheme_is count_is name_is port_is known_is kind_is has_query_is has_fragment_is escaped_is =
     let p = parts_of t a h q f in
     let spelled : Spells t p = found t p are.is_read in
     let cut = cut_again t spelled.scheme_text spelled.authority_text spelled.path_text q f (spelled_pieces t p spelled) spelled.whole in
@@ -206,11 +206,11 @@ cuts_are t s k a h m e q f are has_query query_len query_words has_fragment frag
     let kept_fragment : IsValidText class.Query case.Kept (c.has_fragment == 2) (drop 1 (tail_at c t)) =
     subst (λ u. IsValidText class.Query case.Kept (c.has_fragment == 2) u) (sym fragment_bytes)
     (subst (λ n. IsValidText class.Query case.Kept (n == 2) (unwrap_or f [])) (sym has_fragment_is) fragment_words.is_valid_text) in
-    let front_again : IsFront c.front c.name c.port (drop (gap c.scheme) (drop c.scheme (front_at c t))) a =
-    subst (λ n. IsFront n c.name c.port (drop (gap c.scheme) (drop c.scheme (front_at c t))) a) (sym front_is)
-    (subst (λ n. IsFront front n c.port (drop (gap c.scheme) (drop c.scheme (front_at c t))) a) (sym name_is)
-    (subst (λ o. IsFront front name o (drop (gap c.scheme) (drop c.scheme (front_at c t))) a) (sym port_is)
-    (subst (λ u. IsFront front name port u a) (sym authority_again) (at_front (unwrap_or own []) (authority_read own a spelled.is_authority))))) in
+    let kept_authority : IsAuthorityOf c.authority_kind c.name c.port (drop (gap c.scheme) (drop c.scheme (front_at c t))) a =
+    subst (λ n. IsAuthorityOf n c.name c.port (drop (gap c.scheme) (drop c.scheme (front_at c t))) a) (sym kind_is)
+    (subst (λ n. IsAuthorityOf kind n c.port (drop (gap c.scheme) (drop c.scheme (front_at c t))) a) (sym name_is)
+    (subst (λ o. IsAuthorityOf kind name o (drop (gap c.scheme) (drop c.scheme (front_at c t))) a) (sym port_is)
+    (subst (λ u. IsAuthorityOf kind name port u a) (sym authority_again) (at_authority (unwrap_or own []) (authority_read own a spelled.is_authority))))) in
     record {
       authority = a;
       is_found =
@@ -225,7 +225,7 @@ cuts_are t s k a h m e q f are has_query query_len query_words has_fragment frag
             is_read = are.is_read ∙ ap Ok (ap (λ u. parts_of t a u q f) (sym path_again) ∙ ap (λ o. parts_of t a (path_at c t) o f) (sym query_again)
                 ∙ ap (λ o. parts_of t a (path_at c t) (if_there c.has_query (drop 1 (query_at c t))) o) (sym fragment_again));
           };
-      is_front = front_again;
+      is_authority = kept_authority;
       is_query = kept_query;
       is_fragment = kept_fragment;
       fragment_within = omega (arith, fragment_at, long);

@@ -23,7 +23,7 @@ use Rattle.uriparse_scheme.specs.declared.scheme.Scheme.{Scheme}
 use Rattle.uriparse_scheme.specs.Scheme as scheme
 use Rattle.uriparse_scheme.specs.Normal.{canonical_scheme}
 use Rattle.uriparse_scheme.proofs.lemmas.schemes.NormalLemmas.{text-canonical}
-use Rattle.uriparse_reference.specs.Reference.{Parts, Valid, after_slashes, print}
+use Rattle.uriparse_reference.specs.Reference.{Parts, Valid, after_slashes, joined, print}
 use Rattle.uriparse_reference.specs.Normal.{normal, dot_prefixed}
 use Rattle.uriparse_reference.specs.Into.{formed_scheme}
 use Rattle.uriparse_reference.proofs.lemmas.edits.PathRuleLemmas.{fits_of}
@@ -80,10 +80,14 @@ normal_path p context v e f =
     ∙ ap text (shielded_unless p.authority (pnormal p.path (is_none p.scheme)))
 
 -- the texts of the components, put together
+abbrev pub put : Option Scheme → Option AuthorityParts → List ℕ → Option (List ℕ) → Option (List ℕ) → List ℕ
+put s a x q f =
+    (ahead colon (option_map scheme.text s) ++ after_slashes (option_map print_authority a)) ++ (x ++ (following question_mark q ++ following number_sign f))
+
+-- as they are, or in canonical spelling
 abbrev pub put_text : Form → Option Scheme → Option AuthorityParts → List ℕ → Option (List ℕ) → Option (List ℕ) → List ℕ
 put_text form s a x q f =
-    (ahead colon (option_map scheme.text (option_map (formed_scheme form) s)) ++ after_slashes (option_map print_authority (option_map (formed_authority form) a)))
-    ++ (x ++ (following question_mark (option_map (formed form Kept) q) ++ following number_sign (option_map (formed form Kept) f)))
+    put (option_map (formed_scheme form) s) (option_map (formed_authority form) a) x (option_map (formed form Kept) q) (option_map (formed form Kept) f)
 
 -- those of a reference
 pub same_text : (form : Form) (p : Parts) (s : Option Scheme) (a : Option AuthorityParts) (x y : List ℕ) (q f : Option (List ℕ)) → s ≡ p.scheme
@@ -101,17 +105,11 @@ normal_text p =
     (after_slashes (option_map print_authority (option_map canonical_authority p.authority)))
     (text (normal p).path ++ (following question_mark (option_map canonical p.query) ++ following number_sign (option_map canonical p.fragment)))
 
-pub printed_text : (p : Parts) → put_text AsIs p.scheme p.authority (text p.path) p.query p.fragment ≡ print p
-printed_text p =
-    ap (λ u. (ahead colon (option_map scheme.text u) ++ after_slashes (option_map print_authority (option_map (formed_authority AsIs) p.authority)))
-    ++ (text p.path ++ (following question_mark (option_map (formed AsIs Kept) p.query) ++ following number_sign (option_map (formed AsIs Kept) p.fragment))))
-    (scheme_as_is p.scheme)
-    ∙ ap (λ u. (ahead colon (option_map scheme.text p.scheme) ++ after_slashes (option_map print_authority u))
-    ++ (text p.path ++ (following question_mark (option_map (formed AsIs Kept) p.query) ++ following number_sign (option_map (formed AsIs Kept) p.fragment))))
-    (authority_as_is p.authority)
-    ∙ ap (λ u. (ahead colon (option_map scheme.text p.scheme) ++ after_slashes (option_map print_authority p.authority))
-    ++ (text p.path ++ (following question_mark u ++ following number_sign (option_map (formed AsIs Kept) p.fragment)))) (as_is p.query)
-    ∙ ap (λ u. (ahead colon (option_map scheme.text p.scheme) ++ after_slashes (option_map print_authority p.authority))
-    ++ (text p.path ++ (following question_mark p.query ++ following number_sign u))) (as_is p.fragment)
-    ∙ append_assoc (ahead colon (option_map scheme.text p.scheme)) (after_slashes (option_map print_authority p.authority))
-    (text p.path ++ (following question_mark p.query ++ following number_sign p.fragment))
+pub joined_text : (s : Option Scheme) (a : Option AuthorityParts) (x : List ℕ) (q f : Option (List ℕ))
+    → put_text AsIs s a x q f ≡ joined (option_map scheme.text s) (option_map print_authority a) x q f
+joined_text s a x q f =
+    ap (λ u. put u (option_map (formed_authority AsIs) a) x (option_map (formed AsIs Kept) q) (option_map (formed AsIs Kept) f)) (scheme_as_is s)
+    ∙ ap (λ u. put s u x (option_map (formed AsIs Kept) q) (option_map (formed AsIs Kept) f)) (authority_as_is a)
+    ∙ ap (λ u. put s a x u (option_map (formed AsIs Kept) f)) (as_is q)
+    ∙ ap (put s a x q) (as_is f)
+    ∙ append_assoc (ahead colon (option_map scheme.text s)) (after_slashes (option_map print_authority a)) (x ++ (following question_mark q ++ following number_sign f))

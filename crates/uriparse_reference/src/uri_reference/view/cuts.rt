@@ -2,7 +2,7 @@
 //! viewed again without reading it: RFC 3986, sections 3 and 4.1.
 ghost use Rattle.std.specs.Prelude.{◌≡◌, ◌-◌, ◌==◌, ℕ, IfSome, List, Ok, Option, drop, if◌then◌else◌};
 ghost use Rattle.uriparse_authority.specs.Authority as authority;
-ghost use Rattle.uriparse_reference.specs.OwnedText.{AreCuts, IsFront, viewed_in};
+ghost use Rattle.uriparse_reference.specs.OwnedText.{AreCuts, IsAuthorityOf, viewed_in};
 
 use super::super::read::{FoundTail, Pieces};
 use super::ReferenceView;
@@ -29,7 +29,7 @@ pub(in crate::uri_reference) struct Cuts {
     known: Option<RegisteredScheme>,
     /// What the authority is: 0 none, 1 a name and at most a port, 2 the same and the name is
     /// canonical, 3 one that is to be read again, because it has user information or an address.
-    front: u8,
+    authority_kind: u8,
     has_query: u8,
     has_fragment: u8,
     escaped: u8,
@@ -61,8 +61,8 @@ fn gap(scheme: u32) -> usize
 
 /// What [`Cuts::authority`] finds the authority by.
 #[inline(always)]
-fn front_words(found: &Option<FoundAuthority<'_>>) -> (u8, usize, Option<u16>)
-    ensures { (text : List ℕ) → IfSome found.now (λ a. authority.reading text ≡ Ok a) → IsFront result.0 result.1 result.2 text found.now }
+fn authority_words(found: &Option<FoundAuthority<'_>>) -> (u8, usize, Option<u16>)
+    ensures { (text : List ℕ) → IfSome found.now (λ a. authority.reading text ≡ Ok a) → IsAuthorityOf result.0 result.1 result.2 text found.now }
 {
     let Some(found) = found else {
         return (0, 0, None);
@@ -78,20 +78,20 @@ impl Cuts {
     /// is read.
     #[inline(always)]
     fn authority<'t>(&self, text: &'t [u8]) -> Option<FoundAuthority<'t>>
-        requires { (a : Option authority.AuthorityParts) × IsFront self.now.front self.now.name self.now.port text.now a }
-        ensures { (a : Option authority.AuthorityParts) → IsFront self.now.front self.now.name self.now.port text.now a → result ≡ a }
+        requires { (a : Option authority.AuthorityParts) × IsAuthorityOf self.now.authority_kind self.now.name self.now.port text.now a }
+        ensures { (a : Option authority.AuthorityParts) → IsAuthorityOf self.now.authority_kind self.now.name self.now.port text.now a → result ≡ a }
     {
-        if self.front == 0 {
+        if self.authority_kind == 0 {
             return None;
         }
-        if self.front == 3 {
+        if self.authority_kind == 3 {
             return match find_authority(text) {
                 Ok((found, _)) => Some(found),
                 Err(_) => None,
             };
         }
         let name = &text[..self.name as usize];
-        Some(found_named(name, self.front == 2, self.port))
+        Some(found_named(name, self.authority_kind == 2, self.port))
     }
 
     /// The view of the text. No byte is read, but for an authority with user information or an
@@ -131,7 +131,7 @@ impl<'t> ReferenceView<'t> {
         let tail = &self.pieces.tail;
         let (has_query, query_len) = tail.query.words();
         let (has_fragment, fragment_len) = tail.fragment.words();
-        let (front, name, port) = front_words(&self.pieces.authority);
+        let (authority_kind, name, port) = authority_words(&self.pieces.authority);
         let fragment = start_of(has_fragment, fragment_len, self.text.len());
         let query = start_of(has_query, query_len, fragment);
         Some(Cuts {
@@ -143,7 +143,7 @@ impl<'t> ReferenceView<'t> {
             name: narrow(name)?,
             port,
             known: self.pieces.known,
-            front,
+            authority_kind,
             has_query,
             has_fragment,
             escaped: u8::from(tail.escaped != 0),

@@ -17,7 +17,7 @@ use uriparse_text::query::Query;
 
 impl<'t> ReferenceView<'t> {
     /// What precedes the query and the fragment.
-    fn front(&self) -> &'t [u8]
+    fn without_end(&self) -> &'t [u8]
         ensures { result.now ≡ with_end self.now.text None None }
     {
         let text = self.as_str().as_bytes();
@@ -47,7 +47,7 @@ impl<'t> ReferenceView<'t> {
         ensures ends { EndsWith out.new result (with_end self.now.text query.now fragment.now) }
     {
         let len = put_query_and_fragment(Form::AsIs, query, fragment, out);
-        put(self.front(), out, len)
+        put(self.without_end(), out, len)
     }
 
     /// The length of the text with this query and this fragment, or the largest number.

@@ -1,4 +1,5 @@
-//! The text of a reference's normal form in a buffer of the caller: RFC 3986, section 6.2.2.
+//! The components of a reference, each with its delimiter, and the text of its normal form in a
+//! buffer of the caller: RFC 3986, sections 5.3 and 6.2.2.
 ghost use Rattle.std.specs.Prelude.{◌≡◌, ℕ, ◌≤◌, List, ◌++◌, MatchOption, length};
 ghost use Rattle.std.specs.Option.{option_map};
 ghost use Rattle.uriparse_text.specs.declared.internal.case.Case.TheVariants as case;
@@ -21,7 +22,7 @@ use uriparse_text::query::Query;
 
 /// Puts the query and the fragment, each with its delimiter, if present, at the end of the buffer.
 /// Returns their length. If there is no room, only the length is counted.
-pub(super) fn put_query_and_fragment(
+pub fn put_query_and_fragment(
     form: Form,
     query: &Option<Query<'_>>,
     fragment: &Option<Fragment<'_>>,
@@ -63,7 +64,7 @@ fn put_scheme(form: Form, scheme: &Option<Scheme<'_>>, out: &mut [u8], len: usiz
 }
 
 /// Puts the scheme and the authority, each with its delimiter, if present.
-pub(super) fn put_scheme_and_authority(
+pub fn put_scheme_and_authority(
     form: Form,
     scheme: &Option<Scheme<'_>>,
     authority: &Option<Authority<'_>>,

@@ -134,17 +134,21 @@ impl<'t> ReferenceView<'t> {
 
     /// Puts the scheme and the authority, each with its delimiter, if present.
     #[inline(always)]
-    fn put_own_front(&self, out: &mut [u8], len: usize) -> usize
+    fn put_own_scheme_and_authority(&self, out: &mut [u8], len: usize) -> usize
         ensures room { length out.new ≡ length out.old }
         ensures puts { Puts (spec.scheme_front AsIs self.now.parts.scheme ++ spec.authority_front AsIs self.now.parts.authority) out.old len out.new result }
     {
         put_scheme_and_authority(Form::AsIs, &self.scheme(), &self.authority(), out, len)
     }
 
-    /// Puts the scheme of this base and the authority of a reference, each with its delimiter, if
-    /// present.
+    /// Puts this scheme and the authority of `reference`, each with its delimiter, if present.
     #[inline(always)]
-    fn put_merged_front(&self, reference: &ReferenceView<'_>, out: &mut [u8], len: usize) -> usize
+    fn put_scheme_with_authority_of(
+        &self,
+        reference: &ReferenceView<'_>,
+        out: &mut [u8],
+        len: usize,
+    ) -> usize
         ensures room { length out.new ≡ length out.old }
         ensures puts { Puts (spec.scheme_front AsIs self.now.parts.scheme ++ spec.authority_front AsIs reference.now.parts.authority) out.old len out.new result }
     {
@@ -160,14 +164,14 @@ impl<'t> ReferenceView<'t> {
     {
         if reference.has_scheme() {
             let len = reference.put_own_tail(reference.has_authority(), out);
-            return reference.put_own_front(out, len);
+            return reference.put_own_scheme_and_authority(out, len);
         }
         if reference.has_authority() {
             let len = reference.put_own_tail(true, out);
-            return self.put_merged_front(reference, out, len);
+            return self.put_scheme_with_authority_of(reference, out, len);
         }
         let len = self.put_inherited_tail(reference, out);
-        self.put_own_front(out, len)
+        self.put_own_scheme_and_authority(out, len)
     }
 
     /// The number of bytes of the texts that the target is put together from: those of the reference,

@@ -18,9 +18,9 @@ returns c =
       fragment = c.in_ok-narrow-4.field-0;
       count = c.in_ok-narrow-5.field-0;
       name = c.in_ok-narrow-6.field-0;
-      port = c.front_words-front.result.2;
+      port = c.authority_words-authority_kind.result.2;
       known = c.self.inside.pieces.known;
-      front = c.front_words-front.result.0;
+      authority_kind = c.authority_words-authority_kind.result.0;
       has_query = c.words-has_query.result.0;
       has_fragment = c.words-has_fragment.result.0;
       escaped = c.from.result;
@@ -30,11 +30,11 @@ returns c =
     let path : cuts.path ≡ cuts.query - length tail.path.now = search rules in
     let scheme : cuts.scheme ≡ length inside.pieces.scheme.now = search rules in
     let count : cuts.count ≡ tail.count = search rules in
-    let name : cuts.name ≡ c.front_words-front.result.1 = search rules in
+    let name : cuts.name ≡ c.authority_words-authority_kind.result.1 = search rules in
     let escaped : cuts.escaped ≡ 0 → tail.escaped ≡ 0 = search rules in
     let are : AreCuts inside.text.now cuts =
     cuts_are inside.text.now inside.pieces.scheme.now inside.pieces.known inside.pieces.authority tail.path.now tail.count tail.escaped tail.query tail.fragment
     c.self.invariant has_query c.words-has_query.result.1 c.words-has_query.ensures has_fragment c.words-has_fragment.result.1
-    c.words-has_fragment.ensures c.front_words-front.result.0 c.front_words-front.result.1 c.front_words-front.result.2 c.front_words-front.ensures cuts
+    c.words-has_fragment.ensures c.authority_words-authority_kind.result.0 c.authority_words-authority_kind.result.1 c.authority_words-authority_kind.result.2 c.authority_words-authority_kind.ensures cuts
     fragment query path scheme count name refl refl refl refl refl escaped in
     search rules

@@ -6,24 +6,24 @@ use Rattle.uriparse_reference.proofs.uri_reference.view.ReferenceView.put_target
 pub returns-then-has_scheme-clause-ends : goal.returns-then-has_scheme-clause-ends
 returns-then-has_scheme-clause-ends c =
     let r = c.args.reference.now.parts in
-    subst (EndsWith c.put_own_front.new.out c.put_own_front.result)
+    subst (EndsWith c.put_own_scheme_and_authority.new.out c.put_own_scheme_and_authority.result)
     (scheme_target c.args.self.now.parts r c.has_authority.result r.scheme r.authority (sym c.has_scheme.ensures ∙ c.if-has_scheme.true)
     c.has_authority.ensures refl refl)
-    (c.put_own_front.ensures.puts _ c.put_own_tail-len.ensures.ends)
+    (c.put_own_scheme_and_authority.ensures.puts _ c.put_own_tail-len.ensures.ends)
 
 pub returns-then-has_authority-clause-ends : goal.returns-then-has_authority-clause-ends
 returns-then-has_authority-clause-ends c =
     let p = c.args.self.now.parts in
     let r = c.args.reference.now.parts in
-    subst (EndsWith c.put_merged_front.new.out c.put_merged_front.result)
+    subst (EndsWith c.put_scheme_with_authority_of.new.out c.put_scheme_with_authority_of.result)
     (authority_target p r p.scheme r.authority (sym c.has_scheme.ensures ∙ c.if-has_scheme.false)
     (sym c.has_authority-2.ensures ∙ c.if-has_authority.true) refl refl)
-    (c.put_merged_front.ensures.puts _ c.put_own_tail-len-then-has_authority.ensures.ends)
+    (c.put_scheme_with_authority_of.ensures.puts _ c.put_own_tail-len-then-has_authority.ensures.ends)
 
 pub returns-clause-ends : goal.returns-clause-ends
 returns-clause-ends c =
     let p = c.args.self.now.parts in
-    subst (EndsWith c.put_own_front-2.new.out c.put_own_front-2.result)
+    subst (EndsWith c.put_own_scheme_and_authority-2.new.out c.put_own_scheme_and_authority-2.result)
     (inherited_target p c.args.reference.now.parts p.scheme p.authority (sym c.has_scheme.ensures ∙ c.if-has_scheme.false)
     (sym c.has_authority-2.ensures ∙ c.if-has_authority.false) refl refl c.requires)
-    (c.put_own_front-2.ensures.puts _ c.put_inherited_tail-len.ensures.ends)
+    (c.put_own_scheme_and_authority-2.ensures.puts _ c.put_inherited_tail-len.ensures.ends)

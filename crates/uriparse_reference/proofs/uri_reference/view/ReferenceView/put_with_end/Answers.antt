@@ -6,5 +6,5 @@ use Rattle.uriparse_reference.proofs.uri_reference.view.ReferenceView.put_with_e
 pub returns-clause-ends : goal.returns-clause-ends
 returns-clause-ends c =
     subst (EndsWith c.put.new.out c.put.result)
-    (put_whole c.args.self.now.text c.front.result.now c.args.query.now c.args.fragment.now c.front.ensures)
+    (put_whole c.args.self.now.text c.without_end.result.now c.args.query.now c.args.fragment.now c.without_end.ensures)
     (c.put.ensures.puts _ c.put_query_and_fragment-len.ensures.ends)

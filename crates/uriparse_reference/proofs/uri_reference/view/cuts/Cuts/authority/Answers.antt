@@ -4,10 +4,10 @@ use Rattle.uriparse_reference.proofs.uri_reference.view.cuts.Cuts.authority.Goal
 
 pub returns-in-Ok : goal.returns-in-Ok
 returns-in-Ok c = λ a is.
-    let there : (c.args.self.now.front == 0) ≡ false = search rules in
-    read_again c.args.self.now.front c.args.self.now.name c.args.self.now.port c.args.text.now a there is c.in-Ok.found c.in-Ok.ensures.0
+    let there : (c.args.self.now.authority_kind == 0) ≡ false = search rules in
+    read_again c.args.self.now.authority_kind c.args.self.now.name c.args.self.now.port c.args.text.now a there is c.in-Ok.found c.in-Ok.ensures.0
 
 pub returns-in-Err : goal.returns-in-Err
 returns-in-Err c = λ a is.
-    let there : (c.args.self.now.front == 0) ≡ false = search rules in
-    never_fails c.args.self.now.front c.args.self.now.name c.args.self.now.port c.args.text.now a there is c.in-Err.field-0 c.in-Err.ensures
+    let there : (c.args.self.now.authority_kind == 0) ≡ false = search rules in
+    never_fails c.args.self.now.authority_kind c.args.self.now.name c.args.self.now.port c.args.text.now a there is c.in-Err.field-0 c.in-Err.ensures

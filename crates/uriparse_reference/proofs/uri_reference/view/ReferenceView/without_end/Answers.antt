@@ -3,7 +3,7 @@ use Rattle.std.specs.Prelude.{None}
 use Rattle.uriparse_reference.specs.Reference.{Spells}
 use Rattle.uriparse_reference.specs.TextEdits.{with_end}
 use Rattle.uriparse_reference.proofs.lemmas.reading.TextEditLemmas.{front_cut}
-use Rattle.uriparse_reference.proofs.uri_reference.view.ReferenceView.front.Goals as goal
+use Rattle.uriparse_reference.proofs.uri_reference.view.ReferenceView.without_end.Goals as goal
 
 pub returns : goal.returns
 returns c =

@@ -1,6 +1,6 @@
 use Rattle.std.proofs.Common.{Ok, sym, ap, ◌∙◌}
 use Rattle.uriparse_ffi.proofs.lemmas.TextLemmas.{no_ok, no_relative, ok_is}
-use Rattle.uriparse_ffi.proofs.texts.view_base.Goals as goal
+use Rattle.uriparse_ffi.proofs.texts.view_uri.Goals as goal
 
 pub returns-then-has_scheme-clause-found : goal.returns-then-has_scheme-clause-found
 returns-then-has_scheme-clause-found c p s k = ap Ok (ok_is c.in-Ok.view _ (c.in-Ok.ensures.only p s))

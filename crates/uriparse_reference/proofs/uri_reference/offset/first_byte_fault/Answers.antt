@@ -7,7 +7,7 @@ use Rattle.uriparse_text.specs.Tokens.{is_escape}
 use Rattle.uriparse_reference.specs.declared.uri_reference.error.URIReferenceError.TheVariants as errors
 use Rattle.uriparse_reference.specs.Offset.{first_fault}
 use Rattle.uriparse_reference.proofs.lemmas.reading.FrontFaultLemmas.{front_first}
-use Rattle.uriparse_reference.proofs.uri_reference.offset.front_fault.Goals as goal
+use Rattle.uriparse_reference.proofs.uri_reference.offset.first_byte_fault.Goals as goal
 
 pub returns-in-false-clause-offset : goal.returns-in-false-clause-offset
 returns-in-false-clause-offset c =
