@@ -1,16 +1,17 @@
 //! Decoding texts to bytes, encoding bytes as texts, and escaping what a text may not have: RFC
 //! 3986, section 2.
-ghost use Rattle.std.specs.Prelude.{◌≡◌, ◌++◌, ◌||◌, ◌==◌, bytes_eq, not, IfOk, OnOk, true};
+ghost use Rattle.std.specs.Prelude.{◌≡◌, [], ◌∷◌, ◌++◌, ◌||◌, ◌==◌, bytes_eq, not, IfOk, IfSome, OnOk, true};
 ghost use Rattle.std.specs.Cmp.Lexicographic.{slice_cmp};
 ghost use Rattle.std.specs.Ordering.{nat_cmp};
 ghost use Rattle.uriparse_text.specs.Bytes.{is_among, percent, plus_sign};
 ghost use Rattle.uriparse_text.specs.Classes.{is_plain};
 ghost use Rattle.uriparse_text.specs.Coding.{are_bytes, decoded, encoded, encoded_without, escape_of, escaped_in, form_decoded, form_value_of, value_of};
-ghost use Rattle.uriparse_text.specs.Tokens.{has_digits};
+ghost use Rattle.uriparse_text.specs.declared.internal.token.Token.TheVariants.{Escape};
+ghost use Rattle.uriparse_text.specs.Tokens.{has_digits, is_escape};
 
 use super::alike::after_common;
 use super::class::{Class, Outside};
-use super::digit::{hex_value, upper_digit};
+use super::digit::{are_hex_digits, hex_value, upper_digit};
 use super::rewrite::{Rewriting, push_rewritten};
 use super::scan::{ByteTest, Is, next_marks};
 use super::token::{Token, begins_escape, first_token, split_token};
@@ -52,6 +53,18 @@ impl Token {
     }
 }
 
+/// The byte that an escape of these three bytes represents, if they are one.
+#[inline(always)]
+fn byte_of_escape(b: u8, high: u8, low: u8) -> Option<u8>
+    ensures { IfSome result (λ value. (is_escape b (high ∷ low ∷ []) ≡ true) × (value ≡ value_of (Escape high low))) }
+{
+    if b == b'%' && are_hex_digits(high, low) {
+        Some(16 * hex_value(high) + hex_value(low))
+    } else {
+        None
+    }
+}
+
 /// Decoding: an escape becomes the byte that it represents.
 #[derive(Clone, Copy, Debug)]
 pub(super) struct Decoding;
@@ -72,6 +85,11 @@ impl ByteTest for Decoding {
 
 impl Rewriting for Decoding {
     ghost rewritten = { λ _ text. decoded text };
+
+    #[inline(always)]
+    fn escaped_byte(&self, b: u8, high: u8, low: u8) -> Option<u8> {
+        byte_of_escape(b, high, low)
+    }
 
     #[inline(always)]
     fn token(&self, b: u8, after: &[u8]) -> (Token, usize) {
@@ -155,6 +173,11 @@ impl Rewriting for Encoding {
     ghost rewritten = { λ s bytes. encoded s.0 bytes };
 
     #[inline(always)]
+    fn escaped_byte(&self, _: u8, _: u8, _: u8) -> Option<u8> {
+        None
+    }
+
+    #[inline(always)]
     fn token(&self, b: u8, _: &[u8]) -> (Token, usize) {
         (Token::escaping(b), 0)
     }
@@ -195,6 +218,11 @@ impl ByteTest for FormDecoding {
 
 impl Rewriting for FormDecoding {
     ghost rewritten = { λ _ text. form_decoded text };
+
+    #[inline(always)]
+    fn escaped_byte(&self, b: u8, high: u8, low: u8) -> Option<u8> {
+        byte_of_escape(b, high, low)
+    }
 
     #[inline(always)]
     fn token(&self, b: u8, after: &[u8]) -> (Token, usize) {
@@ -238,6 +266,11 @@ impl<'w> Rewriting for EncodingWithout<'w> {
     ghost rewritten = { λ s bytes. encoded_without s.0 s.1.now bytes };
 
     #[inline(always)]
+    fn escaped_byte(&self, _: u8, _: u8, _: u8) -> Option<u8> {
+        None
+    }
+
+    #[inline(always)]
     fn token(&self, b: u8, _: &[u8]) -> (Token, usize) {
         (Token::escaping(b), 0)
     }
@@ -279,6 +312,11 @@ impl<'m> ByteTest for Escaping<'m> {
 
 impl<'m> Rewriting for Escaping<'m> {
     ghost rewritten = { λ s text. escaped_in s.0 s.1.now text };
+
+    #[inline(always)]
+    fn escaped_byte(&self, _: u8, _: u8, _: u8) -> Option<u8> {
+        None
+    }
 
     #[inline(always)]
     fn token(&self, b: u8, after: &[u8]) -> (Token, usize) {

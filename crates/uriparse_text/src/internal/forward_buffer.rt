@@ -101,6 +101,13 @@ pub(super) fn append_rewritten<R: Rewriting>(
     let mut rest = text;
     'pieces: while let Some((&b, after)) = rest.split_first() {
         if way.has(b) {
+            if let [high, low, later @ ..] = after {
+                if let Some(value) = way.escaped_byte(b, *high, *low) {
+                    total = append_byte(value, out, total);
+                    rest = later;
+                    continue;
+                }
+            }
             let (token, more) = way.token(b, after);
             total = append_token(token, out, total);
             rest = &after[more..];

@@ -1,6 +1,6 @@
 //! Texts that are rewritten in one walk, piece by piece: a run of bytes that stay, then a token that
 //! something is written for, and so on.
-ghost use Rattle.std.specs.Prelude.{◌≡◌, ◌≤◌, ◌++◌, ◌∷◌, ℕ, List, ◌<◌, OnOk, drop, false, length, slice_index, true};
+ghost use Rattle.std.specs.Prelude.{◌≡◌, ◌≤◌, ◌++◌, ◌∷◌, ℕ, List, ◌<◌, OnOk, drop, false, IfSome, length, slice_index, true};
 ghost use Rattle.std.specs.List.{position_or_len};
 ghost use Rattle.uriparse_text.specs.Cuts.{from_first, up_to};
 ghost use Rattle.uriparse_text.specs.Pieces.{Keeps};
@@ -13,6 +13,12 @@ use std::alloc::AllocError;
 /// A way to rewrite texts. The bytes that pass its test are looked at, and the others stay.
 pub(super) trait Rewriting: ByteTest {
     ghost rewritten: { Self → List ℕ → List ℕ };
+
+    /// The byte that is written for an escape of these three bytes, if they are one and that is a
+    /// single byte. The loops ask it first: what it writes is what `token` says, without the choice
+    /// between a byte and an escape.
+    fn escaped_byte(&self, b: u8, high: u8, low: u8) -> Option<u8>
+        ensures { IfSome result (λ value. (after : List ℕ) → rewritten self.now (b ∷ high ∷ low ∷ after) ≡ value ∷ rewritten self.now after) };
 
     /// What is written for the token that begins with a byte that passes, and how many of the bytes
     /// after it the token has.
@@ -99,6 +105,13 @@ pub(super) fn push_rewritten<R: Rewriting>(
     let mut rest = text;
     'pieces: while let Some((&b, after)) = rest.split_first() {
         if way.has(b) {
+            if let [high, low, later @ ..] = after {
+                if let Some(value) = way.escaped_byte(b, *high, *low) {
+                    bytes.push(value)?;
+                    rest = later;
+                    continue;
+                }
+            }
             let (token, more) = way.token(b, after);
             push_spelled(bytes, token)?;
             rest = &after[more..];

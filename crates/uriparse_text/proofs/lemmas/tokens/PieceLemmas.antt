@@ -1,6 +1,6 @@
 -- Texts that are rewritten piece by piece.
 use Rattle.std.proofs.Common.{◌≡◌, ℕ, suc, ◌+◌, ◌*◌, ◌<◌, ◌≤◌, Bool, true, false, cond, List, [], ◌∷◌, ◌++◌, map, length, length-append, get_or, take, drop, refl, sym, ap, ◌∙◌, arith}
-use Rattle.std.specs.Prelude.{◌==◌, ◌||◌, ◌&&◌, ◌/◌, ◌%◌, not}
+use Rattle.std.specs.Prelude.{◌==◌, ◌||◌, ◌&&◌, ◌/◌, ◌%◌, not, Option, Some, None, IfSome}
 use Rattle.std.proofs.lemmas.Bool.{and_from, false≢true, not-false, not-true, or_parts}
 use Rattle.std.specs.List.{flat_map}
 use Rattle.std.specs.Int.Bits.{bit_or}
@@ -19,10 +19,16 @@ use Rattle.uriparse_text.specs.Tokens.{is_escape, spell, tokens}
 use Rattle.uriparse_text.specs.Cuts.{up_to, from_first}
 use Rattle.uriparse_text.specs.Pieces.{Keeps}
 use Rattle.uriparse_text.proofs.lemmas.canonical.RunLemmas.{no_escape}
-use Rattle.uriparse_text.proofs.lemmas.tokens.CodingLemmas.{decoded-nil, decoded-byte, encoded-nil, form_decoded-nil, range_byte}
+use Rattle.uriparse_text.proofs.lemmas.tokens.CodingLemmas.{decoded-cons, decoded-nil, decoded-byte, encoded-nil, form_decoded-nil, range_byte}
 use Rattle.uriparse_text.proofs.lemmas.canonical.CanonicalPrefixLemmas.{masks_of_either}
 use Rattle.uriparse_text.proofs.lemmas.tokens.EscapingLemmas.{becomes, escape_digits, or_true, stay_digits, stays, stays_allowed, stays_escape, stays_plain}
-use Rattle.uriparse_text.proofs.lemmas.tokens.TokenLemmas.{escape_at, spell-tokens, tokens-byte}
+use Rattle.uriparse_text.proofs.lemmas.tokens.TokenLemmas.{escape_at, spell-tokens, tokens-byte, tokens-escape}
+
+-- a text of two bytes or more begins with two
+pub two_first : (t : List ℕ) → 2 ≤ length t → t ≡ get_or t 0 0 ∷ get_or t 1 0 ∷ drop 2 t
+two_first [] h = absurd (omega (arith, h))
+two_first (b ∷ []) h = absurd (omega (arith, h))
+two_first (b ∷ c ∷ t) h = refl
 
 -- the first run of a text stays
 pub rewritten-run : (p : ℕ → Bool) (f : List ℕ → List ℕ) → Keeps p f → (t : List ℕ) → f t ≡ up_to p t ++ f (from_first p t)
@@ -38,6 +44,21 @@ rewritten-run p f keeps (b ∷ t) = by_first (p b) refl (rewritten-run p f keeps
 
 pub decoding_keeps : Keeps (λ b. b == percent) decoded
 decoding_keeps = record { nothing = decoded-nil [] refl; stays = decoded-byte }
+
+-- a byte that these three stand for, if they are an escape, is decoded from them
+pub decoded_escape : (b high low : ℕ) (r : Option ℕ)
+    → IfSome r (λ value. (is_escape b (high ∷ low ∷ []) ≡ true) × (value ≡ value_of (Escape high low)))
+    → IfSome r (λ value. (after : List ℕ) → decoded (b ∷ high ∷ low ∷ after) ≡ value ∷ decoded after)
+decoded_escape b high low None h = h
+decoded_escape b high low (Some value) h =
+    λ after. decoded-cons (b ∷ high ∷ low ∷ after) after (Escape high low) (tokens-escape b (high ∷ low ∷ after) h.0) ∙ ap (λ v. v ∷ decoded after) (sym h.1)
+
+pub form_decoded_escape : (b high low : ℕ) (r : Option ℕ)
+    → IfSome r (λ value. (is_escape b (high ∷ low ∷ []) ≡ true) × (value ≡ value_of (Escape high low)))
+    → IfSome r (λ value. (after : List ℕ) → form_decoded (b ∷ high ∷ low ∷ after) ≡ value ∷ form_decoded after)
+form_decoded_escape b high low None h = h
+form_decoded_escape b high low (Some value) h =
+    λ after. ap (map form_value_of) (tokens-escape b (high ∷ low ∷ after) h.0) ∙ ap (λ v. v ∷ form_decoded after) (sym h.1)
 
 no_more_tokens : (ts : List Token) → length ts ≤ length (flat_map spell ts)
 no_more_tokens [] = omega arith
