@@ -35,10 +35,26 @@ pub fn split_long(line: &str) -> (&str, &str, usize, &str, &str) {
     (command, front, count, middle, word(rest).0)
 }
 
-/// A word so many times.
-pub fn repeated(alloc: Global, count: usize, word: &str) -> Answer {
+/// How many words are appended to a long text at once.
+const BLOCK: usize = 1_000;
+
+/// A word so many times, appended one by one.
+fn repeated_singly(alloc: Global, count: usize, word: &str) -> Answer {
     let mut text = String::new(alloc);
     for _ in 0..count {
+        text.push_str(word)?;
+    }
+    Ok(text)
+}
+
+/// A word so many times.
+pub fn repeated(alloc: Global, count: usize, word: &str) -> Answer {
+    if count < BLOCK {
+        return repeated_singly(alloc, count, word);
+    }
+    let block = repeated_singly(alloc, BLOCK, word)?;
+    let mut text = repeated_singly(alloc, count / BLOCK, block.as_str())?;
+    for _ in 0..count % BLOCK {
         text.push_str(word)?;
     }
     Ok(text)
