@@ -36,7 +36,7 @@ pub use canonical::{canonical_bytes, feed_spelling, feed_text, is_canonical};
 pub use canonical_prefix::{check_bytes, split_canonical_prefix};
 pub use case::Case;
 pub use class::{Class, Outside};
-pub use clear::{has_pair, marks_of_pairs};
+pub use clear::{has_byte, has_pair, marks_of_pairs};
 pub use coding::{
     compare_represented, form_decoded_bytes, most_escaped_bytes, push_encoded, push_escaped,
     represents,

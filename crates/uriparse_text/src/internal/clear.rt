@@ -1,4 +1,4 @@
-//! Pairs of neighbouring bytes, looked for in sixteen places at once.
+//! Bytes and pairs of neighbouring bytes, looked for in sixteen places at once.
 ghost use Rattle.std.specs.Prelude.{◌≡◌, ◌+◌, ◌-◌, ◌<◌, ◌≤◌, ◌&&◌, if◌then◌else◌, ℕ, false, length, slice_index};
 ghost use Rattle.std.specs.Int.{bit_at};
 
@@ -33,4 +33,13 @@ pub fn has_pair<T: ByteTest, U: ByteTest>(earlier: &T, later: &U, text: &[u8], a
     ensures { result ≡ false → (k : ℕ) → k < 16 → (T.passes earlier.now (slice_index text.now (at - 1 + k)) && U.passes later.now (slice_index text.now (at + k))) ≡ false }
 {
     marks_of_pairs(earlier, later, text, at) != 0
+}
+
+/// Whether one of the sixteen bytes from `at` on passes.
+#[inline(always)]
+pub fn has_byte<T: ByteTest>(test: &T, text: &[u8], at: usize) -> bool
+    requires room { at + 16 ≤ length text.now }
+    ensures { result ≡ false → (k : ℕ) → k < 16 → T.passes test.now (slice_index text.now (at + k)) ≡ false }
+{
+    marks_of_run(test, text, at, at) != 0
 }

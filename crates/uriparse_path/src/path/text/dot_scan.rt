@@ -6,7 +6,9 @@ ghost use Rattle.uriparse_text.specs.Cuts.{lacks};
 ghost use Rattle.uriparse_path.specs.Last.{HasNoDotCandidates, begins_with_dot_candidate, may_begin_dot_segment};
 ghost use Rattle.uriparse_path.specs.Path.{is_slash};
 
-use uriparse_text::internal::{Is, IsAny, first, has_adjacent, has_pair, next_marks_by_two};
+use uriparse_text::internal::{
+    Is, IsAny, first, has_adjacent, has_byte, has_pair, next_marks_by_two,
+};
 
 /// Whether the text begins with a byte that a dot segment begins with: a dot, or the percent sign of
 /// an escaped one.
@@ -74,7 +76,7 @@ fn is_plain_run(text: &[u8], at: usize) -> bool
     ensures dot_candidates { result ≡ true → (k : ℕ) → k < 16 → (is_slash (slice_index text.now (at - 1 + k)) && may_begin_dot_segment (slice_index text.now (at + k))) ≡ false }
     ensures escapes { result ≡ true → (k : ℕ) → k < 16 → (slice_index text.now (at + k) == percent) ≡ false }
 {
-    !has_pair(&Is(b'/'), &Is(b'.'), text, at) && !is_escaped(&text[at..at + 16])
+    !has_pair(&Is(b'/'), &Is(b'.'), text, at) && !has_byte(&Is(b'%'), text, at)
 }
 
 /// How many bytes at the front of the text are known to have no percent sign and no segment that

@@ -1,5 +1,5 @@
 -- What texts represent are bytes, and bytes that were written as a text are read back.
-use Rattle.std.proofs.Common.{◌≡◌, ℕ, ◌<◌, Bool, true, false, List, [], ◌∷◌, length, map, Option, Some, None, refl, sym, ap, ◌∙◌, arith}
+use Rattle.std.proofs.Common.{◌≡◌, ℕ, ◌<◌, true, false, List, [], ◌∷◌, length, map, Option, Some, None, refl, ap, ◌∙◌, arith}
 use Rattle.std.specs.Prelude.{◌==◌, ◌&&◌, cond, not, codes, unwrap_or}
 use Rattle.std.specs.Char.{digit_value}
 use Rattle.std.specs.Int.{is_in_range}
@@ -11,7 +11,7 @@ use Rattle.uriparse_text.specs.declared.internal.token.Token.{Token}
 use Rattle.uriparse_text.specs.declared.internal.token.Token.TheVariants.{Byte, Escape}
 use Rattle.uriparse_text.specs.declared.internal.class.Class.{Class}
 use Rattle.uriparse_text.specs.declared.internal.class.Class.TheVariants.{Query}
-use Rattle.uriparse_text.specs.Bytes.{is_among, is_hex, percent, plus_sign}
+use Rattle.uriparse_text.specs.Bytes.{is_among, is_hex, plus_sign}
 use Rattle.uriparse_text.specs.Classes.{is_plain}
 use Rattle.uriparse_text.specs.Tokens.{tokens}
 use Rattle.uriparse_text.specs.Faults.{allows, IsIn}
