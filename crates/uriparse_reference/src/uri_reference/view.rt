@@ -1,7 +1,8 @@
 //! A URI reference in its text, read without memory: RFC 3986, section 4.1.
-ghost use Rattle.std.specs.Prelude.{◌≡◌, IfErr, IfOk, IsOk, Ok, Some, is_some, length};
+ghost use Rattle.std.specs.Prelude.{◌≡◌, ◌==◌, ◌&&◌, IfErr, IfOk, IsOk, Ok, Some, is_some, length};
 ghost use Rattle.std.specs.Str.{IsUtf8};
 ghost use Rattle.uriparse_path.specs.Path.{IsListed, IsPath, text};
+ghost use Rattle.uriparse_reference.specs.Cuts.{path_text};
 ghost use Rattle.uriparse_reference.specs.Reading.{fault};
 ghost use Rattle.uriparse_reference.specs.Reference.{host_of, password_of, port_of, username_of};
 ghost use Rattle.uriparse_reference.specs.View.{viewed};
@@ -206,6 +207,14 @@ impl<'t> ReferenceView<'t> {
         str_of(self.path_bytes())
     }
 
+    /// Whether the path is an empty one after an authority, which is read, and printed, as `/`.
+    #[inline]
+    fn has_implied_root(&self) -> bool
+        ensures { result ≡ ((length (path_text self.now.text) == 0) && is_some self.now.parts.authority) }
+    {
+        self.pieces.tail.path.is_empty() && self.has_authority()
+    }
+
     /// The bytes of the path's text.
     #[inline]
     fn path_bytes(&self) -> &'t [u8]
@@ -214,11 +223,7 @@ impl<'t> ReferenceView<'t> {
         ensures valid { Valid self.now.parts }
     {
         let path = self.pieces.tail.path;
-        if path.is_empty() && self.has_authority() {
-            b"/"
-        } else {
-            path
-        }
+        if self.has_implied_root() { b"/" } else { path }
     }
 
     /// The segments of the path in order.

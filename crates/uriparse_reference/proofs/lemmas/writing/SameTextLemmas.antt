@@ -1,10 +1,10 @@
 -- The text that a reference was read from, the text that it prints, and that of its normal form.
 use Rattle.std.proofs.Common.{◌≡◌, ◌↔◌, ℕ, Bool, true, false, cond, List, [], ◌∷◌, length, Option, Some, None, bytes_eq, refl, sym, ap, subst, ◌∙◌, ◌&&◌}
-use Rattle.std.proofs.lemmas.Bool.{false≢true}
+use Rattle.std.proofs.lemmas.Bool.{false≢true, and_parts, eqb-true}
 use Rattle.std.proofs.lemmas.Slice.Eq.{bytes_eq-Decides}
 use Rattle.uriparse_text.specs.Bytes.{slash}
 use Rattle.uriparse_text.specs.Canonical.{canonical}
-use Rattle.std.specs.Prelude.{◌==◌, IfSome, IsTrue, is_some, unwrap_or}
+use Rattle.std.specs.Prelude.{◌==◌, IfSome, IsTrue, is_some, not, unwrap_or}
 use Rattle.std.specs.Option.{option_eq, option_map}
 use Rattle.uriparse_text.specs.Readings.{IfPresent}
 use Rattle.uriparse_path.specs.Path.{PathParts, text}
@@ -120,10 +120,10 @@ no_authority t p s e = by_text (authority_text t) p.authority (authority_there t
     by_text (Some u) None h f = absurd h
     by_text (Some u) (Some b) h f = absurd (cc)
 
-pub tested_path : (h g x y : List ℕ) (r : Bool) → y ≡ h → x ≡ g → r ≡ bytes_eq y x → IsTrue r ↔ (h ≡ g)
-tested_path h g x y r e f k =
-    let test = bytes_eq-Decides y x in
-    ((λ i. sym e ∙ test.0 (sym k ∙ i) ∙ f), (λ i. k ∙ test.1 (e ∙ i ∙ sym f)))
+pub own_path : (v a : Bool) (g u : List ℕ) → v ≡ ((length g == 0) && a) → u ≡ cond v (slash ∷ []) g → IsTrue (not v) ↔ (u ≡ g)
+own_path true a [] u e f = ((λ i. absurd (false≢true i)), (λ i. let same : slash ∷ [] ≡ [] = sym f ∙ i in absurd (cc)))
+own_path true a (b ∷ g) u e f = let none : length (b ∷ g) ≡ 0 = eqb-true _ 0 (and_parts _ a (sym e)).0 in absurd (cc)
+own_path false a g u e f = ((λ _. f), (λ _. refl))
 
 -- ---- a text that is that of the normal form
 

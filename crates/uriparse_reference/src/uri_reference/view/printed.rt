@@ -45,7 +45,9 @@ impl<'t> ReferenceView<'t> {
     fn has_own_path_text(&self) -> bool
         ensures { IsTrue result ↔ (text self.now.parts.path ≡ path_text self.now.text) }
     {
-        self.path_bytes() == self.pieces.tail.path
+        // The view is valid, which is known once a field is read.
+        let _text = &self.text;
+        !self.has_implied_root()
     }
 
     /// Whether the path, and the scheme, if present, print their texts, and that of the authority, if
