@@ -173,11 +173,6 @@ impl Rewriting for Encoding {
     ghost rewritten = { λ s bytes. encoded s.0 bytes };
 
     #[inline(always)]
-    fn escaped_byte(&self, _: u8, _: u8, _: u8) -> Option<u8> {
-        None
-    }
-
-    #[inline(always)]
     fn token(&self, b: u8, _: &[u8]) -> (Token, usize) {
         (Token::escaping(b), 0)
     }
@@ -266,11 +261,6 @@ impl<'w> Rewriting for EncodingWithout<'w> {
     ghost rewritten = { λ s bytes. encoded_without s.0 s.1.now bytes };
 
     #[inline(always)]
-    fn escaped_byte(&self, _: u8, _: u8, _: u8) -> Option<u8> {
-        None
-    }
-
-    #[inline(always)]
     fn token(&self, b: u8, _: &[u8]) -> (Token, usize) {
         (Token::escaping(b), 0)
     }
@@ -312,11 +302,6 @@ impl<'m> ByteTest for Escaping<'m> {
 
 impl<'m> Rewriting for Escaping<'m> {
     ghost rewritten = { λ s text. escaped_in s.0 s.1.now text };
-
-    #[inline(always)]
-    fn escaped_byte(&self, _: u8, _: u8, _: u8) -> Option<u8> {
-        None
-    }
 
     #[inline(always)]
     fn token(&self, b: u8, after: &[u8]) -> (Token, usize) {

@@ -16,9 +16,13 @@ pub(super) trait Rewriting: ByteTest {
 
     /// The byte that is written for an escape of these three bytes, if they are one and that is a
     /// single byte. The loops ask it first: what it writes is what `token` says, without the choice
-    /// between a byte and an escape.
+    /// between a byte and an escape. A way that writes no such byte has nothing to say here.
+    #[inline(always)]
     fn escaped_byte(&self, b: u8, high: u8, low: u8) -> Option<u8>
-        ensures { IfSome result (λ value. (after : List ℕ) → rewritten self.now (b ∷ high ∷ low ∷ after) ≡ value ∷ rewritten self.now after) };
+        ensures { IfSome result (λ value. (after : List ℕ) → rewritten self.now (b ∷ high ∷ low ∷ after) ≡ value ∷ rewritten self.now after) }
+    {
+        None
+    }
 
     /// What is written for the token that begins with a byte that passes, and how many of the bytes
     /// after it the token has.

@@ -43,11 +43,6 @@ impl Rewriting for MayChange {
     ghost rewritten = { λ s text. spec.canonical_in s.0 text };
 
     #[inline(always)]
-    fn escaped_byte(&self, _: u8, _: u8, _: u8) -> Option<u8> {
-        None
-    }
-
-    #[inline(always)]
     fn token(&self, b: u8, after: &[u8]) -> (Token, usize) {
         let (token, more) = first_token(b, after);
         (token.canonical(self.0), more)
