@@ -49,7 +49,7 @@ def library_rows() -> Dict[str, List[Tuple[str, ...]]]:
 
 def program_rows() -> List[Tuple[str, str, bool]]:
     """Two texts, and whether they are equal, of the program's command `equal`."""
-    with open(os.path.join(TOP, "crates/uri/src/tests.rt"), encoding="utf-8") as file:
+    with open(os.path.join(TOP, ".ci/tests/program/mod.txt"), encoding="utf-8") as file:
         rows = re.findall(r'\(\s*"equal\|([^|"\\]*)\|([^|"\\]*)",\s*0,\s*"(equal|different)\\n"', file.read())
     return [(left, right, answer == "equal") for left, right, answer in rows]
 

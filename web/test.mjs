@@ -27,7 +27,7 @@ const uris = await load(pathToFileURL(process.argv[2]));
 // The rows: words separated by bars, the status, the output, the message.
 const STRING = String.raw`"((?:[^"\\]|\\[^])*)"`;
 const ROW = new RegExp(String.raw`\(\s*${STRING},\s*(\d+),\s*${STRING},\s*(?:${STRING}|USAGE),?\s*\)`, "g");
-const source = await readFile(new URL("../crates/uri/src/tests.rt", import.meta.url), "utf8");
+const source = await readFile(new URL("../.ci/tests/program/mod.txt", import.meta.url), "utf8");
 const unescaped = (text) => text.replace(/\\\n\s*/g, "").replace(/\\n/g, "\n").replace(/\\(.)/g, "$1");
 const rows = [...source.matchAll(ROW)].map(([, words, status, out]) => [unescaped(words).split("|"), Number(status), unescaped(out)]);
 

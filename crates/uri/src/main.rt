@@ -3,7 +3,7 @@
 
 use std::process::ExitCode;
 use std::{env, io};
-pub use uri_commands::{refuse_arguments, run, run_with_input};
+use uri_commands::{refuse_arguments, run_with_input};
 
 fn main(rt: HostRuntime) -> io::Result<ExitCode> {
     let found = match env::args(&rt) {
@@ -30,6 +30,3 @@ fn main(rt: HostRuntime) -> io::Result<ExitCode> {
     );
     Ok(ExitCode::from(status))
 }
-
-#[cfg(test)]
-mod tests;

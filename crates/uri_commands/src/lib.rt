@@ -1,7 +1,7 @@
 //! The commands of the program `uri`, by their words: each reads texts as URIs or their parts, and
 //! prints what they hold.
 //!
-//! They are a library, so the tests of the program need no second proof of them.
+//! They are a library, which the tests of the program and the jobs of the benchmark call.
 #![tactic(auto)]
 
 ghost use Rattle.std.specs.Prelude.{◌≡◌, ◌≤◌, IfOk};
