@@ -72,34 +72,77 @@ pub fn run_texts<O: Write>(
 ) -> Result<(), Failure> {
     match (options.manner, words) {
         _ if !may_explain(options, words) || options.columns.is_some() => Err(Failure::Usage),
-        (Manner::Plain, ["parse", text]) => parse(alloc, text, out),
-        (Manner::Json, ["parse", text]) => parse_json(text.as_bytes(), out),
-        (Manner::Quiet, ["parse", text]) => check(text.as_bytes()),
-        (Manner::Plain, ["tail", text]) => tail(alloc, text, out),
-        (Manner::Plain, ["get", "file", uri]) => get_file(alloc, uri.as_bytes(), out),
-        (Manner::Plain, ["get", part, text]) => get(alloc, part, text.as_bytes(), out),
-        (Manner::Plain, ["normalize", text]) => normalize(alloc, text.as_bytes(), out),
-        (Manner::DropDefaultPort, ["normalize", text]) => {
-            normalize_port(alloc, text.as_bytes(), out)
-        }
-        (Manner::Plain, ["equal", a, b]) => equal(a.as_bytes(), b.as_bytes(), out),
-        (Manner::Quiet, ["equal", a, b]) => check_equal(a.as_bytes(), b.as_bytes()),
-        (Manner::Plain, ["resolve", base, text]) => {
-            resolve(alloc, base.as_bytes(), text.as_bytes(), out)
-        }
-        (Manner::Plain, ["relativize", base, uri]) => {
-            relativize(alloc, base.as_bytes(), uri.as_bytes(), out)
-        }
-        (Manner::Plain, ["decode", text]) => decode(alloc, text.as_bytes(), out),
-        (Manner::Plain, ["encode", kind, text]) => encode(alloc, kind, text.as_bytes(), out),
-        (Manner::Plain, ["escape", text]) => escape(alloc, text.as_bytes(), out),
-        (Manner::Trim, ["escape", text]) => escape_link(alloc, text.as_bytes(), out),
-        (Manner::Plain, ["pairs", text]) => pairs(alloc, text.as_bytes(), out),
-        (Manner::Plain, ["file", path]) => file(alloc, path.as_bytes(), out),
         (Manner::Plain, ["edit", text, edits @ ..]) => edit(alloc, text, edits, out),
-        (Manner::Plain, ["help" | "--help"]) => help(out).map_err(Failure::Io),
-        (Manner::Plain, ["help", name]) => help_on(name, out),
-        (Manner::Plain, ["--version"]) => version(out).map_err(Failure::Io),
+        (Manner::Plain, [name]) => run_one_word(name, out),
+        (manner, [name, text]) => run_two_words(alloc, manner, name, text, out),
+        (manner, [name, first, second]) => {
+            run_three_words(alloc, manner, name, first, second, out)
+        }
+        _ => Err(Failure::Usage),
+    }
+}
+
+/// Runs the command that is this word alone.
+fn run_one_word<O: Write>(name: &str, out: &mut O) -> Result<(), Failure> {
+    match name {
+        "help" | "--help" => help(out).map_err(Failure::Io),
+        "--version" => version(out).map_err(Failure::Io),
+        _ => Err(Failure::Usage),
+    }
+}
+
+/// Runs the command of this name on the word that follows it.
+fn run_two_words<O: Write>(
+    alloc: Global,
+    manner: Manner,
+    name: &str,
+    text: &str,
+    out: &mut O,
+) -> Result<(), Failure> {
+    match (manner, name) {
+        (Manner::Plain, _) => run_plain(alloc, name, text, out),
+        (Manner::Json, "parse") => parse_json(text.as_bytes(), out),
+        (Manner::Quiet, "parse") => check(text.as_bytes()),
+        (Manner::DropDefaultPort, "normalize") => normalize_port(alloc, text.as_bytes(), out),
+        (Manner::Trim, "escape") => escape_link(alloc, text.as_bytes(), out),
+        _ => Err(Failure::Usage),
+    }
+}
+
+/// Runs the command of this name on the word that follows it, with `Manner::Plain`.
+fn run_plain<O: Write>(alloc: Global, name: &str, text: &str, out: &mut O) -> Result<(), Failure> {
+    match name {
+        "parse" => parse(alloc, text, out),
+        "tail" => tail(alloc, text, out),
+        "normalize" => normalize(alloc, text.as_bytes(), out),
+        "decode" => decode(alloc, text.as_bytes(), out),
+        "escape" => escape(alloc, text.as_bytes(), out),
+        "pairs" => pairs(alloc, text.as_bytes(), out),
+        "file" => file(alloc, text.as_bytes(), out),
+        "help" => help_on(text, out),
+        _ => Err(Failure::Usage),
+    }
+}
+
+/// Runs the command of this name on the two words that follow it.
+fn run_three_words<O: Write>(
+    alloc: Global,
+    manner: Manner,
+    name: &str,
+    first: &str,
+    second: &str,
+    out: &mut O,
+) -> Result<(), Failure> {
+    match (manner, name) {
+        (Manner::Plain, "get") if first == "file" => get_file(alloc, second.as_bytes(), out),
+        (Manner::Plain, "get") => get(alloc, first, second.as_bytes(), out),
+        (Manner::Plain, "equal") => equal(first.as_bytes(), second.as_bytes(), out),
+        (Manner::Quiet, "equal") => check_equal(first.as_bytes(), second.as_bytes()),
+        (Manner::Plain, "resolve") => resolve(alloc, first.as_bytes(), second.as_bytes(), out),
+        (Manner::Plain, "relativize") => {
+            relativize(alloc, first.as_bytes(), second.as_bytes(), out)
+        }
+        (Manner::Plain, "encode") => encode(alloc, first, second.as_bytes(), out),
         _ => Err(Failure::Usage),
     }
 }

@@ -133,21 +133,24 @@ fn write_part<O: Write>(
     out: &mut O,
 ) -> Result<bool, Failure> {
     match part {
-        Part::Scheme => write_present(reference.scheme().as_ref(), out),
-        Part::Authority => write_present(reference.authority().as_ref(), out),
-        Part::Username => write_present(reference.username().as_ref(), out),
-        Part::Password => write_present(reference.password().as_ref(), out),
-        Part::Host => write_present(reference.host().as_ref(), out),
-        Part::Port => write_present(reference.port().as_ref(), out),
-        Part::Path => write_present(Some(&reference.path()), out),
-        Part::Query => write_present(reference.query().as_ref(), out),
-        Part::Fragment => write_present(reference.fragment().as_ref(), out),
+        Part::Scheme => write_present(reference.scheme(), out),
+        Part::Authority => write_present(reference.authority(), out),
+        Part::Username => write_present(reference.username(), out),
+        Part::Password => write_present(reference.password(), out),
+        Part::Host => write_present(reference.host(), out),
+        Part::Port => write_present(reference.port(), out),
+        Part::Path => write_present(Some(reference.path()), out),
+        Part::Query => write_present(reference.query(), out),
+        Part::Fragment => write_present(reference.fragment(), out),
         Part::Origin => write_origin(alloc, reference, out),
     }
 }
 
 /// Writes the value if it is present, and returns whether it is.
-fn write_present<T: Display, O: Write>(value: Option<&T>, out: &mut O) -> Result<bool, Failure> {
+fn write_present<T: Display + Drop, O: Write>(
+    value: Option<T>,
+    out: &mut O,
+) -> Result<bool, Failure> {
     match value {
         Some(value) => {
             write!(out, "{value}")?;
