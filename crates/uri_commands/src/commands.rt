@@ -53,6 +53,12 @@ pub static TOPICS: [Topic; 22] = [
     columns::ABOUT_COLUMN,
 ];
 
+/// The table of the commands and the options. `help` reads it by this call, since each function that names
+/// the table takes long to prove.
+pub fn topics() -> &'static [Topic] {
+    &TOPICS
+}
+
 /// Whether `--explain` is absent, or may precede the command of these words.
 fn may_explain(options: Options, words: &[&str]) -> bool {
     match (options.manner, words) {
