@@ -13,9 +13,9 @@ use std::simd::prelude::*;
 
 /// The byte isn't of the class, or changes in a canonical spelling.
 #[derive(Clone, Copy, Debug)]
-struct Unsettled(Class, Case);
+struct NotCanonical(Class, Case);
 
-impl ByteTest for Unsettled {
+impl ByteTest for NotCanonical {
     ghost passes = { λ s b. not (spec.is_canonical_byte s.0 s.1 b) };
 
     #[inline(always)]
@@ -40,7 +40,7 @@ pub(super) fn canonical_prefix_len(class: Class, case: Case, text: &[u8]) -> usi
     ensures within { result ≤ length text.now }
 {
     if text.len() < 8 {
-        first_by_one(&Unsettled(class, case), text)
+        first_by_one(&NotCanonical(class, case), text)
     } else {
         canonical_prefix_by_lanes(class, case, text)
     }
@@ -51,7 +51,7 @@ pub(super) fn canonical_prefix_len(class: Class, case: Case, text: &[u8]) -> usi
 fn canonical_prefix_by_lanes(class: Class, case: Case, text: &[u8]) -> usize
     ensures { result ≡ position_or_len (λ b. not (spec.is_canonical_byte class case b)) text.now }
 {
-    first(&Unsettled(class, case), text)
+    first(&NotCanonical(class, case), text)
 }
 
 /// The leading bytes that are of the class and do not change, and what follows them.
@@ -63,7 +63,7 @@ pub fn split_canonical_prefix(class: Class, case: Case, bytes: &[u8]) -> (&[u8],
     bytes.split_at(canonical_prefix_len(class, case, bytes))
 }
 
-/// The place of the leftmost fault, or the length, if the first `len` bytes are settled.
+/// The place of the leftmost fault, or the length, if the first `len` bytes are canonical.
 #[inline(always)]
 pub(super) fn fault_following(class: Class, case: Case, text: &[u8], len: usize) -> usize
     requires offset { len ≡ position_or_len (λ b. not (spec.is_canonical_byte class case b)) text.now }

@@ -62,17 +62,17 @@ module _ (p q r : ℕ → Bool) (same : (b : ℕ) → (p b || q b) ≡ r b) wher
       same_from_bits _ _ (λ i. bit_at_or (mask_l (map p v)) (mask_l (map q v)) i
       ∙ rw (bit_mask_l (map p v) i, bit_mask_l (map q v) i, bit_mask_l (map r v) i) (either v i))
 
--- ---- settled bytes
+-- ---- canonical bytes
 
 module _ (class : Class) (case : Case) where
-  abbrev unsettled : ℕ → Bool
-  unsettled b = not (is_canonical_byte class case b)
+  abbrev not_canonical : ℕ → Bool
+  not_canonical b = not (is_canonical_byte class case b)
 
-  settled_plain : (b : ℕ) → is_canonical_byte class case b ≡ true → is_plain class b ≡ true
-  settled_plain b h = (and_parts (is_plain class b) (in_case case b == b) h).0
+  canonical_plain : (b : ℕ) → is_canonical_byte class case b ≡ true → is_plain class b ≡ true
+  canonical_plain b h = (and_parts (is_plain class b) (in_case case b == b) h).0
 
-  pub unsettled_parts : (b : ℕ) → (not (is_plain class b) || may_change case b) ≡ not (is_canonical_byte class case b)
-  unsettled_parts b = by_plain (is_plain class b) refl
+  pub not_canonical_parts : (b : ℕ) → (not (is_plain class b) || may_change case b) ≡ not (is_canonical_byte class case b)
+  not_canonical_parts b = by_plain (is_plain class b) refl
     where
       by_plain : (v : Bool) → is_plain class b ≡ v → (not v || may_change case b) ≡ not (v && in_case case b == b)
       by_plain true e = no_sign (b == percent) (in_case case b == b) (is_token-allows class (Byte b) e)
@@ -83,51 +83,51 @@ module _ (class : Class) (case : Case) where
       let both = and_parts (is_plain class b) (in_case case b == b) h in
       neither (b == percent) (in_case case b == b) (is_token-allows class (Byte b) both.0) both.1
 
-  settled_canonical : (t : List ℕ) → list_all (is_canonical_byte class case) t ≡ true → canonical_in case t ≡ t
-  settled_canonical [] h = canonical_in-nil case
-  settled_canonical (b ∷ t) h =
+  canonical_same : (t : List ℕ) → list_all (is_canonical_byte class case) t ≡ true → canonical_in case t ≡ t
+  canonical_same [] h = canonical_in-nil case
+  canonical_same (b ∷ t) h =
       let both = and_parts _ _ h in
-      canonical_in-stays case b t (stays b both.0) ∙ ap (λ u. b ∷ u) (settled_canonical t both.1)
+      canonical_in-stays case b t (stays b both.0) ∙ ap (λ u. b ∷ u) (canonical_same t both.1)
 
   -- a text of such bytes alone is canonical
-  pub settled_kept : (t : List ℕ) → list_all (is_canonical_byte class case) t ≡ true → (known : Bool) → IsValidText class case known t
-  settled_kept t h known = record {
-    inside = IsIn-plain class t (weaker (is_canonical_byte class case) (is_plain class) settled_plain t h);
-    canonical = λ _. settled_canonical t h;
+  pub canonical_kept : (t : List ℕ) → list_all (is_canonical_byte class case) t ≡ true → (known : Bool) → IsValidText class case known t
+  canonical_kept t h known = record {
+    inside = IsIn-plain class t (weaker (is_canonical_byte class case) (is_plain class) canonical_plain t h);
+    canonical = λ _. canonical_same t h;
   }
 
-  pub settled_front : (t : List ℕ) → list_all (is_canonical_byte class case) (take (position_or_len unsettled t) t) ≡ true
-  settled_front [] = refl
-  settled_front (b ∷ t) = by_first (is_canonical_byte class case b) refl (settled_front t)
+  pub canonical_front : (t : List ℕ) → list_all (is_canonical_byte class case) (take (position_or_len not_canonical t) t) ≡ true
+  canonical_front [] = refl
+  canonical_front (b ∷ t) = by_first (is_canonical_byte class case b) refl (canonical_front t)
     where
-      by_first : (v : Bool) → is_canonical_byte class case b ≡ v → list_all (is_canonical_byte class case) (take (position_or_len unsettled t) t) ≡ true
-          → list_all (is_canonical_byte class case) (take (cond (not (not v)) (1 + position_or_len unsettled t) 0) (b ∷ t)) ≡ true
+      by_first : (v : Bool) → is_canonical_byte class case b ≡ v → list_all (is_canonical_byte class case) (take (position_or_len not_canonical t) t) ≡ true
+          → list_all (is_canonical_byte class case) (take (cond (not (not v)) (1 + position_or_len not_canonical t) 0) (b ∷ t)) ≡ true
       by_first true e h = rw one-add (and_from _ _ e h)
       by_first false e h = refl
 
-  module _ (t : List ℕ) (n : ℕ) (at : n ≡ position_or_len unsettled t) where
-    -- all of the text is settled
-    pub all_settled : n ≡ length t → (known : Bool) → IsValidText class case known t
-    all_settled end known =
-        settled_kept t (subst (λ u. list_all (is_canonical_byte class case) u ≡ true) (ap (λ i. take i t) (sym at) ∙ take_all n t (omega arith)) (settled_front t)) known
+  module _ (t : List ℕ) (n : ℕ) (at : n ≡ position_or_len not_canonical t) where
+    -- all of the text is canonical
+    pub all_canonical : n ≡ length t → (known : Bool) → IsValidText class case known t
+    all_canonical end known =
+        canonical_kept t (subst (λ u. list_all (is_canonical_byte class case) u ≡ true) (ap (λ i. take i t) (sym at) ∙ take_all n t (omega arith)) (canonical_front t)) known
 
-    pub settled_take : (known : Bool) → IsValidText class case known (take n t)
-    settled_take known =
-        settled_kept (take n t) (subst (λ i. list_all (is_canonical_byte class case) (take i t) ≡ true) (sym at) (settled_front t)) known
+    pub canonical_take : (known : Bool) → IsValidText class case known (take n t)
+    canonical_take known =
+        canonical_kept (take n t) (subst (λ i. list_all (is_canonical_byte class case) (take i t) ≡ true) (sym at) (canonical_front t)) known
 
-    pub settled_fine : n ≤ length t → AllFine class t 0 n
-    settled_fine within k low high =
+    pub canonical_fine : n ≤ length t → AllFine class t 0 n
+    canonical_fine within k low high =
         let passes : is_canonical_byte class case (get_or t k 0) ≡ true =
-        not_false (is_canonical_byte class case (get_or t k 0)) (fails_before_first unsettled t k 0 (subst (λ i. k < i) at high)) in
-        is_fine_plain class t k (omega arith) (settled_plain (get_or t k 0) passes)
+        not_false (is_canonical_byte class case (get_or t k 0)) (fails_before_first not_canonical t k 0 (subst (λ i. k < i) at high)) in
+        is_fine_plain class t k (omega arith) (canonical_plain (get_or t k 0) passes)
 
     pub fault_offset_end : n ≡ length t → IsFaultOffset class t n
-    fault_offset_end end = record { within = omega arith; fine = settled_fine (omega arith); faulty = λ more. absurd (omega arith) }
+    fault_offset_end end = record { within = omega arith; fine = canonical_fine (omega arith); faulty = λ more. absurd (omega arith) }
 
     pub fault_offset_here : n < length t → (get_or t n 0 == percent) ≡ false → is_plain class (get_or t n 0) ≡ false → IsFaultOffset class t n
     fault_offset_here within no_sign outside = record {
       within = omega arith;
-      fine = settled_fine (omega arith);
+      fine = canonical_fine (omega arith);
       faulty = λ more. not_fine_at class t n within outside (no_escape (get_or t n 0) (drop (n + 1) t) no_sign);
     }
 
@@ -145,7 +145,7 @@ fault_offset_after class t n offset within fine is =
       faulty = λ more. subst (λ u. begins_fine class u ≡ false) (drop-drop offset n t) (is.faulty (omega (arith, length-drop n t)));
     }
 
--- ---- what is known of a text whose settled bytes were counted, by the class and the case that calls return
+-- ---- what is known of a text whose canonical bytes were counted, by the class and the case that calls return
 
 module _ (class answered_class : Class) (case answered_case : Case) (same_class : answered_class ≡ class) (same_case : answered_case ≡ case) where
   pub kept_by : (t : List ℕ) (n offset : ℕ) (u : List ℕ) → n ≡ position_or_len (λ b. not (is_canonical_byte answered_class answered_case b)) t → u ≡ take offset t
@@ -157,5 +157,5 @@ module _ (class answered_class : Class) (case answered_case : Case) (same_class 
         at ∙ ap (λ k. position_or_len (λ b. not (is_canonical_byte k answered_case b)) t) same_class
         ∙ ap (λ k. position_or_len (λ b. not (is_canonical_byte class k b)) t) same_case in
         let canonical_len : take n t ≡ u = ap (λ i. take i t) (sym (eqb-true offset n e)) ∙ sym front in
-        subst (λ v. canonical_in case v ≡ v) canonical_len ((settled_take class case t n counted true).canonical refl);
+        subst (λ v. canonical_in case v ≡ v) canonical_len ((canonical_take class case t n counted true).canonical refl);
   }

@@ -2,12 +2,12 @@ use Rattle.std.proofs.Common.{sym, true, arith}
 use Rattle.std.proofs.lemmas.Bool.{false≢true}
 use Rattle.uriparse_text.proofs.lemmas.classes.FaultLemmas.{no_fault}
 use Rattle.uriparse_text.proofs.lemmas.classes.FaultByByteLemmas.{fault_found, fault_absent}
-use Rattle.uriparse_text.proofs.lemmas.canonical.CanonicalPrefixLemmas.{all_settled}
+use Rattle.uriparse_text.proofs.lemmas.canonical.CanonicalPrefixLemmas.{all_canonical}
 use Rattle.uriparse_text.proofs.internal.canonical_prefix.check_bytes.Goals as goal
 
 pub returns-then-len-text : goal.returns-then-len-text
 returns-then-len-text c =
-    let kept = all_settled c.args.class c.args.case c.args.text.now c.canonical_prefix_len-len.result c.canonical_prefix_len-len.ensures.offset c.if-len-text.true in
+    let kept = all_canonical c.args.class c.args.case c.args.text.now c.canonical_prefix_len-len.result c.canonical_prefix_len-len.ensures.offset c.if-len-text.true in
     ((no_fault c.args.class c.args.text.now).1 (kept true).inside, kept true)
 
 pub returns-then-offset-text : goal.returns-then-offset-text

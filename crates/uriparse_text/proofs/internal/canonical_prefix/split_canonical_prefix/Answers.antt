@@ -1,6 +1,6 @@
 use Rattle.std.proofs.Common.{sym, subst, true}
 use Rattle.uriparse_text.specs.Spelling.{IsValidText}
-use Rattle.uriparse_text.proofs.lemmas.canonical.CanonicalPrefixLemmas.{settled_take}
+use Rattle.uriparse_text.proofs.lemmas.canonical.CanonicalPrefixLemmas.{canonical_take}
 use Rattle.uriparse_text.proofs.internal.canonical_prefix.split_canonical_prefix.Goals as goal
 
 pub returns-clause-front : goal.returns-clause-front
@@ -9,4 +9,4 @@ returns-clause-front c =
     let case = c.args.case in
     let text = c.args.bytes.now in
     let len = c.canonical_prefix_len.result in
-    subst (λ u. IsValidText class case true u) (sym c.split_at.ensures.front) (settled_take class case text len c.canonical_prefix_len.ensures.offset true)
+    subst (λ u. IsValidText class case true u) (sym c.split_at.ensures.front) (canonical_take class case text len c.canonical_prefix_len.ensures.offset true)
