@@ -6,18 +6,15 @@ ghost use Rattle.uriparse_text.specs.declared.internal.case.Case.TheVariants as 
 ghost use Rattle.uriparse_text.specs.Cuts.{up_to, from_first};
 ghost use Rattle.uriparse_text.specs.Spelling.{IsValidText};
 ghost use Rattle.uriparse_authority.specs.Authority as authority;
-ghost use Rattle.uriparse_authority.specs.Host as host;
 
 use super::found::{FoundAuthority, found_authority};
-use super::host::found::{FoundHost, found_ipv4, found_name};
-use super::host::read::find_host;
+use super::host::read::{find_host, find_name_host};
 use super::password::PasswordKind;
 use super::username::UsernameKind;
 use super::{Authority, AuthorityError, Host, HostError, PortError, parse_port};
-use uriparse_text::address::Ipv4Addr;
 use uriparse_text::internal::{
-    Case, Class, Found, IsAny, find_text_before, find_text_if, first, no_text, split_at_mark,
-    split_canonical_prefix, without_mark,
+    ByteTest, Case, Class, Found, IsAny, find_text_before, find_text_if, first, no_text,
+    split_at_mark, split_canonical_prefix, without_mark,
 };
 
 /// The user information, which is the text before the first `@`, and what follows the `@`; without
@@ -68,19 +65,7 @@ pub fn split_port(text: &[u8]) -> (&[u8], Option<&[u8]>)
     (text, None)
 }
 
-/// Finds the host that a text of the class of names spells, canonical if so marked.
-#[inline(always)]
-fn find_name_host(bytes: &[u8], canonical: bool) -> FoundHost<'_>
-    requires { IsValidText class.Name case.Lowered canonical bytes.now }
-    ensures { host.Spells bytes.now result }
-{
-    if let Some(address) = Ipv4Addr::parse_bytes(bytes) {
-        return found_ipv4(address);
-    }
-    found_name(bytes, canonical)
-}
-
-/// Finds the authority of such a text: that host alone.
+/// Finds the authority of a text of the class of names, canonical if so marked: its host alone.
 #[inline(always)]
 fn find_host_alone(bytes: &[u8], canonical: bool) -> FoundAuthority<'_>
     requires { IsValidText class.Name case.Lowered canonical bytes.now }
@@ -103,20 +88,17 @@ fn find_any_authority(bytes: &[u8]) -> Result<FoundAuthority<'_>, AuthorityError
     Ok(found_authority(username, password, host, port))
 }
 
-fn ends_authority(b: u8) -> bool
-    ensures { result ≡ authority.ends_authority b }
-{
-    matches!(b, b'/' | b'?' | b'#')
-}
+/// The bytes that end an authority.
+const ENDS: IsAny = IsAny(b'/', b'?', b'#');
 
 /// The place of the first byte that ends an authority.
 fn end_of_authority(text: &[u8]) -> Option<usize>
     ensures { result ≡ position authority.ends_authority text.now }
 {
     if text.len() < 16 {
-        return text.iter().position(|b| ends_authority(*b));
+        return text.iter().position(|b| ENDS.has(*b));
     }
-    let found = first(&IsAny(b'/', b'?', b'#'), text);
+    let found = first(&ENDS, text);
     (found < text.len()).then_some(found)
 }
 
@@ -134,7 +116,7 @@ fn ends_before(rest: &[u8]) -> bool
     ensures { IsTrue result → (up_to authority.ends_authority rest.now ≡ []) × (from_first authority.ends_authority rest.now ≡ rest.now) }
 {
     match rest {
-        [b, ..] => ends_authority(*b),
+        [b, ..] => ENDS.has(*b),
         [] => true,
     }
 }

@@ -198,9 +198,9 @@ host_valid t (IPv6Address a) s = IsSegments-SpellsIpv6 s.0 a s.2
 host_valid t (IPvFuture f) s = s.1
 host_valid t (RegisteredName n) s = subst (λ x. IsName x) (sym s.0) s.1
 
--- an IPv4 spelling is read before the class is looked at
-pub ipv4_first : (t a : List ℕ) → ipv4_reading t ≡ Some a → name_reading t ≡ Ok (IPv4Address a)
-ipv4_first t a e = rw ((no_fault class.Name t).1 (IsIn-SpellsIpv4 t a (ipv4_reading-found t a e)), e) refl
+-- a text of the class of names that spells a host is read as that host
+pub name_read : (t : List ℕ) (h : Host) → fault class.Name t ≡ None → Spells t h → name_reading t ≡ Ok h
+name_read t h e s = sym (ap (λ o. bracket_reading o t) (name_no_brackets t ((no_fault class.Name t).0 e))) ∙ again t h s
 
 -- ---- the texts of hosts
 

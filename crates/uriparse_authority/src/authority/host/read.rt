@@ -2,7 +2,10 @@
 ghost use Rattle.std.specs.Prelude.{◌≡◌};
 ghost use Rattle.std.specs.Option.{option_copied};
 ghost use Rattle.std.specs.List.{list_all};
+ghost use Rattle.uriparse_text.specs.declared.internal.class.Class.TheVariants as class;
+ghost use Rattle.uriparse_text.specs.declared.internal.case.Case.TheVariants as case;
 ghost use Rattle.uriparse_text.specs.Address.{is_ipv6_byte};
+ghost use Rattle.uriparse_text.specs.Spelling.{IsValidText};
 ghost use Rattle.uriparse_authority.specs.Future as future;
 ghost use Rattle.uriparse_authority.specs.Host as host;
 
@@ -65,16 +68,26 @@ fn read_literal(bytes: &[u8]) -> Result<FoundHost<'_>, HostError>
     }
 }
 
-/// Reads a text without brackets: an IPv4 address, or else a name.
+/// Finds the host that a text of the class of names spells, canonical if so marked: an IPv4 address,
+/// or else a name.
+#[inline(always)]
+pub(in crate::authority) fn find_name_host(bytes: &[u8], canonical: bool) -> FoundHost<'_>
+    requires { IsValidText class.Name case.Lowered canonical bytes.now }
+    ensures { host.Spells bytes.now result }
+{
+    if let Some(address) = Ipv4Addr::parse_bytes(bytes) {
+        return found_ipv4(address);
+    }
+    found_name(bytes, canonical)
+}
+
+/// Reads a text without brackets, which is of the class of names.
 fn read_name(bytes: &[u8]) -> Result<FoundHost<'_>, HostError>
     ensures { result ≡ host.name_reading bytes.now }
 {
-    if let Some(address) = Ipv4Addr::parse_bytes(bytes) {
-        return Ok(found_ipv4(address));
-    }
     match check_bytes(Class::Name, Case::Lowered, bytes) {
         Err(_) => Err(HostError::InvalidIPv4OrRegisteredNameCharacter),
-        Ok(canonical) => Ok(found_name(bytes, canonical)),
+        Ok(canonical) => Ok(find_name_host(bytes, canonical)),
     }
 }
 

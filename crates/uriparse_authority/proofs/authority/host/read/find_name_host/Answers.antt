@@ -1,5 +1,5 @@
 use Rattle.std.proofs.Common.{◌≡◌, None, Some, refl, rules}
-use Rattle.uriparse_authority.proofs.authority.read.find_name_host.Goals as goal
+use Rattle.uriparse_authority.proofs.authority.host.read.find_name_host.Goals as goal
 
 pub returns : goal.returns
 returns c =
