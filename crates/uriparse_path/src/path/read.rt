@@ -212,7 +212,7 @@ fn ends_at_once(text: &[u8]) -> bool
 {
     match text {
         [] => true,
-        [b, ..] => matches!(b, b'?' | b'#'),
+        [b, ..] => is_end(true, *b),
     }
 }
 

@@ -24,6 +24,13 @@ use crate::path::read::split_root;
 use crate::path::segment::has_colon;
 use uriparse_text::internal::{Case, Form, put, put_formed, split_at_mark};
 
+/// Whether a text needs a leading `/.`: no authority precedes it, and it begins with two slashes.
+fn needs_dot_prefix(has_authority: bool, twice: bool) -> bool
+    ensures { result ≡ (not has_authority && twice) }
+{
+    !has_authority && twice
+}
+
 /// The front of a path from which dot segments are removed: its root, and `/.` if it would begin
 /// with two slashes without an authority.
 fn put_front(state: BackwardState, rooted: bool, has_authority: bool, out: &mut [u8]) -> usize
@@ -31,18 +38,10 @@ fn put_front(state: BackwardState, rooted: bool, has_authority: bool, out: &mut 
     ensures puts { spec.PutsFront has_authority rooted state out.old result out.new }
 {
     let text = state.text.put_root(rooted || state.removed, out);
-    if !has_authority && text.twice {
+    if needs_dot_prefix(has_authority, text.twice) {
         return put(b"/.", out, text.len);
     }
     text.len
-}
-
-/// Whether no `.` is needed before the text: an authority precedes it, or it does not begin with two
-/// slashes.
-fn needs_no_dot_prefix(has_authority: bool, text: &[u8]) -> bool
-    ensures { result ≡ not (not has_authority && path.has_two_slashes text.now) }
-{
-    has_authority || !matches!(text, [b'/', b'/', ..])
 }
 
 /// Whether the removal of dot segments keeps the text as it is. `last` says where the last one begins
@@ -54,7 +53,7 @@ fn stays_whole(has_authority: bool, last: Option<usize>, text: &[u8]) -> bool
 {
     match last {
         Some(_) => false,
-        None => needs_no_dot_prefix(has_authority, text),
+        None => !needs_dot_prefix(has_authority, matches!(text, [b'/', b'/', ..])),
     }
 }
 

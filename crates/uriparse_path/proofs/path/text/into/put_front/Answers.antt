@@ -14,9 +14,9 @@ placed c form ended l t is =
     subst (λ v. IsPlaced c.put_root-text.result c.put_root-text.new.out (root v ++ text) t) (flag ∙ ap (λ v. c.args.rooted || v) is.removed)
     (c.put_root-text.ensures.placed text t is.placed)
 
-pub returns-then-text-clause-puts : goal.returns-then-text-clause-puts
-returns-then-text-clause-puts c = λ form ended l t is.
-    let there = placed (goal.at.returns-then-text-clause-puts c).After-put_root-text form ended l t is in
+pub returns-then-needs_dot_prefix-clause-puts : goal.returns-then-needs_dot_prefix-clause-puts
+returns-then-needs_dot_prefix-clause-puts c = λ form ended l t is.
+    let there = placed (goal.at.returns-then-needs_dot_prefix-clause-puts c).After-put_root-text form ended l t is in
     let x = root (c.args.rooted || l.removed) ++ remaining_text form ended l.kept in
     let two : (not c.args.has_authority && c.put_root-text.result.twice) ≡ true = search rules in
     front_dotted c.args.has_authority x t c.put.new.out c.put.result (ap (λ v. not c.args.has_authority && v) (sym there.twice) ∙ two)
