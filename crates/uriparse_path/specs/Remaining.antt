@@ -119,7 +119,7 @@ ProcessesAll form ended ss old buffer new filled =
     (l : Remaining) (t : List ℕ) → IsBackwardState form ended l old buffer t → IsBackwardState form ended (process_all ss l) new filled t
 
 -- The text that this state has in a buffer is, after its root, at the end of that buffer.
-abbrev pub PutsFront : Bool → Bool → BackwardState → List ℕ → ℕ → List ℕ → Type 0
-PutsFront has_authority rooted state buffer len filled =
+abbrev pub PutsRootPrefix : Bool → Bool → BackwardState → List ℕ → ℕ → List ℕ → Type 0
+PutsRootPrefix has_authority rooted state buffer len filled =
     (form : Form) (ended : Bool) (l : Remaining) (t : List ℕ) → IsBackwardState form ended l state buffer t
     → EndsWith filled len (rooted_text has_authority rooted form ended l ++ t)

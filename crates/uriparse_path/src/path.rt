@@ -29,7 +29,6 @@ mod count;
 pub mod counts;
 pub(crate) mod dots;
 mod edit;
-pub(crate) mod front;
 mod list;
 pub(crate) mod merge;
 pub(crate) mod normal;
@@ -40,14 +39,15 @@ pub(crate) mod relate;
 mod rules;
 mod segment;
 mod segments;
+pub(crate) mod start;
 pub(crate) mod text;
 
 use counts::{Counts, Dotted};
-use front::most_path_bytes;
 use list::SegmentList;
 use read::{count_segments, counted_path, split_root};
 use rules::starts_with_empty_segment;
 use segment::each_is_segment;
+use start::most_path_bytes;
 pub use text::Segments;
 
 /// The maximum number of segments of a path.

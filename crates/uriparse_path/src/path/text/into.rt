@@ -31,11 +31,11 @@ fn needs_dot_prefix(has_authority: bool, twice: bool) -> bool
     !has_authority && twice
 }
 
-/// The front of a path from which dot segments are removed: its root, and `/.` if it would begin
-/// with two slashes without an authority.
-fn put_front(state: BackwardState, rooted: bool, has_authority: bool, out: &mut [u8]) -> usize
+/// Puts what precedes the segments of a path from which dot segments are removed: its root, and `/.`
+/// if it would begin with two slashes without an authority.
+fn put_root_prefix(state: BackwardState, rooted: bool, has_authority: bool, out: &mut [u8]) -> usize
     ensures room { length out.new ≡ length out.old }
-    ensures puts { spec.PutsFront has_authority rooted state out.old result out.new }
+    ensures puts { spec.PutsRootPrefix has_authority rooted state out.old result out.new }
 {
     let text = state.text.put_root(rooted || state.removed, out);
     if needs_dot_prefix(has_authority, text.twice) {
@@ -77,7 +77,7 @@ pub fn put_undotted(
     }
     let ended = ends_in_dots(last, rest);
     let state = BackwardState::none(len).process(form, ended, rest, last, out);
-    put_front(state, rooted, has_authority, out)
+    put_root_prefix(state, rooted, has_authority, out)
 }
 
 /// Puts the merged paths without their dot segments: the base's up to its last slash, then the
@@ -101,7 +101,7 @@ pub fn put_merged(
     let ended = ends_in_dots(last, reference);
     let state = BackwardState::none(len).process(Form::AsIs, ended, reference, last, out);
     let state = state.process_directory(Form::AsIs, ended, rest, out);
-    put_front(state, rooted, has_authority, out)
+    put_root_prefix(state, rooted, has_authority, out)
 }
 
 /// Puts this many `../`.
@@ -129,8 +129,9 @@ fn put_double_dots(double_dots: usize, more: bool, out: &mut [u8], len: usize) -
     put_parent_steps(double_dots - 1, out, len)
 }
 
-/// The front of a path that stays relative: the `..` that are left, or `./` if it is needed.
-fn put_relative_front(state: BackwardState, had_colon: bool, out: &mut [u8]) -> usize
+/// Puts what precedes the segments of a path that stays relative: the `..` that are left, or `./` if
+/// it is needed.
+fn put_relative_prefix(state: BackwardState, had_colon: bool, out: &mut [u8]) -> usize
     ensures room { length out.new ≡ length out.old }
     ensures puts { (ended : Bool) (l : spec.Remaining) (t : List ℕ) → spec.IsBackwardState Canonical ended l state out.old t → EndsWith out.new result (spec.relative_text had_colon ended l ++ t) }
 {
@@ -154,7 +155,7 @@ fn put_relative(text: &[u8], out: &mut [u8], len: usize) -> usize
     let last = last_dots(text);
     let ended = ends_in_dots(last, text);
     let state = BackwardState::none(len).process(Form::Canonical, ended, text, last, out);
-    put_relative_front(state, has_colon(first), out)
+    put_relative_prefix(state, has_colon(first), out)
 }
 
 /// Puts the normal form of a path's text at this place in a reference.

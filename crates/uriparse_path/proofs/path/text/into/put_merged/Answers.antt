@@ -39,7 +39,7 @@ returns-clause-puts c = λ t h.
     let ended = c.ends_in_dots-ended.result in
     let rest = c.split_root-rooted.result.1.now in
     let left = process_all (all_but_last (slice_split is_slash rest)) (remaining_of (slice_split is_slash reference)) in
-    let end = c.put_front.ensures.puts AsIs ended left t
+    let end = c.put_root_prefix.ensures.puts AsIs ended left t
     (c.process_directory-state.ensures.is (remaining_of (slice_split is_slash reference)) t
     (c.process-state.ensures.is nothing t (c.none.ensures.is AsIs ended c.args.out.now t h))) in
     let whole : left ≡ remaining_of (merged (spelled base) (spelled reference)).segments =
@@ -52,4 +52,4 @@ returns-clause-puts c = λ t h.
     ∙ ap (λ v. root (is_rooted base || (remaining_of (merged (spelled base) (spelled reference)).segments).removed)
     ++ remaining_text AsIs v (remaining_of (merged (spelled base) (spelled reference)).segments).kept) c.ends_in_dots-ended.ensures
     ∙ merged_text base reference c.requires.relative c.requires.base c.requires.reference c.requires.short in
-    subst (λ x. EndsWith c.put_front.new.out c.put_front.result (text (with_dot_prefix_unless c.args.has_authority (spelled x)) ++ t)) same end
+    subst (λ x. EndsWith c.put_root_prefix.new.out c.put_root_prefix.result (text (with_dot_prefix_unless c.args.has_authority (spelled x)) ++ t)) same end

@@ -24,10 +24,10 @@ pub returns-clause-puts : goal.returns-clause-puts
 returns-clause-puts c = λ t h.
     let ss = slice_split is_slash c.args.text.now in
     let ended = c.ends_in_dots-ended.result in
-    let end = c.put_relative_front.ensures.puts ended (remaining_of ss) t (c.process-state.ensures.is nothing t (c.none.ensures.is Canonical ended c.args.out.now t h)) in
+    let end = c.put_relative_prefix.ensures.puts ended (remaining_of ss) t (c.process-state.ensures.is nothing t (c.none.ensures.is Canonical ended c.args.out.now t h)) in
     let colon : c.has_colon.result ≡ is_first has_colon ss =
     c.has_colon.ensures ∙ ap has_colon c.split_at_mark.ensures.front ∙ sym (first_colon-pieces c.args.text.now) in
-    subst (λ x. EndsWith c.put_relative_front.new.out c.put_relative_front.result (x ++ t))
+    subst (λ x. EndsWith c.put_relative_prefix.new.out c.put_relative_prefix.result (x ++ t))
     (ap (λ v. relative_text v ended (remaining_of ss)) colon
     ∙ ap (λ v. relative_text (is_first has_colon ss) v (remaining_of ss)) c.ends_in_dots-ended.ensures
     ∙ relative_left ss (pieces_of_path c.args.text.now c.requires.path))

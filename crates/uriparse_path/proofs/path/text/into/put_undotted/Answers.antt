@@ -29,7 +29,7 @@ returns-clause-puts c = λ t h.
     let u = c.args.text.now in
     let ended = c.ends_in_dots-ended.result in
     let rest = c.split_root-rooted.result.1.now in
-    let end = c.put_front.ensures.puts form ended (remaining_of (slice_split is_slash rest)) t
+    let end = c.put_root_prefix.ensures.puts form ended (remaining_of (slice_split is_slash rest)) t
     (c.process-state.ensures.is nothing t (c.none.ensures.is form ended c.args.out.now t h)) in
     let same : root (c.split_root-rooted.result.0 || (remaining_of (slice_split is_slash rest)).removed) ++ remaining_text form ended (remaining_of (slice_split is_slash rest)).kept
     ≡ formed form Kept (undot u) =
@@ -40,7 +40,7 @@ returns-clause-puts c = λ t h.
     ∙ ap (λ v. root (v || (remaining_of (pieces u)).removed) ++ remaining_text form (is_last is_dot_segment (pieces u)) (remaining_of (pieces u)).kept)
     c.split_root-rooted.ensures.root
     ∙ undotted_text form u c.requires in
-    subst (λ x. EndsWith c.put_front.new.out c.put_front.result (text (with_dot_prefix_unless c.args.has_authority (spelled x)) ++ t)) same end
+    subst (λ x. EndsWith c.put_root_prefix.new.out c.put_root_prefix.result (text (with_dot_prefix_unless c.args.has_authority (spelled x)) ++ t)) same end
 
 pub returns-then-stays_whole-clause-puts : goal.returns-then-stays_whole-clause-puts
 returns-then-stays_whole-clause-puts c = λ t h.

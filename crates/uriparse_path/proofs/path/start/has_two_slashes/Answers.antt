@@ -1,7 +1,7 @@
 use Rattle.std.proofs.Common.{◌&&◌, ◌||◌, drop, ap, ◌∙◌}
 use Rattle.uriparse_path.specs.Path.{starts_with_empty_segment}
 use Rattle.uriparse_path.proofs.lemmas.text.BeginningLemmas.{two_slashes-text}
-use Rattle.uriparse_path.proofs.path.front.has_two_slashes.Goals as goal
+use Rattle.uriparse_path.proofs.path.start.has_two_slashes.Goals as goal
 
 pub returns-clause-answer : goal.returns-clause-answer
 returns-clause-answer c =

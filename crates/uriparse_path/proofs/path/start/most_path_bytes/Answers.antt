@@ -4,7 +4,7 @@ use Rattle.uriparse_text.specs.Bytes.{slash}
 use Rattle.uriparse_text.proofs.lemmas.readings.SaturatingLemmas.{most_of}
 use Rattle.uriparse_path.specs.Path.{PathParts, flag, text}
 use Rattle.uriparse_path.proofs.lemmas.text.PathTextLemmas.{length-text}
-use Rattle.uriparse_path.proofs.path.front.most_path_bytes.Goals as goal
+use Rattle.uriparse_path.proofs.path.start.most_path_bytes.Goals as goal
 
 pub returns : goal.returns
 returns c =

@@ -3,8 +3,8 @@ use Rattle.uriparse_text.specs.declared.internal.backward_buffer.Form.{Form}
 use Rattle.uriparse_path.specs.Path.{root}
 use Rattle.uriparse_path.specs.Remaining.{Remaining, IsBackwardState, IsPlaced, remaining_text}
 use Rattle.uriparse_path.proofs.lemmas.left.UndottedLemmas.{front_dotted, front_plain}
-use Rattle.uriparse_path.proofs.path.text.into.put_front.Goals.{After-put_root-text}
-use Rattle.uriparse_path.proofs.path.text.into.put_front.Goals as goal
+use Rattle.uriparse_path.proofs.path.text.into.put_root_prefix.Goals.{After-put_root-text}
+use Rattle.uriparse_path.proofs.path.text.into.put_root_prefix.Goals as goal
 
 placed : (c : After-put_root-text) (form : Form) (ended : Bool) (l : Remaining) (t : List ℕ) → IsBackwardState form ended l c.args.state c.args.out.now t
     → IsPlaced c.put_root-text.result c.put_root-text.new.out (root (c.args.rooted || l.removed) ++ remaining_text form ended l.kept) t

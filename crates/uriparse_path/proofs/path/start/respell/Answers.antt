@@ -1,7 +1,7 @@
 use Rattle.std.proofs.Common.{◌≡◌, true, false, drop, sym, ap, ◌∙◌}
 use Rattle.uriparse_path.specs.Path.{starts_with_empty_segment}
 use Rattle.uriparse_path.proofs.lemmas.text.PathTextLemmas.{spelled-text, respelled_shown, respelled_absolute, respelled_hidden}
-use Rattle.uriparse_path.proofs.path.front.respell.Goals as goal
+use Rattle.uriparse_path.proofs.path.start.respell.Goals as goal
 
 pub returns-then-not-starts_with_empty_segment : goal.returns-then-not-starts_with_empty_segment
 returns-then-not-starts_with_empty_segment c =

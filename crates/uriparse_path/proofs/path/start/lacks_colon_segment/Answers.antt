@@ -1,7 +1,7 @@
 use Rattle.std.proofs.Common.{◌||◌, not, sym, ap, ◌∙◌}
 use Rattle.uriparse_path.specs.Relative.{is_first, has_colon}
 use Rattle.uriparse_path.proofs.lemmas.text.BeginningLemmas.{colon-text}
-use Rattle.uriparse_path.proofs.path.front.lacks_colon_segment.Goals as goal
+use Rattle.uriparse_path.proofs.path.start.lacks_colon_segment.Goals as goal
 
 pub returns-else-is_rooted : goal.returns-else-is_rooted
 returns-else-is_rooted c =

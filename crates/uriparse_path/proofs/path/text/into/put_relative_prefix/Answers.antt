@@ -5,7 +5,7 @@ use Rattle.uriparse_path.specs.Path.{is_rooted}
 use Rattle.uriparse_path.specs.Relative.{is_first, has_colon}
 use Rattle.uriparse_path.specs.Remaining.{climbed, is_more, remaining_text}
 use Rattle.uriparse_path.proofs.lemmas.left.RelativeRemainingLemmas.{led_climbed, led_plain}
-use Rattle.uriparse_path.proofs.path.text.into.put_relative_front.Goals as goal
+use Rattle.uriparse_path.proofs.path.text.into.put_relative_prefix.Goals as goal
 
 pub returns-then-state-gt0-clause-puts : goal.returns-then-state-gt0-clause-puts
 returns-then-state-gt0-clause-puts c = λ ended l t is.
