@@ -25,7 +25,7 @@ pub fn words(line: &str) -> (&str, &str, &str) {
 }
 
 /// What a line asks about a long text: its command, and the three words that the text is made of,
-/// of which the second is repeated so many times.
+/// with the number of times that the second is repeated.
 pub fn split_long(line: &str) -> (&str, &str, usize, &str, &str) {
     let (command, rest) = word(line);
     let (front, rest) = word(rest);
@@ -38,7 +38,7 @@ pub fn split_long(line: &str) -> (&str, &str, usize, &str, &str) {
 /// How many words are appended to a long text at once.
 const BLOCK: usize = 1_000;
 
-/// A word so many times, appended one by one.
+/// The word, repeated `count` times, one at a time.
 fn repeated_singly(alloc: Global, count: usize, word: &str) -> Answer {
     let mut text = String::new(alloc);
     for _ in 0..count {
@@ -47,7 +47,7 @@ fn repeated_singly(alloc: Global, count: usize, word: &str) -> Answer {
     Ok(text)
 }
 
-/// A word so many times.
+/// The word, repeated `count` times.
 pub fn repeated(alloc: Global, count: usize, word: &str) -> Answer {
     if count < BLOCK {
         return repeated_singly(alloc, count, word);
