@@ -57,6 +57,7 @@ fn marks_of_dot_candidates(text: &[u8], at: usize) -> u64
     requires room { at + 16 ≤ length text.now }
     ensures { spec.AreHeadMarks text.now at 16 result }
 {
+    // A dot segment begins with one of two bytes. The test takes three, so one stands twice.
     marks_of_pairs(&Is(b'/'), &IsAny(b'.', b'%', b'%'), text, at)
 }
 
