@@ -1,6 +1,6 @@
 -- File paths and the URIs that name them.
-use Rattle.std.proofs.Common.{◌≡◌, ℕ, ◌+◌, ◌<◌, ◌≤◌, Bool, true, false, cond, List, [], ◌∷◌, ◌++◌, length, map, flat_map, take, drop, get_or, Option, Some, None, Ok, Err, inl, inr, refl, sym, ap, subst, ◌∙◌, append-nil, append_assoc, arith, suc, zero}
-use Rattle.std.specs.Prelude.{◌||◌, ◌⊎◌, ◌==◌, ◌↔◌, Result, IsTrue, not, codes, bytes_eq, is_some}
+use Rattle.std.proofs.Common.{◌≡◌, ℕ, ◌+◌, ◌<◌, Bool, true, false, cond, List, [], ◌∷◌, ◌++◌, length, flat_map, take, drop, get_or, Option, Some, None, Ok, Err, inl, inr, refl, sym, ap, subst, ◌∙◌, append-nil, append_assoc, arith, suc, zero}
+use Rattle.std.specs.Prelude.{◌||◌, ◌⊎◌, ◌↔◌, IsTrue, not, codes, bytes_eq, is_some}
 use Rattle.std.specs.Str.{str_to_ascii_lowercase}
 use Rattle.std.proofs.lemmas.Slice.Eq.{bytes_eq-Decides}
 use Rattle.std.specs.List.{list_all, list_any, slice_split, join_with_byte}
@@ -27,9 +27,9 @@ use Rattle.uriparse_text.specs.Readings.{IsUnless, unless_fault}
 use Rattle.uriparse_reference.specs.Reference.{Parts, host_of, port_of, username_of}
 use Rattle.uriparse_text.specs.declared.segment.error.PathError.{PathError}
 use Rattle.uriparse_text.specs.declared.segment.error.PathError.TheVariants.{ExceededMaximumLength, OutOfMemory}
-use Rattle.uriparse_path.specs.Path.{IsListed, PathParts, is_slash, is_rooted, max_segments, pieces, spelled}
-use Rattle.uriparse_text.specs.Segment.{is_segment, IsSegment}
-use Rattle.uriparse_path.specs.Faults.{fault, fault_within, first_fault, length_fault, reading}
+use Rattle.uriparse_path.specs.Path.{IsListed, PathParts, is_slash, max_segments, pieces, spelled}
+use Rattle.uriparse_text.specs.Segment.{is_segment}
+use Rattle.uriparse_path.specs.Faults.{fault, fault_within, length_fault, reading}
 use Rattle.uriparse_path.proofs.lemmas.reading.FaultLemmas.{no_segment_fault}
 use Rattle.uriparse_path.proofs.lemmas.text.SplitLemmas.{IsCut, cut, joined-following, joined-pieces, pieces-byte, pieces-joined, pieces-slash}
 use Rattle.uriparse_path.proofs.lemmas.text.PathTextLemmas.{pieces-segments}
@@ -48,7 +48,7 @@ use Rattle.uriparse.specs.Kinds.{with_mapped_error}
 use Rattle.uriparse.specs.Uri.{map_error}
 use Rattle.uriparse.specs.declared.file.error.FileError.{FileError}
 use Rattle.uriparse.specs.declared.file.error.FileError.TheVariants as errors
-use Rattle.uriparse.specs.File.{AreWritten, bytes_fault, encoded_pieces, file_uri, is_file, is_local, is_nul, joined_names, local_uri, name_fault, names_fault, names_of, no_host, parts_fault, path_fault, path_of_uri, uri_of_path}
+use Rattle.uriparse.specs.File.{AreWritten, bytes_fault, encoded_pieces, file_uri, is_file, is_local, is_nul, joined_names, local_uri, name_fault, names_fault, names_of, no_host, parts_fault, path_of_uri, uri_of_path}
 
 -- ---- the segments of a path, one after another
 
