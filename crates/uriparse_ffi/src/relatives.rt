@@ -18,6 +18,7 @@ use crate::code::{base_code, uri_code};
 use crate::put::{answer_room, refuse};
 use crate::texts::view_uri;
 use uriparse::{Authority, Fragment, Query, ReferenceView, Scheme, TooSmall};
+use uriparse_path::internal::has_dot_segment;
 use uriparse_reference::internal::{
     has_same_authority, has_same_scheme, has_same_text, put_query_and_fragment,
     put_scheme_and_authority,
@@ -26,7 +27,7 @@ use uriparse_text::internal::Form;
 
 mod path;
 
-use path::{PathText, has_dots, inner, put_path, whole_path};
+use path::{PathText, inner, put_path, whole_path};
 
 /// What a reference is put together from that leads to a target. It borrows the target's texts.
 #[derive(Drop)]
@@ -85,7 +86,7 @@ fn is_in_place(base: &ReferenceView<'_>, target: &ReferenceView<'_>) -> bool
     ensures { IsTrue result ↔ IsInPlace base.now.parts target.now.parts }
 {
     is_same_path(base, target)
-        && !has_dots(target.segments())
+        && !has_dot_segment(target.segments())
         && (target.query().is_some() || base.query().is_none())
 }
 

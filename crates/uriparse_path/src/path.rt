@@ -36,7 +36,7 @@ pub(crate) mod offset;
 pub(crate) mod read;
 mod reduce;
 pub(crate) mod relate;
-mod rules;
+pub(crate) mod rules;
 mod segment;
 mod segments;
 pub(crate) mod start;

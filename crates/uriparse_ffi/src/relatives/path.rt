@@ -1,20 +1,19 @@
 //! The path that leads from a base's path to another one, by a walk over their texts: RFC 3986,
 //! sections 4.2 and 5.2.
-ghost use Rattle.std.specs.Prelude.{◌≡◌, ◌==◌, ◌&&◌, ℕ, List, ◌+◌, ◌<◌, ◌++◌, IfSome, MatchOption, is_some, length, nat_lt};
+ghost use Rattle.std.specs.Prelude.{◌≡◌, ◌==◌, ◌&&◌, ◌+◌, ◌<◌, ◌++◌, IfSome, MatchOption, is_some, length, nat_lt};
 ghost use Rattle.std.specs.List.{slice_split};
 ghost use Rattle.std.specs.Option.{option_copied};
 ghost use Rattle.uriparse_text.specs.Cuts.{from_first, part};
-ghost use Rattle.uriparse_text.specs.Ends.{EndsWith, Puts};
+ghost use Rattle.uriparse_text.specs.Ends.{Puts};
 ghost use Rattle.uriparse_path.specs.Dots as dots;
-ghost use Rattle.uriparse_path.specs.Path.{IsPath, is_rooted, is_slash, max_segments, spelled, unrooted};
+ghost use Rattle.uriparse_path.specs.Path.{IsPath, is_slash, max_segments, spelled};
 ghost use Rattle.uriparse_path.specs.Relate as relate;
 ghost use Rattle.uriparse_path.specs.Relative.{is_first};
-ghost use Rattle.uriparse_path.specs.Remaining.{with_parent_steps};
 ghost use Rattle.uriparse_reference.specs.Relate as reference;
 ghost use Rattle.uriparse_ffi.specs.Relatives as spec;
 
 use uriparse::Segments;
-use uriparse_path::internal::segments_of;
+use uriparse_path::internal::{has_dot_segment, put_parent_steps, segments_of, split_root};
 use uriparse_path::path::MAX_SEGMENTS;
 use uriparse_text::internal::{put, split_at_mark, without_mark};
 
@@ -35,29 +34,6 @@ pub(super) fn whole_path(path: &[u8]) -> PathText<'_>
         parents: 0,
         rest: path,
     }
-}
-
-/// Whether the text begins with a slash, and the text without it.
-fn split_root(path: &[u8]) -> (bool, &[u8])
-    ensures root { result.0 ≡ is_rooted path.now }
-    ensures rest { result.1.now ≡ unrooted path.now }
-{
-    match path {
-        [b'/', rest @ ..] => (true, rest),
-        _ => (false, path),
-    }
-}
-
-/// Whether one of the segments is a dot segment.
-pub(super) fn has_dots(segments: Segments<'_>) -> bool
-    ensures { result ≡ dots.has_dot_segment segments.entry }
-{
-    for segment in segments {
-        if segment.is_dot_segment() {
-            return true;
-        }
-    }
-    false
 }
 
 /// Whether one of the segments before the last is a dot segment.
@@ -160,10 +136,10 @@ fn may_lead(base: &[u8], target: &[u8]) -> bool
 {
     have_one_root(base, target)
         && !has_dots_before_last(segments_of(base))
-        && !has_dots(segments_of(target))
+        && !has_dot_segment(segments_of(target))
 }
 
-/// Whether so many directories, and one segment, are less than the maximum of segments.
+/// Whether these directories, and one segment, are fewer than the maximum of segments.
 fn has_room(base: usize, left: usize, rest: usize) -> bool
     ensures { result ≡ nat_lt (base + (left + (rest + 1))) max_segments }
 {
@@ -181,7 +157,7 @@ fn begins_taken(text: &[u8]) -> bool
     first.is_empty() || first.contains(&b':')
 }
 
-/// Whether so many `../`, and then the text, need a leading `./`.
+/// Whether this many `../`, and then the text, need a leading `./`.
 fn needs_dot(parents: usize, text: &[u8]) -> bool
     ensures { result ≡ ((parents == 0) && is_first relate.is_taken (slice_split is_slash text.now)) }
 {
@@ -237,25 +213,13 @@ pub(super) fn inner<'t>(base: &[u8], target: &'t [u8]) -> Option<PathText<'t>>
     None
 }
 
-/// Puts this many `../`.
-fn put_parents(count: usize, out: &mut [u8], len: usize) -> usize
-    ensures room { length out.new ≡ length out.old }
-    ensures puts { (t : List ℕ) → EndsWith out.old len t → EndsWith out.new result (with_parent_steps count t) }
-{
-    let mut total = len;
-    for _ in 0..count {
-        total = put(b"../", out, total);
-    }
-    total
-}
-
-/// Puts the text of the path in front of a text of `len` bytes at the end of the buffer.
+/// Puts the text of the path before a text of `len` bytes at the end of the buffer.
 pub(super) fn put_path(path: &PathText<'_>, out: &mut [u8], len: usize) -> usize
     ensures room { length out.new ≡ length out.old }
     ensures puts { Puts (spec.path_text path.now) out.old len out.new result }
 {
     let len = put(path.rest, out, len);
-    let len = put_parents(path.parents, out, len);
+    let len = put_parent_steps(path.parents, out, len);
     if path.dotted {
         put(b"./", out, len)
     } else {

@@ -21,7 +21,7 @@ use uriparse_text::internal::{
 use uriparse_text::segment::SegmentKind;
 
 /// Whether the text begins with a slash, and the text without it.
-pub(super) fn split_root(text: &[u8]) -> (bool, &[u8])
+pub fn split_root(text: &[u8]) -> (bool, &[u8])
     ensures root { result.0 ≡ is_rooted text.now }
     ensures rest { result.1.now ≡ unrooted text.now }
     ensures within { length result.1.now ≤ length text.now }

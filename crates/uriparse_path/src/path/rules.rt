@@ -10,7 +10,7 @@ use super::Segment;
 use super::segment::has_colon;
 
 /// Segments in order, in a list or in the text of a path.
-pub(super) trait SegmentSequence<'t>: Drop {
+pub trait SegmentSequence<'t>: Drop {
     ghost listed: { Self → List (List ℕ) };
 
     /// The same segments, once more.
@@ -68,7 +68,7 @@ pub(super) fn needs_leading_dot<'t, L: SegmentSequence<'t>>(had_colon: bool, seg
 }
 
 /// Whether there is a dot segment.
-pub(super) fn has_dot_segment<'t, L: SegmentSequence<'t>>(segments: L) -> bool
+pub fn has_dot_segment<'t, L: SegmentSequence<'t>>(segments: L) -> bool
     ensures { result ≡ dots.has_dot_segment (L.listed segments) }
 {
     let mut left = segments;

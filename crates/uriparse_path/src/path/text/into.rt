@@ -105,7 +105,7 @@ pub fn put_merged(
 }
 
 /// Puts this many `../`.
-fn put_parent_steps(count: usize, out: &mut [u8], len: usize) -> usize
+pub fn put_parent_steps(count: usize, out: &mut [u8], len: usize) -> usize
     ensures room { length out.new ≡ length out.old }
     ensures puts { (t : List ℕ) → EndsWith out.old len t → EndsWith out.new result (spec.with_parent_steps count t) }
 {

@@ -8,11 +8,11 @@ returns-then-path-clause-puts c = λ t h.
     let path = c.args.path.now in
     let flag : path.dotted ≡ true = search rules in
     subst (EndsWith c.put.new.out c.put.result) (put_dotted path.parents path.rest.now t path.dotted flag)
-    (c.put.ensures.puts _ (c.put_parents-len.ensures.puts _ (c.put-len.ensures.puts t h)))
+    (c.put.ensures.puts _ (c.put_parent_steps-len.ensures.puts _ (c.put-len.ensures.puts t h)))
 
 pub returns-else-path-clause-puts : goal.returns-else-path-clause-puts
 returns-else-path-clause-puts c = λ t h.
     let path = c.args.path.now in
     let flag : path.dotted ≡ false = search rules in
-    subst (EndsWith c.put_parents-len.new.out c.put_parents-len.result) (put_plain path.parents path.rest.now t path.dotted flag)
-    (c.put_parents-len.ensures.puts _ (c.put-len.ensures.puts t h))
+    subst (EndsWith c.put_parent_steps-len.new.out c.put_parent_steps-len.result) (put_plain path.parents path.rest.now t path.dotted flag)
+    (c.put_parent_steps-len.ensures.puts _ (c.put-len.ensures.puts t h))
