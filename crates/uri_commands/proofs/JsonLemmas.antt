@@ -27,7 +27,7 @@ use Rattle.uriparse.specs.SchemeGrammar.{is_scheme}
 use Rattle.uriparse.specs.Path.{IsPath}
 use Rattle.uriparse.specs.Reference.{Parts, Spells, host_of, port_of}
 use Rattle.uriparse.proofs.lemmas.CharacterLemmas.{AreUriBytes, is_uri_byte, uri_bytes-in_class, uri_bytes-path, uri_bytes-scheme, uri_bytes-spelled}
-use Rattle.uri_commands.specs.Json.{Member, back_members, comma, escaped, escaped_byte, followers, front_members, host_members, is_control, needs_no_json_escape, is_special, kind_name, member, member_text, object, object_text, port_members, quote, segment_members, string, string_or_null}
+use Rattle.uri_commands.specs.Json.{Member, back_members, comma, escaped, escaped_byte, followers, scheme_and_userinfo_members, host_members, is_control, needs_no_json_escape, is_special, kind_name, member, member_text, object, object_text, port_members, quote, segment_members, string, string_or_null}
 use Rattle.uri_commands.specs.Json.{String}
 use Rattle.uri_commands.specs.Lines.{newline}
 
@@ -258,7 +258,7 @@ whole_object m a b c d e =
 
 pub object_written : (text : List ℕ) (p : Parts) (r : Result (Unit {0}) Error) (a b c d e f g h : Option (List ℕ)) (text' : List ℕ) (own : Option Host)
     (port : Option ℕ) (segments : List (List ℕ))
-    → Appends a b (codes "{" ++ member_text (member (codes "text") (String text'))) → text' ≡ text → Appends b c (followers (front_members p))
+    → Appends a b (codes "{" ++ member_text (member (codes "text") (String text'))) → text' ≡ text → Appends b c (followers (scheme_and_userinfo_members p))
     → Appends c d (followers (host_members own)) → own ≡ host_of p → Appends d e (followers (port_members port)) → port ≡ port_of p
     → Appends e f (followers (back_members p)) → Appends f g (followers (segment_members segments)) → segments ≡ p.path.segments
     → OnOk r (Appends g h (codes "}\n")) → OnOk r (Appends a h (object text p ++ newline ∷ []))
@@ -271,7 +271,7 @@ object_written text p (Ok v) a b c d e f g h text' own port segments i j k l m n
     let end = Appends-trans e f h _ _ q (Appends-trans f g h _ _ sixth u) in
     let later = Appends-trans b c h _ _ k (Appends-trans c d h _ _ third (Appends-trans d e h _ _ fourth end)) in
     subst (Appends a h)
-    (whole_object (member (codes "text") (String text)) (front_members p) (host_members (host_of p)) (port_members (port_of p)) (back_members p)
+    (whole_object (member (codes "text") (String text)) (scheme_and_userinfo_members p) (host_members (host_of p)) (port_members (port_of p)) (back_members p)
     (segment_members p.path.segments)) (Appends-trans a b h _ _ first later)
 
 -- ---- the array

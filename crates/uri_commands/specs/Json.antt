@@ -124,8 +124,8 @@ kind_name host.Future = codes "ipvfuture"
 kind_name host.Name = codes "name"
 
 -- the scheme and the user information
-abbrev pub front_members : Parts → List Member
-front_members p =
+abbrev pub scheme_and_userinfo_members : Parts → List Member
+scheme_and_userinfo_members p =
     member (codes "scheme") (string_or_null (option_map scheme.text p.scheme))
     ∷ member (codes "username") (string_or_null (username_of p))
     ∷ member (codes "password") (string_or_null (password_of p))
@@ -157,7 +157,7 @@ segment_members segments = member (codes "segments") (Strings segments) ∷ []
 abbrev pub members : List ℕ → Parts → List Member
 members text p =
     member (codes "text") (String text)
-    ∷ (front_members p ++ (host_members (host_of p) ++ (port_members (port_of p) ++ (back_members p ++ segment_members p.path.segments))))
+    ∷ (scheme_and_userinfo_members p ++ (host_members (host_of p) ++ (port_members (port_of p) ++ (back_members p ++ segment_members p.path.segments))))
 
 -- the object
 abbrev pub object : List ℕ → Parts → List ℕ

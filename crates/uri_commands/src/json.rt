@@ -15,7 +15,7 @@ ghost use Rattle.uriparse.specs.Reading.{fault};
 ghost use Rattle.uriparse.specs.Reference.{Parts, Spells};
 ghost use Rattle.uriparse.specs.Scheme as scheme;
 ghost use Rattle.uriparse.specs.URIReferenceError.{URIReferenceError};
-ghost use Rattle.uri_commands.specs.Json.{back_members, escaped, followers, front_members, host_members, needs_no_json_escape, kind_name, member, member_text, name_of, object, opening, port_members, segment_members, string_or_null};
+ghost use Rattle.uri_commands.specs.Json.{back_members, escaped, followers, scheme_and_userinfo_members, host_members, needs_no_json_escape, kind_name, member, member_text, name_of, object, opening, port_members, segment_members, string_or_null};
 ghost use Rattle.uri_commands.specs.Json as json;
 ghost use Rattle.uri_commands.specs.Lines.{newline};
 ghost use Rattle.uri_commands.specs.declared.failure.Failure.TheVariants as failures;
@@ -163,8 +163,8 @@ fn text_bytes<'c, K: TextKind>(found: Option<&'c Text<'_, K>>) -> Option<&'c [u8
 }
 
 /// Writes the members `scheme`, `username` and `password`.
-fn write_front<O: Write>(reference: &ReferenceView<'_>, out: &mut O) -> io::Result<()>
-    ensures { OnOk result (Appends (O.contents out.old) (O.contents out.new) (followers (front_members reference.now.parts))) }
+fn write_scheme_and_userinfo<O: Write>(reference: &ReferenceView<'_>, out: &mut O) -> io::Result<()>
+    ensures { OnOk result (Appends (O.contents out.old) (O.contents out.new) (followers (scheme_and_userinfo_members reference.now.parts))) }
 {
     let scheme = reference.scheme();
     let scheme = scheme_bytes(scheme.as_ref());
@@ -267,7 +267,7 @@ fn write_object<O: Write>(reference: &ReferenceView<'_>, out: &mut O) -> io::Res
     ensures { OnOk result (Appends (O.contents out.old) (O.contents out.new) (object reference.now.text reference.now.parts ++ newline ∷ [])) }
 {
     write_text(reference.as_str().as_bytes(), out)?;
-    write_front(reference, out)?;
+    write_scheme_and_userinfo(reference, out)?;
     write_host(reference.host().as_ref(), out)?;
     write_port(reference.port(), out)?;
     write_back(reference, out)?;

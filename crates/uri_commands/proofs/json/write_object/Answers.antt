@@ -24,7 +24,7 @@ returns g c =
       c.port.ensures,
       c.segments.ensures.value,
       first,
-      c.in_ok-write_front.ensures,
+      c.in_ok-write_scheme_and_userinfo.ensures,
       c.in_ok-write_host.ensures,
       c.in_ok-write_port.ensures,
       c.in_ok-write_back.ensures,

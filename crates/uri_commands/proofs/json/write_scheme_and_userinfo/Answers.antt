@@ -4,7 +4,7 @@ use Rattle.std.specs.Option.{option_copied, option_map}
 use Rattle.uriparse.specs.Scheme as scheme
 use Rattle.uriparse.specs.Reference.{password_of, username_of}
 use Rattle.uri_commands.proofs.JsonLemmas.{members_written}
-use Rattle.uri_commands.proofs.json.write_front.Goals as goal
+use Rattle.uri_commands.proofs.json.write_scheme_and_userinfo.Goals as goal
 
 pub returns : goal.returns
 returns g c =
