@@ -1,4 +1,4 @@
-//! Promises of paths for which the must-fail edits beside this file put mutants.
+//! Promises of paths for which the gate has mutants.
 //!
 //! They are made as those of `test_mutants_references`.
 #![tactic(auto)]

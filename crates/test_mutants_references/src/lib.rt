@@ -1,4 +1,4 @@
-//! Promises of `URIReference` and of schemes for which the must-fail edits beside this file put mutants.
+//! Promises of `URIReference` and of schemes for which the gate has mutants.
 //!
 //! Each function hands on what the library returns, and its clauses follow from the contracts of
 //! the calls alone. So a body that breaks a clause breaks the library's too: what the prover

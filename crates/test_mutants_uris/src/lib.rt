@@ -1,4 +1,4 @@
-//! Promises of `URI` and of its builder for which the must-fail edits beside this file put mutants,
+//! Promises of `URI` and of its builder for which the gate has mutants,
 //! as those of `test_mutants_references`.
 #![tactic(auto)]
 
