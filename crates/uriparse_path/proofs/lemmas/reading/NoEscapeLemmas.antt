@@ -164,6 +164,16 @@ none_escaped (b ∷ t) h = by_test (b == percent) h (none_escaped t)
     by_test true k rest = absurd (omega (arith, k))
     by_test false k rest = rest (omega (arith, k))
 
+-- a search that finds one
+pub some_escaped : (t : List ℕ) → position_or_len (λ b. b == percent) t < length t → lacks percent t ≡ false
+some_escaped [] h = absurd (omega (arith, h))
+some_escaped (b ∷ t) h = by_test (b == percent) h (some_escaped t)
+  where
+    by_test : (v : Bool) → cond (not v) (1 + position_or_len (λ c. c == percent) t) 0 < suc (length t)
+        → (position_or_len (λ c. c == percent) t < length t → lacks percent t ≡ false) → (not v && lacks percent t) ≡ false
+    by_test true k rest = refl
+    by_test false k rest = rest (omega (arith, k))
+
 -- a text without percent signs up to a place, and some bytes more
 pub lacks_more : (t : List ℕ) (at n : ℕ) → lacks percent (take at t) ≡ true → lacks percent (take n (drop at t)) ≡ true → lacks percent (take (at + n) t) ≡ true
 lacks_more t zero n h k = let same : n ≡ 0 + n = omega arith in subst (λ m. lacks percent (take m t) ≡ true) same k

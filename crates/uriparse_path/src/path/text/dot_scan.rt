@@ -31,7 +31,8 @@ fn may_begin_dot_segment(begins: bool, b: u8) -> bool
 /// Whether there is a percent sign among the bytes.
 #[inline(always)]
 fn is_escaped(bytes: &[u8]) -> bool
-    ensures { result ≡ false → lacks percent bytes.now ≡ true }
+    ensures none { result ≡ false → lacks percent bytes.now ≡ true }
+    ensures some { result ≡ true → lacks percent bytes.now ≡ false }
 {
     first(&Is(b'%'), bytes) < bytes.len()
 }

@@ -2,11 +2,14 @@ use Rattle.std.proofs.Common.{◌≡◌, ◌+◌, ◌-◌, arith, subst, ap, ◌
 use Rattle.std.specs.Int.{bit_at}
 use Rattle.std.proofs.lemmas.Nat.Bits.{bit_at-zero}
 use Rattle.uriparse_text.specs.Marks.{AreMarks}
-use Rattle.uriparse_text.proofs.lemmas.scans.NeighbourLemmas.{pair_marked, pair_unmarked}
+use Rattle.uriparse_text.proofs.lemmas.scans.NeighbourLemmas.{pair_marked, pair_past, pair_unmarked}
 use Rattle.uriparse_text.proofs.internal.clear.marks_of_pairs.Goals as goal
 
-pub returns-then-before-eq0 : goal.returns-then-before-eq0
-returns-then-before-eq0 g c k within =
+pub returns-then-before-eq0-clause-others : goal.returns-then-before-eq0-clause-others
+returns-then-before-eq0-clause-others g c k past = bit_at-zero k
+
+pub returns-then-before-eq0-clause-marks : goal.returns-then-before-eq0-clause-marks
+returns-then-before-eq0-clause-marks g c k within =
     let t = c.args.text.now in
     let at = c.args.at in
     let p = g.T.ByteTest.passes c.args.earlier.now in
@@ -17,8 +20,17 @@ returns-then-before-eq0 g c k within =
     ∙ pair_unmarked p q t (at - 1) at 16 c.marks_of_run-before.result
     (subst (λ n. AreMarks p t (at - 1) n c.marks_of_run-before.result) long c.marks_of_run-before.ensures) k within unset
 
-pub returns : goal.returns
-returns g c k within =
+pub returns-clause-others : goal.returns-clause-others
+returns-clause-others g c k past =
+    let t = c.args.text.now in
+    let at = c.args.at in
+    let a = c.marks_of_run-before.result in
+    let long : at - 1 + 16 - (at - 1) ≡ 16 = omega arith in
+    pair_past (g.T.ByteTest.passes c.args.earlier.now) t (at - 1) 16 a c.marks_of_run.result
+    (subst (λ n. AreMarks (g.T.ByteTest.passes c.args.earlier.now) t (at - 1) n a) long c.marks_of_run-before.ensures) k past
+
+pub returns-clause-marks : goal.returns-clause-marks
+returns-clause-marks g c k within =
     let t = c.args.text.now in
     let at = c.args.at in
     let p = g.T.ByteTest.passes c.args.earlier.now in

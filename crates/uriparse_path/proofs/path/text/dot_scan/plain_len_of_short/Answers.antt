@@ -15,7 +15,7 @@ runs-preserved c =
     let first : (c.runs.begins && may_begin_dot_segment (slice_index_or t at 0)) ≡ false = sym c.may_begin_dot_segment.ensures ∙ c.if-may_begin_dot_segment.false in
     let long : at + len - at ≡ len = omega arith in
     let free : lacks percent (take len (drop at t)) ≡ true =
-    subst (λ n. lacks percent (take n (drop at t)) ≡ true) long (c.is_escaped.ensures c.if-is_escaped.false) in
+    subst (λ n. lacks percent (take n (drop at t)) ≡ true) long (c.is_escaped.ensures.none c.if-is_escaped.false) in
     record {
       within = marks.room;
       begins = sym (begins_after t (at + len) (omega (arith, marks.some c.runs-test.true)));
