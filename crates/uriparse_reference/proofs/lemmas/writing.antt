@@ -1,5 +1,4 @@
 pub mod EndLemmas
 pub mod TargetLemmas
-pub mod StringLemmas
 pub mod SameTextLemmas
 pub mod BackLemmas

@@ -29,6 +29,7 @@ mod kind;
 mod normal;
 mod order;
 mod printed;
+mod put;
 mod string;
 mod target;
 
@@ -67,7 +68,8 @@ impl<'t> Model for ReferenceView<'t> {
 
     ghost view = { λ v. record { text = v.text.now; parts = parts_of v.text.now v.pieces.authority v.pieces.tail.path.now v.pieces.tail.query v.pieces.tail.fragment } };
 
-    ghost invariant = { λ v. AreFound v.text.now v.pieces.scheme.now v.pieces.known v.pieces.authority v.pieces.tail.path.now v.pieces.tail.count v.pieces.tail.escaped v.pieces.tail.query v.pieces.tail.fragment };
+    ghost invariant = { λ v. AreFound v.text.now v.pieces.scheme.now v.pieces.known v.pieces.authority
+        v.pieces.tail.path.now v.pieces.tail.count v.pieces.tail.escaped v.pieces.tail.query v.pieces.tail.fragment };
 }
 
 impl<'t> ReferenceView<'t> {

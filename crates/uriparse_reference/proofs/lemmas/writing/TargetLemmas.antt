@@ -1,6 +1,6 @@
 -- The target of a reference that is put together from its end in a buffer.
-use Rattle.std.proofs.Common.{◌≡◌, ℕ, ◌+◌, ◌<◌, ◌≤◌, Bool, true, false, not, cond, List, [], ◌∷◌, ◌++◌, length, Option, Some, None, Result, refl, sym, ap, ◌∙◌, subst, arith, ◌&&◌, length-append, append_assoc}
-use Rattle.std.specs.Prelude.{MatchOption, is_some, nat_le, nat_lt}
+use Rattle.std.proofs.Common.{◌≡◌, ℕ, ◌+◌, ◌<◌, ◌≤◌, Bool, true, false, not, cond, List, [], ◌∷◌, ◌++◌, length, Option, Some, None, Result, IsUtf8, refl, sym, ap, ◌∙◌, subst, arith, ◌&&◌, length-append, append_assoc}
+use Rattle.std.specs.Prelude.{IfSome, MatchOption, is_some, nat_le, nat_lt}
 use Rattle.std.specs.Option.{option_map, option_or}
 use Rattle.std.proofs.lemmas.Bool.{false≢true, and_parts, not-true, le-leb}
 use Rattle.std.proofs.lemmas.Bool.Decides.{nat_tests}
@@ -24,7 +24,8 @@ use Rattle.uriparse_reference.specs.Normal.{dot_prefixed}
 use Rattle.uriparse_reference.specs.Target.{dots_removed, is_empty, is_merged, merge, target, target_of}
 use Rattle.uriparse_reference.specs.Into.{Writes, formed_scheme, print_if, tail_if, tail_text}
 use Rattle.uriparse_reference.proofs.lemmas.edits.PathRuleLemmas.{fits_of}
-use Rattle.uriparse_reference.proofs.lemmas.resolving.ValidTargetLemmas.{chosen, merge_path, merged_now, target_none}
+use Rattle.uriparse_reference.proofs.lemmas.reading.AsciiLemmas.{IsUtf8-print}
+use Rattle.uriparse_reference.proofs.lemmas.resolving.ValidTargetLemmas.{chosen, merge_path, merged_now, target_none, target_valid}
 use Rattle.uriparse_reference.proofs.lemmas.writing.EndLemmas.{as_is, authority_as_is, path_spelled, scheme_as_is, shielded_unless}
 
 -- the end of a text, as it is
@@ -233,3 +234,11 @@ pub target_written : (result : Result ℕ BufferError) (old new : List ℕ) (P :
     → MatchOption o P (λ t. Writes (print t) result old new)
 target_written result old new P None h w = absurd (h refl)
 target_written result old new P (Some t) h w = w
+
+-- the text of a target is UTF-8
+pub IsUtf8-target : (b r : Parts) → Valid b → Valid r → is_some b.scheme ≡ true → (target b r ≡ None → ⊥) → IsUtf8 (print_if (target b r))
+IsUtf8-target b r v w s there = by_target (target b r) there (target_valid b r v w s)
+  where
+    by_target : (o : Option Parts) → (o ≡ None → ⊥) → IfSome o Valid → IsUtf8 (print_if o)
+    by_target None there is = absurd (there refl)
+    by_target (Some t) there is = IsUtf8-print t is

@@ -1,19 +1,39 @@
 //! The text of a reference with another query and fragment, and where its own begin: RFC 3986,
 //! section 5.3.
-ghost use Rattle.std.specs.Prelude.{◌≡◌, ◌≤◌, IfOk, IfSome, None, length, min, string_bytes, take};
-ghost use Rattle.std.specs.Str.{IsUtf8};
-ghost use Rattle.uriparse_text.specs.Ends.{EndsWith};
+ghost use Rattle.std.specs.Prelude.{◌≡◌, ◌≤◌, IfOk, IfSome, None, length, string_bytes, take};
 ghost use Rattle.uriparse_text.specs.Fragment.{IsFragment};
 ghost use Rattle.uriparse_text.specs.Query.{IsQuery};
-ghost use Rattle.uriparse_text.specs.Starts.{most};
 ghost use Rattle.uriparse_reference.specs.TextEdits.{with_end, with_fragment};
 
 use super::ReferenceView;
 use super::into::put_query_and_fragment;
+use super::put::{PutText, make_string};
 use std::alloc::{AllocError, Global};
 use uriparse_text::fragment::Fragment;
 use uriparse_text::internal::{Form, put};
 use uriparse_text::query::Query;
+
+/// The text of a view with this query and this fragment in place of its own.
+#[derive(Drop)]
+struct TextWithEnd<'v, 't> {
+    view: &'v ReferenceView<'t>,
+    query: &'v Option<Query<'t>>,
+    fragment: &'v Option<Fragment<'t>>,
+}
+
+impl<'v, 't> PutText for TextWithEnd<'v, 't> {
+    ghost can_be_put = { λ t. IfSome t.query.now IsQuery × IfSome t.fragment.now IsFragment };
+
+    ghost text = { λ t. with_end t.view.now.text t.query.now t.fragment.now };
+
+    fn put(&self, out: &mut [u8]) -> usize {
+        let view = self.view;
+        // The view is valid, which is known once a field is read.
+        let _text = &view.text;
+        let len = put_query_and_fragment(Form::AsIs, self.query, self.fragment, out);
+        put(view.without_end(), out, len)
+    }
+}
 
 impl<'t> ReferenceView<'t> {
     /// What precedes the query and the fragment.
@@ -35,45 +55,6 @@ impl<'t> ReferenceView<'t> {
         text.len() - len
     }
 
-    /// Puts the text with this query and this fragment at the end of the buffer. Returns its length.
-    /// If there is no room, only the length is counted.
-    fn put_with_end(
-        &self,
-        query: &Option<Query<'_>>,
-        fragment: &Option<Fragment<'_>>,
-        out: &mut [u8],
-    ) -> usize
-        ensures room { length out.new ≡ length out.old }
-        ensures ends { EndsWith out.new result (with_end self.now.text query.now fragment.now) }
-    {
-        let len = put_query_and_fragment(Form::AsIs, query, fragment, out);
-        put(self.without_end(), out, len)
-    }
-
-    /// The length of the text with this query and this fragment, or the largest number.
-    fn len_with_end(&self, query: &Option<Query<'_>>, fragment: &Option<Fragment<'_>>) -> usize
-        ensures { result ≡ min (length (with_end self.now.text query.now fragment.now)) most }
-    {
-        self.put_with_end(query, fragment, &mut [])
-    }
-
-    /// Fills a buffer of its length with that text.
-    fn fill_with_end(
-        &self,
-        query: &Option<Query<'_>>,
-        fragment: &Option<Fragment<'_>>,
-        out: &mut [u8],
-    )
-        requires len { length out.old ≡ min (length (with_end self.now.text query.now fragment.now)) most }
-        requires query { IfSome query.now IsQuery }
-        requires fragment { IfSome fragment.now IsFragment }
-        ensures text { out.new ≡ with_end self.now.text query.now fragment.now }
-        ensures utf8 { IsUtf8 out.new }
-    {
-        let _text = self.as_str();
-        self.put_with_end(query, fragment, out);
-    }
-
     /// The text with this query and this fragment in place of its own. Allocates once, exactly its
     /// length.
     pub(in crate::uri_reference) fn with_end(
@@ -86,8 +67,11 @@ impl<'t> ReferenceView<'t> {
         requires fragment { IfSome fragment.now IsFragment }
         ensures { IfOk result (λ s. string_bytes s ≡ with_end self.now.text query.now fragment.now) }
     {
-        let mut bytes = vec![in alloc; 0u8; self.len_with_end(query, fragment)]?;
-        self.fill_with_end(query, fragment, &mut bytes);
-        Ok(unsafe { String::from_utf8_unchecked(bytes) })
+        let text = TextWithEnd {
+            view: self,
+            query,
+            fragment,
+        };
+        make_string(alloc, &text)
     }
 }

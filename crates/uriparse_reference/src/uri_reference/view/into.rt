@@ -1,6 +1,6 @@
 //! The components of a reference, each with its delimiter, and the text of its normal form in a
 //! buffer of the caller: RFC 3986, sections 5.3 and 6.2.2.
-ghost use Rattle.std.specs.Prelude.{◌≡◌, ℕ, ◌≤◌, List, ◌++◌, MatchOption, length};
+ghost use Rattle.std.specs.Prelude.{◌≡◌, ◌++◌, length, ⊤};
 ghost use Rattle.std.specs.Option.{option_map};
 ghost use Rattle.uriparse_text.specs.declared.internal.case.Case.TheVariants as case;
 ghost use Rattle.uriparse_text.specs.Bytes.{number_sign, question_mark};
@@ -12,6 +12,7 @@ ghost use Rattle.uriparse_reference.specs.Into as spec;
 
 use super::super::error::BufferError;
 use super::ReferenceView;
+use super::put::{PutText, copy_into, write};
 use uriparse_authority::authority::Authority;
 use uriparse_authority::internal as authority;
 use uriparse_path::internal::{PathContext, put_normal_path};
@@ -78,56 +79,28 @@ pub fn put_scheme_and_authority(
     put_scheme(form, scheme, out, len)
 }
 
-/// Copies a text to the start of the buffer, and returns its length, if there is room.
-fn copy_into(text: &[u8], out: &mut [u8]) -> Result<usize, BufferError>
-    ensures { spec.Writes text.now result out.old out.new }
-{
-    if text.len() > out.len() {
-        return Err(BufferError::TooSmall(text.len()));
+/// The text of the normal form of a view.
+#[derive(Drop)]
+pub(super) struct NormalText<'v, 't>(pub(super) &'v ReferenceView<'t>);
+
+impl<'v, 't> PutText for NormalText<'v, 't> {
+    ghost can_be_put = { λ _. ⊤ };
+
+    ghost text = { λ s. print (normal s.0.now.parts) };
+
+    fn put(&self, out: &mut [u8]) -> usize {
+        let view = self.0;
+        let context = PathContext {
+            has_scheme: view.has_scheme(),
+            has_authority: view.has_authority(),
+        };
+        let len = put_query_and_fragment(Form::Canonical, &view.query(), &view.fragment(), out);
+        let len = put_normal_path(view.path_bytes(), context, out, len);
+        put_scheme_and_authority(Form::Canonical, &view.scheme(), &view.authority(), out, len)
     }
-    out[..text.len()].copy_from_slice(text);
-    Ok(text.len())
-}
-
-/// The number of bytes of the block on the stack in which a short text is put together.
-pub(super) const BLOCK: usize = 256;
-
-/// The number of bytes of the block for a longer text.
-pub(super) const LONG_BLOCK: usize = 2_048;
-
-/// Whether a block of this length serves a text that is put together from texts of `len` bytes: it is
-/// to be written, not only measured, and is not likely to be longer than the block.
-#[inline(always)]
-pub(super) fn serves_block(block: usize, len: usize, out: &[u8]) -> bool {
-    len <= block && !out.is_empty()
-}
-
-/// Copies the text of `len` bytes that the block ends with to the start of the buffer, and returns
-/// its length, if there is room.
-#[inline(always)]
-pub(super) fn copy_end(block: &[u8], len: usize, out: &mut [u8]) -> Result<usize, BufferError>
-    requires { len ≤ length block.now }
-    ensures { (t : List ℕ) → EndsWith block.now len t → spec.Writes t result out.old out.new }
-{
-    copy_into(&block[block.len() - len..], out)
 }
 
 impl<'t> ReferenceView<'t> {
-    /// Puts the text of the normal form at the end of the buffer. Returns its length. If there is
-    /// no room, only the length is counted.
-    pub(super) fn put_normal(&self, out: &mut [u8]) -> usize
-        ensures room { length out.new ≡ length out.old }
-        ensures ends { EndsWith out.new result (print (normal self.now.parts)) }
-    {
-        let context = PathContext {
-            has_scheme: self.has_scheme(),
-            has_authority: self.has_authority(),
-        };
-        let len = put_query_and_fragment(Form::Canonical, &self.query(), &self.fragment(), out);
-        let len = put_normal_path(self.path_bytes(), context, out, len);
-        put_scheme_and_authority(Form::Canonical, &self.scheme(), &self.authority(), out, len)
-    }
-
     /// Writes the text of the normal form to the start of the buffer and returns its length in
     /// bytes; what follows it in the buffer is unchanged. The text is that of
     /// [`URIReference::normalize`](crate::uri_reference::URIReference::normalize). RFC 3986,
@@ -153,54 +126,6 @@ impl<'t> ReferenceView<'t> {
         if self.is_normalized_text() {
             return copy_into(self.text, out);
         }
-        self.write_normal(out)
-    }
-
-    /// Writes the text of the normal form to the start of the buffer. Most texts are put together once,
-    /// in a block whose end then has the text, and copied; a text that is longer, or whose length alone
-    /// is wanted, is measured first.
-    fn write_normal(&self, out: &mut [u8]) -> Result<usize, BufferError>
-        ensures { spec.Writes (print (normal self.now.parts)) result out.old out.new }
-    {
-        let len = self.text.len();
-        let written = if serves_block(BLOCK, len, out) {
-            self.write_normal_by(&mut [0; BLOCK], out)
-        } else if serves_block(LONG_BLOCK, len, out) {
-            self.write_long_normal(out)
-        } else {
-            None
-        };
-        if let Some(result) = written {
-            return result;
-        }
-        let needed = self.put_normal(&mut []);
-        if needed > out.len() {
-            return Err(BufferError::TooSmall(needed));
-        }
-        Ok(self.put_normal(&mut out[..needed]))
-    }
-
-    /// Writes a longer text. Only this call takes the long block's room on the stack.
-    #[inline(never)]
-    fn write_long_normal(&self, out: &mut [u8]) -> Option<Result<usize, BufferError>>
-        ensures { MatchOption result (out.new ≡ out.old) (λ written. spec.Writes (print (normal self.now.parts)) written out.old out.new) }
-    {
-        self.write_normal_by(&mut [0; LONG_BLOCK], out)
-    }
-
-    /// Puts the text together in the block and copies it, or does nothing if it is longer.
-    #[inline(always)]
-    fn write_normal_by(
-        &self,
-        block: &mut [u8],
-        out: &mut [u8],
-    ) -> Option<Result<usize, BufferError>>
-        ensures { MatchOption result (out.new ≡ out.old) (λ written. spec.Writes (print (normal self.now.parts)) written out.old out.new) }
-    {
-        let needed = self.put_normal(block);
-        if needed > block.len() {
-            return None;
-        }
-        Some(copy_end(block, needed, out))
+        write(&NormalText(self), self.text.len(), out)
     }
 }

@@ -1,38 +1,19 @@
 //! The normal form of a reference and the target of another against it, each as a `String`: RFC
 //! 3986, sections 5.2 and 6.2.2.
-ghost use Rattle.std.specs.Prelude.{◌≡◌, ◌≤◌, Err, IfOk, false, is_some, length, min, string_bytes, true};
-ghost use Rattle.std.specs.Str.{IsUtf8};
-ghost use Rattle.uriparse_text.specs.Starts.{most};
-ghost use Rattle.uriparse_path.specs.Path.{max_segments, pieces};
+ghost use Rattle.std.specs.Prelude.{◌≡◌, Err, IfOk, false, is_some, string_bytes, true};
 ghost use Rattle.uriparse_reference.specs.declared.uri_reference.error.TargetError.TheVariants as errors;
 ghost use Rattle.uriparse_reference.specs.Reference.{print};
 ghost use Rattle.uriparse_reference.specs.Normal.{normal};
-ghost use Rattle.uriparse_reference.specs.Target.{ResolvesTo, is_merged, merge, target};
-ghost use Rattle.uriparse_reference.specs.Into as spec;
+ghost use Rattle.uriparse_reference.specs.Target.{ResolvesTo};
 
 use super::super::error::TargetError;
 use super::ReferenceView;
+use super::into::NormalText;
+use super::put::make_string;
+use super::target::TargetText;
 use std::alloc::{AllocError, Global};
 
 impl<'t> ReferenceView<'t> {
-    /// The length of the text of the normal form, or the largest number.
-    fn normal_len(&self) -> usize
-        ensures { result ≡ min (length (print (normal self.now.parts))) most }
-    {
-        self.put_normal(&mut [])
-    }
-
-    /// Fills a buffer of its length with the text of the normal form.
-    fn fill_normal(&self, out: &mut [u8])
-        requires { length out.old ≡ min (length (print (normal self.now.parts))) most }
-        ensures text { out.new ≡ print (normal self.now.parts) }
-        ensures utf8 { IsUtf8 out.new }
-    {
-        // The view is valid, which is known once a field is read.
-        let _text = &self.text;
-        self.put_normal(out);
-    }
-
     /// The text of the normal form, as [`normalize_into`](ReferenceView::normalize_into) writes it.
     /// Allocates once, exactly its length; fails only if memory runs out. RFC 3986, section 6.2.2.
     ///
@@ -46,44 +27,7 @@ impl<'t> ReferenceView<'t> {
         if self.is_normalized_text() {
             return String::from_str(alloc, self.as_str());
         }
-        let mut bytes = vec![in alloc; 0u8; self.normal_len()]?;
-        self.fill_normal(&mut bytes);
-        Ok(unsafe { String::from_utf8_unchecked(bytes) })
-    }
-
-    /// The length of the text of the target, or the largest number.
-    fn target_len(&self, reference: &ReferenceView<'_>) -> usize
-        requires { is_merged reference.now.parts ≡ true → length (pieces (merge self.now.parts reference.now.parts)) ≤ max_segments }
-        ensures { result ≡ min (length (spec.print_if (target self.now.parts reference.now.parts))) most }
-    {
-        self.put_target(reference, &mut [])
-    }
-
-    /// Fills a buffer of its length with the text of the target.
-    fn fill_target(&self, reference: &ReferenceView<'_>, out: &mut [u8])
-        requires scheme { is_some self.now.parts.scheme ≡ true }
-        requires short { is_merged reference.now.parts ≡ true → length (pieces (merge self.now.parts reference.now.parts)) ≤ max_segments }
-        requires len { length out.old ≡ min (length (spec.print_if (target self.now.parts reference.now.parts))) most }
-        ensures text { out.new ≡ spec.print_if (target self.now.parts reference.now.parts) }
-        ensures utf8 { IsUtf8 out.new }
-    {
-        let (_base, _text) = (&self.text, &reference.text);
-        self.put_target(reference, out);
-    }
-
-    /// The text of the target, in a `String` of its length.
-    fn target_string(
-        &self,
-        alloc: Global,
-        reference: &ReferenceView<'_>,
-    ) -> Result<String, AllocError>
-        requires scheme { is_some self.now.parts.scheme ≡ true }
-        requires short { is_merged reference.now.parts ≡ true → length (pieces (merge self.now.parts reference.now.parts)) ≤ max_segments }
-        ensures { IfOk result (λ s. string_bytes s ≡ spec.print_if (target self.now.parts reference.now.parts)) }
-    {
-        let mut bytes = vec![in alloc; 0u8; self.target_len(reference)]?;
-        self.fill_target(reference, &mut bytes);
-        Ok(unsafe { String::from_utf8_unchecked(bytes) })
+        make_string(alloc, &NormalText(self))
     }
 
     /// Resolves a reference against this base, and returns the text of the target, as
@@ -117,7 +61,11 @@ impl<'t> ReferenceView<'t> {
         if self.lacks_target(reference) {
             return Err(TargetError::TooManySegments);
         }
-        match self.target_string(alloc, reference) {
+        let target = TargetText {
+            base: self,
+            reference,
+        };
+        match make_string(alloc, &target) {
             Ok(text) => Ok(text),
             Err(AllocError) => Err(TargetError::OutOfMemory),
         }

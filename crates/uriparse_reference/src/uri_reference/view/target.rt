@@ -1,5 +1,5 @@
 //! The text of the target of a reference in a buffer of the caller: RFC 3986, section 5.2.
-ghost use Rattle.std.specs.Prelude.{◌≡◌, ◌≤◌, ◌&&◌, ◌++◌, Err, MatchOption, false, is_some, length, nat_lt, true};
+ghost use Rattle.std.specs.Prelude.{◌≡◌, ◌≤◌, ◌&&◌, ◌++◌, Err, false, is_some, length, nat_lt, true};
 ghost use Rattle.std.specs.Option.{option_or};
 ghost use Rattle.uriparse_text.specs.declared.internal.backward_buffer.Form.TheVariants.{AsIs};
 ghost use Rattle.uriparse_text.specs.Ends.{EndsWith, Puts};
@@ -12,12 +12,32 @@ ghost use Rattle.uriparse_reference.specs.Into as spec;
 
 use super::super::error::BufferError;
 use super::ReferenceView;
-use super::into::{
-    BLOCK, LONG_BLOCK, copy_end, put_query_and_fragment, put_scheme_and_authority, serves_block,
-};
+use super::into::{put_query_and_fragment, put_scheme_and_authority};
+use super::put::{PutText, write};
 use uriparse_path::internal::{put_merged, put_undotted};
 use uriparse_path::path::MAX_SEGMENTS;
 use uriparse_text::internal::{Form, put};
+
+/// The text of the target of a reference against a base.
+#[derive(Drop)]
+pub(super) struct TargetText<'v, 't> {
+    pub(super) base: &'v ReferenceView<'t>,
+    pub(super) reference: &'v ReferenceView<'t>,
+}
+
+impl<'v, 't> PutText for TargetText<'v, 't> {
+    ghost can_be_put = { λ t. (is_some t.base.now.parts.scheme ≡ true) × (is_merged t.reference.now.parts ≡ true → length (pieces (merge t.base.now.parts t.reference.now.parts)) ≤ max_segments) };
+
+    ghost text = { λ t. spec.print_if (target t.base.now.parts t.reference.now.parts) };
+
+    #[inline(always)]
+    fn put(&self, out: &mut [u8]) -> usize {
+        let (base, reference) = (self.base, self.reference);
+        // The views are valid, which is known once a field of each is read.
+        let (_base, _reference) = (&base.text, &reference.text);
+        base.put_target(reference, out)
+    }
+}
 
 impl<'t> ReferenceView<'t> {
     /// The number of segments of the path.
@@ -157,7 +177,7 @@ impl<'t> ReferenceView<'t> {
 
     /// Puts the text of the target at the end of the buffer. Returns its length. If there is no
     /// room, only the length is counted.
-    pub(super) fn put_target(&self, reference: &ReferenceView<'_>, out: &mut [u8]) -> usize
+    fn put_target(&self, reference: &ReferenceView<'_>, out: &mut [u8]) -> usize
         requires { is_merged reference.now.parts ≡ true → length (pieces (merge self.now.parts reference.now.parts)) ≤ max_segments }
         ensures room { length out.new ≡ length out.old }
         ensures ends { EndsWith out.new result (spec.print_if (target self.now.parts reference.now.parts)) }
@@ -182,66 +202,6 @@ impl<'t> ReferenceView<'t> {
         } else {
             self.text.len().saturating_add(reference.text.len())
         }
-    }
-
-    /// Writes the text of the target to the start of the buffer. Most texts are put together once, in a
-    /// block whose end then has the text, and copied; a text that is longer, or whose length alone is
-    /// wanted, is measured first.
-    fn write_target(
-        &self,
-        reference: &ReferenceView<'_>,
-        out: &mut [u8],
-    ) -> Result<usize, BufferError>
-        requires { is_merged reference.now.parts ≡ true → length (pieces (merge self.now.parts reference.now.parts)) ≤ max_segments }
-        ensures { spec.Writes (spec.print_if (target self.now.parts reference.now.parts)) result out.old out.new }
-    {
-        let len = self.source_len(reference);
-        let written = if serves_block(BLOCK, len, out) {
-            self.write_target_by(reference, &mut [0; BLOCK], out)
-        } else if serves_block(LONG_BLOCK, len, out) {
-            self.write_long_target(reference, out)
-        } else {
-            None
-        };
-        if let Some(result) = written {
-            return result;
-        }
-        let needed = self.put_target(reference, &mut []);
-        if needed > out.len() {
-            return Err(BufferError::TooSmall(needed));
-        }
-        Ok(self.put_target(reference, &mut out[..needed]))
-    }
-
-    /// Writes a longer text. Only this call takes the long block's room on the stack.
-    #[inline(never)]
-    fn write_long_target(
-        &self,
-        reference: &ReferenceView<'_>,
-        out: &mut [u8],
-    ) -> Option<Result<usize, BufferError>>
-        requires { is_merged reference.now.parts ≡ true → length (pieces (merge self.now.parts reference.now.parts)) ≤ max_segments }
-        ensures { MatchOption result (out.new ≡ out.old) (λ written. spec.Writes (spec.print_if (target self.now.parts reference.now.parts)) written out.old out.new) }
-    {
-        self.write_target_by(reference, &mut [0; LONG_BLOCK], out)
-    }
-
-    /// Puts the text together in the block and copies it, or does nothing if it is longer.
-    #[inline(always)]
-    fn write_target_by(
-        &self,
-        reference: &ReferenceView<'_>,
-        block: &mut [u8],
-        out: &mut [u8],
-    ) -> Option<Result<usize, BufferError>>
-        requires { is_merged reference.now.parts ≡ true → length (pieces (merge self.now.parts reference.now.parts)) ≤ max_segments }
-        ensures { MatchOption result (out.new ≡ out.old) (λ written. spec.Writes (spec.print_if (target self.now.parts reference.now.parts)) written out.old out.new) }
-    {
-        let needed = self.put_target(reference, block);
-        if needed > block.len() {
-            return None;
-        }
-        Some(copy_end(block, needed, out))
     }
 
     /// Resolves a reference against this base, writes the text of the target to the start of the
@@ -278,6 +238,10 @@ impl<'t> ReferenceView<'t> {
         if self.lacks_target(reference) {
             return Err(BufferError::TooManySegments);
         }
-        self.write_target(reference, out)
+        let target = TargetText {
+            base: self,
+            reference,
+        };
+        write(&target, self.source_len(reference), out)
     }
 }

@@ -17,14 +17,17 @@ returns-then-lacks_target c = record {
       (no_target c.args.self.now.parts c.args.reference.now.parts (sym c.lacks_target.ensures ∙ c.if-lacks_target.true)) (refl, refl);
 }
 
-pub write_target-requires : goal.write_target-requires
-write_target-requires c = short_enough c.args.self.now.parts c.args.reference.now.parts (sym c.lacks_target.ensures ∙ c.if-lacks_target.false)
+pub write-requires : goal.write-requires
+write-requires c = (
+  sym c.has_scheme.ensures ∙ c.if-not-has_scheme.false,
+  short_enough c.args.self.now.parts c.args.reference.now.parts (sym c.lacks_target.ensures ∙ c.if-lacks_target.false),
+)
 
 pub returns : goal.returns
 returns c = record {
   base = λ h. absurd (false≢true (sym h ∙ sym c.has_scheme.ensures ∙ c.if-not-has_scheme.false));
-  target = λ h. target_written c.write_target.result c.args.out.now c.write_target.new.out _ (target c.args.self.now.parts c.args.reference.now.parts)
+  target = λ h. target_written c.write.result c.args.out.now c.write.new.out _ (target c.args.self.now.parts c.args.reference.now.parts)
       (some_target c.args.self.now.parts c.args.reference.now.parts
       (short_enough c.args.self.now.parts c.args.reference.now.parts (sym c.lacks_target.ensures ∙ c.if-lacks_target.false)))
-      c.write_target.ensures;
+      c.write.ensures;
 }

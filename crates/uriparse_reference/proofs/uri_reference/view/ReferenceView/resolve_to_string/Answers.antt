@@ -17,5 +17,8 @@ returns-then-lacks_target c = record {
       (no_target c.args.self.now.parts c.args.reference.now.parts (sym c.lacks_target.ensures ∙ c.if-lacks_target.true)) refl;
 }
 
-pub target_string-requires-clause-short : goal.target_string-requires-clause-short
-target_string-requires-clause-short c = short_enough c.args.self.now.parts c.args.reference.now.parts (sym c.lacks_target.ensures ∙ c.if-lacks_target.false)
+pub make_string-requires : goal.make_string-requires
+make_string-requires c = (
+  sym c.has_scheme.ensures ∙ c.if-not-has_scheme.false,
+  short_enough c.args.self.now.parts c.args.reference.now.parts (sym c.lacks_target.ensures ∙ c.if-lacks_target.false),
+)
