@@ -25,6 +25,10 @@ pub record AuthorityParts : Type 0 where
   pub host : Host
   pub port : Option ℕ
 
+-- an authority that has each part
+abbrev pub whole_authority : List ℕ → List ℕ → Host → ℕ → AuthorityParts
+whole_authority username password host port = record { username = Some username; password = Some password; host = host; port = Some port }
+
 -- userinfo = username [ ":" password ]
 abbrev pub userinfo : Option (List ℕ) → Option (List ℕ) → Option (List ℕ)
 userinfo username password = option_map (λ t. t ++ following colon password) username

@@ -21,7 +21,7 @@ ghost use Rattle.uriparse_authority.specs.Host as host;
 ghost use Rattle.uriparse_authority.specs.Port as port;
 ghost use Rattle.uriparse_authority.specs.Normal.{canonical_host, canonical_authority};
 ghost use Rattle.uriparse_authority.specs.Offset.{IsAtPercentIff, IsWrongByte, fault_offset};
-ghost use Rattle.uriparse_authority.specs.Authority.{AuthorityParts, Spells, Valid, ReadsBack, canonical_text, ends_authority, fault, fed, fed_key, host_text, joined, key, kind, password_text, port_text, print, reading, rest_error, username_text, whole_reading};
+ghost use Rattle.uriparse_authority.specs.Authority.{AuthorityParts, Spells, Valid, ReadsBack, canonical_text, ends_authority, fault, fed, fed_key, host_text, joined, key, kind, password_text, port_text, print, reading, rest_error, username_text, whole_authority, whole_reading};
 
 /// Reading returns exactly what a text spells: a host, a name by itself, an address of a later
 /// version by itself, a port, an authority, and an authority that is the whole text. A text spells
@@ -158,7 +158,7 @@ pub fn examples()
     ensures after_address { whole_reading (codes "[::1]/") ≡ Err (errors.Host host_errors.InvalidIPv6Character) }
     ensures after_later_version { whole_reading (codes "[v1.x]/") ≡ Err (errors.Host host_errors.InvalidIPvFutureCharacter) }
     ensures after_name { whole_reading (codes "h?") ≡ Err (errors.Host host_errors.InvalidIPv4OrRegisteredNameCharacter) }
-    ensures last_colon { reading (codes "u:p:w@[::1]:8") ≡ Ok (record { username = Some (codes "u"); password = Some (codes "p:w"); host = IPv6Address (0 ∷ 0 ∷ 0 ∷ 0 ∷ 0 ∷ 0 ∷ 0 ∷ 1 ∷ []); port = Some 8 }) }
+    ensures last_colon { reading (codes "u:p:w@[::1]:8") ≡ Ok (whole_authority (codes "u") (codes "p:w") (IPv6Address (0 ∷ 0 ∷ 0 ∷ 0 ∷ 0 ∷ 0 ∷ 0 ∷ 1 ∷ [])) 8) }
 {}
 
 /// Worked examples of normal forms: names, one of which becomes the text of an address and stays a
@@ -170,5 +170,5 @@ pub fn normal_examples()
     ensures hidden { canonical_host (RegisteredName (codes "%31.2.3.4")) ≡ RegisteredName (codes "1.2.3.4") }
     ensures empty { canonical_host (RegisteredName []) ≡ RegisteredName [] }
     ensures later_version { canonical_host (IPvFuture (codes "V1.X:y")) ≡ IPvFuture (codes "v1.x:y") }
-    ensures whole { canonical_authority (record { username = Some (codes "%7eU"); password = Some (codes "%7E%3a"); host = RegisteredName (codes "H"); port = Some 80 }) ≡ record { username = Some (codes "~U"); password = Some (codes "~%3A"); host = RegisteredName (codes "h"); port = Some 80 } }
+    ensures whole { canonical_authority (whole_authority (codes "%7eU") (codes "%7E%3a") (RegisteredName (codes "H")) 80) ≡ whole_authority (codes "~U") (codes "~%3A") (RegisteredName (codes "h")) 80 }
 {}

@@ -20,6 +20,7 @@ use Rattle.uriparse_scheme.specs.declared.scheme.error.SchemeError.{SchemeError}
 use Rattle.uriparse_scheme.specs.declared.scheme.error.SchemeError.TheVariants as schemes
 use Rattle.uriparse_reference.specs.declared.uri_reference.error.URIReferenceError.{URIReferenceError}
 use Rattle.uriparse_reference.specs.declared.uri_reference.error.URIReferenceError.TheVariants as references
+use Rattle.uriparse.specs.Uri.{map_error}
 use Rattle.uriparse.specs.declared.uri.error.URIError.{URIError}
 use Rattle.uriparse.specs.declared.uri.error.URIError.TheVariants as uris
 
@@ -128,6 +129,10 @@ uri_code (uris.Path e) = path_code e
 uri_code (uris.Query e) = query_code e
 uri_code (uris.Fragment e) = fragment_code e
 uri_code (uris.Scheme e) = scheme_code e
+
+-- the code of a reference's fault where a URI is read
+abbrev pub fault_code : URIReferenceError → ℕ
+fault_code e = uri_code (map_error e)
 
 -- the code of a base's error: lack of memory is no fault of the base
 abbrev pub base_code : ℕ → ℕ

@@ -9,7 +9,6 @@ ghost use Rattle.uriparse_reference.specs.declared.uri_reference.error.URIRefere
 ghost use Rattle.uriparse_reference.specs.Reading.{fault};
 ghost use Rattle.uriparse_reference.specs.Reference.{Parts, Spells, Valid};
 ghost use Rattle.uriparse_reference.specs.Relate.{IsInPlace, IsQueryLeft, Relates, following_path, network};
-ghost use Rattle.uriparse.specs.Uri.{map_error};
 ghost use Rattle.uriparse_ffi.specs.Code as codes;
 ghost use Rattle.uriparse_ffi.specs.Put.{IsRefused, IsRelativePut};
 ghost use Rattle.uriparse_ffi.specs.Relatives as spec;
@@ -199,7 +198,7 @@ fn write_relative_to(
 ) -> u32
     ensures written { (t : Parts) → Spells uri.now t → is_some t.scheme ≡ true → IsRelativePut base.now.parts t out.old out.new needed.new result }
     ensures relative { (t : Parts) → Spells uri.now t → is_some t.scheme ≡ false → IsRefused codes.no_scheme out.old out.new needed.new result }
-    ensures refused { (e : URIReferenceError) → fault uri.now ≡ Some e → IsRefused (codes.uri_code (map_error e)) out.old out.new needed.new result }
+    ensures refused { (e : URIReferenceError) → fault uri.now ≡ Some e → IsRefused (codes.fault_code e) out.old out.new needed.new result }
 {
     match view_uri(uri) {
         Ok(target) => write_between(base, &target, out, needed),
@@ -212,9 +211,9 @@ fn write_relative_to(
 pub fn write_relative(base: &[u8], uri: &[u8], out: &mut [u8], needed: &mut usize) -> u32
     ensures written { (b t : Parts) → Spells base.now b → is_some b.scheme ≡ true → Spells uri.now t → is_some t.scheme ≡ true → IsRelativePut b t out.old out.new needed.new result }
     ensures relative_base { (b : Parts) → Spells base.now b → is_some b.scheme ≡ false → IsRefused (codes.base_code codes.no_scheme) out.old out.new needed.new result }
-    ensures base { (e : URIReferenceError) → fault base.now ≡ Some e → IsRefused (codes.base_code (codes.uri_code (map_error e))) out.old out.new needed.new result }
+    ensures base { (e : URIReferenceError) → fault base.now ≡ Some e → IsRefused (codes.base_code (codes.fault_code e)) out.old out.new needed.new result }
     ensures relative { (b t : Parts) → Spells base.now b → is_some b.scheme ≡ true → Spells uri.now t → is_some t.scheme ≡ false → IsRefused codes.no_scheme out.old out.new needed.new result }
-    ensures refused { (b : Parts) (e : URIReferenceError) → Spells base.now b → is_some b.scheme ≡ true → fault uri.now ≡ Some e → IsRefused (codes.uri_code (map_error e)) out.old out.new needed.new result }
+    ensures refused { (b : Parts) (e : URIReferenceError) → Spells base.now b → is_some b.scheme ≡ true → fault uri.now ≡ Some e → IsRefused (codes.fault_code e) out.old out.new needed.new result }
 {
     match view_uri(base) {
         Ok(base) => write_relative_to(&base, uri, out, needed),

@@ -1,5 +1,5 @@
 -- The pairs of a query: RFC 3986, section 3.4.
-use Rattle.std.specs.Prelude.{ℕ, Bool, ◌==◌, ◌&&◌, not, if◌then◌else◌, false, List, [], ◌∷◌, ◌++◌, map, bytes_eq, codes, Option, Some, None, unwrap_or}
+use Rattle.std.specs.Prelude.{◌≡◌, ℕ, Bool, ◌==◌, ◌&&◌, not, if◌then◌else◌, false, List, [], ◌∷◌, ◌++◌, map, bytes_eq, codes, Option, Some, None, unwrap_or}
 use Rattle.std.specs.Borrow.{Bor}
 use Rattle.std.specs.Option.{option_map, option_copied}
 use Rattle.std.specs.List.{filter, slice_split, join_with_byte}
@@ -44,6 +44,10 @@ abbrev pub joined_pairs : List Pair → List ℕ
 joined_pairs ps = join_with_byte ampersand (map piece_of ps)
 
 -- ---- pairs that are left out
+
+-- the answer of a test, called at any pair, is this function of the pair
+abbrev pub AnswersBy : {F : Type 0} → (F → List ℕ → Option (List ℕ) → Bool → F → Type 0) → (Pair → Bool) → Type 0
+AnswersBy {F} step is = (f g : F) (p : Pair) (b : Bool) → step f p.0 p.1 b g → b ≡ is p
 
 -- A test, called at each pair in turn, returned false for those that are kept, and true for the others.
 abbrev pub IsWithout : {F : Type 0} → (F → List ℕ → Option (List ℕ) → Bool → F → Type 0) → F → List Pair → List Pair → Type 0

@@ -1,12 +1,12 @@
 -- How pieces of a query are written one after another. No public contract cites these words.
-use Rattle.std.specs.Prelude.{ℕ, Bool, ◌≡◌, ◌&&◌, ◌||◌, not, bytes_eq, true, if◌then◌else◌, List, [], ◌∷◌, ◌++◌, flat_map}
+use Rattle.std.specs.Prelude.{ℕ, Bool, ◌≡◌, ◌&&◌, ◌||◌, not, bytes_eq, true, if◌then◌else◌, List, [], ◌∷◌, ◌++◌, flat_map, map}
 use Rattle.std.specs.List.{list_all, slice_split}
 use Rattle.uriparse_text.specs.declared.internal.class.Class.TheVariants.{Query}
 use Rattle.uriparse_text.specs.Bytes.{ampersand}
 use Rattle.uriparse_text.specs.Cuts.{lacks}
 use Rattle.uriparse_text.specs.Faults.{allows}
 use Rattle.uriparse_text.specs.Tokens.{tokens}
-use Rattle.uriparse_text.specs.Pairs.{pair_of, is_ampersand, is_named}
+use Rattle.uriparse_text.specs.Pairs.{Pair, pair_of, is_ampersand, is_named}
 
 -- a query without "&"
 abbrev pub is_piece : List ℕ → Bool
@@ -28,6 +28,10 @@ ended ss = flat_map (λ s. s ++ ampersand ∷ []) ss
 -- the text has these pieces, each with a "&" after it
 abbrev pub AreWritten : List (List ℕ) → List ℕ → Type 0
 AreWritten ss t = (t ≡ ended ss) × (list_all is_piece ss ≡ true)
+
+-- the text has pieces of these pairs, each with a "&" after it
+abbrev pub ArePairsWritten : List Pair → List ℕ → Type 0
+ArePairsWritten ps t = (ss : List (List ℕ)) × AreWritten ss t × (map pair_of ss ≡ ps)
 
 -- the pieces of a query between its "&", of which each is one
 abbrev pub ArePieces : List ℕ → List (List ℕ) → Type 0

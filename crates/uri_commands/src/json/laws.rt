@@ -22,7 +22,13 @@ pub fn one_string()
 
 /// Objects of references.
 pub fn examples_of_objects()
-    ensures empty { object_of (codes "") ≡ Ok (codes "{\"text\":\"\",\"scheme\":null,\"username\":null,\"password\":null,\"host\":null,\"host_kind\":null,\"port\":null,\"path\":\"\",\"query\":null,\"fragment\":null,\"segments\":[\"\"]}") }
-    ensures whole { object_of (codes "HTTP://u:p@h:80/a/b?q#f") ≡ Ok (codes "{\"text\":\"HTTP://u:p@h:80/a/b?q#f\",\"scheme\":\"http\",\"username\":\"u\",\"password\":\"p\",\"host\":\"h\",\"host_kind\":\"name\",\"port\":80,\"path\":\"/a/b\",\"query\":\"q\",\"fragment\":\"f\",\"segments\":[\"a\",\"b\"]}") }
-    ensures address { object_of (codes "//[::FFFF:1.2.3.4]:") ≡ Ok (codes "{\"text\":\"//[::FFFF:1.2.3.4]:\",\"scheme\":null,\"username\":null,\"password\":null,\"host\":\"[::ffff:1.2.3.4]\",\"host_kind\":\"ipv6\",\"port\":null,\"path\":\"/\",\"query\":null,\"fragment\":null,\"segments\":[\"\"]}") }
+    ensures empty { object_of (codes "")
+        ≡ Ok (codes "{\"text\":\"\",\"scheme\":null,\"username\":null,\"password\":null,\"host\":null,\"host_kind\":null,\"port\":null,"
+        ++ codes "\"path\":\"\",\"query\":null,\"fragment\":null,\"segments\":[\"\"]}") }
+    ensures whole { object_of (codes "HTTP://u:p@h:80/a/b?q#f")
+        ≡ Ok (codes "{\"text\":\"HTTP://u:p@h:80/a/b?q#f\",\"scheme\":\"http\",\"username\":\"u\",\"password\":\"p\",\"host\":\"h\",\"host_kind\":\"name\",\"port\":80,"
+        ++ codes "\"path\":\"/a/b\",\"query\":\"q\",\"fragment\":\"f\",\"segments\":[\"a\",\"b\"]}") }
+    ensures address { object_of (codes "//[::FFFF:1.2.3.4]:")
+        ≡ Ok (codes "{\"text\":\"//[::FFFF:1.2.3.4]:\",\"scheme\":null,\"username\":null,\"password\":null,\"host\":\"[::ffff:1.2.3.4]\",\"host_kind\":\"ipv6\",\"port\":null,"
+        ++ codes "\"path\":\"/\",\"query\":null,\"fragment\":null,\"segments\":[\"\"]}") }
 {}

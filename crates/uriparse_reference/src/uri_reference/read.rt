@@ -99,7 +99,7 @@ fn check_path(
 /// The query that follows a path, if present, and the text of the fragment that follows it.
 #[inline(always)]
 fn find_query(text: &[u8]) -> Result<(Found<'_, QueryKind>, Option<&[u8]>), QueryError>
-    ensures { MatchResult result (λ r. (if_present query.reading (tail_query text.now) ≡ Ok r.0) × (option_copied r.1 ≡ tail_fragment text.now)) (λ e. if_present query.reading (tail_query text.now) ≡ Err e) }
+    ensures { let read = if_present query.reading (tail_query text.now) in MatchResult result (λ r. (read ≡ Ok r.0) × (option_copied r.1 ≡ tail_fragment text.now)) (λ e. read ≡ Err e) }
 {
     match text {
         [b'?', following @ ..] => find_text_before::<QueryKind>(following, b'#'),

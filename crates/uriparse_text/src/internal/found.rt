@@ -135,7 +135,8 @@ pub fn find_text_before<'t, K: TextKind>(
     mark: u8,
 ) -> Result<(Found<'t, K>, Option<&'t [u8]>), K::Error>
     requires { EndsClass K.class mark }
-    ensures { MatchResult result (λ r. (if_present (reading_in K.class K.error_of) (Some (before mark bytes.now)) ≡ Ok r.0) × (option_copied r.1 ≡ after mark bytes.now)) (λ e. if_present (reading_in K.class K.error_of) (Some (before mark bytes.now)) ≡ Err e) }
+    ensures { let read = if_present (reading_in K.class K.error_of) (Some (before mark bytes.now)) in
+        MatchResult result (λ r. (read ≡ Ok r.0) × (option_copied r.1 ≡ after mark bytes.now)) (λ e. read ≡ Err e) }
 {
     let class = K::class();
     let case = K::case();

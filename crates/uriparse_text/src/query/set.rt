@@ -4,7 +4,7 @@ ghost use Rattle.std.specs.List.{filter};
 ghost use Rattle.std.specs.Option.{option_copied};
 ghost use Rattle.uriparse_text.specs.Pairs as spec;
 ghost use Rattle.uriparse_text.specs.Query.{IsQuery};
-ghost use Rattle.uriparse_text.specs.Written.{AreWritten, ended, makes_room, next_pieces};
+ghost use Rattle.uriparse_text.specs.Written.{ArePairsWritten, AreWritten, ended, makes_room, next_pieces};
 
 use super::Query;
 use super::pairs::{most_pair_bytes, pair_of, push_pair};
@@ -62,7 +62,7 @@ fn set_pieces(
 ) -> Result<Vec<u8>, AllocError>
     requires { IsQuery query.now }
     ensures bytes { OnOk result (spec.are_pair_bytes (spec.given pair.entry) ≡ true) }
-    ensures text { IfOk result (λ v. (ss : List (List ℕ)) × AreWritten ss v.items × (map spec.pair_of ss ≡ spec.with_pair pair.entry.0.now (spec.encoded_pair (spec.given pair.entry)) (spec.pairs query.now))) }
+    ensures text { IfOk result (λ v. ArePairsWritten (spec.with_pair pair.entry.0.now (spec.encoded_pair (spec.given pair.entry)) (spec.pairs query.now)) v.items) }
 {
     let most = query.len().saturating_add(most_pair_bytes(&[pair]));
     let mut text = Vec::with_capacity(alloc, most)?;

@@ -3,7 +3,7 @@ ghost use Rattle.std.specs.Prelude.{◌≡◌, Bool, List, ℕ, IfOk, Some, map,
 ghost use Rattle.std.specs.List.{filter};
 ghost use Rattle.uriparse_text.specs.Pairs as spec;
 ghost use Rattle.uriparse_text.specs.Query.{IsQuery};
-ghost use Rattle.uriparse_text.specs.Written.{AreWritten};
+ghost use Rattle.uriparse_text.specs.Written.{ArePairsWritten, AreWritten};
 
 use super::Query;
 use super::pairs::pair_of;
@@ -48,7 +48,7 @@ where
 /// The pieces of the query whose names stand for other bytes, each with a `&` after it.
 fn other_pieces(alloc: Global, query: &[u8], name: &[u8]) -> Result<Vec<u8>, AllocError>
     requires { IsQuery query.now }
-    ensures { IfOk result (λ v. (ss : List (List ℕ)) × AreWritten ss v.items × (map spec.pair_of ss ≡ spec.without_name name.now (spec.pairs query.now))) }
+    ensures { IfOk result (λ v. ArePairsWritten (spec.without_name name.now (spec.pairs query.now)) v.items) }
 {
     let mut text = Vec::with_capacity(alloc, query.len().saturating_add(1))?;
     let mut rest = Some(query);
@@ -97,7 +97,7 @@ impl<'q> Query<'q> {
         ensures pairs { IfOk result (λ q. spec.IsWithout F.step test (spec.pairs self.now) (spec.pairs_left q)) }
 
         // If the test's answer is a function of the pair, those at which that function is false.
-        ensures chosen { (is : spec.Pair → Bool) → ((f g : F) (p : spec.Pair) (b : Bool) → F.step f p.0 p.1 b g → b ≡ is p) → IfOk result (λ q. spec.pairs_left q ≡ filter (λ p. not (is p)) (spec.pairs self.now)) }
+        ensures chosen { (is : spec.Pair → Bool) → spec.AnswersBy F.step is → IfOk result (λ q. spec.pairs_left q ≡ filter (λ p. not (is p)) (spec.pairs self.now)) }
     {
         let text = kept_pieces(alloc, self.as_bytes(), test)?;
         Ok(query_of_pieces(text))

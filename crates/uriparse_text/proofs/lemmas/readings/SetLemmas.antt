@@ -13,7 +13,7 @@ use Rattle.uriparse_text.specs.Cuts.{before, after}
 use Rattle.uriparse_text.specs.Coding.{decoded}
 use Rattle.uriparse_text.specs.Query.{IsQuery}
 use Rattle.uriparse_text.specs.Pairs.{Pair, is_ampersand, pair_of, pairs, pairs_left, piece_of, are_pair_bytes, decoded_pair, encoded_in_pair, encoded_pair, is_empty_end, is_named, without_empty_end, without_name, with_pair}
-use Rattle.uriparse_text.specs.Written.{is_piece, makes_room, next_pieces, ended, AreWritten}
+use Rattle.uriparse_text.specs.Written.{is_piece, makes_room, next_pieces, ended, AreWritten, ArePairsWritten}
 use Rattle.uriparse_text.proofs.lemmas.readings.CutLemmas.{up_to-none}
 use Rattle.uriparse_text.proofs.lemmas.readings.PairLemmas.{first_pair, pair_back, pair_decoded, piece_back, piece_lacks, piece_query, query_pieces}
 
@@ -117,14 +117,14 @@ module _ (name : List ℕ) (given : Pair) where
 
   -- at the end
   pub setting_done : (q : List ℕ) (done : Bool) (o : Option (List ℕ)) (text : List ℕ) → Setting q done o text → done ≡ true → o ≡ None
-      → (ss : List (List ℕ)) × AreWritten ss text × (map pair_of ss ≡ with_pair name (encoded_pair given) (pairs q))
+      → ArePairsWritten (with_pair name (encoded_pair given) (pairs q)) text
   setting_done q done o text g said none =
       let last = subst (λ r. Setting q true r text) none (subst (λ b. Setting q b o text) said g) in
       (last.pieces, last.written, sym (append-nil (map pair_of last.pieces)) ∙ last.later)
 
   pub setting_open : (q : List ℕ) (done : Bool) (o : Option (List ℕ)) (text more : List ℕ) → Setting q done o text → done ≡ false → o ≡ None
       → more ≡ text ++ ended (piece_of (encoded_pair given) ∷ [])
-      → (ss : List (List ℕ)) × AreWritten ss more × (map pair_of ss ≡ with_pair name (encoded_pair given) (pairs q))
+      → ArePairsWritten (with_pair name (encoded_pair given) (pairs q)) more
   setting_open q done o text more g said none written =
       let last = subst (λ r. Setting q false r text) none (subst (λ b. Setting q b o text) said g) in (
         last.pieces ++ piece ∷ [],

@@ -11,8 +11,8 @@ use Rattle.std.proofs.lemmas.List.Elements.{filter_from_retain}
 use Rattle.uriparse_text.specs.Bytes.{ampersand}
 use Rattle.uriparse_text.specs.Cuts.{lacks, following, before, after}
 use Rattle.uriparse_text.specs.Query.{IsQuery}
-use Rattle.uriparse_text.specs.Pairs.{Pair, is_ampersand, is_named, joined_pairs, pair_of, pairs, pairs_left, without_name, IsWithout}
-use Rattle.uriparse_text.specs.Written.{is_piece, AreWritten}
+use Rattle.uriparse_text.specs.Pairs.{Pair, is_ampersand, is_named, joined_pairs, pair_of, pairs, pairs_left, without_name, AnswersBy, IsWithout}
+use Rattle.uriparse_text.specs.Written.{is_piece, AreWritten, ArePairsWritten}
 use Rattle.uriparse_text.proofs.lemmas.readings.CutLemmas.{before_after, up_to-none}
 use Rattle.uriparse_text.proofs.lemmas.readings.PairLemmas.{ampersand_plain, first_pair, in_join, joined-pairs, query_pieces, split_joined}
 
@@ -164,7 +164,7 @@ next_smaller o left rest some cutting = subst (λ n. n < left_of o) (ap left_of 
 -- ---- a test that is a function
 
 pub without_is : {F : Type 0} (step : F → List ℕ → Option (List ℕ) → Bool → F → Type 0) (test : Pair → Bool)
-    → ((f g : F) (p : Pair) (b : Bool) → step f p.0 p.1 b g → b ≡ test p) → (f : F) (ps kept : List Pair) → IsWithout step f ps kept
+    → AnswersBy step test → (f : F) (ps kept : List Pair) → IsWithout step f ps kept
     → kept ≡ filter (λ p. not (test p)) ps
 without_is step test says =
     filter_from_retain (λ f p b g. step f p.0 p.1 (not b) g) (λ p. not (test p)) (λ f p b g call. sym (not-not b) ∙ ap not (says f g p (not b) call))
@@ -176,7 +176,7 @@ NameStep name _ own value b _ = b ≡ is_named name (own, value)
 
 -- The text has the pieces of the other names once the loop ends.
 pub others_last : (name q : List ℕ) (o : Option (List ℕ)) (text : List ℕ) → Going (NameStep name) tt q tt o text → o ≡ None
-    → (ss : List (List ℕ)) × AreWritten ss text × (map pair_of ss ≡ without_name name (pairs q))
+    → ArePairsWritten (without_name name (pairs q)) text
 others_last name q o text g none =
     let (ss, written, chosen) = going_last (NameStep name) tt q tt o text g none in
     (ss, written, without_is (NameStep name) (is_named name) (λ _ _ _ _ says. says) tt (pairs q) (map pair_of ss) chosen)
