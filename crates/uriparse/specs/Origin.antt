@@ -6,10 +6,8 @@ use Rattle.std.specs.Ordering.{eq_of_both, on}
 use Rattle.uriparse_text.specs.Bytes.{colon}
 use Rattle.uriparse_text.specs.Canonical.{fed_text}
 use Rattle.uriparse_text.specs.Cuts.{following}
-use Rattle.uriparse_scheme.specs.declared.scheme.Scheme.{Scheme}
 use Rattle.uriparse_scheme.specs.DefaultPort.{default_port}
 use Rattle.uriparse_scheme.specs.Scheme as scheme
-use Rattle.uriparse_authority.specs.declared.authority.host.Host.{Host}
 use Rattle.uriparse_authority.specs.Host as host
 use Rattle.uriparse_authority.specs.Port as port
 use Rattle.uriparse_reference.specs.Reference.{Parts, host_of}

@@ -27,7 +27,7 @@ use Rattle.uriparse_text.specs.Readings.{IsUnless, unless_fault}
 use Rattle.uriparse_reference.specs.Reference.{Parts, host_of, port_of, username_of}
 use Rattle.uriparse_text.specs.declared.segment.error.PathError.{PathError}
 use Rattle.uriparse_text.specs.declared.segment.error.PathError.TheVariants.{ExceededMaximumLength, OutOfMemory}
-use Rattle.uriparse_path.specs.Path.{IsListed, PathParts, is_slash, max_segments, pieces, spelled}
+use Rattle.uriparse_path.specs.Path.{IsListed, PathParts, is_slash, max_segments, spelled}
 use Rattle.uriparse_text.specs.Segment.{is_segment}
 use Rattle.uriparse_path.specs.Faults.{fault, fault_within, length_fault, reading}
 use Rattle.uriparse_path.proofs.lemmas.reading.FaultLemmas.{no_segment_fault}

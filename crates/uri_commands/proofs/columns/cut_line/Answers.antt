@@ -1,4 +1,4 @@
-use Rattle.std.proofs.Common.{◌≡◌, ◌+◌, ◌-◌, ◌≤◌, ◌++◌, sym, ap, subst, ◌∙◌, arith, length, length-append, take, drop}
+use Rattle.std.proofs.Common.{◌≡◌, ◌+◌, ◌++◌, sym, ap, subst, ◌∙◌, arith, length, length-append, take, drop}
 use Rattle.uriparse_text.specs.Cuts.{before, from_first}
 use Rattle.uri_commands.specs.Columns.{IsCut, is_tab, tab}
 use Rattle.uri_commands.proofs.ColumnLemmas.{cut_text, text_len, text_parts}

@@ -1,8 +1,8 @@
-use Rattle.std.proofs.Common.{◌≡◌, ◌+◌, ◌-◌, ◌++◌, ◌∷◌, [], None, Some, sym, ap, subst, ◌∙◌, arith, append-nil}
+use Rattle.std.proofs.Common.{◌≡◌, ◌+◌, ◌-◌, ◌++◌, ◌∷◌, [], None, Some, sym, ap, subst, ◌∙◌, arith}
 use Rattle.std.specs.Option.{option_copied}
 use Rattle.uriparse_text.specs.Cuts.{after, before, part}
 use Rattle.uri_commands.specs.Columns.{AreFields, tab}
-use Rattle.uri_commands.proofs.ColumnLemmas.{following_front, fields-more, too_few, whole-more}
+use Rattle.uri_commands.proofs.ColumnLemmas.{fields-more, too_few, whole-more}
 use Rattle.uri_commands.proofs.columns.split_fields.Goals as goal
 
 pub returns-in_default : goal.returns-in_default

@@ -1,5 +1,4 @@
-use Rattle.std.proofs.Common.{◌≡◌, ◌++◌, ◌∷◌, [], refl}
-use Rattle.std.specs.Io.KnownBytes.{Appends}
+use Rattle.std.proofs.Common.{refl}
 use Rattle.uriparse_text.specs.Cuts.{before}
 use Rattle.uriparse_text.proofs.lemmas.readings.CutLemmas.{before-lacks}
 use Rattle.uri_commands.specs.Columns.{done, row}

@@ -1,4 +1,4 @@
-use Rattle.std.proofs.Common.{◌≡◌, ◌≢◌, All, subst, arith}
+use Rattle.std.proofs.Common.{◌≢◌, All, subst, arith}
 use Rattle.uri_commands.specs.Lines.{newline}
 use Rattle.uri_commands.proofs.LineLemmas.{none_held}
 use Rattle.uri_commands.proofs.lines.take_whole.Goals as goal

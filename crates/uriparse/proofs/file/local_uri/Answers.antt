@@ -1,4 +1,4 @@
-use Rattle.std.proofs.Common.{◌≡◌, Ok, refl, sym, subst, ◌∙◌, rules}
+use Rattle.std.proofs.Common.{◌≡◌, Ok, refl, sym, subst, ◌∙◌}
 use Rattle.std.specs.Prelude.{IsOk}
 use Rattle.uriparse.specs.File as spec
 use Rattle.uriparse.specs.File.{no_host}

@@ -1,5 +1,5 @@
 -- The name that the text of an authority begins with, if its host is one and no user information precedes it.
-use Rattle.std.proofs.Common.{◌≡◌, ◌+◌, ◌≤◌, ℕ, Bool, true, List, [], ◌++◌, Option, Some, None, Ok, length, take, refl, sym, ap, subst, ◌∙◌, arith}
+use Rattle.std.proofs.Common.{◌≡◌, ◌+◌, ℕ, Bool, true, List, ◌++◌, Option, Some, None, Ok, length, take, refl, sym, ap, subst, ◌∙◌, arith}
 use Rattle.std.specs.Prelude.{IfSome, is_none}
 use Rattle.std.proofs.Math.Seq.{take-append_seam}
 use Rattle.std.proofs.lemmas.List.{length-append}
@@ -10,9 +10,7 @@ use Rattle.uriparse_text.specs.declared.internal.case.Case.TheVariants as case
 use Rattle.uriparse_text.specs.Spelling.{IsValidText}
 use Rattle.uriparse_authority.specs.declared.authority.host.Host.{Host}
 use Rattle.uriparse_authority.specs.declared.authority.host.Host.TheVariants.{IPv4Address, IPv6Address, IPvFuture, RegisteredName}
-use Rattle.uriparse_authority.specs.Authority as authority
 use Rattle.uriparse_authority.specs.Authority.{AuthorityParts, IsPaired, Spells, reading}
-use Rattle.uriparse_authority.specs.Host as host
 use Rattle.uriparse_authority.specs.Found.{IsNameOf, IsNamed}
 use Rattle.uriparse_authority.proofs.lemmas.authorities.AuthorityLemmas.{found}
 

@@ -1,7 +1,7 @@
 -- The printed text of each valid authority spells one: another, where a name is printed that spells an IPv4 address.
 use Rattle.std.proofs.Common.{◌≡◌, ℕ, List, Option, Some, None, refl, sym, ◌∙◌}
 use Rattle.std.specs.Option.{option_map}
-use Rattle.uriparse_text.specs.Address.{SpellsIpv4, ipv4_reading}
+use Rattle.uriparse_text.specs.Address.{ipv4_reading}
 use Rattle.uriparse_text.proofs.lemmas.addresses.ReadingLemmas.{ipv4_reading-spelled, ipv4_reading-found}
 use Rattle.uriparse_authority.specs.Authority.{AuthorityParts, Spells, Valid, print}
 use Rattle.uriparse_authority.specs.Host as host

@@ -1,4 +1,4 @@
-use Rattle.std.proofs.Common.{◌≡◌, sym, ap, subst, ◌∙◌, rules}
+use Rattle.std.proofs.Common.{◌≡◌, sym, ap, subst, ◌∙◌}
 use Rattle.std.specs.Prelude.{string_bytes}
 use Rattle.uriparse_reference.specs.View.{Viewed}
 use Rattle.uriparse_reference.proofs.lemmas.reading.OwnedTextLemmas.{stands}

@@ -1,4 +1,4 @@
-use Rattle.std.proofs.Common.{Ok, sym}
+use Rattle.std.proofs.Common.{sym}
 use Rattle.uriparse_authority.proofs.lemmas.hosts.HostLemmas.{name_read}
 use Rattle.uriparse_authority.proofs.authority.host.read.read_name.Goals as goal
 
