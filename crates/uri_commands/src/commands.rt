@@ -186,19 +186,33 @@ impl<'w> Task<'w> {
         match (options.manner, words) {
             _ if !may_explain(options, words) => Err(Failure::Usage),
             (Manner::Quiet, _) if options.columns.is_some() => Err(Failure::Usage),
-            (Manner::Plain | Manner::Json, ["parse"]) => Ok(Task::Parse),
-            (Manner::Quiet, ["parse"]) => Ok(Task::Check),
-            (Manner::Plain, ["get", names]) if names.contains(',') => {
-                Ok(Task::GetParts(read_parts(alloc, names)?))
-            }
-            (Manner::Plain, ["get", part]) => Ok(Task::Get(read_part(part)?)),
-            (Manner::Plain, ["normalize"]) => Ok(Task::Normalize),
-            (Manner::DropDefaultPort, ["normalize"]) => Ok(Task::NormalizePort),
-            (Manner::Plain, ["equal"]) => Ok(Task::Equal),
-            (Manner::Quiet, ["equal"]) => Ok(Task::CheckEqual),
-            (Manner::Plain, ["resolve", base]) => Ok(Task::Resolve(URIView::try_from_str(base)?)),
-            (Manner::Plain, ["escape"]) => Ok(Task::Escape),
-            (Manner::Trim, ["escape"]) => Ok(Task::EscapeLink),
+            (manner, [name]) => Task::read_one_word(manner, name),
+            (Manner::Plain, [name, text]) => Task::read_two_words(alloc, name, text),
+            _ => Err(Failure::Usage),
+        }
+    }
+
+    /// The task of the command that is this word alone.
+    fn read_one_word(manner: Manner, name: &str) -> Result<Task<'w>, Failure> {
+        match (manner, name) {
+            (Manner::Plain | Manner::Json, "parse") => Ok(Task::Parse),
+            (Manner::Quiet, "parse") => Ok(Task::Check),
+            (Manner::Plain, "normalize") => Ok(Task::Normalize),
+            (Manner::DropDefaultPort, "normalize") => Ok(Task::NormalizePort),
+            (Manner::Plain, "equal") => Ok(Task::Equal),
+            (Manner::Quiet, "equal") => Ok(Task::CheckEqual),
+            (Manner::Plain, "escape") => Ok(Task::Escape),
+            (Manner::Trim, "escape") => Ok(Task::EscapeLink),
+            _ => Err(Failure::Usage),
+        }
+    }
+
+    /// The task of the command of this name with the word that follows it.
+    fn read_two_words(alloc: Global, name: &str, text: &'w str) -> Result<Task<'w>, Failure> {
+        match name {
+            "get" if text.contains(',') => Ok(Task::GetParts(read_parts(alloc, text)?)),
+            "get" => Ok(Task::Get(read_part(text)?)),
+            "resolve" => Ok(Task::Resolve(URIView::try_from_str(text)?)),
             _ => Err(Failure::Usage),
         }
     }

@@ -62,39 +62,47 @@ impl Options {
         Options { columns, ..self }
     }
 
+    /// The options with the one that this word is.
+    fn with_word(self, word: &str) -> Option<Options> {
+        let columns = self.columns_or_whole();
+        let more = match word {
+            "--lines" => {
+                let reads_lines = true;
+                Options {
+                    reads_lines,
+                    ..self
+                }
+            }
+            "--explain" => {
+                let explains = true;
+                Options { explains, ..self }
+            }
+            "--json" => self.with_manner(Manner::Json),
+            "--quiet" => self.with_manner(Manner::Quiet),
+            "--trim" => self.with_manner(Manner::Trim),
+            "--drop-default-port" => self.with_manner(Manner::DropDefaultPort),
+            "--align" => self.with_columns(columns),
+            "--append" => {
+                let appends = true;
+                self.with_columns(Columns { appends, ..columns })
+            }
+            _ => return None,
+        };
+        Some(more)
+    }
+
     /// The options with the one that the words begin with, and how many words that is.
     fn read(self, words: &[&str]) -> Option<(Options, usize)>
         ensures { IfSome result (λ r. (0 < r.1) × (r.1 ≤ length words.now)) }
     {
         match words {
-            ["--lines", ..] => {
-                let reads_lines = true;
-                let more = Options {
-                    reads_lines,
-                    ..self
-                };
-                Some((more, 1))
-            }
-            ["--explain", ..] => {
-                let explains = true;
-                Some((Options { explains, ..self }, 1))
-            }
-            ["--json", ..] => Some((self.with_manner(Manner::Json), 1)),
-            ["--quiet", ..] => Some((self.with_manner(Manner::Quiet), 1)),
-            ["--trim", ..] => Some((self.with_manner(Manner::Trim), 1)),
-            ["--drop-default-port", ..] => Some((self.with_manner(Manner::DropDefaultPort), 1)),
-            ["--align", ..] => Some((self.with_columns(self.columns_or_whole()), 1)),
-            ["--append", ..] => {
-                let appends = true;
-                let columns = self.columns_or_whole();
-                Some((self.with_columns(Columns { appends, ..columns }), 1))
-            }
             ["--column", number, ..] => {
                 let first = Some(read_column(number)?);
                 let columns = self.columns_or_whole();
                 Some((self.with_columns(Columns { first, ..columns }), 2))
             }
-            _ => None,
+            [word, ..] => Some((self.with_word(word)?, 1)),
+            [] => None,
         }
     }
 }
