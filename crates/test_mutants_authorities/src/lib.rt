@@ -1,5 +1,5 @@
 //! Promises of hosts and authorities for which the gate has mutants,
-//! as those of `test_mutants_references`.
+//! as in `test_mutants_references`.
 #![tactic(auto)]
 
 ghost use Rattle.std.specs.Prelude.{◌≡◌, Ok, OnOk, Some, bytes_eq};

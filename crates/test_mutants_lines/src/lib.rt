@@ -1,5 +1,5 @@
-//! Promises of the program's reader of lines for which the gate has a mutant, as those
-//! of `test_mutants_references`.
+//! Promises of the program's reader of lines for which the gate has a mutant, as in
+//! `test_mutants_references`.
 #![tactic(auto)]
 
 ghost use Rattle.std.specs.Prelude.{◌≡◌, ◌<◌, false, length, true, IfOk, IfSome, OnOk};

@@ -1,6 +1,6 @@
 //! Promises of paths for which the gate has mutants.
 //!
-//! They are made as those of `test_mutants_references`.
+//! They are made as in `test_mutants_references`.
 #![tactic(auto)]
 
 ghost use Rattle.std.specs.Prelude.{◌≡◌, ◌↔◌, IsTrue, IfOk, Ok, OnOk, true, false, bytes_eq};

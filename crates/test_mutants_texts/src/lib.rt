@@ -1,5 +1,5 @@
 //! Promises of texts and of addresses for which the gate has mutants,
-//! as those of `test_mutants_references`.
+//! as in `test_mutants_references`.
 #![tactic(auto)]
 
 ghost use Rattle.std.specs.Prelude.{◌≡◌, ◌↔◌, IfOk, IsTrue, Some, bytes_eq, fold, map};

@@ -1,4 +1,4 @@
-//! A builder of references of one kind: what those of URIs and relative references share.
+//! A builder of references of one kind: what builders of URIs and of relative references share.
 ghost use Rattle.std.specs.Prelude.{◌≡◌, IsErr, Some};
 ghost use Rattle.std.specs.Option.{option_copied};
 ghost use Rattle.uriparse_text.specs.Readings.{Settles, SettlesUnless};

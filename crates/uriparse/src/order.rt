@@ -1,4 +1,4 @@
-//! The order of views and texts of one kind: that of the references. Nothing here allocates.
+//! The order of views and texts of one kind: the order of the references. Nothing here allocates.
 ghost use Rattle.std.specs.Prelude.{◌≡◌, refl};
 ghost use Rattle.std.specs.Ordering.{as_partial_cmp, on};
 ghost use Rattle.uriparse_reference.specs.Order.{ordered_po, ordered_ties, ordered_total, reference_cmp, reference_key_cmp};

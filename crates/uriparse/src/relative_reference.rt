@@ -69,7 +69,7 @@ impl ReferenceKind for WithoutScheme {
 pub type RelativeReference<'r> = ReferenceOf<'r, WithoutScheme>;
 
 /// Builds a relative reference component by component. Only the path is required. The calls that it
-/// shares with the builder of URIs are those of [`BuilderOf`].
+/// shares with the builder of URIs are at [`BuilderOf`].
 ///
 /// ```
 /// let mut builder = RelativeReference::builder();
@@ -79,7 +79,7 @@ pub type RelativeReference<'r> = ReferenceOf<'r, WithoutScheme>;
 pub type RelativeReferenceBuilder<'b> = BuilderOf<'b, WithoutScheme>;
 
 /// A relative reference in its text: a [`ReferenceView`](crate::ReferenceView) without a scheme.
-/// The calls that it shares with views of URIs are those of [`ViewOf`].
+/// The calls that it shares with views of URIs are at [`ViewOf`].
 ///
 /// ```
 /// let view = RelativeReferenceView::try_from_str("../a?q")?;
@@ -89,7 +89,7 @@ pub type RelativeReferenceBuilder<'b> = BuilderOf<'b, WithoutScheme>;
 pub type RelativeReferenceView<'r> = ViewOf<'r, WithoutScheme>;
 
 /// A relative reference in a text that it owns: a [`ReferenceText`](crate::ReferenceText) without a
-/// scheme. The calls that it shares with texts of URIs are those of [`TextOf`].
+/// scheme. The calls that it shares with texts of URIs are at [`TextOf`].
 ///
 /// ```
 /// let text = RelativeReferenceText::try_from_str(alloc, "../a?q")?;

@@ -27,7 +27,7 @@ mod edit;
 /// [`RelativeReferenceText`](crate::relative_reference::RelativeReferenceText). Contracts see it as
 /// the text that was read and its components.
 ///
-/// Its components are those of the view that it lends ([`as_view`](TextOf::as_view)). Two of them are
+/// It has the components of the view that it lends ([`as_view`](TextOf::as_view)). Two of them are
 /// equal if their views are.
 #[derive(Drop)]
 pub struct TextOf<K: ReferenceKind> {

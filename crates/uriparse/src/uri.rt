@@ -67,7 +67,7 @@ impl ReferenceKind for WithScheme {
 /// their hosts, if present, are of one kind and the canonical spellings of their texts agree.
 /// Reading allocates only the list of the path's segments, if there is more than one; an owned copy and a normal form allocate
 /// texts too. A setter that fails changes nothing. [`URIError`] says what is rejected. The calls
-/// that it shares with relative references are those of [`ReferenceOf`].
+/// that it shares with relative references are at [`ReferenceOf`].
 ///
 /// ```
 /// let uri = URI::try_from_str(alloc, "HTTP://h/%7Ea?q#f")?;
@@ -77,7 +77,7 @@ impl ReferenceKind for WithScheme {
 pub type URI<'u> = ReferenceOf<'u, WithScheme>;
 
 /// Builds a URI component by component. A path and a scheme are required. The calls that it shares
-/// with the builder of relative references are those of [`BuilderOf`].
+/// with the builder of relative references are at [`BuilderOf`].
 ///
 /// ```
 /// let mut builder = URI::builder();

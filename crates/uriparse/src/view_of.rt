@@ -25,7 +25,7 @@ use uriparse_reference::uri_reference::{BufferError, ReferenceView};
 /// [`RelativeReferenceView`](crate::relative_reference::RelativeReferenceView). Contracts see it as
 /// the text that was read and its components.
 ///
-/// Its components are those of the [`ReferenceView`] that it lends
+/// It has the components of the [`ReferenceView`] that it lends
 /// ([`as_reference_view`](ViewOf::as_reference_view)). Two of them are equal if their views are.
 #[derive(Drop)]
 pub struct ViewOf<'t, K: ReferenceKind> {

@@ -162,7 +162,7 @@ abbrev pub unless_rest : List ℕ → AuthorityParts → Result AuthorityParts A
 unless_rest [] p = Ok p
 unless_rest (b ∷ t) p = Err (rest_error p.port (kind p))
 
--- the result of reading a text by itself: the authority's own faults precede that of what follows it
+-- the result of reading a text by itself: the authority's own faults precede the fault of what follows it
 abbrev pub whole_reading : List ℕ → Result AuthorityParts AuthorityError
 whole_reading t = reading (up_to ends_authority t) >>= unless_rest (from_first ends_authority t)
 

@@ -7,7 +7,7 @@ use Rattle.uriparse_authority.specs.declared.authority.normal.CanonicalCopies.{C
 use Rattle.uriparse_authority.specs.declared.authority.host.Host.{Host}
 use Rattle.uriparse_authority.specs.declared.authority.host.Host.TheVariants.{IPv4Address, IPv6Address, IPvFuture, RegisteredName}
 
--- the same host in canonical spelling; a name stays one, even where its text becomes that of an address
+-- the same host in canonical spelling; a name stays one, even where its text becomes an address's
 abbrev pub canonical_host : Host → Host
 canonical_host (IPv4Address a) = IPv4Address a
 canonical_host (IPv6Address a) = IPv6Address a

@@ -83,8 +83,8 @@ impl<'a> Authority<'a> {
     /// Reads an authority, whose components borrow the bytes. Does not allocate.
     ///
     /// The first `@` ends the user information, whose first `:` starts the password; the last `:`
-    /// after the `@` and after any `]` starts the port. The error is that of the first faulty
-    /// component, in the order [`Username`](AuthorityError::Username),
+    /// after the `@` and after any `]` starts the port. The error is the first faulty
+    /// component's, in the order [`Username`](AuthorityError::Username),
     /// [`Password`](AuthorityError::Password), [`Host`](AuthorityError::Host),
     /// [`Port`](AuthorityError::Port). A `/`, `?` or `#` ends the authority. After a faultless
     /// authority it is an error: [`PortError::InvalidCharacter`] if there is a port (an empty one
@@ -223,7 +223,7 @@ impl<'a> Authority<'a> {
         self.as_borrowed().into_owned(alloc)
     }
 
-    /// An upper bound on the number of bytes of the authority's text: those of its components, two
+    /// An upper bound on the number of bytes of the authority's text: its components' bytes, two
     /// colons, an `@` and the five digits of a port; or `usize::MAX`.
     pub(crate) fn most_bytes(&self) -> usize
         ensures { length (spec.print self.now) ≤ result ⊎ result ≡ usize.MAX }

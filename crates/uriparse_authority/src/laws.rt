@@ -81,10 +81,10 @@ pub fn one_cut()
     ensures no_port { (a u v : List ℕ) → port_text a ≡ None → host_text a ≡ u ++ colon ∷ v → lacks right_bracket v ≡ false }
 {}
 
-/// What a text spells reads back: its own printed text spells it. So does that of each valid host
-/// and authority, unless the host is a name whose text spells an IPv4 address. A port is read back
-/// from its decimal text. Two valid authorities with one printed text are equal, unless one holds
-/// as a name what the other holds as an IPv4 address.
+/// What a text spells reads back: its own printed text spells it. So does the printed text of each
+/// valid host and authority, unless the host is a name whose text spells an IPv4 address. A port is
+/// read back from its decimal text. Two valid authorities with one printed text are equal, unless
+/// one holds as a name what the other holds as an IPv4 address.
 pub fn reading_back()
     ensures host_spelled { (t : List ℕ) (h : Host) → host.Spells t h → host.ReadsBack h }
     ensures host { (h : Host) → host.Valid h → (host.IsHiddenAddress h → ⊥) → host.ReadsBack h }

@@ -42,7 +42,7 @@ use uriparse_reference::uri_reference::URIReference;
 /// Reads a reference, and says where its components are. Does not allocate.
 #[unsafe(no_mangle)]
 pub extern "C" fn uriparse_parse(text: &[u8], out: &mut UriParts) -> u32
-    // If the text spells a reference, each span is that of the component.
+    // If the text spells a reference, each span is the component's.
     ensures parsed { (p : Parts) (s : Spells text.now p) → (result ≡ spec.accepted) × ArePlacesOf text.now p s out.new }
 
     // Any other text is rejected with its fault, and nothing is written.
@@ -108,7 +108,7 @@ pub extern "C" fn uriparse_equal(left: &[u8], right: &[u8], equal: &mut u8) -> u
 /// Hashes a reference. Equal references have equal hashes. Does not allocate.
 #[unsafe(no_mangle)]
 pub extern "C" fn uriparse_hash(text: &[u8], hash: &mut u64) -> u32
-    // The hash is that of the key by which references are compared.
+    // This is the hash of the key by which references are compared.
     ensures hashed { (p : Parts) → Spells text.now p → (result ≡ spec.accepted) × (hash.new ≡ hash_of (key p)) }
 
     // A faulty text is rejected, and nothing is written.

@@ -17,7 +17,7 @@ origin_of s h n = record { scheme = s; host = h; port = n }
 abbrev pub pieces_of : Origin → Scheme × AuthorityParts
 pieces_of o = (o.scheme, record { username = None; password = None; host = o.host; port = named_port o })
 
--- those of the origin of a reference with this scheme and this authority, if it has one
+-- the pieces of the origin of a reference with this scheme and this authority, if it has one
 abbrev pub pieces_from : Option Scheme → Option AuthorityParts → Option (Scheme × AuthorityParts)
 pieces_from s a =
     option_and_then (λ s. option_and_then (λ (a : AuthorityParts). option_map (λ n. pieces_of (origin_of s a.host n)) (option_or a.port (default_port s))) a) s

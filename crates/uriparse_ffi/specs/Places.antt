@@ -36,7 +36,7 @@ abbrev pub port_number : Option AuthorityParts → ℕ
 port_number None = 0
 port_number (Some a) = unwrap_or a.port 0
 
--- They are those of the components that a text spells, with the number of the host's kind and the port's number.
+-- They are the places of the components that a text spells, with the number of the host's kind and the port's number.
 abbrev pub ArePlacesOf : (t : List ℕ) (p : Parts) → Spells t p → UriParts → Type 0
 ArePlacesOf t p s o =
     ArePlaces s.scheme_text s.authority_text s.path_text p.query p.fragment o × (o.host_kind ≡ host_number p.authority) × (o.port_number ≡ port_number p.authority)

@@ -43,7 +43,7 @@ IsOfPath l path = MatchOption l (path ≡ None) (λ l. (p : PathParts) × (path 
 abbrev pub text_of : RelativeParts → List ℕ
 text_of l = joined (option_map schemes.text l.scheme) (option_map authorities.print l.authority) (path_text l.path) l.query l.fragment
 
--- They are those of the reference r.
+-- They are the reference r's.
 pub record IsOf (l : RelativeParts) (r : Parts) : Type 0 where
   pub scheme : l.scheme ≡ r.scheme
   pub authority : l.authority ≡ r.authority

@@ -8,7 +8,7 @@ ghost use Rattle.uriparse.specs.declared.uri.error.URIError.{URIError};
 ghost use Rattle.uriparse_ffi.specs.Code as spec;
 ghost use Rattle.uriparse_ffi.specs.Hash.{hash_of};
 
-/// Codes and errors match one to one: errors with the same code are equal, also those of a base. No
+/// Codes and errors match one to one: errors with the same code are equal, also a base's errors. No
 /// error of a reference has the code of success, or of a buffer that is too small.
 pub fn one_code()
     ensures one { (e f : URIReferenceError) → spec.code_of e ≡ spec.code_of f → e ≡ f }

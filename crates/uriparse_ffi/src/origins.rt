@@ -96,7 +96,7 @@ fn write_origin_of(view: &ReferenceView<'_>, out: &mut [u8], needed: &mut usize)
 }
 
 /// Writes the text of the origin of the reference that a text spells, or returns the code of the
-/// text's error, or that of a reference without an origin.
+/// text's error, or of a reference without an origin.
 pub fn write_origin(text: &[u8], out: &mut [u8], needed: &mut usize) -> u32
     ensures written { (p : Parts) (o : Origin) → Spells text.now p → origins.origin p ≡ Some o → IsPut (origins.text o) out.old out.new needed.new result }
     ensures without { (p : Parts) → Spells text.now p → origins.origin p ≡ None → IsRefused spec.no_origin out.old out.new needed.new result }

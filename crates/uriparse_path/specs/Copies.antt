@@ -3,7 +3,7 @@ use Rattle.std.specs.Prelude.{ℕ, ◌+◌, List, [], ◌∷◌, if◌then◌els
 use Rattle.uriparse_text.specs.Canonical.{canonical}
 use Rattle.uriparse_path.specs.Normal.{is_canonical}
 
--- those of the segments that are not canonical, where the first has this place
+-- the spellings of the segments that are not canonical, where the first has this place
 abbrev pub placed : ℕ → List (List ℕ) → List (ℕ × List ℕ)
 placed at [] = []
 placed at (s ∷ ss) = if is_canonical s then placed (at + 1) ss else (at, canonical s) ∷ placed (at + 1) ss

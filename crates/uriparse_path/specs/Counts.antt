@@ -23,7 +23,7 @@ counts ss = record {
   non_canonical = count_by is_non_canonical ss;
 }
 
--- from one segment to the maximum; the counts that are kept are those of the list, if they are known
+-- from one segment to the maximum; the counts that are kept are the list's, if they are known
 pub record CountsAreRight {X : Type 0} (counts : List X → Counts) (segments : List X) (known : Bool) (kept : Counts) : Type 0 where
   pub some : 0 < length segments
   pub short : length segments ≤ max_segments

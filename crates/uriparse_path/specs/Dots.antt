@@ -31,7 +31,7 @@ abbrev pub without_last : List ℕ → List ℕ
 without_last [] = []
 without_last (b ∷ t) = if list_any is_slash t then b ∷ without_last t else []
 
--- One step leads from the input i and the output o to the input j and the output p. The letters are those of the RFC's list.
+-- One step leads from the input i and the output o to the input j and the output p. The letters are the RFC's.
 pub data Step (i o j p : List ℕ) : Type 0 where
   -- A: "../" or "./" begins the input, and is removed
   drops : (d : List ℕ) → is_dot_segment d ≡ true → i ≡ d ++ slash ∷ j → p ≡ o → Step i o j p

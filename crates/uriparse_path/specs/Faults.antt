@@ -35,7 +35,7 @@ first_fault (s ∷ ss) = option_or (segment.fault s) (first_fault ss)
 abbrev pub length_fault : ℕ → ℕ → Option PathError
 length_fault limit count = if nat_lt limit count then Some ExceededMaximumLength else None
 
--- The leftmost fault of pieces under a limit of their number: that of the first faulty one within the limit. After these
+-- The leftmost fault of pieces under a limit of their number: the fault of the first faulty one within the limit. After these
 -- comes the fault of the length, at the slash that would start one segment more.
 abbrev pub fault_within : ℕ → List (List ℕ) → Option PathError
 fault_within limit ps = option_or (first_fault (take limit ps)) (length_fault limit (length ps))

@@ -5,7 +5,7 @@ use Rattle.uriparse_text.specs.declared.segment.error.PathError.TheVariants.{Exc
 use Rattle.uriparse_path.specs.Path.{PathParts, max_segments}
 use Rattle.uriparse_path.specs.Dots.{all_but_last, replay}
 
--- the segments of the base without the last one, then those of the reference
+-- the segments of the base without the last one, then the reference's
 abbrev pub merged : PathParts → PathParts → PathParts
 merged p q = record { absolute = p.absolute; segments = all_but_last p.segments ++ q.segments }
 

@@ -17,7 +17,7 @@ canonical_path p = record { absolute = p.absolute; segments = map canonical p.se
 abbrev pub stays_relative : PathParts → Bool → Bool
 stays_relative p as_reference = as_reference && not (is_rooted (text p))
 
--- The normal form of a path. One that may be that of a reference without a scheme can stay relative. From any other path the dot segments
+-- The normal form of a path. One that may stand in a reference without a scheme can stay relative. From any other path the dot segments
 -- are removed; one that has none keeps its list.
 abbrev pub pnormal : PathParts → Bool → PathParts
 pnormal p as_reference =
@@ -44,7 +44,7 @@ abbrev pub has_needed_leading_dot : List (List ℕ) → Bool
 has_needed_leading_dot [] = false
 has_needed_leading_dot (s ∷ ss) = is_single_dot s && begins_with_double_dots ss && needs_leading_dot (s ∷ ss) ss
 
--- the segments are those of a normal form, of a path that stays relative or of another
+-- the segments are in normal form, for a path that stays relative or for another
 abbrev pub are_normal : Bool → List (List ℕ) → Bool
 are_normal stays ss = list_all is_canonical ss && (if stays then begins_with_double_dots ss || has_needed_leading_dot ss else not (has_dot_segment ss))
 

@@ -74,7 +74,7 @@ has_hidden_root p = not p.absolute && starts_with_empty_segment p.segments
 abbrev pub respelled : PathParts → PathParts
 respelled p = if has_hidden_root p then record { absolute = true; segments = drop 1 p.segments } else p
 
--- the text is that of a path: it is split into at least one segment and at most the maximum
+-- the text is a path's: it is split into at least one segment and at most the maximum
 abbrev pub IsPath : List ℕ → Type 0
 IsPath t = IsListed (pieces t)
 

@@ -41,7 +41,7 @@ pub fn length_fault()
     ensures { (t : List ℕ) → (fault t ≡ Some errors.ExceededMaximumLength) ↔ PassesLimit t }
 {}
 
-/// A text's fault is that of the byte at its place: a slash there begins one segment too many. So the
+/// A text's fault is the byte's at its place: a slash there begins one segment too many. So the
 /// byte is a `%` exactly if the error is about a percent-encoding. What precedes the place has no
 /// fault, and the place precedes the end of the text.
 pub fn one_offset_of_fault()

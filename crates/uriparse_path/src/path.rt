@@ -98,7 +98,7 @@ impl<S: Dotted> Model for PathOf<S> {
 }
 
 impl<'p> Path<'p> {
-    /// The path with this flag and these segments. `counts` are those of the segments if `known` is
+    /// The path with this flag and these segments. `counts` are the segments' counts if `known` is
     /// set.
     #[inline(always)]
     pub(crate) fn of(
@@ -142,7 +142,7 @@ impl<'p> Path<'p> {
 
     /// Reads a path. Its segments borrow the bytes.
     ///
-    /// The error is that of the leftmost fault:
+    /// The error is the leftmost fault's:
     /// [`InvalidPercentEncoding`](PathError::InvalidPercentEncoding) at a `%` without two
     /// hexadecimal digits after it, [`ExceededMaximumLength`](PathError::ExceededMaximumLength) at
     /// the slash that would start one segment more than [`MAX_SEGMENTS`], else

@@ -1,4 +1,4 @@
--- Any text as that of a reference, with escapes for the bytes that may not stand where they do: RFC 3986, section 2.1, and RFC 3987, section 3.1.
+-- Any text as a reference's, with escapes for the bytes that may not stand where they do: RFC 3986, section 2.1, and RFC 3987, section 3.1.
 use Rattle.std.specs.Prelude.{ℕ, List, [], ◌++◌, Option, is_some, codes, length}
 use Rattle.std.specs.Option.{option_map, option_and_then, option_or}
 use Rattle.uriparse_text.specs.declared.internal.class.Class.TheVariants.{UserInfo, Segment, Query}

@@ -44,11 +44,11 @@ authority_front form a = after_slashes (option_map authority.print (option_map (
 abbrev pub tail_text : path.PathParts → Option (List ℕ) → Option (List ℕ) → List ℕ
 tail_text p query fragment = path.text p ++ (following question_mark query ++ following number_sign fragment)
 
--- that of the target of r against b, if paths are merged
+-- the path, query and fragment of the target of r against b, if paths are merged
 abbrev pub merged_tail : Parts → Parts → List ℕ
 merged_tail b r = tail_text (with_dot_prefix_unless (is_some b.authority) (dots_removed (merge b r))) r.query r.fragment
 
--- that of a target, if there is one, and its text
+-- the same of a target, if there is one, and its text
 abbrev pub tail_if : Option Parts → List ℕ
 tail_if None = []
 tail_if (Some t) = tail_text t.path t.query t.fragment

@@ -72,7 +72,7 @@ HasOwnTexts t p =
 
 -- ---- copies that are made before any is put in place: words of the clauses of private functions alone
 
--- The copies are those of the authority, if it is present.
+-- The copies are the authority's, if it is present.
 abbrev pub AreCopiesIf : Option CanonicalCopies → Option authority.AuthorityParts → Type 0
 AreCopiesIf None None = Unit {0}
 AreCopiesIf None (Some a) = ⊥

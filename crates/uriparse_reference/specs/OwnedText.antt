@@ -36,7 +36,7 @@ IsAuthorityOf kind name port t None = (kind == 0) ≡ true
 IsAuthorityOf kind name port t (Some a) =
     ((kind == 0) ≡ false) × (authority.reading t ≡ Ok a) × ((kind == 3) ≡ false → IsNamed name (kind == 2) t a × (port ≡ a.port))
 
--- how many bytes stand between the text of a scheme and that of an authority
+-- how many bytes stand between a scheme and an authority
 abbrev pub gap : ℕ → ℕ
 gap scheme = if scheme == 0 then 2 else 3
 

@@ -68,7 +68,7 @@ pub record MergesAlike (b r : Parts) : Type 0 where
   pub no_double_dot : is_last is_double_dot b.path.segments ≡ false
   pub not_empty : is_empty (text (normal r).path) ≡ false
 
--- The normal forms of base and reference have a target, and its normal form is that of t.
+-- The normal forms of base and reference have a target, and its normal form is t's.
 abbrev pub NormalizesAlike : Parts → Parts → Parts → Type 0
 NormalizesAlike b r t = (u : Parts) × (target (normal b) (normal r) ≡ Some u) × (normal t ≡ normal u)
 

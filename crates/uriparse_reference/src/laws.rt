@@ -101,7 +101,7 @@ pub fn one_offset_of_fault()
 {}
 
 /// Where texts are wrong, and why: an example of each error that a text may have. The one that takes
-/// a million segments is that of a path of two, by the word for any number.
+/// a million segments is the error of a path of two, by the word for any number.
 pub fn examples_of_first_faults()
     ensures none { first_fault (codes "http://h/a%20b") ≡ None }
     ensures username { first_fault (codes "//u[@h") ≡ Some (3, errors.Authority (authority_errors.Username username_errors.InvalidCharacter)) }
@@ -137,9 +137,9 @@ pub fn one_cut()
     ensures query { (t : List ℕ) → IfSome (query_text t) (λ q. lacks number_sign q ≡ true) }
 {}
 
-/// The components of a text with escapes are those of the text that was escaped, each with escapes.
+/// A text with escapes has the components of the text that was escaped, each with escapes.
 /// The text of a reference stays, escaping again changes nothing, and each `%` begins an escape. A
-/// fault that is left is the authority's, that of too many segments, or that of the colon rule.
+/// fault that is left is the authority's, too many segments, or the colon rule's.
 pub fn one_escaping()
     ensures scheme { (t : List ℕ) → scheme_text (escaped t) ≡ scheme_text t }
     ensures authority { (t : List ℕ) → authority_text (escaped t) ≡ option_map escaped_authority (authority_text t) }
@@ -205,7 +205,7 @@ pub fn one_target()
     ensures no_slash { (s : List ℕ) → LacksSlash s → through_last_slash s ≡ [] }
 {}
 
-/// If paths are merged, the text of section 5.2.3 is that of the base's segments except the last
+/// If paths are merged, the text of section 5.2.3 has the base's segments except the last
 /// one, followed by the reference's segments, and spells these.
 pub fn one_merge()
     ensures text { (b r : Parts) → Valid b → Valid r → is_merged r ≡ true → merge b r ≡ text (merged b.path r.path) }
@@ -268,7 +268,7 @@ pub fn one_run()
     ensures { (p q r : Parts) (es : List Edit) (n m : ℕ) (o u : Option URIReferenceError) → Run p es n q o → Run p es m r u → IsOutOfMemory o ⊎ (IsOutOfMemory u ⊎ ((n ≡ m) × (q ≡ r) × (o ≡ u))) }
 {}
 
-/// Examples of targets: those of sections 5.4.1 and 5.4.2, and others.
+/// Examples of targets: the RFC's, of sections 5.4.1 and 5.4.2, and others.
 pub fn target_examples()
     ensures normal { hold (resolved rfc_base) normal_rows ≡ true }
     ensures abnormal { hold (resolved rfc_base) abnormal_rows ≡ true }

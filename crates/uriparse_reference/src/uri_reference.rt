@@ -181,8 +181,8 @@ impl<'r> URIReference<'r> {
     /// Where a text is wrong, and why: the fault that [`check`](URIReference::check) and the readers
     /// return, after the number of bytes that precede it. `None` if the text is a reference.
     ///
-    /// The place of a wrong byte is its own, of a broken escape that of its `%`, and of one segment
-    /// too many that of the slash that begins it. An address of a wrong form, a port that is too
+    /// A wrong byte has its own place, a broken escape the place of its `%`, and one segment too
+    /// many the place of the slash that begins it. An address of a wrong form, a port that is too
     /// large and a path that may not follow what precedes it are wrong where they begin: at the `[`,
     /// at the first digit, at the first byte. Precedes the end of the text. Walks the text again if
     /// it is faulty. Does not allocate.
@@ -302,7 +302,7 @@ impl<'r> URIReference<'r> {
         self.fragment.as_ref()
     }
 
-    /// An upper bound for the number of bytes of the reference's text: those of its components, a
+    /// An upper bound for the number of bytes of the reference's text: its components' bytes, a
     /// `:`, two slashes, a `?` and a `#`; or `usize::MAX`.
     fn most_bytes(&self) -> usize
         ensures { length (print self.now) ≤ result ⊎ result ≡ usize.MAX }

@@ -45,8 +45,8 @@ pub fn one_unregistered_reading()
     ensures { (t : List ℕ) → (unregistered.reading t ≡ Ok t) ↔ IsUnregistered t }
 {}
 
-/// A scheme is a concatenation of tokens. Its canonical spelling is its text in lower case, and is
-/// that of the scheme that the text spells.
+/// A scheme is a concatenation of tokens. Its canonical spelling is its text in lower case, and the
+/// canonical spelling of the scheme that the text spells.
 pub fn canonical_is_lower_case()
     ensures formed { (t : List ℕ) → is_scheme t ≡ true → is_well_formed t ≡ true }
     ensures lowered { (t : List ℕ) → is_scheme t ≡ true → canonical_lowered t ≡ str_to_ascii_lowercase t }

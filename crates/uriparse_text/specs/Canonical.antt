@@ -49,7 +49,7 @@ canonical text = canonical_in Kept text
 abbrev pub canonical_lowered : List ℕ → List ℕ
 canonical_lowered text = canonical_in Lowered text
 
--- the bytes are tokens, and their canonical spelling is that of the text
+-- the bytes are tokens, and their canonical spelling is the text's
 pub record SpellsAlike (case : Case) (bytes text : List ℕ) : Type 0 where
   pub formed : is_well_formed bytes ≡ true
   pub same : canonical_in case bytes ≡ canonical_in case text

@@ -31,7 +31,7 @@ shrunk_count (b ∷ after) = (if begins_shrunk (b ∷ after) then 1 else 0) + sh
 abbrev pub NoneChanged : List ℕ → ℕ → Type 0
 NoneChanged text at = (k : ℕ) → k < at → begins_changed (drop k text) ≡ false
 
--- each that begins before sixteen places from `at` on are passed has its mark: bit k is that of the place `at + k`
+-- each that begins before sixteen places from `at` on are passed has its mark: bit k is the mark of the place `at + k`
 abbrev pub AreMarked : List ℕ → ℕ → ℕ → Type 0
 AreMarked text at marks = (k : ℕ) → k < at + 16 → begins_changed (drop k text) ≡ true → (at ≤ k) × (bit_at marks (k - at) ≡ 1)
 

@@ -63,13 +63,13 @@ is_named name p = bytes_eq (decoded p.0) name
 abbrev pub without_name : List ℕ → List Pair → List Pair
 without_name name ps = filter (λ p. not (is_named name p)) ps
 
--- one pair alone, that of an empty piece: an empty name without a value
+-- one pair alone, the pair of an empty piece: an empty name without a value
 abbrev pub is_empty_end : List Pair → Bool
 is_empty_end [] = false
 is_empty_end (p ∷ []) = bytes_eq (piece_of p) []
 is_empty_end (p ∷ q ∷ ps) = false
 
--- the pairs without that of an empty piece at the end
+-- the pairs without the pair of an empty piece at the end
 abbrev pub without_empty_end : List Pair → List Pair
 without_empty_end [] = []
 without_empty_end (p ∷ ps) = if is_empty_end (p ∷ ps) then [] else p ∷ without_empty_end ps
@@ -83,7 +83,7 @@ with_pair name new (p ∷ ps) =
 
 -- ---- pairs in the order of their names
 
--- the bytes that the first pair's name stands for are less than those of the second's: byte by byte, and a prefix is less
+-- the bytes that the first pair's name stands for are less than the second's: byte by byte, and a prefix is less
 abbrev pub has_less_name : Pair → Pair → Bool
 has_less_name p q = is_lt (slice_cmp nat_cmp (decoded p.0) (decoded q.0))
 
@@ -92,7 +92,7 @@ abbrev pub insert_pair : Pair → List Pair → List Pair
 insert_pair p [] = p ∷ []
 insert_pair p (q ∷ qs) = if has_less_name q p then q ∷ insert_pair p qs else p ∷ q ∷ qs
 
--- the pairs in the order of their names, those of one name in the order that they had
+-- the pairs in the order of their names, the pairs of one name in the order that they had
 abbrev pub sorted_pairs : List Pair → List Pair
 sorted_pairs [] = []
 sorted_pairs (p ∷ ps) = insert_pair p (sorted_pairs ps)
@@ -103,7 +103,7 @@ sorted_pairs (p ∷ ps) = insert_pair p (sorted_pairs ps)
 abbrev pub decoded_pair : Pair → Pair
 decoded_pair p = (decoded p.0, option_map decoded p.1)
 
--- the same if they are those of a form
+-- the same if they are a form's
 abbrev pub form_decoded_pair : Pair → Pair
 form_decoded_pair p = (form_decoded p.0, option_map form_decoded p.1)
 

@@ -35,7 +35,7 @@ abbrev pub ◌>>=◌ : {E A B : Type 0} → Result A E → (A → Result B E) �
 (Ok x) >>= f = f x
 (Err e) >>= f = Err e
 
--- the same reading, its fault mapped to that of a component
+-- the same reading, its fault mapped to a component's
 abbrev pub of_piece : {E F A : Type 0} → (E → F) → Result A E → Result A F
 of_piece of (Ok x) = Ok x
 of_piece of (Err e) = Err (of e)

@@ -30,7 +30,7 @@ pub fn one_leftmost_fault()
     ensures offset { (class : Class) (text : List ℕ) (byte : ℕ) → (fault class text ≡ Some byte) ↔ HasFaultAt class text byte }
 {}
 
-/// The fault is that of the byte at its place, and what precedes this place has none.
+/// The fault is the byte's at its place, and what precedes this place has none.
 pub fn one_offset_of_fault()
     ensures byte { (class : Class) (text : List ℕ) → fault class text ≡ slice_get (drop (fault_offset class text) text) 0 }
     ensures before { (class : Class) (text : List ℕ) → fault class (take (fault_offset class text) text) ≡ None }
@@ -43,7 +43,7 @@ pub fn one_list_of_tokens()
     ensures one { (text : List ℕ) (ts us : List Token) → IsConcatenation ts text → IsConcatenation us text → ts ≡ us }
 {}
 
-/// The canonical spelling of a concatenation of tokens is that of its tokens; it is in the classes
+/// The canonical spelling of a concatenation of tokens is its tokens'; it is in the classes
 /// of its text, and its own canonical spelling.
 pub fn one_canonical_spelling()
     ensures tokens { (case : Case) (ts : List Token) (text : List ℕ) → IsConcatenation ts text → canonical_in case text ≡ flat_map (λ t. spell (canonical_token case t)) ts }
@@ -97,7 +97,7 @@ pub fn one_printed_text()
     ensures kinds { (a b : List ℕ) → IsOctets a → IsSegments b → ¬ (ipv4_text a ≡ ipv6_text b) }
 {}
 
-/// The printed text of an address is its own canonical spelling. So is that of an IPv6 address in
+/// The printed text of an address is its own canonical spelling. So is an IPv6 address's in
 /// brackets.
 pub fn printed_is_canonical()
     ensures ipv4 { (case : Case) (a : List ℕ) → IsOctets a → canonical_in case (ipv4_text a) ≡ ipv4_text a }
@@ -133,7 +133,7 @@ pub fn texts_are_bytes()
 {}
 
 /// The pieces of a query, joined, are the query again. The pairs of a query that was made of pairs
-/// are these, each escaped and, decoded, as they were; decoded as those of a form too.
+/// are these, each escaped and, decoded, as they were; decoded as a form's too.
 pub fn one_list_of_pairs()
     ensures joined { (q : List ℕ) → joined_pairs (pairs q) ≡ q }
     ensures encoded { (ps : List Pair) → 0 < length ps → pairs (joined_pairs (map encoded_pair ps)) ≡ map encoded_pair ps }
@@ -176,8 +176,8 @@ pub fn examples_of_writing()
     ensures too_small { Writes (codes "abc") (Err (too_small 3)) (codes "yz") (codes "yz") }
 {}
 
-/// Sorted pairs are the same ones, with ascending names, and those of one name in the order that
-/// they had. No other list is.
+/// Sorted pairs are the same ones, with ascending names, and the pairs of one name in the order
+/// that they had. No other list is.
 pub fn one_order_of_pairs()
     ensures same { (ps : List Pair) → IsPermutation ps (sorted_pairs ps) }
     ensures ascending { (ps : List Pair) → IsSortedBy has_less_name (sorted_pairs ps) }

@@ -40,8 +40,8 @@ pub fn read_link(alloc: Global, base: &URI<'_>, link: &[u8]) -> Result<URI<'stat
 /// 5.2.2. The targets borrow the texts of the base and the links.
 ///
 /// Fails with the index of the first link that has no target, since its path and the base's
-/// together have too many segments. Each target allocates its path; if memory runs out, the index
-/// is that of the current link.
+/// together have too many segments. Each target allocates its path; if memory runs out, it is
+/// the current link's.
 ///
 /// ```
 /// let base = URI::try_from_str(alloc, "http://a/b/c")?;

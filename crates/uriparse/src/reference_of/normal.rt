@@ -8,7 +8,7 @@ use crate::kind::ReferenceKind;
 use std::alloc::{AllocError, Global};
 
 impl<'r, K: ReferenceKind> ReferenceOf<'r, K> {
-    /// Whether the text is that of the normal form. Then the value is that form, component for
+    /// Whether the text is the normal form's. Then the value is that form, component for
     /// component. Does not allocate.
     pub fn is_normalized(&self) -> bool
         ensures text { IsTrue result ↔ (print (normal self.now) ≡ print self.now) }

@@ -197,7 +197,7 @@ impl<'u> URI<'u> {
 }
 
 impl<'u> URIView<'u> {
-    /// The origin, as that of the [`URI`](URI::origin). Does not allocate.
+    /// The origin, as [`URI::origin`](URI::origin) returns it. Does not allocate.
     pub fn origin(&self) -> Option<Origin<'u>>
         ensures { result ≡ spec.origin self.now.parts }
     {
@@ -207,8 +207,8 @@ impl<'u> URIView<'u> {
         Some(Origin { scheme, host, port })
     }
 
-    /// Whether this URI and the other one have the same origin, as that of the
-    /// [`URI`](URI::same_origin). Does not allocate.
+    /// Whether this URI and the other one have the same origin, as
+    /// [`URI::same_origin`](URI::same_origin) reports. Does not allocate.
     pub fn same_origin(&self, other: &URIView<'_>) -> bool
         ensures { result ≡ spec.have_same_origin self.now.parts other.now.parts }
     {

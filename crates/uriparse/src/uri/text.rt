@@ -11,7 +11,7 @@ use uriparse_reference::uri_reference::{ReferenceView, TargetError};
 
 /// A URI in a text that it owns, with numbers that say where its components lie: a
 /// [`ReferenceText`](crate::ReferenceText) with a scheme. The calls that it shares with texts of
-/// relative references are those of [`TextOf`].
+/// relative references are at [`TextOf`].
 ///
 /// ```
 /// let uri = URIText::try_from_str(alloc, "http://example.com/schemas/a.json")?;

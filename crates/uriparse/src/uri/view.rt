@@ -11,7 +11,7 @@ use uriparse_reference::uri_reference::{BufferError, ReferenceView, TargetError}
 use uriparse_scheme::scheme::Scheme;
 
 /// A URI in its text: a [`ReferenceView`] with a scheme, so a base by its type. The calls that it
-/// shares with views of relative references are those of [`ViewOf`].
+/// shares with views of relative references are at [`ViewOf`].
 ///
 /// ```
 /// let base = URIView::try_from_str("http://a/b/c/d;p?q")?;

@@ -152,7 +152,7 @@ impl<'a> FoundAuthority<'a> {
         }
     }
 
-    /// Whether the text, from which the authority was read, is that of its normal form: RFC 3986,
+    /// Whether the text, from which the authority was read, is its normal form's: RFC 3986,
     /// section 6.2.2. Does not allocate.
     ///
     /// A name that was found to be canonical and is as long as the text is all of it, so for most

@@ -133,8 +133,8 @@ impl<'h> Host<'h> {
         self.as_borrowed().into_owned(alloc)
     }
 
-    /// Whether the host's text is its canonical spelling: RFC 3986, section 6.2.2. That of an IPv4
-    /// or IPv6 address always is. Does not allocate.
+    /// Whether the host's text is its canonical spelling: RFC 3986, section 6.2.2. The text of an
+    /// IPv4 or IPv6 address always is. Does not allocate.
     pub fn is_normalized(&self) -> bool
         ensures { IsTrue result ↔ (spec.text (canonical_host self.now) ≡ spec.text self.now) }
     {

@@ -105,7 +105,7 @@ impl<'n> RegisteredName<'n> {
         }
     }
 
-    /// Reads a text of the class of names, also that of an address.
+    /// Reads a text of the class of names, also the text of an address.
     fn of_class(bytes: &'n [u8]) -> Result<RegisteredName<'n>, RegisteredNameError>
         ensures { result ≡ reading_in class.Name spec.error_of bytes.now }
     {
@@ -141,7 +141,7 @@ impl<'n> RegisteredName<'n> {
     /// Decodes the name: each escape becomes its byte, and each other byte stays. Letters keep
     /// their case. Reserves capacity once.
     ///
-    /// No call encodes bytes as a name, since the text could be that of an IPv4 address.
+    /// No call encodes bytes as a name, since the text could spell an IPv4 address.
     pub fn decode(&self, alloc: Global) -> Result<Vec<u8>, AllocError>
         ensures { IfOk result (λ v. v.items ≡ decoded self.now) }
     {

@@ -10,11 +10,11 @@ use uriparse_text::internal::{canonical_copy, is_canonical_part, put_copy};
 /// Canonical copies of the components of an authority that are present and aren't canonical.
 #[derive(Drop)]
 pub struct CanonicalCopies {
-    /// That of the user name, if it needs one.
+    /// The copy of the user name, if it needs one.
     pub username: Option<Username<'static>>,
-    /// That of the password, if it needs one.
+    /// The copy of the password, if it needs one.
     pub password: Option<Password<'static>>,
-    /// That of the host, if it needs one.
+    /// The copy of the host, if it needs one.
     pub host: Option<Host<'static>>,
 }
 

@@ -11,8 +11,8 @@ use super::error::PortError;
 /// not a decimal digit, or [`Overflow`](PortError::Overflow) for the digit with which the number
 /// exceeds 65535, whichever comes first.
 ///
-/// RFC 3986, section 3.2.3, sets no maximum; 65535 is that of TCP and UDP, whose ports have 16
-/// bits.
+/// RFC 3986, section 3.2.3, sets no maximum; 65535 is the largest port of TCP and UDP, which has
+/// 16 bits.
 ///
 /// ```
 /// assert!(parse_port(b"00000080") == Ok(Some(80)) && parse_port(b"") == Ok(None));

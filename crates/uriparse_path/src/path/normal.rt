@@ -124,7 +124,7 @@ fn put_copies_in<'s>(list: &mut SegmentList<Segment<'s>>, copies: Vec<(usize, Se
 }
 
 impl<'p> Path<'p> {
-    /// Whether the path stays relative to a base: it may be that of a reference without a scheme,
+    /// Whether the path stays relative to a base: it may stand in a reference without a scheme,
     /// and its text does not begin with a slash.
     fn stays_relative(&self, as_reference: bool) -> bool
         ensures { result ≡ spec.stays_relative self.now as_reference }
@@ -223,7 +223,7 @@ impl<'p> Path<'p> {
     /// Brings the path into its normal form: RFC 3986, sections 4.2 and 6.2.2. Each segment gets
     /// its canonical spelling.
     ///
-    /// With `as_reference` the path may be that of a reference without a scheme. If so and its text
+    /// With `as_reference` the path may stand in a reference without a scheme. If so and its text
     /// does not begin with a slash, each `.` is removed, and each `..` together with the segment
     /// before it, if there is one that is no `..`. If a dot segment was last, an empty segment is
     /// last then, unless nothing is left or a `..` is last. So `a/b/..` becomes `a/`, and `../.`

@@ -19,7 +19,7 @@ fn begins_token(text: &[u8]) -> bool
 }
 
 /// The place of the leftmost fault of what follows a leading slash and has no slash too many, or its
-/// length: that of a query, whose bytes are tested sixteen at a time, or of a `?` before it, which a
+/// length: a query's fault, whose bytes are tested sixteen at a time, or a `?` before it, which a
 /// query may have.
 fn offset_of_byte(text: &[u8]) -> usize
     ensures offset { (n : ℕ) → length text.now ≤ n → result ≡ spec.offset_within n text.now }
@@ -63,7 +63,7 @@ fn offset_by_one(slashes: usize, text: &[u8]) -> usize
     text.len()
 }
 
-/// The place of the leftmost fault of a path's text, which is that of a byte or of the slash that
+/// The place of the leftmost fault of a path's text, which is a wrong byte's or the slash's that
 /// begins one segment too many, or the length. Takes linear time and does not allocate.
 pub fn offset_of_path_fault(text: &[u8]) -> usize
     ensures offset { result ≡ spec.fault_offset text.now }

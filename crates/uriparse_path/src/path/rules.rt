@@ -124,7 +124,7 @@ pub(super) fn are_canonical<'t, L: SegmentSequence<'t>>(segments: L) -> bool
     true
 }
 
-/// Whether the segments are those of an absolute path that is normal except for a leading `.`,
+/// Whether the segments form an absolute path that is normal except for a leading `.`,
 /// which is needed without an authority. A call of its own, since few paths need it.
 #[inline(never)]
 pub(super) fn is_dot_prefixed<'t, L: SegmentSequence<'t>>(absolute: bool, segments: L) -> bool

@@ -119,7 +119,7 @@ impl<'r> URIReference<'r> {
             && is_canonical_part(&self.fragment)
     }
 
-    /// Whether the reference's text is that of its normal form. Then it equals that form, component
+    /// Whether the reference's text is its normal form's. Then it equals that form, component
     /// by component. Does not allocate.
     pub fn is_normalized(&self) -> bool
         ensures text { IsTrue result ↔ (print (normal self.now) ≡ print self.now) }
@@ -130,7 +130,7 @@ impl<'r> URIReference<'r> {
 
     /// Normalizes the reference: RFC 3986, section 6.2.2. Each text gets its canonical spelling; a
     /// name stays a name, even if it then spells an IPv4 address. The path gets its normal form,
-    /// that of a path without a scheme if the reference has none (see [`Path::normalize`]). Without
+    /// as a path without a scheme if the reference has none (see [`Path::normalize`]). Without
     /// an authority, a path that would then start with `//` gets a leading `/.`. A second call
     /// changes nothing.
     ///

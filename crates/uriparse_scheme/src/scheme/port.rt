@@ -75,7 +75,7 @@ impl RegisteredScheme {
 }
 
 impl<'s> Scheme<'s> {
-    /// The default port of the scheme: that of a registered scheme, if the list of default ports has one.
+    /// The default port of the scheme, if it is registered and the list of default ports has one.
     /// RFC 3986, section 3.2.3. Does not allocate.
     pub fn default_port(&self) -> Option<u16>
         ensures { result ≡ spec.default_port self.now }

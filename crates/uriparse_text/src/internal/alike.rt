@@ -17,7 +17,7 @@ use super::digit::hex_value;
 use super::token::begins_escape;
 use std::simd::prelude::*;
 
-/// Whether the bytes are tokens whose canonical spelling is that of the text.
+/// Whether the bytes are tokens whose canonical spelling is the text's.
 #[inline]
 pub fn same_spelling(case: Case, bytes: &[u8], text: &[u8]) -> bool
     requires { tokens.is_well_formed text.now ≡ true }

@@ -74,7 +74,7 @@ pub(super) fn shifted_down(m: u64, by: usize) -> u64
     m >> by
 }
 
-/// The mask of `len` items, 8 to 16, from the bits of the first eight and then those of the last
+/// The mask of `len` items, 8 to 16, from the bits of the first eight and then of the last
 /// eight.
 #[inline(always)]
 pub(super) fn joined_ends(m: u64, len: usize) -> u64

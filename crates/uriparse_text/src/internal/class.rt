@@ -14,11 +14,11 @@ use std::simd::prelude::*;
 pub enum Class {
     /// A registered name or a user name: unreserved bytes and sub-delimiters.
     Name,
-    /// A password or an address of a later version: those of a name, and `:`.
+    /// A password or an address of a later version: the bytes of a name, and `:`.
     UserInfo,
-    /// A segment of a path: those of a password, and `@`.
+    /// A segment of a path: the bytes of a password, and `@`.
     Segment,
-    /// A query or a fragment: those of a segment, `/` and `?`.
+    /// A query or a fragment: the bytes of a segment, `/` and `?`.
     Query,
 }
 

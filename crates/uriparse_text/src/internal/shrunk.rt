@@ -44,7 +44,7 @@ fn marks_of_shrunk(text: &[u8], at: usize) -> u64
     signs & (first & second).simd_ne(u8x16::splat(0)).to_bitmask()
 }
 
-/// How many escapes stand for unreserved bytes. Those of sixteen places are counted at once. Escapes
+/// How many escapes stand for unreserved bytes. Sixteen places are counted at once. Escapes
 /// need not be told from one another, since no digit is a `%`, and the last two bytes begin none.
 #[inline(always)]
 pub(super) fn shrunk_count(text: &[u8]) -> usize

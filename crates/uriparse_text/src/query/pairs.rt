@@ -136,7 +136,7 @@ impl<'q> Query<'q> {
     /// [`decode`](Text::decode) return the bytes again, and so does
     /// [`decode_form`](Query::decode_form). Reserves capacity once.
     ///
-    /// Without pairs the result is the empty query, which is that of one empty name too.
+    /// Without pairs the result is the empty query, which one empty name has too.
     ///
     /// ```
     /// let query = Query::from_pairs(alloc, &[(b"q", Some(b"R&D")), (b"all", None)])?;
@@ -155,7 +155,7 @@ impl<'q> Query<'q> {
         Ok(text_from_checked_vec(text))
     }
 
-    /// Decodes the text as that of an HTML form: like [`decode`](Text::decode), but a `+` is a
+    /// Decodes the text as an HTML form's: like [`decode`](Text::decode), but a `+` is a
     /// space. Reserves capacity once.
     ///
     /// ```

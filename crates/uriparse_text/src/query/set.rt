@@ -54,7 +54,7 @@ fn push_next(
     Ok(is_set)
 }
 
-/// The pieces of the query with the pair in place of those of its name, each with a `&` after it.
+/// The pieces of the query with the pair in place of its name's, each with a `&` after it.
 fn set_pieces(
     alloc: Global,
     query: &[u8],

@@ -5,7 +5,7 @@ ghost use Rattle.uriparse_text.specs.declared.segment.error.PathError.TheVariant
 use std::alloc::{AllocError, AllocFailed};
 use thiserror::Error;
 
-/// Why a text is rejected as a path or a segment. The error is that of the leftmost fault.
+/// Why a text is rejected as a path or a segment. The error is the leftmost fault's.
 #[derive(Clone, Debug, Drop, PartialEq, Eq, Hash, Error)]
 pub enum PathError {
     /// More segments than a path may have. The fault is at the slash that would start the first one

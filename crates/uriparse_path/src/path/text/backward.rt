@@ -26,7 +26,7 @@ pub(super) struct Placed {
     pub(super) rooted: bool,
     /// It begins with two.
     pub(super) twice: bool,
-    /// Its length and that of what follows it.
+    /// The length of the text and of what follows it.
     pub(super) len: usize,
 }
 

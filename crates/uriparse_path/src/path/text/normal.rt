@@ -1,4 +1,4 @@
-//! Whether the text of a path is that of its normal form, without a list of its segments: RFC
+//! Whether the text of a path is its normal form's, without a list of its segments: RFC
 //! 3986, sections 4.2 and 6.2.2.
 ghost use Rattle.std.specs.Prelude.{◌≡◌, ◌≤◌, false, length, not, take, true};
 ghost use Rattle.std.specs.List.{list_all, slice_split};
@@ -35,7 +35,7 @@ fn lacks_dots(len: usize, text: &[u8]) -> bool
 }
 
 /// Whether each segment of a text is canonical, if its first `len` bytes have no escape. Tests the
-/// text as a whole, by runs: its canonical spelling is that of its segments.
+/// text as a whole, by runs: its canonical spelling is its segments'.
 fn is_canonical_after(len: usize, text: &[u8]) -> bool
     requires segments { list_all is_segment (slice_split is_slash text.now) ≡ true }
     requires within { len ≤ length text.now }
@@ -88,7 +88,7 @@ fn is_normal(stays_relative: bool, text: &[u8]) -> bool
     is_all(len, rest) || is_normal_after(stays_relative, len, rest)
 }
 
-/// Whether the text is that of an absolute path that is normal except for a leading `.`, which is
+/// Whether the text spells an absolute path that is normal except for a leading `.`, which is
 /// needed without an authority.
 fn is_text_dot_prefixed(text: &[u8]) -> bool
     requires { IsPath text.now }
@@ -98,7 +98,7 @@ fn is_text_dot_prefixed(text: &[u8]) -> bool
     is_dot_prefixed(rooted, segments_of(text))
 }
 
-/// Whether the text of a path is that of its normal form at this place in a reference. Does not
+/// Whether the text of a path is its normal form's at this place in a reference. Does not
 /// allocate.
 pub fn is_normal_path_text(text: &[u8], context: PathContext) -> bool
     requires { IsPath text.now }

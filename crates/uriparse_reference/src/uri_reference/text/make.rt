@@ -50,7 +50,7 @@ impl ReferenceText {
         Ok(Some(view.normalize_to_string(alloc)?))
     }
 
-    /// Replaces the text by that of the normal form: RFC 3986, section 6.2.2. Allocates once, exactly
+    /// Replaces the text by the normal form's: RFC 3986, section 6.2.2. Allocates once, exactly
     /// its length, and not at all if the text is that already. If memory runs out, the text is
     /// unchanged.
     ///

@@ -41,7 +41,7 @@ impl<'t> ReferenceView<'t> {
         self.has_ends_alike(other) && self.eq_authority_and_path(other)
     }
 
-    /// Whether the schemes, fragments and queries are those of the reference, each in canonical
+    /// Whether the scheme, fragment and query equal the reference's, each in canonical
     /// spelling.
     fn has_ends_of(&self, reference: &URIReference<'_>) -> bool
         ensures { result ≡ ends_alike self.now.parts reference.now }
@@ -51,21 +51,21 @@ impl<'t> ReferenceView<'t> {
             && self.query() == reference.query
     }
 
-    /// Whether the authority is that of the reference, in canonical spelling.
+    /// Whether the authority equals the reference's, in canonical spelling.
     fn has_authority_of(&self, reference: &URIReference<'_>) -> bool
         ensures { result ≡ option_eq (on authorities.key bytes_eq) self.now.parts.authority reference.now.authority }
     {
         self.authority() == reference.authority
     }
 
-    /// Whether the path's text is that of the reference's path, in canonical spelling.
+    /// Whether the path's text equals the reference's, in canonical spelling.
     fn has_path_of(&self, reference: &URIReference<'_>) -> bool
         ensures { result ≡ bytes_eq (canonical (text self.now.parts.path)) (canonical (text reference.now.path)) }
     {
         reference.path.eq_bytes(self.path_bytes())
     }
 
-    /// Whether the components are those of the reference, each in canonical spelling. Compares the
+    /// Whether the components equal the reference's, each in canonical spelling. Compares the
     /// shortest first.
     fn has_each_of(&self, reference: &URIReference<'_>) -> bool
         ensures { result ≡ each_alike self.now.parts reference.now }

@@ -51,7 +51,7 @@ fn skip(len: usize, text: &[u8]) -> &[u8]
     text.get(len..).unwrap_or(b"")
 }
 
-/// How many bytes stand between the text of a scheme and that of an authority.
+/// How many bytes stand between a scheme and an authority.
 #[inline(always)]
 fn gap(scheme: u32) -> usize
     ensures { result ≡ (if scheme == 0 then 2 else 3) }

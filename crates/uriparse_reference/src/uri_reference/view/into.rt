@@ -102,8 +102,8 @@ impl<'v, 't> PutText for NormalText<'v, 't> {
 
 impl<'t> ReferenceView<'t> {
     /// Writes the text of the normal form to the start of the buffer and returns its length in
-    /// bytes; what follows it in the buffer is unchanged. The text is that of
-    /// [`URIReference::normalize`](crate::uri_reference::URIReference::normalize). RFC 3986,
+    /// bytes; what follows it in the buffer is unchanged. The text is the one that
+    /// [`URIReference::normalize`](crate::uri_reference::URIReference::normalize) makes. RFC 3986,
     /// section 6.2.2.
     ///
     /// A text doesn't keep the kind of a host: the name in `//%31.2.3.4` is written as `1.2.3.4`,

@@ -86,7 +86,7 @@ impl<'t> ReferenceView<'t> {
 
     /// Whether the reference that the view builds is in normal form, as
     /// [`URIReference::is_normalized`](crate::uri_reference::URIReference::is_normalized) reports:
-    /// the text that this reference prints is that of its normal form. What reading itself changes
+    /// the text that this reference prints is its normal form's. What reading itself changes
     /// does not count, such as the case of a registered scheme, so the view's own text may differ.
     /// Does not allocate.
     pub fn is_normalized(&self) -> bool

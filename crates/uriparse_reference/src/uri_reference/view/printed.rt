@@ -1,4 +1,4 @@
-//! Whether the text of a view is the one that its reference prints, or that of its normal form: RFC
+//! Whether the text of a view is the one that its reference prints, or its normal form's: RFC
 //! 3986, sections 5.3 and 6.2.2.
 ghost use Rattle.std.specs.Prelude.{◌≡◌, ◌↔◌, [], IsTrue, unwrap_or};
 ghost use Rattle.uriparse_path.specs.Path.{text};
@@ -29,7 +29,7 @@ impl<'t> ReferenceView<'t> {
         authority.unwrap_or(b"")
     }
 
-    /// Whether the text of the authority, if present, is that of its normal form.
+    /// Whether the text of the authority, if present, is its normal form's.
     fn has_normal_authority_text(&self) -> bool
         ensures { IsTrue result ↔ (authority_part (normal self.now.parts) ≡ authority_text self.now.text) }
     {
@@ -50,15 +50,15 @@ impl<'t> ReferenceView<'t> {
         !self.has_implied_root()
     }
 
-    /// Whether the path, and the scheme, if present, print their texts, and that of the authority, if
-    /// present, is that of its normal form.
+    /// Whether the path, and the scheme, if present, print their texts, and the authority's text,
+    /// if present, is its normal form's.
     fn has_own_texts(&self) -> bool
         ensures { IsTrue result ↔ HasOwnTexts self.now.text self.now.parts }
     {
         self.has_own_path_text() && self.has_own_scheme_text() && self.has_normal_authority_text()
     }
 
-    /// Whether the text that was read is that of the normal form, byte for byte: what
+    /// Whether the text that was read is the normal form's, byte for byte: what
     /// [`normalize_into`](ReferenceView::normalize_into) would write. Other than
     /// [`is_normalized`](ReferenceView::is_normalized), it also counts what reading itself changes:
     /// the case of a registered scheme, another text of an IPv6 address, leading zeros of a port or

@@ -62,7 +62,7 @@ impl<'t> ReferenceView<'t> {
         matches!(self.path_bytes(), [b'/', ..])
     }
 
-    /// Whether the target's path is that of merged paths.
+    /// Whether the target's path is made of merged paths.
     fn is_merged(&self) -> bool
         ensures { result ≡ is_merged self.now.parts }
     {
@@ -194,8 +194,8 @@ impl<'t> ReferenceView<'t> {
         self.put_own_scheme_and_authority(out, len)
     }
 
-    /// The number of bytes of the texts that the target is put together from: those of the reference,
-    /// and of this base if the reference has no scheme; or the largest number.
+    /// The number of bytes of the texts that the target is put together from: the reference's,
+    /// and this base's if the reference has no scheme; or the largest number.
     fn source_len(&self, reference: &ReferenceView<'_>) -> usize {
         if reference.has_scheme() {
             reference.text.len()
