@@ -1,5 +1,5 @@
 //! Promises of the program's reader of lines for which the gate has a mutant, as in
-//! `test_mutants_references`.
+//! `test_mutants`.
 #![tactic(auto)]
 
 ghost use Rattle.std.specs.Prelude.{◌≡◌, ◌<◌, false, length, true, IfOk, IfSome, OnOk};

@@ -1,5 +1,5 @@
 //! Promises of `URI` and of its builder for which the gate has mutants,
-//! as in `test_mutants_references`.
+//! as in `test_mutants`.
 #![tactic(auto)]
 
 ghost use Rattle.std.specs.Prelude.{◌≡◌, Err, IsOk, MatchOption, Ok, OnOk, Some, is_some, length, true};

@@ -1,6 +1,4 @@
-//! Promises of hosts and authorities for which the gate has mutants,
-//! as in `test_mutants_references`.
-#![tactic(auto)]
+//! Promises of hosts and authorities.
 
 ghost use Rattle.std.specs.Prelude.{◌≡◌, Ok, OnOk, Some, bytes_eq};
 ghost use Rattle.std.specs.Fmt.{DisplaysOnOk};

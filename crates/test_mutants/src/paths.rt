@@ -1,7 +1,4 @@
-//! Promises of paths for which the gate has mutants.
-//!
-//! They are made as in `test_mutants_references`.
-#![tactic(auto)]
+//! Promises of paths.
 
 ghost use Rattle.std.specs.Prelude.{◌≡◌, ◌↔◌, IsTrue, IfOk, Ok, OnOk, true, false, bytes_eq};
 ghost use Rattle.uriparse_text.specs.Canonical.{canonical};

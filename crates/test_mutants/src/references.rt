@@ -1,10 +1,4 @@
-//! Promises of `URIReference` and of schemes for which the gate has mutants.
-//!
-//! Each function hands on what the library returns, and its clauses follow from the contracts of
-//! the calls alone. So a body that breaks a clause breaks the library's too: what the prover
-//! refuses here, no body of the library does. No proof is written for a function: the search finds
-//! it.
-#![tactic(auto)]
+//! Promises of `URIReference` and of schemes.
 
 ghost use Rattle.std.specs.Prelude.{◌≡◌, ◌↔◌, Err, IfOk, IsTrue, MatchResult, None, Ok, OnErr, OnOk, Some, bytes_eq, false, is_some, length, string_bytes, true};
 ghost use Rattle.uriparse_text.specs.Readings.{IsUnless, Settles, SettlesUnless};

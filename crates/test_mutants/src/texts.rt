@@ -1,6 +1,4 @@
-//! Promises of texts and of addresses for which the gate has mutants,
-//! as in `test_mutants_references`.
-#![tactic(auto)]
+//! Promises of texts and of addresses.
 
 ghost use Rattle.std.specs.Prelude.{◌≡◌, ◌↔◌, IfOk, IsTrue, Some, bytes_eq, fold, map};
 ghost use Rattle.std.specs.Fmt.{DisplaysOnOk};

@@ -1,5 +1,4 @@
 //! A query can't be used after the text that it was read from has ended.
-#![tactic(auto)]
 
 ghost use Rattle.std.specs.Prelude.{◌≡◌, IfOk, Err, MatchResult, length};
 ghost use Rattle.uriparse_text.specs.Query.{IsQuery, reading};

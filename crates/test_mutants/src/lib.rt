@@ -1,0 +1,13 @@
+//! Promises of the libraries for which the gate has mutants, a module for each library.
+//!
+//! Each function hands on what the library returns, and its clauses follow from the contracts of
+//! the calls alone. So a body that breaks a clause breaks the library's too: what the prover
+//! refuses here, no body of the library does. No proof is written for a function: the search finds
+//! it.
+#![tactic(auto)]
+
+pub mod authorities;
+pub mod lifetimes;
+pub mod paths;
+pub mod references;
+pub mod texts;
