@@ -12,7 +12,7 @@ use std::io;
 use std::io::Write;
 use uriparse_text::internal::{split_at_mark, without_mark};
 
-pub const ABOUT_ALIGN: Topic = Topic {
+pub static ABOUT_ALIGN: Topic = Topic {
     name: "--align",
     summary: "\
 uri --align --lines COMMAND
@@ -38,7 +38,7 @@ prints
 ",
 };
 
-pub const ABOUT_COLUMN: Topic = Topic {
+pub static ABOUT_COLUMN: Topic = Topic {
     name: "--column",
     summary: "\
 uri --column K --lines COMMAND

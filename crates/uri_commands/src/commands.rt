@@ -27,36 +27,34 @@ use std::alloc::Global;
 use std::io::Write;
 use uriparse::URIView;
 
-/// The commands and the options, in the order of `uri help`.
-pub static TOPICS: [Topic; 22] = [
-    parse::ABOUT,
-    tail::ABOUT,
-    get::ABOUT,
-    normalize::ABOUT,
-    equal::ABOUT,
-    resolve::ABOUT,
-    relativize::ABOUT,
-    decode::ABOUT,
-    encode::ABOUT,
-    escape::ABOUT,
-    pairs::ABOUT,
-    file::ABOUT,
-    edit::ABOUT,
-    help::ABOUT,
-    json::ABOUT,
-    quiet::ABOUT,
-    explain::ABOUT,
-    normalize::ABOUT_DROP_DEFAULT_PORT,
-    escape::ABOUT_TRIM,
-    lines::ABOUT,
-    columns::ABOUT_ALIGN,
-    columns::ABOUT_COLUMN,
-];
-
-/// The table of the commands and the options. `help` reads it by this call, since each function that names
-/// the table takes long to prove.
-pub fn topics() -> &'static [Topic] {
-    &TOPICS
+/// The command or the option at this place of `uri help`, from 0. A table of them all takes the prover the square of
+/// the length of their texts.
+pub fn topic(place: usize) -> Option<&'static Topic> {
+    match place {
+        0 => Some(&parse::ABOUT),
+        1 => Some(&tail::ABOUT),
+        2 => Some(&get::ABOUT),
+        3 => Some(&normalize::ABOUT),
+        4 => Some(&equal::ABOUT),
+        5 => Some(&resolve::ABOUT),
+        6 => Some(&relativize::ABOUT),
+        7 => Some(&decode::ABOUT),
+        8 => Some(&encode::ABOUT),
+        9 => Some(&escape::ABOUT),
+        10 => Some(&pairs::ABOUT),
+        11 => Some(&file::ABOUT),
+        12 => Some(&edit::ABOUT),
+        13 => Some(&help::ABOUT),
+        14 => Some(&json::ABOUT),
+        15 => Some(&quiet::ABOUT),
+        16 => Some(&explain::ABOUT),
+        17 => Some(&normalize::ABOUT_DROP_DEFAULT_PORT),
+        18 => Some(&escape::ABOUT_TRIM),
+        19 => Some(&lines::ABOUT),
+        20 => Some(&columns::ABOUT_ALIGN),
+        21 => Some(&columns::ABOUT_COLUMN),
+        _ => None,
+    }
 }
 
 /// Whether `--explain` is absent, or may precede the command of these words.

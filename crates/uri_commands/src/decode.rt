@@ -7,7 +7,7 @@ use std::alloc::Global;
 use std::io::Write;
 use uriparse::Query;
 
-pub const ABOUT: Topic = Topic {
+pub static ABOUT: Topic = Topic {
     name: "decode",
     summary: "\
 uri decode TEXT       the bytes that a query or a segment stands for

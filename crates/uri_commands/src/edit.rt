@@ -7,7 +7,7 @@ use std::alloc::Global;
 use std::io::Write;
 use uriparse::{Authority, Edit, Fragment, Path, Query, Scheme, URIReference, URIReferenceError};
 
-pub const ABOUT: Topic = Topic {
+pub static ABOUT: Topic = Topic {
     name: "edit",
     summary: "\
 uri edit TEXT EDIT..  the reference with all edits made, from the left;

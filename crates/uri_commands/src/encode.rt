@@ -7,7 +7,7 @@ use std::alloc::Global;
 use std::io::Write;
 use uriparse::{Fragment, Password, Query, Segment, Username};
 
-pub const ABOUT: Topic = Topic {
+pub static ABOUT: Topic = Topic {
     name: "encode",
     summary: "\
 uri encode KIND TEXT  the text as a segment, query, fragment, username or

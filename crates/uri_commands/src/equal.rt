@@ -7,7 +7,7 @@ use std::io;
 use std::io::Write;
 use uriparse::ReferenceView;
 
-pub const ABOUT: Topic = Topic {
+pub static ABOUT: Topic = Topic {
     name: "equal",
     summary: "\
 uri equal A B         `equal` or `different`

@@ -7,7 +7,7 @@ use std::alloc::Global;
 use std::io::Write;
 use uriparse::{escape_invalid, trim_link};
 
-pub const ABOUT: Topic = Topic {
+pub static ABOUT: Topic = Topic {
     name: "escape",
     summary: "\
 uri escape TEXT       any text as a reference, with escapes for what it
@@ -37,7 +37,7 @@ prints
 ",
 };
 
-pub const ABOUT_TRIM: Topic = Topic {
+pub static ABOUT_TRIM: Topic = Topic {
     name: "--trim",
     summary: "\
 uri --trim escape TEXT

@@ -7,7 +7,7 @@ use std::io;
 use std::io::Write;
 use uriparse::{AuthorityError, URI, URIError, URIReference, URIReferenceError};
 
-pub const ABOUT: Topic = Topic {
+pub static ABOUT: Topic = Topic {
     name: "--explain",
     summary: "\
 uri --explain parse TEXT, uri --explain resolve BASE REF

@@ -8,7 +8,7 @@ use std::io::Write;
 use uriparse::URI;
 use uriparse::file::{from_path, to_path};
 
-pub const ABOUT: Topic = Topic {
+pub static ABOUT: Topic = Topic {
     name: "file",
     summary: "\
 uri file PATH         the URI of a file's absolute path

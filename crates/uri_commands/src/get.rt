@@ -7,7 +7,7 @@ use std::fmt::Display;
 use std::io::Write;
 use uriparse::{ReferenceView, URIView};
 
-pub const ABOUT: Topic = Topic {
+pub static ABOUT: Topic = Topic {
     name: "get",
     summary: "\
 uri get PART TEXT     that part alone: scheme, authority, username, password,

@@ -1,12 +1,12 @@
 //! `uri help` and `uri --version`: the commands, one of them, and the version.
 
-use crate::commands::topics;
+use crate::commands::topic;
 use crate::failure::Failure;
 use crate::topic::Topic;
 use std::io;
 use std::io::Write;
 
-pub const ABOUT: Topic = Topic {
+pub static ABOUT: Topic = Topic {
     name: "help",
     summary: "\
 uri help              these lines
@@ -48,7 +48,7 @@ pub fn version<O: Write>(out: &mut O) -> io::Result<()> {
 
 /// Prints the commands and the options.
 pub fn help<O: Write>(out: &mut O) -> io::Result<()> {
-    for topic in topics() {
+    for topic in (0..).map_while(topic) {
         write!(out, "{}", topic.summary)?;
     }
     write!(out, "{VERSION_SUMMARY}")
@@ -56,7 +56,7 @@ pub fn help<O: Write>(out: &mut O) -> io::Result<()> {
 
 /// Prints the page on the command or the option of this name.
 pub fn help_on<O: Write>(name: &str, out: &mut O) -> Result<(), Failure> {
-    let found = topics().iter().find(|topic| topic.name == name);
+    let found = (0..).map_while(topic).find(|topic| topic.name == name);
     let topic = found.ok_or(Failure::Usage)?;
     write!(out, "{}", topic.page).map_err(Failure::Io)
 }

@@ -28,7 +28,7 @@ use std::io;
 use std::io::Write;
 use uriparse::{Host, ReferenceView, Scheme, Segments, Text, TextKind};
 
-pub const ABOUT: Topic = Topic {
+pub static ABOUT: Topic = Topic {
     name: "--json",
     summary: "\
 uri --json parse TEXT the reference as a JSON object

@@ -20,7 +20,7 @@ use std::io;
 use std::io::{BufRead, BufReader, BufWriter, Read, Write};
 use uriparse_text::internal::{Is, first};
 
-pub const ABOUT: Topic = Topic {
+pub static ABOUT: Topic = Topic {
     name: "--lines",
     summary: "\
 uri --lines parse, uri --lines normalize, uri --lines resolve BASE,

@@ -9,7 +9,7 @@ use std::alloc::Global;
 use std::io::Write;
 use uriparse::{BufferError, ReferenceView, URIReference};
 
-pub const ABOUT: Topic = Topic {
+pub static ABOUT: Topic = Topic {
     name: "normalize",
     summary: "\
 uri normalize TEXT    the reference's normal form
@@ -33,7 +33,7 @@ prints
 ",
 };
 
-pub const ABOUT_DROP_DEFAULT_PORT: Topic = Topic {
+pub static ABOUT_DROP_DEFAULT_PORT: Topic = Topic {
     name: "--drop-default-port",
     summary: "\
 uri --drop-default-port normalize TEXT

@@ -8,7 +8,7 @@ use std::io;
 use std::io::Write;
 use uriparse::{Query, URIReference};
 
-pub const ABOUT: Topic = Topic {
+pub static ABOUT: Topic = Topic {
     name: "pairs",
     summary: "\
 uri pairs TEXT        the pairs of the reference's query, a line each

@@ -8,7 +8,7 @@ use std::io;
 use std::io::Write;
 use uriparse::{Authority, Host, URIReference};
 
-pub const ABOUT: Topic = Topic {
+pub static ABOUT: Topic = Topic {
     name: "parse",
     summary: "\
 uri parse TEXT        the reference, and then each of its parts

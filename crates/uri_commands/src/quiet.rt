@@ -5,7 +5,7 @@ use crate::failure::Failure;
 use crate::topic::Topic;
 use uriparse::{ReferenceView, URIReference};
 
-pub const ABOUT: Topic = Topic {
+pub static ABOUT: Topic = Topic {
     name: "--quiet",
     summary: "\
 uri --quiet parse TEXT, uri --quiet equal A B

@@ -7,7 +7,7 @@ use std::alloc::Global;
 use std::io::Write;
 use uriparse::URI;
 
-pub const ABOUT: Topic = Topic {
+pub static ABOUT: Topic = Topic {
     name: "relativize",
     summary: "\
 uri relativize BASE URI

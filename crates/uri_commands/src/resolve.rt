@@ -9,7 +9,7 @@ use std::alloc::Global;
 use std::io::Write;
 use uriparse::{BufferError, ReferenceView, URIView};
 
-pub const ABOUT: Topic = Topic {
+pub static ABOUT: Topic = Topic {
     name: "resolve",
     summary: "\
 uri resolve BASE REF  the target of the reference against the base, a URI

@@ -8,7 +8,7 @@ use std::io;
 use std::io::Write;
 use uriparse::{Fragment, Path, Query, URIReferenceError};
 
-pub const ABOUT: Topic = Topic {
+pub static ABOUT: Topic = Topic {
     name: "tail",
     summary: "\
 uri tail TEXT         path, query and fragment of a text, and each of them
