@@ -15,7 +15,7 @@ use super::run::MayChange;
 use super::text::{Text, TextKind};
 
 /// Whether texts are put as they are or in canonical spelling.
-#[derive(Clone, Copy, Debug, PartialEq, Eq)]
+#[derive(Clone, Copy)]
 pub enum Form {
     AsIs,
     Canonical,

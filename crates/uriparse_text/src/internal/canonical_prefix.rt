@@ -12,7 +12,7 @@ use super::scan::{ByteTest, first, first_by_one};
 use std::simd::prelude::*;
 
 /// The byte isn't of the class, or changes in a canonical spelling.
-#[derive(Clone, Copy, Debug)]
+#[derive(Clone, Copy)]
 struct NotCanonical(Class, Case);
 
 impl ByteTest for NotCanonical {

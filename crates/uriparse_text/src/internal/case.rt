@@ -9,7 +9,7 @@ use super::pairs::is_canonical_escape;
 use super::token::Token;
 
 /// What a canonical spelling does to letters. The digits of escapes are always in upper case.
-#[derive(Clone, Copy, Debug, PartialEq, Eq)]
+#[derive(Clone, Copy)]
 pub enum Case {
     /// They keep their case.
     Kept,

@@ -10,7 +10,7 @@ use super::token::is_escape;
 use std::simd::prelude::*;
 
 /// Which bytes a component may have unescaped. Escapes are allowed in each class.
-#[derive(Clone, Copy, Debug, PartialEq, Eq)]
+#[derive(Clone, Copy)]
 pub enum Class {
     /// A registered name or a user name: unreserved bytes and sub-delimiters.
     Name,
@@ -95,7 +95,7 @@ impl Class {
 }
 
 /// The byte is not in this class.
-#[derive(Clone, Copy, Debug)]
+#[derive(Clone, Copy)]
 pub struct Outside(pub Class);
 
 // Eight kinds of bytes, one bit each. A byte is of a kind if both tables have its bit: LOW at the

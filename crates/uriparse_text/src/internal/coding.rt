@@ -66,7 +66,7 @@ fn byte_of_escape(b: u8, high: u8, low: u8) -> Option<u8>
 }
 
 /// Decoding: an escape becomes the byte that it represents.
-#[derive(Clone, Copy, Debug)]
+#[derive(Clone, Copy)]
 pub(super) struct Decoding;
 
 impl ByteTest for Decoding {
@@ -152,7 +152,7 @@ pub fn compare_represented(text: &[u8], other: &[u8]) -> Ordering
 }
 
 /// Encoding: a byte that is not in the class becomes an escape.
-#[derive(Clone, Copy, Debug)]
+#[derive(Clone, Copy)]
 pub(super) struct Encoding(pub(super) Class);
 
 impl ByteTest for Encoding {
@@ -194,7 +194,7 @@ pub(super) fn encoded_bytes(
 }
 
 /// Decoding of the text of a form: a `+` becomes a space, too.
-#[derive(Clone, Copy, Debug)]
+#[derive(Clone, Copy)]
 struct FormDecoding;
 
 impl ByteTest for FormDecoding {
@@ -236,7 +236,7 @@ pub fn form_decoded_bytes(alloc: Global, text: &[u8]) -> Result<Vec<u8>, AllocEr
 }
 
 /// Encoding for which some bytes of the class become escapes, too.
-#[derive(Clone, Copy, Debug)]
+#[derive(Clone, Copy)]
 struct EncodingWithout<'w>(Class, &'w [u8]);
 
 impl<'w> ByteTest for EncodingWithout<'w> {
@@ -283,7 +283,7 @@ pub fn push_encoded(
 
 /// Escaping: a byte that is neither in the class nor one of these becomes an escape, unless it
 /// begins one.
-#[derive(Clone, Copy, Debug)]
+#[derive(Clone, Copy)]
 pub(super) struct Escaping<'m>(pub(super) Class, pub(super) &'m [u8]);
 
 impl<'m> ByteTest for Escaping<'m> {

@@ -10,7 +10,7 @@ use super::token::{Token, first_token};
 use std::simd::prelude::*;
 
 /// The byte may change in a canonical spelling.
-#[derive(Clone, Copy, Debug)]
+#[derive(Clone, Copy)]
 pub(super) struct MayChange(pub(super) Case);
 
 // The kinds of bytes, one bit each, by the low half and the high half of a byte: 1 `%`, 2 and 4

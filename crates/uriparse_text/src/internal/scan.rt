@@ -22,7 +22,7 @@ pub trait ByteTest {
 }
 
 /// The byte is this one.
-#[derive(Clone, Copy, Debug)]
+#[derive(Clone, Copy)]
 pub struct Is(pub u8);
 
 impl ByteTest for Is {
@@ -40,7 +40,7 @@ impl ByteTest for Is {
 }
 
 /// The byte is one of these three.
-#[derive(Clone, Copy, Debug)]
+#[derive(Clone, Copy)]
 pub struct IsAny(pub u8, pub u8, pub u8);
 
 #[inline(always)]
@@ -82,7 +82,7 @@ pub(super) fn by_high(table: [u8; 16], lanes: u8x16) -> u8x16
 }
 
 /// The byte is a hexadecimal digit.
-#[derive(Clone, Copy, Debug)]
+#[derive(Clone, Copy)]
 pub struct IsHex;
 
 // Two kinds of digits, one bit each, by the low half and the high half of a byte: 1 `0` to `9`, 2 `A` to `F` and `a` to `f`.

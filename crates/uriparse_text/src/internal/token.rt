@@ -5,7 +5,7 @@ ghost use Rattle.uriparse_text.specs.Tokens as spec;
 use super::digit::are_hex_digits;
 
 /// A single byte, or an escape by its two digits.
-#[derive(Clone, Copy, Debug, PartialEq, Eq)]
+#[derive(Clone, Copy)]
 pub enum Token {
     Byte(u8),
     Escape(u8, u8),
