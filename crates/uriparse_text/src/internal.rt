@@ -14,6 +14,7 @@ mod cut;
 mod digit;
 mod forward_buffer;
 mod found;
+mod held;
 mod length;
 mod offset;
 mod order;
@@ -45,6 +46,7 @@ pub use copy::{borrowed_text, canonical_copy, is_canonical_part, owned_text, put
 pub use cut::{split_at_mark, without_mark};
 pub use forward_buffer::{TooSmall, append, append_escaped, encode_into};
 pub use found::{Found, find_text_before, find_text_if, found_again, no_text};
+pub use held::Held;
 pub use offset::offset_of_fault;
 pub use order::compare_spelling;
 pub use print::write_plain;
