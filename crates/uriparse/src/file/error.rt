@@ -8,7 +8,7 @@ use thiserror::Error;
 use uriparse_path::path::PathError;
 
 /// Why a path has no file URI, or a URI names no path.
-#[derive(Clone, Debug, Drop, PartialEq, Eq, Hash, Error)]
+#[derive(Clone, Copy, Debug, PartialEq, Eq, Hash, Error)]
 pub enum FileError {
     /// The path does not begin with a slash.
     #[error("file path is not absolute")]

@@ -13,7 +13,7 @@ use uriparse_text::fragment::FragmentError;
 use uriparse_text::query::QueryError;
 
 /// Why a text or a set of components is not a URI: the fault of its first faulty component.
-#[derive(Clone, Debug, Drop, PartialEq, Eq, Hash, Error)]
+#[derive(Clone, Copy, Debug, PartialEq, Eq, Hash, Error)]
 pub enum URIError {
     /// Without an authority the path would begin with two slashes. Reading never returns this.
     #[error("absolute path URI starts with two slashes")]

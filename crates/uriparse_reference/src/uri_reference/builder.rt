@@ -17,7 +17,7 @@ use uriparse_authority::authority::Authority;
 use uriparse_path::path::Path;
 use uriparse_scheme::scheme::Scheme;
 use uriparse_text::fragment::{Fragment, FragmentKind};
-use uriparse_text::internal::find_text_if;
+use uriparse_text::internal::{Held, find_text_if};
 use uriparse_text::query::{Query, QueryKind};
 
 /// Builds a reference component by component. Only the path is required.
@@ -235,8 +235,12 @@ impl<'b> URIReferenceBuilder<'b> {
             query,
             fragment,
         } = self;
+        let others = Held((scheme, authority, query, fragment));
         match path {
-            Some(path) => URIReference::from_parts(scheme, authority, path, query, fragment),
+            Some(path) => {
+                let (scheme, authority, query, fragment) = others.take();
+                URIReference::from_parts(scheme, authority, path, query, fragment)
+            }
             None => Err(URIReferenceError::MissingPath),
         }
     }

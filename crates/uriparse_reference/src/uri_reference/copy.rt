@@ -7,7 +7,7 @@ use uriparse_authority::authority::Authority;
 use uriparse_path::path::Path;
 use uriparse_scheme::scheme::Scheme;
 use uriparse_text::fragment::Fragment;
-use uriparse_text::internal::{borrowed_text, owned_text};
+use uriparse_text::internal::{Held, borrowed_text, owned_text};
 use uriparse_text::query::Query;
 
 /// A copy that borrows the scheme's text, if present.
@@ -64,8 +64,10 @@ fn owned_front(
 ) -> Result<(Option<Scheme<'static>>, Option<Authority<'static>>), AllocError>
     ensures { IfOk result (λ x. (x.0 ≡ scheme.entry) × (x.1 ≡ authority.entry)) }
 {
-    let scheme = owned_scheme(alloc, scheme)?;
-    Ok((scheme, owned_authority(alloc, authority)?))
+    let authority = Held(authority);
+    let scheme = Held(owned_scheme(alloc, scheme)?);
+    let authority = owned_authority(alloc, authority.take())?;
+    Ok((scheme.take(), authority))
 }
 
 /// The path, the query and the fragment, owning their texts.
@@ -84,9 +86,11 @@ fn owned_tail(
 >
     ensures { IfOk result (λ x. (x.0 ≡ path.entry) × (x.1 ≡ query.entry) × (x.2 ≡ fragment.entry)) }
 {
-    let query = owned_text(alloc, query)?;
-    let fragment = owned_text(alloc, fragment)?;
-    Ok((path.into_owned(alloc)?, query, fragment))
+    let (path, fragment) = (Held(path), Held(fragment));
+    let query = Held(owned_text(alloc, query)?);
+    let fragment = Held(owned_text(alloc, fragment.take())?);
+    let path = path.take().into_owned(alloc)?;
+    Ok((path, query.take(), fragment.take()))
 }
 
 impl<'r> URIReference<'r> {
@@ -111,8 +115,11 @@ impl<'r> URIReference<'r> {
         ensures { IfOk result (λ r. r ≡ self.entry) }
     {
         let (scheme, authority, path, query, fragment) = self.into_parts();
-        let (scheme, authority) = owned_front(alloc, scheme, authority)?;
+        let tail = Held((path, query, fragment));
+        let front = Held(owned_front(alloc, scheme, authority)?);
+        let (path, query, fragment) = tail.take();
         let (path, query, fragment) = owned_tail(alloc, path, query, fragment)?;
+        let (scheme, authority) = front.take();
         Ok(URIReference {
             scheme,
             authority,

@@ -14,7 +14,7 @@ use uriparse_text::internal::TooSmall;
 use uriparse_text::query::QueryError;
 
 /// Why a text or a set of components is not a reference: the fault of the first component with one.
-#[derive(Clone, Debug, Drop, PartialEq, Eq, Hash, Error)]
+#[derive(Clone, Copy, Debug, PartialEq, Eq, Hash, Error)]
 pub enum URIReferenceError {
     /// Without an authority the path would start with `//`. Reading never returns this.
     #[error("absolute path URI reference starts with two slashes")]

@@ -11,7 +11,7 @@ use super::print::{write_authority, write_back, write_scheme};
 use std::fmt;
 use std::marker::Model;
 use uriparse_authority::authority::{Authority, Password};
-use uriparse_text::internal::checked_text;
+use uriparse_text::internal::{Held, checked_text};
 
 /// A reference that prints `***` in place of its password, for logs and messages: RFC 3986, section
 /// 7.5. [`URIReference::without_password`] makes it. Contracts see it as the whole reference.
@@ -55,7 +55,10 @@ fn write_masked<W: fmt::Write>(
     ensures styled { WritesStyledOnOk W.write_str_gives f.old result (after_slashes (option_map authorities.print (option_map spec.masked_authority authority.now))) f.new }
 {
     match authority {
-        Some(authority) => write_authority(&Some(masked_authority(authority)), f),
+        Some(authority) => {
+            let shown = Held(Some(masked_authority(authority)));
+            write_authority(&shown.0, f)
+        }
         None => Ok(()),
     }
 }

@@ -19,6 +19,7 @@ use uriparse_path::path::Segments;
 use uriparse_scheme::internal::scheme_if;
 use uriparse_scheme::scheme::Scheme;
 use uriparse_text::fragment::Fragment;
+use uriparse_text::internal::Held;
 use uriparse_text::query::Query;
 
 mod compare;
@@ -314,11 +315,11 @@ impl<'t> fmt::Display for ReferenceView<'t> {
 impl<'t> fmt::Debug for ReferenceView<'t> {
     fn fmt<W: fmt::Write>(&self, f: &mut fmt::Formatter<W>) -> fmt::Result {
         f.debug_struct("ReferenceView")
-            .field("scheme", &self.scheme())
-            .field("authority", &self.authority())
+            .field("scheme", &Held(self.scheme()).0)
+            .field("authority", &Held(self.authority()).0)
             .field("path", &self.path())
-            .field("query", &self.query())
-            .field("fragment", &self.fragment())
+            .field("query", &Held(self.query()).0)
+            .field("fragment", &Held(self.fragment()).0)
             .finish()
     }
 }

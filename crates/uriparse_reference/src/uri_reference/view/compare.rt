@@ -15,22 +15,23 @@ use super::super::URIReference;
 use super::ReferenceView;
 use std::hash::{Hash, Hasher};
 use uriparse_path::internal::{are_path_texts_alike, feed_path_text};
+use uriparse_text::internal::Held;
 
 impl<'t> ReferenceView<'t> {
     /// Whether the schemes, fragments and queries are equal, each in canonical spelling.
     fn has_ends_alike(&self, other: &ReferenceView<'t>) -> bool
         ensures { result ≡ ends_alike self.now.parts other.now.parts }
     {
-        self.scheme() == other.scheme()
-            && self.fragment() == other.fragment()
-            && self.query() == other.query()
+        Held(self.scheme()).0 == Held(other.scheme()).0
+            && Held(self.fragment()).0 == Held(other.fragment()).0
+            && Held(self.query()).0 == Held(other.query()).0
     }
 
     /// Whether the authorities and paths are equal, each in canonical spelling.
     fn eq_authority_and_path(&self, other: &ReferenceView<'t>) -> bool
         ensures { result ≡ authority_and_path_alike self.now.parts other.now.parts }
     {
-        self.authority() == other.authority()
+        Held(self.authority()).0 == Held(other.authority()).0
             && are_path_texts_alike(self.path_bytes(), other.path_bytes())
     }
 
@@ -46,16 +47,16 @@ impl<'t> ReferenceView<'t> {
     fn has_ends_of(&self, reference: &URIReference<'_>) -> bool
         ensures { result ≡ ends_alike self.now.parts reference.now }
     {
-        self.scheme() == reference.scheme
-            && self.fragment() == reference.fragment
-            && self.query() == reference.query
+        Held(self.scheme()).0 == reference.scheme
+            && Held(self.fragment()).0 == reference.fragment
+            && Held(self.query()).0 == reference.query
     }
 
     /// Whether the authority equals the reference's, in canonical spelling.
     fn has_authority_of(&self, reference: &URIReference<'_>) -> bool
         ensures { result ≡ option_eq (on authorities.key bytes_eq) self.now.parts.authority reference.now.authority }
     {
-        self.authority() == reference.authority
+        Held(self.authority()).0 == reference.authority
     }
 
     /// Whether the path's text equals the reference's, in canonical spelling.
@@ -126,10 +127,10 @@ impl<'t> Hash for ReferenceView<'t> {
         ensures fed { state.new ≡ fold H.write state.old (fed self.now.parts) }
         ensures key { state.new ≡ fold H.write state.old (fed_key (key self.now.parts)) }
     {
-        self.scheme().hash(state);
-        self.authority().hash(state);
+        Held(self.scheme()).0.hash(state);
+        Held(self.authority()).0.hash(state);
         feed_path_text(self.path_bytes(), state);
-        self.query().hash(state);
-        self.fragment().hash(state);
+        Held(self.query()).0.hash(state);
+        Held(self.fragment()).0.hash(state);
     }
 }

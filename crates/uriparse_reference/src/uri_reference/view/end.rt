@@ -10,7 +10,7 @@ use super::into::put_query_and_fragment;
 use super::put::{PutText, make_string};
 use std::alloc::{AllocError, Global};
 use uriparse_text::fragment::Fragment;
-use uriparse_text::internal::{Form, put};
+use uriparse_text::internal::{Form, Held, put};
 use uriparse_text::query::Query;
 
 /// The text of a view with this query and this fragment in place of its own.
@@ -41,7 +41,8 @@ impl<'t> ReferenceView<'t> {
         ensures { result.now ≡ with_end self.now.text None None }
     {
         let text = self.as_str().as_bytes();
-        let len = put_query_and_fragment(Form::AsIs, &self.query(), &self.fragment(), &mut []);
+        let (query, fragment) = (Held(self.query()), Held(self.fragment()));
+        let len = put_query_and_fragment(Form::AsIs, &query.0, &fragment.0, &mut []);
         &text[..text.len() - len]
     }
 
@@ -51,7 +52,8 @@ impl<'t> ReferenceView<'t> {
         ensures text { take result self.now.text ≡ with_fragment self.now.text None }
     {
         let text = self.as_str().as_bytes();
-        let len = put_query_and_fragment(Form::AsIs, &None, &self.fragment(), &mut []);
+        let fragment = Held(self.fragment());
+        let len = put_query_and_fragment(Form::AsIs, &None, &fragment.0, &mut []);
         text.len() - len
     }
 

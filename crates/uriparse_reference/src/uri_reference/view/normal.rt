@@ -12,35 +12,35 @@ ghost use Rattle.uriparse_reference.specs.Normal.{context as context_of};
 use super::super::normal::{is_canonical_authority, is_canonical_scheme};
 use super::ReferenceView;
 use uriparse_path::internal::{PathContext, is_normal_path_text};
-use uriparse_text::internal::is_canonical_part;
+use uriparse_text::internal::{Held, is_canonical_part};
 
 impl<'t> ReferenceView<'t> {
     /// Whether the scheme, if present, is in canonical spelling.
     fn has_canonical_scheme(&self) -> bool
         ensures { result ≡ option_eq bytes_eq (option_map schemes.canonical_text self.now.parts.scheme) (scheme_part self.now.parts) }
     {
-        is_canonical_scheme(&self.scheme())
+        is_canonical_scheme(&Held(self.scheme()).0)
     }
 
     /// Whether the authority, if present, is in canonical spelling.
     fn has_canonical_authority(&self) -> bool
         ensures { result ≡ option_eq bytes_eq (option_map authorities.canonical_text self.now.parts.authority) (authority_part self.now.parts) }
     {
-        is_canonical_authority(&self.authority())
+        is_canonical_authority(&Held(self.authority()).0)
     }
 
     /// Whether the query, if present, is in canonical spelling.
     fn has_canonical_query(&self) -> bool
         ensures { result ≡ option_eq bytes_eq (option_map canonical self.now.parts.query) self.now.parts.query }
     {
-        is_canonical_part(&self.query())
+        is_canonical_part(&Held(self.query()).0)
     }
 
     /// Whether the fragment, if present, is in canonical spelling.
     fn has_canonical_fragment(&self) -> bool
         ensures { result ≡ option_eq bytes_eq (option_map canonical self.now.parts.fragment) self.now.parts.fragment }
     {
-        is_canonical_part(&self.fragment())
+        is_canonical_part(&Held(self.fragment()).0)
     }
 
     /// Whether the path has the text of its normal form at this place.

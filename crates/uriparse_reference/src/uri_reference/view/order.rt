@@ -14,13 +14,14 @@ use super::super::text::{ReferenceKey, ReferenceText};
 use super::ReferenceView;
 use std::cmp::Ordering;
 use uriparse_path::internal::compare_path_texts;
+use uriparse_text::internal::Held;
 
 impl<'t> ReferenceView<'t> {
     /// Compares the schemes.
     fn compare_schemes(&self, other: &ReferenceView<'t>) -> Ordering
         ensures { result ≡ option_cmp (slice_cmp nat_cmp) (rank self.now.parts).scheme (rank other.now.parts).scheme }
     {
-        self.scheme().cmp(&other.scheme())
+        Held(self.scheme()).0.cmp(&Held(other.scheme()).0)
     }
 
     /// Compares the authorities.
@@ -29,21 +30,21 @@ impl<'t> ReferenceView<'t> {
         requires valid_other { Valid other.now.parts }
         ensures { result ≡ option_cmp rank_cmp (rank self.now.parts).authority (rank other.now.parts).authority }
     {
-        self.authority().cmp(&other.authority())
+        Held(self.authority()).0.cmp(&Held(other.authority()).0)
     }
 
     /// Compares the queries.
     fn compare_queries(&self, other: &ReferenceView<'t>) -> Ordering
         ensures { result ≡ option_cmp (slice_cmp nat_cmp) (rank self.now.parts).query (rank other.now.parts).query }
     {
-        self.query().cmp(&other.query())
+        Held(self.query()).0.cmp(&Held(other.query()).0)
     }
 
     /// Compares the fragments.
     fn compare_fragments(&self, other: &ReferenceView<'t>) -> Ordering
         ensures { result ≡ option_cmp (slice_cmp nat_cmp) (rank self.now.parts).fragment (rank other.now.parts).fragment }
     {
-        self.fragment().cmp(&other.fragment())
+        Held(self.fragment()).0.cmp(&Held(other.fragment()).0)
     }
 
     /// Compares the components in their order.
