@@ -13,7 +13,7 @@ use std::alloc::{AllocError, Global};
 use uriparse_authority::authority::{Authority, Host, RegisteredName};
 use uriparse_path::path::{Path, Segment};
 use uriparse_scheme::scheme::Scheme;
-use uriparse_text::internal::{split_at_mark, without_mark};
+use uriparse_text::internal::{Held, split_at_mark, without_mark};
 
 mod error;
 
@@ -29,9 +29,9 @@ fn segments_text(alloc: Global, path: &[u8]) -> Result<Vec<u8>, AllocError>
     while let Some(left) = rest {
         let (name, following) = split_at_mark(left, b'/');
         rest = without_mark(following);
-        let segment = Segment::encode(alloc, name)?;
+        let segment = Held(Segment::encode(alloc, name)?);
         text.push(b'/')?;
-        text.extend_from_slice(segment.as_bytes())?;
+        text.extend_from_slice(segment.0.as_bytes())?;
     }
     Ok(text)
 }

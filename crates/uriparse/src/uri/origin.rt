@@ -15,6 +15,7 @@ use std::fmt::Write;
 use std::hash::{Hash, Hasher};
 use uriparse_authority::authority::Host;
 use uriparse_scheme::scheme::Scheme;
+use uriparse_text::internal::Held;
 
 /// The origin of a URI: its scheme, its host, and its port or the scheme's default port. RFC 6454,
 /// section 4. It borrows the texts of the URI.
@@ -73,12 +74,12 @@ impl<'o> Origin<'o> {
     pub fn to_string(&self, alloc: Global) -> Result<String, AllocError>
         ensures { IfOk result (λ s. string_bytes s ≡ spec.text self.now) }
     {
-        let mut scheme = self.scheme.as_borrowed();
-        scheme.normalize(alloc)?;
-        let mut host = self.host.as_borrowed();
-        host.normalize(alloc)?;
+        let mut scheme = Held(self.scheme.as_borrowed());
+        scheme.0.normalize(alloc)?;
+        let mut host = Held(self.host.as_borrowed());
+        host.0.normalize(alloc)?;
         let mut text = String::new(alloc);
-        write!(text, "{scheme}://{host}")?;
+        write!(text, "{}://{}", scheme.0, host.0)?;
         push_port(&mut text, self.named_port())?;
         Ok(text)
     }
@@ -135,15 +136,12 @@ fn push_port(text: &mut String, port: Option<u16>) -> Result<(), AllocError>
 }
 
 /// Whether both are there, and are equal.
-fn are_both(own: Option<Origin<'_>>, other: Option<Origin<'_>>) -> bool
-    ensures { result ≡ spec.are_both own.entry other.entry }
+fn are_both(own: &Option<Origin<'_>>, other: &Option<Origin<'_>>) -> bool
+    ensures { result ≡ spec.are_both own.now other.now }
 {
-    match own {
-        Some(own) => match other {
-            Some(other) => own == other,
-            None => false,
-        },
-        None => false,
+    match (own, other) {
+        (Some(own), Some(other)) => own == other,
+        _ => false,
     }
 }
 
@@ -192,7 +190,7 @@ impl<'u> URI<'u> {
     pub fn same_origin(&self, other: &URI<'_>) -> bool
         ensures { result ≡ spec.have_same_origin self.now other.now }
     {
-        are_both(self.origin(), other.origin())
+        are_both(&Held(self.origin()).0, &Held(other.origin()).0)
     }
 }
 
@@ -201,10 +199,14 @@ impl<'u> URIView<'u> {
     pub fn origin(&self) -> Option<Origin<'u>>
         ensures { result ≡ spec.origin self.now.parts }
     {
-        let scheme = self.scheme();
-        let (_, _, host, port) = self.view.authority()?.into_parts();
-        let port = port.or(scheme.default_port())?;
-        Some(Origin { scheme, host, port })
+        let scheme = Held(self.scheme());
+        let host = Held(self.view.host()?);
+        let port = self.view.port().or(scheme.0.default_port())?;
+        Some(Origin {
+            scheme: scheme.take(),
+            host: host.take(),
+            port,
+        })
     }
 
     /// Whether this URI and the other one have the same origin, as
@@ -212,6 +214,6 @@ impl<'u> URIView<'u> {
     pub fn same_origin(&self, other: &URIView<'_>) -> bool
         ensures { result ≡ spec.have_same_origin self.now.parts other.now.parts }
     {
-        are_both(self.origin(), other.origin())
+        are_both(&Held(self.origin()).0, &Held(other.origin()).0)
     }
 }

@@ -5,30 +5,6 @@ use Rattle.uriparse_text.specs.Cuts.{part}
 use Rattle.uriparse.proofs.lemmas.FileLemmas.{writing_next, writing_smaller}
 use Rattle.uriparse.proofs.file.segments_text.Goals as goal
 
-pub loop-rest-smaller-in_ok-extend_from_slice : goal.loop-rest-smaller-in_ok-extend_from_slice
-loop-rest-smaller-in_ok-extend_from_slice c =
-    let some : option_copied c.loop-rest.rest ≡ Some c.in-Some.left.now = search rules in
-    writing_smaller _ c.in-Some.left.now _ some (c.without_mark-rest.ensures ∙ ap part c.split_at_mark.ensures.rest)
-
-pub loop-rest-preserved-in_ok-extend_from_slice : goal.loop-rest-preserved-in_ok-extend_from_slice
-loop-rest-preserved-in_ok-extend_from_slice c =
-    let some : option_copied c.loop-rest.rest ≡ Some c.in-Some.left.now = search rules in
-    let more : c.extend_from_slice.new.self.items ≡ (c.loop-rest.text.items ++ slash ∷ []) ++ c.in_ok-segment.segment = search rules in
-    writing_next _ _ c.in-Some.left.now _ c.in_ok-segment.segment _ _ _ c.loop-rest.invariant some c.split_at_mark.ensures.front
-    (c.without_mark-rest.ensures ∙ ap part c.split_at_mark.ensures.rest) c.in_ok-segment.ensures.text c.in_ok-segment.ensures.back c.as_bytes.ensures.class more
-
-pub loop-rest-smaller-in_ok-extend_from_slice-2 : goal.loop-rest-smaller-in_ok-extend_from_slice-2
-loop-rest-smaller-in_ok-extend_from_slice-2 c =
-    let some : option_copied c.loop-rest.rest ≡ Some c.in-Some.left.now = search rules in
-    writing_smaller _ c.in-Some.left.now _ some (c.without_mark-rest.ensures ∙ ap part c.split_at_mark.ensures.rest)
-
-pub loop-rest-preserved-in_ok-extend_from_slice-2 : goal.loop-rest-preserved-in_ok-extend_from_slice-2
-loop-rest-preserved-in_ok-extend_from_slice-2 c =
-    let some : option_copied c.loop-rest.rest ≡ Some c.in-Some.left.now = search rules in
-    let more : c.extend_from_slice.new.self.items ≡ (c.loop-rest.text.items ++ slash ∷ []) ++ c.in_ok-segment.segment = search rules in
-    writing_next _ _ c.in-Some.left.now _ c.in_ok-segment.segment _ _ _ c.loop-rest.invariant some c.split_at_mark.ensures.front
-    (c.without_mark-rest.ensures ∙ ap part c.split_at_mark.ensures.rest) c.in_ok-segment.ensures.text c.in_ok-segment.ensures.back c.as_bytes.ensures.class more
-
 pub loop-rest-smaller : goal.loop-rest-smaller
 loop-rest-smaller c =
     let some : option_copied c.loop-rest.rest ≡ Some c.in-Some.left.now = search rules in
@@ -37,6 +13,6 @@ loop-rest-smaller c =
 pub loop-rest-preserved : goal.loop-rest-preserved
 loop-rest-preserved c =
     let some : option_copied c.loop-rest.rest ≡ Some c.in-Some.left.now = search rules in
-    let more : c.extend_from_slice.new.self.items ≡ (c.loop-rest.text.items ++ slash ∷ []) ++ c.in_ok-segment.segment = search rules in
-    writing_next _ _ c.in-Some.left.now _ c.in_ok-segment.segment _ _ _ c.loop-rest.invariant some c.split_at_mark.ensures.front
-    (c.without_mark-rest.ensures ∙ ap part c.split_at_mark.ensures.rest) c.in_ok-segment.ensures.text c.in_ok-segment.ensures.back c.as_bytes.ensures.class more
+    let more : c.extend_from_slice.new.self.items ≡ (c.loop-rest.text.items ++ slash ∷ []) ++ c.in_ok-encode.field-0 = search rules in
+    writing_next _ _ c.in-Some.left.now _ c.in_ok-encode.field-0 _ _ _ c.loop-rest.invariant some c.split_at_mark.ensures.front
+    (c.without_mark-rest.ensures ∙ ap part c.split_at_mark.ensures.rest) c.in_ok-encode.ensures.text c.in_ok-encode.ensures.back c.as_bytes.ensures.class more
