@@ -96,7 +96,7 @@ impl<'b> URIReferenceBuilder<'b> {
     pub fn authority(&mut self, authority: Option<Authority<'b>>)
         ensures { self.new ≡ record self.old { authority = authority.entry } }
     {
-        self.authority = authority;
+        let _old = Held(mem::replace(&mut self.authority, authority));
     }
 
     /// Sets the path. Does not allocate.

@@ -11,6 +11,7 @@ use super::ReferenceText;
 use super::make::{checked_text, known_cuts};
 use std::alloc::{AllocError, Global};
 use uriparse_text::fragment::Fragment;
+use uriparse_text::internal::Held;
 use uriparse_text::query::Query;
 
 impl ReferenceText {
@@ -21,7 +22,7 @@ impl ReferenceText {
         ensures spelled { Spells (with_query self.now.text query.now) (record self.now.parts { query = query.now }) }
     {
         let view = self.as_view();
-        view.with_end(alloc, query, &view.fragment())
+        view.with_end(alloc, query, &Held(view.fragment()).0)
     }
 
     /// The text with this fragment.
@@ -35,7 +36,7 @@ impl ReferenceText {
         ensures spelled { Spells (with_fragment self.now.text fragment.now) (record self.now.parts { fragment = fragment.now }) }
     {
         let view = self.as_view();
-        view.with_end(alloc, &view.query(), fragment)
+        view.with_end(alloc, &Held(view.query()).0, fragment)
     }
 
     /// Sets or removes the query, as [`URIReference::set_query`](super::super::URIReference::set_query)
