@@ -6,6 +6,7 @@ use crate::topic::Topic;
 use std::alloc::Global;
 use std::io::Write;
 use uriparse::Query;
+use uriparse_text::internal::Held;
 
 pub static ABOUT: Topic = Topic {
     name: "decode",
@@ -31,7 +32,7 @@ prints
 /// Decodes the text of a query, and prints the bytes unchanged and then a newline. Each text that
 /// `uri encode` prints can be decoded in this way, since it is the text of a query too.
 pub fn decode<O: Write>(alloc: Global, text: &[u8], out: &mut O) -> Result<(), Failure> {
-    let query = Query::try_from_bytes(text)?;
-    let bytes = query.decode(alloc)?;
-    print_bytes(&bytes, out).map_err(Failure::Io)
+    let query = Held(Query::try_from_bytes(text)?);
+    let bytes = Held(query.0.decode(alloc)?);
+    print_bytes(&bytes.0, out).map_err(Failure::Io)
 }

@@ -3,7 +3,8 @@
 use crate::failure::Failure;
 use crate::print::print_line;
 use crate::topic::Topic;
-use std::alloc::Global;
+use std::alloc::{AllocError, Global};
+use std::fmt::Display;
 use std::io::Write;
 use uriparse::{Fragment, Password, Query, Segment, Username};
 
@@ -37,13 +38,21 @@ pub fn encode<O: Write>(
     bytes: &[u8],
     out: &mut O,
 ) -> Result<(), Failure> {
-    let printed = match kind {
-        "segment" => print_line(&Segment::encode(alloc, bytes)?, out),
-        "query" => print_line(&Query::encode(alloc, bytes)?, out),
-        "fragment" => print_line(&Fragment::encode(alloc, bytes)?, out),
-        "username" => print_line(&Username::encode(alloc, bytes)?, out),
-        "password" => print_line(&Password::encode(alloc, bytes)?, out),
-        _ => return Err(Failure::Usage),
-    };
-    printed.map_err(Failure::Io)
+    match kind {
+        "segment" => print_encoded(Segment::encode(alloc, bytes), out),
+        "query" => print_encoded(Query::encode(alloc, bytes), out),
+        "fragment" => print_encoded(Fragment::encode(alloc, bytes), out),
+        "username" => print_encoded(Username::encode(alloc, bytes), out),
+        "password" => print_encoded(Password::encode(alloc, bytes), out),
+        _ => Err(Failure::Usage),
+    }
+}
+
+/// Prints the component, unless memory ran out.
+fn print_encoded<T: Display + Drop, O: Write>(
+    encoded: Result<T, AllocError>,
+    out: &mut O,
+) -> Result<(), Failure> {
+    let component = encoded?;
+    print_line(&component, out).map_err(Failure::Io)
 }

@@ -4,8 +4,10 @@ use crate::failure::Failure;
 use crate::topic::Topic;
 use std::alloc::Global;
 use std::fmt::Display;
+use std::io;
 use std::io::Write;
-use uriparse::{ReferenceView, URIView};
+use uriparse::{Origin, ReferenceView, URIView};
+use uriparse_text::internal::Held;
 
 pub static ABOUT: Topic = Topic {
     name: "get",
@@ -166,15 +168,28 @@ fn write_origin<O: Write>(
     reference: &ReferenceView<'_>,
     out: &mut O,
 ) -> Result<bool, Failure> {
-    let Ok(uri) = URIView::try_from_str(reference.as_str()) else {
-        return Ok(false);
-    };
-    match uri.origin() {
+    match URIView::try_from_str(reference.as_str()) {
+        Ok(uri) => write_present_origin(alloc, uri.origin(), out),
+        Err(_) => Ok(false),
+    }
+}
+
+/// Writes the origin if it is present, and returns whether it is.
+fn write_present_origin<O: Write>(
+    alloc: Global,
+    origin: Option<Origin<'_>>,
+    out: &mut O,
+) -> Result<bool, Failure> {
+    match Held(origin).0.as_ref() {
         Some(origin) => {
-            let text = origin.to_string(alloc)?;
-            out.write_all(text.as_bytes())?;
+            write_bytes(origin.to_string(alloc)?, out)?;
             Ok(true)
         }
         None => Ok(false),
     }
+}
+
+/// Writes the text.
+fn write_bytes<O: Write>(text: String, out: &mut O) -> io::Result<()> {
+    out.write_all(text.as_bytes())
 }

@@ -27,6 +27,7 @@ use crate::topic::Topic;
 use std::io;
 use std::io::Write;
 use uriparse::{Host, ReferenceView, Scheme, Segments, Text, TextKind};
+use uriparse_text::internal::Held;
 
 pub static ABOUT: Topic = Topic {
     name: "--json",
@@ -166,14 +167,14 @@ fn text_bytes<'c, K: TextKind>(found: Option<&'c Text<'_, K>>) -> Option<&'c [u8
 fn write_scheme_and_userinfo<O: Write>(reference: &ReferenceView<'_>, out: &mut O) -> io::Result<()>
     ensures { OnOk result (Appends (O.contents out.old) (O.contents out.new) (followers (scheme_and_userinfo_members reference.now.parts))) }
 {
-    let scheme = reference.scheme();
-    let scheme = scheme_bytes(scheme.as_ref());
+    let scheme = Held(reference.scheme());
+    let scheme = scheme_bytes(scheme.0.as_ref());
     write_member(Name::Scheme, scheme, out)?;
-    let username = reference.username();
-    let username = text_bytes(username.as_ref());
+    let username = Held(reference.username());
+    let username = text_bytes(username.0.as_ref());
     write_member(Name::Username, username, out)?;
-    let password = reference.password();
-    let password = text_bytes(password.as_ref());
+    let password = Held(reference.password());
+    let password = text_bytes(password.0.as_ref());
     write_member(Name::Password, password, out)
 }
 
@@ -240,8 +241,9 @@ fn write_segments<O: Write>(segments: Segments<'_>, out: &mut O) -> io::Result<(
 {
     let mut separator: &[u8] = b",\"segments\":[\"";
     for segment in segments {
+        let segment = Held(segment);
         out.write_all(separator)?;
-        write_plain(segment.as_bytes(), out)?;
+        write_plain(segment.0.as_bytes(), out)?;
         separator = b"\",\"";
     }
     out.write_all(b"\"]")
@@ -252,13 +254,14 @@ fn write_segments<O: Write>(segments: Segments<'_>, out: &mut O) -> io::Result<(
 fn write_back<O: Write>(reference: &ReferenceView<'_>, out: &mut O) -> io::Result<()>
     ensures { OnOk result (Appends (O.contents out.old) (O.contents out.new) (followers (back_members reference.now.parts))) }
 {
-    let path = Some(reference.path().as_bytes());
+    let path = Held(reference.path());
+    let path = Some(path.0.as_bytes());
     write_member(Name::Path, path, out)?;
-    let query = reference.query();
-    let query = text_bytes(query.as_ref());
+    let query = Held(reference.query());
+    let query = text_bytes(query.0.as_ref());
     write_member(Name::Query, query, out)?;
-    let fragment = reference.fragment();
-    let fragment = text_bytes(fragment.as_ref());
+    let fragment = Held(reference.fragment());
+    let fragment = text_bytes(fragment.0.as_ref());
     write_member(Name::Fragment, fragment, out)
 }
 
@@ -268,7 +271,7 @@ fn write_object<O: Write>(reference: &ReferenceView<'_>, out: &mut O) -> io::Res
 {
     write_text(reference.as_str().as_bytes(), out)?;
     write_scheme_and_userinfo(reference, out)?;
-    write_host(reference.host().as_ref(), out)?;
+    write_host(Held(reference.host()).0.as_ref(), out)?;
     write_port(reference.port(), out)?;
     write_back(reference, out)?;
     write_segments(reference.segments(), out)?;

@@ -7,6 +7,7 @@ use std::alloc::Global;
 use std::io;
 use std::io::Write;
 use uriparse::{Query, URIReference};
+use uriparse_text::internal::Held;
 
 pub static ABOUT: Topic = Topic {
     name: "pairs",
@@ -44,10 +45,12 @@ pub fn pairs<O: Write>(alloc: Global, text: &[u8], out: &mut O) -> Result<(), Fa
 
 /// Prints each pair as it stands in the query, on a line of its own.
 fn print_pairs<O: Write>(query: &Query<'_>, out: &mut O) -> io::Result<()> {
-    for (name, value) in query.pairs() {
+    for pair in query.pairs() {
+        let pair = Held(pair);
+        let (name, value) = &pair.0;
         match value {
             Some(value) => writeln!(out, "{name}={value}")?,
-            None => print_line(&name, out)?,
+            None => print_line(name, out)?,
         }
     }
     Ok(())

@@ -7,6 +7,7 @@ use std::alloc::Global;
 use std::io;
 use std::io::Write;
 use uriparse::{Fragment, Path, Query, URIReferenceError};
+use uriparse_text::internal::Held;
 
 pub static ABOUT: Topic = Topic {
     name: "tail",
@@ -46,16 +47,16 @@ fn cut(text: &str, mark: char) -> (&str, Option<&str>) {
 fn read_tail(alloc: Global, text: &str) -> Result<Tail<'_>, URIReferenceError> {
     let (before, fragment) = cut(text, '#');
     let (path, query) = cut(before, '?');
-    let path = Path::try_from_str(alloc, path)?;
-    let query = query.map(Query::try_from_str).transpose()?;
+    let path = Held(Path::try_from_str(alloc, path)?);
+    let query = Held(query.map(Query::try_from_str).transpose()?);
     let fragment = fragment.map(Fragment::try_from_str).transpose()?;
-    Ok((path, query, fragment))
+    Ok((path.take(), query.take(), fragment))
 }
 
 /// Prints the text, its path, and its query and its fragment if present, a line each.
 pub fn tail<O: Write>(alloc: Global, text: &str, out: &mut O) -> Result<(), Failure> {
-    let tail = read_tail(alloc, text)?;
-    print_tail(text, &tail, out).map_err(Failure::Io)
+    let tail = Held(read_tail(alloc, text)?);
+    print_tail(text, &tail.0, out).map_err(Failure::Io)
 }
 
 /// Prints the text and its components.

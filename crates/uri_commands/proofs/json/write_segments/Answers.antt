@@ -11,14 +11,6 @@ write_plain-requires g c = ap (list_all needs_no_json_escape) c.as_bytes.ensures
 pub loop-segment-init : goal.loop-segment-init
 loop-segment-init g c = search (rules, writing_start)
 
-pub loop-segment-preserved-in_ok-write_plain : goal.loop-segment-preserved-in_ok-write_plain
-loop-segment-preserved-in_ok-write_plain g c =
-    search (rules, writing_next, c.loop-segment.invariant, c.in-Some.ensures.steps, c.as_bytes.ensures.value, c.in_ok-write_all.ensures.bytes, c.in_ok-write_plain.ensures)
-
-pub loop-segment-preserved-in_ok-write_plain-2 : goal.loop-segment-preserved-in_ok-write_plain-2
-loop-segment-preserved-in_ok-write_plain-2 g c =
-    search (rules, writing_next, c.loop-segment.invariant, c.in-Some.ensures.steps, c.as_bytes.ensures.value, c.in_ok-write_all.ensures.bytes, c.in_ok-write_plain.ensures)
-
 pub loop-segment-preserved : goal.loop-segment-preserved
 loop-segment-preserved g c =
     search (rules, writing_next, c.loop-segment.invariant, c.in-Some.ensures.steps, c.as_bytes.ensures.value, c.in_ok-write_all.ensures.bytes, c.in_ok-write_plain.ensures)
