@@ -7,7 +7,7 @@ use crate::internal::{Case, Class, Text, TextKind};
 use thiserror::Error;
 
 /// Why a text is not a fragment: its leftmost fault.
-#[derive(Clone, Debug, Drop, PartialEq, Eq, Hash, Error)]
+#[derive(Clone, Copy, Debug, PartialEq, Eq, Hash, Error)]
 pub enum FragmentError {
     /// A byte that is not allowed in a fragment.
     #[error("invalid fragment character")]

@@ -14,7 +14,7 @@ mod without;
 pub use pairs::Pairs;
 
 /// Why a text is not a query: its leftmost fault.
-#[derive(Clone, Debug, Drop, PartialEq, Eq, Hash, Error)]
+#[derive(Clone, Copy, Debug, PartialEq, Eq, Hash, Error)]
 pub enum QueryError {
     /// A byte that is not allowed in a query.
     #[error("invalid query character")]

@@ -6,7 +6,7 @@ use std::alloc::{AllocError, AllocFailed};
 use thiserror::Error;
 
 /// Why a text is rejected as a path or a segment. The error is the leftmost fault's.
-#[derive(Clone, Debug, Drop, PartialEq, Eq, Hash, Error)]
+#[derive(Clone, Copy, Debug, PartialEq, Eq, Hash, Error)]
 pub enum PathError {
     /// More segments than a path may have. The fault is at the slash that would start the first one
     /// too many.
