@@ -5,12 +5,12 @@ ghost use Rattle.uriparse_authority.specs.declared.authority.error.AuthorityErro
 use thiserror::Error;
 
 /// Why a text is not a registered name.
-#[derive(Clone, Debug, Drop, PartialEq, Eq, Hash, Error)]
+#[derive(Clone, Copy, Debug, PartialEq, Eq, Hash, Error)]
 #[error("invalid registered name")]
 pub struct RegisteredNameError;
 
 /// Why a text is not a host.
-#[derive(Clone, Debug, Drop, PartialEq, Eq, Hash, Error)]
+#[derive(Clone, Copy, Debug, PartialEq, Eq, Hash, Error)]
 pub enum HostError {
     /// No call returns this. Earlier versions rejected each address of a later version
     /// ([`IPvFuture`](super::IPvFuture)) with it.
@@ -38,7 +38,7 @@ pub enum HostError {
 }
 
 /// Why a text is not a user name: its leftmost fault.
-#[derive(Clone, Debug, Drop, PartialEq, Eq, Hash, Error)]
+#[derive(Clone, Copy, Debug, PartialEq, Eq, Hash, Error)]
 pub enum UsernameError {
     /// A `:`, which ends a user name.
     #[error("username contains a colon character")]
@@ -52,7 +52,7 @@ pub enum UsernameError {
 }
 
 /// Why a text is not a password: its leftmost fault.
-#[derive(Clone, Debug, Drop, PartialEq, Eq, Hash, Error)]
+#[derive(Clone, Copy, Debug, PartialEq, Eq, Hash, Error)]
 pub enum PasswordError {
     /// A byte that is not allowed in a password.
     #[error("invalid password character")]
@@ -63,7 +63,7 @@ pub enum PasswordError {
 }
 
 /// Why a text is not a port: its leftmost fault.
-#[derive(Clone, Debug, Drop, PartialEq, Eq, Hash, Error)]
+#[derive(Clone, Copy, Debug, PartialEq, Eq, Hash, Error)]
 pub enum PortError {
     /// A byte that is not a decimal digit. In an authority read by itself, also a byte that follows
     /// its port.
@@ -76,7 +76,7 @@ pub enum PortError {
 
 /// Why a text is not an authority: the fault of its first faulty component, in the order user name,
 /// password, host, port.
-#[derive(Clone, Debug, Drop, PartialEq, Eq, Hash, Error)]
+#[derive(Clone, Copy, Debug, PartialEq, Eq, Hash, Error)]
 pub enum AuthorityError {
     /// The host's fault.
     #[error(transparent)]
