@@ -24,6 +24,7 @@ use super::class::Class;
 use super::coding::{decoded_bytes, encoded_bytes};
 use super::forward_buffer;
 use super::forward_buffer::TooSmall;
+use super::held::set;
 use super::order::compare_spelling;
 use super::spelling::Spelling;
 use std::alloc::{AllocError, Global};
@@ -289,7 +290,7 @@ impl<'t, K: TextKind> Text<'t, K> {
         ensures { self.new ≡ self.old }
     {
         let text = mem::replace(&mut self.text, Spelling::Borrowed("", 0));
-        self.text = text.into_canonical();
+        set(&mut self.text, text.into_canonical());
     }
 
     /// Replaces the text by its canonical spelling. A second call changes nothing. Allocates only
@@ -303,7 +304,8 @@ impl<'t, K: TextKind> Text<'t, K> {
             self.set_canonical();
             return Ok(());
         }
-        *self = normalized_text(alloc, self)?;
+        let canonical = normalized_text(alloc, self)?;
+        set(self, canonical);
         Ok(())
     }
 
