@@ -5,14 +5,7 @@ ghost use Rattle.uriparse_authority.specs.Authority as spec;
 use super::username::empty_username;
 use super::{Authority, AuthorityError, Host, Ipv4Addr, Password, Username, with_empty};
 use std::mem;
-
-/// Puts a value in the place of another, which is let go here and not in each caller.
-#[inline(always)]
-pub(super) fn set<T: Drop>(place: &mut T, value: T)
-    ensures { place.new ≡ value }
-{
-    *place = value;
-}
+use uriparse_text::internal::set;
 
 impl<'a> Authority<'a> {
     /// Sets the host. Always succeeds, and changes nothing else. Does not allocate.
