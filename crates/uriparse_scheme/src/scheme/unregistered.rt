@@ -17,7 +17,7 @@ use std::borrow::CowStr;
 use std::hash::{Hash, Hasher};
 use std::marker::Model;
 use std::{fmt, str};
-use uriparse_text::internal::{Case, canonical_bytes, is_canonical};
+use uriparse_text::internal::{Case, canonical_bytes, is_canonical, set};
 
 /// A scheme that is not registered: a letter, followed by letters, digits, `+`, `-` and `.`, which
 /// in no case is the name of a registered scheme. RFC 3986, section 3.1.
@@ -150,7 +150,8 @@ impl<'s> UnregisteredScheme<'s> {
         if self.is_normalized() {
             return Ok(());
         }
-        *self = self.to_normalized(alloc)?;
+        let canonical = self.to_normalized(alloc)?;
+        set(self, canonical);
         Ok(())
     }
 
