@@ -5,7 +5,14 @@ ghost use Rattle.uriparse_authority.specs.Authority as spec;
 use super::username::empty_username;
 use super::{Authority, AuthorityError, Host, Ipv4Addr, Password, Username, with_empty};
 use std::mem;
-use uriparse_text::internal::set;
+
+/// Puts a value in the place of another, which is let go here and not in each caller.
+#[inline(always)]
+pub(super) fn set<T: Drop>(place: &mut T, value: T)
+    ensures { place.new ≡ value }
+{
+    *place = value;
+}
 
 impl<'a> Authority<'a> {
     /// Sets the host. Always succeeds, and changes nothing else. Does not allocate.

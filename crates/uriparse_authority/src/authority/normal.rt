@@ -3,9 +3,10 @@ ghost use Rattle.std.specs.Prelude.{◌≡◌, ◌↔◌, IsTrue, IsOk, IfOk, On
 ghost use Rattle.uriparse_authority.specs.Authority.{print};
 ghost use Rattle.uriparse_authority.specs.Normal.{AreCanonicalCopies, canonical_authority};
 
+use super::edit::set;
 use super::{Authority, Host, Password, Username};
 use std::alloc::{AllocError, Global};
-use uriparse_text::internal::{Held, canonical_copy, is_canonical_part, put_copy, set};
+use uriparse_text::internal::{Held, canonical_copy, is_canonical_part, put_copy};
 
 /// Canonical copies of the components of an authority that are present and aren't canonical.
 #[derive(Drop)]
