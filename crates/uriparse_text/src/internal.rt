@@ -46,7 +46,7 @@ pub use copy::{borrowed_text, canonical_copy, is_canonical_part, owned_text, put
 pub use cut::{split_at_mark, without_mark};
 pub use forward_buffer::{TooSmall, append, append_escaped, encode_into};
 pub use found::{Found, find_text_before, find_text_if, found_again, no_text};
-pub use held::{Held, set};
+pub use held::Held;
 pub use offset::offset_of_fault;
 pub use order::compare_spelling;
 pub use print::write_plain;

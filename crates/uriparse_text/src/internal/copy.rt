@@ -4,7 +4,6 @@ ghost use Rattle.std.specs.Prelude.{◌≡◌, IfOk, IsOk, bytes_eq};
 ghost use Rattle.std.specs.Option.{option_eq, option_copied, option_map, option_or};
 ghost use Rattle.uriparse_text.specs.Canonical.{canonical_in};
 
-use super::held::set;
 use super::text::{Text, TextKind, normalized_text};
 use std::alloc::{AllocError, Global};
 
@@ -56,8 +55,8 @@ pub fn canonical_copy<K: TextKind>(
 pub fn put_copy<'t, K: TextKind>(part: &mut Option<Text<'t, K>>, copy: Option<Text<'t, K>>)
     ensures { part.new ≡ option_or copy.entry part.old }
 {
-    if let Some(copy) = copy {
-        set(part, Some(copy));
+    if copy.is_some() {
+        *part = copy;
     }
 }
 

@@ -22,11 +22,3 @@ impl<T: Drop> Drop for Held<T> {
         let Held(_value) = self;
     }
 }
-
-/// Puts a value in the place of another, which is let go here and not in each caller.
-#[inline(always)]
-pub fn set<T: Drop>(place: &mut T, value: T)
-    ensures { place.new ≡ value }
-{
-    *place = value;
-}

@@ -24,7 +24,6 @@ use super::class::Class;
 use super::coding::{decoded_bytes, encoded_bytes};
 use super::forward_buffer;
 use super::forward_buffer::TooSmall;
-use super::held::set;
 use super::order::compare_spelling;
 use super::spelling::Spelling;
 use std::alloc::{AllocError, Global};
@@ -290,7 +289,7 @@ impl<'t, K: TextKind> Text<'t, K> {
         ensures { self.new ≡ self.old }
     {
         let text = mem::replace(&mut self.text, Spelling::Borrowed("", 0));
-        set(&mut self.text, text.into_canonical());
+        self.text = text.into_canonical();
     }
 
     /// Replaces the text by its canonical spelling. A second call changes nothing. Allocates only
@@ -304,8 +303,7 @@ impl<'t, K: TextKind> Text<'t, K> {
             self.set_canonical();
             return Ok(());
         }
-        let canonical = normalized_text(alloc, self)?;
-        set(self, canonical);
+        *self = normalized_text(alloc, self)?;
         Ok(())
     }
 
