@@ -8,7 +8,6 @@ use crate::scheme::Scheme;
 pub use crate::scheme::cut::{SchemeCut, scheme_if, split_scheme};
 pub use crate::scheme::read::is_scheme;
 use std::alloc::{AllocError, Global};
-use uriparse_text::internal::set;
 
 /// A copy of the scheme in canonical spelling, if it is present and not canonical. Allocates only
 /// then.
@@ -34,8 +33,8 @@ pub fn canonical_copy(
 pub fn put_copy<'s>(scheme: &mut Option<Scheme<'s>>, copy: Option<Scheme<'s>>)
     ensures { scheme.new ≡ option_or copy.entry scheme.old }
 {
-    if let Some(copy) = copy {
-        set(scheme, Some(copy));
+    if copy.is_some() {
+        *scheme = copy;
     }
 }
 

@@ -17,7 +17,7 @@ use std::borrow::CowStr;
 use std::hash::{Hash, Hasher};
 use std::marker::Model;
 use std::{fmt, str};
-use uriparse_text::internal::{Case, canonical_bytes, is_canonical, set};
+use uriparse_text::internal::{Case, canonical_bytes, is_canonical};
 
 /// A scheme that is not registered: a letter, followed by letters, digits, `+`, `-` and `.`, which
 /// in no case is the name of a registered scheme. RFC 3986, section 3.1.
@@ -150,8 +150,7 @@ impl<'s> UnregisteredScheme<'s> {
         if self.is_normalized() {
             return Ok(());
         }
-        let canonical = self.to_normalized(alloc)?;
-        set(self, canonical);
+        *self = self.to_normalized(alloc)?;
         Ok(())
     }
 
