@@ -3,7 +3,7 @@
 use thiserror::Error;
 
 /// Why a text is not a scheme: RFC 3986, section 3.1. The leftmost fault is returned.
-#[derive(Clone, Debug, Drop, PartialEq, Eq, Hash, Error)]
+#[derive(Clone, Copy, Debug, PartialEq, Eq, Hash, Error)]
 pub enum SchemeError {
     /// The text is empty.
     #[error("scheme is empty")]
@@ -18,6 +18,6 @@ pub enum SchemeError {
 
 /// Why a text is not an unregistered scheme: it is not a scheme, or it is the name of a registered
 /// one.
-#[derive(Clone, Debug, Drop, PartialEq, Eq, Hash, Error)]
+#[derive(Clone, Copy, Debug, PartialEq, Eq, Hash, Error)]
 #[error("invalid unregistered scheme")]
 pub struct UnregisteredSchemeError;
