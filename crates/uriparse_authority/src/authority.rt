@@ -40,7 +40,7 @@ pub use port::parse_port;
 use print::{write_port, write_user};
 use read::read_whole;
 pub use uriparse_text::address::{IpAddr, Ipv4Addr, Ipv6Addr};
-use uriparse_text::internal::{borrowed_text, len_of, owned_text};
+use uriparse_text::internal::{Held, borrowed_text, len_of, owned_text};
 pub use username::Username;
 use username::empty_username;
 
@@ -208,10 +208,14 @@ impl<'a> Authority<'a> {
         ensures { IfOk result (λ a. a ≡ self.entry) }
     {
         let (username, password, host, port) = self.into_parts();
+        let (password, host) = (Held(password), Held(host));
+        let username = Held(owned_text(alloc, username)?);
+        let password = Held(owned_text(alloc, password.take())?);
+        let host = host.take().into_owned(alloc)?;
         Ok(Authority {
-            username: owned_text(alloc, username)?,
-            password: owned_text(alloc, password)?,
-            host: host.into_owned(alloc)?,
+            username: username.take(),
+            password: password.take(),
+            host,
             port,
         })
     }

@@ -6,13 +6,21 @@ use super::username::empty_username;
 use super::{Authority, AuthorityError, Host, Ipv4Addr, Password, Username, with_empty};
 use std::mem;
 
+/// Puts a value in the place of another, which is let go here and not in each caller.
+#[inline(always)]
+pub(super) fn set<T: Drop>(place: &mut T, value: T)
+    ensures { place.new ≡ value }
+{
+    *place = value;
+}
+
 impl<'a> Authority<'a> {
     /// Sets the host. Always succeeds, and changes nothing else. Does not allocate.
     pub fn set_host(&mut self, host: Host<'a>) -> Result<(), AuthorityError>
         ensures answer { result ≡ Ok tt }
         ensures value { self.new ≡ spec.with_host self.old host.entry }
     {
-        self.host = host;
+        set(&mut self.host, host);
         Ok(())
     }
 
@@ -23,9 +31,9 @@ impl<'a> Authority<'a> {
         ensures value { self.new ≡ spec.with_username self.old username.entry }
     {
         if username.is_none() {
-            self.password = None;
+            set(&mut self.password, None);
         }
-        self.username = username;
+        set(&mut self.username, username);
         Ok(())
     }
 
@@ -35,8 +43,9 @@ impl<'a> Authority<'a> {
         ensures answer { result ≡ Ok tt }
         ensures value { self.new ≡ spec.with_password self.old password.entry }
     {
-        self.username = with_empty(self.username.take(), password.is_some());
-        self.password = password;
+        let username = with_empty(self.username.take(), password.is_some());
+        set(&mut self.username, username);
+        set(&mut self.password, password);
         Ok(())
     }
 

@@ -15,7 +15,7 @@ use super::password::PasswordKind;
 use super::username::UsernameKind;
 use super::{Authority, Host, Password, Username};
 use std::marker::Model;
-use uriparse_text::internal::{Found, no_text};
+use uriparse_text::internal::{Found, Held, no_text};
 
 /// The components of an authority, borrowed from its bytes. Contracts see it as the authority.
 #[derive(Drop)]
@@ -162,6 +162,6 @@ impl<'a> FoundAuthority<'a> {
         requires { spec.Spells text.now self.now }
         ensures { IsTrue result ↔ (spec.print (canonical_authority self.now) ≡ text.now) }
     {
-        self.host.is_canonical_name(text.len()) || self.to_authority().prints_normal(text)
+        self.host.is_canonical_name(text.len()) || Held(self.to_authority()).0.prints_normal(text)
     }
 }

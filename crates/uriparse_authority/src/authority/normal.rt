@@ -3,9 +3,10 @@ ghost use Rattle.std.specs.Prelude.{◌≡◌, ◌↔◌, IsTrue, IsOk, IfOk, On
 ghost use Rattle.uriparse_authority.specs.Authority.{print};
 ghost use Rattle.uriparse_authority.specs.Normal.{AreCanonicalCopies, canonical_authority};
 
+use super::edit::set;
 use super::{Authority, Host, Password, Username};
 use std::alloc::{AllocError, Global};
-use uriparse_text::internal::{canonical_copy, is_canonical_part, put_copy};
+use uriparse_text::internal::{Held, canonical_copy, is_canonical_part, put_copy};
 
 /// Canonical copies of the components of an authority that are present and aren't canonical.
 #[derive(Drop)]
@@ -26,10 +27,13 @@ pub fn canonical_copies(
     ensures copies { IfOk result (λ copies. AreCanonicalCopies copies authority.now) }
     ensures takes_no_memory { print (canonical_authority authority.now) ≡ print authority.now → IsOk result }
 {
+    let username = Held(canonical_copy(alloc, &authority.username)?);
+    let password = Held(canonical_copy(alloc, &authority.password)?);
+    let host = authority.host.canonical_copy(alloc)?;
     Ok(CanonicalCopies {
-        username: canonical_copy(alloc, &authority.username)?,
-        password: canonical_copy(alloc, &authority.password)?,
-        host: authority.host.canonical_copy(alloc)?,
+        username: username.take(),
+        password: password.take(),
+        host,
     })
 }
 
@@ -38,7 +42,7 @@ fn put_host<'h>(host: &mut Host<'h>, copy: Option<Host<'h>>)
     ensures { host.new ≡ unwrap_or copy.entry host.old }
 {
     if let Some(copy) = copy {
-        *host = copy;
+        set(host, copy);
     }
 }
 

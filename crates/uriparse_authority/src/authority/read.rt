@@ -13,7 +13,7 @@ use super::password::PasswordKind;
 use super::username::UsernameKind;
 use super::{Authority, AuthorityError, Host, HostError, PortError, parse_port};
 use uriparse_text::internal::{
-    ByteTest, Case, Class, Found, IsAny, find_text_before, find_text_if, first, no_text,
+    ByteTest, Case, Class, Found, Held, IsAny, find_text_before, find_text_if, first, no_text,
     split_at_mark, split_canonical_prefix, without_mark,
 };
 
@@ -158,10 +158,10 @@ pub(super) fn read_whole(bytes: &[u8]) -> Result<Authority<'_>, AuthorityError>
     ensures { result ≡ authority.whole_reading bytes.now }
 {
     let (found, rest) = find_authority(bytes)?;
-    let read = found.to_authority();
+    let read = Held(found.to_authority());
     if rest.is_empty() {
-        Ok(read)
+        Ok(read.take())
     } else {
-        Err(rest_error(&read))
+        Err(rest_error(&read.0))
     }
 }

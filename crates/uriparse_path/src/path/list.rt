@@ -6,6 +6,7 @@ use super::counts::Dotted;
 use std::alloc::{AllocError, Global};
 use std::marker::Model;
 use std::{mem, slice};
+use uriparse_text::internal::Held;
 
 /// Where a list keeps its elements.
 #[derive(Drop)]
@@ -117,8 +118,9 @@ impl<'p> SegmentList<Segment<'p>> {
         ensures ok { OnOk result (self.new ≡ self.old ++ segment.entry ∷ []) }
         ensures err { OnErr result (self.new ≡ self.old) }
     {
+        let segment = Held(segment);
         if let Storage::Many(list) = &mut self.kept {
-            list.push(segment)?;
+            list.push(segment.take())?;
             return Ok(());
         }
         let list = Vec::with_capacity(alloc, 2)?;
@@ -127,7 +129,7 @@ impl<'p> SegmentList<Segment<'p>> {
             if let Storage::One(first) = kept {
                 list.push_reserved(first);
             }
-            list.push_reserved(segment);
+            list.push_reserved(segment.take());
         }
         Ok(())
     }
@@ -158,7 +160,7 @@ impl<'p> SegmentList<Segment<'p>> {
         ensures { self.new ≡ drop 1 self.old }
     {
         if let Storage::Many(list) = &mut self.kept {
-            let _ = list.remove(0);
+            let _ = Held(list.remove(0));
         }
     }
 }

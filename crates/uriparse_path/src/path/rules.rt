@@ -8,6 +8,7 @@ ghost use Rattle.uriparse_path.specs.Relative as relative;
 
 use super::Segment;
 use super::segment::has_colon;
+use uriparse_text::internal::Held;
 
 /// Segments in order, in a list or in the text of a path.
 pub trait SegmentSequence<'t>: Drop {
@@ -43,7 +44,9 @@ pub(super) fn starts_with_empty_segment<'t, L: SegmentSequence<'t>>(segments: L)
     ensures { result ≡ path.starts_with_empty_segment (L.listed segments) }
 {
     match segments.split() {
-        Some((first, later)) => first.as_bytes().is_empty() && later.split().is_some(),
+        Some((first, later)) => {
+            Held(first).0.as_bytes().is_empty() && Held(later.split()).0.is_some()
+        }
         None => false,
     }
 }
@@ -54,7 +57,7 @@ pub(super) fn has_first_colon<'t, L: SegmentSequence<'t>>(segments: L) -> bool
     ensures { result ≡ relative.is_first relative.has_colon (L.listed segments) }
 {
     match segments.split() {
-        Some((first, _)) => has_colon(first.as_bytes()),
+        Some((first, _)) => has_colon(Held(first).0.as_bytes()),
         None => false,
     }
 }
@@ -73,7 +76,7 @@ pub fn has_dot_segment<'t, L: SegmentSequence<'t>>(segments: L) -> bool
 {
     let mut left = segments;
     'segments: while let Some((segment, later)) = left.split() {
-        if segment.is_dot_segment() {
+        if Held(segment).0.is_dot_segment() {
             return true;
         }
         left = later;
@@ -87,8 +90,9 @@ pub(super) fn begins_with_double_dots<'t, L: SegmentSequence<'t>>(segments: L) -
 {
     let mut left = segments;
     'segments: while let Some((segment, later)) = left.split() {
-        if !segment.is_double_dot_segment() {
-            return !segment.is_dot_segment() && !has_dot_segment(later);
+        let segment = Held(segment);
+        if !segment.0.is_double_dot_segment() {
+            return !segment.0.is_dot_segment() && !has_dot_segment(later);
         }
         left = later;
     }
@@ -102,9 +106,10 @@ pub(super) fn has_needed_leading_dot<'t, L: SegmentSequence<'t>>(segments: L) ->
 {
     match segments.split() {
         Some((first, later)) => {
-            first.is_single_dot_segment()
+            let first = Held(first);
+            first.0.is_single_dot_segment()
                 && begins_with_double_dots(later.again())
-                && needs_leading_dot(has_colon(first.as_bytes()), later)
+                && needs_leading_dot(has_colon(first.0.as_bytes()), later)
         }
         None => false,
     }
@@ -116,7 +121,8 @@ pub(super) fn are_canonical<'t, L: SegmentSequence<'t>>(segments: L) -> bool
 {
     let mut left = segments;
     'segments: while let Some((segment, later)) = left.split() {
-        if !segment.is_normalized() || segment.is_dot_segment() {
+        let segment = Held(segment);
+        if !segment.0.is_normalized() || segment.0.is_dot_segment() {
             return false;
         }
         left = later;
@@ -132,8 +138,9 @@ pub(super) fn is_dot_prefixed<'t, L: SegmentSequence<'t>>(absolute: bool, segmen
 {
     match segments.split() {
         Some((first, later)) => {
+            let first = Held(first);
             absolute
-                && first.as_str() == "."
+                && first.0.as_str() == "."
                 && starts_with_empty_segment(later.again())
                 && are_canonical(later)
         }

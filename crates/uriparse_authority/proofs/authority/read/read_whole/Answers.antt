@@ -7,6 +7,6 @@ use Rattle.uriparse_authority.proofs.authority.read.read_whole.Goals as goal
 pub returns : goal.returns
 returns c =
     let cut = c.in_ok-found.ensures in
-    rest_told c.args.bytes.now (up_to ends_authority c.args.bytes.now) c.in_ok-found.rest.now c.to_authority-read.result c.rest_error.result refl cut.1
-    (ap Ok c.to_authority-read.ensures ∙ sym cut.0)
+    rest_told c.args.bytes.now (up_to ends_authority c.args.bytes.now) c.in_ok-found.rest.now c.to_authority.result c.rest_error.result refl cut.1
+    (ap Ok c.to_authority.ensures ∙ sym cut.0)
     (sym c.is_empty.ensures ∙ c.if-is_empty.false) c.rest_error.ensures
