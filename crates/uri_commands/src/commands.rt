@@ -27,8 +27,8 @@ use std::alloc::Global;
 use std::io::Write;
 use uriparse::URIView;
 
-/// The command or the option at this place of `uri help`, from 0. A table of them all takes the prover the square of
-/// the length of their texts.
+/// The command or the option at this place of `uri help`, from 0, or `None` behind the last. A table of them all takes the
+/// prover the square of the length of their texts.
 pub fn topic(place: usize) -> Option<&'static Topic> {
     match place {
         0 => Some(&parse::ABOUT),
