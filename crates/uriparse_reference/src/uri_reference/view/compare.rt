@@ -127,10 +127,10 @@ impl<'t> Hash for ReferenceView<'t> {
         ensures fed { state.new ≡ fold H.write state.old (fed self.now.parts) }
         ensures key { state.new ≡ fold H.write state.old (fed_key (key self.now.parts)) }
     {
-        Held(self.scheme()).0.hash(state);
+        self.scheme().hash(state);
         Held(self.authority()).0.hash(state);
         feed_path_text(self.path_bytes(), state);
-        Held(self.query()).0.hash(state);
-        Held(self.fragment()).0.hash(state);
+        self.query().hash(state);
+        self.fragment().hash(state);
     }
 }
