@@ -6,7 +6,9 @@ use std::alloc::{AllocError, Global};
 use std::test::Fail;
 use test_rows::answer::{Answer, said};
 use test_rows::{Layer, wrong_rows};
-use uriparse::{Edit, Path, Segment, URI, URIReference};
+use uriparse_path::path::{Path, Segment};
+use uriparse_reference::internal::resolve;
+use uriparse_reference::uri_reference::{Edit, URIReference};
 
 /// Whether a reference prints this text.
 fn prints(alloc: Global, reference: &URIReference<'_>, text: &str) -> Test {
@@ -38,13 +40,16 @@ fn edited_prints(alloc: Global, reference: &mut URIReference<'_>, text: &str) ->
     }
 }
 
-/// Whether the target of `~` prints this text.
-fn target_prints(alloc: Global, base: &URI<'_>, text: &str) -> Test {
+/// Whether the target of `~` against this base, if it has a scheme, prints this text.
+fn target_prints(alloc: Global, base: &URIReference<'_>, text: &str) -> Test {
     let Ok(reference) = URIReference::try_from_str(alloc, "~") else {
         return Ok(false);
     };
-    match base.resolve(alloc, &reference) {
-        Ok(target) => prints(alloc, target.as_uri_reference(), text),
+    if base.scheme().is_none() {
+        return Ok(false);
+    }
+    match resolve(alloc, base, &reference) {
+        Ok(target) => prints(alloc, &target, text),
         Err(_) => Ok(false),
     }
 }
@@ -84,20 +89,18 @@ fn edits(alloc: Global, text: &str, normal: &str) -> Test {
 
 /// Whether `~` against this base has this target.
 fn resolves(alloc: Global, base: &str, target: &str) -> Test {
-    match URI::try_from_str(alloc, base) {
+    match URIReference::try_from_str(alloc, base) {
         Ok(base) => target_prints(alloc, &base, target),
         Err(_) => Ok(false),
     }
 }
 
-/// Whether a builder that is given this path alone builds a reference that prints it.
+/// Whether a builder that is given this path alone accepts it, and builds a reference that prints it.
 fn builds(alloc: Global, path: &str) -> Test {
     let mut builder = URIReference::builder();
-    if builder.try_path(alloc, path.as_bytes()).is_err() {
-        return Ok(false);
-    }
+    let accepted = builder.try_path(alloc, path.as_bytes()).is_ok();
     match builder.build() {
-        Ok(reference) => prints(alloc, &reference, path),
+        Ok(reference) => Ok(accepted && prints(alloc, &reference, path)?),
         Err(_) => Ok(false),
     }
 }

@@ -4,8 +4,7 @@ use crate::scarce::{Outcome, complaint, refusals, starve};
 use std::alloc::Global;
 use std::test::Fail;
 use test_rows::answer::repeated;
-use uriparse::path::PathError;
-use uriparse::{Path, Segment};
+use uriparse_path::path::{Path, PathError, Segment};
 
 fn faulty_path(alloc: Global) -> Outcome {
     match Path::try_from_str(alloc, "a/b c") {

@@ -1,6 +1,6 @@
 -- Links that lead to URIs, one for each.
 use Rattle.std.proofs.Common.{◌≡◌, ◌<◌, ℕ, suc, ◌+◌, List, [], ◌∷◌, ◌++◌, Some, None, Ok, Err, inl, inr, length, take, get_or, refl, sym, ap, subst, ◌∙◌, arith}
-use Rattle.std.specs.Prelude.{◌⊎◌, IfErr, Result}
+use Rattle.std.specs.Prelude.{◌⊎◌, IfErr, IfOk, Result}
 use Rattle.std.proofs.Math.Seq.{take-suc}
 use Rattle.uriparse.specs.Readings.{IsUnless}
 use Rattle.uriparse.specs.PathError.TheVariants.{ExceededMaximumLength, OutOfMemory}
@@ -11,11 +11,11 @@ use Rattle.uriparse.specs.Target.{target}
 use Rattle.uriparse.specs.Uri.{map_error}
 use Rattle.uriparse.specs.declared.uri.error.URIError.{URIError}
 use Rattle.uriparse.specs.declared.uri.error.URIError.TheVariants as uris
-use Rattle.uses.proofs.RedirectLemmas.{Resolves, unresolved}
+use Rattle.uses.proofs.RedirectLemmas.{resolved, unresolved}
 use Rattle.uriparse.specs.Escaped.{escaped}
 use Rattle.uriparse.specs.Link.{link}
 use Rattle.uriparse.specs.Reading.{fault}
-use Rattle.uses.specs.Links.{AreLinks, GainsLink, IsRejected, LinksTo}
+use Rattle.uses.specs.Links.{AreLinks, GainsLink, IsRejected, LinksTo, Reaches, Resolves}
 
 links_append : (base : Parts) (us ls : List Parts) (u l : Parts) → AreLinks base us ls → LinksTo base u l → AreLinks base (us ++ u ∷ []) (ls ++ l ∷ [])
 links_append base [] [] u l h k = (k, tt)
@@ -61,23 +61,39 @@ pub unread_link : (e : URIReferenceError) (p : Parts) → IsUnless (references.P
 unread_link e p (inl h) = absurd (cc)
 unread_link e p (inr h) = let same : e ≡ references.Path OutOfMemory = cc in ap (λ x. Err (map_error x)) same
 
--- ---- why a link is rejected
+module _ (base r : Parts) (written : List ℕ) (answer : Result Parts URIError) (resolves : Resolves (target base r) answer) where
+  -- what is returned is where the link leads
+  pub reached : Spells (escaped (link written)) r → IfOk answer (λ u. Reaches base written u)
+  reached s = by_answer answer resolves
+    where
+      by_answer : (a : Result Parts URIError) → Resolves (target base r) a → IfOk a (λ u. Reaches base written u)
+      by_answer (Ok u) h = (r, s, resolved (target base r) u h)
+      by_answer (Err e) h = tt
 
-pub rejected : (base : Parts) (written : List ℕ) (e : URIError) (r : Result Parts URIError) → r ≡ Err e → IsRejected base written e
-    → IfErr r (λ x. IsRejected base written x)
-rejected base written e r is why = subst (λ x. IfErr x (λ y. IsRejected base written y)) (sym is) why
+  -- a link that leads somewhere is followed, unless memory runs out
+  pub only : ((p : Parts) → Spells (escaped (link written)) p → IsUnless (references.Path OutOfMemory) (Ok r) (Ok p))
+      → (u : Parts) → Reaches base written u → IsUnless (uris.Path OutOfMemory) answer (Ok u)
+  only reads u g = by_answer answer resolves
+    where
+      by_answer : (a : Result Parts URIError) → Resolves (target base r) a → IsUnless (uris.Path OutOfMemory) a (Ok u)
+      by_answer (Ok v) h = inl (ap Ok (one_target base g.0 r u v (reads g.0 g.1) g.2 (resolved (target base r) v h)))
+      by_answer (Err e) h = inr (untargeted_link base g.0 r u e (reads g.0 g.1) g.2 h)
 
--- its text has a fault
+  -- it is rejected if it has no target
+  pub rejected : Spells (escaped (link written)) r → IfErr answer (λ e. IsRejected base written e)
+  rejected s = by_answer answer resolves
+    where
+      by_reason : (e : URIError) → ((target base r ≡ None) × (e ≡ uris.Path ExceededMaximumLength)) ⊎ (e ≡ uris.Path OutOfMemory)
+          → IsRejected base written e
+      by_reason e (inl none) = inr (inl (r, s, none.0, none.1))
+      by_reason e (inr memory) = inr (inr memory)
+
+      by_answer : (a : Result Parts URIError) → Resolves (target base r) a → IfErr a (λ e. IsRejected base written e)
+      by_answer (Ok u) h = tt
+      by_answer (Err e) h = by_reason e (unresolved (target base r) e h)
+
+-- it is rejected if its text has a fault
 pub rejected_text : (base : Parts) (written text : List ℕ) (e : URIReferenceError) → text ≡ escaped (link written)
     → (fault text ≡ Some e) ⊎ (e ≡ references.Path OutOfMemory) → IsRejected base written (map_error e)
 rejected_text base written text e reads (inl is) = inl (e, sym (ap fault reads) ∙ is, refl)
 rejected_text base written text e reads (inr memory) = inr (inr (ap map_error memory))
-
--- it has no target
-pub rejected_target : (base : Parts) (written : List ℕ) (r : Parts) (e : URIError) → Spells (escaped (link written)) r
-    → Resolves (target base r) (Err e) → IsRejected base written e
-rejected_target base written r e spells h = by_answer (unresolved (target base r) e h)
-  where
-    by_answer : ((target base r ≡ None) × (e ≡ uris.Path ExceededMaximumLength)) ⊎ (e ≡ uris.Path OutOfMemory) → IsRejected base written e
-    by_answer (inl none) = inr (inl (r, spells, none.0, none.1))
-    by_answer (inr memory) = inr (inr memory)

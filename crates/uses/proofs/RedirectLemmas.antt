@@ -1,6 +1,6 @@
 -- What the results of reading and resolving mean for a redirect.
 use Rattle.std.proofs.Common.{◌≡◌, ℕ, List, Option, Some, None, Ok, Err, inl, inr, refl, sym, ap, subst, ◌∙◌}
-use Rattle.std.specs.Prelude.{◌⊎◌, Result, IfErr, IfOk, MatchOption}
+use Rattle.std.specs.Prelude.{◌⊎◌, Result, IfErr, IfOk}
 use Rattle.uriparse.specs.Readings.{IsUnless}
 use Rattle.uriparse.specs.PathError.TheVariants.{ExceededMaximumLength, OutOfMemory}
 use Rattle.uriparse.specs.Authority.{AuthorityParts}
@@ -12,11 +12,8 @@ use Rattle.uriparse.specs.declared.uri.error.URIError.{URIError}
 use Rattle.uriparse.specs.declared.uri.error.URIError.TheVariants as uris
 use Rattle.uses.specs.declared.redirects.RedirectError.{RedirectError}
 use Rattle.uses.specs.declared.redirects.RedirectError.TheVariants as errors
+use Rattle.uses.specs.Links.{Resolves}
 use Rattle.uses.specs.Redirects.{GoesTo, IsAt, IsOutOfMemory, IsUnlessWant, Follows, Refuses}
-
--- what resolving returns
-abbrev pub Resolves : Option Parts → Result Parts URIError → Type 0
-Resolves o r = MatchOption o (r ≡ Err (uris.Path ExceededMaximumLength)) (λ t. IsUnless (uris.Path OutOfMemory) r (Ok t))
 
 -- why there is no result
 pub unresolved : (o : Option Parts) (e : URIError) → Resolves o (Err e)

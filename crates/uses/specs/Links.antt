@@ -1,11 +1,12 @@
 -- Where links lead to: RFC 3986, section 5.2.2.
-use Rattle.std.specs.Prelude.{◌≡◌, ◌⊎◌, ℕ, true, List, [], ◌∷◌, ◌++◌, Some, None, map, take, is_some, slice_get}
+use Rattle.std.specs.Prelude.{◌≡◌, ◌⊎◌, ℕ, true, List, [], ◌∷◌, ◌++◌, Option, Some, None, Result, Ok, Err, MatchOption, map, take, is_some, slice_get}
 use Rattle.std.specs.List.{list_all}
 use Rattle.std.specs.Option.{IsSomeAnd}
 use Rattle.uriparse.specs.PathError.TheVariants.{ExceededMaximumLength, OutOfMemory}
 use Rattle.uriparse.specs.Escaped.{escaped}
 use Rattle.uriparse.specs.Link.{link}
 use Rattle.uriparse.specs.Reading.{fault}
+use Rattle.uriparse.specs.Readings.{IsUnless}
 use Rattle.uriparse.specs.Reference.{Parts, Spells}
 use Rattle.uriparse.specs.Relate.{LeavesOut}
 use Rattle.uriparse.specs.Target.{target}
@@ -17,6 +18,10 @@ use Rattle.uriparse.specs.declared.uri.error.URIError.TheVariants.{Path}
 -- these are the links' targets, one for each and in order
 abbrev pub AreTargets : Parts → List Parts → List Parts → Type 0
 AreTargets base links targets = map (target base) links ≡ map Some targets
+
+-- what a call returns that resolves: the target, if there is one
+abbrev pub Resolves : Option Parts → Result Parts URIError → Type 0
+Resolves o r = MatchOption o (r ≡ Err (Path ExceededMaximumLength)) (λ t. IsUnless (Path OutOfMemory) r (Ok t))
 
 -- the URI that a link leads to, which stands in a page as people write it
 abbrev pub Reaches : Parts → List ℕ → Parts → Type 0

@@ -4,8 +4,9 @@ ghost use Rattle.std.specs.Prelude.{◌≡◌, ◌++◌, ◌∷◌, [], IfOk, If
 ghost use Rattle.uriparse.specs.PathError.TheVariants.{OutOfMemory};
 ghost use Rattle.uriparse.specs.Readings.{IsUnless};
 ghost use Rattle.uriparse.specs.Reference.{Parts};
+ghost use Rattle.uriparse.specs.Target.{target};
 ghost use Rattle.uriparse.specs.declared.uri.error.URIError.TheVariants as uris;
-ghost use Rattle.uses.specs.Links.{AreLinks, AreTargets, Gains, GainsLink, IsRefusal, IsRefused, IsRejected, Reaches};
+ghost use Rattle.uses.specs.Links.{AreLinks, AreTargets, Gains, GainsLink, IsRefusal, IsRefused, IsRejected, Reaches, Resolves};
 
 use std::alloc::{AllocError, Global};
 use uriparse::{PathError, URI, URIError, URIReference, escape_invalid, trim_link};
@@ -33,7 +34,18 @@ pub fn read_link(alloc: Global, base: &URI<'_>, link: &[u8]) -> Result<URI<'stat
 {
     let text = escape_invalid(alloc, trim_link(link))?;
     let reference = URIReference::try_from_str(alloc, text.as_str())?;
-    Ok(base.resolve(alloc, &reference)?.into_owned(alloc)?)
+    target_of(alloc, base, &reference)
+}
+
+/// The target of a link that was read, with texts of its own.
+fn target_of(
+    alloc: Global,
+    base: &URI<'_>,
+    link: &URIReference<'_>,
+) -> Result<URI<'static>, URIError>
+    ensures { Resolves (target base.now link.now) result }
+{
+    Ok(base.resolve(alloc, link)?.into_owned(alloc)?)
 }
 
 /// Where each link of a page leads, in order: its target against the page's base, RFC 3986, section
