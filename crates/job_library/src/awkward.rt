@@ -4,6 +4,7 @@
 
 use crate::digest::Digest;
 use crate::error::JobError;
+use crate::links::add_normal;
 use crate::make::{put_link, put_number, put_query, put_word};
 use crate::random::Random;
 use crate::texts::Texts;
@@ -41,14 +42,26 @@ pub fn awkward(
     let mut texts = Texts::new(alloc);
     for number in 0..count {
         let path = sources.path_of(number % 2 == 1);
-        long_path(alloc, path, random, &mut texts, digest)?;
-        escapes(alloc, &sources.escapes, random, &mut texts, digest)?;
-        long_query(alloc, &sources.query, random, &mut texts, digest)?;
-        edits(alloc, random, &mut texts, digest)?;
-        faults(&sources.path, random, &mut texts, digest)?;
-        trees(alloc, &sources.path, random, &mut texts, digest)?;
+        each_form(alloc, &sources, path, random, &mut texts, digest)?;
     }
     Ok(())
+}
+
+/// Works on one text of each form.
+fn each_form(
+    alloc: Global,
+    sources: &Sources,
+    path: &Texts,
+    random: &mut Random,
+    texts: &mut Texts,
+    digest: &mut Digest,
+) -> Result<(), JobError> {
+    long_path(alloc, path, random, texts, digest)?;
+    escapes(alloc, &sources.escapes, random, texts, digest)?;
+    long_query(alloc, &sources.query, random, texts, digest)?;
+    edits(alloc, random, texts, digest)?;
+    faults(&sources.path, random, texts, digest)?;
+    trees(alloc, &sources.path, random, texts, digest)
 }
 
 /// Makes the long texts, each piece as a text of its own.
@@ -126,8 +139,7 @@ fn long_path(
     texts.put(b"http://example.com")?;
     put_cut(source, 10_000, random, texts)?;
     let mut uri = URI::try_from_bytes(alloc, texts.whole())?;
-    uri.normalize(alloc)?;
-    digest.add_bytes(uri.to_string(alloc)?.as_bytes());
+    add_normal(alloc, &mut uri, digest)?;
     digest.add(uri.path().segments().len() as u64);
     Ok(())
 }
@@ -163,11 +175,21 @@ fn long_query(
     texts.clear();
     put_cut(source, 2_500, random, texts)?;
     let query = Query::try_from_bytes(texts.whole())?;
+    digest.add(sum_of_names(&query));
+    add_changed(alloc, &query, digest)
+}
+
+/// The sum of the lengths of the names.
+fn sum_of_names(query: &Query<'_>) -> u64 {
     let mut sum = 0u64;
     for (name, _) in query.pairs() {
         sum = sum.wrapping_add(name.as_bytes().len() as u64);
     }
-    digest.add(sum);
+    sum
+}
+
+/// Drops pairs of the query, and decodes it.
+fn add_changed(alloc: Global, query: &Query<'_>, digest: &mut Digest) -> Result<(), JobError> {
     if let Some(rest) = query.without_name(alloc, b"session")? {
         digest.add_bytes(rest.as_bytes());
     }
@@ -262,16 +284,27 @@ fn trees(
     digest: &mut Digest,
 ) -> Result<(), JobError> {
     for _ in 0..20 {
-        texts.clear();
-        let start = random.below(10_000) as usize;
-        let shared = random.below(100) as usize;
-        put_file(source, start, shared, random, texts)?;
-        put_file(source, start, shared, random, texts)?;
-        let base = URI::try_from_bytes(alloc, texts.text(0))?;
-        let file = URI::try_from_bytes(alloc, texts.text(1))?;
-        let link = base.relativize(alloc, &file)?;
-        digest.add_bytes(link.to_string(alloc)?.as_bytes());
+        put_files(source, random, texts)?;
+        add_link(alloc, texts.text(0), texts.text(1), digest)?;
     }
+    Ok(())
+}
+
+/// Writes two files that share folders.
+fn put_files(source: &Texts, random: &mut Random, texts: &mut Texts) -> Result<(), AllocError> {
+    texts.clear();
+    let start = random.below(10_000) as usize;
+    let shared = random.below(100) as usize;
+    put_file(source, start, shared, random, texts)?;
+    put_file(source, start, shared, random, texts)
+}
+
+/// Adds the link that leads from one file to the other.
+fn add_link(alloc: Global, base: &[u8], file: &[u8], digest: &mut Digest) -> Result<(), JobError> {
+    let base = URI::try_from_bytes(alloc, base)?;
+    let file = URI::try_from_bytes(alloc, file)?;
+    let link = base.relativize(alloc, &file)?;
+    digest.add_bytes(link.to_string(alloc)?.as_bytes());
     Ok(())
 }
 

@@ -5,6 +5,7 @@
 use crate::digest::Digest;
 use crate::error::JobError;
 use crate::letters::{put_deep, put_escaped, put_upward, put_written};
+use crate::links::add_normal;
 use crate::make::put_like;
 use crate::random::Random;
 use crate::texts::Texts;
@@ -38,6 +39,20 @@ impl Links {
         self.written.clear();
         self.encoded.clear();
         self.upward.clear();
+    }
+
+    /// Adds a new link as it is written and encoded, and one that leads upward.
+    fn put(&mut self, random: &mut Random, plain: &mut Texts) -> Result<(), AllocError> {
+        plain.clear();
+        put_written(random, plain)?;
+        self.written.put(plain.whole())?;
+        self.written.end()?;
+        put_escaped(plain.whole(), digits(random), &mut self.encoded)?;
+        self.encoded.end()?;
+        plain.clear();
+        put_upward(random, plain)?;
+        put_escaped(plain.whole(), digits(random), &mut self.upward)?;
+        self.upward.end()
     }
 
     /// Adds links like one of these; what is written and what is encoded get the same digits.
@@ -96,16 +111,7 @@ fn link_models(alloc: Global, random: &mut Random) -> Result<Links, AllocError> 
     let mut models = Links::new(alloc);
     let mut plain = Texts::new(alloc);
     for _ in 0..2_048 {
-        plain.clear();
-        put_written(random, &mut plain)?;
-        models.written.put(plain.whole())?;
-        models.written.end()?;
-        put_escaped(plain.whole(), digits(random), &mut models.encoded)?;
-        models.encoded.end()?;
-        plain.clear();
-        put_upward(random, &mut plain)?;
-        put_escaped(plain.whole(), digits(random), &mut models.upward)?;
-        models.upward.end()?;
+        models.put(random, &mut plain)?;
     }
     Ok(models)
 }
@@ -134,14 +140,32 @@ fn follow_all(
     let base = URI::try_from_bytes(alloc, page)?;
     let base_view = URIView::try_from_bytes(page)?;
     for index in 0..links.encoded.count() {
-        let link = links.encoded.text(index);
-        escape(alloc, links.written.text(index), link, room, digest)?;
-        decode(alloc, link, room, digest)?;
-        normalize(alloc, link, room, digest)?;
-        resolve(alloc, &base, links.upward.text(index), digest)?;
-        resolve_view(&base_view, links.upward.text(index), room, digest)?;
+        rewrite(
+            alloc,
+            links.written.text(index),
+            links.encoded.text(index),
+            room,
+            digest,
+        )?;
+        let upward = links.upward.text(index);
+        resolve(alloc, &base, upward, digest)?;
+        resolve_view(&base_view, upward, room, digest)?;
     }
     Ok(())
+}
+
+/// Does what needs no page: escapes what is written, and decodes, encodes and normalizes the link.
+fn rewrite(
+    alloc: Global,
+    written: &[u8],
+    link: &[u8],
+    room: &mut [u8],
+    digest: &mut Digest,
+) -> Result<(), JobError> {
+    escape(alloc, written, link, room, digest)?;
+    decode(alloc, link, room, digest)?;
+    normalize(alloc, link, digest)?;
+    normalize_view(link, room, digest)
 }
 
 /// The hash by std's hasher with its fixed key.
@@ -168,7 +192,12 @@ fn escape(
     digest.add_bytes(text.as_bytes());
     let len = escape_invalid_into(written, room)?;
     add_front(room, len, digest);
-    let escaped = URI::try_from_str(alloc, text.as_str())?;
+    compare(alloc, text.as_str(), link, digest)
+}
+
+/// Compares what was escaped with the link, and hashes that.
+fn compare(alloc: Global, text: &str, link: &[u8], digest: &mut Digest) -> Result<(), JobError> {
+    let escaped = URI::try_from_str(alloc, text)?;
     let link = URI::try_from_bytes(alloc, link)?;
     digest.add(u64::from(escaped == link));
     digest.add(hash_of(&link));
@@ -184,13 +213,33 @@ fn decode(
 ) -> Result<(), JobError> {
     let link = ReferenceView::try_from_bytes(link)?;
     for segment in link.segments() {
-        let bytes = segment.decode(alloc)?;
-        digest.add_bytes(bytes.as_slice());
-        digest.add_bytes(Segment::encode(alloc, bytes.as_slice())?.as_bytes());
+        decode_segment(alloc, &segment, digest)?;
     }
-    let Some(query) = link.query() else {
-        return Ok(());
-    };
+    match link.query() {
+        Some(query) => decode_query(alloc, &query, room, digest),
+        None => Ok(()),
+    }
+}
+
+/// Decodes the segment and encodes it again.
+fn decode_segment(
+    alloc: Global,
+    segment: &Segment<'_>,
+    digest: &mut Digest,
+) -> Result<(), JobError> {
+    let bytes = segment.decode(alloc)?;
+    digest.add_bytes(bytes.as_slice());
+    digest.add_bytes(Segment::encode(alloc, bytes.as_slice())?.as_bytes());
+    Ok(())
+}
+
+/// Decodes the query and encodes it again, as a value and in the buffer.
+fn decode_query(
+    alloc: Global,
+    query: &Query<'_>,
+    room: &mut [u8],
+    digest: &mut Digest,
+) -> Result<(), JobError> {
     let bytes = query.decode(alloc)?;
     digest.add_bytes(Query::encode(alloc, bytes.as_slice())?.as_bytes());
     let len = query.decode_into(room)?;
@@ -200,16 +249,14 @@ fn decode(
     Ok(())
 }
 
-/// Normalizes the link as a value and in the buffer, and compares and hashes it and its normal form.
-fn normalize(
-    alloc: Global,
-    link: &[u8],
-    room: &mut [u8],
-    digest: &mut Digest,
-) -> Result<(), JobError> {
+/// Normalizes the link as a value.
+fn normalize(alloc: Global, link: &[u8], digest: &mut Digest) -> Result<(), JobError> {
     let mut uri = URI::try_from_bytes(alloc, link)?;
-    uri.normalize(alloc)?;
-    digest.add_bytes(uri.to_string(alloc)?.as_bytes());
+    add_normal(alloc, &mut uri, digest)
+}
+
+/// Normalizes the link in the buffer, and compares it with its normal form and hashes it.
+fn normalize_view(link: &[u8], room: &mut [u8], digest: &mut Digest) -> Result<(), JobError> {
     let link = ReferenceView::try_from_bytes(link)?;
     let len = link.normalize_into(room)?;
     let normal = room.get(..len).unwrap_or(&[]);

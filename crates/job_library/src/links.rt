@@ -59,7 +59,12 @@ fn follow_all(alloc: Global, texts: &Texts, digest: &mut Digest) -> Result<(), J
 fn follow(alloc: Global, page: &URI<'_>, link: &[u8], digest: &mut Digest) -> Result<(), JobError> {
     let link = URIReference::try_from_bytes(alloc, link)?;
     let mut target = page.resolve(alloc, &link)?;
-    target.normalize(alloc)?;
-    digest.add_bytes(target.to_string(alloc)?.as_bytes());
+    add_normal(alloc, &mut target, digest)
+}
+
+/// Adds the text of the normal form.
+pub fn add_normal(alloc: Global, uri: &mut URI<'_>, digest: &mut Digest) -> Result<(), JobError> {
+    uri.normalize(alloc)?;
+    digest.add_bytes(uri.to_string(alloc)?.as_bytes());
     Ok(())
 }

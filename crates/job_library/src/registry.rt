@@ -147,15 +147,48 @@ fn look_up_all(
 ) -> Result<(), JobError> {
     let mut known = HashSet::new(alloc);
     for index in 0..names.count() {
-        let name = URI::try_from_bytes(alloc, names.text(index))?;
-        digest.add(u64::from(known.insert(name)?));
+        keep(alloc, names.text(index), &mut known, digest)?;
     }
     digest.add(known.len() as u64);
+    look_up_links(alloc, &known, links, digest)
+}
+
+/// Keeps the identifier, and adds whether it is a new one.
+fn keep<'n>(
+    alloc: Global,
+    name: &'n [u8],
+    known: &mut HashSet<URI<'n>>,
+    digest: &mut Digest,
+) -> Result<(), JobError> {
+    let name = URI::try_from_bytes(alloc, name)?;
+    digest.add(u64::from(known.insert(name)?));
+    Ok(())
+}
+
+/// Looks up the references.
+fn look_up_links(
+    alloc: Global,
+    known: &HashSet<URI<'_>>,
+    links: &Texts,
+    digest: &mut Digest,
+) -> Result<(), JobError> {
     let schema = URI::try_from_bytes(alloc, b"https://schemas.example.org/main/index.json")?;
     for index in 0..links.count() {
-        let target = target_of(alloc, &schema, links.text(index))?;
-        digest.add(u64::from(known.contains(&target)));
+        look_up(alloc, known, &schema, links.text(index), digest)?;
     }
+    Ok(())
+}
+
+/// Adds whether the reference's target is kept.
+fn look_up(
+    alloc: Global,
+    known: &HashSet<URI<'_>>,
+    schema: &URI<'_>,
+    link: &[u8],
+    digest: &mut Digest,
+) -> Result<(), JobError> {
+    let target = target_of(alloc, schema, link)?;
+    digest.add(u64::from(known.contains(&target)));
     Ok(())
 }
 

@@ -20,11 +20,17 @@ pub fn requests(
     for number in 0..count {
         texts.clear();
         put_like(&models, random, &mut texts)?;
-        let mut uri = URI::try_from_bytes(alloc, texts.whole())?;
-        digest.add(sum_of_parts(&uri));
-        change(alloc, number, &mut uri)?;
-        digest.add_bytes(uri.to_string(alloc)?.as_bytes());
+        request(alloc, number, texts.whole(), digest)?;
     }
+    Ok(())
+}
+
+/// Answers the request of this number for the URI.
+fn request(alloc: Global, number: u64, uri: &[u8], digest: &mut Digest) -> Result<(), JobError> {
+    let mut uri = URI::try_from_bytes(alloc, uri)?;
+    digest.add(sum_of_parts(&uri));
+    change(alloc, number, &mut uri)?;
+    digest.add_bytes(uri.to_string(alloc)?.as_bytes());
     Ok(())
 }
 
@@ -70,24 +76,32 @@ fn sum_of_parts(uri: &URI<'_>) -> u64 {
     sum
 }
 
+/// Sets a pair of the query, if there is one.
+fn set_token(alloc: Global, uri: &mut URI<'_>) -> Result<(), JobError> {
+    let with = match uri.query() {
+        Some(query) => Some(query.with_pair(alloc, b"token", Some(b"a b&c"))?),
+        None => None,
+    };
+    uri.set_query(with)?;
+    Ok(())
+}
+
+/// Drops the pairs of a name from the query, if there is one.
+fn drop_session(alloc: Global, uri: &mut URI<'_>) -> Result<(), JobError> {
+    let without = match uri.query() {
+        Some(query) => query.without_name(alloc, b"session")?,
+        None => None,
+    };
+    uri.set_query(without)?;
+    Ok(())
+}
+
 /// Changes one part.
 fn change<'u>(alloc: Global, number: u64, uri: &mut URI<'u>) -> Result<(), JobError> {
     match number % 5 {
-        0 => {
-            let with = match uri.query() {
-                Some(query) => Some(query.with_pair(alloc, b"token", Some(b"a b&c"))?),
-                None => None,
-            };
-            uri.set_query(with)?;
-        }
+        0 => set_token(alloc, uri)?,
         1 => uri.push_segment(alloc, Segment::encode(alloc, b"index of /")?)?,
-        2 => {
-            let without = match uri.query() {
-                Some(query) => query.without_name(alloc, b"session")?,
-                None => None,
-            };
-            uri.set_query(without)?;
-        }
+        2 => drop_session(alloc, uri)?,
         3 => uri.set_scheme(Scheme::HTTPS)?,
         _ => uri.set_fragment(None)?,
     }

@@ -20,13 +20,22 @@ pub fn store(
     let (names, links) = make_schemas(alloc, count, random)?;
     let known = keep_all(alloc, &names, digest)?;
     digest.add(known.len() as u64);
+    look_up_all(&known, &links, digest)
+}
+
+/// Looks up the references.
+fn look_up_all(
+    known: &HashSet<ReferenceKey<'static>>,
+    links: &Texts,
+    digest: &mut Digest,
+) -> Result<(), JobError> {
     let schema = URIView::try_from_bytes(b"https://schemas.example.org/main/index.json")?;
     let mut buffer = [0; 1024];
     for index in 0..links.count() {
         let link = ReferenceView::try_from_bytes(links.text(index))?;
         let len = schema.resolve_into(&link, &mut buffer)?;
         let target = buffer.get(..len).unwrap_or(&[]);
-        digest.add(u64::from(is_known(&known, target)?));
+        digest.add(u64::from(is_known(known, target)?));
     }
     Ok(())
 }
