@@ -24,7 +24,7 @@ use uriparse_path::path::Path;
 use uriparse_scheme::internal::scheme_if;
 use uriparse_scheme::scheme::Scheme;
 use uriparse_text::fragment::Fragment;
-use uriparse_text::internal::{Held, len_of};
+use uriparse_text::internal::len_of;
 use uriparse_text::query::Query;
 
 mod builder;
@@ -86,14 +86,12 @@ impl<'r> Drop for URIReference<'r> {
     #[inline(always)]
     fn drop(self) {
         let URIReference {
-            scheme,
-            authority,
-            path,
-            query,
-            fragment,
+            scheme: _scheme,
+            authority: _authority,
+            path: _path,
+            query: _query,
+            fragment: _fragment,
         } = self;
-        let (_scheme, _authority) = (Held(scheme), Held(authority));
-        let _tail = (Held(path), Held(query), Held(fragment));
     }
 }
 

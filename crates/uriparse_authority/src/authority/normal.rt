@@ -6,7 +6,7 @@ ghost use Rattle.uriparse_authority.specs.Normal.{AreCanonicalCopies, canonical_
 use super::edit::set;
 use super::{Authority, Host, Password, Username};
 use std::alloc::{AllocError, Global};
-use uriparse_text::internal::{Held, canonical_copy, is_canonical_part, put_copy};
+use uriparse_text::internal::{canonical_copy, is_canonical_part, put_copy};
 
 /// Canonical copies of the components of an authority that are present and aren't canonical.
 #[derive(Drop)]
@@ -27,13 +27,10 @@ pub fn canonical_copies(
     ensures copies { IfOk result (λ copies. AreCanonicalCopies copies authority.now) }
     ensures takes_no_memory { print (canonical_authority authority.now) ≡ print authority.now → IsOk result }
 {
-    let username = Held(canonical_copy(alloc, &authority.username)?);
-    let password = Held(canonical_copy(alloc, &authority.password)?);
-    let host = authority.host.canonical_copy(alloc)?;
     Ok(CanonicalCopies {
-        username: username.take(),
-        password: password.take(),
-        host,
+        username: canonical_copy(alloc, &authority.username)?,
+        password: canonical_copy(alloc, &authority.password)?,
+        host: authority.host.canonical_copy(alloc)?,
     })
 }
 

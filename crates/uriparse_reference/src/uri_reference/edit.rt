@@ -13,7 +13,6 @@ use uriparse_path::internal::{has_two_slashes, into_absolute, lacks_colon_segmen
 use uriparse_path::path::{Path, PathError};
 use uriparse_scheme::scheme::Scheme;
 use uriparse_text::fragment::Fragment;
-use uriparse_text::internal::Held;
 use uriparse_text::query::Query;
 
 /// One change of a reference, for [`apply_all`](URIReference::apply_all): what the setter of that
@@ -89,7 +88,7 @@ fn fitted_path(has_authority: bool, path: Path<'_>) -> Path<'_>
 fn put_path<'r>(held: &mut Path<'r>, path: Path<'r>)
     ensures { held.new ≡ path.entry }
 {
-    let _old = Held(mem::replace(held, path));
+    let _old = mem::replace(held, path);
 }
 
 impl<'r> URIReference<'r> {
@@ -178,7 +177,7 @@ impl<'r> URIReference<'r> {
         ensures { edited self.old (edits.Authority (Some authority.entry)) ≡ Ok self.new }
     {
         self.path.set_absolute(true);
-        let _old = Held(self.authority.replace(authority));
+        let _old = self.authority.replace(authority);
     }
 
     /// Removes the authority, unless the path's text starts with `//`.

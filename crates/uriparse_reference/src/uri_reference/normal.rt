@@ -21,7 +21,7 @@ use uriparse_path::path::Path;
 use uriparse_scheme::internal as scheme;
 use uriparse_scheme::scheme::Scheme;
 use uriparse_text::fragment::Fragment;
-use uriparse_text::internal::{Held, canonical_copy, is_canonical_part, put_copy};
+use uriparse_text::internal::{canonical_copy, is_canonical_part, put_copy};
 use uriparse_text::query::Query;
 
 /// Whether the scheme, if present, is in canonical spelling.
@@ -86,11 +86,11 @@ fn normalize_tail(
     ensures err { OnErr result ((path.new ≡ path.old) × (query.new ≡ query.old) × (fragment.new ≡ fragment.old)) }
     ensures takes_no_memory { list_all is_canonical path.old.segments ≡ true → option_map canonical query.old ≡ query.old → option_map canonical fragment.old ≡ fragment.old → IsOk result }
 {
-    let query_copy = Held(canonical_copy(alloc, query)?);
-    let fragment_copy = Held(canonical_copy(alloc, fragment)?);
+    let query_copy = canonical_copy(alloc, query)?;
+    let fragment_copy = canonical_copy(alloc, fragment)?;
     normalize_path(path, alloc, context_of(scheme, authority))?;
-    put_copy(query, query_copy.take());
-    put_copy(fragment, fragment_copy.take());
+    put_copy(query, query_copy);
+    put_copy(fragment, fragment_copy);
     Ok(())
 }
 
@@ -164,8 +164,8 @@ impl<'r> URIReference<'r> {
         ensures err { OnErr result (self.new ≡ self.old) }
         ensures takes_no_memory { canonical_texts self.old ≡ self.old → IsOk result }
     {
-        let scheme = Held(scheme::canonical_copy(alloc, &self.scheme)?);
-        let authority = Held(authority_copies(alloc, &self.authority)?);
+        let scheme = scheme::canonical_copy(alloc, &self.scheme)?;
+        let authority = authority_copies(alloc, &self.authority)?;
         normalize_tail(
             alloc,
             &self.scheme,
@@ -174,8 +174,8 @@ impl<'r> URIReference<'r> {
             &mut self.query,
             &mut self.fragment,
         )?;
-        scheme::put_copy(&mut self.scheme, scheme.take());
-        put_authority_copies(&mut self.authority, authority.take());
+        scheme::put_copy(&mut self.scheme, scheme);
+        put_authority_copies(&mut self.authority, authority);
         Ok(())
     }
 }

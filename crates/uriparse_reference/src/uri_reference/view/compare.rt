@@ -128,7 +128,7 @@ impl<'t> Hash for ReferenceView<'t> {
         ensures key { state.new ≡ fold H.write state.old (fed_key (key self.now.parts)) }
     {
         self.scheme().hash(state);
-        Held(self.authority()).0.hash(state);
+        self.authority().hash(state);
         feed_path_text(self.path_bytes(), state);
         self.query().hash(state);
         self.fragment().hash(state);

@@ -18,7 +18,7 @@ use uriparse_authority::internal as authority;
 use uriparse_path::internal::{PathContext, put_normal_path};
 use uriparse_scheme::scheme::Scheme;
 use uriparse_text::fragment::Fragment;
-use uriparse_text::internal::{Case, Form, Held, put, put_after, put_formed};
+use uriparse_text::internal::{Case, Form, put, put_after, put_formed};
 use uriparse_text::query::Query;
 
 /// Puts the query and the fragment, each with its delimiter, if present, at the end of the buffer.
@@ -94,11 +94,9 @@ impl<'v, 't> PutText for NormalText<'v, 't> {
             has_scheme: view.has_scheme(),
             has_authority: view.has_authority(),
         };
-        let (query, fragment) = (Held(view.query()), Held(view.fragment()));
-        let len = put_query_and_fragment(Form::Canonical, &query.0, &fragment.0, out);
+        let len = put_query_and_fragment(Form::Canonical, &view.query(), &view.fragment(), out);
         let len = put_normal_path(view.path_bytes(), context, out, len);
-        let (scheme, authority) = (Held(view.scheme()), Held(view.authority()));
-        put_scheme_and_authority(Form::Canonical, &scheme.0, &authority.0, out, len)
+        put_scheme_and_authority(Form::Canonical, &view.scheme(), &view.authority(), out, len)
     }
 }
 

@@ -16,7 +16,7 @@ use super::into::{put_query_and_fragment, put_scheme_and_authority};
 use super::put::{PutText, write};
 use uriparse_path::internal::{put_merged, put_undotted};
 use uriparse_path::path::MAX_SEGMENTS;
-use uriparse_text::internal::{Form, Held, put};
+use uriparse_text::internal::{Form, put};
 
 /// The text of the target of a reference against a base.
 #[derive(Drop)]
@@ -94,8 +94,7 @@ impl<'t> ReferenceView<'t> {
         ensures room { length out.new ≡ length out.old }
         ensures ends { EndsWith out.new result (spec.tail_text (with_dot_prefix_unless has_authority (dots_removed (text self.now.parts.path))) self.now.parts.query self.now.parts.fragment) }
     {
-        let (query, fragment) = (Held(self.query()), Held(self.fragment()));
-        let len = put_query_and_fragment(Form::AsIs, &query.0, &fragment.0, out);
+        let len = put_query_and_fragment(Form::AsIs, &self.query(), &self.fragment(), out);
         put_undotted(Form::AsIs, has_authority, self.path_bytes(), out, len)
     }
 
@@ -106,9 +105,8 @@ impl<'t> ReferenceView<'t> {
         ensures valid { Valid self.now.parts }
         ensures ends { EndsWith out.new result (spec.tail_text self.now.parts.path (option_or reference.now.parts.query self.now.parts.query) reference.now.parts.fragment) }
     {
-        let query = Held(reference.query().or(self.query()));
-        let fragment = Held(reference.fragment());
-        let len = put_query_and_fragment(Form::AsIs, &query.0, &fragment.0, out);
+        let query = reference.query().or(self.query());
+        let len = put_query_and_fragment(Form::AsIs, &query, &reference.fragment(), out);
         put(self.path_bytes(), out, len)
     }
 
@@ -120,8 +118,12 @@ impl<'t> ReferenceView<'t> {
         ensures room { length out.new ≡ length out.old }
         ensures ends { EndsWith out.new result (spec.merged_tail self.now.parts reference.now.parts) }
     {
-        let (query, fragment) = (Held(reference.query()), Held(reference.fragment()));
-        let len = put_query_and_fragment(Form::AsIs, &query.0, &fragment.0, out);
+        let len = put_query_and_fragment(
+            Form::AsIs,
+            &reference.query(),
+            &reference.fragment(),
+            out,
+        );
         let has_authority = self.has_authority();
         put_merged(
             has_authority,
@@ -156,8 +158,7 @@ impl<'t> ReferenceView<'t> {
         ensures room { length out.new ≡ length out.old }
         ensures puts { Puts (spec.scheme_front AsIs self.now.parts.scheme ++ spec.authority_front AsIs self.now.parts.authority) out.old len out.new result }
     {
-        let (scheme, authority) = (Held(self.scheme()), Held(self.authority()));
-        put_scheme_and_authority(Form::AsIs, &scheme.0, &authority.0, out, len)
+        put_scheme_and_authority(Form::AsIs, &self.scheme(), &self.authority(), out, len)
     }
 
     /// Puts this scheme and the authority of `reference`, each with its delimiter, if present.
@@ -171,8 +172,7 @@ impl<'t> ReferenceView<'t> {
         ensures room { length out.new ≡ length out.old }
         ensures puts { Puts (spec.scheme_front AsIs self.now.parts.scheme ++ spec.authority_front AsIs reference.now.parts.authority) out.old len out.new result }
     {
-        let (scheme, authority) = (Held(self.scheme()), Held(reference.authority()));
-        put_scheme_and_authority(Form::AsIs, &scheme.0, &authority.0, out, len)
+        put_scheme_and_authority(Form::AsIs, &self.scheme(), &reference.authority(), out, len)
     }
 
     /// Puts the text of the target at the end of the buffer. Returns its length. If there is no

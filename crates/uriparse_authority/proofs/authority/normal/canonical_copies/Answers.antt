@@ -13,7 +13,7 @@ returns-in_err-canonical_copy-2-clause-takes_no_memory c same =
     let kept = kept_inside _ _ c.authority.view_is c.authority.invariant same in
     absurd (cc (c.in_err-canonical_copy-2.ensures.takes_no_memory (ap (λ p. p.password) kept)))
 
-pub returns-in_err-host-clause-takes_no_memory : goal.returns-in_err-host-clause-takes_no_memory
-returns-in_err-host-clause-takes_no_memory c same =
+pub returns-in_err-canonical_copy-3-clause-takes_no_memory : goal.returns-in_err-canonical_copy-3-clause-takes_no_memory
+returns-in_err-canonical_copy-3-clause-takes_no_memory c same =
     let kept = kept_inside _ _ c.authority.view_is c.authority.invariant same in
-    absurd (cc (c.in_err-host.ensures.takes_no_memory (ap (λ p. text p.host) kept)))
+    absurd (cc (c.in_err-canonical_copy-3.ensures.takes_no_memory (ap (λ p. text p.host) kept)))

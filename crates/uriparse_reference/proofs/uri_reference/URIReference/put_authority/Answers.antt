@@ -20,7 +20,7 @@ invariant_of-self c =
       query = inside.query;
       fragment = inside.fragment;
     }))
-    (sym c.replace.ensures.after)
+    (sym c.replace-old.ensures.after)
     (valid_some old (Some c.args.authority) c.set_absolute.new.self refl put c.self.invariant given)
 
 pub returns : goal.returns
@@ -37,4 +37,4 @@ returns c =
       query = inside.query;
       fragment = inside.fragment;
     }))
-    (sym c.replace.ensures.after)
+    (sym c.replace-old.ensures.after)

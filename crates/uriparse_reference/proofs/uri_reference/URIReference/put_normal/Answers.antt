@@ -1,6 +1,5 @@
 use Rattle.std.proofs.Common.{◌≡◌, ap, sym, subst, ◌∙◌}
 use Rattle.std.proofs.lemmas.Bool.{false≢true}
-use Rattle.std.specs.Option.{option_or}
 use Rattle.uriparse_path.proofs.lemmas.text.CanonicalTextLemmas.{each_is_canonical}
 use Rattle.uriparse_reference.specs.Reference.{Valid}
 use Rattle.uriparse_reference.specs.Normal.{canonical_texts, normal}
@@ -9,15 +8,15 @@ use Rattle.uriparse_reference.proofs.lemmas.normalizing.NormalizingLemmas.{made_
 use Rattle.uriparse_reference.proofs.uri_reference.URIReference.put_normal.Goals.{After-put_authority_copies}
 use Rattle.uriparse_reference.proofs.uri_reference.URIReference.put_normal.Goals as goal
 
-pub returns-in_err-canonical_copy-clause-takes_no_memory : goal.returns-in_err-canonical_copy-clause-takes_no_memory
-returns-in_err-canonical_copy-clause-takes_no_memory c h =
+pub returns-in_err-scheme-clause-takes_no_memory : goal.returns-in_err-scheme-clause-takes_no_memory
+returns-in_err-scheme-clause-takes_no_memory c h =
     let own = subst (λ p. canonical_texts p ≡ p) (sym c.self.view_is) h in
-    absurd (false≢true (c.in_err-canonical_copy.ensures.takes_no_memory (ap (λ p. p.scheme) own)))
+    absurd (false≢true (c.in_err-scheme.ensures.takes_no_memory (ap (λ p. p.scheme) own)))
 
-pub returns-in_err-authority_copies-clause-takes_no_memory : goal.returns-in_err-authority_copies-clause-takes_no_memory
-returns-in_err-authority_copies-clause-takes_no_memory c h =
+pub returns-in_err-authority-clause-takes_no_memory : goal.returns-in_err-authority-clause-takes_no_memory
+returns-in_err-authority-clause-takes_no_memory c h =
     let own = subst (λ p. canonical_texts p ≡ p) (sym c.self.view_is) h in
-    absurd (false≢true (c.in_err-authority_copies.ensures.takes_no_memory (ap (λ p. p.authority) own)))
+    absurd (false≢true (c.in_err-authority.ensures.takes_no_memory (ap (λ p. p.authority) own)))
 
 pub returns-in_err-normalize_tail-clause-takes_no_memory : goal.returns-in_err-normalize_tail-clause-takes_no_memory
 returns-in_err-normalize_tail-clause-takes_no_memory c h =
@@ -49,7 +48,7 @@ made c =
       fragment = c.self.inside.fragment;
     })
     c.put_copy.new.scheme c.put_authority_copies.new.authority c.normalize_tail.new.path c.normalize_tail.new.query c.normalize_tail.new.fragment
-    (c.put_copy.ensures ∙ ap (λ x. option_or x c.self.inside.scheme) c.take.ensures ∙ c.in_ok-canonical_copy.ensures.copy)
+    (c.put_copy.ensures ∙ c.in_ok-scheme.ensures.copy)
     c.put_authority_copies.ensures
     c.in_ok-normalize_tail.ensures.path
     c.in_ok-normalize_tail.ensures.query
