@@ -55,6 +55,7 @@ export type Input = string | { readonly href: string };
 /** A pair of a query, as it stands in the text: `decode` reads both. The value is null if the pair has no "=". */
 export type Pair = [name: string, value: string | null];
 
+/** The calls. A string or a result that is longer than the memory or a string can be is a `RangeError`. */
 export interface URIs {
   parse(text: Input): Parts;
   fault(text: Input): Fault | null;
