@@ -21,6 +21,8 @@ import rows  # noqa: E402
 import uriparse  # noqa: E402
 
 COUNT = int(sys.argv[1]) if len(sys.argv) > 1 else 20_000
+# What Python calls the encoding of a database that isn't UTF-8.
+CODECS = {"latin": "latin-1", "eucjp": "euc_jp"}
 ONE = ("valid", "fault", "scheme", "authority", "host", "port", "path", "query", "fragment", "normalize", "hash", "origin", "escape")
 
 
@@ -60,9 +62,10 @@ def shown(value: Any) -> Optional[str]:
     return value if value is None else value.decode() if isinstance(value, bytes) else str(value)
 
 
-def expected(text: bytes) -> List[Optional[str]]:
-    """What the functions of ONE return for a text."""
-    escaped = uriparse.escape(text)
+def expected(database: str, text: bytes) -> List[Optional[str]]:
+    """What the functions of ONE return for a text. Its UTF-8 is what is escaped."""
+    codec = CODECS.get(database)
+    escaped = uriparse.escape(text.decode(codec).encode() if codec else text)
     fault = uriparse.first_fault(text)
     if fault:
         return ["f", shown(fault[1]), *[None] * 10, shown(escaped)]
@@ -105,7 +108,7 @@ def test_random(database: str, texts: List[bytes]) -> str:
     load(database, texts)
     calls = ", ".join("uri_%s(x)" % name for name in ONE)
     for row, text in zip(psql(database, "SELECT %s FROM random ORDER BY at" % calls)[0], texts):
-        assert row == expected(text), (text, row, expected(text))
+        assert row == expected(database, text), (text, row, expected(database, text))
     two = psql(database, "SELECT uri_resolve(a.x, b.x), uri_equal(a.x, b.x) FROM random a JOIN random b ON b.at = a.at + 1 "
                "ORDER BY a.at")[0]
     for row, left, right in zip(two, texts, texts[1:]):
@@ -126,6 +129,27 @@ def test_random(database: str, texts: List[bytes]) -> str:
                    "FROM random WHERE uri_valid(x)")[0]
     assert of_text == of_type
     return "random texts in %s: %d" % (database, len(texts))
+
+
+def test_encodings() -> str:
+    """Percent-encoding is of UTF-8 in each encoding (RFC 3987, section 3.1). In SQL_ASCII the bytes are taken as they are."""
+    count = 0
+    for database, spelled, escaped in (
+            ("utf8", "\u00e9", "%C3%A9"), ("utf8", "\u65e5", "%E6%97%A5"), ("latin", "\u00e9", "%C3%A9"), ("latin", "\u00ff", "%C3%BF"),
+            ("latin", "http://h/a b?\u00fc%#[x]", "http://h/a%20b?%C3%BC%25#%5Bx%5D"), ("eucjp", "\u65e5", "%E6%97%A5"),
+            ("eucjp", "http://h/\u65e5\u672c?\u30a2 b", "http://h/%E6%97%A5%E6%9C%AC?%E3%82%A2%20b"),
+            ("eucjp", "\u00e9", "%C3%A9"), ("eucjp", "a b", "a%20b"), ("eucjp", "", "")):
+        assert one(database, "uri_escape(convert_from('\\x%s', 'UTF8'))" % spelled.encode().hex()) == escaped, (database, spelled)
+        assert one(database, "uri_valid(uri_escape(convert_from('\\x%s', 'UTF8')))" % spelled.encode().hex()) == "t"
+        count += 1
+    assert one("latin", "uri_escape(chr(233))") == "%C3%A9" and one("ascii", "uri_escape(chr(233))") == "%E9"
+    assert one("eucjp", "uri_escape(convert_from('\\xc6fc', 'EUC_JP'))") == "%E6%97%A5"
+    for database, spelled, size in (("latin", "\u00e9", 2), ("eucjp", "\u65e5", 3)):
+        for length in (512 // size, 513, 2_000_000):
+            assert one(database, "uri_escape(repeat(convert_from('\\x%s', 'UTF8'), %d)) = repeat('%s', %d)" % (
+                spelled.encode().hex(), length, uriparse.escape(spelled.encode()).decode(), length)) == "t", (database, length)
+            count += 1
+    return "escapes of UTF-8 in four encodings: %d" % count
 
 
 def query_of(text: bytes) -> Optional[bytes]:
@@ -259,15 +283,16 @@ def main() -> None:
     draw = random.Random(6)
     texts = [text for text in (fuzz.some_text(draw) for _ in range(COUNT * 2)) if b"\0" not in text][:COUNT]
     psql("postgres", "CREATE DATABASE utf8 TEMPLATE template0 ENCODING 'UTF8'",
-         "CREATE DATABASE ascii TEMPLATE template0 ENCODING 'SQL_ASCII'", "CREATE DATABASE latin TEMPLATE template0 ENCODING 'LATIN1'")
-    for database in ("utf8", "ascii", "latin"):
+         "CREATE DATABASE ascii TEMPLATE template0 ENCODING 'SQL_ASCII'", "CREATE DATABASE latin TEMPLATE template0 ENCODING 'LATIN1'",
+         "CREATE DATABASE eucjp TEMPLATE template0 ENCODING 'EUC_JP'")
+    for database in ("utf8", "ascii", "latin", "eucjp"):
         psql(database, "CREATE EXTENSION uri")
     print(test_rows("utf8"))
     for database, some in (("ascii", texts), ("utf8", [text.decode("utf-8", "replace").encode() for text in texts[:2000]]),
-                           ("latin", texts[:2000])):
+                           ("latin", texts[:2000]), ("eucjp", [text.decode("latin-1").encode("euc_jp", "ignore") for text in texts[:2000]])):
         print(test_random(database, some))
         print(test_pairs(database, some))
-    for found in (test_type(), test_order(), test_long(), test_cancelled()):
+    for found in (test_encodings(), test_type(), test_order(), test_long(), test_cancelled()):
         print(found)
     psql("utf8", "DROP EXTENSION uri CASCADE")
 
