@@ -89,7 +89,7 @@ def load(database: str, texts: List[bytes]) -> None:
 
 def test_rows(database: str) -> str:
     found = rows.library_rows()
-    wanted = [("uri_valid(%s)" % quoted(text), "t") for (text,) in found["valid"]]
+    wanted: List[Tuple[str, Optional[str]]] = [("uri_valid(%s)" % quoted(text), "t") for (text,) in found["valid"]]
     wanted += [("uri_valid(%s)" % quoted(text), "f") for (text,) in found["invalid"]]
     wanted += [("uri_normalize(%s)" % quoted(text), normal) for text, normal in found["normal"]]
     wanted += [("uri_resolve(%s, %s)" % (quoted(base), quoted(text)), target)
@@ -97,6 +97,8 @@ def test_rows(database: str) -> str:
     for left, right, is_equal in rows.program_rows():
         wanted.append(("uri_equal(%s, %s)" % (quoted(left), quoted(right)), "t" if is_equal else "f"))
         wanted.append(("uri %s = uri %s" % (quoted(left), quoted(right)), "t" if is_equal else "f"))
+    wanted += [("uri_origin(%s)" % quoted(text), None) for text in ("file:///a", "http:///a", "http://", "https://u@:443/a")]
+    wanted += [("uri_origin(%s)" % quoted(text), "http://1.2.3.4") for text in ("http://%31.2.3.4", "http://1.2.3.4")]
     answers = psql(database, *("SELECT " + expression for expression, _ in wanted))[0]
     for (expression, answer), row in zip(wanted, answers):
         assert row == [answer], (expression, row, answer)

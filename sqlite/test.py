@@ -94,7 +94,10 @@ def test_errors(db: sqlite3.Connection) -> None:
         for pair in (("a:", None), (None, "a:"), (None, None), ("a b", "a:"), ("a:", "a b")):
             assert one(db, "uri_%s(?, ?)" % name, *pair) is None, (name, pair)
     assert one(db, "typeof(uri_port('//h:080'))") == "integer" and one(db, "uri_port('//h:080')") == 80
-    assert one(db, "uri_origin('HTTPS://u@H:443/a')") == "https://h" and one(db, "uri_origin('file:///a')") is None
+    assert one(db, "uri_origin('HTTPS://u@H:443/a')") == "https://h" and one(db, "uri_origin('//h')") is None
+    for text in ("file:///a", "http:///a", "http://", "https://u@:443/a"):
+        assert one(db, "uri_origin(?)", text) is None, text
+    assert one(db, "uri_origin('http://%31.2.3.4')") == one(db, "uri_origin('http://1.2.3.4')") == "http://1.2.3.4"
     assert one(db, "uri_port('//h:')") is None and one(db, "uri_host('//')") == "" and one(db, "uri_path(12)") == "12"
 
 

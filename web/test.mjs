@@ -187,7 +187,10 @@ await test("what leads to a URI", () => {
 await test("origins", () => {
   assert.equal(uris.origin("HTTPS://u@EXAMPLE.com:443/b?c"), "https://example.com");
   assert.equal(uris.origin(new URL("http://h:8080/a")), "http://h:8080");
-  assert.throws(() => uris.origin("file:///a"), { name: "URIParseError", code: 10, component: null, place: 0, message: "the reference has no origin" });
+  assert.equal(uris.origin("http://%31.2.3.4"), uris.origin("http://1.2.3.4"));
+  for (const text of ["file:///a", "http:///a", "http://", "https://u@:443/a"]) {
+    assert.throws(() => uris.origin(text), { name: "URIParseError", code: 10, component: null, place: 0, message: "the reference has no origin" });
+  }
   assert.throws(() => uris.origin("http://h/ "), { code: 0x51, place: 9 });
 });
 await test("pairs", () => {

@@ -65,6 +65,7 @@ export interface URIs {
   normalize(text: Input): string;
   resolve(base: Input, reference: Input): string;
   relativize(base: Input, uri: Input): string;
+  /** A URI without a host, or with an empty one, has no origin. The name "%31.2.3.4" and the address "1.2.3.4" have one text. */
   origin(text: Input): string;
   /** A lone surrogate is a `TypeError`. */
   escape(text: Input): string;

@@ -374,7 +374,7 @@ class URIs {
     return this.#written("uriparse_escape", [wellFormed(text)]);
   }
 
-  /** The text of the origin of a URI: RFC 6454, section 6.2. */
+  /** The text of the origin of a URI: RFC 6454, section 6.2. A name such as "%31.2.3.4" and the address "1.2.3.4" have one. */
   origin(text) {
     return this.#written("uriparse_origin", [textOf(text)]);
   }
