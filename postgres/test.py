@@ -6,6 +6,7 @@ from __future__ import annotations
 import hashlib
 import os
 import random
+import re
 import struct
 import subprocess
 import sys
@@ -281,6 +282,18 @@ def test_cancelled() -> str:
     return "a query and an index cancelled midway"
 
 
+def test_page() -> str:
+    """The statements of README.md print what stands there."""
+    psql("postgres", "CREATE DATABASE page TEMPLATE template0 ENCODING 'UTF8'")
+    statements = rows.page_statements(os.path.join(os.path.dirname(os.path.abspath(__file__)), "README.md"))
+    for statement, wanted in statements:
+        found, errors = psql("page", statement, check=False)
+        lines = ["|".join("NULL" if field is None else field for field in row) for row in found]
+        lines += ["error: " + text for text in re.findall("^ERROR:  [0-9A-Z]{5}: (.*)$", errors, re.MULTILINE)]
+        assert lines == wanted, (statement, lines, errors, wanted)
+    return "README.md: %d statements" % len(statements)
+
+
 def main() -> None:
     draw = random.Random(6)
     texts = [text for text in (fuzz.some_text(draw) for _ in range(COUNT * 2)) if b"\0" not in text][:COUNT]
@@ -294,7 +307,7 @@ def main() -> None:
                            ("latin", texts[:2000]), ("eucjp", [text.decode("latin-1").encode("euc_jp", "ignore") for text in texts[:2000]])):
         print(test_random(database, some))
         print(test_pairs(database, some))
-    for found in (test_encodings(), test_type(), test_order(), test_long(), test_cancelled()):
+    for found in (test_page(), test_encodings(), test_type(), test_order(), test_long(), test_cancelled()):
         print(found)
     psql("utf8", "DROP EXTENSION uri CASCADE")
 

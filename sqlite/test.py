@@ -6,6 +6,7 @@ from __future__ import annotations
 import ctypes
 import os
 import random
+import re
 import sqlite3
 import struct
 import sys
@@ -236,6 +237,25 @@ def test_indexes(db: sqlite3.Connection) -> None:
     assert valid == sorted(valid, reverse=True)
 
 
+def test_page() -> int:
+    """The statements of README.md print what stands there, and its Python runs."""
+    page = os.path.join(os.path.dirname(os.path.abspath(__file__)), "README.md")
+    db = connect()
+    statements = rows.page_statements(page)
+    for statement, wanted in statements:
+        try:
+            found = ["|".join("NULL" if value is None else str(value) for value in row) for row in db.execute(statement)]
+        except sqlite3.Error as error:
+            found = ["error: %s" % error]
+        assert "\n".join(found) == "\n".join(wanted), (statement, found, wanted)
+    with open(page, encoding="utf-8") as file:
+        code, = re.findall(r"^```python\n(.*?)^```$", file.read(), re.MULTILINE | re.DOTALL)
+    other = sqlite3.connect(":memory:")
+    exec(code.replace("sqlite/out/uri0", EXTENSION), {"db": other})
+    assert one(other, "uri_valid('a')") == 1
+    return len(statements)
+
+
 def main() -> None:
     counts: List[str] = []
     for encoding in ("UTF-8", "UTF-16le", "UTF-16be"):
@@ -253,6 +273,7 @@ def main() -> None:
         counts.append("%s: %d rows, %d random texts, %d pairs of their queries, %d pairs in order" % (
             encoding, found, texts, of_queries, pairs))
         db.close()
+    counts.append("%d statements of README.md" % test_page())
     print("; ".join(counts))
 
 
