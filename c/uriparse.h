@@ -145,10 +145,10 @@ uint32_t uriparse_first_fault(const uint8_t *text, size_t len, size_t *place);
 bool uriparse_is_uri(const uint8_t *text, size_t len);
 
 /* Writes to `*equal` whether two references are equal: whether their hosts, if they have any, are of one kind, and
- * their texts, in the form that calls write (see `uriparse_normalize`), differ at most by case in schemes, hosts and
- * hexadecimal digits and by percent-encoding of unreserved characters ("%7e" and "~", but not "%2F" and "/"). Dot
- * segments count: normalize first if they shouldn't, but see the warning at `uriparse_normalize`. If both texts are faulty, the error is the left one's. Does not
- * allocate.
+ * their texts, in the form that calls write (see `uriparse_normalize`), differ at most in the case of schemes, hosts and
+ * hexadecimal digits and in percent-encoding of unreserved characters ("%7e" and "~", but not "%2F" and "/"). Dot
+ * segments count: normalize first if they shouldn't, but see the warning at `uriparse_normalize`. If both texts are
+ * faulty, the error is the left one's. Does not allocate.
  *
  * The caller ensures: each text is readable for its length; `equal` is writable. */
 uint32_t uriparse_equal(const uint8_t *left, size_t left_len, const uint8_t *right, size_t right_len, bool *equal);
@@ -164,13 +164,13 @@ uint32_t uriparse_hash(const uint8_t *text, size_t len, uint64_t *hash);
  * `*needed` its length. If `room` is less, returns URIPARSE_NO_ROOM, and `out` is unchanged. No zero byte follows the
  * text; what follows it in `out` is unchanged. Does not allocate.
  *
- * In each text that is written, also by `uriparse_resolve` and `uriparse_relativize`, a registered scheme is in lower case, a port has no leading
- * zeros, an empty port is left out, an IPv6 address is as RFC 5952 writes it, and an empty path after an authority is
- * "/".
+ * In each text that this call, `uriparse_resolve` and `uriparse_relativize` write, a registered scheme is in lower case, a
+ * port has no leading zeros, an empty port is omitted, an IPv6 address is as RFC 5952 writes it, and an empty path after
+ * an authority is "/".
  *
  * A text doesn't keep the kind of a host. "//%31.2.3.4" has a name, which `uriparse_equal` tells from the address 1.2.3.4;
- * the text of its normal form is "//1.2.3.4", which has the address. So texts of normal forms may be equal where their
- * references are not. To tell such hosts apart, keep the text that was read. Any other text that is written is read back
+ * its normal form has the text "//1.2.3.4", which has the address. So two normal forms may have equal texts although their
+ * references differ. To tell such hosts apart, keep the text that was read. Any other text that is written is read back
  * as what it was written for.
  *
  * The caller ensures: `text` is readable for `len` bytes; `out` is writable for `room` bytes; `needed` is writable. */
@@ -247,11 +247,11 @@ uint32_t uriparse_decode(const uint8_t *text, size_t len, uint8_t *out, size_t r
 uint32_t uriparse_encode(uint32_t component, const uint8_t *bytes, size_t len, uint8_t *out, size_t room,
                          size_t *needed);
 
-/* Writes to `out` the text of a reference, made of any text, as `uriparse_decode` writes: each byte that RFC 3986 doesn't
- * allow where it stands becomes an escape, but for the delimiters of an authority, and all else stays. So the text of a
- * reference stays, and a second call changes nothing. Bytes that aren't ASCII become escapes, as RFC 3987, section 3.1,
- * has it for IRIs in UTF-8, also in the name of a host. A '%' that two hexadecimal digits don't follow becomes "%25". What is written may still be rejected: for its authority, which keeps its delimiters, for
- * too many segments, or by the colon rule. Does not allocate.
+/* Makes a reference of any text and writes it to `out` as `uriparse_decode` does. Each byte that RFC 3986 doesn't allow in its
+ * place is percent-encoded, except the delimiters of an authority; all else stays. So the text of a reference stays, and
+ * a second call changes nothing. Bytes that aren't ASCII are percent-encoded, also in the name of a host, as RFC 3987,
+ * section 3.1, does with IRIs in UTF-8. A '%' without two hexadecimal digits becomes "%25". The result may still be
+ * rejected: for its authority, which keeps its delimiters, for too many segments, or by the colon rule. Does not allocate.
  *
  * The caller ensures: `text` is readable for `len` bytes; `out` is writable for `room` bytes; `needed` is writable. */
 uint32_t uriparse_escape(const uint8_t *text, size_t len, uint8_t *out, size_t room, size_t *needed);
