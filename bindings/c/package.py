@@ -1,4 +1,4 @@
-"""Builds Python's package for `pip install ./c`, with -e too: a wheel of the folder uriparse and of the shared library, which
+"""Builds Python's package for `pip install ./bindings/c`, with -e too: a wheel of the folder uriparse and of the shared library, which
 `make` builds. An sdist has the built library, since its source needs the kit.
 
 It is the backend that pyproject.toml names (PEP 517, PEP 660), and needs nothing but Python and what `make` needs."""
@@ -29,10 +29,10 @@ def in_sdist():
 
 def make(out):
     """Builds the library in a folder."""
-    if not os.path.exists(os.path.join(HERE, "..", "crates", "uriparse_c", "out", "liburiparse_c.a")):
+    if not os.path.exists(os.path.join(HERE, "..", "..", "crates", "uriparse_c", "out", "liburiparse_c.a")):
         raise SystemExit("The library isn't built. Run `(cd crates/uriparse_c && rt lib)` first.")
     if subprocess.run(["make", "-s", "-C", HERE, "OUT=" + out]).returncode:
-        raise SystemExit("`make -C c` failed.")
+        raise SystemExit("`make -C bindings/c` failed.")
 
 
 def libraries():
@@ -45,7 +45,7 @@ def libraries():
 
 
 def license_text():
-    return read("LICENSE") if in_sdist() else read("..", "LICENSE")
+    return read("LICENSE") if in_sdist() else read("..", "..", "LICENSE")
 
 
 def version():

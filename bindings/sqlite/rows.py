@@ -6,7 +6,7 @@ import re
 from typing import Dict, Iterator, List, Optional, Tuple
 from urllib.parse import unquote_to_bytes
 
-TOP = os.path.dirname(os.path.dirname(os.path.abspath(__file__)))
+TOP = os.path.dirname(os.path.dirname(os.path.dirname(os.path.abspath(__file__))))
 RFC_BASE = "http://a/b/c/d;p?q"
 
 _WORD = r"(?:'([^']*)'|(\S+))"
@@ -17,7 +17,7 @@ _REJECTED = re.compile(r"invalid|overflow|too many|schemeless|exceeded|not URI| 
 
 def _lines() -> Iterator[Tuple[str, str]]:
     """The lines of the tests of references, with the names of their files."""
-    folder = os.path.join(TOP, ".ci/tests/references")
+    folder = os.path.join(TOP, "tests/references")
     for name in sorted(os.listdir(folder)):
         with open(os.path.join(folder, name), encoding="utf-8") as file:
             yield from ((name, line.rstrip("\n").rstrip(";").rstrip('"')) for line in file)
@@ -35,7 +35,7 @@ def library_rows() -> Dict[str, List[Tuple[str, ...]]]:
     for name, line in _lines():
         if (row := _ONE.match(line)):
             text, answer = row[2] if row[2] is not None else row[3], _answer(row[4])
-            if row[1] == "check" and name == "references.txt":
+            if row[1] == "check" and name == "references.rt.txt":
                 found["valid" if row[4] == "accepted" else "invalid"].append((text,))
             elif row[1] == "normalize" and answer is not None:
                 found["normal"].append((text, answer))
@@ -49,7 +49,7 @@ def library_rows() -> Dict[str, List[Tuple[str, ...]]]:
 
 def program_rows() -> List[Tuple[str, str, bool]]:
     """Two texts, and whether they are equal, of the program's command `equal`."""
-    with open(os.path.join(TOP, ".ci/tests/program/mod.txt"), encoding="utf-8") as file:
+    with open(os.path.join(TOP, "tests/program/mod.rt.txt"), encoding="utf-8") as file:
         rows = re.findall(r'\(\s*"equal\|([^|"\\]*)\|([^|"\\]*)",\s*0,\s*"(equal|different)\\n"', file.read())
     return [(left, right, answer == "equal") for left, right, answer in rows]
 

@@ -1,6 +1,6 @@
 // Tests of the page in headless Chromium, which is driven over a pipe: each opens a state of its fragment.
 //
-//     node web/page.mjs CHROMIUM MODULE [FOLDER FOR SCREENSHOTS]        (web/run does this)
+//     node bindings/web/page.mjs CHROMIUM MODULE [FOLDER FOR SCREENSHOTS]        (bindings/web/run does this)
 //
 // The status is 2 if the browser has no 64-bit memories.
 import assert from "node:assert/strict";

@@ -1,4 +1,4 @@
-"""What the library for C returns for random texts, as JSON, a list of rows. web/same.mjs compares the module with it."""
+"""What the library for C returns for random texts, as JSON, a list of rows. bindings/web/same.mjs compares the module with it."""
 import json
 import os
 import random

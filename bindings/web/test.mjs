@@ -1,6 +1,6 @@
 // Tests of the module in Node: the rows of the program `uri`, and what only JavaScript has.
 //
-//     node --experimental-wasm-memory64 web/test.mjs MODULE        (web/run does this)
+//     node --experimental-wasm-memory64 bindings/web/test.mjs MODULE        (bindings/web/run does this)
 import assert from "node:assert/strict";
 import { readFile } from "node:fs/promises";
 import { pathToFileURL } from "node:url";
@@ -27,7 +27,7 @@ const uris = await load(pathToFileURL(process.argv[2]));
 // The rows: words separated by bars, the status, the output, the message.
 const STRING = String.raw`"((?:[^"\\]|\\[^])*)"`;
 const ROW = new RegExp(String.raw`\(\s*${STRING},\s*(\d+),\s*${STRING},\s*(?:${STRING}|USAGE),?\s*\)`, "g");
-const source = await readFile(new URL("../.ci/tests/program/mod.txt", import.meta.url), "utf8");
+const source = await readFile(new URL("../../tests/program/mod.rt.txt", import.meta.url), "utf8");
 const unescaped = (text) => text.replace(/\\\n\s*/g, "").replace(/\\n/g, "\n").replace(/\\(.)/g, "$1");
 const rows = [...source.matchAll(ROW)].map(([, words, status, out]) => [unescaped(words).split("|"), Number(status), unescaped(out)]);
 

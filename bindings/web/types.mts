@@ -1,4 +1,4 @@
-// A user of the types, which `web/run` has the TypeScript compiler check without the types of the DOM.
+// A user of the types, which `bindings/web/run` has the TypeScript compiler check without the types of the DOM.
 import { load, isSupported, URIParseError, type Encoded, type Fault, type Pair, type Parts, type Place, type URIs } from "./uriparse.mjs";
 
 async function told(text: string): Promise<string> {

@@ -1,4 +1,4 @@
-// A user of the types with those of the DOM, which `web/run` has the TypeScript compiler check.
+// A user of the types with those of the DOM, which `bindings/web/run` has the TypeScript compiler check.
 import { load, type URIs } from "./uriparse.mjs";
 
 const sources: Parameters<typeof load>[] = [

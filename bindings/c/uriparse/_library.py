@@ -14,8 +14,8 @@ _NAME = "liburiparse.so"
 _LOOPS = "liburiparse_many.so"
 _HERE = os.path.dirname(os.path.abspath(__file__))
 _TREE = os.path.dirname(_HERE)
-_MISSING = ("%s. To build the library, run `(cd crates/uriparse_c && rt lib)`, then `pip install ./c`, or `make -C c` to use "
-            "it from the source tree. To use one that is built, name its file in LIBURIPARSE.")
+_MISSING = ("%s. To build the library, run `(cd crates/uriparse_c && rt lib)`, then `pip install ./bindings/c`, or `make -C bindings/c` to "
+            "use it from the source tree. To use one that is built, name its file in LIBURIPARSE.")
 
 
 def _built(name: str) -> List[str]:

@@ -11,11 +11,11 @@ use Rattle.uriparse.specs.Target.{target}
 use Rattle.uriparse.specs.Uri.{map_error}
 use Rattle.uriparse.specs.declared.uri.error.URIError.{URIError}
 use Rattle.uriparse.specs.declared.uri.error.URIError.TheVariants as uris
-use Rattle.uses.proofs.RedirectLemmas.{resolved, unresolved}
+use Rattle.examples.proofs.RedirectLemmas.{resolved, unresolved}
 use Rattle.uriparse.specs.Escaped.{escaped}
 use Rattle.uriparse.specs.Link.{link}
 use Rattle.uriparse.specs.Reading.{fault}
-use Rattle.uses.specs.Links.{AreLinks, GainsLink, IsRejected, LinksTo, Reaches, Resolves}
+use Rattle.examples.specs.Links.{AreLinks, GainsLink, IsRejected, LinksTo, Reaches, Resolves}
 
 links_append : (base : Parts) (us ls : List Parts) (u l : Parts) → AreLinks base us ls → LinksTo base u l → AreLinks base (us ++ u ∷ []) (ls ++ l ∷ [])
 links_append base [] [] u l h k = (k, tt)

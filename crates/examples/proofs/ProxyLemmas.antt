@@ -7,9 +7,9 @@ use Rattle.uriparse.specs.PathError.TheVariants.{OutOfMemory}
 use Rattle.uriparse.specs.Reference.{Parts}
 use Rattle.uriparse.specs.declared.uri.error.URIError.{URIError}
 use Rattle.uriparse.specs.declared.uri.error.URIError.TheVariants as uris
-use Rattle.uses.specs.declared.proxy.ProxyError.{ProxyError}
-use Rattle.uses.specs.declared.proxy.ProxyError.TheVariants as errors
-use Rattle.uses.specs.Proxy.{IsProxyTarget, IsReason, IsWebScheme}
+use Rattle.examples.specs.declared.proxy.ProxyError.{ProxyError}
+use Rattle.examples.specs.declared.proxy.ProxyError.TheVariants as errors
+use Rattle.examples.specs.Proxy.{IsProxyTarget, IsReason, IsWebScheme}
 
 some_and : {A : Type 0} (P : A → Type 0) (o : Option A) → IsSomeAnd o P → is_some o ≡ true
 some_and P None h = absurd h

@@ -10,10 +10,10 @@ use Rattle.uriparse.specs.Reference.{Parts, Spells}
 use Rattle.uriparse.specs.Target.{target}
 use Rattle.uriparse.specs.declared.uri.error.URIError.{URIError}
 use Rattle.uriparse.specs.declared.uri.error.URIError.TheVariants as uris
-use Rattle.uses.specs.declared.redirects.RedirectError.{RedirectError}
-use Rattle.uses.specs.declared.redirects.RedirectError.TheVariants as errors
-use Rattle.uses.specs.Links.{Resolves}
-use Rattle.uses.specs.Redirects.{GoesTo, IsAt, IsOutOfMemory, IsUnlessWant, Follows, Refuses}
+use Rattle.examples.specs.declared.redirects.RedirectError.{RedirectError}
+use Rattle.examples.specs.declared.redirects.RedirectError.TheVariants as errors
+use Rattle.examples.specs.Links.{Resolves}
+use Rattle.examples.specs.Redirects.{GoesTo, IsAt, IsOutOfMemory, IsUnlessWant, Follows, Refuses}
 
 -- why there is no result
 pub unresolved : (o : Option Parts) (e : URIError) → Resolves o (Err e)

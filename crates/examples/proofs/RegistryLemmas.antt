@@ -3,8 +3,8 @@ use Rattle.std.proofs.Common.{◌≡◌, false, List, [], ◌∷◌, ◌++◌, r
 use Rattle.std.proofs.lemmas.Grind.{common_steps}
 use Rattle.std.proofs.lemmas.List.Folds.{list_any-append}
 use Rattle.uriparse.specs.Reference.{Parts}
-use Rattle.uses.specs.Equal.{is_equal, is_among}
-use Rattle.uses.specs.Registry.{AreDistinct}
+use Rattle.examples.specs.Equal.{is_equal, is_among}
+use Rattle.examples.specs.Registry.{AreDistinct}
 
 pub distinct_more : (ps : List Parts) (q : Parts) → AreDistinct ps → is_among ps q ≡ false → AreDistinct (ps ++ q ∷ [])
 distinct_more [] q d n = (refl, tt)

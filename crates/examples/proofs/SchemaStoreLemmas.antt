@@ -6,7 +6,7 @@ use Rattle.uriparse.specs.Reference.{Parts}
 use Rattle.uriparse.specs.Target.{target}
 use Rattle.uriparse.specs.TargetError.{TargetError}
 use Rattle.uriparse.specs.TargetError.TheVariants.{TooManySegments, OutOfMemory}
-use Rattle.uses.specs.SchemaStore.{IsUntargeted, Schemas, known}
+use Rattle.examples.specs.SchemaStore.{IsUntargeted, Schemas, known}
 
 pub is_none : {X : Type 0} (o : Option X) → is_some o ≡ false → o ≡ None
 is_none None h = refl

@@ -10,8 +10,8 @@ use Rattle.uriparse.specs.declared.uri.error.URIError.TheVariants as uris
 use Rattle.uriparse.specs.Kinds.{fault_of}
 use Rattle.uriparse.specs.Uri.{map_error}
 use Rattle.uriparse.specs.PathError.TheVariants.{OutOfMemory}
-use Rattle.uses.specs.declared.proxy.ProxyError.{ProxyError}
-use Rattle.uses.specs.declared.proxy.ProxyError.TheVariants as errors
+use Rattle.examples.specs.declared.proxy.ProxyError.{ProxyError}
+use Rattle.examples.specs.declared.proxy.ProxyError.TheVariants as errors
 
 -- the scheme has this name, in any case
 abbrev pub IsNamed : List ℕ → Scheme → Type 0

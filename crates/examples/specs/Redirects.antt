@@ -8,8 +8,8 @@ use Rattle.uriparse.specs.Reading.{fault}
 use Rattle.uriparse.specs.Reference.{Parts, Spells}
 use Rattle.uriparse.specs.Target.{target}
 use Rattle.uriparse.specs.declared.uri.error.URIError.TheVariants as uris
-use Rattle.uses.specs.declared.redirects.RedirectError.{RedirectError}
-use Rattle.uses.specs.declared.redirects.RedirectError.TheVariants as errors
+use Rattle.examples.specs.declared.redirects.RedirectError.{RedirectError}
+use Rattle.examples.specs.declared.redirects.RedirectError.TheVariants as errors
 
 -- The text of a Location is a reference, and this is its target against the request's URI.
 abbrev pub GoesTo : Parts → List ℕ → Parts → Type 0

@@ -2,7 +2,7 @@
 use Rattle.std.specs.Prelude.{◌≡◌, false, List, [], ◌∷◌}
 use Rattle.std.specs.List.{list_any}
 use Rattle.uriparse.specs.Reference.{Parts}
-use Rattle.uses.specs.Equal.{is_equal}
+use Rattle.examples.specs.Equal.{is_equal}
 
 -- no identifier equals a later one
 abbrev pub AreDistinct : List Parts → Type 0

@@ -8,7 +8,7 @@ use Rattle.uriparse.specs.Target.{target}
 use Rattle.uriparse.specs.View.{Viewed}
 use Rattle.uriparse.specs.TargetError.{TargetError}
 use Rattle.uriparse.specs.TargetError.TheVariants.{TooManySegments, OutOfMemory}
-use Rattle.uses.specs.Equal.{is_equal}
+use Rattle.examples.specs.Equal.{is_equal}
 
 -- what `Schemas` names in Rust
 abbrev pub Schemas : Type 0

@@ -2,7 +2,7 @@
 use Rattle.std.specs.Prelude.{◌≡◌, ℕ, true, false, List, Option, Some, None, take, slice_get}
 use Rattle.std.specs.Option.{IsSomeAnd}
 use Rattle.uriparse.specs.Reference.{Parts}
-use Rattle.uses.specs.Equal.{is_equal, is_among}
+use Rattle.examples.specs.Equal.{is_equal, is_among}
 
 -- The first URI that equals the wanted one stands at this index.
 pub record IsFirst (uris : List Parts) (wanted : Parts) (index : ℕ) : Type 0 where

@@ -6,7 +6,7 @@
 //! assert!(!leads_to("../a", &host) && !leads_to("https://example.com.evil.org/", &host));
 //! ```
 ghost use Rattle.std.specs.Prelude.{◌↔◌, IsTrue};
-ghost use Rattle.uses.specs.Hosts.{LeadsTo};
+ghost use Rattle.examples.specs.Hosts.{LeadsTo};
 
 use uriparse::{Host, ReferenceView};
 

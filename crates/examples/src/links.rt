@@ -6,7 +6,7 @@ ghost use Rattle.uriparse.specs.Readings.{IsUnless};
 ghost use Rattle.uriparse.specs.Reference.{Parts};
 ghost use Rattle.uriparse.specs.Target.{target};
 ghost use Rattle.uriparse.specs.declared.uri.error.URIError.TheVariants as uris;
-ghost use Rattle.uses.specs.Links.{AreLinks, AreTargets, Gains, GainsLink, IsRefusal, IsRefused, IsRejected, Reaches, Resolves};
+ghost use Rattle.examples.specs.Links.{AreLinks, AreTargets, Gains, GainsLink, IsRefusal, IsRefused, IsRejected, Reaches, Resolves};
 
 use std::alloc::{AllocError, Global};
 use uriparse::{PathError, URI, URIError, URIReference, escape_invalid, trim_link};

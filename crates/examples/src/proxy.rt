@@ -12,8 +12,8 @@ ghost use Rattle.uriparse.specs.PathError.TheVariants.{OutOfMemory};
 ghost use Rattle.uriparse.specs.HostValue.TheVariants.{RegisteredName};
 ghost use Rattle.uriparse.specs.Reference.{Parts, Spells};
 ghost use Rattle.uriparse.specs.declared.uri.error.URIError.TheVariants as uris;
-ghost use Rattle.uses.specs.declared.proxy.ProxyError.TheVariants as errors;
-ghost use Rattle.uses.specs.Proxy.{HasHost, IsProxyTarget, IsReason, IsWebScheme, Refuses};
+ghost use Rattle.examples.specs.declared.proxy.ProxyError.TheVariants as errors;
+ghost use Rattle.examples.specs.Proxy.{HasHost, IsProxyTarget, IsReason, IsWebScheme, Refuses};
 
 use std::alloc::Global;
 use thiserror::Error;

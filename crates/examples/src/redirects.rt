@@ -2,9 +2,9 @@
 ghost use Rattle.std.specs.Prelude.{◌≡◌, ◌↔◌, IsTrue, IfErr, IfOk, MatchResult, Some};
 ghost use Rattle.uriparse.specs.Reference.{Parts};
 ghost use Rattle.uriparse.specs.Target.{target};
-ghost use Rattle.uses.specs.declared.redirects.RedirectError.TheVariants.{Memory};
-ghost use Rattle.uses.specs.Redirects.{GoesTo, IsAt};
-ghost use Rattle.uses.specs.Redirects as spec;
+ghost use Rattle.examples.specs.declared.redirects.RedirectError.TheVariants.{Memory};
+ghost use Rattle.examples.specs.Redirects.{GoesTo, IsAt};
+ghost use Rattle.examples.specs.Redirects as spec;
 
 use std::alloc::{AllocError, Global};
 use thiserror::Error;

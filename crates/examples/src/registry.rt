@@ -1,7 +1,7 @@
 //! A registry of identifiers, none of which is in it twice.
 ghost use Rattle.std.specs.Prelude.{◌≡◌, ◌++◌, ◌∷◌, [], ◌⊎◌, OnOk, OnErr, Ok, Err, false, true};
-ghost use Rattle.uses.specs.Equal.{is_among};
-ghost use Rattle.uses.specs.declared.registry.RegistryError.TheVariants.{Taken, Memory};
+ghost use Rattle.examples.specs.Equal.{is_among};
+ghost use Rattle.examples.specs.declared.registry.RegistryError.TheVariants.{Taken, Memory};
 
 use std::alloc::{AllocFailed, Global};
 use std::marker::Model;
@@ -44,7 +44,7 @@ pub struct Registry<'r> {
 impl<'r> Model for Registry<'r> {
     ghost use Rattle.std.specs.Prelude.{List};
     ghost use Rattle.uriparse.specs.Reference.{Parts};
-    ghost use Rattle.uses.specs.Registry.{AreDistinct};
+    ghost use Rattle.examples.specs.Registry.{AreDistinct};
 
     ghost Value = { List Parts };
 
@@ -54,7 +54,7 @@ impl<'r> Model for Registry<'r> {
 }
 
 impl<'r> Registry<'r> {
-    ghost use Rattle.uses.specs.Registry.{AreDistinct};
+    ghost use Rattle.examples.specs.Registry.{AreDistinct};
 
     /// An empty registry. Does not allocate.
     pub fn new(alloc: Global) -> Registry<'r>

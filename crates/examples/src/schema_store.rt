@@ -5,9 +5,9 @@ ghost use Rattle.uriparse.specs.Reference.{Parts};
 ghost use Rattle.uriparse.specs.Target.{target};
 ghost use Rattle.uriparse.specs.Uri.{base as without_fragment};
 ghost use Rattle.uriparse.specs.TargetError.TheVariants.{OutOfMemory, TooManySegments};
-ghost use Rattle.uses.specs.Equal.{is_equal};
-ghost use Rattle.uses.specs.SchemaStore.{IsUntargeted, known};
-ghost use Rattle.uses.specs.declared.schema_store.SchemaError.TheVariants.{Taken, Memory, Target};
+ghost use Rattle.examples.specs.Equal.{is_equal};
+ghost use Rattle.examples.specs.SchemaStore.{IsUntargeted, known};
+ghost use Rattle.examples.specs.declared.schema_store.SchemaError.TheVariants.{Taken, Memory, Target};
 
 use std::alloc::{AllocFailed, Global};
 use std::collections::HashMap;

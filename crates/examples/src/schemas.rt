@@ -1,5 +1,5 @@
 //! A store of JSON Schemas: which schema a `$ref` names.
-ghost use Rattle.uses.specs.Schemas.{IsLookup};
+ghost use Rattle.examples.specs.Schemas.{IsLookup};
 ghost use Rattle.uriparse.specs.Uri.{base};
 
 use uriparse::URI;

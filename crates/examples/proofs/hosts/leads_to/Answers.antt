@@ -7,8 +7,8 @@ use Rattle.uriparse.specs.Host as host
 use Rattle.uriparse.specs.HostValue.{Host}
 use Rattle.uriparse.specs.Reference.{Parts, Spells, host_of}
 use Rattle.uriparse.specs.View.{Viewed}
-use Rattle.uses.specs.Hosts.{LeadsTo}
-use Rattle.uses.proofs.hosts.leads_to.Goals as goal
+use Rattle.examples.specs.Hosts.{LeadsTo}
+use Rattle.examples.proofs.hosts.leads_to.Goals as goal
 
 ok_is : {A E : Type 0} (x y : A) → ◌≡◌ {A = Result A E} (Ok x) (Ok y) → x ≡ y
 ok_is x y h = cc

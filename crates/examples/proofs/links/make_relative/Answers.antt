@@ -1,5 +1,5 @@
-use Rattle.uses.proofs.LinkLemmas.{links_more}
-use Rattle.uses.proofs.links.make_relative.Goals as goal
+use Rattle.examples.proofs.LinkLemmas.{links_more}
+use Rattle.examples.proofs.links.make_relative.Goals as goal
 
 pub loop-uri-preserved : goal.loop-uri-preserved
 loop-uri-preserved c =

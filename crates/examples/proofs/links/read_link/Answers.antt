@@ -4,9 +4,9 @@ use Rattle.uriparse.specs.Escaped.{escaped}
 use Rattle.uriparse.specs.Link.{link}
 use Rattle.uriparse.specs.Reference.{Spells}
 use Rattle.uriparse.specs.Uri.{map_error}
-use Rattle.uses.proofs.LinkLemmas.{only, reached, rejected, rejected_text, unread_link}
-use Rattle.uses.specs.Links.{IsRejected}
-use Rattle.uses.proofs.links.read_link.Goals as goal
+use Rattle.examples.proofs.LinkLemmas.{only, reached, rejected, rejected_text, unread_link}
+use Rattle.examples.specs.Links.{IsRejected}
+use Rattle.examples.proofs.links.read_link.Goals as goal
 
 pub returns-clause-reached : goal.returns-clause-reached
 returns-clause-reached c =

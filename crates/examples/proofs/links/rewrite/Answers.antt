@@ -1,8 +1,8 @@
 use Rattle.std.proofs.Common.{take}
 use Rattle.uriparse.specs.Target.{target}
-use Rattle.uses.specs.Links.{IsRefusal}
-use Rattle.uses.proofs.ListLemmas.{all_have, images_more, in_place}
-use Rattle.uses.proofs.links.rewrite.Goals as goal
+use Rattle.examples.specs.Links.{IsRefusal}
+use Rattle.examples.proofs.ListLemmas.{all_have, images_more, in_place}
+use Rattle.examples.proofs.links.rewrite.Goals as goal
 
 pub returns-in-Err-clause-refused : goal.returns-in-Err-clause-refused
 returns-in-Err-clause-refused c = record {

@@ -1,5 +1,5 @@
-use Rattle.uses.proofs.ProxyLemmas.{accepted, has_scheme, unread}
-use Rattle.uses.proofs.proxy.proxy_target.Goals as goal
+use Rattle.examples.proofs.ProxyLemmas.{accepted, has_scheme, unread}
+use Rattle.examples.proofs.proxy.proxy_target.Goals as goal
 
 pub returns-in-Ok-clause-only : goal.returns-in-Ok-clause-only
 returns-in-Ok-clause-only c u s p =

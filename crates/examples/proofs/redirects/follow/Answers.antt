@@ -1,5 +1,5 @@
-use Rattle.uses.proofs.RedirectLemmas.{allowed, followed, refused, unread}
-use Rattle.uses.proofs.redirects.follow.Goals as goal
+use Rattle.examples.proofs.RedirectLemmas.{allowed, followed, refused, unread}
+use Rattle.examples.proofs.redirects.follow.Goals as goal
 
 pub returns-in-Ok-clause-followed : goal.returns-in-Ok-clause-followed
 returns-in-Ok-clause-followed c =

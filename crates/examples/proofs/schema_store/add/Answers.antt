@@ -1,9 +1,9 @@
 use Rattle.std.proofs.Common.{rules, ◌≡◌, cond, [], None, Some, IsSome, sym, ap, ◌∙◌, inr}
 use Rattle.uriparse.specs.Uri.{base as without_fragment}
-use Rattle.uses.specs.Equal.{is_equal}
-use Rattle.uses.specs.SchemaStore.{known}
-use Rattle.uses.proofs.SchemaStoreLemmas.{is_none, not_both, one_target, untargeted}
-use Rattle.uses.proofs.schema_store.add.Goals as goal
+use Rattle.examples.specs.Equal.{is_equal}
+use Rattle.examples.specs.SchemaStore.{known}
+use Rattle.examples.proofs.SchemaStoreLemmas.{is_none, not_both, one_target, untargeted}
+use Rattle.examples.proofs.schema_store.add.Goals as goal
 
 pub returns-in_err-uri-clause-taken : goal.returns-in_err-uri-clause-taken
 returns-in_err-uri-clause-taken c t is some =

@@ -1,8 +1,8 @@
 use Rattle.std.proofs.Common.{rules, ◌≡◌, false, subst, sym}
-use Rattle.uses.specs.Equal.{is_among}
-use Rattle.uses.specs.Registry.{AreDistinct}
-use Rattle.uses.proofs.RegistryLemmas.{distinct_more}
-use Rattle.uses.proofs.registry.Registry.insert.Goals as goal
+use Rattle.examples.specs.Equal.{is_among}
+use Rattle.examples.specs.Registry.{AreDistinct}
+use Rattle.examples.proofs.RegistryLemmas.{distinct_more}
+use Rattle.examples.proofs.registry.Registry.insert.Goals as goal
 
 pub invariant_of-self-2 : goal.invariant_of-self-2
 invariant_of-self-2 c =
