@@ -13,8 +13,8 @@ import threading
 import time
 from typing import Any, List, Optional, Tuple
 
-BINDINGS = os.path.dirname(os.path.dirname(os.path.abspath(__file__)))
-sys.path[:0] = [os.path.join(BINDINGS, "c"), os.path.join(BINDINGS, "sqlite")]
+TOP = os.path.dirname(os.path.dirname(os.path.abspath(__file__)))
+sys.path[:0] = [os.path.join(TOP, "c"), os.path.join(TOP, "sqlite")]
 
 import fuzz  # noqa: E402
 import rows  # noqa: E402
@@ -28,7 +28,7 @@ def psql(database: str, *commands: str, data: bytes = b"", check: bool = True) -
     """The rows that the commands print, and what stands on standard error."""
     words = ["psql", "-X", "-q", "-A", "-t", "-F", "\t", "-P", "null=\\N", "-v", "VERBOSITY=verbose", "-d", database]
     if check:
-        words += ["-v", "ON_ERROR_SBINDINGS=1"]
+        words += ["-v", "ON_ERROR_STOP=1"]
     for command in commands:
         words += ["-c", command]
     done = subprocess.run(words, input=data, stdout=subprocess.PIPE, stderr=subprocess.PIPE)

@@ -11,8 +11,8 @@ import struct
 import sys
 from typing import Any, Callable, List, Optional, Tuple
 
-BINDINGS = os.path.dirname(os.path.dirname(os.path.abspath(__file__)))
-sys.path.insert(0, os.path.join(BINDINGS, "c"))
+TOP = os.path.dirname(os.path.dirname(os.path.abspath(__file__)))
+sys.path.insert(0, os.path.join(TOP, "c"))
 
 import fuzz  # noqa: E402
 import rows  # noqa: E402
