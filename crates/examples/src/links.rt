@@ -37,6 +37,17 @@ pub fn read_link(alloc: Global, base: &URI<'_>, link: &[u8]) -> Result<URI<'stat
     target_of(alloc, base, &reference)
 }
 
+/// The target of a link that was read, with texts of its own.
+fn target_of(
+    alloc: Global,
+    base: &URI<'_>,
+    link: &URIReference<'_>,
+) -> Result<URI<'static>, URIError>
+    ensures { Resolves (target base.now link.now) result }
+{
+    Ok(base.resolve(alloc, link)?.into_owned(alloc)?)
+}
+
 /// Where a link of a page leads, or `None` if it leads nowhere, so that a rewriter keeps it as it
 /// stands. Fails only if memory runs out: then nothing is known of the link.
 ///
@@ -58,17 +69,6 @@ pub fn find_target(
         Err(error) if error.is_out_of_memory() => Err(AllocError),
         Err(_) => Ok(None),
     }
-}
-
-/// The target of a link that was read, with texts of its own.
-fn target_of(
-    alloc: Global,
-    base: &URI<'_>,
-    link: &URIReference<'_>,
-) -> Result<URI<'static>, URIError>
-    ensures { Resolves (target base.now link.now) result }
-{
-    Ok(base.resolve(alloc, link)?.into_owned(alloc)?)
 }
 
 /// Where each link of a page leads, in order: its target against the page's base, RFC 3986, section
