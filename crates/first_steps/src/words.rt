@@ -14,7 +14,6 @@ ghost use Rattle.uriparse.specs.Kinds.{IsOfKind, fault_of};
 ghost use Rattle.uriparse.specs.Uri.{base, map_error};
 ghost use Rattle.uriparse.specs.declared.uri.error.URIError.TheVariants as uris;
 ghost use Rattle.uriparse.specs.PathError.TheVariants.{OutOfMemory};
-
 ghost use Rattle.std.specs.Prelude.{true};
 
 use std::alloc::Global;

@@ -27,8 +27,8 @@ use std::alloc::Global;
 use std::io::Write;
 use uriparse::{URIReference, URIView};
 
-/// The command or the option at this place of `uri help`, from 0, or `None` after the last. A table of them all takes the
-/// prover the square of the length of their texts.
+/// The topic of `uri help` with this index, or `None` after the last. A `match`, since the prover takes quadratic time for a
+/// static table.
 pub fn topic(place: usize) -> Option<&'static Topic> {
     match place {
         0 => Some(&parse::ABOUT),

@@ -69,7 +69,10 @@ pub fn pair_fault_offset(line: &[u8]) -> usize {
     let Ok((left, right)) = split_pair(line) else {
         return 0;
     };
-    match (URIReference::first_fault(left), URIReference::first_fault(right)) {
+    match (
+        URIReference::first_fault(left),
+        URIReference::first_fault(right),
+    ) {
         (Some((offset, _)), _) => offset,
         (None, Some((offset, _))) => left.len().saturating_add(1).saturating_add(offset),
         (None, None) => 0,
