@@ -139,7 +139,6 @@ fn append_front(held: &[u8], offset: usize, line: &mut Vec<u8>) -> io::Result<()
 
 /// Reads the next line into the buffer, without its newline, and returns what there was. After the
 /// last line, if no newline ends it, the input has ended and need not be read again.
-#[tactic(auto, using(crate::proofs::LineLemmas::nothing_left))]
 pub fn read_line<I: BufRead>(input: &mut I, line: &mut Vec<u8>) -> io::Result<Next>
     ensures line { OnOk result (IfSome (I.remaining input.old) (λ bytes. line.new.items ≡ first_piece newline bytes)) }
     ensures rest { OnOk result (DropsThrough (I.remaining input.old) (I.remaining input.new) newline) }
