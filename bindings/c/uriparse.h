@@ -1,0 +1,403 @@
+/* URIs and URI references of RFC 3986: read, compare, hash, normalize, resolve, relativize, decode, encode and escape
+ * them, write their origins, and read the pairs of a query. The code behind these calls is proved: it is safe, it
+ * terminates, and it computes what this header says of results, codes and what is written. That no call allocates, and
+ * what it says of threads, signal handlers and the stack, is only tested. README.md says more.
+ *
+ * The library is for Linux on x86-64 processors of level x86-64-v2 or later, those with SSE4.2 and POPCNT. It doesn't
+ * check the processor.
+ *
+ * Texts are bytes with a length in bytes, and need no zero byte at their end. A zero byte in a text is rejected like
+ * any other byte that no URI has. An empty text may be NULL with length 0: the calls below allow it, and `out` too may
+ * be NULL if `room` is 0. Each other pointer is valid and aligned for its type, each text readable for its whole
+ * length, and `out` writable for `room` bytes. A length is at most PTRDIFF_MAX.
+ *
+ * A text isn't written and isn't kept: after the call nothing points into it. Its bytes are initialized, and nothing
+ * changes them during the call, be it another thread, a signal handler or another process that shares the memory: a
+ * call reads a text more than once. What a call writes to (`out`, `needed`, `parts`, `place`, `equal`, `hash`, `pair`)
+ * overlaps no other argument. It need not be initialized, and nothing else uses it during the call. On an error
+ * nothing is written except `*needed`, which becomes 0, or with URIPARSE_NO_ROOM the length of the text, and `*place`.
+ *
+ * There is no state between calls, so calls may run concurrently in any threads. No call allocates, so each may be called
+ * in a signal handler, and in the forked child of a process with threads. A call takes at most 6,144 bytes of stack,
+ * however long its texts are. Not counted is what the dynamic linker takes if it binds a function at its first call: link
+ * with `-Wl,-z,now` to have it bind at the start.
+ *
+ * Limits: a path has at most 1,000,000 segments, a port is at most 65535. */
+#ifndef URIPARSE_H
+#define URIPARSE_H
+
+#include <stdbool.h>
+#include <stddef.h>
+#include <stdint.h>
+
+#define URIPARSE_VERSION "0.3.0"
+
+/* What a call returns. The error of a text is its first one: of the authority (user name, password, host, port), then
+ * of the path, the colon rule, the query, the fragment; and within each of these the leftmost one. `code & 0xf0` names
+ * the component, unless it is 0, and `code & URIPARSE_IN_BASE` is set if `uriparse_resolve` or `uriparse_relativize`
+ * rejects the base. Later versions may add codes. */
+enum uriparse_code {
+  URIPARSE_OK = 0,
+  URIPARSE_OUT_OF_MEMORY = 1,     /* reserved: earlier versions allocated */
+  URIPARSE_NO_ROOM = 2,           /* `room` is too small: `*needed` bytes are enough */
+  URIPARSE_NO_SCHEME = 3,         /* of a base, and of the URI of `uriparse_relativize`: no scheme, and no error but code 4 */
+  URIPARSE_COLON_IN_SEGMENT = 4,  /* without a scheme, a colon precedes the path's first slash: "1:2" */
+  URIPARSE_TOO_MANY_SEGMENTS = 5, /* a path, or the one merged of both, has more than 1,000,000 segments */
+  URIPARSE_NO_COMPONENT = 8,      /* of `uriparse_encode` alone: the number is none of uriparse_component */
+  URIPARSE_NO_ORIGIN = 10,        /* of `uriparse_origin` alone: the reference has no origin */
+
+  URIPARSE_USERNAME_BYTE = 0x11,   /* a byte that no user name has */
+  URIPARSE_USERNAME_ESCAPE = 0x12, /* a '%' that two hexadecimal digits don't follow */
+  URIPARSE_PASSWORD_BYTE = 0x21,
+  URIPARSE_PASSWORD_ESCAPE = 0x22,
+  URIPARSE_HOST_BYTE = 0x31,        /* a byte that no name has, or a '%' that two hexadecimal digits don't follow */
+  URIPARSE_HOST_IPV6_BYTE = 0x32,   /* in brackets, a byte that no IPv6 address has */
+  URIPARSE_HOST_IPV6_FORM = 0x33,   /* in brackets, no form of an IPv6 address */
+  URIPARSE_HOST_FUTURE_BYTE = 0x34, /* in brackets, after 'v', a byte that no address of a later version has */
+  URIPARSE_HOST_FUTURE_FORM = 0x35, /* in brackets, after 'v', no form of such an address */
+  URIPARSE_PORT_BYTE = 0x41,        /* a byte that is no digit */
+  URIPARSE_PORT_RANGE = 0x42,       /* the port is above 65535 */
+  URIPARSE_PATH_BYTE = 0x51,
+  URIPARSE_PATH_ESCAPE = 0x52,
+  URIPARSE_QUERY_BYTE = 0x61,
+  URIPARSE_QUERY_ESCAPE = 0x62,
+  URIPARSE_FRAGMENT_BYTE = 0x71,
+  URIPARSE_FRAGMENT_ESCAPE = 0x72,
+
+  URIPARSE_IN_BASE = 0x100 /* added to a code: it is the base's error */
+};
+
+/* Where a component is: the bytes from text[begin] up to text[end], without text[end]. An absent component has begin
+ * and end 0; one that is present may be empty ("http://h?" has an empty query, "http://h" has none). */
+struct uriparse_span {
+  size_t begin;
+  size_t end;
+  bool present;
+};
+
+enum uriparse_host_kind {
+  URIPARSE_NO_HOST = 0,     /* there is no authority */
+  URIPARSE_HOST_NAME = 1,   /* a registered name, which may be empty */
+  URIPARSE_HOST_IPV4 = 4,
+  URIPARSE_HOST_IPV6 = 6,
+  URIPARSE_HOST_FUTURE = 7  /* an address of a later version, IPvFuture: "[v1.x]" */
+};
+
+/* The components of a reference as its text spells them: without their delimiters (':', "//", '@', '?', '#'), not
+ * decoded and not normalized. An address in brackets has its brackets. `path` is always present, and `host` if
+ * `authority` is. */
+struct uriparse_parts {
+  struct uriparse_span scheme;
+  struct uriparse_span authority;
+  struct uriparse_span username;
+  struct uriparse_span password;
+  struct uriparse_span host;
+  struct uriparse_span port; /* the digits, which may be none: "h:" */
+  struct uriparse_span path;
+  struct uriparse_span query;
+  struct uriparse_span fragment;
+  uint32_t host_kind;   /* one of uriparse_host_kind */
+  uint32_t port_number; /* 0 to 65535; 0 if there are no digits */
+};
+
+/* A pair of a query, as name=value. The places count from the start of the query. */
+struct uriparse_pair {
+  struct uriparse_span name;  /* always present, and may be empty */
+  struct uriparse_span value; /* absent if the pair has no '=' */
+  size_t next;                /* where the next pair begins; after the last pair it is greater than the query's length */
+};
+
+/* What `uriparse_encode` writes. */
+enum uriparse_component {
+  URIPARSE_USERNAME = 0x10,
+  URIPARSE_PASSWORD = 0x20,
+  URIPARSE_SEGMENT = 0x50, /* of a path: a '/' becomes "%2F" */
+  URIPARSE_QUERY = 0x60,
+  URIPARSE_FRAGMENT = 0x70
+};
+
+#ifdef __cplusplus
+namespace uriparse_c {
+extern "C" {
+#endif
+
+/* Reads a URI or a relative reference (RFC 3986, section 4.1), and writes to `*parts` where its components are. The text
+ * is a URI if `parts->scheme.present`. Returns URIPARSE_OK or the text's error. Does not allocate.
+ *
+ * The caller ensures: `text` is readable for `len` bytes; `parts` is writable. */
+uint32_t uriparse_parse(const uint8_t *text, size_t len, struct uriparse_parts *parts);
+
+/* Why a text is no reference, and where: returns the error that `uriparse_parse` returns, and writes to `*place` how many
+ * bytes precede the text's first fault. Returns URIPARSE_OK if the text is a reference, and then leaves `*place` as it
+ * was.
+ *
+ * The place of a wrong byte is its own, of an escape without two digits that of its '%', and of one segment too many that
+ * of the slash before it. An address of a wrong form is wrong at its '[', a port that is too large at its first digit,
+ * and a path with a colon where none may be at its first byte. A place is less than `len`. Reads a faulty text again.
+ * Does not allocate.
+ *
+ * The caller ensures: `text` is readable for `len` bytes; `place` is writable. */
+uint32_t uriparse_first_fault(const uint8_t *text, size_t len, size_t *place);
+
+/* Whether a text is a URI: a reference that has a scheme. Does not allocate.
+ *
+ * The caller ensures: `text` is readable for `len` bytes. */
+bool uriparse_is_uri(const uint8_t *text, size_t len);
+
+/* Writes to `*equal` whether two references are equal: whether their hosts, if they have any, are of one kind, and
+ * their texts, in the form that calls write (see `uriparse_normalize`), differ at most by case in schemes, hosts and
+ * hexadecimal digits and by percent-encoding of unreserved characters ("%7e" and "~", but not "%2F" and "/"). Dot
+ * segments count: normalize first if they shouldn't, but see the warning at `uriparse_normalize`. If both texts are faulty, the error is the left one's. Does not
+ * allocate.
+ *
+ * The caller ensures: each text is readable for its length; `equal` is writable. */
+uint32_t uriparse_equal(const uint8_t *left, size_t left_len, const uint8_t *right, size_t right_len, bool *equal);
+
+/* Writes to `*hash` a hash of a reference: equal references have equal hashes, on every machine and in every run. It is
+ * SipHash-1-3 with both keys 0; the key isn't secret, so it doesn't protect a hash table from texts chosen to collide.
+ * Does not allocate.
+ *
+ * The caller ensures: `text` is readable for `len` bytes; `hash` is writable. */
+uint32_t uriparse_hash(const uint8_t *text, size_t len, uint64_t *hash);
+
+/* Writes to `out` the text of a reference's normal form (section 6.2.2: case, percent-encoding, dot segments), and to
+ * `*needed` its length. If `room` is less, returns URIPARSE_NO_ROOM, and `out` is unchanged. No zero byte follows the
+ * text; what follows it in `out` is unchanged. Does not allocate.
+ *
+ * In each text that is written, also by `uriparse_resolve` and `uriparse_relativize`, a registered scheme is in lower case, a port has no leading
+ * zeros, an empty port is left out, an IPv6 address is as RFC 5952 writes it, and an empty path after an authority is
+ * "/".
+ *
+ * A text doesn't keep the kind of a host. "//%31.2.3.4" has a name, which `uriparse_equal` tells from the address 1.2.3.4;
+ * the text of its normal form is "//1.2.3.4", which has the address. So texts of normal forms may be equal where their
+ * references are not. To tell such hosts apart, keep the text that was read. Any other text that is written is read back
+ * as what it was written for.
+ *
+ * The caller ensures: `text` is readable for `len` bytes; `out` is writable for `room` bytes; `needed` is writable. */
+uint32_t uriparse_normalize(const uint8_t *text, size_t len, uint8_t *out, size_t room, size_t *needed);
+
+/* Resolves a reference against a base (section 5.2.2, strict), and writes the text of the target to `out` as
+ * `uriparse_normalize` does. A base without a scheme is rejected; a base's fragment is ignored. If both texts are
+ * faulty, the error is the base's. Returns URIPARSE_TOO_MANY_SEGMENTS if the merged paths have more segments than a
+ * path may have. Does not allocate.
+ *
+ * The caller ensures: each text is readable for its length; `out` is writable for `room` bytes; `needed` is writable. */
+uint32_t uriparse_resolve(const uint8_t *base, size_t base_len, const uint8_t *text, size_t len, uint8_t *out,
+                          size_t room, size_t *needed);
+
+/* Writes to `out` the text of the reference that leads from a base to a URI, as `uriparse_normalize` does: resolved against
+ * the base, it yields what the URI itself yields, which is the URI again if its path has no dot segments. It is "../g#s" of
+ * "http://a/b/c/d" and "http://a/b/g#s".
+ *
+ * It omits what both have in the same spelling, from the front: the scheme, then the authority, then directories; and the
+ * query if all before it is the same. A relative path has a ".." for each directory of the base that the URI isn't in. Where
+ * none leads there, as to or from a path with dot segments, the reference has the whole path, or the authority or the scheme
+ * too. A base or a URI without a scheme is rejected; a base's fragment is ignored. If both texts are faulty, the
+ * error is the base's. Does not allocate.
+ *
+ * The caller ensures: each text is readable for its length; `out` is writable for `room` bytes; `needed` is writable. */
+uint32_t uriparse_relativize(const uint8_t *base, size_t base_len, const uint8_t *text, size_t len, uint8_t *out,
+                             size_t room, size_t *needed);
+
+/* Writes to `out` the text of the origin of a URI (RFC 6454, sections 4 and 6.2), as `uriparse_normalize` does: its scheme,
+ * its host and, unless that is the scheme's default port, its port. It is "https://example.com" of
+ * "HTTPS://u@EXAMPLE.com:443/b?c". The URIs of one origin have one text; a host is written without IDNA.
+ *
+ * Returns URIPARSE_NO_ORIGIN for a reference that has no scheme, no host or an empty host ("http:///a"), or for which neither
+ * the authority names a port nor the scheme has a default one ("file:///a"). By RFC 6454 such a URI has an origin of its own,
+ * which no other has.
+ *
+ * The text doesn't keep the kind of a host, as with normal forms: "http://%31.2.3.4" has a name and "http://1.2.3.4" an address,
+ * and both have the origin text "http://1.2.3.4". To tell such hosts apart, keep the text that was read. Does not allocate.
+ *
+ * The caller ensures: `text` is readable for `len` bytes; `out` is writable for `room` bytes; `needed` is writable. */
+uint32_t uriparse_origin(const uint8_t *text, size_t len, uint8_t *out, size_t room, size_t *needed);
+
+/* Writes to `*pair` where the pair is that begins at `at` in a query, and where the next one begins. Returns whether there
+ * is one: if `at` is greater than `len` there is none, and `*pair` is unchanged. To read all pairs:
+ *
+ *     struct uriparse_pair pair;
+ *     for (size_t at = 0; uriparse_next_pair(query, len, at, &pair); at = pair.next) { .. }
+ *
+ * The pairs are the pieces between the '&', and the first '=' of a piece ends its name. Each query has a pair at least: that
+ * of an empty piece has an empty name and no value. Names and values are as they stand in the text: `uriparse_decode` reads
+ * each, and leaves a "+" as it is. Any text is cut like that. RFC 3986 knows of such pairs only as a habit (section 3.4).
+ * Reads this pair alone. Does not allocate.
+ *
+ * The caller ensures: `query` is readable for `len` bytes; `pair` is writable. */
+bool uriparse_next_pair(const uint8_t *query, size_t len, size_t at, struct uriparse_pair *pair);
+
+/* Writes to `out` the bytes that the text of a component stands for, and to `*needed` their number: each escape as its
+ * byte, each other byte as it is, so a "+" stays. If `room` is less, returns URIPARSE_NO_ROOM, and `out` is
+ * unchanged. The text is that of a query, as the texts of user names, passwords, names of hosts, paths and fragments are
+ * too; for another text returns URIPARSE_QUERY_BYTE or URIPARSE_QUERY_ESCAPE. Does not allocate.
+ *
+ * Cut a query or a path at its delimiters before you decode its pieces, a query by `uriparse_next_pair`: "%26" and "&"
+ * become the same byte.
+ *
+ * The caller ensures: `text` is readable for `len` bytes; `out` is writable for `room` bytes; `needed` is writable. */
+uint32_t uriparse_decode(const uint8_t *text, size_t len, uint8_t *out, size_t room, size_t *needed);
+
+/* Writes to `out` any bytes as the text of a component, one of uriparse_component, as `uriparse_decode` writes: a byte
+ * that the component may have stays, and each other becomes an escape with upper-case digits, '%' too.
+ * `uriparse_decode` returns the bytes again. In a query '&', '=' and '+' stay. Returns URIPARSE_NO_COMPONENT for another
+ * number. Does not allocate.
+ *
+ * The caller ensures: `bytes` is readable for `len` bytes; `out` is writable for `room` bytes; `needed` is writable. */
+uint32_t uriparse_encode(uint32_t component, const uint8_t *bytes, size_t len, uint8_t *out, size_t room,
+                         size_t *needed);
+
+/* Writes to `out` the text of a reference, made of any text, as `uriparse_decode` writes: each byte that RFC 3986 doesn't
+ * allow where it stands becomes an escape, but for the delimiters of an authority, and all else stays. So the text of a
+ * reference stays, and a second call changes nothing. Bytes that aren't ASCII become escapes, as RFC 3987, section 3.1,
+ * has it for IRIs in UTF-8, also in the name of a host. A '%' that two hexadecimal digits don't follow becomes "%25". What is written may still be rejected: for its authority, which keeps its delimiters, for
+ * too many segments, or by the colon rule. Does not allocate.
+ *
+ * The caller ensures: `text` is readable for `len` bytes; `out` is writable for `room` bytes; `needed` is writable. */
+uint32_t uriparse_escape(const uint8_t *text, size_t len, uint8_t *out, size_t room, size_t *needed);
+
+#ifdef __cplusplus
+} // extern "C"
+} // namespace uriparse_c
+#endif
+
+/* The functions themselves accept no NULL. With what follows, inline functions in C++ and macros in C, each call accepts
+ * NULL with length 0, and a text of any byte type, such as `const char *`. In C++ the functions themselves are in the
+ * namespace `uriparse_c`. */
+#ifdef __cplusplus
+extern "C++" {
+
+/* A pointer for a text, or for a buffer, that isn't NULL. */
+inline const uint8_t *uriparse_text(const void *text) { return static_cast<const uint8_t *>(text ? text : ""); }
+
+inline uint8_t *uriparse_room(void *out) {
+  static uint8_t none;
+  return out ? static_cast<uint8_t *>(out) : &none;
+}
+
+inline uint32_t uriparse_parse(const void *text, size_t len, uriparse_parts *parts) {
+  return uriparse_c::uriparse_parse(uriparse_text(text), len, parts);
+}
+
+inline uint32_t uriparse_first_fault(const void *text, size_t len, size_t *place) {
+  return uriparse_c::uriparse_first_fault(uriparse_text(text), len, place);
+}
+
+inline bool uriparse_is_uri(const void *text, size_t len) {
+  return uriparse_c::uriparse_is_uri(uriparse_text(text), len);
+}
+
+inline uint32_t uriparse_equal(const void *left, size_t left_len, const void *right, size_t right_len, bool *equal) {
+  return uriparse_c::uriparse_equal(uriparse_text(left), left_len, uriparse_text(right), right_len, equal);
+}
+
+inline uint32_t uriparse_hash(const void *text, size_t len, uint64_t *hash) {
+  return uriparse_c::uriparse_hash(uriparse_text(text), len, hash);
+}
+
+inline uint32_t uriparse_normalize(const void *text, size_t len, void *out, size_t room, size_t *needed) {
+  return uriparse_c::uriparse_normalize(uriparse_text(text), len, uriparse_room(out), room, needed);
+}
+
+inline uint32_t uriparse_resolve(const void *base, size_t base_len, const void *text, size_t len, void *out, size_t room,
+                                 size_t *needed) {
+  return uriparse_c::uriparse_resolve(uriparse_text(base), base_len, uriparse_text(text), len, uriparse_room(out), room,
+                                      needed);
+}
+
+inline uint32_t uriparse_relativize(const void *base, size_t base_len, const void *text, size_t len, void *out,
+                                    size_t room, size_t *needed) {
+  return uriparse_c::uriparse_relativize(uriparse_text(base), base_len, uriparse_text(text), len, uriparse_room(out), room,
+                                         needed);
+}
+
+inline uint32_t uriparse_origin(const void *text, size_t len, void *out, size_t room, size_t *needed) {
+  return uriparse_c::uriparse_origin(uriparse_text(text), len, uriparse_room(out), room, needed);
+}
+
+inline bool uriparse_next_pair(const void *query, size_t len, size_t at, uriparse_pair *pair) {
+  return uriparse_c::uriparse_next_pair(uriparse_text(query), len, at, pair);
+}
+
+inline uint32_t uriparse_decode(const void *text, size_t len, void *out, size_t room, size_t *needed) {
+  return uriparse_c::uriparse_decode(uriparse_text(text), len, uriparse_room(out), room, needed);
+}
+
+inline uint32_t uriparse_encode(uint32_t component, const void *bytes, size_t len, void *out, size_t room,
+                                size_t *needed) {
+  return uriparse_c::uriparse_encode(component, uriparse_text(bytes), len, uriparse_room(out), room, needed);
+}
+
+inline uint32_t uriparse_escape(const void *text, size_t len, void *out, size_t room, size_t *needed) {
+  return uriparse_c::uriparse_escape(uriparse_text(text), len, uriparse_room(out), room, needed);
+}
+
+} // extern "C++"
+#else
+/* A pointer for a text, or for a buffer, that isn't NULL. */
+static inline const uint8_t *uriparse_text(const void *text) { return (const uint8_t *)(text ? text : ""); }
+
+static inline uint8_t *uriparse_room(void *out) {
+  static uint8_t none;
+  return out ? (uint8_t *)out : &none;
+}
+
+#define uriparse_parse(text, len, parts) (uriparse_parse)(uriparse_text(text), len, parts)
+#define uriparse_first_fault(text, len, place) (uriparse_first_fault)(uriparse_text(text), len, place)
+#define uriparse_is_uri(text, len) (uriparse_is_uri)(uriparse_text(text), len)
+#define uriparse_equal(left, left_len, right, right_len, equal)                                                        \
+  (uriparse_equal)(uriparse_text(left), left_len, uriparse_text(right), right_len, equal)
+#define uriparse_hash(text, len, hash) (uriparse_hash)(uriparse_text(text), len, hash)
+#define uriparse_normalize(text, len, out, room, needed)                                                               \
+  (uriparse_normalize)(uriparse_text(text), len, uriparse_room(out), room, needed)
+#define uriparse_resolve(base, base_len, text, len, out, room, needed)                                                 \
+  (uriparse_resolve)(uriparse_text(base), base_len, uriparse_text(text), len, uriparse_room(out), room, needed)
+#define uriparse_relativize(base, base_len, text, len, out, room, needed)                                              \
+  (uriparse_relativize)(uriparse_text(base), base_len, uriparse_text(text), len, uriparse_room(out), room, needed)
+#define uriparse_origin(text, len, out, room, needed)                                                                  \
+  (uriparse_origin)(uriparse_text(text), len, uriparse_room(out), room, needed)
+#define uriparse_next_pair(query, len, at, pair) (uriparse_next_pair)(uriparse_text(query), len, at, pair)
+#define uriparse_decode(text, len, out, room, needed)                                                                  \
+  (uriparse_decode)(uriparse_text(text), len, uriparse_room(out), room, needed)
+#define uriparse_encode(component, bytes, len, out, room, needed)                                                      \
+  (uriparse_encode)(component, uriparse_text(bytes), len, uriparse_room(out), room, needed)
+#define uriparse_escape(text, len, out, room, needed)                                                                  \
+  (uriparse_escape)(uriparse_text(text), len, uriparse_room(out), room, needed)
+#endif
+
+/* What a code means, in English. */
+static inline const char *uriparse_error_text(uint32_t code) {
+  switch (code & ~(0u | URIPARSE_IN_BASE)) {
+  case URIPARSE_OK: return "no error";
+  case URIPARSE_OUT_OF_MEMORY: return "out of memory";
+  case URIPARSE_NO_ROOM: return "the buffer is too small";
+  case URIPARSE_NO_SCHEME: return "the scheme is missing";
+  case URIPARSE_COLON_IN_SEGMENT: return "a colon in the first segment of a reference without a scheme";
+  case URIPARSE_TOO_MANY_SEGMENTS: return "the path has too many segments";
+  case URIPARSE_NO_COMPONENT: return "no component has this number";
+  case URIPARSE_NO_ORIGIN: return "the reference has no origin";
+  case URIPARSE_USERNAME_BYTE: return "invalid byte in the user name";
+  case URIPARSE_USERNAME_ESCAPE: return "invalid percent-encoding in the user name";
+  case URIPARSE_PASSWORD_BYTE: return "invalid byte in the password";
+  case URIPARSE_PASSWORD_ESCAPE: return "invalid percent-encoding in the password";
+  case URIPARSE_HOST_BYTE: return "invalid byte or percent-encoding in the host";
+  case URIPARSE_HOST_IPV6_BYTE: return "invalid byte in the IPv6 address";
+  case URIPARSE_HOST_IPV6_FORM: return "invalid form of the IPv6 address";
+  case URIPARSE_HOST_FUTURE_BYTE: return "invalid byte in the IPvFuture address";
+  case URIPARSE_HOST_FUTURE_FORM: return "invalid form of the IPvFuture address";
+  case URIPARSE_PORT_BYTE: return "invalid byte in the port";
+  case URIPARSE_PORT_RANGE: return "the port is above 65535";
+  case URIPARSE_PATH_BYTE: return "invalid byte in the path";
+  case URIPARSE_PATH_ESCAPE: return "invalid percent-encoding in the path";
+  case URIPARSE_QUERY_BYTE: return "invalid byte in the query";
+  case URIPARSE_QUERY_ESCAPE: return "invalid percent-encoding in the query";
+  case URIPARSE_FRAGMENT_BYTE: return "invalid byte in the fragment";
+  case URIPARSE_FRAGMENT_ESCAPE: return "invalid percent-encoding in the fragment";
+  default: return "unknown code";
+  }
+}
+
+/* The version of the header. */
+static inline const char *uriparse_version(void) { return URIPARSE_VERSION; }
+
+#endif

@@ -1,0 +1,315 @@
+"""The extension for PostgreSQL beside Python's package, by psql: `test.py [COUNT of random texts]`.
+
+PGHOST and PGUSER name a server in which databases may be made. Each line that is printed is a test."""
+from __future__ import annotations
+
+import hashlib
+import os
+import random
+import re
+import struct
+import subprocess
+import sys
+import threading
+import time
+from typing import Any, List, Optional, Tuple
+
+TOP = os.path.dirname(os.path.dirname(os.path.abspath(__file__)))
+sys.path[:0] = [os.path.join(TOP, "c"), os.path.join(TOP, "sqlite")]
+
+import fuzz  # noqa: E402
+import rows  # noqa: E402
+import uriparse  # noqa: E402
+
+COUNT = int(sys.argv[1]) if len(sys.argv) > 1 else 20_000
+# What Python calls the encoding of a database that isn't UTF-8.
+CODECS = {"latin": "latin-1", "eucjp": "euc_jp"}
+ONE = ("valid", "fault", "scheme", "authority", "host", "port", "path", "query", "fragment", "normalize", "hash", "origin", "escape")
+
+
+def psql(database: str, *commands: str, data: bytes = b"", check: bool = True) -> Tuple[List[List[Optional[str]]], str]:
+    """The rows that the commands print, and what stands on standard error."""
+    words = ["psql", "-X", "-q", "-A", "-t", "-F", "\t", "-P", "null=\\N", "-v", "VERBOSITY=verbose", "-d", database]
+    if check:
+        words += ["-v", "ON_ERROR_STOP=1"]
+    for command in commands:
+        words += ["-c", command]
+    done = subprocess.run(words, input=data, stdout=subprocess.PIPE, stderr=subprocess.PIPE)
+    assert not check or not done.returncode, done.stderr.decode()
+    lines = done.stdout.decode("latin-1").split("\n")[:-1]
+    return [[None if field == "\\N" else field for field in line.split("\t")] for line in lines], done.stderr.decode()
+
+
+def run(database: str, command: str) -> bytes:
+    """The bytes that a command prints."""
+    return subprocess.run(["psql", "-X", "-q", "-d", database, "-c", command], stdout=subprocess.PIPE, check=True).stdout
+
+
+def one(database: str, expression: str) -> Optional[str]:
+    return psql(database, "SELECT " + expression)[0][0][0]
+
+
+def quoted(text: str) -> str:
+    return "E'%s'" % text.replace("\\", "\\\\").replace("'", "\\'")
+
+
+def error_of(database: str, command: str) -> str:
+    """The SQLSTATE, the message and the detail of the command's error."""
+    lines = psql(database, command, check=False)[1].split("\n")
+    return " / ".join(line for line in lines if line.startswith(("ERROR", "DETAIL")))
+
+
+def shown(value: Any) -> Optional[str]:
+    return value if value is None else value.decode() if isinstance(value, bytes) else str(value)
+
+
+def expected(database: str, text: bytes) -> List[Optional[str]]:
+    """What the functions of ONE return for a text. Its UTF-8 is what is escaped."""
+    codec = CODECS.get(database)
+    escaped = uriparse.escape(text.decode(codec).encode() if codec else text)
+    fault = uriparse.first_fault(text)
+    if fault:
+        return ["f", shown(fault[1]), *[None] * 10, shown(escaped)]
+    found = uriparse.parse(text)
+    signed = struct.unpack("q", struct.pack("Q", uriparse.hash_of(text)))[0]
+    try:
+        origin: Optional[bytes] = uriparse.origin(text)
+    except uriparse.URIError:
+        origin = None
+    values = (found.scheme, found.authority, found.host, found.port_number, found.path, found.query, found.fragment,
+              uriparse.normalize(text), signed, origin, escaped)
+    return ["t", None, *map(shown, values)]
+
+
+def load(database: str, texts: List[bytes]) -> None:
+    """The texts in the table `random`, by their number."""
+    lines = b"".join(b"%d\t%s\n" % (at, text.hex().encode()) for at, text in enumerate(texts))
+    psql(database, "CREATE TABLE bytes (at int, x text)", "COPY bytes FROM STDIN", data=lines)
+    psql(database, "CREATE TABLE random AS SELECT at, convert_from(decode(x, 'hex'), getdatabaseencoding()) AS x FROM bytes")
+
+
+def test_rows(database: str) -> str:
+    found = rows.library_rows()
+    wanted: List[Tuple[str, Optional[str]]] = [("uri_valid(%s)" % quoted(text), "t") for (text,) in found["valid"]]
+    wanted += [("uri_valid(%s)" % quoted(text), "f") for (text,) in found["invalid"]]
+    wanted += [("uri_normalize(%s)" % quoted(text), normal) for text, normal in found["normal"]]
+    wanted += [("uri_resolve(%s, %s)" % (quoted(base), quoted(text)), target)
+               for base, text, target in found["target"] if not base.startswith("a")]
+    for left, right, is_equal in rows.program_rows():
+        wanted.append(("uri_equal(%s, %s)" % (quoted(left), quoted(right)), "t" if is_equal else "f"))
+        wanted.append(("uri %s = uri %s" % (quoted(left), quoted(right)), "t" if is_equal else "f"))
+    wanted += [("uri_origin(%s)" % quoted(text), None) for text in ("file:///a", "http:///a", "http://", "https://u@:443/a")]
+    wanted += [("uri_origin(%s)" % quoted(text), "http://1.2.3.4") for text in ("http://%31.2.3.4", "http://1.2.3.4")]
+    answers = psql(database, *("SELECT " + expression for expression, _ in wanted))[0]
+    for (expression, answer), row in zip(wanted, answers):
+        assert row == [answer], (expression, row, answer)
+    assert len(answers) == len(wanted) > 120
+    return "rows: %d" % len(wanted)
+
+
+def test_random(database: str, texts: List[bytes]) -> str:
+    load(database, texts)
+    calls = ", ".join("uri_%s(x)" % name for name in ONE)
+    for row, text in zip(psql(database, "SELECT %s FROM random ORDER BY at" % calls)[0], texts):
+        assert row == expected(database, text), (text, row, expected(database, text))
+    two = psql(database, "SELECT uri_resolve(a.x, b.x), uri_equal(a.x, b.x) FROM random a JOIN random b ON b.at = a.at + 1 "
+               "ORDER BY a.at")[0]
+    for row, left, right in zip(two, texts, texts[1:]):
+        try:
+            is_equal: Optional[bool] = uriparse.equal(left, right)
+        except uriparse.URIError:
+            is_equal = None
+        try:
+            target: Optional[bytes] = uriparse.resolve(left, right)
+        except uriparse.URIError:
+            target = None
+        assert row == [shown(target), {True: "t", False: "f", None: None}[is_equal]], (left, right, row)
+    # The functions of the type, and the plan in parallel, answer the same.
+    of_text = psql(database, "SELECT md5(string_agg(concat_ws(' ', uri_host(x), uri_path(x), uri_hash(x)), ',' ORDER BY at)) "
+                   "FROM random WHERE uri_valid(x)")[0]
+    of_type = psql(database, "SET force_parallel_mode = on; SET parallel_setup_cost = 0; SET parallel_tuple_cost = 0",
+                   "SELECT md5(string_agg(concat_ws(' ', uri_host(x::uri), uri_path(x::uri), uri_hash(x::uri)), ',' ORDER BY at)) "
+                   "FROM random WHERE uri_valid(x)")[0]
+    assert of_text == of_type
+    return "random texts in %s: %d" % (database, len(texts))
+
+
+def test_encodings() -> str:
+    """Percent-encoding is of UTF-8 in each encoding (RFC 3987, section 3.1). In SQL_ASCII the bytes are taken as they are."""
+    count = 0
+    for database, spelled, escaped in (
+            ("utf8", "\u00e9", "%C3%A9"), ("utf8", "\u65e5", "%E6%97%A5"), ("latin", "\u00e9", "%C3%A9"), ("latin", "\u00ff", "%C3%BF"),
+            ("latin", "http://h/a b?\u00fc%#[x]", "http://h/a%20b?%C3%BC%25#%5Bx%5D"), ("eucjp", "\u65e5", "%E6%97%A5"),
+            ("eucjp", "http://h/\u65e5\u672c?\u30a2 b", "http://h/%E6%97%A5%E6%9C%AC?%E3%82%A2%20b"),
+            ("eucjp", "\u00e9", "%C3%A9"), ("eucjp", "a b", "a%20b"), ("eucjp", "", "")):
+        assert one(database, "uri_escape(convert_from('\\x%s', 'UTF8'))" % spelled.encode().hex()) == escaped, (database, spelled)
+        assert one(database, "uri_valid(uri_escape(convert_from('\\x%s', 'UTF8')))" % spelled.encode().hex()) == "t"
+        count += 1
+    assert one("latin", "uri_escape(chr(233))") == "%C3%A9" and one("ascii", "uri_escape(chr(233))") == "%E9"
+    assert one("eucjp", "uri_escape(convert_from('\\xc6fc', 'EUC_JP'))") == "%E6%97%A5"
+    for database, spelled, size in (("latin", "\u00e9", 2), ("eucjp", "\u65e5", 3)):
+        for length in (512 // size, 513, 2_000_000):
+            assert one(database, "uri_escape(repeat(convert_from('\\x%s', 'UTF8'), %d)) = repeat('%s', %d)" % (
+                spelled.encode().hex(), length, uriparse.escape(spelled.encode()).decode(), length)) == "t", (database, length)
+            count += 1
+    return "escapes of UTF-8 in four encodings: %d" % count
+
+
+def query_of(text: bytes) -> Optional[bytes]:
+    return None if uriparse.first_fault(text) else uriparse.parse(text).query
+
+
+def test_pairs(database: str, texts: List[bytes]) -> str:
+    """The pairs of a reference's query beside the package's, decoded. Names and values may have tabs: their sums are compared."""
+    listed = "(SELECT string_agg(concat(name, '=', coalesce(value, 'NULL')), ' ') FROM uri_pairs(%s))"
+    for text, answer in (("'?a=1&b=%26&c'", "a=1 b=& c=NULL"), ("'http://h/?'", "=NULL"), ("'?%00=%ff&%2500=+'", "%00=%ff %00=+"),
+                         ("'a'", None), ("'?a b'", None), ("NULL::text", None), ("uri '?=a=b'", "=a=b")):
+        assert one(database, listed % text) == answer, text
+    assert one(database, listed % "'?%C3%BC'") == ("\xc3\xbc=NULL" if database == "utf8" else "%C3%BC=NULL")
+    assert one(database, "sum(length(value)) FROM uri_pairs('?' || (SELECT string_agg('n=' || repeat('v', n), '&') FROM "
+               "generate_series(0, 1999) n))") == "1999000"
+    found = psql(database, "SELECT at, md5(name), md5(value) FROM random, uri_pairs(x) WITH ORDINALITY AS p (name, value, place) "
+                 "ORDER BY at, place")[0]
+    wanted = [[str(at), *(piece if piece is None else hashlib.md5(piece.encode()).hexdigest() for piece in pair)]
+              for at, text in enumerate(texts) for pair in rows.decoded_pairs(query_of(text), database != "utf8")]
+    assert found == wanted, database
+    return "pairs of queries in %s: %d" % (database, len(found))
+
+
+def test_type() -> str:
+    assert error_of("utf8", "SELECT uri 'http://h/a b'") == (
+        "ERROR:  22P02: invalid input syntax for type uri: invalid byte in the path / DETAIL:  First wrong byte: 10.")
+    assert error_of("utf8", "SELECT uri_check('%')").endswith("DETAIL:  First wrong byte: 0.")
+    assert error_of("utf8", "SELECT ('http://h/' || chr(252))::uri").endswith("First wrong byte: 9.")
+    assert error_of("utf8", "SELECT uri 'a' = text 'a'").startswith("ERROR:  42883"), "no silent comparison of bytes"
+    psql("utf8", "CREATE TABLE ids (url uri PRIMARY KEY, note text)", "INSERT INTO ids VALUES ('HTTP://h/%7e', 'kept')")
+    assert error_of("utf8", "INSERT INTO ids VALUES ('http://H:/~')").startswith("ERROR:  23505")
+    assert error_of("utf8", "INSERT INTO ids VALUES ('a b')").startswith("ERROR:  22P02")
+    assert error_of("utf8", "INSERT INTO ids SELECT 'x y'::text").startswith("ERROR:  22P02")
+    psql("utf8", "INSERT INTO ids SELECT 'http://h/a/../~'::text")
+    assert psql("utf8", "SELECT url, url::text, note, uri_host(url) FROM ids WHERE url = 'http://h/%7E'")[0] == [
+        ["HTTP://h/%7e", "HTTP://h/%7e", "kept", "h"]]
+    assert one("utf8", "uri '//%31.2.3.4' = uri '//1.2.3.4'") == "f"
+    assert one("utf8", "pg_typeof(uri_resolve(uri 'http://a/b', uri 'c'))::text || uri_resolve(uri 'http://a/b', uri 'c')::text") == (
+        "urihttp://a/c")
+    nulls = ", ".join("uri_%s(NULL::text)" % name for name in (*ONE, "check"))
+    assert psql("utf8", "SELECT " + nulls)[0] == [[None] * 14]
+    assert one("utf8", "count(*) FROM pg_proc WHERE proname ~ '^uri' AND NOT (proisstrict AND provolatile = 'i' "
+               "AND proparallel = 's')") == "0"
+    # Binary copies come in again, and are checked.
+    copied = run("utf8", "COPY ids TO STDOUT (FORMAT binary)")
+    psql("utf8", "CREATE TABLE again (LIKE ids)", "COPY again FROM STDIN (FORMAT binary)", data=copied)
+    assert one("utf8", "count(*) FROM again JOIN ids USING (url) WHERE again.url::text = ids.url::text") == "2"
+    wrong = psql("utf8", "COPY again FROM STDIN (FORMAT binary)", data=copied.replace(b"%7e", b"%7 "), check=False)[1]
+    assert "22P02" in wrong and "First wrong byte: 9." in wrong, wrong
+    return "type: casts, keys, binary copies and errors"
+
+
+def test_order() -> str:
+    """The operators are a total order, in which exactly the equal ones are level; the indexes agree with it."""
+    psql("ascii", "CREATE TABLE few (at int, x uri)", "INSERT INTO few SELECT at, x::uri FROM random WHERE uri_valid(x) AND at < 220",
+         "INSERT INTO few SELECT at + 1000, replace(x::text, 'a', '%61')::uri FROM few WHERE uri_valid(replace(x::text, 'a', '%61'))",
+         "INSERT INTO few VALUES (5000, '//h'), (5001, '//h/'), (5002, '//%31.2.3.4'), (5003, '//1.2.3.4'), (5004, 'a/../b'), (5005, 'b')",
+         "INSERT INTO few VALUES " + ", ".join("(%d, '%s')" % row for row in enumerate(rows.close_texts()[::2], 6000)))
+    # Each text's rank is how many texts precede it: the order is total if the ranks' order is the order of all pairs.
+    psql("ascii", "CREATE TABLE ranks AS SELECT a.at, a.x, (SELECT count(*) FROM few b WHERE b.x < a.x) AS rank FROM few a")
+    row = psql("ascii", "SELECT count(*), count(*) FILTER (WHERE sign(uri_cmp(a.x, b.x)) <> sign(a.rank - b.rank)), count(*) FILTER ("
+               "WHERE (a.x = b.x) <> (a.rank = b.rank) OR (a.x = b.x) <> uri_equal(a.x::text, b.x::text) OR (a.x <> b.x) = (a.x = b.x)"
+               " OR (a.x < b.x) <> (a.rank < b.rank) OR (a.x >= b.x) <> (a.rank >= b.rank) OR (a.x <= b.x) <> (a.rank <= b.rank)"
+               " OR (a.x > b.x) <> (a.rank > b.rank)), count(*) FILTER (WHERE a.x = b.x AND a.at <> b.at) FROM ranks a, ranks b")[0][0]
+    pairs, wrong, odd, level = map(int, row)  # type: ignore[arg-type]
+    assert wrong == odd == 0 and pairs > 40_000 and level > 100, row
+    psql("ascii", "CREATE TABLE valid AS SELECT at, x::uri AS x FROM random WHERE uri_valid(x)", "CREATE INDEX by_order ON valid (x)",
+         "CREATE INDEX by_hash ON valid USING hash (x)", "CREATE INDEX by_normal ON random (uri_normalize(x))", "ANALYZE valid",
+         "CREATE EXTENSION IF NOT EXISTS amcheck", "SELECT bt_index_check('by_order', true)")
+    joined = set()
+    for kind in ("hashjoin", "mergejoin", "nestloop"):
+        off = "; ".join("SET enable_%s = %s" % (name, "on" if name == kind else "off") for name in ("hashjoin", "mergejoin", "nestloop"))
+        query = "FROM valid a JOIN few b ON a.x = b.x"
+        plan = str(psql("ascii", off, "EXPLAIN SELECT count(*) " + query)[0])
+        assert {"hashjoin": "Hash Join", "mergejoin": "Merge Join", "nestloop": "Nested Loop"}[kind] in plan, plan
+        joined.add(str(psql("ascii", off, "SELECT count(*), sum(a.at), sum(b.at) " + query)[0]))
+    assert len(joined) == 1, joined
+    plan = str(psql("ascii", "SET enable_seqscan = off", "EXPLAIN SELECT * FROM random WHERE uri_normalize(x) = 's:'")[0])
+    assert "by_normal" in plan, plan
+    return "order: %d pairs, %d of them level; three kinds of joins agree" % (pairs, level)
+
+
+def test_long() -> str:
+    """Texts of no byte, and of 10 MB."""
+    assert psql("utf8", "SELECT uri_valid(''), uri_path(''), uri_normalize(''), uri_host('//')")[0] == [["t", "", "", ""]]
+    for size in (1015, 1016, 1023, 1024, 1025, 10_000_000):
+        psql("utf8", "DROP TABLE IF EXISTS long", "CREATE TABLE long AS SELECT repeat('a', %d) AS x" % size)
+        row = psql("utf8", "SELECT uri_path('S:/' || x) = '/' || x, uri_normalize('S:/%61/../' || x) = 's:/' || x, "
+                   "uri_resolve('http://h/', x) = 'http://h/' || x, uri_escape(x || ' ') = x || '%20', uri_fault(x || ' ') = length(x), "
+                   "('S:' || x)::uri = ('s:%61' || substr(x, 2))::uri, uri_cmp(('S:' || x)::uri, ('s:%61' || substr(x, 2))::uri) = 0, "
+                   "('S:' || x)::uri < ('s:' || x || 'a')::uri FROM long")[0]
+        assert row == [["t"] * 8], (size, row)
+    # Stored compressed, and out of line.
+    psql("utf8", "CREATE TABLE stored (x uri)",
+         "INSERT INTO stored SELECT ('s:' || repeat('ab', n))::uri FROM generate_series(1, 9000, 900) n",
+         "INSERT INTO stored SELECT x FROM stored")
+    assert one("utf8", "count(*) FROM (SELECT DISTINCT x FROM stored) d") == "10"
+    return "texts of 0 to 10,000,000 bytes"
+
+
+def test_cancelled() -> str:
+    """A query and the build of an index are cancelled midway; the backend and the table work on."""
+    psql("utf8", "CREATE TABLE many AS SELECT ('HTTP://h/%7e/../' || n)::uri AS x FROM generate_series(1, 200000) n")
+    said: List[str] = []
+
+    def work() -> None:
+        found, errors = psql(
+            "utf8", "SET application_name = 'victim'", "SELECT count(uri_normalize(a.x)) FROM many a, many b",
+            "SELECT pg_backend_pid() > 0, uri_normalize('HTTP://h/%7e')", check=False)
+        said.extend((str(found), errors))
+
+    thread = threading.Thread(target=work)
+    thread.start()
+    cancelled = None
+    for _ in range(100):
+        time.sleep(0.1)
+        cancelled = psql("utf8", "SELECT pg_cancel_backend(pid) FROM pg_stat_activity WHERE application_name = 'victim' "
+                         "AND query LIKE '%count(uri_normalize%' AND clock_timestamp() - query_start > interval '300 ms'")[0]
+        if cancelled:
+            break
+    thread.join(60)
+    assert cancelled == [["t"]] and said[0] == "[['t', 'http://h/~']]" and "57014" in said[1], said
+    errors = psql("utf8", "SET statement_timeout = '50ms'", "CREATE UNIQUE INDEX one ON many (x)", check=False)[1]
+    assert "57014" in errors, errors
+    psql("utf8", "CREATE UNIQUE INDEX one ON many (x)")
+    assert one("utf8", "x::text FROM many WHERE x = 'http://H/~/../77'") == "HTTP://h/%7e/../77"
+    return "a query and an index cancelled midway"
+
+
+def test_page() -> str:
+    """The statements of README.md print what stands there."""
+    psql("postgres", "CREATE DATABASE page TEMPLATE template0 ENCODING 'UTF8'")
+    statements = rows.page_statements(os.path.join(os.path.dirname(os.path.abspath(__file__)), "README.md"))
+    for statement, wanted in statements:
+        found, errors = psql("page", statement, check=False)
+        lines = ["|".join("NULL" if field is None else field for field in row) for row in found]
+        lines += ["error: " + text for text in re.findall("^ERROR:  [0-9A-Z]{5}: (.*)$", errors, re.MULTILINE)]
+        assert lines == wanted, (statement, lines, errors, wanted)
+    return "README.md: %d statements" % len(statements)
+
+
+def main() -> None:
+    draw = random.Random(6)
+    texts = [text for text in (fuzz.some_text(draw) for _ in range(COUNT * 2)) if b"\0" not in text][:COUNT]
+    psql("postgres", "CREATE DATABASE utf8 TEMPLATE template0 ENCODING 'UTF8'",
+         "CREATE DATABASE ascii TEMPLATE template0 ENCODING 'SQL_ASCII'", "CREATE DATABASE latin TEMPLATE template0 ENCODING 'LATIN1'",
+         "CREATE DATABASE eucjp TEMPLATE template0 ENCODING 'EUC_JP'")
+    for database in ("utf8", "ascii", "latin", "eucjp"):
+        psql(database, "CREATE EXTENSION uri")
+    print(test_rows("utf8"))
+    for database, some in (("ascii", texts), ("utf8", [text.decode("utf-8", "replace").encode() for text in texts[:2000]]),
+                           ("latin", texts[:2000]), ("eucjp", [text.decode("latin-1").encode("euc_jp", "ignore") for text in texts[:2000]])):
+        print(test_random(database, some))
+        print(test_pairs(database, some))
+    for found in (test_page(), test_encodings(), test_type(), test_order(), test_long(), test_cancelled()):
+        print(found)
+    psql("utf8", "DROP EXTENSION uri CASCADE")
+
+
+main()

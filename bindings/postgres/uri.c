@@ -1,0 +1,460 @@
+/* Functions and a type for the URIs of RFC 3986 in PostgreSQL, by the library for C. README.md lists them.
+ *
+ * A value of the type `uri` is stored as a text, so each function of a text takes one too. */
+#include "postgres.h"
+
+#include "access/htup_details.h"
+#include "common/hashfn.h"
+#include "fmgr.h"
+#include "funcapi.h"
+#include "libpq/pqformat.h"
+#include "mb/pg_wchar.h"
+#include "utils/builtins.h"
+
+#include "order.h"
+#include "pairs.h"
+#include "uriparse.h"
+
+PG_MODULE_MAGIC;
+
+/* Texts and results up to this length are held on the stack. */
+enum { SHORT = 1024 };
+
+struct bytes {
+	const char *at;
+	size_t		len;
+	text	   *value;
+};
+
+/* An argument's text. It may point into a page: it isn't written. */
+static struct bytes
+argument(FunctionCallInfo fcinfo, int index)
+{
+	text	   *value = PG_GETARG_TEXT_PP(index);
+
+	return (struct bytes) {VARDATA_ANY(value), VARSIZE_ANY_EXHDR(value), value};
+}
+
+/* Frees the copy of an argument that was stored compressed or elsewhere. */
+static void
+release(FunctionCallInfo fcinfo, int index, struct bytes text)
+{
+	PG_FREE_IF_COPY(text.value, index);
+}
+
+static bool
+is_reference(struct bytes text, struct uriparse_parts *parts)
+{
+	return uriparse_parse(text.at, text.len, parts) == URIPARSE_OK;
+}
+
+/* Raises the error of a text that is no reference. */
+static void
+demand_reference(const char *at, size_t len)
+{
+	size_t		place;
+	uint32_t	code = uriparse_first_fault(at, len, &place);
+
+	if (code != URIPARSE_OK)
+		ereport(ERROR,
+				(errcode(ERRCODE_INVALID_TEXT_REPRESENTATION),
+				 errmsg("invalid input syntax for type uri: %s", uriparse_error_text(code)),
+				 errdetail("First wrong byte: %zu.", place)));
+}
+
+/* The functions of a component: NULL if it is absent, or the text is no reference. */
+#define COMPONENT(name) \
+	PG_FUNCTION_INFO_V1(uri_##name); \
+	Datum uri_##name(PG_FUNCTION_ARGS) \
+	{ \
+		struct bytes text = argument(fcinfo, 0); \
+		struct uriparse_parts parts; \
+		if (!is_reference(text, &parts) || !parts.name.present) \
+			PG_RETURN_NULL(); \
+		PG_RETURN_TEXT_P(cstring_to_text_with_len(text.at + parts.name.begin, parts.name.end - parts.name.begin)); \
+	}
+
+COMPONENT(scheme)
+COMPONENT(authority)
+COMPONENT(host)
+COMPONENT(path)
+COMPONENT(query)
+COMPONENT(fragment)
+
+PG_FUNCTION_INFO_V1(uri_port);
+Datum
+uri_port(PG_FUNCTION_ARGS)
+{
+	struct uriparse_parts parts;
+
+	if (!is_reference(argument(fcinfo, 0), &parts) || parts.port.begin == parts.port.end)
+		PG_RETURN_NULL();
+	PG_RETURN_INT32(parts.port_number);
+}
+
+PG_FUNCTION_INFO_V1(uri_valid);
+Datum
+uri_valid(PG_FUNCTION_ARGS)
+{
+	struct bytes text = argument(fcinfo, 0);
+	size_t		place;
+
+	PG_RETURN_BOOL(uriparse_first_fault(text.at, text.len, &place) == URIPARSE_OK);
+}
+
+PG_FUNCTION_INFO_V1(uri_fault);
+Datum
+uri_fault(PG_FUNCTION_ARGS)
+{
+	struct bytes text = argument(fcinfo, 0);
+	size_t		place;
+
+	if (uriparse_first_fault(text.at, text.len, &place) == URIPARSE_OK)
+		PG_RETURN_NULL();
+	PG_RETURN_INT32(place);
+}
+
+PG_FUNCTION_INFO_V1(uri_equal);
+Datum
+uri_equal(PG_FUNCTION_ARGS)
+{
+	struct bytes left = argument(fcinfo, 0),
+				right = argument(fcinfo, 1);
+	bool		is_equal;
+
+	if (uriparse_equal(left.at, left.len, right.at, right.len, &is_equal) != URIPARSE_OK)
+		PG_RETURN_NULL();
+	PG_RETURN_BOOL(is_equal);
+}
+
+PG_FUNCTION_INFO_V1(uri_hash);
+Datum
+uri_hash(PG_FUNCTION_ARGS)
+{
+	struct bytes text = argument(fcinfo, 0);
+	uint64_t	hash;
+
+	if (uriparse_hash(text.at, text.len, &hash) != URIPARSE_OK)
+		PG_RETURN_NULL();
+	PG_RETURN_INT64((int64) hash);
+}
+
+/* A call of the library that writes a text, of one text or of two. */
+typedef uint32_t writer(const struct bytes *texts, char *out, size_t room, size_t *needed);
+
+static uint32_t
+write_normal(const struct bytes *texts, char *out, size_t room, size_t *needed)
+{
+	return uriparse_normalize(texts[0].at, texts[0].len, out, room, needed);
+}
+
+static uint32_t
+write_target(const struct bytes *texts, char *out, size_t room, size_t *needed)
+{
+	return uriparse_resolve(texts[0].at, texts[0].len, texts[1].at, texts[1].len, out, room, needed);
+}
+
+static uint32_t
+write_escaped(const struct bytes *texts, char *out, size_t room, size_t *needed)
+{
+	return uriparse_escape(texts[0].at, texts[0].len, out, room, needed);
+}
+
+static uint32_t
+write_origin(const struct bytes *texts, char *out, size_t room, size_t *needed)
+{
+	return uriparse_origin(texts[0].at, texts[0].len, out, room, needed);
+}
+
+/* What the call writes; NULL if it rejects a text. */
+static Datum
+written_of(FunctionCallInfo fcinfo, writer *write, const struct bytes *texts)
+{
+	char		room[SHORT];
+	size_t		needed;
+	uint32_t	code;
+	text	   *result;
+
+	code = write(texts, room, sizeof room, &needed);
+	if (code != URIPARSE_OK && code != URIPARSE_NO_ROOM)
+		PG_RETURN_NULL();
+	result = palloc(needed + VARHDRSZ);
+	SET_VARSIZE(result, needed + VARHDRSZ);
+	if (code == URIPARSE_OK)
+		memcpy(VARDATA(result), room, needed);
+	else if (write(texts, VARDATA(result), needed, &needed) != URIPARSE_OK)
+		PG_RETURN_NULL();
+	PG_RETURN_TEXT_P(result);
+}
+
+/* The same of the arguments. */
+static Datum
+written(FunctionCallInfo fcinfo, writer *write)
+{
+	struct bytes texts[2];
+
+	for (int i = 0; i < PG_NARGS(); i++)
+		texts[i] = argument(fcinfo, i);
+	return written_of(fcinfo, write, texts);
+}
+
+/* A text in UTF-8, whose bytes percent-encoding stands for (RFC 3987, section 3.1). SQL_ASCII is no encoding: there the bytes are
+ * taken as they are. A character that UTF-8 doesn't have is an error. */
+static struct bytes
+in_utf8(struct bytes text)
+{
+	int			encoding = GetDatabaseEncoding();
+
+	if (encoding == PG_UTF8 || encoding == PG_SQL_ASCII || pairs_are_ascii(text.at, text.len))
+		return text;
+	text.at = (const char *) pg_do_encoding_conversion((unsigned char *) text.at, (int) text.len, encoding, PG_UTF8);
+	text.len = strlen(text.at);
+	return text;
+}
+
+PG_FUNCTION_INFO_V1(uri_normalize);
+Datum
+uri_normalize(PG_FUNCTION_ARGS)
+{
+	return written(fcinfo, write_normal);
+}
+
+PG_FUNCTION_INFO_V1(uri_resolve);
+Datum
+uri_resolve(PG_FUNCTION_ARGS)
+{
+	return written(fcinfo, write_target);
+}
+
+PG_FUNCTION_INFO_V1(uri_escape);
+Datum
+uri_escape(PG_FUNCTION_ARGS)
+{
+	struct bytes text = in_utf8(argument(fcinfo, 0));
+
+	return written_of(fcinfo, write_escaped, &text);
+}
+
+PG_FUNCTION_INFO_V1(uri_origin);
+Datum
+uri_origin(PG_FUNCTION_ARGS)
+{
+	return written(fcinfo, write_origin);
+}
+
+/* The pairs of a query that are left. */
+struct pairs {
+	char	   *query;
+	size_t		len;
+	size_t		at;
+};
+
+/* At the first call: a copy of the query of a reference, or NULL if there is none. */
+static struct pairs *
+all_pairs(FunctionCallInfo fcinfo)
+{
+	struct bytes text = argument(fcinfo, 0);
+	struct uriparse_parts parts;
+	struct pairs *pairs = NULL;
+
+	if (is_reference(text, &parts) && parts.query.present)
+	{
+		pairs = palloc(sizeof *pairs);
+		pairs->at = 0;
+		pairs->len = parts.query.end - parts.query.begin;
+		pairs->query = palloc(pairs->len + 1);
+		memcpy(pairs->query, text.at + parts.query.begin, pairs->len);
+	}
+	release(fcinfo, 0, text);
+	return pairs;
+}
+
+/* A name or a value, decoded. In a database of another encoding than UTF-8 this has ASCII alone. */
+static Datum
+decoded(const struct pairs *pairs, struct uriparse_span span)
+{
+	size_t		len = span.end - span.begin;
+	text	   *result = palloc(len + VARHDRSZ);
+
+	len = pairs_read(pairs->query + span.begin, len, GetDatabaseEncoding() != PG_UTF8, VARDATA(result));
+	SET_VARSIZE(result, len + VARHDRSZ);
+	return PointerGetDatum(result);
+}
+
+/* A row for each pair of the query. */
+PG_FUNCTION_INFO_V1(uri_pairs);
+Datum
+uri_pairs(PG_FUNCTION_ARGS)
+{
+	FuncCallContext *context;
+	struct pairs *pairs;
+	struct uriparse_pair pair;
+	Datum		values[2] = {0, 0};
+	bool		nulls[2] = {false, false};
+
+	if (SRF_IS_FIRSTCALL())
+	{
+		MemoryContext before;
+
+		context = SRF_FIRSTCALL_INIT();
+		before = MemoryContextSwitchTo(context->multi_call_memory_ctx);
+		if (get_call_result_type(fcinfo, NULL, &context->tuple_desc) != TYPEFUNC_COMPOSITE)
+			elog(ERROR, "uri_pairs returns rows");
+		context->tuple_desc = BlessTupleDesc(context->tuple_desc);
+		context->user_fctx = all_pairs(fcinfo);
+		MemoryContextSwitchTo(before);
+	}
+	context = SRF_PERCALL_SETUP();
+	pairs = context->user_fctx;
+	if (!pairs || !uriparse_next_pair(pairs->query, pairs->len, pairs->at, &pair))
+		SRF_RETURN_DONE(context);
+	pairs->at = pair.next;
+	values[0] = decoded(pairs, pair.name);
+	if (pair.value.present)
+		values[1] = decoded(pairs, pair.value);
+	else
+		nulls[1] = true;
+	SRF_RETURN_NEXT(context, HeapTupleGetDatum(heap_form_tuple(context->tuple_desc, values, nulls)));
+}
+
+/* The type. */
+
+PG_FUNCTION_INFO_V1(uri_in);
+Datum
+uri_in(PG_FUNCTION_ARGS)
+{
+	char	   *string = PG_GETARG_CSTRING(0);
+	size_t		len = strlen(string);
+
+	demand_reference(string, len);
+	PG_RETURN_TEXT_P(cstring_to_text_with_len(string, len));
+}
+
+PG_FUNCTION_INFO_V1(uri_recv);
+Datum
+uri_recv(PG_FUNCTION_ARGS)
+{
+	StringInfo	message = (StringInfo) PG_GETARG_POINTER(0);
+	int			len;
+	char	   *string = pq_getmsgtext(message, message->len - message->cursor, &len);
+
+	demand_reference(string, len);
+	PG_RETURN_TEXT_P(cstring_to_text_with_len(string, len));
+}
+
+/* The text itself, if it is a reference; else an error. */
+PG_FUNCTION_INFO_V1(uri_check);
+Datum
+uri_check(PG_FUNCTION_ARGS)
+{
+	struct bytes text = argument(fcinfo, 0);
+
+	demand_reference(text.at, text.len);
+	PG_RETURN_DATUM(PG_GETARG_DATUM(0));
+}
+
+static void *
+allocate(size_t size)
+{
+	return palloc(size);
+}
+
+static int
+compare_references(const struct bytes *texts)
+{
+	struct order_text values[2];
+	int			order;
+
+	for (int i = 0; i < 2; i++)
+	{
+		values[i].at = texts[i].at;
+		values[i].len = texts[i].len;
+		if (!is_reference(texts[i], &values[i].parts))
+			elog(ERROR, "value of type uri is no reference");
+	}
+	if (!order_references(&values[0], &values[1], allocate, pfree, &order))
+		elog(ERROR, "values of type uri have no order");
+	return order;
+}
+
+/* The sign of the order of two values. Equal texts are equal. */
+static int
+compare(FunctionCallInfo fcinfo)
+{
+	struct bytes texts[2] = {argument(fcinfo, 0), argument(fcinfo, 1)};
+	int			order = order_bytes(texts[0].at, texts[0].len, texts[1].at, texts[1].len);
+
+	if (order)
+		order = compare_references(texts);
+	release(fcinfo, 0, texts[0]);
+	release(fcinfo, 1, texts[1]);
+	return order;
+}
+
+#define COMPARISON(name, type, answer) \
+	PG_FUNCTION_INFO_V1(uri_##name); \
+	Datum uri_##name(PG_FUNCTION_ARGS) { int order = compare(fcinfo); PG_RETURN_##type(answer); }
+
+COMPARISON(cmp, INT32, order)
+COMPARISON(lt, BOOL, order < 0)
+COMPARISON(le, BOOL, order <= 0)
+COMPARISON(gt, BOOL, order > 0)
+COMPARISON(ge, BOOL, order >= 0)
+
+static bool
+are_equal(FunctionCallInfo fcinfo)
+{
+	struct bytes left = argument(fcinfo, 0),
+				right = argument(fcinfo, 1);
+	bool		is_equal;
+
+	if (uriparse_equal(left.at, left.len, right.at, right.len, &is_equal) != URIPARSE_OK)
+		elog(ERROR, "value of type uri is no reference");
+	release(fcinfo, 0, left);
+	release(fcinfo, 1, right);
+	return is_equal;
+}
+
+PG_FUNCTION_INFO_V1(uri_eq);
+Datum
+uri_eq(PG_FUNCTION_ARGS)
+{
+	PG_RETURN_BOOL(are_equal(fcinfo));
+}
+
+PG_FUNCTION_INFO_V1(uri_ne);
+Datum
+uri_ne(PG_FUNCTION_ARGS)
+{
+	PG_RETURN_BOOL(!are_equal(fcinfo));
+}
+
+static uint64
+hash_of(FunctionCallInfo fcinfo)
+{
+	struct bytes text = argument(fcinfo, 0);
+	uint64_t	hash;
+
+	if (uriparse_hash(text.at, text.len, &hash) != URIPARSE_OK)
+		elog(ERROR, "value of type uri is no reference");
+	release(fcinfo, 0, text);
+	return hash;
+}
+
+/* For hash indexes and joins: the low half of the hash, and a hash with a seed whose low half that is if the seed is 0. */
+PG_FUNCTION_INFO_V1(uri_hash_value);
+Datum
+uri_hash_value(PG_FUNCTION_ARGS)
+{
+	PG_RETURN_INT32((int32) hash_of(fcinfo));
+}
+
+PG_FUNCTION_INFO_V1(uri_hash_extended);
+Datum
+uri_hash_extended(PG_FUNCTION_ARGS)
+{
+	uint64		seed = PG_GETARG_INT64(1),
+				hash = hash_of(fcinfo);
+
+	PG_RETURN_INT64((int64) (seed ? hash_combine64(hash, seed) : hash));
+}

@@ -1,0 +1,91 @@
+/** Where a component begins and ends in a text, as indices, or null if it is absent. */
+export type Place = [begin: number, end: number] | null;
+
+export type Component = "scheme" | "authority" | "username" | "password" | "host" | "port" | "path" | "query" | "fragment";
+
+/** A URI or a relative reference, by its components as they stand in the text. */
+export interface Parts {
+  text: string;
+  scheme: string | null;
+  username: string | null;
+  password: string | null;
+  /** With its brackets, if it has any. */
+  host: string | null;
+  host_kind: "name" | "ipv4" | "ipv6" | "ipvfuture" | null;
+  port: number | null;
+  path: string;
+  query: string | null;
+  fragment: string | null;
+  /** The parts of the path between its slashes; the empty path and "/" have one empty segment. */
+  segments: string[];
+  /** Where each component is, as indices into the text. */
+  places: Record<Component, Place>;
+}
+
+/** Why a text is no reference, and the index of the character that this is about. */
+export interface Fault {
+  code: number;
+  component: Component | null;
+  message: string;
+  place: number;
+}
+
+/** Why a text is rejected. Its message says why and where. */
+export class URIParseError extends Error {
+  private constructor();
+  /** A code of `uriparse.h`. */
+  readonly code: number;
+  readonly component: Component | null;
+  /** An index into the text; 0 if no character of it is wrong, as in a base without a scheme. */
+  readonly place: number;
+  /** The text that is rejected. */
+  readonly text: string;
+  /** Which text of the call it is; the URI of `relativize` is its reference. */
+  readonly argument: "text" | "base" | "reference" | "left" | "right";
+  /** Whether it is the base of `resolve` or `relativize`. */
+  readonly inBase: boolean;
+}
+
+/** What bytes are encoded as. */
+export type Encoded = "username" | "password" | "segment" | "query" | "fragment";
+
+/** A string, or an object that has one, such as a `URL`. Another value is a `TypeError`. */
+export type Input = string | { readonly href: string };
+
+/** A pair of a query, as it stands in the text: `decode` reads both. The value is null if the pair has no "=". */
+export type Pair = [name: string, value: string | null];
+
+/** The calls. A string or a result that is longer than the memory or a string can be is a `RangeError`. */
+export interface URIs {
+  parse(text: Input): Parts;
+  fault(text: Input): Fault | null;
+  isURI(text: Input): boolean;
+  equal(left: Input, right: Input): boolean;
+  hash(text: Input): bigint;
+  normalize(text: Input): string;
+  resolve(base: Input, reference: Input): string;
+  relativize(base: Input, uri: Input): string;
+  /** A URI without a host, or with an empty one, has no origin. The name "%31.2.3.4" and the address "1.2.3.4" have one text. */
+  origin(text: Input): string;
+  /** A lone surrogate is a `TypeError`. */
+  escape(text: Input): string;
+  /** A lone surrogate is a `TypeError`. */
+  pairs(query: Input): Pair[];
+  /** A lone surrogate is a `TypeError`. */
+  encode(component: Encoded, text: Input): string;
+  decode(text: Input): Uint8Array;
+}
+
+/** Whether there are 64-bit WebAssembly memories here. */
+export function isSupported(): boolean;
+
+// The types of the platform, if the program has them: not every one has those of the DOM.
+type Response = typeof globalThis extends { Response: { prototype: infer It } } ? It : never;
+type URL = typeof globalThis extends { URL: { prototype: infer It } } ? It : never;
+type Module = typeof globalThis extends { WebAssembly: { Module: { prototype: infer It } } } ? It : never;
+
+/** What the module is loaded from: its URL, a response with it, its bytes, or the module itself. */
+export type Source = string | URL | Response | ArrayBuffer | ArrayBufferView | Module;
+
+/** Loads the module, by default `uriparse.wasm` beside this file. */
+export function load(source?: Source | Promise<Source>): Promise<URIs>;

@@ -1,0 +1,439 @@
+// URIs and URI references of RFC 3986, read, compared, normalized, resolved and escaped by proved code in WebAssembly.
+//
+//     import { load } from "./uriparse.mjs";
+//     const uris = await load();                   // uriparse.wasm beside this file
+//     uris.normalize("HTTP://h/a/../%7Eb");        // "http://h/~b"
+//
+// It needs a browser or a runtime with WebAssembly memories of 64-bit addresses: `isSupported()` says whether it is one.
+
+const CODES = {
+  3: ["scheme", "the scheme is missing"],
+  4: ["path", "a colon in the first segment of a reference without a scheme"],
+  5: ["path", "the path has too many segments"],
+  8: [null, "no component has this number"],
+  10: [null, "the reference has no origin"],
+  0x11: ["username", "invalid byte in the user name"],
+  0x12: ["username", "invalid percent-encoding in the user name"],
+  0x21: ["password", "invalid byte in the password"],
+  0x22: ["password", "invalid percent-encoding in the password"],
+  0x31: ["host", "invalid byte or percent-encoding in the host"],
+  0x32: ["host", "invalid byte in the IPv6 address"],
+  0x33: ["host", "invalid form of the IPv6 address"],
+  0x34: ["host", "invalid byte in the IPvFuture address"],
+  0x35: ["host", "invalid form of the IPvFuture address"],
+  0x41: ["port", "invalid byte in the port"],
+  0x42: ["port", "the port is above 65535"],
+  0x51: ["path", "invalid byte in the path"],
+  0x52: ["path", "invalid percent-encoding in the path"],
+  0x61: ["query", "invalid byte in the query"],
+  0x62: ["query", "invalid percent-encoding in the query"],
+  0x71: ["fragment", "invalid byte in the fragment"],
+  0x72: ["fragment", "invalid percent-encoding in the fragment"],
+};
+
+const NO_ROOM = 2;
+const IN_BASE = 0x100;
+const HOST_KINDS = { 1: "name", 4: "ipv4", 6: "ipv6", 7: "ipvfuture" };
+const ENCODED = { username: 0x10, password: 0x20, segment: 0x50, query: 0x60, fragment: 0x70 };
+const COMPONENTS = ["scheme", "authority", "username", "password", "host", "port", "path", "query", "fragment"];
+
+// Where the module's struct of components has its fields, in words of 32 bits. An index into a text in memory fits in one
+// word, so only the low word of its two is read.
+const BEGIN = 0;
+const END = 2;
+const IS_PRESENT = 4;
+const SPAN = 6;
+const HOST_KIND = COMPONENTS.length * SPAN;
+const PORT = HOST_KIND + 1;
+const PARTS = 4 * (PORT + 1);
+
+// The same of its struct of a pair.
+const NAME = 0;
+const VALUE = SPAN;
+const NEXT = 2 * SPAN;
+
+const WORD = 16;
+const PAGE = 65536;
+
+// A larger memory is given up at the next call that needs fewer bytes than this, or less than an eighth of the memory. A call
+// needs at most four times what its strings may take, so calls with strings of one length keep their memory.
+const LARGE = 2 ** 24;
+const SPARE = 8;
+
+// The smallest module with a memory of 64-bit addresses.
+const PROBE = new Uint8Array([0, 97, 115, 109, 1, 0, 0, 0, 5, 3, 1, 4, 1]);
+
+// The component that a code is about, and what it means.
+function meaning(code) {
+  return CODES[code & ~IN_BASE] ?? [null, `unknown code ${code}`];
+}
+
+/** Why a text is rejected. */
+export class URIParseError extends Error {
+  constructor(code, place, text, argument = "text") {
+    const [component, message] = meaning(code);
+    const one = argument === "text" ? "" : `${argument}: `;
+    super(`${one}${message}${place === null ? "" : `, at index ${place}`}`);
+    this.name = "URIParseError";
+    this.code = code;
+    this.component = component;
+    this.place = place ?? 0;
+    this.text = text;
+    this.argument = argument;
+    this.inBase = argument === "base";
+  }
+}
+
+/** Whether this browser or runtime has WebAssembly memories of 64-bit addresses. */
+export function isSupported() {
+  return typeof WebAssembly === "object" && WebAssembly.validate(PROBE);
+}
+
+// A text as a string: that of a URL is its `href`.
+function textOf(value) {
+  const text = value?.href ?? value;
+  if (typeof text !== "string") {
+    throw new TypeError(`a text is a string or a URL, not ${value === null ? "null" : typeof value}`);
+  }
+  return text;
+}
+
+// A text that UTF-8 can encode.
+function wellFormed(value) {
+  const text = textOf(value);
+  const place = text.search(/\p{Surrogate}/u);
+  if (place >= 0) {
+    throw new TypeError(`a lone surrogate at index ${place}`);
+  }
+  return text;
+}
+
+async function bytesOf(source) {
+  if (source instanceof URL || typeof source === "string") {
+    const url = new URL(source, globalThis.document?.baseURI ?? globalThis.location?.href ?? import.meta.url);
+    // Node has no `fetch` of files. An import of its module would stop bundlers for browsers.
+    const files = url.protocol === "file:" && globalThis.process?.getBuiltinModule?.("node:fs/promises");
+    if (files) {
+      return files.readFile(url);
+    }
+    source = await fetch(url);
+  }
+  if (typeof Response === "function" && source instanceof Response) {
+    if (!source.ok) {
+      throw new Error(`${source.url}: ${source.status} ${source.statusText}`);
+    }
+    return source.arrayBuffer();
+  }
+  return source;
+}
+
+// The address of the module beside this file, which bundles that aren't modules don't know.
+function besideThis() {
+  if (!import.meta.url) {
+    throw new Error("this bundle doesn't know its own address: call load with that of uriparse.wasm");
+  }
+  return new URL("./uriparse.wasm", import.meta.url);
+}
+
+/** Loads the module: from a URL, a Response, its bytes, or a WebAssembly.Module. */
+export async function load(source) {
+  if (!isSupported()) {
+    const flag = globalThis.process?.versions?.node ? ": start Node with --experimental-wasm-memory64" : "";
+    throw new Error(`64-bit WebAssembly is not supported here${flag}`);
+  }
+  const bytes = await bytesOf((await source) ?? besideThis());
+  const module = bytes instanceof WebAssembly.Module ? bytes : await WebAssembly.compile(bytes);
+  return new URIs(module, await WebAssembly.instantiate(module, {}));
+}
+
+/** The calls of a loaded module. Texts are strings; a place is an index into the string. */
+class URIs {
+  #module;
+  #calls;
+  #memory;
+  #base;
+  #bytes = new Uint8Array();
+  #words = new Uint32Array();
+  #encoder = new TextEncoder();
+  #decoder = new TextDecoder("utf-8", { ignoreBOM: true });
+
+  constructor(module, instance) {
+    this.#module = module;
+    this.#start(instance);
+  }
+
+  #start({ exports }) {
+    this.#calls = exports;
+    this.#memory = exports.memory;
+    this.#base = rounded(Number(exports.__heap_base.value));
+  }
+
+  // Makes the memory large enough, and views it. If it can't be, the instance starts again with a small one.
+  #view(end) {
+    const missing = Math.ceil((end - this.#memory.buffer.byteLength) / PAGE);
+    try {
+      if (missing > 0) {
+        grow(this.#memory, missing);
+      }
+      if (this.#bytes.buffer !== this.#memory.buffer) {
+        this.#bytes = new Uint8Array(this.#memory.buffer);
+        this.#words = new Uint32Array(this.#memory.buffer);
+      }
+    } catch (cause) {
+      this.#restart();
+      throw tooLong(`the call needs ${end} bytes of memory`, cause);
+    }
+  }
+
+  // Gives the memory up for a small one.
+  #restart() {
+    this.#bytes = new Uint8Array();
+    this.#words = new Uint32Array();
+    this.#start(new WebAssembly.Instance(this.#module, {}));
+  }
+
+  // Writes the UTF-8 of a text to the memory, and returns its length. The view ends where a text of this length must: Node's
+  // `encodeInto` writes nothing, and throws nothing, if its view has 2 GiB or more.
+  #encode(text, at) {
+    const { read, written } = this.#encoder.encodeInto(text, this.#bytes.subarray(at, at + 3 * text.length));
+    if (read !== text.length) {
+      this.#restart();
+      throw tooLong(`${read} of the ${text.length} units of a string were encoded`);
+    }
+    return written;
+  }
+
+  // The string of bytes that are ASCII. Node's decoder returns the empty string for 2 GiB or more.
+  #string(bytes) {
+    let string;
+    let cause;
+    try {
+      string = this.#decoder.decode(bytes);
+    } catch (error) {
+      cause = error;
+    }
+    if (string?.length !== bytes.length) {
+      this.#restart();
+      throw tooLong(`the result has ${bytes.length} bytes`, cause);
+    }
+    return string;
+  }
+
+  // Writes texts one after another. Returns their places and lengths, and a place after them with room for numbers.
+  #put(...texts) {
+    const end = this.#base + texts.reduce((sum, text) => sum + 3 * text.length, 2 * WORD + PARTS);
+    const size = this.#memory.buffer.byteLength;
+    if (size > LARGE && (end < LARGE || SPARE * end < size)) {
+      this.#restart();
+    }
+    this.#view(end);
+    const spans = [];
+    let next = this.#base;
+    for (const text of texts) {
+      const written = this.#encode(text, next);
+      spans.push(BigInt(next), BigInt(written));
+      next += written;
+    }
+    return { spans, next: rounded(next) };
+  }
+
+  #word(at) {
+    return this.#words[at / 4];
+  }
+
+  // A length, which may need both its words.
+  #length(at) {
+    return this.#word(at) + 2 ** 32 * this.#word(at + 4);
+  }
+
+  // The error of a text with this code: the place is that of its first fault, if the text alone is at fault.
+  #error(code, text, argument) {
+    return new URIParseError(code, this.fault(text)?.place ?? null, text, argument);
+  }
+
+  /** The components of a reference, as they stand in its text, and their places. Absent ones are null. */
+  parse(text) {
+    text = textOf(text);
+    const { spans, next } = this.#put(text);
+    const code = this.#calls.uriparse_parse(spans[0], spans[1], BigInt(next));
+    if (code !== 0) {
+      throw this.#error(code, text);
+    }
+    const words = this.#words;
+    const first = next / 4;
+    const places = {};
+    const found = {};
+    let at = first;
+    for (const name of COMPONENTS) {
+      const place = words[at + IS_PRESENT] & 0xff ? [words[at + BEGIN], words[at + END]] : null;
+      places[name] = place;
+      found[name] = place && text.slice(place[0], place[1]);
+      at += SPAN;
+    }
+    return {
+      text,
+      scheme: found.scheme,
+      username: found.username,
+      password: found.password,
+      host: found.host,
+      host_kind: HOST_KINDS[words[first + HOST_KIND]] ?? null,
+      port: found.port ? words[first + PORT] : null,
+      path: found.path,
+      query: found.query,
+      fragment: found.fragment,
+      segments: (found.path[0] === "/" ? found.path.slice(1) : found.path).split("/"),
+      places,
+    };
+  }
+
+  /** Why a text is no reference and where, or null if it is one. */
+  fault(text) {
+    text = textOf(text);
+    const { spans, next } = this.#put(text);
+    const code = this.#calls.uriparse_first_fault(spans[0], spans[1], BigInt(next));
+    if (code === 0) {
+      return null;
+    }
+    const before = this.#bytes.subarray(this.#base, this.#base + this.#word(next));
+    const [component, message] = meaning(code);
+    return { code, component, message, place: this.#decoder.decode(before).length };
+  }
+
+  /** Whether a text is a URI: a reference with a scheme. */
+  isURI(text) {
+    const { spans } = this.#put(textOf(text));
+    return this.#calls.uriparse_is_uri(spans[0], spans[1]) !== 0;
+  }
+
+  /** Whether two references differ at most by percent-encoding and case where these mean nothing. */
+  equal(left, right) {
+    left = textOf(left);
+    right = textOf(right);
+    const { spans, next } = this.#put(left, right);
+    const code = this.#calls.uriparse_equal(...spans, BigInt(next));
+    if (code !== 0) {
+      throw this.fault(left) ? this.#error(code, left, "left") : this.#error(code, right, "right");
+    }
+    return this.#bytes[next] !== 0;
+  }
+
+  /** A hash, as a BigInt: equal references have equal hashes, on every machine. */
+  hash(text) {
+    text = textOf(text);
+    const { spans, next } = this.#put(text);
+    const code = this.#calls.uriparse_hash(spans[0], spans[1], BigInt(next));
+    if (code !== 0) {
+      throw this.#error(code, text);
+    }
+    return (BigInt(this.#word(next + 4)) << 32n) | BigInt(this.#word(next));
+  }
+
+  // The bytes that a call writes for these texts, which stay until the next call, or the code that it returns.
+  #answer(call, texts, ...first) {
+    const { spans, next } = this.#put(...texts);
+    const out = next + WORD;
+    let room = 2 * texts.reduce((sum, text) => sum + text.length, 0) + 64;
+    for (;;) {
+      this.#view(out + room);
+      const code = this.#calls[call](...first, ...spans, BigInt(out), BigInt(room), BigInt(next));
+      const needed = this.#length(next);
+      if (code !== NO_ROOM) {
+        return { code, bytes: this.#bytes.subarray(out, out + needed) };
+      }
+      room = needed;
+    }
+  }
+
+  // The text that a call writes for these texts.
+  #written(call, texts, ...first) {
+    const { code, bytes } = this.#answer(call, texts, ...first);
+    if (code !== 0) {
+      const [text, argument] = texts.length === 1 ? texts : code & IN_BASE ? [texts[0], "base"] : [texts[1], "reference"];
+      throw this.#error(code, text, argument);
+    }
+    return this.#string(bytes);
+  }
+
+  /** The text of the normal form: RFC 3986, section 6.2.2. */
+  normalize(text) {
+    return this.#written("uriparse_normalize", [textOf(text)]);
+  }
+
+  /** The text of the target of a reference against a base: section 5.2.2. */
+  resolve(base, reference) {
+    return this.#written("uriparse_resolve", [textOf(base), textOf(reference)]);
+  }
+
+  /** The text of the reference that leads from a base to a URI: resolved against the base, it yields what the URI yields. */
+  relativize(base, uri) {
+    return this.#written("uriparse_relativize", [textOf(base), textOf(uri)]);
+  }
+
+  /** The text of a reference, made of any text: with escapes for what may not stand where it does. */
+  escape(text) {
+    return this.#written("uriparse_escape", [wellFormed(text)]);
+  }
+
+  /** The text of the origin of a URI: RFC 6454, section 6.2. A name such as "%31.2.3.4" and the address "1.2.3.4" have one. */
+  origin(text) {
+    return this.#written("uriparse_origin", [textOf(text)]);
+  }
+
+  /** The pairs of a query: the pieces between its "&", each a name and, after its first "=", a value or null. */
+  pairs(query) {
+    const { spans, next } = this.#put(wellFormed(query));
+    const first = next / 4;
+    const words = this.#words;
+    const found = [];
+    let at = 0n;
+    while (this.#calls.uriparse_next_pair(...spans, at, BigInt(next)) !== 0) {
+      const [name, value] = [first + NAME, first + VALUE].map((span) => (words[span + IS_PRESENT] & 0xff
+        ? this.#decoder.decode(this.#bytes.subarray(this.#base + words[span + BEGIN], this.#base + words[span + END])) : null));
+      found.push([name, value]);
+      at = BigInt(words[first + NEXT]);
+    }
+    return found;
+  }
+
+  /** The UTF-8 of a string as the text of a component: "username", "password", "segment", "query" or "fragment". */
+  encode(component, text) {
+    if (!Object.hasOwn(ENCODED, component)) {
+      throw new TypeError(`no component that is encoded is ${component}`);
+    }
+    return this.#written("uriparse_encode", [wellFormed(text)], ENCODED[component]);
+  }
+
+  /** The bytes that the text of a component stands for. */
+  decode(text) {
+    text = textOf(text);
+    const { code, bytes } = this.#answer("uriparse_decode", [text]);
+    if (code !== 0) {
+      const [query] = text.split("#");
+      const fault = this.fault(`?${query}`);
+      throw new URIParseError(code, fault ? fault.place - 1 : query.length, text);
+    }
+    return bytes.slice();
+  }
+}
+
+// The next place where any number may stand.
+function rounded(at) {
+  return Math.ceil(at / WORD) * WORD;
+}
+
+// The error of a text or a result that is longer than the engine can hold.
+function tooLong(why, cause) {
+  return new RangeError(`the text is too long: ${why}`, cause && { cause });
+}
+
+// Adds pages. Engines differ in the type of the count.
+function grow(memory, pages) {
+  try {
+    memory.grow(BigInt(pages));
+  } catch (error) {
+    if (!(error instanceof TypeError)) {
+      throw error;
+    }
+    memory.grow(pages);
+  }
+}
