@@ -4,8 +4,8 @@
  *   cc -O2 -o peers bench/peers.c $(pkg-config --cflags --libs uriparse liburiparser glib-2.0 libcurl)
  *   ./peers links
  *
- * A line printed is a job, a library and the nanoseconds of the processor for one link: the median of 41 turns, in each of
- * which every call goes once over all links. Resolved are the links without scheme and host, with `..` in front. */
+ * It prints lines for bench/results.tsv: a job, a library and the nanoseconds of the processor for one link, the median of 41
+ * turns, in each of which every call goes once over all links. What it resolves is `..` and what follows a link's host. */
 #define _GNU_SOURCE
 #include <curl/curl.h>
 #include <glib.h>
@@ -27,7 +27,7 @@ static size_t read_here(void) {
   size_t done = 0;
   for (size_t i = 0; i < count; i++) {
     struct uriparse_parts parts;
-    done += uriparse_parse((const uint8_t *)links[i], link_lengths[i], &parts) == URIPARSE_OK;
+    done += uriparse_parse(links[i], link_lengths[i], &parts) == URIPARSE_OK;
   }
   return done;
 }
@@ -68,9 +68,9 @@ static size_t read_curl(void) {
 
 static size_t normalize_here(void) {
   size_t done = 0, needed;
-  uint8_t out[ROOM];
+  char out[ROOM];
   for (size_t i = 0; i < count; i++)
-    done += uriparse_normalize((const uint8_t *)links[i], link_lengths[i], out, ROOM, &needed) == URIPARSE_OK;
+    done += uriparse_normalize(links[i], link_lengths[i], out, ROOM, &needed) == URIPARSE_OK;
   return done;
 }
 
@@ -90,9 +90,9 @@ static size_t normalize_uriparser(void) {
 
 static size_t resolve_here(void) {
   size_t done = 0, needed;
-  uint8_t out[ROOM];
+  char out[ROOM];
   for (size_t i = 0; i < count; i++)
-    done += uriparse_resolve((const uint8_t *)BASE, sizeof BASE - 1, (const uint8_t *)references[i],
+    done += uriparse_resolve(BASE, sizeof BASE - 1, references[i],
                              reference_lengths[i], out, ROOM, &needed) == URIPARSE_OK;
   return done;
 }
@@ -144,11 +144,16 @@ static const struct {
   const char *job, *library;
   size_t (*run)(void);
 } CALLS[] = {
-    {"read", "uriparse", read_here},           {"read", "uriparser", read_uriparser},
-    {"read", "GLib", read_glib},               {"read", "libcurl", read_curl},
-    {"normalize", "uriparse", normalize_here}, {"normalize", "uriparser", normalize_uriparser},
-    {"resolve", "uriparse", resolve_here},     {"resolve", "uriparser", resolve_uriparser},
-    {"resolve", "GLib", resolve_glib},         {"resolve", "libcurl", resolve_curl},
+    {"C: read, ns", "uriparse", read_here},
+    {"C: read, ns", "uriparser", read_uriparser},
+    {"C: read, ns", "GLib", read_glib},
+    {"C: read, ns", "libcurl", read_curl},
+    {"C: normalize, ns", "uriparse", normalize_here},
+    {"C: normalize, ns", "uriparser", normalize_uriparser},
+    {"C: resolve, ns", "uriparse", resolve_here},
+    {"C: resolve, ns", "uriparser", resolve_uriparser},
+    {"C: resolve, ns", "GLib", resolve_glib},
+    {"C: resolve, ns", "libcurl", resolve_curl},
 };
 enum { CALL_COUNT = sizeof CALLS / sizeof *CALLS };
 
@@ -198,7 +203,8 @@ int main(int words, char **word) {
     }
   for (int call = 0; call < CALL_COUNT; call++) {
     qsort(times[call], TURNS, sizeof(double), compare);
-    printf("%s\t%s\t%.0f\n", CALLS[call].job, CALLS[call].library, times[call][TURNS / 2]);
+    printf("%s\t%s\t%.0f%s\n", CALLS[call].job, CALLS[call].library, times[call][TURNS / 2],
+           strcmp(CALLS[call].library, "uriparse") ? "" : "\tours");
   }
   return 0;
 }

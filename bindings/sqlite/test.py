@@ -251,7 +251,7 @@ def test_page() -> int:
     with open(page, encoding="utf-8") as file:
         code, = re.findall(r"^```python\n(.*?)^```$", file.read(), re.MULTILINE | re.DOTALL)
     other = sqlite3.connect(":memory:")
-    exec(code.replace("sqlite/out/uri0", EXTENSION), {"db": other})
+    exec(code.replace("bindings/sqlite/out/uri0", EXTENSION), {"db": other})
     assert one(other, "uri_valid('a')") == 1
     return len(statements)
 
