@@ -53,7 +53,7 @@ def version():
 
 
 def metadata():
-    """The core metadata: what pyproject.toml says, which has a value in one line for each key, then README.md."""
+    """The core metadata: what pyproject.toml says, which has a value in one line for each key, then the page of the package."""
     project = dict(re.findall(r'^([\w-]+) = "(.*)"$', read("pyproject.toml").decode(), re.MULTILINE))
     lines = (
         "Metadata-Version: 2.4", "Name: " + project["name"], "Version: " + version(), "Summary: " + project["description"],
@@ -107,7 +107,7 @@ def build_editable(wheel_directory, config_settings=None, metadata_directory=Non
 
 
 def build_sdist(sdist_directory, config_settings=None):
-    files = {name: read(name) for name in ("pyproject.toml", "package.py", "README.md", "test.py", *MODULES)}
+    files = {name: read(name) for name in ("pyproject.toml", "package.py", "uriparse/README.md", "test.py", *MODULES)}
     files.update({"LICENSE": license_text(), "PKG-INFO": metadata(), **libraries()})
     base = "%s-%s" % (NAME, version())
     with tarfile.open(os.path.join(sdist_directory, base + ".tar.gz"), "w:gz", format=tarfile.PAX_FORMAT) as archive:

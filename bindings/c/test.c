@@ -355,12 +355,19 @@ int main(void) {
   has_origin("ftp://[0:0:0:0:0:0:0:1]:21", "ftp://[::1]");
   has_origin("X-a://[V1.B]:0", "x-a://[v1.b]:0");
   has_origin("http://1.2.3.4:65535", "http://1.2.3.4:65535");
-  has_origin("http://", "http://");
+  /* A text doesn't keep the kind of a host: a name and an address have one origin text. */
+  has_origin("http://%31.2.3.4", "http://1.2.3.4");
+  has_origin("http://1.2.3.4", "http://1.2.3.4");
   has_no_origin("file:///a", URIPARSE_NO_ORIGIN);
   has_no_origin("mailto:a@example.com", URIPARSE_NO_ORIGIN);
   has_no_origin("x-a://h", URIPARSE_NO_ORIGIN);
   has_no_origin("//h:80", URIPARSE_NO_ORIGIN);
   has_no_origin("", URIPARSE_NO_ORIGIN);
+  /* RFC 9110, section 4.2.1: an empty host is invalid. */
+  has_no_origin("http:///a", URIPARSE_NO_ORIGIN);
+  has_no_origin("http://", URIPARSE_NO_ORIGIN);
+  has_no_origin("http://u@:80/a", URIPARSE_NO_ORIGIN);
+  has_no_origin("HTTPS://:/", URIPARSE_NO_ORIGIN);
   has_no_origin("http://h:65536", URIPARSE_PORT_RANGE);
   has_no_origin("1:2", URIPARSE_COLON_IN_SEGMENT);
 

@@ -40,6 +40,12 @@ static std::string encode(uint32_t component, const std::string &bytes) {
   return out;
 }
 
+static std::string host_of(const std::string &text) {
+  uriparse_parts parts;
+  if (uriparse_parse(text.data(), text.size(), &parts) != URIPARSE_OK || !parts.host.present) return "";
+  return text.substr(parts.host.begin, parts.host.end - parts.host.begin);
+}
+
 bool wrapped_is_uri(const char *text, size_t len);
 
 // A name is one like any other: it may be qualified, its address taken, and another class may have it.
@@ -84,6 +90,7 @@ int main() {
   uriparse_parts parts;
   check(uriparse_parse(text.data(), text.size(), &parts) == URIPARSE_OK, "parse");
   check(cut(text, parts.host) == "example.com" && cut(text, parts.password) == "absent", "host");
+  check(host_of(text) == "example.com" && host_of("a").empty() && host_of("%").empty(), "host_of");
   check(parts.host_kind == URIPARSE_HOST_NAME && parts.port_number == 80, "kind and port");
   check(uriparse_is_uri(text.data(), text.size()), "is_uri");
   check(normalize("HTTP://h/%7e/../x") == "http://h/x" && normalize("%") == "rejected", "normalize");

@@ -41,6 +41,7 @@ def test_calls() -> None:
     assert [uriparse.encode(name, b":/") for name in uriparse.ENCODED] == [b"%3A%2F", b":%2F", b":%2F", b":/", b":/"]
     assert uriparse.escape("http://h/a b?\u00fc%".encode()) == b"http://h/a%20b?%C3%BC%25"
     assert uriparse.origin(b"HTTPS://u@H:443/a") == b"https://h" and uriparse.origin(b"http://h:1") == b"http://h:1"
+    assert uriparse.origin(b"http://%31.2.3.4") == uriparse.origin(b"http://1.2.3.4") == b"http://1.2.3.4"
     assert uriparse.pairs(b"a=1&b=&c&&=d") == [(b"a", b"1"), (b"b", b""), (b"c", None), (b"", None), (b"", b"d")]
     assert uriparse.pairs(b"") == [(b"", None)] and uriparse.pairs(b"a%26=b=c+d#") == [(b"a%26", b"b=c+d#")]
     assert uriparse.first_fault(b"/a%4") == (0x52, 2) and uriparse.first_fault(b"/a") is None
@@ -59,7 +60,8 @@ def test_rejected() -> None:
     rejects(0x152, 2, b"s:%", uriparse.relativize, b"s:%", b"%")
     rejects(3, 0, b"/a", uriparse.relativize, b"s:", b"/a")
     rejects(0x103, 0, b"/a", uriparse.relativize, b"/a", b"b")
-    rejects(10, 0, b"file:///a", uriparse.origin, b"file:///a")
+    for text in (b"file:///a", b"http:///a", b"http://", b"https://u@:443/a"):
+        rejects(10, 0, text, uriparse.origin, text)
     rejects(0x51, 9, b"http://h/ ", uriparse.origin, b"http://h/ ")
 
 

@@ -203,9 +203,12 @@ uint32_t uriparse_relativize(const uint8_t *base, size_t base_len, const uint8_t
  * its host and, unless that is the scheme's default port, its port. It is "https://example.com" of
  * "HTTPS://u@EXAMPLE.com:443/b?c". The URIs of one origin have one text; a host is written without IDNA.
  *
- * Returns URIPARSE_NO_ORIGIN for a reference that has no scheme or no host, or for which neither the authority names a port
- * nor the scheme has a default one ("file:///a"). By RFC 6454 such a URI has an origin of its own, which no other has.
- * Does not allocate.
+ * Returns URIPARSE_NO_ORIGIN for a reference that has no scheme, no host or an empty host ("http:///a"), or for which neither
+ * the authority names a port nor the scheme has a default one ("file:///a"). By RFC 6454 such a URI has an origin of its own,
+ * which no other has.
+ *
+ * The text doesn't keep the kind of a host, as with normal forms: "http://%31.2.3.4" has a name and "http://1.2.3.4" an address,
+ * and both have the origin text "http://1.2.3.4". To tell such hosts apart, keep the text that was read. Does not allocate.
  *
  * The caller ensures: `text` is readable for `len` bytes; `out` is writable for `room` bytes; `needed` is writable. */
 uint32_t uriparse_origin(const uint8_t *text, size_t len, uint8_t *out, size_t room, size_t *needed);

@@ -6,6 +6,7 @@ from __future__ import annotations
 import hashlib
 import os
 import random
+import re
 import struct
 import subprocess
 import sys
@@ -21,6 +22,8 @@ import rows  # noqa: E402
 import uriparse  # noqa: E402
 
 COUNT = int(sys.argv[1]) if len(sys.argv) > 1 else 20_000
+# What Python calls the encoding of a database that isn't UTF-8.
+CODECS = {"latin": "latin-1", "eucjp": "euc_jp"}
 ONE = ("valid", "fault", "scheme", "authority", "host", "port", "path", "query", "fragment", "normalize", "hash", "origin", "escape")
 
 
@@ -60,9 +63,10 @@ def shown(value: Any) -> Optional[str]:
     return value if value is None else value.decode() if isinstance(value, bytes) else str(value)
 
 
-def expected(text: bytes) -> List[Optional[str]]:
-    """What the functions of ONE return for a text."""
-    escaped = uriparse.escape(text)
+def expected(database: str, text: bytes) -> List[Optional[str]]:
+    """What the functions of ONE return for a text. Its UTF-8 is what is escaped."""
+    codec = CODECS.get(database)
+    escaped = uriparse.escape(text.decode(codec).encode() if codec else text)
     fault = uriparse.first_fault(text)
     if fault:
         return ["f", shown(fault[1]), *[None] * 10, shown(escaped)]
@@ -86,7 +90,7 @@ def load(database: str, texts: List[bytes]) -> None:
 
 def test_rows(database: str) -> str:
     found = rows.library_rows()
-    wanted = [("uri_valid(%s)" % quoted(text), "t") for (text,) in found["valid"]]
+    wanted: List[Tuple[str, Optional[str]]] = [("uri_valid(%s)" % quoted(text), "t") for (text,) in found["valid"]]
     wanted += [("uri_valid(%s)" % quoted(text), "f") for (text,) in found["invalid"]]
     wanted += [("uri_normalize(%s)" % quoted(text), normal) for text, normal in found["normal"]]
     wanted += [("uri_resolve(%s, %s)" % (quoted(base), quoted(text)), target)
@@ -94,6 +98,8 @@ def test_rows(database: str) -> str:
     for left, right, is_equal in rows.program_rows():
         wanted.append(("uri_equal(%s, %s)" % (quoted(left), quoted(right)), "t" if is_equal else "f"))
         wanted.append(("uri %s = uri %s" % (quoted(left), quoted(right)), "t" if is_equal else "f"))
+    wanted += [("uri_origin(%s)" % quoted(text), None) for text in ("file:///a", "http:///a", "http://", "https://u@:443/a")]
+    wanted += [("uri_origin(%s)" % quoted(text), "http://1.2.3.4") for text in ("http://%31.2.3.4", "http://1.2.3.4")]
     answers = psql(database, *("SELECT " + expression for expression, _ in wanted))[0]
     for (expression, answer), row in zip(wanted, answers):
         assert row == [answer], (expression, row, answer)
@@ -105,7 +111,7 @@ def test_random(database: str, texts: List[bytes]) -> str:
     load(database, texts)
     calls = ", ".join("uri_%s(x)" % name for name in ONE)
     for row, text in zip(psql(database, "SELECT %s FROM random ORDER BY at" % calls)[0], texts):
-        assert row == expected(text), (text, row, expected(text))
+        assert row == expected(database, text), (text, row, expected(database, text))
     two = psql(database, "SELECT uri_resolve(a.x, b.x), uri_equal(a.x, b.x) FROM random a JOIN random b ON b.at = a.at + 1 "
                "ORDER BY a.at")[0]
     for row, left, right in zip(two, texts, texts[1:]):
@@ -126,6 +132,27 @@ def test_random(database: str, texts: List[bytes]) -> str:
                    "FROM random WHERE uri_valid(x)")[0]
     assert of_text == of_type
     return "random texts in %s: %d" % (database, len(texts))
+
+
+def test_encodings() -> str:
+    """Percent-encoding is of UTF-8 in each encoding (RFC 3987, section 3.1). In SQL_ASCII the bytes are taken as they are."""
+    count = 0
+    for database, spelled, escaped in (
+            ("utf8", "\u00e9", "%C3%A9"), ("utf8", "\u65e5", "%E6%97%A5"), ("latin", "\u00e9", "%C3%A9"), ("latin", "\u00ff", "%C3%BF"),
+            ("latin", "http://h/a b?\u00fc%#[x]", "http://h/a%20b?%C3%BC%25#%5Bx%5D"), ("eucjp", "\u65e5", "%E6%97%A5"),
+            ("eucjp", "http://h/\u65e5\u672c?\u30a2 b", "http://h/%E6%97%A5%E6%9C%AC?%E3%82%A2%20b"),
+            ("eucjp", "\u00e9", "%C3%A9"), ("eucjp", "a b", "a%20b"), ("eucjp", "", "")):
+        assert one(database, "uri_escape(convert_from('\\x%s', 'UTF8'))" % spelled.encode().hex()) == escaped, (database, spelled)
+        assert one(database, "uri_valid(uri_escape(convert_from('\\x%s', 'UTF8')))" % spelled.encode().hex()) == "t"
+        count += 1
+    assert one("latin", "uri_escape(chr(233))") == "%C3%A9" and one("ascii", "uri_escape(chr(233))") == "%E9"
+    assert one("eucjp", "uri_escape(convert_from('\\xc6fc', 'EUC_JP'))") == "%E6%97%A5"
+    for database, spelled, size in (("latin", "\u00e9", 2), ("eucjp", "\u65e5", 3)):
+        for length in (512 // size, 513, 2_000_000):
+            assert one(database, "uri_escape(repeat(convert_from('\\x%s', 'UTF8'), %d)) = repeat('%s', %d)" % (
+                spelled.encode().hex(), length, uriparse.escape(spelled.encode()).decode(), length)) == "t", (database, length)
+            count += 1
+    return "escapes of UTF-8 in four encodings: %d" % count
 
 
 def query_of(text: bytes) -> Optional[bytes]:
@@ -255,19 +282,32 @@ def test_cancelled() -> str:
     return "a query and an index cancelled midway"
 
 
+def test_page() -> str:
+    """The statements of README.md print what stands there."""
+    psql("postgres", "CREATE DATABASE page TEMPLATE template0 ENCODING 'UTF8'")
+    statements = rows.page_statements(os.path.join(os.path.dirname(os.path.abspath(__file__)), "README.md"))
+    for statement, wanted in statements:
+        found, errors = psql("page", statement, check=False)
+        lines = ["|".join("NULL" if field is None else field for field in row) for row in found]
+        lines += ["error: " + text for text in re.findall("^ERROR:  [0-9A-Z]{5}: (.*)$", errors, re.MULTILINE)]
+        assert lines == wanted, (statement, lines, errors, wanted)
+    return "README.md: %d statements" % len(statements)
+
+
 def main() -> None:
     draw = random.Random(6)
     texts = [text for text in (fuzz.some_text(draw) for _ in range(COUNT * 2)) if b"\0" not in text][:COUNT]
     psql("postgres", "CREATE DATABASE utf8 TEMPLATE template0 ENCODING 'UTF8'",
-         "CREATE DATABASE ascii TEMPLATE template0 ENCODING 'SQL_ASCII'", "CREATE DATABASE latin TEMPLATE template0 ENCODING 'LATIN1'")
-    for database in ("utf8", "ascii", "latin"):
+         "CREATE DATABASE ascii TEMPLATE template0 ENCODING 'SQL_ASCII'", "CREATE DATABASE latin TEMPLATE template0 ENCODING 'LATIN1'",
+         "CREATE DATABASE eucjp TEMPLATE template0 ENCODING 'EUC_JP'")
+    for database in ("utf8", "ascii", "latin", "eucjp"):
         psql(database, "CREATE EXTENSION uri")
     print(test_rows("utf8"))
     for database, some in (("ascii", texts), ("utf8", [text.decode("utf-8", "replace").encode() for text in texts[:2000]]),
-                           ("latin", texts[:2000])):
+                           ("latin", texts[:2000]), ("eucjp", [text.decode("latin-1").encode("euc_jp", "ignore") for text in texts[:2000]])):
         print(test_random(database, some))
         print(test_pairs(database, some))
-    for found in (test_type(), test_order(), test_long(), test_cancelled()):
+    for found in (test_page(), test_encodings(), test_type(), test_order(), test_long(), test_cancelled()):
         print(found)
     psql("utf8", "DROP EXTENSION uri CASCADE")
 

@@ -168,16 +168,13 @@ write_origin(const struct bytes *texts, char *out, size_t room, size_t *needed)
 
 /* What the call writes; NULL if it rejects a text. */
 static Datum
-written(FunctionCallInfo fcinfo, writer *write)
+written_of(FunctionCallInfo fcinfo, writer *write, const struct bytes *texts)
 {
-	struct bytes texts[2];
 	char		room[SHORT];
 	size_t		needed;
 	uint32_t	code;
 	text	   *result;
 
-	for (int i = 0; i < PG_NARGS(); i++)
-		texts[i] = argument(fcinfo, i);
 	code = write(texts, room, sizeof room, &needed);
 	if (code != URIPARSE_OK && code != URIPARSE_NO_ROOM)
 		PG_RETURN_NULL();
@@ -188,6 +185,31 @@ written(FunctionCallInfo fcinfo, writer *write)
 	else if (write(texts, VARDATA(result), needed, &needed) != URIPARSE_OK)
 		PG_RETURN_NULL();
 	PG_RETURN_TEXT_P(result);
+}
+
+/* The same of the arguments. */
+static Datum
+written(FunctionCallInfo fcinfo, writer *write)
+{
+	struct bytes texts[2];
+
+	for (int i = 0; i < PG_NARGS(); i++)
+		texts[i] = argument(fcinfo, i);
+	return written_of(fcinfo, write, texts);
+}
+
+/* A text in UTF-8, whose bytes percent-encoding stands for (RFC 3987, section 3.1). SQL_ASCII is no encoding: there the bytes are
+ * taken as they are. A character that UTF-8 doesn't have is an error. */
+static struct bytes
+in_utf8(struct bytes text)
+{
+	int			encoding = GetDatabaseEncoding();
+
+	if (encoding == PG_UTF8 || encoding == PG_SQL_ASCII || pairs_are_ascii(text.at, text.len))
+		return text;
+	text.at = (const char *) pg_do_encoding_conversion((unsigned char *) text.at, (int) text.len, encoding, PG_UTF8);
+	text.len = strlen(text.at);
+	return text;
 }
 
 PG_FUNCTION_INFO_V1(uri_normalize);
@@ -208,7 +230,9 @@ PG_FUNCTION_INFO_V1(uri_escape);
 Datum
 uri_escape(PG_FUNCTION_ARGS)
 {
-	return written(fcinfo, write_escaped);
+	struct bytes text = in_utf8(argument(fcinfo, 0));
+
+	return written_of(fcinfo, write_escaped, &text);
 }
 
 PG_FUNCTION_INFO_V1(uri_origin);

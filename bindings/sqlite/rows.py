@@ -54,6 +54,26 @@ def program_rows() -> List[Tuple[str, str, bool]]:
     return [(left, right, answer == "equal") for left, right, answer in rows]
 
 
+def page_statements(page: str) -> List[Tuple[str, List[str]]]:
+    """The statements in the blocks of SQL on a page, each with the lines that its comments say it prints: `-- a|b` for a row, or
+    `-- error: ..`, after the statement or in the lines below it."""
+    with open(page, encoding="utf-8") as file:
+        blocks = re.findall(r"^```sql\n(.*?)^```$", file.read(), re.MULTILINE | re.DOTALL)
+    found: List[Tuple[str, List[str]]] = []
+    statement = ""
+    for line in "".join(blocks).splitlines():
+        if line.startswith("-- "):
+            found[-1][1].append(line[3:])
+            continue
+        row = re.match(r"(.*);(?: +-- (.*))?$", line)
+        statement += (row[1] if row else line) + "\n"
+        if row:
+            found.append((statement.rstrip(), [row[2]] if row[2] else []))
+            statement = ""
+    assert not statement and len(found) > 8, statement
+    return found
+
+
 def close_texts() -> List[str]:
     """References that differ late, with escapes round the ends of the pieces of a key, and with long authorities."""
     texts = []

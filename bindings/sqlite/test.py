@@ -6,6 +6,7 @@ from __future__ import annotations
 import ctypes
 import os
 import random
+import re
 import sqlite3
 import struct
 import sys
@@ -94,7 +95,10 @@ def test_errors(db: sqlite3.Connection) -> None:
         for pair in (("a:", None), (None, "a:"), (None, None), ("a b", "a:"), ("a:", "a b")):
             assert one(db, "uri_%s(?, ?)" % name, *pair) is None, (name, pair)
     assert one(db, "typeof(uri_port('//h:080'))") == "integer" and one(db, "uri_port('//h:080')") == 80
-    assert one(db, "uri_origin('HTTPS://u@H:443/a')") == "https://h" and one(db, "uri_origin('file:///a')") is None
+    assert one(db, "uri_origin('HTTPS://u@H:443/a')") == "https://h" and one(db, "uri_origin('//h')") is None
+    for text in ("file:///a", "http:///a", "http://", "https://u@:443/a"):
+        assert one(db, "uri_origin(?)", text) is None, text
+    assert one(db, "uri_origin('http://%31.2.3.4')") == one(db, "uri_origin('http://1.2.3.4')") == "http://1.2.3.4"
     assert one(db, "uri_port('//h:')") is None and one(db, "uri_host('//')") == "" and one(db, "uri_path(12)") == "12"
 
 
@@ -233,6 +237,25 @@ def test_indexes(db: sqlite3.Connection) -> None:
     assert valid == sorted(valid, reverse=True)
 
 
+def test_page() -> int:
+    """The statements of README.md print what stands there, and its Python runs."""
+    page = os.path.join(os.path.dirname(os.path.abspath(__file__)), "README.md")
+    db = connect()
+    statements = rows.page_statements(page)
+    for statement, wanted in statements:
+        try:
+            found = ["|".join("NULL" if value is None else str(value) for value in row) for row in db.execute(statement)]
+        except sqlite3.Error as error:
+            found = ["error: %s" % error]
+        assert "\n".join(found) == "\n".join(wanted), (statement, found, wanted)
+    with open(page, encoding="utf-8") as file:
+        code, = re.findall(r"^```python\n(.*?)^```$", file.read(), re.MULTILINE | re.DOTALL)
+    other = sqlite3.connect(":memory:")
+    exec(code.replace("sqlite/out/uri0", EXTENSION), {"db": other})
+    assert one(other, "uri_valid('a')") == 1
+    return len(statements)
+
+
 def main() -> None:
     counts: List[str] = []
     for encoding in ("UTF-8", "UTF-16le", "UTF-16be"):
@@ -250,6 +273,7 @@ def main() -> None:
         counts.append("%s: %d rows, %d random texts, %d pairs of their queries, %d pairs in order" % (
             encoding, found, texts, of_queries, pairs))
         db.close()
+    counts.append("%d statements of README.md" % test_page())
     print("; ".join(counts))
 
 

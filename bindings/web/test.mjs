@@ -3,6 +3,7 @@
 //     node --experimental-wasm-memory64 bindings/web/test.mjs MODULE        (bindings/web/run does this)
 import assert from "node:assert/strict";
 import { readFile } from "node:fs/promises";
+import { freemem } from "node:os";
 import { pathToFileURL } from "node:url";
 import { setFlagsFromString } from "node:v8";
 import { runInNewContext } from "node:vm";
@@ -186,7 +187,10 @@ await test("what leads to a URI", () => {
 await test("origins", () => {
   assert.equal(uris.origin("HTTPS://u@EXAMPLE.com:443/b?c"), "https://example.com");
   assert.equal(uris.origin(new URL("http://h:8080/a")), "http://h:8080");
-  assert.throws(() => uris.origin("file:///a"), { name: "URIParseError", code: 10, component: null, place: 0, message: "the reference has no origin" });
+  assert.equal(uris.origin("http://%31.2.3.4"), uris.origin("http://1.2.3.4"));
+  for (const text of ["file:///a", "http:///a", "http://", "https://u@:443/a"]) {
+    assert.throws(() => uris.origin(text), { name: "URIParseError", code: 10, component: null, place: 0, message: "the reference has no origin" });
+  }
   assert.throws(() => uris.origin("http://h/ "), { code: 0x51, place: 9 });
 });
 await test("pairs", () => {
@@ -218,6 +222,28 @@ await test("the memory of a long text is given back", async () => {
   assert.equal(uris.normalize("HTTP://h"), "http://h/");
   assert(await used() - before < 1_000_000);
 });
+// Strings that need a memory of more than 2 GiB, and a result that is too long for a string in Node.
+if ((process.availableMemory?.() ?? freemem()) < 8 * 2 ** 30) {
+  console.log("web: left out: a memory of more than 2 GiB (less than 8 GiB are free)");
+} else {
+  const tail = "a".repeat(20_000_000);
+  const isRight = () => {
+    assert.equal(uris.isURI(`HTTP://h/%7e${tail}`), true);
+    assert.equal(uris.normalize(`HTTP://h/%7e${tail}`), `http://h/~${tail}`);
+    assert.equal(uris.equal(`s:${tail}`, `s:${tail}b`), false);
+    assert.equal(uris.fault(`s:${tail} `).place, 20_000_002);
+  };
+  await test("a memory of more than 2 GiB", () => {
+    const long = `http://h/${"a".repeat(370_000_000)}`;
+    assert.equal(uris.equal(long, `${long}b`), false);
+    isRight();
+  });
+  await test("a result that is too long", () => {
+    const long = "\u00e9".repeat(90_000_000);
+    assert.throws(() => uris.escape(long), { name: "RangeError", message: "the text is too long: the result has 540000000 bytes" });
+    isRight();
+  });
+}
 await test("many segments", () => assert.equal(uris.fault("a/".repeat(1000001)).code, 5));
 
 console.log(`web: ${tried} rows of the program`);

@@ -55,6 +55,7 @@ export type Input = string | { readonly href: string };
 /** A pair of a query, as it stands in the text: `decode` reads both. The value is null if the pair has no "=". */
 export type Pair = [name: string, value: string | null];
 
+/** The calls. A string or a result that is longer than the memory or a string can be is a `RangeError`. */
 export interface URIs {
   parse(text: Input): Parts;
   fault(text: Input): Fault | null;
@@ -64,6 +65,7 @@ export interface URIs {
   normalize(text: Input): string;
   resolve(base: Input, reference: Input): string;
   relativize(base: Input, uri: Input): string;
+  /** A URI without a host, or with an empty one, has no origin. The name "%31.2.3.4" and the address "1.2.3.4" have one text. */
   origin(text: Input): string;
   /** A lone surrogate is a `TypeError`. */
   escape(text: Input): string;

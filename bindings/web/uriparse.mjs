@@ -37,8 +37,8 @@ const HOST_KINDS = { 1: "name", 4: "ipv4", 6: "ipv6", 7: "ipvfuture" };
 const ENCODED = { username: 0x10, password: 0x20, segment: 0x50, query: 0x60, fragment: 0x70 };
 const COMPONENTS = ["scheme", "authority", "username", "password", "host", "port", "path", "query", "fragment"];
 
-// Where the module's struct of components has its fields, in words of 32 bits. No text that fits in a string has an index
-// that needs more, so of wider numbers the low word is read.
+// Where the module's struct of components has its fields, in words of 32 bits. An index into a text in memory fits in one
+// word, so only the low word of its two is read.
 const BEGIN = 0;
 const END = 2;
 const IS_PRESENT = 4;
@@ -55,8 +55,10 @@ const NEXT = 2 * SPAN;
 const WORD = 16;
 const PAGE = 65536;
 
-// A memory of more bytes is given up before the next call that needs fewer.
+// A larger memory is given up at the next call that needs fewer bytes than this, or less than an eighth of the memory. A call
+// needs at most four times what its strings may take, so calls with strings of one length keep their memory.
 const LARGE = 2 ** 24;
+const SPARE = 8;
 
 // The smallest module with a memory of 64-bit addresses.
 const PROBE = new Uint8Array([0, 97, 115, 109, 1, 0, 0, 0, 5, 3, 1, 4, 1]);
@@ -166,29 +168,69 @@ class URIs {
     this.#base = rounded(Number(exports.__heap_base.value));
   }
 
-  // Makes the memory large enough, and views it.
+  // Makes the memory large enough, and views it. If it can't be, the instance starts again with a small one.
   #view(end) {
     const missing = Math.ceil((end - this.#memory.buffer.byteLength) / PAGE);
-    if (missing > 0) {
-      grow(this.#memory, missing);
+    try {
+      if (missing > 0) {
+        grow(this.#memory, missing);
+      }
+      if (this.#bytes.buffer !== this.#memory.buffer) {
+        this.#bytes = new Uint8Array(this.#memory.buffer);
+        this.#words = new Uint32Array(this.#memory.buffer);
+      }
+    } catch (cause) {
+      this.#restart();
+      throw tooLong(`the call needs ${end} bytes of memory`, cause);
     }
-    if (this.#bytes.buffer !== this.#memory.buffer) {
-      this.#bytes = new Uint8Array(this.#memory.buffer);
-      this.#words = new Uint32Array(this.#memory.buffer);
+  }
+
+  // Gives the memory up for a small one.
+  #restart() {
+    this.#bytes = new Uint8Array();
+    this.#words = new Uint32Array();
+    this.#start(new WebAssembly.Instance(this.#module, {}));
+  }
+
+  // Writes the UTF-8 of a text to the memory, and returns its length. The view ends where a text of this length must: Node's
+  // `encodeInto` writes nothing, and throws nothing, if its view has 2 GiB or more.
+  #encode(text, at) {
+    const { read, written } = this.#encoder.encodeInto(text, this.#bytes.subarray(at, at + 3 * text.length));
+    if (read !== text.length) {
+      this.#restart();
+      throw tooLong(`${read} of the ${text.length} units of a string were encoded`);
     }
+    return written;
+  }
+
+  // The string of bytes that are ASCII. Node's decoder returns the empty string for 2 GiB or more.
+  #string(bytes) {
+    let string;
+    let cause;
+    try {
+      string = this.#decoder.decode(bytes);
+    } catch (error) {
+      cause = error;
+    }
+    if (string?.length !== bytes.length) {
+      this.#restart();
+      throw tooLong(`the result has ${bytes.length} bytes`, cause);
+    }
+    return string;
   }
 
   // Writes texts one after another. Returns their places and lengths, and a place after them with room for numbers.
   #put(...texts) {
     const end = this.#base + texts.reduce((sum, text) => sum + 3 * text.length, 2 * WORD + PARTS);
-    if (end < LARGE && this.#bytes.length > LARGE) {
-      this.#start(new WebAssembly.Instance(this.#module, {}));
+    const size = this.#memory.buffer.byteLength;
+    if (size > LARGE && (end < LARGE || SPARE * end < size)) {
+      this.#restart();
     }
     this.#view(end);
     const spans = [];
     let next = this.#base;
     for (const text of texts) {
-      const { written } = this.#encoder.encodeInto(text, this.#bytes.subarray(next));
+      const written = this.#encode(text, next);
       spans.push(BigInt(next), BigInt(written));
       next += written;
     }
@@ -196,7 +238,12 @@ class URIs {
   }
 
   #word(at) {
-    return this.#words[at >>> 2];
+    return this.#words[at / 4];
+  }
+
+  // A length, which may need both its words.
+  #length(at) {
+    return this.#word(at) + 2 ** 32 * this.#word(at + 4);
   }
 
   // The error of a text with this code: the place is that of its first fault, if the text alone is at fault.
@@ -213,7 +260,7 @@ class URIs {
       throw this.#error(code, text);
     }
     const words = this.#words;
-    const first = next >>> 2;
+    const first = next / 4;
     const places = {};
     const found = {};
     let at = first;
@@ -289,7 +336,7 @@ class URIs {
     for (;;) {
       this.#view(out + room);
       const code = this.#calls[call](...first, ...spans, BigInt(out), BigInt(room), BigInt(next));
-      const needed = this.#word(next);
+      const needed = this.#length(next);
       if (code !== NO_ROOM) {
         return { code, bytes: this.#bytes.subarray(out, out + needed) };
       }
@@ -304,7 +351,7 @@ class URIs {
       const [text, argument] = texts.length === 1 ? texts : code & IN_BASE ? [texts[0], "base"] : [texts[1], "reference"];
       throw this.#error(code, text, argument);
     }
-    return this.#decoder.decode(bytes);
+    return this.#string(bytes);
   }
 
   /** The text of the normal form: RFC 3986, section 6.2.2. */
@@ -327,7 +374,7 @@ class URIs {
     return this.#written("uriparse_escape", [wellFormed(text)]);
   }
 
-  /** The text of the origin of a URI: RFC 6454, section 6.2. */
+  /** The text of the origin of a URI: RFC 6454, section 6.2. A name such as "%31.2.3.4" and the address "1.2.3.4" have one. */
   origin(text) {
     return this.#written("uriparse_origin", [textOf(text)]);
   }
@@ -335,7 +382,7 @@ class URIs {
   /** The pairs of a query: the pieces between its "&", each a name and, after its first "=", a value or null. */
   pairs(query) {
     const { spans, next } = this.#put(wellFormed(query));
-    const first = next >>> 2;
+    const first = next / 4;
     const words = this.#words;
     const found = [];
     let at = 0n;
@@ -372,6 +419,11 @@ class URIs {
 // The next place where any number may stand.
 function rounded(at) {
   return Math.ceil(at / WORD) * WORD;
+}
+
+// The error of a text or a result that is longer than the engine can hold.
+function tooLong(why, cause) {
+  return new RangeError(`the text is too long: ${why}`, cause && { cause });
 }
 
 // Adds pages. Engines differ in the type of the count.

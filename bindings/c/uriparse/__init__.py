@@ -237,7 +237,8 @@ def relativize(base: Buffer, uri: Buffer) -> bytes:
 
 
 def origin(text: Buffer) -> bytes:
-    """The text of the origin of a URI: its scheme, its host and, unless that is the default one, its port."""
+    """The text of the origin of a URI: its scheme, its host and, unless that is the default one, its port. A URI without a host,
+    or with an empty one, has none. A name such as `%31.2.3.4` and the address `1.2.3.4` have one text."""
     return _written(_library.origin, text)
 
 

@@ -1,10 +1,10 @@
 -- What a proxy can be asked for: RFC 9112, section 3.2.2.
-use Rattle.std.specs.Prelude.{◌≡◌, ◌⊎◌, ℕ, true, List, [], Some, None, IsSome, codes}
+use Rattle.std.specs.Prelude.{◌≡◌, ◌⊎◌, ℕ, true, false, List, Some, None, IsSome, codes}
 use Rattle.std.specs.Option.{IsSomeAnd}
 use Rattle.std.specs.Str.{str_to_ascii_lowercase}
 use Rattle.uriparse.specs.SchemeValue.{Scheme}
 use Rattle.uriparse.specs.Scheme as scheme
-use Rattle.uriparse.specs.HostValue.TheVariants.{RegisteredName}
+use Rattle.uriparse.specs.Host.{is_empty}
 use Rattle.uriparse.specs.Reference.{Parts, Spells, host_of}
 use Rattle.uriparse.specs.declared.uri.error.URIError.TheVariants as uris
 use Rattle.uriparse.specs.Kinds.{fault_of}
@@ -20,9 +20,9 @@ IsNamed name s = name ≡ str_to_ascii_lowercase (scheme.text s)
 abbrev pub IsWebScheme : Scheme → Type 0
 IsWebScheme s = IsNamed (codes "http") s ⊎ IsNamed (codes "https") s
 
--- the URI has a host, which isn't the empty name
+-- the URI has a host, which isn't empty
 abbrev pub HasHost : Parts → Type 0
-HasHost u = IsSomeAnd (host_of u) (λ h. h ≡ RegisteredName [] → ⊥)
+HasHost u = IsSomeAnd (host_of u) (λ h. is_empty h ≡ false)
 
 -- A URI of the web with a host, and without a fragment.
 pub record IsProxyTarget (u : Parts) : Type 0 where

@@ -1,6 +1,6 @@
 //! A link rewriter: the target of a link as people write it, the targets of a page's links, and
 //! relative links in place of absolute ones.
-ghost use Rattle.std.specs.Prelude.{◌≡◌, ◌++◌, ◌∷◌, [], IfOk, IfErr, MatchResult, Ok, OnOk};
+ghost use Rattle.std.specs.Prelude.{◌≡◌, ◌++◌, ◌∷◌, [], IfOk, IfErr, IfSome, MatchResult, None, Ok, OnOk};
 ghost use Rattle.uriparse.specs.PathError.TheVariants.{OutOfMemory};
 ghost use Rattle.uriparse.specs.Readings.{IsUnless};
 ghost use Rattle.uriparse.specs.Reference.{Parts};
@@ -46,6 +46,29 @@ fn target_of(
     ensures { Resolves (target base.now link.now) result }
 {
     Ok(base.resolve(alloc, link)?.into_owned(alloc)?)
+}
+
+/// Where a link of a page leads, or `None` if it leads nowhere, so that a rewriter keeps it as it
+/// stands. Fails only if memory runs out: then nothing is known of the link.
+///
+/// ```
+/// let base = URI::try_from_str(alloc, "http://a/b/c")?;
+/// assert!(find_target(alloc, &base, b"../d")?.is_some());
+/// assert!(find_target(alloc, &base, b"http://a:port/")?.is_none());
+/// ```
+pub fn find_target(
+    alloc: Global,
+    base: &URI<'_>,
+    link: &[u8],
+) -> Result<Option<URI<'static>>, AllocError>
+    ensures reached { IfOk result (λ found. IfSome found (Reaches base.now link.now)) }
+    ensures kept { IfOk result (λ found. found ≡ None → (u : Parts) → Reaches base.now link.now u → ⊥) }
+{
+    match read_link(alloc, base, link) {
+        Ok(uri) => Ok(Some(uri)),
+        Err(error) if error.is_out_of_memory() => Err(AllocError),
+        Err(_) => Ok(None),
+    }
 }
 
 /// Where each link of a page leads, in order: its target against the page's base, RFC 3986, section

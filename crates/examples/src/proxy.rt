@@ -6,10 +6,9 @@
 //! let refused = proxy_target(alloc, "ftp://example.com/a");
 //! assert!(matches!(refused, Err(ProxyError::Scheme)));
 //! ```
-ghost use Rattle.std.specs.Prelude.{◌≡◌, ◌↔◌, [], IsTrue, IfOk, IfErr, MatchOption, MatchResult, Ok};
+ghost use Rattle.std.specs.Prelude.{◌≡◌, ◌↔◌, IsTrue, IfOk, IfErr, MatchOption, MatchResult, Ok};
 ghost use Rattle.uriparse.specs.Readings.{IsUnless};
 ghost use Rattle.uriparse.specs.PathError.TheVariants.{OutOfMemory};
-ghost use Rattle.uriparse.specs.HostValue.TheVariants.{RegisteredName};
 ghost use Rattle.uriparse.specs.Reference.{Parts, Spells};
 ghost use Rattle.uriparse.specs.declared.uri.error.URIError.TheVariants as uris;
 ghost use Rattle.examples.specs.declared.proxy.ProxyError.TheVariants as errors;
@@ -17,7 +16,7 @@ ghost use Rattle.examples.specs.Proxy.{HasHost, IsProxyTarget, IsReason, IsWebSc
 
 use std::alloc::Global;
 use thiserror::Error;
-use uriparse::{Host, Scheme, URI, URIError};
+use uriparse::{Scheme, URI, URIError};
 
 /// Why a text is not a proxy's target.
 #[derive(Debug, Drop, Error)]
@@ -89,17 +88,7 @@ fn has_host(uri: &URI<'_>) -> bool
     ensures { IsTrue result ↔ HasHost uri.now }
 {
     match uri.host() {
-        Some(host) => !is_empty(host),
+        Some(host) => !host.is_empty(),
         None => false,
-    }
-}
-
-/// Whether the host is the empty name.
-fn is_empty(host: &Host<'_>) -> bool
-    ensures { IsTrue result ↔ (host.now ≡ RegisteredName []) }
-{
-    match host {
-        Host::RegisteredName(name) => name.as_str().is_empty(),
-        _ => false,
     }
 }

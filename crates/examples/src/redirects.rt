@@ -1,9 +1,9 @@
-//! A redirect checker: whether a response's `Location` stays at an allowed authority.
+//! A redirect checker: whether a response's `Location` stays at an allowed authority, and its scheme is kept or `https`.
 ghost use Rattle.std.specs.Prelude.{◌≡◌, ◌↔◌, IsTrue, IfErr, IfOk, MatchResult, Some};
 ghost use Rattle.uriparse.specs.Reference.{Parts};
 ghost use Rattle.uriparse.specs.Target.{target};
 ghost use Rattle.examples.specs.declared.redirects.RedirectError.TheVariants.{Memory};
-ghost use Rattle.examples.specs.Redirects.{GoesTo, IsAt};
+ghost use Rattle.examples.specs.Redirects.{GoesTo, IsAt, KeepsScheme, MayFollow};
 ghost use Rattle.examples.specs.Redirects as spec;
 
 use std::alloc::{AllocError, Global};
@@ -22,23 +22,43 @@ pub enum RedirectError {
     /// The target has no authority, or one that differs from the allowed one.
     #[error("the target is elsewhere")]
     Elsewhere,
-    /// Memory ran out for the target's own texts.
+    /// The target's scheme is neither that of the request nor `https`.
+    #[error("the target has another scheme")]
+    Scheme,
+    /// Memory ran out for the target's own strings.
     #[error("out of memory")]
     Memory,
 }
 
+impl RedirectError {
+    /// Whether memory ran out, so that the redirect is not at fault and may be followed later.
+    pub fn is_out_of_memory(&self) -> bool
+        ensures { IsTrue result ↔ spec.IsOutOfMemory self.now }
+    {
+        match self {
+            RedirectError::Memory => true,
+            RedirectError::Location(error) => error.is_out_of_memory(),
+            RedirectError::Target(error) => error.is_out_of_memory(),
+            RedirectError::Elsewhere | RedirectError::Scheme => false,
+        }
+    }
+}
+
 /// The URI that a redirect leads to: the `Location`, which may be relative, is resolved against the
 /// URI of the request, RFC 9110, section 10.2.2. It is followed only if the target's authority
-/// equals the allowed one, so `EXAMPLE.com` is allowed for `example.com`; another port or user is
-/// elsewhere.
+/// equals the allowed one, so `EXAMPLE.com` is allowed for `example.com`, while another port or user
+/// is elsewhere; and only if its scheme is the request's or `https`, so a redirect never leads from
+/// `https` to `http`.
 ///
 /// ```
-/// let request = URI::try_from_str(alloc, "http://example.com/a")?;
+/// let request = URI::try_from_str(alloc, "https://example.com/a")?;
 /// let allowed = Authority::try_from_str("example.com")?;
 /// let target = follow(alloc, &request, "//EXAMPLE.com/b", &allowed)?;
-/// assert_eq!(target.to_string(alloc)?.as_str(), "http://EXAMPLE.com/b");
+/// assert_eq!(target.to_string(alloc)?.as_str(), "https://EXAMPLE.com/b");
 /// let elsewhere = follow(alloc, &request, "//example.com:8080/", &allowed);
 /// assert!(matches!(elsewhere, Err(RedirectError::Elsewhere)));
+/// let insecure = follow(alloc, &request, "http://example.com/b", &allowed);
+/// assert!(matches!(insecure, Err(RedirectError::Scheme)));
 /// ```
 pub fn follow(
     alloc: Global,
@@ -47,10 +67,10 @@ pub fn follow(
     allowed: &Authority<'_>,
 ) -> Result<URI<'static>, RedirectError>
     // What is returned is where the redirect goes, and is allowed.
-    ensures followed { IfOk result (λ t. GoesTo request.now location.now t × IsAt allowed.now t) }
+    ensures followed { IfOk result (λ t. GoesTo request.now location.now t × MayFollow request.now allowed.now t) }
 
     // What is allowed is followed, unless memory runs out.
-    ensures only { (t : Parts) → GoesTo request.now location.now t → IsAt allowed.now t → spec.IsUnlessWant result t }
+    ensures only { (t : Parts) → GoesTo request.now location.now t → MayFollow request.now allowed.now t → spec.IsUnlessWant result t }
 
     // Each error has its own reason.
     ensures refused { IfErr result (λ e. spec.Refuses request.now location.now allowed.now e) }
@@ -68,27 +88,30 @@ fn follow_to(
     location: &URIReference<'_>,
     allowed: &Authority<'_>,
 ) -> Result<URI<'static>, RedirectError>
-    ensures { spec.Follows (target request.now location.now) allowed.now result }
+    ensures { spec.Follows (target request.now location.now) request.now allowed.now result }
 {
     match request.resolve(alloc, location) {
-        Ok(target) => own_if_at(alloc, target, allowed),
+        Ok(target) => own_if_allowed(alloc, request, target, allowed),
         Err(error) => Err(RedirectError::Target(error)),
     }
 }
 
-/// The target, if it is at the allowed authority.
-fn own_if_at(
+/// The target, if a redirect may lead there.
+fn own_if_allowed(
     alloc: Global,
+    request: &URI<'_>,
     target: URI<'_>,
     allowed: &Authority<'_>,
 ) -> Result<URI<'static>, RedirectError>
-    ensures { spec.Follows (Some target.entry) allowed.now result }
+    ensures { spec.Follows (Some target.entry) request.now allowed.now result }
 {
-    if is_at(&target, allowed) {
-        own(alloc, target)
-    } else {
-        Err(RedirectError::Elsewhere)
+    if !is_at(&target, allowed) {
+        return Err(RedirectError::Elsewhere);
     }
+    if !keeps_scheme(request, &target) {
+        return Err(RedirectError::Scheme);
+    }
+    own(alloc, target)
 }
 
 /// The target, with texts of its own.
@@ -99,6 +122,13 @@ fn own(alloc: Global, target: URI<'_>) -> Result<URI<'static>, RedirectError>
         Ok(target) => Ok(target),
         Err(AllocError) => Err(RedirectError::Memory),
     }
+}
+
+/// Whether the target's scheme is that of the request, or `https`.
+fn keeps_scheme(request: &URI<'_>, target: &URI<'_>) -> bool
+    ensures { IsTrue result ↔ KeepsScheme request.now target.now }
+{
+    target.scheme().eq_str("https") || target.scheme() == request.scheme()
 }
 
 /// Whether the URI has an authority that equals this one.
