@@ -1,6 +1,8 @@
 //! The first steps with `uriparse`: read a page and a link, and print where the link leads.
 #![tactic(auto)]
 
+mod words;
+
 use std::alloc::Global;
 use std::io;
 use std::io::Write;

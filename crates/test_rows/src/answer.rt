@@ -1,4 +1,4 @@
-//! What a question is made of, and how results are made.
+//! Parses the inputs of test rows and formats their results.
 
 use std::alloc::{AllocError, Global};
 use std::fmt::{Display, Write};

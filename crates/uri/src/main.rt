@@ -5,28 +5,30 @@ use std::process::ExitCode;
 use std::{env, io};
 use uri_commands::{refuse_arguments, run_with_input};
 
-fn main(rt: HostRuntime) -> io::Result<ExitCode> {
-    let found = match env::args(&rt) {
-        Ok(found) => found,
-        Err(error) => {
-            let status = refuse_arguments(&error, &mut rt.stderr());
-            return Ok(ExitCode::from(status));
-        }
+fn main(rt: HostRuntime) -> ExitCode {
+    let status = match run(&rt) {
+        Ok(status) => status,
+        Err(error) => refuse_arguments(&error, &mut rt.stderr()),
     };
+    ExitCode::from(status)
+}
+
+/// Runs the command in the program's arguments, and returns the exit status. Fails if an argument is
+/// not UTF-8, or if memory runs out while they are gathered.
+fn run(rt: &HostRuntime) -> io::Result<u8> {
     let mut args = Vec::new(rt.alloc());
-    for arg in found.skip(1) {
+    for arg in env::args(rt)?.skip(1) {
         args.push(arg)?;
     }
     let mut words = Vec::new(rt.alloc());
     for arg in &args {
         words.push(arg.as_str())?;
     }
-    let status = run_with_input(
+    Ok(run_with_input(
         rt.alloc(),
         &words,
         &mut rt.stdin(),
         &mut rt.stdout(),
         &mut rt.stderr(),
-    );
-    Ok(ExitCode::from(status))
+    ))
 }

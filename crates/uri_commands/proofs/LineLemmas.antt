@@ -1,11 +1,11 @@
 -- Lines, and the places of their newlines.
-use Rattle.std.proofs.Common.{◌≡◌, ◌≢◌, ℕ, ◌+◌, ◌-◌, ◌<◌, ◌≤◌, Bool, false, true, List, [], ◌∷◌, ◌++◌, All, Some, None, IfSome, cond, length, take, drop, get_or, get_or-take, length-take-le, length-append, sym, ap, subst, ◌∙◌, arith, append_assoc, eq-eqb, eqb-true, lt-ltb, take_at, take-take, take-append-drop}
+use Rattle.std.proofs.Common.{◌≡◌, ◌≢◌, ℕ, ◌+◌, ◌-◌, ◌<◌, ◌≤◌, Bool, false, true, List, [], ◌∷◌, ◌++◌, All, Some, None, IfSome, cond, length, take, drop, get_or, get_or-take, length-take-le, length-append, refl, sym, ap, subst, ◌∙◌, arith, append_assoc, eq-eqb, eqb-true, lt-ltb, take_at, take-take, take-append-drop}
 use Rattle.std.specs.Io.{StartsWith}
-use Rattle.std.specs.Prelude.{◌==◌, not}
+use Rattle.std.specs.Prelude.{◌==◌, ◌&&◌, nat_lt, not, slice_index}
 use Rattle.std.specs.declared.option.Option.{Option}
 use Rattle.std.specs.List.{position_or_len}
 use Rattle.std.specs.Io.BufRead.{take_through, drop_through, first_piece, strip_last, ends_with_byte, DropsConsumable, DropsThrough}
-use Rattle.std.specs.Io.KnownBytes.{Consumes, prepend_known}
+use Rattle.std.specs.Io.KnownBytes.{Consumes, IsAtEnd, prepend_known}
 use lib.Seq.{take-append_seam}
 use Rattle.std.proofs.BufReadLemmas.{take_through-append, drop_through-append}
 use Rattle.std.proofs.lemmas.List.{take_more, get_or_push}
@@ -72,3 +72,33 @@ taken_line (Some x) (Some y) line p lacks =
     let taken : take_through newline x ≡ line ++ newline ∷ [] = ap (take_through newline) whole ∙ take_through-append newline line (newline ∷ y) lacks in
     let dropped : drop_through newline x ≡ y = ap (drop_through newline) whole ∙ drop_through-append newline line (newline ∷ y) lacks in
     (sym (ap (strip_last newline) taken ∙ stripped line), ap Some (sym dropped))
+
+-- ---- the end
+
+-- where the last byte of a list is
+is_last : (x : ℕ) (t : List ℕ) (n : ℕ) → n ≡ length t → ends_with_byte newline (x ∷ t) ≡ (slice_index (x ∷ t) n == newline)
+is_last x t n e =
+    let some : nat_lt 0 (length (x ∷ t)) ≡ true = lt-ltb _ _ (omega arith) in
+    let at : length (x ∷ t) - 1 ≡ n = omega (arith, e) in
+    ap (λ b. b && (slice_index (x ∷ t) (length (x ∷ t) - 1) == newline)) some ∙ ap (λ k. slice_index (x ∷ t) k == newline) at
+
+-- a list of more than one byte ends as its rest does
+rest_ends : (x : ℕ) (t : List ℕ) → ends_with_byte newline (x ∷ t) ≡ false → ends_with_byte newline t ≡ false
+rest_ends x [] h = refl
+rest_ends x (y ∷ t) h = is_last y t (length t) refl ∙ sym (is_last x (y ∷ t) (length (y ∷ t)) refl) ∙ h
+
+-- where what is read through a newline doesn't end with one, nothing is left
+dropped_one : (x : ℕ) (xs : List ℕ) (b : Bool) → b ≡ (x == newline) → ends_with_byte newline (cond b (x ∷ []) (x ∷ take_through newline xs)) ≡ false
+    → (ends_with_byte newline (take_through newline xs) ≡ false → drop_through newline xs ≡ []) → cond b xs (drop_through newline xs) ≡ []
+dropped_one x xs true is h more = absurd (false≢true (sym h ∙ is_last x [] 0 refl ∙ sym is))
+dropped_one x xs false is h more = more (rest_ends x (take_through newline xs) h)
+
+dropped : (xs : List ℕ) → ends_with_byte newline (take_through newline xs) ≡ false → drop_through newline xs ≡ []
+dropped [] ends = refl
+dropped (x ∷ xs) ends = dropped_one x xs (x == newline) refl ends (dropped xs)
+
+pub nothing_left : (o n : Option (List ℕ)) (before line : List ℕ) → before ≡ [] → IfSome o (λ xs. line ≡ before ++ take_through newline xs)
+    → DropsThrough o n newline → ends_with_byte newline line ≡ false → IfSome o (λ _. IsAtEnd n)
+nothing_left None n before line none is drops ends = tt
+nothing_left (Some xs) n before line none is drops ends =
+    subst IsAtEnd (sym drops) (dropped xs (sym (ap (ends_with_byte newline) (is ∙ ap (λ t. t ++ take_through newline xs) none)) ∙ ends))

@@ -70,6 +70,30 @@ prints
 ",
 };
 
+pub static ABOUT_APPEND: Topic = Topic {
+    name: "--append",
+    summary: "\
+uri --append --lines COMMAND
+                      each line with the result as one more field
+",
+    page: "\
+uri --lines --append COMMAND
+uri --lines --column K --append COMMAND
+
+Prints each line of the standard input as it is, a tab, and the result. The text
+is the whole line, or with --column its K-th field. A text that is rejected gives
+an empty result, and is reported. Exactly one line is printed for each.
+
+Exit status: 0 on success, 1 if a line is rejected or the work ends early, 2 on
+a usage error.
+
+Example:
+    printf 'HTTP://a\\n' | uri --lines --append normalize
+prints
+    HTTP://a\thttp://a/
+",
+};
+
 /// Which fields of a line are read, and where the result stands.
 #[derive(Clone, Copy)]
 pub struct Columns {

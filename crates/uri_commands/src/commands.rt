@@ -6,7 +6,7 @@ ghost use Rattle.std.specs.Prelude.{◌<◌};
 use crate::decode::{self, decode};
 use crate::edit::{self, edit};
 use crate::encode::{self, encode};
-use crate::equal::{self, equal, equal_pair};
+use crate::equal::{self, equal, equal_pair, pair_fault_offset};
 use crate::escape::{self, escape, escape_link};
 use crate::failure::Failure;
 use crate::file::{self, file, get_file};
@@ -25,10 +25,10 @@ use crate::topic::Topic;
 use crate::{columns, explain, lines};
 use std::alloc::Global;
 use std::io::Write;
-use uriparse::URIView;
+use uriparse::{URIReference, URIView};
 
-/// The command or the option at this place of `uri help`, from 0, or `None` behind the last. A table of them all takes the
-/// prover the square of the length of their texts.
+/// The topic of `uri help` with this index, or `None` after the last. A `match`, since the prover takes quadratic time for a
+/// static table.
 pub fn topic(place: usize) -> Option<&'static Topic> {
     match place {
         0 => Some(&parse::ABOUT),
@@ -53,6 +53,7 @@ pub fn topic(place: usize) -> Option<&'static Topic> {
         19 => Some(&lines::ABOUT),
         20 => Some(&columns::ABOUT_ALIGN),
         21 => Some(&columns::ABOUT_COLUMN),
+        22 => Some(&columns::ABOUT_APPEND),
         _ => None,
     }
 }
@@ -89,8 +90,8 @@ pub fn run_texts<O: Write>(
 /// Runs the command that is this word alone.
 fn run_one_word<O: Write>(name: &str, out: &mut O) -> Result<(), Failure> {
     match name {
-        "help" | "--help" => help(out).map_err(Failure::Io),
-        "--version" => version(out).map_err(Failure::Io),
+        "help" | "--help" => help(out).map_err(Failure::from),
+        "--version" => version(out).map_err(Failure::from),
         _ => Err(Failure::Usage),
     }
 }
@@ -245,6 +246,15 @@ impl<'w> Task<'w> {
         match self {
             Task::Equal | Task::CheckEqual => 2,
             _ => 1,
+        }
+    }
+
+    /// Where a rejected line is wrong: the first byte of its fault. A line of two texts is wrong in the
+    /// first, if that has one.
+    pub fn fault_offset(&self, line: &[u8]) -> usize {
+        match self {
+            Task::Equal | Task::CheckEqual => pair_fault_offset(line),
+            _ => URIReference::first_fault(line).map_or(0, |fault| fault.0),
         }
     }
 

@@ -5,7 +5,7 @@ use crate::print::print_line;
 use crate::topic::Topic;
 use std::io;
 use std::io::Write;
-use uriparse::ReferenceView;
+use uriparse::{ReferenceView, URIReference};
 
 pub static ABOUT: Topic = Topic {
     name: "equal",
@@ -43,7 +43,7 @@ pub fn equal<O: Write>(left: &[u8], right: &[u8], out: &mut O) -> Result<(), Fai
 /// Reads the right reference, and prints whether it equals the left one.
 fn compare<O: Write>(left: &ReferenceView<'_>, right: &[u8], out: &mut O) -> Result<(), Failure> {
     let right = ReferenceView::try_from_bytes(right)?;
-    print_answer(left, &right, out).map_err(Failure::Io)
+    print_answer(left, &right, out).map_err(Failure::from)
 }
 
 /// Prints whether the references are equal.
@@ -61,6 +61,21 @@ pub fn split_pair(line: &[u8]) -> Result<(&[u8], &[u8]), Failure> {
     match line.iter().position(|b| *b == b'\t') {
         Some(at) => Ok((&line[..at], &line[at + 1..])),
         None => Err(Failure::NoTab),
+    }
+}
+
+/// Where a line of two references is wrong: in the first, if that has a fault.
+pub fn pair_fault_offset(line: &[u8]) -> usize {
+    let Ok((left, right)) = split_pair(line) else {
+        return 0;
+    };
+    match (
+        URIReference::first_fault(left),
+        URIReference::first_fault(right),
+    ) {
+        (Some((offset, _)), _) => offset,
+        (None, Some((offset, _))) => left.len().saturating_add(1).saturating_add(offset),
+        (None, None) => 0,
     }
 }
 

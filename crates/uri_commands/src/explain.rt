@@ -112,6 +112,11 @@ fn write_offset<E: Write>(text: &[u8], offset: usize, err: &mut E) -> io::Result
     write_caret(offset.saturating_sub(start), err)
 }
 
+/// Writes a line with up to 72 bytes of the text around this place, each as printable ASCII.
+pub fn write_around<E: Write>(text: &[u8], offset: usize, err: &mut E) -> io::Result<()> {
+    write_text(text, window(text.len(), offset), err)
+}
+
 /// Explains why a base is no URI. Returns whether it is none.
 fn explain_base<E: Write>(text: &[u8], err: &mut E) -> io::Result<bool> {
     let Some((offset, error)) = URI::first_fault(text) else {

@@ -46,14 +46,30 @@ pub enum Failure {
     Different,
     #[error("out of memory")]
     Memory(#[from] AllocError),
-    /// A read or a write that failed.
-    #[error(transparent)]
-    Io(#[from] io::Error),
+    /// Memory ran out for this line of the input.
+    #[error("line {0}: out of memory")]
+    MemoryAtLine(u64),
+    /// A read that failed.
+    #[error("standard input: {0}")]
+    Input(io::Error),
+    /// A write that failed.
+    #[error("standard output: {0}")]
+    Output(io::Error),
 }
 
 impl<T: Drop> From<AllocFailed<T>> for Failure {
     fn from(_error: AllocFailed<T>) -> Failure {
         Failure::Memory(AllocError)
+    }
+}
+
+/// An error of a write: of a stream, or of a buffer that could not grow.
+impl From<io::Error> for Failure {
+    fn from(error: io::Error) -> Failure {
+        match error.kind() {
+            io::ErrorKind::OutOfMemory => Failure::Memory(AllocError),
+            _ => Failure::Output(error),
+        }
     }
 }
 
@@ -87,19 +103,50 @@ impl Failure {
     /// Whether nobody reads the output any more, as after `head`. The status alone reports it.
     pub fn is_closed_pipe(&self) -> bool {
         match self {
-            Failure::Io(error) => error.kind() == io::ErrorKind::BrokenPipe,
+            Failure::Output(error) => error.kind() == io::ErrorKind::BrokenPipe,
+            _ => false,
+        }
+    }
+
+    /// Whether memory ran out.
+    pub fn is_out_of_memory(&self) -> bool {
+        match self {
+            Failure::Memory(_) | Failure::MemoryAtLine(_) => true,
+            Failure::Reference(error) => error.is_out_of_memory(),
+            Failure::Uri(error) => error.is_out_of_memory(),
+            Failure::File(error) => error.is_out_of_memory(),
             _ => false,
         }
     }
 
     /// Whether it ends the work on many lines: memory ran out, or a read or a write failed.
     pub fn ends_work(&self) -> bool {
+        self.is_out_of_memory() || matches!(self, Failure::Input(_) | Failure::Output(_))
+    }
+
+    /// Whether a path has more segments than [`Path::MAX_SEGMENTS`](uriparse::Path::MAX_SEGMENTS).
+    pub fn is_too_long(&self) -> bool {
         matches!(
             self,
-            Failure::Memory(_)
-                | Failure::Io(_)
-                | Failure::Reference(URIReferenceError::Path(PathError::OutOfMemory))
-                | Failure::Uri(URIError::Path(PathError::OutOfMemory))
+            Failure::Reference(URIReferenceError::Path(PathError::ExceededMaximumLength))
+                | Failure::Uri(URIError::Path(PathError::ExceededMaximumLength))
         )
+    }
+
+    /// The failure of the work on this line of the input: if memory ran out, it names the line.
+    pub fn at_line(self, number: u64) -> Failure {
+        if self.is_out_of_memory() {
+            Failure::MemoryAtLine(number)
+        } else {
+            self
+        }
+    }
+
+    /// The failure of a read of this line of the input: memory ran out, or the stream failed.
+    pub fn of_read(error: io::Error, number: u64) -> Failure {
+        match error.kind() {
+            io::ErrorKind::OutOfMemory => Failure::MemoryAtLine(number),
+            _ => Failure::Input(error),
+        }
     }
 }

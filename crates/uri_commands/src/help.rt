@@ -18,8 +18,9 @@ uri help COMMAND
 uri --help
 
 Prints the commands, or more on one of them or on one of the options --json,
---quiet, --explain, --trim, --lines, --align and --column. Options come before
-the command, in any order: a word after the command is a text.
+--quiet, --explain, --drop-default-port, --trim, --lines, --align, --column and
+--append. Options come before the command, in any order: a word after it is a
+text.
 
 Exit status: 0 on success, 2 on a usage error. Every command ends with 1 if
 memory runs out, a read or a write fails, or an argument is not UTF-8.
@@ -58,5 +59,5 @@ pub fn help<O: Write>(out: &mut O) -> io::Result<()> {
 pub fn help_on<O: Write>(name: &str, out: &mut O) -> Result<(), Failure> {
     let found = (0..).map_while(topic).find(|topic| topic.name == name);
     let topic = found.ok_or(Failure::Usage)?;
-    write!(out, "{}", topic.page).map_err(Failure::Io)
+    write!(out, "{}", topic.page).map_err(Failure::from)
 }

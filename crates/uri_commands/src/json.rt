@@ -291,7 +291,7 @@ pub fn parse_json<O: Write>(text: &[u8], out: &mut O) -> Result<(), Failure>
     ensures fault { (e : URIReferenceError) → fault text.now ≡ Some e → (result ≡ Err (failures.Reference e)) × (out.new ≡ out.old) }
 {
     match ReferenceView::try_from_bytes(text) {
-        Ok(reference) => write_object(&reference, out).map_err(Failure::Io),
+        Ok(reference) => write_object(&reference, out).map_err(Failure::from),
         Err(error) => Err(Failure::Reference(error)),
     }
 }

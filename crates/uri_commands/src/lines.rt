@@ -1,23 +1,25 @@
 //! `uri --lines COMMAND`: a command for each line of the standard input.
 
 ghost use Rattle.std.specs.Prelude.{◌≡◌, ◌≢◌, ℕ, List, [], ◌∷◌, ◌++◌, ◌<◌, ◌≤◌, All, Contains, IsErr, IsOk, Ok, false, length, take, true, IfOk, IfSome, OnErr, OnOk};
-ghost use Rattle.std.specs.Io.BufRead.{DropsThrough, first_piece, strip_last};
+ghost use Rattle.std.specs.Io.BufRead.{DropsThrough, ends_with_byte, first_piece, strip_last};
 ghost use Rattle.std.specs.Io.Buffered.{reader_buffer, reader_inner, reader_remaining};
 ghost use Rattle.std.specs.Io.KnownBytes.{Consumes, IsAtEnd};
 ghost use Rattle.std.specs.Io.KnownBytes.{Appends};
 ghost use Rattle.uriparse_text.specs.Cuts.{lacks};
 ghost use Rattle.uri_commands.specs.Columns as spec;
 ghost use Rattle.uri_commands.specs.Lines.{newline};
+ghost use Rattle.uri_commands.specs.declared.lines.Next.TheVariants.{End, LastLine};
 
 use crate::columns::{Columns, write_line, write_row};
 use crate::commands::Task;
-use crate::explain::explain_line;
+use crate::explain::{explain_line, write_around};
 use crate::failure::Failure;
 use crate::options::Options;
 use crate::topic::Topic;
-use std::alloc::Global;
+use std::alloc::{AllocError, Global};
 use std::io;
 use std::io::{BufRead, BufReader, BufWriter, Read, Write};
+use uriparse::path::MAX_SEGMENTS;
 use uriparse_text::internal::{Is, first};
 
 pub static ABOUT: Topic = Topic {
@@ -50,7 +52,9 @@ Lines are bytes and of any length, and end with a newline
 alone: a carriage return is part of the text, which is rejected for it, or with
 escape is escaped, or taken off by --trim. A rejected line is reported as
 `line N: ERROR: TEXT` on the standard error, prints nothing else, and the work
-goes on. It ends early if memory runs out, or a read or a write fails.
+goes on. TEXT is cut to 72 bytes around the error, and a byte that is not
+printable ASCII is shown as a dot. The work ends early if memory runs out, or a
+read or a write fails.
 
 For a line of output for each line see uri help --align, and for lines of fields
 uri help --column.
@@ -92,14 +96,33 @@ impl Outcome {
     }
 }
 
-/// Removes the newline that the line ends with, if it does.
-fn drop_newline(line: &mut Vec<u8>)
-    ensures { line.new.items ≡ strip_last newline line.old.items }
+/// What an input has next.
+#[derive(Clone, Copy, PartialEq, Eq)]
+pub enum Next {
+    /// A line, and the newline that ends it.
+    Line,
+    /// The last line, which no newline ends: the input has ended.
+    LastLine,
+    /// No line: the input has ended.
+    End,
+}
+
+/// Removes the newline that the bytes end with, if they do, and returns what they are.
+fn drop_newline(line: &mut Vec<u8>) -> Next
+    ensures line { line.new.items ≡ strip_last newline line.old.items }
+    ensures end { result ≡ End → line.old.items ≡ [] }
+    ensures some { result ≢ End → 0 < length line.old.items }
+    ensures last { result ≡ LastLine → ends_with_byte newline line.old.items ≡ false }
 {
     let count = line.len();
-    if count > 0 && line[count - 1] == b'\n' {
-        line.truncate(count - 1);
+    if count == 0 {
+        return Next::End;
     }
+    if line[count - 1] != b'\n' {
+        return Next::LastLine;
+    }
+    line.truncate(count - 1);
+    Next::Line
 }
 
 /// Appends the bytes before this place to the buffer. The byte there counts as if it were appended
@@ -114,19 +137,18 @@ fn append_front(held: &[u8], offset: usize, line: &mut Vec<u8>) -> io::Result<()
     Ok(())
 }
 
-/// Reads the next line into the buffer, without its newline, and returns whether there was one. The
-/// last line may have no newline.
-pub fn read_line<I: BufRead>(input: &mut I, line: &mut Vec<u8>) -> io::Result<bool>
+/// Reads the next line into the buffer, without its newline, and returns what there was. After the
+/// last line, if no newline ends it, the input has ended and need not be read again.
+pub fn read_line<I: BufRead>(input: &mut I, line: &mut Vec<u8>) -> io::Result<Next>
     ensures line { OnOk result (IfSome (I.remaining input.old) (λ bytes. line.new.items ≡ first_piece newline bytes)) }
     ensures rest { OnOk result (DropsThrough (I.remaining input.old) (I.remaining input.new) newline) }
-    ensures end { IfOk result (λ is_line. is_line ≡ false → IsAtEnd (I.remaining input.old)) }
-    ensures some { IfOk result (λ is_line. is_line ≡ true → IfSome (I.remaining input.old) (λ bytes. 0 < length bytes)) }
+    ensures end { result ≡ Ok End → IsAtEnd (I.remaining input.old) }
+    ensures some { IfOk result (λ next. next ≢ End → IfSome (I.remaining input.old) (λ bytes. 0 < length bytes)) }
+    ensures last { result ≡ Ok LastLine → IfSome (I.remaining input.old) (λ _. IsAtEnd (I.remaining input.new)) }
 {
     line.clear();
     input.read_until(b'\n', line)?;
-    let is_line = !line.is_empty();
-    drop_newline(line);
-    Ok(is_line)
+    Ok(drop_newline(line))
 }
 
 /// What is done with each line.
@@ -150,21 +172,25 @@ struct Buffers {
     printed: Vec<u8>,
 }
 
-/// Reports a rejected line. If `explains` is set and the line is no reference, three lines say where
-/// it is wrong.
+/// Reports a rejected line: its number, the error, and the line around this place. If `explains` is
+/// set and the line is not a reference, three lines show where it is wrong.
 fn report<E: Write>(
     explains: bool,
     number: u64,
     failure: &Failure,
     line: &[u8],
+    offset: usize,
     err: &mut E,
 ) -> io::Result<()> {
     if explains && explain_line(number, line, err)? {
         return Ok(());
     }
-    write!(err, "line {number}: {failure}: ")?;
-    err.write_all(line)?;
-    err.write_all(b"\n")
+    write!(err, "line {number}: {failure}")?;
+    if failure.is_too_long() {
+        write!(err, " of {MAX_SEGMENTS} segments")?;
+    }
+    err.write_all(b": ")?;
+    write_around(line, offset, err)
 }
 
 /// Does the task for a line, and reports a rejection unless the task is quiet. Fails if memory runs
@@ -180,11 +206,12 @@ fn do_line<O: Write, E: Write>(
     match work.task.run(work.alloc, buffer, line, out) {
         Ok(()) => Ok(Outcome::Done),
         Err(Failure::Different) => Ok(Outcome::Different),
-        Err(failure) if failure.ends_work() => Err(failure),
+        Err(failure) if failure.ends_work() => Err(failure.at_line(number)),
         Err(failure) => {
             if !work.task.is_quiet() {
+                let offset = work.task.fault_offset(line);
                 // The status reports a rejection that can't be written either.
-                let _ = report(work.explains, number, &failure, line, err);
+                let _ = report(work.explains, number, &failure, line, offset, err);
             }
             Ok(Outcome::Rejected)
         }
@@ -204,7 +231,10 @@ fn print_result<E: Write>(
     let outcome = do_line(work, form, number, text, printed, err)?;
     if outcome == Outcome::Rejected {
         printed.clear();
-        printed.resize(work.task.printed_fields().saturating_sub(1), b'\t')?;
+        let tabs = work.task.printed_fields().saturating_sub(1);
+        if let Err(AllocError) = printed.resize(tabs, b'\t') {
+            return Err(Failure::MemoryAtLine(number));
+        }
     }
     Ok(outcome)
 }
@@ -227,7 +257,7 @@ fn do_row<O: Write, E: Write>(
 {
     let Some(cut) = columns.cut(line, work.width) else {
         // The status reports a rejection that can't be written either.
-        let _ = report(false, number, &Failure::TooFewFields, line, err);
+        let _ = report(false, number, &Failure::TooFewFields, line, 0, err);
         write_line(line, out)?;
         return Ok(Outcome::Rejected);
     };
@@ -279,17 +309,18 @@ pub fn next_line<I: Read, O: Write>(
     line: &mut Vec<u8>,
     out: &mut O,
     written: &mut io::Result<()>,
-) -> io::Result<bool>
+) -> io::Result<Next>
     ensures line { OnOk result (IfSome (reader_remaining I.remaining input.old) (λ bytes. line.new.items ≡ first_piece newline bytes)) }
     ensures rest { OnOk result (DropsThrough (reader_remaining I.remaining input.old) (reader_remaining I.remaining input.new) newline) }
-    ensures end { IfOk result (λ is_line. is_line ≡ false → IsAtEnd (reader_remaining I.remaining input.old)) }
-    ensures some { IfOk result (λ is_line. is_line ≡ true → IfSome (reader_remaining I.remaining input.old) (λ bytes. 0 < length bytes)) }
+    ensures end { result ≡ Ok End → IsAtEnd (reader_remaining I.remaining input.old) }
+    ensures some { IfOk result (λ next. next ≢ End → IfSome (reader_remaining I.remaining input.old) (λ bytes. 0 < length bytes)) }
+    ensures last { result ≡ Ok LastLine → IfSome (reader_remaining I.remaining input.old) (λ _. IsAtEnd (reader_remaining I.remaining input.new)) }
     ensures unasked { Contains (reader_buffer input.old) newline → (reader_inner input.new ≡ reader_inner input.old) × (out.new ≡ out.old) }
     ensures kept { IsErr written.old → written.new ≡ written.old }
 {
     line.clear();
     if take_whole(input, line)? {
-        return Ok(true);
+        return Ok(Next::Line);
     }
     keep_first(written, out.flush());
     read_line(input, line)
@@ -314,14 +345,19 @@ fn do_lines<I: Read, O: Write, E: Write>(
         printed: Vec::new(work.alloc),
     };
     'lines: for number in 1..u64::MAX {
-        if !next_line(input, &mut line, out, written)? {
-            break;
-        }
+        let next = match next_line(input, &mut line, out, written) {
+            Ok(Next::End) => break,
+            Ok(next) => next,
+            Err(error) => return Err(Failure::of_read(error, number)),
+        };
         let outcome = match work.columns {
             Some(columns) => do_row(work, columns, &mut buffers, number, &line, out, err)?,
             None => do_line(work, &mut buffers.form, number, &line, out, err)?,
         };
         worst = worst.max(outcome);
+        if next == Next::LastLine {
+            break;
+        }
     }
     Ok(worst)
 }

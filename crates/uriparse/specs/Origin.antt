@@ -10,15 +10,24 @@ use Rattle.uriparse_scheme.specs.DefaultPort.{default_port}
 use Rattle.uriparse_scheme.specs.Scheme as scheme
 use Rattle.uriparse_authority.specs.Host as host
 use Rattle.uriparse_authority.specs.Port as port
+use Rattle.uriparse_authority.specs.declared.authority.host.Host.{Host}
 use Rattle.uriparse_reference.specs.Reference.{Parts, host_of}
 use Rattle.uriparse_reference.specs.Examples.{on_both, read}
 use Rattle.uriparse_reference.specs.Ports.{port_or_default}
 use Rattle.uriparse.specs.declared.uri.origin.Origin.{Origin}
 
--- The scheme, the host, and the port or the scheme's default port. Without one of them there is no origin that another URI could have.
+-- The host, unless it is empty.
+abbrev pub if_named : Host → Option Host
+if_named h = if host.is_empty h then None else Some h
+
+abbrev pub named_host : Parts → Option Host
+named_host p = option_and_then if_named (host_of p)
+
+-- The scheme, the host, and the port or the scheme's default port. Without one of them, or with an empty host, there is no origin
+-- that another URI could have. RFC 9110, section 4.2.1, rejects `http` and `https` URIs with an empty host.
 abbrev pub origin : Parts → Option Origin
 origin p =
-    option_and_then (λ scheme. option_and_then (λ host. option_map (λ port. record { scheme = scheme; host = host; port = port }) (port_or_default p)) (host_of p)) p.scheme
+    option_and_then (λ scheme. option_and_then (λ host. option_map (λ port. record { scheme = scheme; host = host; port = port }) (port_or_default p)) (named_host p)) p.scheme
 
 -- ---- comparing
 

@@ -6,13 +6,14 @@ ghost use Rattle.uriparse_text.specs.Coding.{are_bytes};
 ghost use Rattle.uriparse_reference.specs.Builder.{held};
 ghost use Rattle.uriparse_reference.specs.Edits.{of_parts};
 ghost use Rattle.uriparse_reference.specs.Ports.{without_default_port};
-ghost use Rattle.uriparse_reference.specs.Reference.{Parts, Valid, print};
+ghost use Rattle.uriparse_reference.specs.Reference.{Parts, Valid, host_of, print};
 ghost use Rattle.uriparse.specs.File.{file_uri, path_named, path_of_uri, uri_of_path};
 ghost use Rattle.uriparse.specs.declared.file.error.FileError.TheVariants as errors;
 ghost use Rattle.uriparse.specs.Kinds.{IsOfKind, with_mapped_error};
 ghost use Rattle.uriparse.specs.Origin.{are_alike, fed, have_same_origin, origin, printed_origin, share_origin, text};
 ghost use Rattle.uriparse.specs.declared.uri.origin.Origin.{Origin};
 ghost use Rattle.uriparse_authority.specs.Host as host;
+ghost use Rattle.uriparse_authority.specs.declared.authority.host.Host.{Host};
 ghost use Rattle.uriparse_scheme.specs.Scheme as scheme;
 ghost use Rattle.uriparse.specs.RelativeReference as relative;
 ghost use Rattle.uriparse.specs.Uri as uri;
@@ -33,9 +34,10 @@ pub fn one_relative_reference()
 /// A URI has the origin that it has without its scheme's default port. Two URIs have the same origin
 /// if both have one, and these are alike: in the canonical spelling of their schemes, in the kind and
 /// the canonical spelling of their hosts, and in their ports. A hasher is fed the same for both then, and
-/// they have one text.
+/// they have one text. A URI with an empty host has no origin.
 pub fn one_origin()
     ensures port { (p : Parts) → origin (without_default_port p) ≡ origin p }
+    ensures hostless { (p : Parts) (h : Host) → host_of p ≡ Some h → host.is_empty h ≡ true → origin p ≡ None }
     ensures none { (p q : Parts) → origin p ≡ None → (have_same_origin p q ≡ false) × (have_same_origin q p ≡ false) }
     ensures same { (p q : Parts) (a b : Origin) → origin p ≡ Some a → origin q ≡ Some b → have_same_origin p q ≡ are_alike a b }
     ensures parts { (a b : Origin) → (are_alike a b ≡ true) ↔ ((scheme.canonical_text a.scheme ≡ scheme.canonical_text b.scheme) × (host.key a.host ≡ host.key b.host) × (a.port ≡ b.port)) }
@@ -52,10 +54,13 @@ pub fn examples_of_origins()
     ensures unregistered { printed_origin (codes "X-Y://h:1") ≡ Some (codes "x-y://h:1") }
     ensures no_port { printed_origin (codes "x-y://h") ≡ None }
     ensures file { printed_origin (codes "file:///a") ≡ None }
+    ensures empty_host { printed_origin (codes "http:///a") ≡ None }
+    ensures port_alone { printed_origin (codes "https://u@:8443/a") ≡ None }
     ensures no_authority { printed_origin (codes "mailto:y") ≡ None }
     ensures one { share_origin (codes "https://h/a") (codes "HTTPS://%48:443") ≡ Some true }
     ensures two_without { share_origin (codes "file:///x") (codes "mailto:y") ≡ Some false }
     ensures one_without { share_origin (codes "file:///x") (codes "file:///x") ≡ Some false }
+    ensures two_hostless { share_origin (codes "http:///x") (codes "http:///x") ≡ Some false }
     ensures two_schemes { share_origin (codes "http://h:1") (codes "https://h:1") ≡ Some false }
     ensures two_hosts { share_origin (codes "http://h") (codes "http://h.") ≡ Some false }
     ensures two_kinds { share_origin (codes "http://1.2.3.4") (codes "http://%31.2.3.4") ≡ Some false }

@@ -1,5 +1,5 @@
 -- Hosts: RFC 3986, section 3.2.2.
-use Rattle.std.specs.Prelude.{◌≡◌, ◌⊎◌, ℕ, ◌==◌, List, [], ◌∷◌, ◌++◌, Option, Some, None, Result, Ok, Err, is_none, if◌then◌else◌}
+use Rattle.std.specs.Prelude.{◌≡◌, ◌⊎◌, ℕ, ◌==◌, Bool, false, List, [], ◌∷◌, ◌++◌, Option, Some, None, Result, Ok, Err, is_none, length, if◌then◌else◌}
 use Rattle.std.specs.Option.{option_map, ok_or}
 use Rattle.std.specs.List.{list_all}
 use Rattle.std.specs.Hash.{HashWrites, slice, u8, u16}
@@ -61,6 +61,13 @@ text (IPv4Address a) = ipv4_text a
 text (IPv6Address a) = bracketed (ipv6_text a)
 text (IPvFuture f) = bracketed f
 text (RegisteredName n) = n
+
+-- a name without a byte, as in `file:///a`
+abbrev pub is_empty : Host → Bool
+is_empty (IPv4Address a) = false
+is_empty (IPv6Address a) = false
+is_empty (IPvFuture f) = false
+is_empty (RegisteredName n) = length n == 0
 
 -- its text in canonical spelling
 abbrev pub canonical_text : Host → List ℕ

@@ -1,6 +1,6 @@
 //! The library for callers in C, and in languages that call C.
 //!
-//! A `&[u8]` crosses as a pointer and a length. No call allocates. `c/uriparse.h` declares the
+//! A `&[u8]` crosses as a pointer and a length. No call allocates. `bindings/c/uriparse.h` declares the
 //! exports. Each restates the contract of the library's call that it makes. In the clauses `p`
 //! is what a text spells by the grammar, and `fault` is why it spells nothing.
 #![tactic(auto)]

@@ -8,7 +8,7 @@ use Rattle.uriparse_authority.specs.declared.authority.host.Host.{Host}
 use Rattle.uriparse_authority.specs.Authority.{AuthorityParts, print}
 use Rattle.uriparse_authority.specs.Normal.{canonical_authority}
 use Rattle.uriparse.specs.declared.uri.origin.Origin.{Origin}
-use Rattle.uriparse.specs.Origin.{named_port}
+use Rattle.uriparse.specs.Origin.{if_named, named_port}
 
 abbrev pub origin_of : Scheme → Host → ℕ → Origin
 origin_of s h n = record { scheme = s; host = h; port = n }
@@ -20,7 +20,8 @@ pieces_of o = (o.scheme, record { username = None; password = None; host = o.hos
 -- the pieces of the origin of a reference with this scheme and this authority, if it has one
 abbrev pub pieces_from : Option Scheme → Option AuthorityParts → Option (Scheme × AuthorityParts)
 pieces_from s a =
-    option_and_then (λ s. option_and_then (λ (a : AuthorityParts). option_map (λ n. pieces_of (origin_of s a.host n)) (option_or a.port (default_port s))) a) s
+    option_and_then (λ s. option_and_then (λ (a : AuthorityParts). option_and_then (λ h. option_map (λ n. pieces_of (origin_of s h n)) (option_or a.port (default_port s)))
+    (if_named a.host)) a) s
 
 -- the text of both in canonical spelling
 abbrev pub text_of : Scheme → AuthorityParts → List ℕ

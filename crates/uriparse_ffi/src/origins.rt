@@ -51,6 +51,9 @@ fn pieces_of<'t>(
 {
     let scheme = scheme?;
     let (_, _, host, port) = authority?.into_parts();
+    if host.is_empty() {
+        return None;
+    }
     let port = port.or(scheme.default_port())?;
     let named = named_port(&scheme, &host, port);
     Some((scheme, host_and_port(host, named)?))

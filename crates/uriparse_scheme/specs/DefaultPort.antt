@@ -9,6 +9,7 @@ use Rattle.uriparse_scheme.specs.declared.scheme.Scheme.TheVariants.{Registered,
 unfoldable pub registered_port : RegisteredScheme → Option ℕ
 -- schemes.tsv: ports
 registered_port scheme.AAA = Some 3868
+registered_port scheme.AAAS = Some 5658
 registered_port scheme.ACAP = Some 674
 registered_port scheme.CAP = Some 1026
 registered_port scheme.CoAP = Some 5683

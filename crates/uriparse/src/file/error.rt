@@ -1,5 +1,5 @@
 //! Why a path has no file URI, or a URI names no file's path.
-ghost use Rattle.std.specs.Prelude.{◌≡◌};
+ghost use Rattle.std.specs.Prelude.{◌≡◌, ◌↔◌, IsTrue};
 ghost use Rattle.uriparse_text.specs.declared.segment.error.PathError.TheVariants.{OutOfMemory};
 ghost use Rattle.uriparse.specs.declared.file.error.FileError.TheVariants as errors;
 
@@ -40,6 +40,15 @@ pub enum FileError {
     /// The path has more segments than a URI's may have, or memory ran out.
     #[error(transparent)]
     Path(PathError),
+}
+
+impl FileError {
+    /// Whether memory ran out, so that the input is not at fault and the same call may succeed later.
+    pub fn is_out_of_memory(&self) -> bool
+        ensures { IsTrue result ↔ (self.now ≡ errors.Path OutOfMemory) }
+    {
+        matches!(self, FileError::Path(PathError::OutOfMemory))
+    }
 }
 
 impl From<PathError> for FileError {

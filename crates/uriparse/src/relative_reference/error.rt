@@ -1,5 +1,5 @@
 //! Why a relative reference is rejected.
-ghost use Rattle.std.specs.Prelude.{◌≡◌};
+ghost use Rattle.std.specs.Prelude.{◌≡◌, ◌↔◌, IsTrue};
 ghost use Rattle.uriparse_text.specs.declared.segment.error.PathError.TheVariants.{OutOfMemory};
 ghost use Rattle.uriparse.specs.declared.relative_reference.error.RelativeReferenceError.TheVariants as errors;
 
@@ -39,6 +39,15 @@ pub enum RelativeReferenceError {
     /// The fragment's fault.
     #[error(transparent)]
     Fragment(FragmentError),
+}
+
+impl RelativeReferenceError {
+    /// Whether memory ran out, so that the input is not at fault and the same call may succeed later.
+    pub fn is_out_of_memory(&self) -> bool
+        ensures { IsTrue result ↔ (self.now ≡ errors.Path OutOfMemory) }
+    {
+        matches!(self, RelativeReferenceError::Path(PathError::OutOfMemory))
+    }
 }
 
 impl From<AuthorityError> for RelativeReferenceError {

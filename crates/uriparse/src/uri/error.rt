@@ -1,5 +1,5 @@
 //! Why a URI is rejected.
-ghost use Rattle.std.specs.Prelude.{◌≡◌};
+ghost use Rattle.std.specs.Prelude.{◌≡◌, ◌↔◌, IsTrue};
 ghost use Rattle.uriparse_text.specs.declared.segment.error.PathError.TheVariants.{OutOfMemory};
 ghost use Rattle.uriparse.specs.declared.uri.error.URIError.TheVariants as errors;
 
@@ -43,6 +43,15 @@ pub enum URIError {
     /// with a scheme has none.
     #[error(transparent)]
     Scheme(SchemeError),
+}
+
+impl URIError {
+    /// Whether memory ran out, so that the input is not at fault and the same call may succeed later.
+    pub fn is_out_of_memory(&self) -> bool
+        ensures { IsTrue result ↔ (self.now ≡ errors.Path OutOfMemory) }
+    {
+        matches!(self, URIError::Path(PathError::OutOfMemory))
+    }
 }
 
 impl From<AuthorityError> for URIError {

@@ -162,13 +162,22 @@ impl<'u> URI<'u> {
         self.reference.normalize_port();
     }
 
-    /// The origin: RFC 6454, section 4. `None` without an authority, or if neither the authority
-    /// names a port nor the scheme has a default one; such a URI has an origin of its own, which no
-    /// other has, so compare origins by [`same_origin`](URI::same_origin). Does not allocate.
+    /// The origin: RFC 6454, section 4. `None` without an authority, with an empty host (RFC 9110,
+    /// section 4.2.1), or if neither the authority names a port nor the scheme has a default one. Such
+    /// a URI has an origin of its own, which no other has, so compare origins by
+    /// [`same_origin`](URI::same_origin). Does not allocate.
+    ///
+    /// ```
+    /// assert!(URI::try_from_str(alloc, "http://h/a")?.origin().is_some());
+    /// assert!(URI::try_from_str(alloc, "http:///a")?.origin().is_none());
+    /// ```
     pub fn origin(&self) -> Option<Origin<'_>>
         ensures { result ≡ spec.origin self.now }
     {
         let host = self.reference.host()?;
+        if host.is_empty() {
+            return None;
+        }
         let port = self.reference.port_or_default()?;
         Some(Origin {
             scheme: self.scheme().as_borrowed(),
@@ -201,6 +210,9 @@ impl<'u> URIView<'u> {
     {
         let scheme = Held(self.scheme());
         let host = Held(self.view.host()?);
+        if host.0.is_empty() {
+            return None;
+        }
         let port = self.view.port().or(scheme.0.default_port())?;
         Some(Origin {
             scheme: scheme.take(),

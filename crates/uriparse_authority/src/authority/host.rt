@@ -99,6 +99,16 @@ impl<'h> Host<'h> {
         matches!(self, Host::RegisteredName(_))
     }
 
+    /// Whether the host is empty, as in `file:///a`: a registered name without a byte.
+    pub fn is_empty(&self) -> bool
+        ensures { result ≡ spec.is_empty self.now }
+    {
+        match self {
+            Host::RegisteredName(name) => name.as_bytes().is_empty(),
+            _ => false,
+        }
+    }
+
     /// A copy that borrows this host's text. Does not allocate.
     pub fn as_borrowed(&self) -> Host<'_>
         ensures { result ≡ self.now }

@@ -15,7 +15,7 @@ use Rattle.uriparse_authority.specs.Host as host
 use Rattle.uriparse_authority.specs.Port as port
 use Rattle.uriparse_reference.specs.Reference.{Parts}
 use Rattle.uriparse.specs.declared.uri.origin.Origin.{Origin}
-use Rattle.uriparse.specs.Origin.{named_port, origin, text}
+use Rattle.uriparse.specs.Origin.{if_named, named_port, origin, text}
 use Rattle.uriparse_ffi.specs.Origins.{origin_of, pieces_from, pieces_of, text_of}
 
 host_text : (h : Host) → host.text (canonical_host h) ≡ host.canonical_text h
@@ -36,12 +36,18 @@ pieces_are p = by_scheme p.scheme p.authority
     by_port s h None = refl
     by_port s h (Some n) = refl
 
+    by_host : (s : Scheme) (o : Option Host) (n : Option ℕ)
+        → option_and_then (λ h. option_map (λ n. pieces_of (origin_of s h n)) n) o ≡ option_map pieces_of (option_and_then (λ h. option_map (origin_of s h) n) o)
+    by_host s None n = refl
+    by_host s (Some h) n = by_port s h n
+
     by_scheme : (s : Option Scheme) (a : Option AuthorityParts) → pieces_from s a
         ≡ option_map pieces_of (option_and_then (λ x. option_and_then (λ h. option_map (λ n. origin_of x h n)
-        (option_and_then (λ (b : AuthorityParts). option_or b.port (option_and_then default_port s)) a)) (option_map (λ (b : AuthorityParts). b.host) a)) s)
+        (option_and_then (λ (b : AuthorityParts). option_or b.port (option_and_then default_port s)) a))
+        (option_and_then if_named (option_map (λ (b : AuthorityParts). b.host) a))) s)
     by_scheme None a = refl
     by_scheme (Some s) None = refl
-    by_scheme (Some s) (Some a) = by_port s a.host (option_or a.port (default_port s))
+    by_scheme (Some s) (Some a) = by_host s (if_named a.host) (option_or a.port (default_port s))
 
 pub no_pieces : (o : Option Origin) (x : Scheme × AuthorityParts) → Some x ≡ option_map pieces_of o → o ≡ None → ⊥
 no_pieces None x e h = let bad : ◌≡◌ {A = Option (Scheme × AuthorityParts)} (Some x) None = e in absurd (cc)

@@ -10,11 +10,11 @@ use super::Segment;
 use super::segment::has_colon;
 use uriparse_text::internal::Held;
 
-/// Segments in order, in a list or in the text of a path.
+/// A sequence of segments: a list, or the segments of a path in its string.
 pub trait SegmentSequence<'t>: Drop {
     ghost listed: { Self → List (List ℕ) };
 
-    /// The same segments, once more.
+    /// A copy of the sequence.
     fn again(&self) -> Self
         ensures { listed result ≡ listed self.now };
 

@@ -19,7 +19,7 @@ impl<'s> Dotted for Segment<'s> {
     ghost fits = { Prim.search rules };
 }
 
-/// Each of the segments has the text of one, by its invariant. Does nothing.
+/// Does nothing. Its contract states that each segment's bytes are those of a segment.
 #[inline]
 pub(super) fn each_is_segment(segments: &[Segment<'_>])
     ensures { list_all is_segment segments.now ≡ true }

@@ -1,7 +1,8 @@
 //! Why a text is not a reference, or is not written to a buffer.
-ghost use Rattle.std.specs.Prelude.{◌≡◌};
+ghost use Rattle.std.specs.Prelude.{◌≡◌, ◌↔◌, IsTrue};
 ghost use Rattle.uriparse_text.specs.declared.segment.error.PathError.TheVariants.{OutOfMemory};
 ghost use Rattle.uriparse_reference.specs.declared.uri_reference.error.BufferError.TheVariants as buffers;
+ghost use Rattle.uriparse_reference.specs.declared.uri_reference.error.TargetError.TheVariants as targets;
 ghost use Rattle.uriparse_reference.specs.declared.uri_reference.error.URIReferenceError.TheVariants as errors;
 
 use std::alloc::{AllocError, AllocFailed};
@@ -86,6 +87,24 @@ pub enum TargetError {
     /// Out of memory, for the text.
     #[error("out of memory")]
     OutOfMemory,
+}
+
+impl URIReferenceError {
+    /// Whether memory ran out, so that the input is not at fault and the same call may succeed later.
+    pub fn is_out_of_memory(&self) -> bool
+        ensures { IsTrue result ↔ (self.now ≡ errors.Path OutOfMemory) }
+    {
+        matches!(self, URIReferenceError::Path(PathError::OutOfMemory))
+    }
+}
+
+impl TargetError {
+    /// Whether memory ran out, so that the input is not at fault and the same call may succeed later.
+    pub fn is_out_of_memory(&self) -> bool
+        ensures { IsTrue result ↔ (self.now ≡ targets.OutOfMemory) }
+    {
+        matches!(self, TargetError::OutOfMemory)
+    }
 }
 
 impl From<AuthorityError> for URIReferenceError {

@@ -20,6 +20,7 @@ impl RegisteredScheme {
         match self {
             // schemes.tsv: ports
             RegisteredScheme::AAA => Some(3868),
+            RegisteredScheme::AAAS => Some(5658),
             RegisteredScheme::ACAP => Some(674),
             RegisteredScheme::CAP => Some(1026),
             RegisteredScheme::CoAP => Some(5683),

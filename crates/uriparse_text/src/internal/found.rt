@@ -1,5 +1,5 @@
-//! What a reader found in a text, before a component is built from it: plain words that need no
-//! drop, so a reader can still reject what follows.
+//! The parts of the input before a component is built from them: slices and flags without a
+//! destructor, so that a later fault can still be returned cheaply.
 ghost use Rattle.std.specs.Prelude.{◌≡◌, ◌==◌, MatchResult, None, Ok, Err, Some, is_none};
 ghost use Rattle.std.specs.Option.{option_copied};
 ghost use Rattle.uriparse_text.specs.Cuts.{after, before};

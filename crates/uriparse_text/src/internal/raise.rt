@@ -1,5 +1,5 @@
-//! Small digits of escapes that are made large in place: RFC 3986, section 6.2.2.1. No length
-//! changes, so all else stays where it is.
+//! Upper-cases the hexadecimal digits of escapes in place: RFC 3986, section 6.2.2.1. No length
+//! changes.
 ghost use Rattle.std.specs.Prelude.{◌≡◌, ◌≢◌, ◌≤◌, ◌<◌, ◌+◌, ℕ, drop, length, true};
 ghost use Rattle.uriparse_text.specs.Canonical.{canonical_in};
 ghost use Rattle.uriparse_text.specs.declared.internal.case.Case.TheVariants.{Kept};
@@ -9,7 +9,7 @@ use super::bits::{lowest, without_lowest};
 use super::pairs::marks_of_changed;
 use super::token::begins_escape;
 
-/// Makes the digits of the escape large that begins at this place, if one does.
+/// Upper-cases the digits of the escape that begins at this place, if one does.
 #[inline(always)]
 fn raise(text: &mut [u8], at: usize)
     requires { length (canonical_in Kept text.old) ≡ length text.old }

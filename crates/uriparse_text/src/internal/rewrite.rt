@@ -14,9 +14,7 @@ use std::alloc::AllocError;
 pub(super) trait Rewriting: ByteTest {
     ghost rewritten: { Self → List ℕ → List ℕ };
 
-    /// The byte that is written for an escape of these three bytes, if they are one and that is a
-    /// single byte. The loops ask it first: what it writes is what `token` says, without the choice
-    /// between a byte and an escape. A way that writes no such byte has nothing to say here.
+    /// Fast path: the single byte that an escape decodes to. Must agree with `token`. Default: `None`.
     #[inline(always)]
     fn escaped_byte(&self, b: u8, high: u8, low: u8) -> Option<u8>
         ensures { IfSome result (λ value. (after : List ℕ) → rewritten self.now (b ∷ high ∷ low ∷ after) ≡ value ∷ rewritten self.now after) }

@@ -1,5 +1,5 @@
 //! Errors of paths and segments.
-ghost use Rattle.std.specs.Prelude.{◌≡◌};
+ghost use Rattle.std.specs.Prelude.{◌≡◌, ◌↔◌, IsTrue};
 ghost use Rattle.uriparse_text.specs.declared.segment.error.PathError.TheVariants.{OutOfMemory};
 
 use std::alloc::{AllocError, AllocFailed};
@@ -21,6 +21,15 @@ pub enum PathError {
     /// Out of memory: for the list of segments or, in a list of edits, for a normal form.
     #[error("out of memory")]
     OutOfMemory,
+}
+
+impl PathError {
+    /// Whether memory ran out, so that the input is not at fault and the same call may succeed later.
+    pub fn is_out_of_memory(&self) -> bool
+        ensures { IsTrue result ↔ (self.now ≡ OutOfMemory) }
+    {
+        matches!(self, PathError::OutOfMemory)
+    }
 }
 
 impl From<AllocError> for PathError {

@@ -17,7 +17,7 @@ use Rattle.uriparse_scheme.specs.Registered.{name_of, registered_named}
 use Rattle.uriparse_scheme.proofs.lemmas.schemes.GrammarLemmas.{canonical_low_of_scheme}
 use Rattle.uriparse_scheme.proofs.lemmas.table.TableLemmas.{canonical_name, named_itself, same_name}
 use Rattle.uriparse_scheme.specs.declared.scheme.registered.RegisteredScheme.{RegisteredScheme}
-use Rattle.uriparse.specs.Origin.{are_alike, are_both, named_port, origin}
+use Rattle.uriparse.specs.Origin.{are_alike, are_both, if_named, named_host, named_port, origin}
 use Rattle.std.specs.Option.{option_and_then, option_eq, option_map}
 use Rattle.uriparse_scheme.specs.declared.scheme.Scheme.{Scheme}
 use Rattle.uriparse_scheme.specs.declared.scheme.Scheme.TheVariants.{Registered, Unregistered}
@@ -59,6 +59,15 @@ returns-clause-hash c = λ a b h.
 pub returns-clause-same : goal.returns-clause-same
 returns-clause-same c = λ p q a b e f. ap (λ o. are_both o (origin q)) e ∙ ap (are_both (Some a)) f
 
+none_made : (s : Option Scheme) (n : Option ℕ) → made s None n ≡ None
+none_made None n = refl
+none_made (Some s) n = refl
+
+pub returns-clause-hostless : goal.returns-clause-hostless
+returns-clause-hostless c = λ p h e empty.
+    ap (λ o. made p.scheme (option_and_then if_named o) (port_or_default p)) e
+    ∙ ap (λ is. made p.scheme (cond is None (Some h)) (port_or_default p)) empty ∙ none_made p.scheme (port_or_default p)
+
 none_of : (o : Option Origin) → are_both o None ≡ false
 none_of None = refl
 none_of (Some a) = refl
@@ -69,8 +78,8 @@ returns-clause-none c = λ p q e. (ap (λ o. are_both o (origin q)) e, ap (are_b
 pub returns-clause-port : goal.returns-clause-port
 returns-clause-port c = λ p.
     let q = without_default_port p in
-    ap (λ s. made s (host_of q) (port_or_default q)) (scheme_without p) ∙ ap (λ h. made p.scheme h (port_or_default q)) (host_without p)
-    ∙ ap (made p.scheme (host_of p)) (port_without p)
+    ap (λ s. made s (named_host q) (port_or_default q)) (scheme_without p)
+    ∙ ap (λ h. made p.scheme (option_and_then if_named h) (port_or_default q)) (host_without p) ∙ ap (made p.scheme (named_host p)) (port_without p)
 
 -- ---- one text
 
@@ -97,7 +106,7 @@ made_scheme (Some s) (Some h) (Some n) a e =
     ap (λ (o : Origin). Some o.scheme) same
 
 valid_scheme : (p : Parts) (a : Origin) → Valid p → origin p ≡ Some a → scheme.Valid a.scheme
-valid_scheme p a v e = subst (λ s. IfSome s scheme.Valid) (made_scheme p.scheme (host_of p) (port_or_default p) a e) v.is_scheme
+valid_scheme p a v e = subst (λ s. IfSome s scheme.Valid) (made_scheme p.scheme (named_host p) (port_or_default p) a e) v.is_scheme
 
 pub returns-clause-text : goal.returns-clause-text
 returns-clause-text c = λ p q a b v w e f h.

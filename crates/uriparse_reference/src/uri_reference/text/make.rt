@@ -37,7 +37,7 @@ pub(super) fn checked_text(text: String) -> ReferenceText
 }
 
 impl ReferenceText {
-    /// The text of the normal form, if it is another one than this.
+    /// The normal form's string, or `None` if it equals this string.
     fn other_normal_text(&self, alloc: Global) -> Result<Option<String>, AllocError>
         ensures other { IfOk result (λ o. MatchOption o (print (normal self.now.parts) ≡ self.now.text) (λ s. string_bytes s ≡ print (normal self.now.parts))) }
         ensures takes_no_memory { print (normal self.now.parts) ≡ self.now.text → IsOk result }

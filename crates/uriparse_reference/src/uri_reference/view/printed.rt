@@ -11,7 +11,7 @@ use super::ReferenceView;
 use uriparse_scheme::internal::split_scheme;
 
 impl<'t> ReferenceView<'t> {
-    /// Whether the scheme, if present, prints its text.
+    /// Whether printing the scheme gives back the input.
     fn has_own_scheme_text(&self) -> bool
         ensures { IsTrue result ↔ (scheme_part self.now.parts ≡ scheme_text self.now.text) }
     {

@@ -1,0 +1,280 @@
+"""The extension for SQLite beside Python's package: `test.py uri0.so [COUNT of random texts]`.
+
+It needs a python3 whose sqlite3 loads extensions, and LIBURIPARSE or a built package. The last line has the counts."""
+from __future__ import annotations
+
+import ctypes
+import os
+import random
+import re
+import sqlite3
+import struct
+import sys
+from typing import Any, Callable, List, Optional, Tuple
+
+TOP = os.path.dirname(os.path.dirname(os.path.abspath(__file__)))
+sys.path.insert(0, os.path.join(TOP, "c"))
+
+import fuzz  # noqa: E402
+import rows  # noqa: E402
+import uriparse  # noqa: E402
+
+ONE = ("valid", "fault", "scheme", "authority", "host", "port", "path", "query", "fragment", "normalize", "hash", "origin", "escape")
+EXTENSION = os.path.abspath(sys.argv[1])
+COUNT = int(sys.argv[2]) if len(sys.argv) > 2 else 100_000
+
+
+def connect(encoding: str = "UTF-8") -> sqlite3.Connection:
+    db = sqlite3.connect(":memory:", isolation_level=None)
+    db.enable_load_extension(True)
+    db.load_extension(EXTENSION)
+    db.enable_load_extension(False)
+    db.execute("PRAGMA trusted_schema = OFF")
+    db.execute("PRAGMA encoding = '%s'" % encoding)
+    return db
+
+
+def one(db: sqlite3.Connection, expression: str, *values: Any) -> Any:
+    return db.execute("SELECT " + expression, values).fetchone()[0]
+
+
+def raised(call: Callable[[], object]) -> str:
+    try:
+        call()
+    except (sqlite3.Error, MemoryError) as error:
+        return "%s: %s" % (type(error).__name__, error)
+    raise AssertionError("nothing raised")
+
+
+def shown_origin(text: bytes) -> Optional[str]:
+    found = answer_of(uriparse.origin, text)
+    return found and found.decode()
+
+
+def expected(text: bytes) -> Tuple[Any, ...]:
+    """What the functions of ONE return for a text."""
+    escaped = uriparse.escape(text).decode()
+    fault = uriparse.first_fault(text)
+    if fault:
+        return (0, fault[1], *[None] * 10, escaped)
+    found = uriparse.parse(text)
+    parts = [part if part is None else part.decode() for part in (
+        found.scheme, found.authority, found.host, found.path, found.query, found.fragment)]
+    parts.insert(3, found.port_number)  # type: ignore[arg-type]
+    signed = struct.unpack("q", struct.pack("Q", uriparse.hash_of(text)))[0]
+    return (1, None, *parts, uriparse.normalize(text).decode(), signed, shown_origin(text), escaped)
+
+
+def test_rows(db: sqlite3.Connection) -> int:
+    found = rows.library_rows()
+    for (text,) in found["valid"]:
+        assert one(db, "uri_valid(?)", text) == 1, text
+    for (text,) in found["invalid"]:
+        assert one(db, "uri_valid(?)", text) == 0, text
+    for text, normal in found["normal"]:
+        assert one(db, "uri_normalize(?)", text) == normal, text
+    for base, text, target in found["target"]:
+        assert one(db, "uri_resolve(?, ?)", base, text) == (target or None if base.startswith("a") else target), (base, text)
+    equal = rows.program_rows()
+    for left, right, is_equal in equal:
+        assert one(db, "uri_equal(?, ?)", left, right) == is_equal, left
+        assert one(db, "? = ? COLLATE URI", left, right) == is_equal, left
+    counts = [len(of_kind) for of_kind in found.values()] + [len(equal)]
+    assert min(counts) > 2 and sum(counts) > 120, counts
+    return sum(counts)
+
+
+def test_errors(db: sqlite3.Connection) -> None:
+    assert one(db, "uri_check('HTTP://h/%7e')") == "HTTP://h/%7e" and one(db, "uri_check(NULL)") is None
+    assert raised(lambda: one(db, "uri_check('http://h/a b')")) == (
+        "OperationalError: first wrong byte 10: invalid byte in the path")
+    for name in (*ONE, "check"):
+        assert one(db, "uri_%s(NULL)" % name) is None, name
+        assert "wrong number of arguments" in raised(lambda: one(db, "uri_%s('a', 'b')" % name)), name
+    for name in ("equal", "resolve"):
+        for pair in (("a:", None), (None, "a:"), (None, None), ("a b", "a:"), ("a:", "a b")):
+            assert one(db, "uri_%s(?, ?)" % name, *pair) is None, (name, pair)
+    assert one(db, "typeof(uri_port('//h:080'))") == "integer" and one(db, "uri_port('//h:080')") == 80
+    assert one(db, "uri_origin('HTTPS://u@H:443/a')") == "https://h" and one(db, "uri_origin('//h')") is None
+    for text in ("file:///a", "http:///a", "http://", "https://u@:443/a"):
+        assert one(db, "uri_origin(?)", text) is None, text
+    assert one(db, "uri_origin('http://%31.2.3.4')") == one(db, "uri_origin('http://1.2.3.4')") == "http://1.2.3.4"
+    assert one(db, "uri_port('//h:')") is None and one(db, "uri_host('//')") == "" and one(db, "uri_path(12)") == "12"
+
+
+def test_texts(db: sqlite3.Connection) -> None:
+    """Texts of no byte, with NUL, and of 10 MB."""
+    assert one(db, "uri_valid('') AND uri_normalize('') = '' AND uri_path(x'') = '' AND uri_resolve('s:', x'') = 's:'") == 1
+    for text in (b"http://h/\0", b"\0"):
+        for value in (text, text.decode()):
+            assert one(db, "uri_fault(?)", value) == len(text) - 1 and one(db, "uri_host(?)", value) is None, text
+            assert one(db, "uri_escape(?)", value) == text.decode().replace("\0", "%00"), text
+    for size in (*range(1000, 1050), 10_000_000):
+        tail = "a" * size
+        assert one(db, "uri_path(?)", "S:/" + tail) == "/" + tail, size
+        assert one(db, "uri_normalize(?)", "S:/%61/../" + tail) == "s:/" + tail, size
+        assert one(db, "uri_resolve('http://h/', ?)", tail) == "http://h/" + tail, size
+        assert one(db, "uri_escape(?)", tail + " ") == tail + "%20", size
+        assert one(db, "uri_equal(?1, ?2) AND uri_hash(?1) = uri_hash(?2) AND ?1 = ?2 COLLATE URI", "S:" + tail,
+                   "s:%61" + tail[1:]) == 1, size
+        assert one(db, "?1 < ?2 COLLATE URI AND NOT ?2 < ?1 COLLATE URI", "S:" + tail, "s:%61" + tail) == 1, size
+        assert one(db, "uri_fault(?)", tail + " ") == size
+    limit = ctypes.CDLL("libsqlite3.so.0").sqlite3_hard_heap_limit64
+    limit.argtypes = (ctypes.c_int64,)
+    limit(ctypes.CDLL("libsqlite3.so.0").sqlite3_memory_used() + 50_000_000)
+    try:
+        assert raised(lambda: one(db, "uri_escape(zeroblob(20000000))")).startswith("MemoryError")
+    finally:
+        limit(0)
+
+
+def query_of(text: bytes) -> Optional[bytes]:
+    return None if uriparse.first_fault(text) else uriparse.parse(text).query
+
+
+def test_pairs(db: sqlite3.Connection) -> int:
+    """The pairs of a reference's query beside the package's, decoded."""
+    listed = "(SELECT group_concat(coalesce(name, 'NULL') || '=' || coalesce(value, 'NULL'), ' ') FROM uri_pairs(?))"
+    for text, expected in (("?a=1&b=%26&c", "a=1 b=& c=NULL"), ("http://h/?", "=NULL"), ("?=&&%3D=a=b+", "= =NULL ==a=b+"),
+                           ("?%C3%BC=%ff&%00=%2500", "\u00fc=%ff %00=%00"), ("?%ed%a0%80=%f4%90%80%80", "%ed%a0%80=%f4%90%80%80"),
+                           ("a", None), ("?a b", None), (None, None), (b"?a=1", "a=1"), (b"", None), (12, None)):
+        assert one(db, listed, text) == expected, (text, one(db, listed, text))
+    assert db.execute("SELECT typeof(name), typeof(value), uri FROM uri_pairs('?a')").fetchall() == [("text", "null", "?a")]
+    assert one(db, "count(*) FROM uri_pairs") == 0
+    assert db.execute("SELECT name FROM uri_pairs('?b=1&a=2&b=3') WHERE value > '1' ORDER BY 1").fetchall() == [("a",), ("b",)]
+    long = "?" + "&".join("n%d=%s" % (at, "v" * at) for at in range(2000))
+    assert one(db, "sum(length(value)) FROM uri_pairs(?)", long) == 1999000
+    found: List[Tuple[Any, ...]] = db.execute(
+        "SELECT random.rowid - 1, name, value FROM random, uri_pairs(x) ORDER BY random.rowid, uri_pairs.rowid").fetchall()
+    texts = [text for text, in db.execute("SELECT x FROM random ORDER BY rowid")]
+    assert found == [(at, *pair) for at, text in enumerate(texts) for pair in rows.decoded_pairs(query_of(text))]
+    return len(found)
+
+
+def test_random(db: sqlite3.Connection, encoding: str) -> int:
+    """Each function beside the package, of blobs and of texts."""
+    draw = random.Random(encoding)
+    texts = [fuzz.some_text(draw) for _ in range(COUNT)]
+    db.execute("CREATE TABLE random (x, text)")
+    db.executemany("INSERT INTO random VALUES (?, ?)", ((text, text.decode("utf-8", "replace")) for text in texts))
+    calls = ", ".join("uri_%s(%%s)" % name for name in ONE)
+    for row, text in zip(db.execute("SELECT %s FROM random ORDER BY rowid" % (calls % (("x",) * len(ONE)))), texts):
+        assert row == expected(text), (text, row, expected(text))
+    for row, text in zip(db.execute("SELECT %s FROM random ORDER BY rowid" % (calls % (("text",) * len(ONE)))), texts):
+        shown = text.decode("utf-8", "replace").encode()
+        assert row == expected(shown), (text, row)
+    pairs = zip(texts, texts[1:])
+    two = db.execute("SELECT uri_resolve(a.x, b.x), uri_equal(a.x, b.x) FROM random a JOIN random b ON b.rowid = a.rowid + 1 "
+                     "ORDER BY a.rowid")
+    for (target, is_equal), (left, right) in zip(two, pairs):
+        assert (target or "").encode() == (answer_of(uriparse.resolve, left, right) or b""), (left, right)
+        assert is_equal == answer_of(uriparse.equal, left, right), (left, right)
+    return len(texts)
+
+
+def answer_of(call: Callable[..., Any], *texts: bytes) -> Any:
+    try:
+        return call(*texts)
+    except uriparse.URIError:
+        return None
+
+
+def alike(draw: random.Random, text: str) -> str:
+    """Another spelling of a text, if it is a reference."""
+    return draw.choice((text.replace("a", "%61"), text.replace("%7e", "~"), text.replace("http:", "HTTP:"), text.swapcase(), text))
+
+
+def test_order(db: sqlite3.Connection) -> int:
+    """The collation is a total order in which references come first, and exactly the equal ones are level."""
+    draw = random.Random(3)
+    texts = [fuzz.some_text(draw).decode("utf-8", "replace").replace("\0", "0") for _ in range(120)]
+    texts += [alike(draw, text) for text in texts] + ["//h", "//h/", "//h:", "//h:/", "//%31.2.3.4", "//1.2.3.4", "//1.2.3.4:",
+                                                   "a/../b", "b", "a%2fb", "a%2Fb", "a/b", "a?b", "a%3fb", "a#b", "s:", "s:?"]
+    texts += rows.close_texts()
+    db.execute("CREATE TABLE few (at INTEGER PRIMARY KEY, x TEXT COLLATE URI)")
+    db.executemany("INSERT INTO few VALUES (?, ?)", enumerate(texts))
+    size = len(texts)
+    signs = [0] * (size * size)
+    for left, right, sign in db.execute("SELECT a.at, b.at, (a.x > b.x) - (a.x < b.x) FROM few a, few b"):
+        signs[left * size + right] = sign
+    # Each text's rank is how many texts precede it: the order is total if the ranks' order is the order of all pairs.
+    ranks = [sum(sign > 0 for sign in signs[at * size:(at + 1) * size]) for at in range(size)]
+    is_reference = [not uriparse.first_fault(text.encode()) for text in texts]
+    level = 0
+    for left in range(size):
+        for right in range(size):
+            sign = signs[left * size + right]
+            assert sign == (ranks[left] > ranks[right]) - (ranks[left] < ranks[right]), (texts[left], texts[right])
+            if is_reference[left] and is_reference[right]:
+                is_equal = uriparse.equal(texts[left].encode(), texts[right].encode())
+                level += is_equal and left != right
+            else:
+                is_equal = texts[left] == texts[right]
+                assert is_reference[left] == is_reference[right] or (sign < 0) == is_reference[left], (texts[left], texts[right])
+            assert (sign == 0) == is_equal, (texts[left], texts[right])
+    assert level > 100 and 50 < sum(is_reference) < size - 20, level
+    return size * size
+
+
+def test_indexes(db: sqlite3.Connection) -> None:
+    db.execute("CREATE TABLE ids (url TEXT COLLATE URI UNIQUE CHECK (uri_valid(url)), host GENERATED ALWAYS AS (uri_host(url)))")
+    db.execute("INSERT INTO ids VALUES ('http://h/%7e')")
+    assert "UNIQUE" in raised(lambda: db.execute("INSERT INTO ids VALUES ('HTTP://H:/~')"))
+    assert "CHECK" in raised(lambda: db.execute("INSERT INTO ids VALUES ('a b')"))
+    db.execute("INSERT INTO ids VALUES ('http://h/a/../~')")
+    assert db.execute("SELECT url, host FROM ids WHERE url = 'http://H/%7E'").fetchall() == [("http://h/%7e", "h")]
+    # The random texts in indexes: the file is sound, and a look-up by another spelling finds what a walk finds.
+    db.execute("CREATE INDEX by_spelling ON random (text COLLATE URI)")
+    db.execute("CREATE INDEX by_normal ON random (uri_normalize(text))")
+    assert one(db, "integrity_check FROM pragma_integrity_check") == "ok"
+    plan = str(db.execute("EXPLAIN QUERY PLAN SELECT * FROM random WHERE uri_normalize(text) = 's:'").fetchall())
+    assert "by_normal" in plan, plan
+    for text, in db.execute("SELECT text FROM random WHERE uri_valid(text) LIMIT 20").fetchall():
+        other = alike(random.Random(4), text)
+        assert one(db, "count(*) FROM random WHERE text = ? COLLATE URI", other) == one(
+            db, "count(*) FROM random NOT INDEXED WHERE uri_equal(text, ?)", other), text
+    valid = [row[0] for row in db.execute("SELECT uri_valid(text) FROM random ORDER BY text COLLATE URI")]
+    assert valid == sorted(valid, reverse=True)
+
+
+def test_page() -> int:
+    """The statements of README.md print what stands there, and its Python runs."""
+    page = os.path.join(os.path.dirname(os.path.abspath(__file__)), "README.md")
+    db = connect()
+    statements = rows.page_statements(page)
+    for statement, wanted in statements:
+        try:
+            found = ["|".join("NULL" if value is None else str(value) for value in row) for row in db.execute(statement)]
+        except sqlite3.Error as error:
+            found = ["error: %s" % error]
+        assert "\n".join(found) == "\n".join(wanted), (statement, found, wanted)
+    with open(page, encoding="utf-8") as file:
+        code, = re.findall(r"^```python\n(.*?)^```$", file.read(), re.MULTILINE | re.DOTALL)
+    other = sqlite3.connect(":memory:")
+    exec(code.replace("bindings/sqlite/out/uri0", EXTENSION), {"db": other})
+    assert one(other, "uri_valid('a')") == 1
+    return len(statements)
+
+
+def main() -> None:
+    counts: List[str] = []
+    for encoding in ("UTF-8", "UTF-16le", "UTF-16be"):
+        db = connect(encoding)
+        found: Optional[int] = None
+        found = test_rows(db)
+        test_errors(db)
+        test_texts(db)
+        texts = test_random(db, encoding) if encoding != "UTF-16be" else 0
+        pairs = test_order(db)
+        of_queries = test_pairs(db) if texts else 0
+        if texts:
+            test_indexes(db)
+        assert one(db, "encoding FROM pragma_encoding") == encoding
+        counts.append("%s: %d rows, %d random texts, %d pairs of their queries, %d pairs in order" % (
+            encoding, found, texts, of_queries, pairs))
+        db.close()
+    counts.append("%d statements of README.md" % test_page())
+    print("; ".join(counts))
+
+
+main()

@@ -1,0 +1,197 @@
+// Tests of the page in headless Chromium, which is driven over a pipe: each opens a state of its fragment.
+//
+//     node bindings/web/page.mjs CHROMIUM MODULE [FOLDER FOR SCREENSHOTS]        (bindings/web/run does this)
+//
+// The status is 2 if the browser has no 64-bit memories.
+import assert from "node:assert/strict";
+import { spawn } from "node:child_process";
+import { mkdtemp, readFile, rm, writeFile } from "node:fs/promises";
+import { createServer } from "node:http";
+import { tmpdir } from "node:os";
+import { join } from "node:path";
+
+const [browser, module, shots] = process.argv.slice(2);
+
+const FILES = {
+  "/index.html": ["text/html", new URL("index.html", import.meta.url)],
+  "/uriparse.mjs": ["text/javascript", new URL("uriparse.mjs", import.meta.url)],
+  "/uriparse.wasm": ["application/wasm", module],
+};
+const server = createServer(async (request, response) => {
+  const [type, file] = FILES[new URL(request.url, "http://h").pathname] ?? [];
+  response.writeHead(file ? 200 : 404, { "content-type": type ?? "text/plain" });
+  response.end(file && await readFile(file));
+});
+await new Promise((resolve) => server.listen(0, "127.0.0.1", resolve));
+const page = `http://127.0.0.1:${server.address().port}/index.html`;
+
+// The browser takes and gives messages of JSON that end with a zero byte.
+const profile = await mkdtemp(join(tmpdir(), "uriparse-"));
+const child = spawn(browser, ["--headless", "--no-sandbox", "--disable-gpu", "--window-size=500,900", "--remote-debugging-pipe", `--user-data-dir=${profile}`],
+  { stdio: ["ignore", "ignore", "ignore", "pipe", "pipe"] });
+const waiting = new Map();
+let last = 0;
+let rest = "";
+child.stdio[4].setEncoding("utf8").on("data", (some) => {
+  const messages = (rest + some).split("\0");
+  rest = messages.pop();
+  for (const { id, result, error } of messages.map((message) => JSON.parse(message))) {
+    waiting.get(id)?.(error ? Promise.reject(new Error(error.message)) : result);
+  }
+});
+let sessionId;
+function send(method, params = {}) {
+  last += 1;
+  child.stdio[3].write(`${JSON.stringify({ id: last, method, params, sessionId })}\0`);
+  return new Promise((resolve) => { waiting.set(last, resolve); });
+}
+const { targetId } = await send("Target.createTarget", { url: "about:blank" });
+({ sessionId } = await send("Target.attachToTarget", { targetId, flatten: true }));
+
+// What an expression is worth in the page.
+async function valueOf(expression) {
+  const { result, exceptionDetails } = await send("Runtime.evaluate", { expression, awaitPromise: true, returnByValue: true });
+  assert(!exceptionDetails, exceptionDetails?.exception?.description);
+  return result.value;
+}
+
+const READY = `new Promise((resolve) => {
+  const look = () => document.readyState === "complete" && (document.documentElement.dataset.ready || document.querySelector("#status.bad"))
+    ? resolve(document.documentElement.dataset.ready ?? document.querySelector("#status").textContent) : setTimeout(look, 20);
+  look();
+})`;
+let opening = 0;
+
+// Opens the page with this fragment, and returns what it shows.
+async function opened(state) {
+  opening += 1;
+  await send("Page.navigate", { url: `${page}?${opening}#${state}` });
+  const ready = await valueOf(READY);
+  if (ready.includes("no 64-bit WebAssembly")) {
+    process.exit(2);
+  }
+  assert.equal(ready, "true", ready);
+  return shown();
+}
+
+function shown() {
+  return valueOf(`(() => {
+    const at = (id) => document.getElementById(id);
+    const texts = Object.fromEntries(["text-spelled", "verdict", "normal", "base-spelled", "target", "other-spelled", "equal"].map((id) => [id, at(id).textContent]));
+    const fields = ["text", "base", "other"];
+    return { ...texts, html: at("text-spelled").innerHTML, values: fields.map((id) => at(id).value), invalid: fields.filter((id) => at(id).ariaInvalid === "true"),
+      link: at("state").hash, focus: document.activeElement.id };
+  })()`);
+}
+
+let passed = 0;
+let failed = 0;
+async function test(name, body) {
+  try {
+    await body();
+    passed += 1;
+  } catch (error) {
+    failed += 1;
+    console.log(`page: ${name}: ${error.message}`);
+  }
+}
+
+// rows: the state, and some of what is shown in it.
+const ROWS = [
+  ["text=http://u@h:8/a?q%23f", { verdict: "A URI.", invalid: [], normal: "http://u@h:8/a?q#f", "text-spelled": "http://u@h:8/a?q#f" }],
+  ["text=HTTP://h/a/../%257Eb", { normal: "http://h/~b" }],
+  ["text=http://h/a%20b", { verdict: "Rejected at byte 10: invalid byte in the path, a space (U+0020).", "text-spelled": "http://h/a␣^b", invalid: ["text"] }],
+  ["text=%20", { verdict: "Rejected at byte 0: invalid byte in the path, a space (U+0020)." }],
+  ["text=1:2", { verdict: "Rejected at byte 0: a colon in the first segment of a reference without a scheme." }],
+  ["text=http://h/a%0Ab", { values: ["http://h/a\nb", "", ""], verdict: "Rejected at byte 10: invalid byte in the path, a newline (U+000A).", "text-spelled": "http://h/aU+000A^b" }],
+  ["text=http://h/a%09b", { verdict: "Rejected at byte 10: invalid byte in the path, a tab (U+0009).", "text-spelled": "http://h/aU+0009^b" }],
+  ["text=http://h/%E2%80%AEb", { verdict: "Rejected at byte 9: invalid byte in the path, U+202E.", "text-spelled": "http://h/U+202E^b" }],
+  ["text=http://h/b%E2%80%8B", { verdict: "Rejected at byte 10: invalid byte in the path, a zero-width space (U+200B)." }],
+  ["text=http://h/e%CC%81%F0%9F%98%80", { "text-spelled": "http://h/eU+0301^😀" }],
+  [`text=http://h/${"a".repeat(100)}{${"b".repeat(100)}`, { "text-spelled": `…${"a".repeat(16)}{^${"b".repeat(15)}…` }],
+  ["text=../g&base=http://a/b/c/d", { target: "→ http://a/b/g", invalid: [] }],
+  ["text=g&base=/a", { target: "Rejected: the base has no scheme.", invalid: ["base"] }],
+  ["text=g&base=s:a%20b", { target: "Rejected at byte 3: invalid byte in the path, a space (U+0020).", "base-spelled": "s:a␣^b", invalid: ["base"] }],
+  ["text=a%20b&base=s:a&other=a", { target: "No target: the text is rejected.", equal: "No comparison: the text is rejected.", invalid: ["text"] }],
+  ["text=a", { target: "No target: the base is empty.", equal: "No comparison: the other text is empty." }],
+  ["text=http://h/~&other=HTTP://H/%257e", { equal: "equal" }],
+  ["text=a&other=b", { equal: "different" }],
+  ["text=/b&other=/a/../b", { equal: "different: the normal forms are the same text, but dot segments count" }],
+  ["text=//1.2.3.4&other=//%2531.2.3.4", { equal: "different: the normal forms are the same text, but a name is no address" }],
+  ["text=a&other=b%5B", { equal: "Rejected at byte 1: invalid byte in the path.", "other-spelled": "b[^", invalid: ["other"] }],
+  ["text=", { values: ["", "", ""], link: "#text=", verdict: "A relative reference.", normal: "Empty, as the text is." }],
+  ["text=a?b+c%2B&base=%zz", { values: ["a?b+c+", "%zz", ""], link: "#text=a%3Fb%2Bc%2B&base=%25zz" }],
+  ["", { values: ["http://user@example.com:8080/a/b?q=1#top", "", ""] }],
+];
+for (const [state, expected] of ROWS) {
+  await test(state, async () => {
+    const all = await opened(state);
+    assert.deepEqual(Object.fromEntries(Object.keys(expected).map((name) => [name, all[name]])), expected);
+  });
+}
+
+await test("each component is marked", async () => {
+  assert.match((await opened("text=http://u@h:8/a")).html, /<b class="host" title="host">h<\/b>/);
+});
+
+await test("a long text stands once", async () => {
+  const run = "a".repeat(1000);
+  const { values, normal, target } = await opened(`text=http://h/${run}&base=s:`);
+  assert.deepEqual([values[0], normal, target], [`http://h/${run}`, "the text itself", "→ the text itself"]);
+  assert.equal(await valueOf(`document.body.innerText.split("${run}").length`), 2);
+  const path = await valueOf('document.querySelector("#components td.path").textContent');
+  assert.equal(path, `/${run.slice(0, 47)}…${run.slice(0, 24)} (1,001 characters)`);
+  assert.equal((await opened(`text=HTTP://h/${run}`)).normal, `http://h/${run}`);
+});
+
+// The caret is below the middle of the first wrong character, whose neighbours in the text stand on both sides of it.
+const BOXES = `(() => {
+  const wrong = document.querySelector("#text-spelled .wrong");
+  const [before, character, caret, after] = [wrong.previousSibling, wrong, wrong.querySelector("i"), wrong.nextSibling].map((node) => {
+    if (node.getBoundingClientRect) { return node.getBoundingClientRect(); }
+    const range = document.createRange();
+    range.selectNode(node);
+    return range.getBoundingClientRect();
+  });
+  return { width: character.width, off: caret.x + caret.width / 2 - character.x - character.width / 2, below: caret.y - character.bottom,
+    before: character.x - before.right, after: after.x - character.right };
+})()`;
+const DRAWN = [["right-to-left", "http://h/%D7%90%D7%91%D7%92/x"], ["invisible", "http://h/%E2%80%AEtxt.exe"], ["wide", "http://h/%E6%BC%A2%E5%AD%97"], ["none", "http://h/a%20b"]];
+for (const [name, text] of DRAWN) {
+  await test(`the caret of a ${name} character`, async () => {
+    await opened(`text=${text}`);
+    const { width, ...distances } = await valueOf(BOXES);
+    assert(width > 4 && Object.values(distances).every((distance) => Math.abs(distance) < 2), JSON.stringify({ width, ...distances }));
+    if (shots) {
+      const { data } = await send("Page.captureScreenshot", { format: "png" });
+      await writeFile(join(shots, `${name}.png`), Buffer.from(data, "base64"));
+    }
+  });
+}
+
+await test("what is typed and pasted", async () => {
+  await opened("text=");
+  await valueOf('document.getElementById("text").focus()');
+  await send("Input.insertText", { text: "a" });
+  for (const type of ["keyDown", "keyUp"]) {
+    await send("Input.dispatchKeyEvent", { type, key: "Enter", code: "Enter", text: type === "keyDown" ? "\r" : undefined, windowsVirtualKeyCode: 13 });
+  }
+  assert.equal((await shown()).values[0], "a");
+  await send("Input.insertText", { text: "\nb" });
+  assert.equal((await shown()).verdict, "Rejected at byte 1: invalid byte in the path, a newline (U+000A).");
+});
+
+await test("an example gets the focus", async () => {
+  await opened("text=");
+  await valueOf('document.querySelectorAll("#examples button")[2].click()');
+  const { values, focus, target } = await shown();
+  assert.deepEqual([values[1], focus, target], ["http://a/b/c/d;p?q", "text", "→ http://a/g?y#s"]);
+});
+
+console.log(`page: ${passed} passed, ${failed} failed`);
+child.on("exit", async () => {
+  await rm(profile, { recursive: true, force: true, maxRetries: 5 });
+  process.exit(failed ? 1 : 0);
+});
+sessionId = undefined;
+await send("Browser.close");

@@ -1,0 +1,261 @@
+// Tests of the module in Node: the rows of the program `uri`, and what only JavaScript has.
+//
+//     node --experimental-wasm-memory64 bindings/web/test.mjs MODULE        (bindings/web/run does this)
+import assert from "node:assert/strict";
+import { readFile } from "node:fs/promises";
+import { freemem } from "node:os";
+import { pathToFileURL } from "node:url";
+import { setFlagsFromString } from "node:v8";
+import { runInNewContext } from "node:vm";
+import { load, isSupported, URIParseError } from "./uriparse.mjs";
+
+let passed = 0;
+let failed = 0;
+
+async function test(name, body) {
+  try {
+    await body();
+    passed += 1;
+  } catch (error) {
+    failed += 1;
+    console.log(`${name}: ${error.message}`);
+  }
+}
+
+assert(isSupported());
+const uris = await load(pathToFileURL(process.argv[2]));
+
+// The rows: words separated by bars, the status, the output, the message.
+const STRING = String.raw`"((?:[^"\\]|\\[^])*)"`;
+const ROW = new RegExp(String.raw`\(\s*${STRING},\s*(\d+),\s*${STRING},\s*(?:${STRING}|USAGE),?\s*\)`, "g");
+const source = await readFile(new URL("../../tests/program/mod.rt.txt", import.meta.url), "utf8");
+const unescaped = (text) => text.replace(/\\\n\s*/g, "").replace(/\\n/g, "\n").replace(/\\(.)/g, "$1");
+const rows = [...source.matchAll(ROW)].map(([, words, status, out]) => [unescaped(words).split("|"), Number(status), unescaped(out)]);
+
+const CALLS = {
+  normalize: ([text]) => `${uris.normalize(text)}\n`,
+  resolve: ([base, reference]) => `${uris.resolve(base, reference)}\n`,
+  equal: ([left, right]) => (uris.equal(left, right) ? "equal\n" : "different\n"),
+  parse: ([text]) => listed(uris.parse(text)),
+};
+
+// The components as the program lists them, without the whole text.
+function listed(parts) {
+  const host = parts.host_kind && `host.${parts.host_kind}`;
+  const named = [["scheme", parts.scheme], ["username", parts.username], ["password", parts.password], [host, parts.host],
+    ["port", parts.port], ["path", parts.path], ["query", parts.query], ["fragment", parts.fragment]];
+  return named.filter(([, value]) => value !== null).map(([name, value]) => `${name}=${value}\n`).join("");
+}
+
+// The program prints a registered scheme in lower case, and "/" for an empty path after an authority.
+function expected(command, out) {
+  return command === "parse" ? out.slice(out.indexOf("\n") + 1) : out;
+}
+
+function result(command, texts) {
+  const text = CALLS[command](texts);
+  return command === "parse" ? text.replace(/^scheme=HTTP\n/m, "scheme=http\n").replace(/(host.*\n(?:port.*\n)?)path=\n/, "$1path=/\n") : text;
+}
+
+let tried = 0;
+for (const [[command, ...texts], status, out] of rows) {
+  if (!(command in CALLS) || status === 2) {
+    continue;
+  }
+  tried += 1;
+  await test(`${command} ${texts.join(" ")}`, () => {
+    if (status === 0) {
+      assert.equal(result(command, texts), expected(command, out));
+    } else {
+      assert.throws(() => CALLS[command](texts), URIParseError);
+    }
+  });
+}
+await test("the rows were found", () => assert(tried > 25, `${tried} rows`));
+
+await test("each component and its place", () => {
+  const parts = uris.parse("http://u:p@h:080/a//b?q#");
+  assert.deepEqual(parts.segments, ["a", "", "b"]);
+  assert.deepEqual(parts.places.port, [13, 16]);
+  assert.equal(parts.port, 80);
+  assert.equal(parts.fragment, "");
+  assert.deepEqual(parts.places.fragment, [24, 24]);
+  assert.equal(uris.parse("a").query, null);
+  assert.deepEqual(uris.parse("").segments, [""]);
+});
+
+// The place of the character that the error is about, and its component.
+const FAULTS = [
+  ["http://h/a b", 10, "path"],
+  ["http://h/%4", 9, "path"],
+  ["http://h:70000/", 9, "port"],
+  ["http://h:8a/", 10, "port"],
+  ["http://[::1/", 7, "host"],
+  ["//[1:2]/", 2, "host"],
+  ["//a%zz/", 3, "host"],
+  ["//u ser@h/", 3, "username"],
+  ["//u:p ass@h/", 5, "password"],
+  ["1:2", 0, "path"],
+  ["a?b[", 3, "query"],
+  ["a#b#", 3, "fragment"],
+  ["é", 0, "path"],
+  ["http://h/é😀 ", 9, "path"],
+];
+for (const [text, place, component] of FAULTS) {
+  await test(`the fault of ${text}`, () => {
+    const fault = uris.fault(text);
+    assert.deepEqual([fault.place, fault.component], [place, component]);
+    assert.throws(() => uris.parse(text), { name: "URIParseError", code: fault.code, place, component, text });
+  });
+}
+
+await test("the messages are those of the header", async () => {
+  const header = await readFile(new URL("../c/uriparse.h", import.meta.url), "utf8");
+  const codes = new Map([...header.matchAll(/^  URIPARSE_(\w+) = (0x\w+|\d+)/gm)].map(([, name, code]) => [name, Number(code)]));
+  const texts = [...header.matchAll(/case URIPARSE_(\w+): return "(.*)";/g)].map(([, name, text]) => [codes.get(name), text]);
+  assert.equal(texts.length, 25);
+  for (const [code, text] of texts.filter(([code]) => code > 2)) {
+    assert.equal(new URIParseError(code, null, "").message, text);
+  }
+});
+
+await test("no fault", () => assert.equal(uris.fault("http://h/a"), null));
+await test("a base without a scheme", () => assert.throws(() => uris.resolve("/a", "b"), { inBase: true, argument: "base", component: "scheme", code: 0x103, place: 0, message: "base: the scheme is missing" }));
+await test("the base's error comes first", () => assert.throws(() => uris.resolve("s:%", "%"), { inBase: true, argument: "base", text: "s:%" }));
+await test("the reference's error", () => assert.throws(() => uris.resolve("s:a", "%"), { inBase: false, argument: "reference", text: "%", place: 0 }));
+await test("the merged path has too many segments", () => {
+  const half = "a/".repeat(600000);
+  assert.throws(() => uris.resolve(`s:/${half}`, half), { code: 5, argument: "reference", place: 0, message: "reference: the path has too many segments" });
+});
+await test("the left one's error", () => assert.throws(() => uris.equal("b c", "b c"), { argument: "left", text: "b c", place: 1 }));
+await test("the right one's error", () => assert.throws(() => uris.equal("a", "b c"), { argument: "right", text: "b c", place: 1 }));
+await test("the message names the text and the place", () => {
+  assert.throws(() => uris.parse("http://h/a b"), { argument: "text", message: "invalid byte in the path, at index 10" });
+  assert.throws(() => uris.decode("a%2"), { message: "invalid percent-encoding in the query, at index 1" });
+  assert.throws(() => uris.resolve("s:%", ""), { message: "base: invalid percent-encoding in the path, at index 2" });
+  assert.throws(() => uris.resolve("s:", "a b"), { message: "reference: invalid byte in the path, at index 1" });
+  assert.throws(() => uris.equal("b c", ""), { message: "left: invalid byte in the path, at index 1" });
+  assert.throws(() => uris.equal("", "b c"), { message: "right: invalid byte in the path, at index 1" });
+});
+await test("a lone surrogate", () => {
+  assert.equal(uris.fault("a\ud800").place, 1);
+  for (const call of [uris.escape, uris.pairs, (text) => uris.encode("query", text)]) {
+    assert.throws(() => call.call(uris, "a\ud800"), { name: "TypeError", message: "a lone surrogate at index 1" });
+  }
+  assert.equal(uris.encode("query", "😀"), "%F0%9F%98%80");
+});
+await test("a URL", () => assert.equal(uris.normalize(new URL("http://h/%7Ea")), "http://h/~a"));
+await test("a value that is no text", () => {
+  for (const value of [undefined, null, 1, true, ["a"], {}, Symbol("a")]) {
+    for (const name of ["parse", "fault", "isURI", "hash", "normalize", "escape", "decode", "pairs"]) {
+      assert.throws(() => uris[name](value), TypeError, name);
+    }
+    for (const call of [(one) => uris.equal("a", one), (one) => uris.equal(one, "a"), (one) => uris.resolve("s:", one),
+      (one) => uris.resolve(one, "a"), (one) => uris.encode("query", one)]) {
+      assert.throws(() => call(value), TypeError);
+    }
+  }
+  assert.throws(() => uris.parse(), { message: "a text is a string or a URL, not undefined" });
+});
+await test("kinds", () => assert.deepEqual([uris.isURI("s:"), uris.isURI("a"), uris.isURI("%")], [true, false, false]));
+await test("hashes", () => {
+  assert.equal(uris.hash("http://h/%7e"), uris.hash("HTTP://H/~"));
+  assert.notEqual(uris.hash("/a"), uris.hash("/b"));
+});
+await test("escaped", () => {
+  assert.equal(uris.escape("http://h/a b?é%#[x]"), "http://h/a%20b?%C3%A9%25#%5Bx%5D");
+  assert.equal(uris.escape(""), "");
+});
+await test("encoded", () => {
+  assert.deepEqual(["username", "password", "segment", "query", "fragment"].map((name) => uris.encode(name, ":@/é")),
+    ["%3A%40%2F%C3%A9", ":%40%2F%C3%A9", ":@%2F%C3%A9", ":@/%C3%A9", ":@/%C3%A9"]);
+  assert.throws(() => uris.encode("path", "a"), TypeError);
+});
+await test("decoded", () => {
+  assert.deepEqual([...uris.decode("a%2f%FF+")], [97, 47, 255, 43]);
+  assert.throws(() => uris.decode("a%2"), { name: "URIParseError", code: 0x62, component: "query", place: 1, text: "a%2" });
+  assert.throws(() => uris.decode("é"), { code: 0x61, place: 0 });
+  assert.throws(() => uris.decode("a#%"), { code: 0x61, place: 1 });
+});
+await test("what leads to a URI", () => {
+  assert.equal(uris.relativize("http://a/b/c/d?q", "http://a/b/g#s"), "../g#s");
+  assert.equal(uris.relativize(new URL("http://a/b"), new URL("http://c/")), "//c/");
+  assert.equal(uris.relativize("s:a", "s:a"), "");
+  assert.throws(() => uris.relativize("s:", "/a"), { inBase: false, argument: "reference", component: "scheme", code: 3, place: 0, message: "reference: the scheme is missing" });
+  assert.throws(() => uris.relativize("/a", "%"), { inBase: true, argument: "base", code: 0x103 });
+});
+await test("origins", () => {
+  assert.equal(uris.origin("HTTPS://u@EXAMPLE.com:443/b?c"), "https://example.com");
+  assert.equal(uris.origin(new URL("http://h:8080/a")), "http://h:8080");
+  assert.equal(uris.origin("http://%31.2.3.4"), uris.origin("http://1.2.3.4"));
+  for (const text of ["file:///a", "http:///a", "http://", "https://u@:443/a"]) {
+    assert.throws(() => uris.origin(text), { name: "URIParseError", code: 10, component: null, place: 0, message: "the reference has no origin" });
+  }
+  assert.throws(() => uris.origin("http://h/ "), { code: 0x51, place: 9 });
+});
+await test("pairs", () => {
+  assert.deepEqual(uris.pairs("a=1&b=&c&&=d=e"), [["a", "1"], ["b", ""], ["c", null], ["", null], ["", "d=e"]]);
+  assert.deepEqual(uris.pairs(""), [["", null]]);
+  assert.deepEqual(uris.pairs("é=😀&%26=+#"), [["é", "😀"], ["%26", "+#"]]);
+  assert.deepEqual(uris.pairs("a".repeat(100_000)), [["a".repeat(100_000), null]]);
+  assert.equal(uris.pairs("a=1&".repeat(10_000)).length, 10_001);
+});
+await test("a long text", () => {
+  const text = `http://h/${"%41/../".repeat(200000)}`;
+  assert.equal(uris.normalize(text), "http://h/");
+  assert.equal(uris.parse(text).segments.length, 400001);
+});
+await test("the memory of a long text is given back", async () => {
+  setFlagsFromString("--expose-gc");
+  const collect = runInNewContext("gc");
+  const used = async () => {
+    for (let round = 0; round < 5; round += 1) {
+      await new Promise((resolve) => setTimeout(resolve, 10));
+      collect();
+    }
+    return process.memoryUsage().external;
+  };
+  uris.isURI("a");
+  const before = await used();
+  assert.equal(uris.isURI(`http://h/${"a".repeat(50_000_000)}`), true);
+  assert(await used() - before > 100_000_000);
+  assert.equal(uris.normalize("HTTP://h"), "http://h/");
+  assert(await used() - before < 1_000_000);
+});
+// Strings that are too small for the memory to be given up because of their own length.
+const tail = "a".repeat(6_000_000);
+function areRight() {
+  assert.equal(uris.isURI(`HTTP://h/%7e${tail}`), true);
+  assert.equal(uris.normalize(`HTTP://h/%7e${tail}`), `http://h/~${tail}`);
+  assert.equal(uris.equal(`s:${tail}`, `s:${tail}b`), false);
+  assert.equal(uris.fault(`s:${tail} `).place, 6_000_002);
+}
+if ((process.availableMemory?.() ?? freemem()) < 8 * 2 ** 30) {
+  console.log("web: left out: a memory of more than 2 GiB (less than 8 GiB are free)");
+} else {
+  // The first byte is wrong, so that only writing the strings takes time.
+  await test("a memory of more than 2 GiB", () => {
+    const long = "a".repeat(370_000_000);
+    assert.throws(() => uris.equal(` ${long}`, `${long}b`), { argument: "left", place: 0 });
+    areRight();
+  });
+}
+// Node's decoder throws an error for more bytes than a string can have, and returns the empty string for 2 GiB or more.
+await test("a result that is too long for a string", () => {
+  const { decode } = TextDecoder.prototype;
+  const tooLong = Object.assign(new Error("too long"), { code: "ERR_STRING_TOO_LONG" });
+  for (const [decoder, also] of [[() => { throw tooLong; }, { cause: tooLong }], [() => "", {}]]) {
+    TextDecoder.prototype.decode = decoder;
+    try {
+      assert.throws(() => uris.escape(tail), { name: "RangeError", message: "the text is too long: the result has 6000000 bytes", ...also });
+    } finally {
+      TextDecoder.prototype.decode = decode;
+    }
+    areRight();
+  }
+});
+await test("many segments", () => assert.equal(uris.fault("a/".repeat(1000001)).code, 5));
+
+console.log(`web: ${tried} rows of the program`);
+console.log(`${passed} passed, ${failed} failed`);
+process.exit(failed ? 1 : 0);

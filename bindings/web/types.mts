@@ -1,0 +1,46 @@
+// A user of the types, which `bindings/web/run` has the TypeScript compiler check without the types of the DOM.
+import { load, isSupported, URIParseError, type Encoded, type Fault, type Pair, type Parts, type Place, type URIs } from "./uriparse.mjs";
+
+async function told(text: string): Promise<string> {
+  const uris: URIs = await load("uriparse.wasm");
+  const fault: Fault | null = uris.fault(text);
+  if (fault) {
+    return `${fault.component ?? "the whole"}: ${fault.message} at ${fault.place.toFixed()}, ${fault.code.toFixed()}`;
+  }
+  const parts: Parts = uris.parse(text);
+  const host: Place = parts.places.host;
+  const kind: "name" | "ipv4" | "ipv6" | "ipvfuture" | null = parts.host_kind;
+  const segments: string[] = parts.segments.map((segment) => uris.encode("segment", segment));
+  const names: Encoded[] = ["username", "password", "query", "fragment"];
+  const bytes: Uint8Array = uris.decode(parts.query ?? "");
+  const pairs: Pair[] = uris.pairs(parts.query ?? "");
+  const values: (string | null)[] = pairs.map(([name, value]) => value ?? name);
+  const hash: bigint = uris.hash(text) % 2n;
+  const equal: boolean = uris.equal(text, uris.normalize(text)) && uris.isURI(uris.resolve(text, "a"));
+  return [host?.[0], kind, parts.port?.toFixed(), segments, names, bytes.length, values, hash, equal, uris.escape(text), uris.origin(text),
+    uris.relativize(text, text)].join();
+}
+
+// @ts-expect-error no component is encoded as a path
+const wrong: Encoded = "path";
+
+// @ts-expect-error no text is a number
+const number: Parameters<URIs["parse"]> = [1];
+
+// @ts-expect-error no module is a number
+const none: Parameters<typeof load> = [1];
+
+const sources: Parameters<typeof load>[] = [[], ["uriparse.wasm"], [new Uint8Array()], [new ArrayBuffer(0)]];
+
+export async function main(): Promise<string> {
+  try {
+    return isSupported() ? await told("http://h") : `${sources.length}`;
+  } catch (error: unknown) {
+    if (error instanceof URIParseError) {
+      const inBase: boolean = error.inBase;
+      const argument: "text" | "base" | "reference" | "left" | "right" = error.argument;
+      return [error.code.toFixed(), error.component, error.place.toFixed(), error.text, error.message, argument, inBase, wrong, number, none].join();
+    }
+    throw error;
+  }
+}

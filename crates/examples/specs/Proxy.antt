@@ -1,0 +1,43 @@
+-- What a proxy can be asked for: RFC 9112, section 3.2.2.
+use Rattle.std.specs.Prelude.{◌≡◌, ◌⊎◌, ℕ, true, false, List, Some, None, IsSome, codes}
+use Rattle.std.specs.Option.{IsSomeAnd}
+use Rattle.std.specs.Str.{str_to_ascii_lowercase}
+use Rattle.uriparse.specs.SchemeValue.{Scheme}
+use Rattle.uriparse.specs.Scheme as scheme
+use Rattle.uriparse.specs.Host.{is_empty}
+use Rattle.uriparse.specs.Reference.{Parts, Spells, host_of}
+use Rattle.uriparse.specs.declared.uri.error.URIError.TheVariants as uris
+use Rattle.uriparse.specs.Kinds.{fault_of}
+use Rattle.uriparse.specs.Uri.{map_error}
+use Rattle.uriparse.specs.PathError.TheVariants.{OutOfMemory}
+use Rattle.examples.specs.declared.proxy.ProxyError.{ProxyError}
+use Rattle.examples.specs.declared.proxy.ProxyError.TheVariants as errors
+
+-- the scheme has this name, in any case
+abbrev pub IsNamed : List ℕ → Scheme → Type 0
+IsNamed name s = name ≡ str_to_ascii_lowercase (scheme.text s)
+
+abbrev pub IsWebScheme : Scheme → Type 0
+IsWebScheme s = IsNamed (codes "http") s ⊎ IsNamed (codes "https") s
+
+-- the URI has a host, which isn't empty
+abbrev pub HasHost : Parts → Type 0
+HasHost u = IsSomeAnd (host_of u) (λ h. is_empty h ≡ false)
+
+-- A URI of the web with a host, and without a fragment.
+pub record IsProxyTarget (u : Parts) : Type 0 where
+  pub web : IsSomeAnd u.scheme IsWebScheme
+  pub host : HasHost u
+  pub no_fragment : u.fragment ≡ None
+
+-- this is a reason for which the URI is no target
+abbrev pub IsReason : Parts → ProxyError → Type 0
+IsReason u (errors.Text e) = ⊥
+IsReason u errors.Fragment = IsSome u.fragment
+IsReason u errors.Scheme = IsSomeAnd u.scheme IsWebScheme → ⊥
+IsReason u errors.Host = HasHost u → ⊥
+
+-- why a text is rejected: it spells no URI, memory ran out, or it spells one that is no target
+abbrev pub Refuses : List ℕ → ProxyError → Type 0
+Refuses t (errors.Text e) = (fault_of true map_error uris.NotURI t ≡ Some e) ⊎ (e ≡ uris.Path OutOfMemory)
+Refuses t e = (u : Parts) × Spells t u × IsReason u e

@@ -1,6 +1,0 @@
-use Rattle.std.proofs.Common.{take}
-use Rattle.uses.specs.Links.{AreTargets}
-use Rattle.uses.proofs.links.rewrite.Given as goal
-
-abbrev pub invariant-loop-index : goal.invariant-loop-index
-invariant-loop-index l = AreTargets l.base (take l.index l.links) l.targets.items

@@ -1,6 +1,0 @@
-use Rattle.uriparse.specs.Target.{target}
-use Rattle.uses.proofs.RedirectLemmas.{untargeted}
-use Rattle.uses.proofs.redirects.follow_to.Goals as goal
-
-pub returns-in-Err : goal.returns-in-Err
-returns-in-Err c = untargeted (target c.args.request.now c.args.location.now) c.args.allowed.now c.in-Err.error c.in-Err.ensures.answer

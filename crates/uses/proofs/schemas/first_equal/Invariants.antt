@@ -1,6 +1,0 @@
-use Rattle.std.proofs.Common.{◌≡◌, false, take}
-use Rattle.uses.specs.Equal.{is_among}
-use Rattle.uses.proofs.schemas.first_equal.Given as goal
-
-abbrev pub invariant-loop-index : goal.invariant-loop-index
-invariant-loop-index l = is_among (take l.index l.uris) l.wanted ≡ false
