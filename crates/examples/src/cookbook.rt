@@ -26,31 +26,27 @@ pub fn see(
     Ok(true)
 }
 
-/// Keeps a title for a page.
+/// Counts a visit of a page, whose URI may be spelled in any way.
 ///
 /// ```
-/// let mut titles = std::collections::BTreeMap::new(alloc);
-/// keep_title(alloc, &mut titles, "http://h/", "Home")?;
-/// assert_eq!(title(&titles, "HTTP://%48/")?, Some("Home"));
+/// let mut visits = std::collections::BTreeMap::new(alloc);
+/// visit(alloc, &mut visits, "http://h/")?;
+/// visit(alloc, &mut visits, "HTTP://%48/")?;
+/// assert_eq!(visits.len(), 1);
 /// ```
-pub fn keep_title(
+pub fn visit(
     alloc: Global,
-    titles: &mut BTreeMap<ReferenceKey<'static>, &'static str>,
+    visits: &mut BTreeMap<ReferenceKey<'static>, u64>,
     page: &str,
-    title: &'static str,
 ) -> Result<(), URIReferenceError> {
-    let page = ReferenceView::try_from_str(page)?.to_text(alloc)?;
-    titles.insert(ReferenceKey::Text(page), title)?;
-    Ok(())
-}
-
-/// The title that is kept for a page, which is asked for by any spelling of its URI. Does not allocate.
-pub fn title(
-    titles: &BTreeMap<ReferenceKey<'static>, &'static str>,
-    page: &str,
-) -> Result<Option<&'static str>, URIReferenceError> {
     let view = ReferenceView::try_from_str(page)?;
-    Ok(titles.get(&ReferenceKey::View(&view)).copied())
+    let count = match visits.get(&ReferenceKey::View(&view)) {
+        Some(count) => *count,
+        None => 0,
+    };
+    let page = ReferenceKey::Text(view.to_text(alloc)?);
+    visits.insert(page, count.saturating_add(1))?;
+    Ok(())
 }
 
 /// Removes the pairs of a URI's query by which links are tracked.
@@ -85,17 +81,29 @@ pub fn search(alloc: Global, uri: &mut URI<'_>, words: &str) -> Result<(), URIEr
     uri.set_fragment(None)
 }
 
+/// Removes the user name and the password of a URI.
+///
+/// ```
+/// let mut uri = URI::try_from_str(alloc, "http://me:secret@h/a")?;
+/// remove_credentials(alloc, &mut uri)?;
+/// assert_eq!(uri.to_string(alloc)?.as_str(), "http://h/a");
+/// ```
+pub fn remove_credentials(alloc: Global, uri: &mut URI<'_>) -> Result<(), URIError> {
+    let Some(authority) = uri.authority() else {
+        return Ok(());
+    };
+    let mut authority = authority.to_owned(alloc)?;
+    authority.set_username(None)?;
+    uri.set_authority(Some(authority))
+}
+
 /// The value of the first pair of this name, both decoded as a form's. A pair without `=` has no value.
 ///
 /// ```
 /// let query = Query::try_from_str("a=1&%62=x+y%21")?;
 /// assert_eq!(value(alloc, &query, "b")?.unwrap().as_slice(), b"x y!".as_slice());
 /// ```
-pub fn value(
-    alloc: Global,
-    query: &Query<'_>,
-    name: &str,
-) -> Result<Option<Vec<u8>>, AllocError> {
+pub fn value(alloc: Global, query: &Query<'_>, name: &str) -> Result<Option<Vec<u8>>, AllocError> {
     for (key, value) in query.pairs() {
         if key.decode_form(alloc)?.as_slice() == name.as_bytes() {
             return match value {
