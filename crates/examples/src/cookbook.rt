@@ -1,7 +1,7 @@
 //! Small jobs, as the page on calling shows them.
 
 use std::alloc::{AllocError, Global};
-use std::collections::{BTreeMap, HashSet};
+use std::collections::HashSet;
 use std::fmt::Write;
 use uriparse::file::{self, FileError};
 use uriparse::{Query, ReferenceKey, ReferenceView, URI, URIError, URIReferenceError};
@@ -24,29 +24,6 @@ pub fn see(
     }
     seen.insert(ReferenceKey::Text(view.to_text(alloc)?))?;
     Ok(true)
-}
-
-/// Counts a visit of a page, whose URI may be spelled in any way.
-///
-/// ```
-/// let mut visits = std::collections::BTreeMap::new(alloc);
-/// visit(alloc, &mut visits, "http://h/")?;
-/// visit(alloc, &mut visits, "HTTP://%48/")?;
-/// assert_eq!(visits.len(), 1);
-/// ```
-pub fn visit(
-    alloc: Global,
-    visits: &mut BTreeMap<ReferenceKey<'static>, u64>,
-    page: &str,
-) -> Result<(), URIReferenceError> {
-    let view = ReferenceView::try_from_str(page)?;
-    let count = match visits.get(&ReferenceKey::View(&view)) {
-        Some(count) => *count,
-        None => 0,
-    };
-    let page = ReferenceKey::Text(view.to_text(alloc)?);
-    visits.insert(page, count.saturating_add(1))?;
-    Ok(())
 }
 
 /// Removes the pairs of a URI's query by which links are tracked.
