@@ -1,14 +1,12 @@
-// Tests of the page in headless Chromium, which is driven over a pipe: each opens a state of its fragment.
+// Tests of the page in headless Chromium or Firefox: each opens a state of its fragment.
 //
-//     node bindings/web/page.mjs CHROMIUM MODULE [FOLDER FOR SCREENSHOTS]        (bindings/web/run does this)
-//
-// The status is 2 if the browser has no 64-bit memories.
+//     node --experimental-websocket bindings/web/page.mjs BROWSER MODULE [FOLDER FOR SCREENSHOTS]        (bindings/web/run does this)
 import assert from "node:assert/strict";
 import { spawn } from "node:child_process";
 import { mkdtemp, readFile, rm, writeFile } from "node:fs/promises";
 import { createServer } from "node:http";
 import { tmpdir } from "node:os";
-import { join } from "node:path";
+import { basename, join } from "node:path";
 
 const [browser, module, shots] = process.argv.slice(2);
 
@@ -25,35 +23,138 @@ const server = createServer(async (request, response) => {
 await new Promise((resolve) => server.listen(0, "127.0.0.1", resolve));
 const page = `http://127.0.0.1:${server.address().port}/index.html`;
 
-// The browser takes and gives messages of JSON that end with a zero byte.
-const profile = await mkdtemp(join(tmpdir(), "uriparse-"));
-const child = spawn(browser, ["--headless", "--no-sandbox", "--disable-gpu", "--window-size=500,900", "--remote-debugging-pipe", `--user-data-dir=${profile}`],
-  { stdio: ["ignore", "ignore", "ignore", "pipe", "pipe"] });
-const waiting = new Map();
-let last = 0;
-let rest = "";
-child.stdio[4].setEncoding("utf8").on("data", (some) => {
-  const messages = (rest + some).split("\0");
-  rest = messages.pop();
-  for (const { id, result, error } of messages.map((message) => JSON.parse(message))) {
-    waiting.get(id)?.(error ? Promise.reject(new Error(error.message)) : result);
-  }
-});
-let sessionId;
-function send(method, params = {}) {
-  last += 1;
-  child.stdio[3].write(`${JSON.stringify({ id: last, method, params, sessionId })}\0`);
-  return new Promise((resolve) => { waiting.set(last, resolve); });
-}
-const { targetId } = await send("Target.createTarget", { url: "about:blank" });
-({ sessionId } = await send("Target.attachToTarget", { targetId, flatten: true }));
+// The messages of JSON that go to a browser, and their results.
+class Messages {
+  #waiting = new Map();
+  #write;
+  #last = 0;
 
-// What an expression is worth in the page.
-async function valueOf(expression) {
-  const { result, exceptionDetails } = await send("Runtime.evaluate", { expression, awaitPromise: true, returnByValue: true });
-  assert(!exceptionDetails, exceptionDetails?.exception?.description);
-  return result.value;
+  constructor(write) {
+    this.#write = write;
+  }
+
+  send(method, params = {}, more = {}) {
+    this.#last += 1;
+    const sent = new Promise((resolve, reject) => { this.#waiting.set(this.#last, { resolve, reject }); });
+    this.#write(JSON.stringify({ id: this.#last, method, params, ...more }));
+    return sent;
+  }
+
+  hear(text) {
+    const { id, result, error, message } = JSON.parse(text);
+    const { resolve, reject } = this.#waiting.get(id) ?? {};
+    if (error) {
+      reject?.(new Error(error.message ?? `${error}: ${message}`));
+    } else {
+      resolve?.(result);
+    }
+  }
 }
+
+// Starts a browser, which ends with this process: its processes are a group.
+let child;
+function start(path, words, options) {
+  child = spawn(path, words, { detached: true, ...options });
+  return child;
+}
+function endBrowser() {
+  try {
+    process.kill(-child.pid, "SIGKILL");
+  } catch (error) {
+    assert.equal(error.code, "ESRCH");
+  }
+}
+process.on("exit", endBrowser);
+process.on("SIGTERM", () => process.exit(1));
+
+// Chromium takes and gives messages that end with a zero byte, over pipes.
+async function chromium(path, profile) {
+  start(path, ["--headless", "--no-sandbox", "--disable-gpu", "--window-size=500,900", "--remote-debugging-pipe", `--user-data-dir=${profile}`],
+    { stdio: ["ignore", "ignore", "ignore", "pipe", "pipe"] });
+  const messages = new Messages((text) => child.stdio[3].write(`${text}\0`));
+  let rest = "";
+  child.stdio[4].setEncoding("utf8").on("data", (some) => {
+    const texts = (rest + some).split("\0");
+    rest = texts.pop();
+    texts.forEach((text) => messages.hear(text));
+  });
+  const { targetId } = await messages.send("Target.createTarget", { url: "about:blank" });
+  const session = await messages.send("Target.attachToTarget", { targetId, flatten: true });
+  const send = (method, params) => messages.send(method, params, session);
+  return {
+    navigate: (url) => send("Page.navigate", { url }),
+    async valueOf(expression) {
+      const { result, exceptionDetails } = await send("Runtime.evaluate", { expression, awaitPromise: true, returnByValue: true });
+      assert(!exceptionDetails, exceptionDetails?.exception?.description);
+      return result.value;
+    },
+    insert: (text) => send("Input.insertText", { text }),
+    async enter() {
+      for (const type of ["keyDown", "keyUp"]) {
+        await send("Input.dispatchKeyEvent", { type, key: "Enter", code: "Enter", text: type === "keyDown" ? "\r" : undefined, windowsVirtualKeyCode: 13 });
+      }
+    },
+    dark: (isDark) => send("Emulation.setEmulatedMedia", { features: [{ name: "prefers-color-scheme", value: isDark ? "dark" : "light" }] }),
+    shot: async () => (await send("Page.captureScreenshot", { format: "png" })).data,
+    close: () => messages.send("Browser.close"),
+  };
+}
+
+// One process for pages, none before it is needed, and no requests of its own.
+const FIREFOX_PREFERENCES = [["fission.autostart", false], ["dom.ipc.processCount", 1], ["dom.ipc.processPrelaunch.enabled", false],
+  ["browser.shell.checkDefaultBrowser", false], ["browser.startup.page", 0], ["app.normandy.enabled", false], ["app.update.disabledForTesting", true],
+  ["datareporting.policy.dataSubmissionEnabled", false], ["network.captive-portal-service.enabled", false], ["network.connectivity-service.enabled", false],
+  ["services.settings.server", "data:,"], ["extensions.update.enabled", false], ["browser.safebrowsing.update.enabled", false]];
+
+// Firefox takes and gives messages over a WebSocket (WebDriver BiDi), whose address it prints.
+async function firefox(path, profile) {
+  await writeFile(join(profile, "user.js"), FIREFOX_PREFERENCES.map((pair) => `user_pref(${JSON.stringify(pair).slice(1, -1)});\n`).join(""));
+  start(path, ["--headless", "--no-remote", "--profile", profile, "--width", "500", "--height", "900", "--remote-debugging-port", "0", "about:blank"],
+    { stdio: ["ignore", "ignore", "pipe"], env: { ...process.env, HOME: profile } });
+  const address = await new Promise((resolve, reject) => {
+    let printed = "";
+    child.stderr.setEncoding("utf8").on("data", (some) => {
+      printed += some;
+      const found = /WebDriver BiDi listening on (ws:\S+)/.exec(printed);
+      if (found) { resolve(found[1]); }
+    });
+    child.on("exit", () => reject(new Error(`Firefox ended: ${printed}`)));
+  });
+  const socket = new WebSocket(`${address}/session`);
+  await new Promise((resolve, reject) => {
+    socket.addEventListener("open", resolve);
+    socket.addEventListener("error", () => reject(new Error(`no connection to ${address}`)));
+  });
+  const messages = new Messages((text) => socket.send(text));
+  socket.addEventListener("message", ({ data }) => messages.hear(data));
+  const send = (method, params) => messages.send(method, params);
+  await send("session.new", { capabilities: {} });
+  const { contexts: [{ context }] } = await send("browsingContext.getTree");
+  await send("browsingContext.setViewport", { context, viewport: { width: 500, height: 900 } });
+  const valueOf = async (expression) => {
+    const { result, exceptionDetails } = await send("script.evaluate", { expression: `(async () => JSON.stringify(await (${expression}) ?? null))()`,
+      target: { context }, awaitPromise: true, resultOwnership: "none" });
+    assert(!exceptionDetails, exceptionDetails?.text);
+    return JSON.parse(result.value);
+  };
+  return {
+    valueOf,
+    navigate: (url) => send("browsingContext.navigate", { context, url, wait: "complete" }),
+    insert: (text) => valueOf(`document.execCommand("insertText", false, ${JSON.stringify(text)})`),
+    enter: () => send("input.performActions", { context, actions: [{ type: "key", id: "keys", actions: [{ type: "keyDown", value: "\uE006" }, { type: "keyUp", value: "\uE006" }] }] }),
+    dark: null,
+    shot: async () => (await send("browsingContext.captureScreenshot", { context })).data,
+    async close() {
+      await send("browser.close");
+      socket.close();
+    },
+  };
+}
+
+const browserName = basename(browser).startsWith("firefox") ? "Firefox" : "Chromium";
+const profile = await mkdtemp(join(tmpdir(), "uriparse-"));
+const tab = await (browserName === "Firefox" ? firefox : chromium)(browser, profile);
+const { valueOf } = tab;
 
 const READY = `new Promise((resolve) => {
   const look = () => document.readyState === "complete" && (document.documentElement.dataset.ready || document.querySelector("#status.bad"))
@@ -65,11 +166,8 @@ let opening = 0;
 // Opens the page with this fragment, and returns what it shows.
 async function opened(state) {
   opening += 1;
-  await send("Page.navigate", { url: `${page}?${opening}#${state}` });
+  await tab.navigate(`${page}?${opening}#${state}`);
   const ready = await valueOf(READY);
-  if (ready.includes("no 64-bit WebAssembly")) {
-    process.exit(2);
-  }
   assert.equal(ready, "true", ready);
   return shown();
 }
@@ -92,7 +190,14 @@ async function test(name, body) {
     passed += 1;
   } catch (error) {
     failed += 1;
-    console.log(`page: ${name}: ${error.message}`);
+    console.log(`page in ${browserName}: ${name}: ${error.message}`);
+  }
+}
+
+// Writes a picture of the page to the folder for these.
+async function shoot(picture) {
+  if (shots) {
+    await writeFile(join(shots, `${browserName}, ${picture}.png`), Buffer.from(await tab.shot(), "base64"));
   }
 }
 
@@ -157,27 +262,22 @@ const BOXES = `(() => {
     before: character.x - before.right, after: after.x - character.right };
 })()`;
 const DRAWN = [["right-to-left", "http://h/%D7%90%D7%91%D7%92/x"], ["invisible", "http://h/%E2%80%AEtxt.exe"], ["wide", "http://h/%E6%BC%A2%E5%AD%97"], ["none", "http://h/a%20b"]];
-for (const [name, text] of DRAWN) {
-  await test(`the caret of a ${name} character`, async () => {
+for (const [kind, text] of DRAWN) {
+  await test(`the caret of a ${kind} character`, async () => {
     await opened(`text=${text}`);
     const { width, ...distances } = await valueOf(BOXES);
     assert(width > 4 && Object.values(distances).every((distance) => Math.abs(distance) < 2), JSON.stringify({ width, ...distances }));
-    if (shots) {
-      const { data } = await send("Page.captureScreenshot", { format: "png" });
-      await writeFile(join(shots, `${name}.png`), Buffer.from(data, "base64"));
-    }
+    await shoot(`${kind} character`);
   });
 }
 
 await test("what is typed and pasted", async () => {
   await opened("text=");
   await valueOf('document.getElementById("text").focus()');
-  await send("Input.insertText", { text: "a" });
-  for (const type of ["keyDown", "keyUp"]) {
-    await send("Input.dispatchKeyEvent", { type, key: "Enter", code: "Enter", text: type === "keyDown" ? "\r" : undefined, windowsVirtualKeyCode: 13 });
-  }
+  await tab.insert("a");
+  await tab.enter();
   assert.equal((await shown()).values[0], "a");
-  await send("Input.insertText", { text: "\nb" });
+  await tab.insert("\nb");
   assert.equal((await shown()).verdict, "Rejected at byte 1: invalid byte in the path, a newline (U+000A).");
 });
 
@@ -188,10 +288,12 @@ await test("an example gets the focus", async () => {
   assert.deepEqual([values[1], focus, target], ["http://a/b/c/d;p?q", "text", "→ http://a/g?y#s"]);
 });
 
-console.log(`page: ${passed} passed, ${failed} failed`);
-child.on("exit", async () => {
-  await rm(profile, { recursive: true, force: true, maxRetries: 5 });
-  process.exit(failed ? 1 : 0);
-});
-sessionId = undefined;
-await send("Browser.close");
+console.log(`page in ${browserName}: ${passed} passed, ${failed} failed`);
+// A browser that doesn't end is ended, with its processes.
+const ended = new Promise((resolve) => { child.on("exit", resolve); });
+await tab.close();
+const timer = setTimeout(endBrowser, 10_000);
+await ended;
+clearTimeout(timer);
+await rm(profile, { recursive: true, force: true, maxRetries: 5 });
+process.exit(failed ? 1 : 0);
