@@ -147,7 +147,7 @@ def test_many() -> None:
     assert uriparse.get_many("port", texts) == [b"80", None, None]
     found = uriparse.parse_many(text for text in texts)
     assert found == [uriparse.parse(texts[0]), None, uriparse.parse(texts[2])]
-    whole: List[uriparse.Components] = uriparse.parse_many(texts[:1], errors="raise")
+    whole: List[uriparse.Components[bytes]] = uriparse.parse_many(texts[:1], errors="raise")
     assert vars(whole[0]) == vars(uriparse.parse(texts[0]))
     rejects(0x51, 1, b"a b", uriparse.normalize_many, texts, "raise")
 
@@ -167,24 +167,156 @@ def test_released() -> None:
     text = bytearray(b"a b")
     for other in (b"c", "c"):
         try:
-            uriparse.equal(text, other)  # type: ignore[arg-type]
+            uriparse.equal(text, other)  # type: ignore[call-overload]
         except (uriparse.URIError, TypeError):
             text += b" "
     assert text == b"a b  "
 
 
 def test_wrong_types() -> None:
-    for error in (
-            raised(lambda: uriparse.parse("a")), raised(lambda: uriparse.equal(b"a", "a")),  # type: ignore[arg-type]
-            raised(lambda: uriparse.first_fault("")), raised(lambda: uriparse.escape("a")),  # type: ignore[arg-type]
-            raised(lambda: uriparse.pairs(""))):  # type: ignore[arg-type]
-        assert type(error) is TypeError and str(error) == "bytes expected, not str", error
+    mixed: List[Callable[..., object]] = [uriparse.equal, uriparse.resolve, uriparse.relativize]
+    for call in mixed:
+        for texts in (("s:", b"s:"), (b"s:", "s:"), (bytearray(b"s:"), "s:"), ("s:", memoryview(b"s:"))):
+            error = raised(call, *texts)
+            assert type(error) is TypeError and str(error) == "str and bytes can't be mixed", error
+        for some in (("s:", None), (None, "s:"), (b"s:", None), (None, b"s:"), (None, None)):
+            error = raised(call, *some)
+            assert type(error) is TypeError and str(error) == "str or bytes expected, not None", (some, error)
+    single: List[Callable[..., object]] = [
+        uriparse.parse, uriparse.spans, uriparse.first_fault, uriparse.is_uri, uriparse.hash_of, uriparse.normalize,
+        uriparse.origin, uriparse.pairs, uriparse.decode, uriparse.escape, lambda data: uriparse.encode("query", data)]
+    for call in single:
+        for other, name in ((None, "None"), (5, "int"), ([97], "list"), (memoryview(b"abcd").cast("I"), "memoryview")):
+            error = raised(call, other)
+            assert type(error) is TypeError and str(error) == "str or bytes expected, not " + name, (call, other, error)
     for other in (None, 5, [97], memoryview(b"abcd").cast("I"), memoryview(b"abcd").cast("B", (2, 2))):
         assert type(raised(uriparse.normalize, other)) is TypeError, other
     assert type(raised(uriparse.normalize, memoryview(b"abcd")[::2])) is BufferError
-    error = raised(lambda: uriparse.encode("host", b""))  # type: ignore[arg-type]
+    error = raised(lambda: uriparse.encode("host", b""))  # type: ignore[call-overload]
     assert type(error) is ValueError
     assert str(error) == "no component 'host': it is one of username, password, segment, query, fragment", error
+
+
+def test_str() -> None:
+    """A call of str returns what the call of its bytes returns, as str."""
+    assert uriparse.is_uri("a:b") and not uriparse.is_uri("a") and not uriparse.is_uri("a:\u00e9")
+    assert uriparse.equal("a%7e", "a~") and uriparse.hash_of("a%7e") == uriparse.hash_of(b"a~")
+    assert uriparse.normalize("HTTP://H/%7e/../x") == "http://h/x"
+    assert uriparse.resolve("http://a/b/c", "../g#s") == "http://a/g#s"
+    assert uriparse.relativize("http://a/b/c", "http://a/g#s") == "../g#s"
+    assert uriparse.origin("HTTPS://u@H:443/a") == "https://h"
+    assert uriparse.escape("http://h/a b?\u00fc%\U0001f600") == "http://h/a%20b?%C3%BC%25%F0%9F%98%80"
+    assert uriparse.encode("segment", "a/b \u00fc") == "a%2Fb%20%C3%BC" and uriparse.decode("a%20%c3%bC+") == "a \u00fc+"
+    assert type(raised(uriparse.decode, "%FF")) is UnicodeDecodeError and uriparse.decode(b"%FF") == b"\xff"
+    assert uriparse.pairs("a=1&\u00fc=&c") == [("a", "1"), ("\u00fc", ""), ("c", None)] and uriparse.pairs("") == [("", None)]
+    assert uriparse.first_fault("/a%4") == (0x52, 2) and uriparse.first_fault("/a") is None and uriparse.first_fault("a\u00fc") == (0x51, 1)
+    found = uriparse.parse("http://u@h:80/a?q#")
+    host: Optional[str] = found.host
+    assert (host, found.path, found.fragment, found.host_kind, found.port_number) == ("h", "/a", "", "name", 80)
+    assert uriparse.spans("//h").host.begin == 2
+    many: List[Optional[str]] = uriparse.normalize_many(["HTTP://h:80/%7e", "a b", "\u00fc", "\ud800", "//1.2.3.4"])
+    assert many == ["http://h:80/~", None, None, None, "//1.2.3.4/"]
+    assert uriparse.resolve_many("s:", ["a", "//h"], errors="raise") == ["s:a", "s://h/"]
+    assert uriparse.get_many("host", ("//h%d" % number for number in range(9000))) == ["h%d" % number for number in range(9000)]
+    assert uriparse.parse_many(["a", " "]) == [uriparse.parse("a"), None]
+    mixed: List[Any] = [["a", b"a"], [b"a", "a"], ["a"] * 5000 + [b"a"]]
+    for wrong in mixed:
+        assert str(raised(uriparse.normalize_many, wrong)) == "str and bytes can't be mixed", wrong[:2]
+    lists: List[Callable[..., object]] = [uriparse.normalize_many, uriparse.parse_many]
+    for call in lists:
+        assert str(raised(call, ["a", None])) == "str or bytes expected, not None"
+    assert str(raised(uriparse.resolve_many, "s:", [b"a"])) == "str and bytes can't be mixed"
+    assert str(raised(uriparse.resolve_many, b"s:", ["a"])) == "str and bytes can't be mixed"
+
+
+def test_surrogates() -> None:
+    """A surrogate is an invalid byte of the component that it is in; no str of UTF-8 has one."""
+    for code, text in ((0x51, "a\ud800"), (0x11, "//\ud800@h"), (0x61, "a?\udcff"), (0x71, "a#\ud800\udc00"), (0x31, "//a\ud800")):
+        place = next(at for at, character in enumerate(text) if character > "\x7f")
+        calls: List[Callable[..., object]] = [uriparse.parse, uriparse.normalize, uriparse.hash_of, uriparse.origin, uriparse.spans]
+        for call in calls:
+            error = raised(call, text)
+            assert isinstance(error, uriparse.URIError) and (error.code, error.place, error.text) == (code, place, text), error
+        assert uriparse.first_fault(text) == (code, place) and not uriparse.is_uri(text)
+        error = raised(uriparse.escape, text)
+        assert isinstance(error, uriparse.URIError) and error.place == place and error.component, error
+    error = raised(uriparse.escape, "http://h/a b?\ud800")
+    assert isinstance(error, uriparse.URIError) and (error.code, error.place, error.argument) == (0x61, 13, "text"), error
+    for component, code in (("username", 0x11), ("password", 0x21), ("segment", 0x51), ("query", 0x61), ("fragment", 0x71)):
+        error = raised(uriparse.encode, component, "\u00fc\ud800")
+        assert isinstance(error, uriparse.URIError) and (error.code, error.place, error.argument) == (code, 1, "data"), error
+    error = raised(uriparse.pairs, "a=\ud800")
+    assert isinstance(error, uriparse.URIError) and (error.code, error.place, error.argument) == (0x61, 2, "query"), error
+    error = raised(uriparse.decode, "a\ud800")
+    assert isinstance(error, uriparse.URIError) and (error.code, error.place) == (0x61, 1), error
+    assert uriparse.get_many("path", ["\ud800", "a"]) == [None, "a"]
+    error = raised(uriparse.equal, "a", "\ud800")
+    assert isinstance(error, uriparse.URIError) and (error.argument, str(error)) == (
+        "right", "first wrong byte 0: invalid byte in the path: '\\ud800'"), error
+
+
+def test_reasons() -> None:
+    """The argument, the component and the code of an error, for str and bytes."""
+    rows: List[Any] = [
+        (uriparse.parse, ("//u%@h",), "text", "username", uriparse.Code.USERNAME_ESCAPE),
+        (uriparse.parse, ("//u:%@h",), "text", "password", uriparse.Code.PASSWORD_ESCAPE),
+        (uriparse.parse, ("//[::g]",), "text", "host", uriparse.Code.HOST_IPV6_BYTE),
+        (uriparse.parse, ("//h:70000",), "text", "port", uriparse.Code.PORT_RANGE),
+        (uriparse.parse, ("a ",), "text", "path", uriparse.Code.PATH_BYTE),
+        (uriparse.parse, ("1:2",), "text", "path", uriparse.Code.COLON_IN_SEGMENT),
+        (uriparse.parse, ("?[",), "text", "query", uriparse.Code.QUERY_BYTE),
+        (uriparse.parse, ("#%1",), "text", "fragment", uriparse.Code.FRAGMENT_ESCAPE),
+        (uriparse.origin, ("/a",), "text", None, uriparse.Code.NO_ORIGIN),
+        (uriparse.equal, ("%", "%"), "left", "path", uriparse.Code.PATH_ESCAPE),
+        (uriparse.equal, ("a", "%"), "right", "path", uriparse.Code.PATH_ESCAPE),
+        (uriparse.resolve, ("/a", "b"), "base", "scheme", uriparse.Code.NO_SCHEME),
+        (uriparse.resolve, ("s:%", "%"), "base", "path", uriparse.Code.PATH_ESCAPE),
+        (uriparse.resolve, ("s:", "?%"), "reference", "query", uriparse.Code.QUERY_ESCAPE),
+        (uriparse.relativize, ("s:", "/a"), "uri", "scheme", uriparse.Code.NO_SCHEME),
+        (uriparse.resolve_many, ("s:", ["a", "%"], "raise"), "reference", "path", uriparse.Code.PATH_ESCAPE)]
+    for call, texts, argument, component, code in rows:
+        other = tuple(text.encode() if isinstance(text, str) and text != "raise" else [one.encode() for one in text] if isinstance(text, list)
+                      else text for text in texts)
+        for arguments in (texts, other):
+            error = raised(call, *arguments)
+            assert isinstance(error, uriparse.URIError), error
+            assert (error.argument, error.component, error.reason) == (argument, component, code), (arguments, error, error.reason)
+            assert isinstance(error.reason, uriparse.Code) and error.code & ~uriparse.IN_BASE == code
+    fault = uriparse.first_fault(b"%")
+    assert fault and fault[0] is uriparse.Code.PATH_ESCAPE
+
+
+def test_uri() -> None:
+    uri = uriparse.URI("HTTP://u:p@h:080/a/../b?q#f")
+    assert (uri.scheme, uri.authority, uri.username, uri.password, uri.host, uri.host_kind, uri.port, uri.port_number, uri.path, uri.query,
+            uri.fragment) == ("HTTP", "u:p@h:080", "u", "p", "h", "name", "080", 80, "/a/../b", "q", "f")
+    assert str(uri) == "HTTP://u:p@h:080/a/../b?q#f" and repr(uri) == "URI('HTTP://u:p@h:080/a/../b?q#f')"
+    assert str(uri.normalize()) == "http://u:p@h:80/b?q#f"
+    base = uriparse.URI("http://a/b/c")
+    assert str(base.resolve("../g")) == "http://a/g" == str(base.resolve(uriparse.URI("../g")))
+    one, same, other = map(uriparse.URI, ("http://h/%7e", "HTTP://H/~", "http://h/a"))
+    assert one == same and hash(one) == hash(same) and one != other and {one, same, other} == {same, other}
+    assert one != "http://h/%7e" and not one == None  # noqa: E711
+    for name in ("host", "_text", "other"):
+        assert type(raised(setattr, uri, name, "i")) is AttributeError and type(raised(delattr, uri, name)) is AttributeError
+    uri.__init__("s:")  # type: ignore[misc]
+    assert uri.scheme == "HTTP"
+    for copied in (copy.copy(uri), copy.deepcopy(uri), pickle.loads(pickle.dumps(uri))):
+        assert type(copied) is uriparse.URI and str(copied) == str(uri) and copied == uri
+    assert type(raised(lambda: one < other)) is TypeError  # type: ignore[operator]
+    for wrong in (None, b"s:", 5, one):
+        assert str(raised(uriparse.URI, wrong)) == "str expected, not " + type(wrong).__name__
+    error = raised(uriparse.URI, "http://h/a b")
+    assert isinstance(error, uriparse.URIError) and (error.place, error.component) == (10, "path")
+    for text, wanted in (("/a", 0x103), ("s:", 0x51)):
+        error = raised(uriparse.URI(text).resolve, "a b")
+        assert isinstance(error, uriparse.URIError) and error.code == wanted, error
+    assert type(raised(one.resolve, b"a")) is TypeError
+
+    class Loud(str):
+        def __str__(self) -> str:
+            return "s:other"
+    assert str(uriparse.URI(Loud("s:a"))) == "s:a"
 
 
 def test_package() -> None:
@@ -198,6 +330,8 @@ def test_header(path: str) -> None:
         header = file.read()
     assert re.findall('URIPARSE_VERSION "(.*)"', header) == [uriparse.__version__]
     codes = {name: int(code, 0) for name, code in re.findall(r"^  (URIPARSE_\w+) = (\w+)", header, re.MULTILINE)}
+    assert {name[len("URIPARSE_"):]: codes[name] for name, _ in re.findall(r'case (\w+): return "(.*)";', header)} == {
+        code.name: code.value for code in uriparse.Code}
     texts = re.findall(r'case (\w+): return "(.*)";', header)
     assert len(texts) > 20
     for name, text in texts:
@@ -207,7 +341,8 @@ def test_header(path: str) -> None:
 
 def main() -> None:
     for test in (test_calls, test_rejected, test_components, test_messages, test_copied_errors, test_pool, test_buffers,
-                 test_many, test_no_copy, test_released, test_wrong_types, test_package):
+                 test_many, test_no_copy, test_released, test_wrong_types, test_str, test_surrogates, test_reasons, test_uri,
+                 test_package):
         test()
     for header in sys.argv[1:]:
         test_header(header)

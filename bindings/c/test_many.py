@@ -41,6 +41,10 @@ def compare(texts: List[bytes], base: bytes) -> None:
         assert (found and vars(found)) == (wanted and vars(wanted)), text
     for component in uriparse.COMPONENTS:
         assert uriparse.get_many(component, texts) == [part(component, text) for text in texts], component
+    strings = [text.decode("latin-1") for text in texts]
+    assert uriparse.normalize_many(strings) == [one(uriparse.normalize, text) for text in strings]
+    assert uriparse.resolve_many(base.decode(), strings) == [one(uriparse.resolve, base.decode(), text) for text in strings]
+    assert uriparse.get_many("path", strings) == [part("path", text) for text in strings]
 
 
 def test_sizes() -> None:
@@ -73,9 +77,10 @@ def test_errors() -> None:
         "no component 'hosts': it is one of scheme, authority, username, password, host, port, path, query, fragment")
     for call in (uriparse.normalize_many, uriparse.parse_many):
         assert str(raised(call, texts, errors="ignore")) == "no errors 'ignore': it is one of none, raise"
-        for other in ("a", 5, None, [97], memoryview(b"abcd").cast("I")):
+        for other in (5, None, [97], memoryview(b"abcd").cast("I")):
             error = raised(call, [b"a", other])
-            assert type(error) is TypeError and str(error).startswith("bytes expected, not "), other
+            assert type(error) is TypeError and str(error).startswith("str or bytes expected, not "), other
+        assert str(raised(call, [b"a", "a"])) == "str and bytes can't be mixed"
     assert uriparse.normalize_many([bytearray(b"%7e"), memoryview(b"--%7e")[2:]]) == [b"~", b"~"]
 
 

@@ -1,6 +1,6 @@
 // Measures the module, for the tables of README.md.
 //
-//     node --experimental-wasm-memory64 bindings/web/measure.mjs MODULE
+//     node bindings/web/measure.mjs MODULE
 import { readFile } from "node:fs/promises";
 import { cpus } from "node:os";
 import { pathToFileURL } from "node:url";

@@ -1,6 +1,6 @@
 // Compares what the module returns for texts with what the library for C returned for them, the rows of rows.py.
 //
-//     node --experimental-wasm-memory64 bindings/web/same.mjs MODULE ROWS        (bindings/web/run does this)
+//     node bindings/web/same.mjs MODULE ROWS        (bindings/web/run does this)
 import assert from "node:assert/strict";
 import { readFile } from "node:fs/promises";
 import { pathToFileURL } from "node:url";

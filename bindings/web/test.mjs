@@ -1,6 +1,6 @@
 // Tests of the module in Node: the rows of the program `uri`, and what only JavaScript has.
 //
-//     node --experimental-wasm-memory64 bindings/web/test.mjs MODULE        (bindings/web/run does this)
+//     node bindings/web/test.mjs MODULE        (bindings/web/run does this)
 import assert from "node:assert/strict";
 import { readFile } from "node:fs/promises";
 import { freemem } from "node:os";
@@ -253,6 +253,58 @@ await test("a result that is too long for a string", () => {
     }
     areRight();
   }
+});
+// A module without calls, whose heap begins at this address.
+function moduleAt(address) {
+  const number = [];
+  for (let rest = address; ; rest = Math.floor(rest / 128)) {
+    const [low, isLast] = [rest % 128, rest < 64];
+    number.push(isLast ? low : low + 128);
+    if (isLast) { break; }
+  }
+  const section = (id, content) => [id, content.length, ...content];
+  const name = (text) => [text.length, ...new TextEncoder().encode(text)];
+  return new Uint8Array([0, 97, 115, 109, 1, 0, 0, 0, ...section(5, [1, 0, 1]), ...section(6, [1, 126, 0, 66, ...number, 11]),
+    ...section(7, [2, ...name("memory"), 2, 0, ...name("__heap_base"), 3, 0])]);
+}
+await test("a memory ends a page below 4 GiB", async () => {
+  const page = 65536;
+  const below = await load(moduleAt(2 ** 32 - 2 * page));
+  assert.throws(() => below.isURI("a".repeat(page / 3)), { name: "RangeError", message: /^the text is too long: the call needs \d+ bytes of memory$/ });
+  assert.throws(() => below.isURI("a".repeat(page / 3)), ({ cause }) => cause.message === "a memory has at most 4294901760 bytes");
+  // The largest memory is taken, and then the call is missing.
+  assert.throws(() => below.isURI("a".repeat(20_000)), { name: "TypeError", message: /uriparse_is_uri is not a function/ });
+  const above = await load(moduleAt(2 ** 32 + page));
+  assert.throws(() => above.isURI("a"), { name: "RangeError" });
+});
+await test("a memory that doesn't grow", async () => {
+  const { grow } = WebAssembly.Memory.prototype;
+  const one = await load(moduleAt(1024));
+  for (const wrong of [() => 0, () => { throw new RangeError("full"); }]) {
+    WebAssembly.Memory.prototype.grow = wrong;
+    try {
+      assert.throws(() => one.isURI("a".repeat(100_000)), { name: "RangeError", message: /^the text is too long: the call needs 30\d{4} bytes of memory$/ });
+    } finally {
+      WebAssembly.Memory.prototype.grow = grow;
+    }
+  }
+});
+await test("a runtime without WebAssembly, or without bulk memory", async () => {
+  const { validate } = WebAssembly;
+  const whole = globalThis.WebAssembly;
+  const message = "WebAssembly with bulk memory instructions is not supported here";
+  try {
+    WebAssembly.validate = () => false;
+    assert.equal(isSupported(), false);
+    await assert.rejects(load(), { message });
+    delete globalThis.WebAssembly;
+    assert.equal(isSupported(), false);
+    await assert.rejects(load(), { message });
+  } finally {
+    globalThis.WebAssembly = whole;
+    WebAssembly.validate = validate;
+  }
+  assert(isSupported());
 });
 await test("many segments", () => assert.equal(uris.fault("a/".repeat(1000001)).code, 5));
 

@@ -76,7 +76,7 @@ export interface URIs {
   decode(text: Input): Uint8Array;
 }
 
-/** Whether there are 64-bit WebAssembly memories here. */
+/** Whether there is WebAssembly with bulk memory instructions here. */
 export function isSupported(): boolean;
 
 // The types of the platform, if the program has them: not every one has those of the DOM.

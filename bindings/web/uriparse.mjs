@@ -4,7 +4,7 @@
 //     const uris = await load();                   // uriparse.wasm beside this file
 //     uris.normalize("HTTP://h/a/../%7Eb");        // "http://h/~b"
 //
-// It needs a browser or a runtime with WebAssembly memories of 64-bit addresses: `isSupported()` says whether it is one.
+// It needs WebAssembly with instructions for bulk memory: `isSupported()` reports whether they are there.
 
 const CODES = {
   3: ["scheme", "the scheme is missing"],
@@ -55,13 +55,18 @@ const NEXT = 2 * SPAN;
 const WORD = 16;
 const PAGE = 65536;
 
+// The most bytes that a memory may have. The module computes with addresses of 64 bits and drops the upper half, so addresses wrap at
+// 4 GiB. The last page is never in the memory, so that an address just below zero traps.
+const MOST = 2 ** 32 - PAGE;
+
 // A larger memory is given up at the next call that needs fewer bytes than this, or less than an eighth of the memory. A call
 // needs at most four times what its strings may take, so calls with strings of one length keep their memory.
 const LARGE = 2 ** 24;
 const SPARE = 8;
 
-// The smallest module with a memory of 64-bit addresses.
-const PROBE = new Uint8Array([0, 97, 115, 109, 1, 0, 0, 0, 5, 3, 1, 4, 1]);
+// A module that fills memory, with an instruction for bulk memory.
+const PROBE = new Uint8Array([0, 97, 115, 109, 1, 0, 0, 0, 1, 4, 1, 96, 0, 0, 3, 2, 1, 0, 5, 3, 1, 0, 0,
+  10, 13, 1, 11, 0, 65, 0, 65, 0, 65, 0, 252, 11, 0, 11]);
 
 // The component that a code is about, and what it means.
 function meaning(code) {
@@ -84,7 +89,7 @@ export class URIParseError extends Error {
   }
 }
 
-/** Whether this browser or runtime has WebAssembly memories of 64-bit addresses. */
+/** Whether this browser or runtime has WebAssembly with bulk memory instructions. */
 export function isSupported() {
   return typeof WebAssembly === "object" && WebAssembly.validate(PROBE);
 }
@@ -138,8 +143,7 @@ function besideThis() {
 /** Loads the module: from a URL, a Response, its bytes, or a WebAssembly.Module. */
 export async function load(source) {
   if (!isSupported()) {
-    const flag = globalThis.process?.versions?.node ? ": start Node with --experimental-wasm-memory64" : "";
-    throw new Error(`64-bit WebAssembly is not supported here${flag}`);
+    throw new Error("WebAssembly with bulk memory instructions is not supported here");
   }
   const bytes = await bytesOf((await source) ?? besideThis());
   const module = bytes instanceof WebAssembly.Module ? bytes : await WebAssembly.compile(bytes);
@@ -168,16 +172,23 @@ class URIs {
     this.#base = rounded(Number(exports.__heap_base.value));
   }
 
-  // Makes the memory large enough, and views it. If it can't be, the instance starts again with a small one.
+  // Makes the memory large enough, and views it. If it can't be, the instance starts again with a small one. Each call of the
+  // module follows this check of what it reads and writes.
   #view(end) {
     const missing = Math.ceil((end - this.#memory.buffer.byteLength) / PAGE);
     try {
+      if (end > MOST) {
+        throw new RangeError(`a memory has at most ${MOST} bytes`);
+      }
       if (missing > 0) {
-        grow(this.#memory, missing);
+        this.#memory.grow(missing);
       }
       if (this.#bytes.buffer !== this.#memory.buffer) {
         this.#bytes = new Uint8Array(this.#memory.buffer);
         this.#words = new Uint32Array(this.#memory.buffer);
+      }
+      if (this.#bytes.length < end) {
+        throw new RangeError(`the memory has ${this.#bytes.length} bytes`);
       }
     } catch (cause) {
       this.#restart();
@@ -424,16 +435,4 @@ function rounded(at) {
 // The error of a text or a result that is longer than the engine can hold.
 function tooLong(why, cause) {
   return new RangeError(`the text is too long: ${why}`, cause && { cause });
-}
-
-// Adds pages. Engines differ in the type of the count.
-function grow(memory, pages) {
-  try {
-    memory.grow(BigInt(pages));
-  } catch (error) {
-    if (!(error instanceof TypeError)) {
-      throw error;
-    }
-    memory.grow(pages);
-  }
 }

@@ -1,21 +1,22 @@
 """URIs of RFC 3986 by proved code: a wrapper of liburiparse.so. See uriparse.h.
 
-Texts are bytes, or a bytearray or memoryview of bytes, which is read where it lies: nothing may change it during a call. A
-`str` raises TypeError: encode it. The library is the one that LIBURIPARSE in the environment names, else the package's own,
-else that of the system."""
+A text is a str, or bytes, or a bytearray or memoryview of bytes, which is read where it lies: nothing may change it during a
+call. A call of str returns str, and a call of bytes returns bytes; a call of both raises TypeError. The library is the one
+that LIBURIPARSE in the environment names, else the package's own, else that of the system."""
 from __future__ import annotations
 
 import ctypes
+import enum
 import functools
 from dataclasses import dataclass
-from typing import Any, Callable, Dict, Iterable, Iterator, List, Literal, Mapping, Optional, Tuple, Union, overload
+from typing import Any, AnyStr, Callable, Dict, Iterable, Iterator, List, Literal, Mapping, NoReturn, Optional, Tuple, Union, overload
 
 from . import _library
-from ._library import COMPONENTS, Buffer, Parts, Span, called
+from ._library import COMPONENTS, Buffer, Component, Parts, Span, Text, called, utf8, wrong_type
 
 __all__ = [
-    "COMPONENTS", "ENCODED", "IN_BASE", "NO_ROOM", "Buffer", "Components", "Encodable", "HostKind", "Parts", "Span", "URIError",
-    "decode", "encode", "equal", "error_text", "escape", "first_fault", "get_many", "hash_of", "is_uri", "normalize",
+    "COMPONENTS", "ENCODED", "IN_BASE", "NO_ROOM", "URI", "Buffer", "Code", "Component", "Components", "Encodable", "HostKind",
+    "Parts", "Span", "Text", "URIError", "decode", "encode", "equal", "error_text", "escape", "first_fault", "get_many", "hash_of", "is_uri", "normalize",
     "normalize_many", "origin", "pairs", "parse", "parse_many", "relativize", "resolve",
     "resolve_many", "spans"]
 __version__ = "0.3.0"
@@ -27,9 +28,44 @@ NO_ROOM = 2
 IN_BASE = 0x100
 ENCODED: Dict[Encodable, int] = {"username": 0x10, "password": 0x20, "segment": 0x50, "query": 0x60, "fragment": 0x70}
 
-_NO_SCHEME = 3
-_TOO_MANY_SEGMENTS = 5
-_NO_ORIGIN = 10
+
+class Code(enum.IntEnum):
+    """The codes of uriparse.h, by their names there."""
+
+    OK = 0
+    OUT_OF_MEMORY = 1
+    NO_ROOM = 2
+    NO_SCHEME = 3
+    COLON_IN_SEGMENT = 4
+    TOO_MANY_SEGMENTS = 5
+    NO_COMPONENT = 8
+    NO_ORIGIN = 10
+    USERNAME_BYTE = 0x11
+    USERNAME_ESCAPE = 0x12
+    PASSWORD_BYTE = 0x21
+    PASSWORD_ESCAPE = 0x22
+    HOST_BYTE = 0x31
+    HOST_IPV6_BYTE = 0x32
+    HOST_IPV6_FORM = 0x33
+    HOST_FUTURE_BYTE = 0x34
+    HOST_FUTURE_FORM = 0x35
+    PORT_BYTE = 0x41
+    PORT_RANGE = 0x42
+    PATH_BYTE = 0x51
+    PATH_ESCAPE = 0x52
+    QUERY_BYTE = 0x61
+    QUERY_ESCAPE = 0x62
+    FRAGMENT_BYTE = 0x71
+    FRAGMENT_ESCAPE = 0x72
+
+
+_CODES: Dict[int, Code] = {code.value: code for code in Code}
+
+# The component that an error is about, by the upper digit of its code.
+_COMPONENTS_OF_CODES: Dict[int, Component] = {
+    1: "username", 2: "password", 3: "host", 4: "port", 5: "path", 6: "query", 7: "fragment"}
+_COMPONENTS_OF_OTHERS: Dict[int, Component] = {
+    Code.NO_SCHEME: "scheme", Code.COLON_IN_SEGMENT: "path", Code.TOO_MANY_SEGMENTS: "path"}
 _HOST_KINDS: Dict[int, HostKind] = {1: "name", 4: "ipv4", 6: "ipv6", 7: "ipvfuture"}
 _ERROR_TEXTS = {
     0: "no error",
@@ -68,76 +104,104 @@ def error_text(code: int) -> str:
     return _ERROR_TEXTS.get(code & ~IN_BASE, "unknown code")
 
 
-def _excerpt(text: bytes, place: int) -> str:
+def _excerpt(text: Union[str, bytes], place: int) -> str:
     """The text, or the part of a long one that is round the place."""
     begin = max(0, min(place - _SHOWN // 2, len(text) - _SHOWN))
     end = begin + _SHOWN
     return "%s%r%s" % ("..." if begin else "", text[begin:end], "..." if end < len(text) else "")
 
 
-def _message(code: int, text: bytes, place: int) -> str:
+def _message(code: int, text: Union[str, bytes], place: int) -> str:
     why = code & ~IN_BASE
     whose = "base: " if code & IN_BASE else ""
-    is_placed = why not in (_NO_SCHEME, _NO_ORIGIN) and (why != _TOO_MANY_SEGMENTS or place)
+    is_placed = why not in (Code.NO_SCHEME, Code.NO_ORIGIN) and (why != Code.TOO_MANY_SEGMENTS or place)
     where = "first wrong byte %d: " % place if is_placed else ""
     return "%s%s%s: %s" % (whose, where, error_text(code), _excerpt(text, place))
 
 
 class URIError(ValueError):
-    """A text is rejected, with a code of uriparse.h: what is wrong, and how many bytes precede it.
+    """A text is rejected, with a code of uriparse.h: what is wrong, and how many bytes of it, or characters of a str, precede it.
 
     The place is 0 if the text isn't wrong by itself: a base without a scheme, or a target with too many segments."""
 
     code: int
-    text: bytes
+    text: Union[str, bytes]
     place: int
+    argument: str
 
-    def __init__(self, code: int, text: bytes, place: int = 0):
+    def __init__(self, code: int, text: Union[str, bytes], place: int = 0, argument: str = "text"):
         self.code = code
         self.text = text
         self.place = place
+        self.argument = argument
         super().__init__(_message(code, text, place))
 
     def __reduce__(self) -> Tuple[Any, ...]:
-        return type(self), (self.code, self.text, self.place), self.__dict__
+        return type(self), (self.code, self.text, self.place, self.argument), self.__dict__
+
+    @property
+    def reason(self) -> Code:
+        """The code without IN_BASE."""
+        return _CODES[self.code & ~IN_BASE]
+
+    @property
+    def component(self) -> Optional[Component]:
+        """The component that is wrong or missing."""
+        why = self.code & ~IN_BASE
+        return _COMPONENTS_OF_CODES.get(why >> 4) or _COMPONENTS_OF_OTHERS.get(why)
 
 
-def _check(code: int, *texts: Buffer) -> None:
+def _check(code: int, texts: Tuple[Text, ...], arguments: Tuple[str, ...]) -> None:
     """Raises the error of a code that a call of these texts returned: a base's, or the first faulty text's."""
     if code:
-        copies = [bytes(text) for text in texts]
-        text = copies[0] if code & IN_BASE else next(filter(first_fault, copies), copies[-1])
-        fault = first_fault(text)
-        raise URIError(code, text, fault[1] if fault else 0)
+        copies: List[Union[str, bytes]] = [text if isinstance(text, str) else bytes(text) for text in texts]
+        faulty = (at for at, text in enumerate(copies) if first_fault(text))
+        at = 0 if code & IN_BASE else next(faulty, len(copies) - 1)
+        fault = first_fault(copies[at])
+        raise URIError(code, copies[at], fault[1] if fault else 0, arguments[at])
 
 
-def spans(text: Buffer) -> Parts:
+_TEXT = ("text",)
+_LEFT_RIGHT = ("left", "right")
+
+
+def _well_formed(text: Text, code_at: Callable[[str], int], argument: str) -> None:
+    """Raises the error of a str with a surrogate, which UTF-8 can't encode. Its code is that of the text before it."""
+    if isinstance(text, str):
+        try:
+            text.encode()
+        except UnicodeEncodeError as error:
+            raise URIError(code_at(text[:error.start]), text, error.start, argument) from None
+
+
+def spans(text: Text) -> Parts:
     """Where the components are."""
     parts = Parts()
     code = called(_library.parse, (text,), parts)
-    _check(code, text)
+    if code:
+        _check(code, (text,), _TEXT)
     return parts
 
 
 @dataclass(frozen=True, eq=False)
-class Components(Mapping[str, bytes]):
+class Components(Mapping[str, AnyStr]):
     """The components of a reference, as they stand in its text. An absent one is None. As a mapping it has those that are
     present, by name, and is equal to a dict of them."""
 
-    scheme: Optional[bytes]
-    authority: Optional[bytes]
-    username: Optional[bytes]
-    password: Optional[bytes]
-    host: Optional[bytes]
-    port: Optional[bytes]
-    path: bytes
-    query: Optional[bytes]
-    fragment: Optional[bytes]
+    scheme: Optional[AnyStr]
+    authority: Optional[AnyStr]
+    username: Optional[AnyStr]
+    password: Optional[AnyStr]
+    host: Optional[AnyStr]
+    port: Optional[AnyStr]
+    path: AnyStr
+    query: Optional[AnyStr]
+    fragment: Optional[AnyStr]
     host_kind: Optional[HostKind]
     port_number: Optional[int]
 
-    def __getitem__(self, name: str) -> bytes:
-        found: Optional[bytes] = getattr(self, name) if name in COMPONENTS else None
+    def __getitem__(self, name: str) -> AnyStr:
+        found: Optional[AnyStr] = getattr(self, name) if name in COMPONENTS else None
         if found is None:
             raise KeyError(name)
         return found
@@ -155,11 +219,11 @@ class Components(Mapping[str, bytes]):
         return hash(tuple(self.items()))
 
 
-def _components(text: bytes, numbers: Tuple[int, ...]) -> Components:
+def _components(text: AnyStr, numbers: Tuple[int, ...]) -> Components[AnyStr]:
     """The components of a reference by the numbers of its Parts. It is written out, as most of `parse_many` is this."""
     (a0, z0, scheme, a1, z1, authority, a2, z2, username, a3, z3, password, a4, z4, host, a5, z5, port, a6, z6, _,
      a7, z7, query, a8, z8, fragment, host_kind, port_number) = numbers
-    found = object.__new__(Components)
+    found: Components[AnyStr] = object.__new__(Components)
     found.__dict__.update(
         scheme=text[a0:z0] if scheme else None,
         authority=text[a1:z1] if authority else None,
@@ -175,76 +239,125 @@ def _components(text: bytes, numbers: Tuple[int, ...]) -> Components:
     return found
 
 
-def parse(text: Buffer) -> Components:
+@overload
+def parse(text: Buffer) -> Components[bytes]: ...
+@overload
+def parse(text: str) -> Components[str]: ...
+def parse(text: Text) -> Any:
     """The components of a reference, the kind of its host, and the number of its port, if it has digits."""
     numbers = _library.PARTS.unpack_from(spans(text))
-    return _components(bytes(text), numbers)
+    return _components(text, numbers) if isinstance(text, str) else _components(bytes(text), numbers)
 
 
-def first_fault(text: Buffer) -> Optional[Tuple[int, int]]:
+def first_fault(text: Text) -> Optional[Tuple[Code, int]]:
     """The code of the text's first fault and how many bytes precede it, or None if it is a reference."""
     place = ctypes.c_size_t()
     code: int = called(_library.first_fault, (text,), place)
-    return (code, place.value) if code else None
+    return (_CODES[code], place.value) if code else None
 
 
-def is_uri(text: Buffer) -> bool:
+def is_uri(text: Text) -> bool:
     """Whether it is a reference that has a scheme."""
     answer: bool = called(_library.is_uri, (text,))
     return answer
 
 
-def equal(left: Buffer, right: Buffer) -> bool:
+@overload
+def equal(left: Buffer, right: Buffer) -> bool: ...
+@overload
+def equal(left: str, right: str) -> bool: ...
+def equal(left: Text, right: Text) -> bool:
     """Whether two references are equal."""
+    if isinstance(left, str) is not isinstance(right, str):
+        raise wrong_type(left, right)
     answer = ctypes.c_bool()
     code = called(_library.equal, (left, right), answer)
-    _check(code, left, right)
+    if code:
+        _check(code, (left, right), _LEFT_RIGHT)
     return answer.value
 
 
-def hash_of(text: Buffer) -> int:
+def hash_of(text: Text) -> int:
     """A hash of a reference: equal references have equal ones."""
     answer = ctypes.c_uint64()
     code = called(_library.hash_of, (text,), answer)
-    _check(code, text)
+    if code:
+        _check(code, (text,), _TEXT)
     return answer.value
 
 
-def _written(call: Callable[..., Any], *texts: Buffer) -> bytes:
-    room, needed = 2 * sum(map(len, texts)) + 64, ctypes.c_size_t()
+def _length(*texts: Text) -> int:
+    try:
+        return sum(map(len, texts))
+    except TypeError:
+        raise wrong_type(*texts) from None
+
+
+def _written(call: Callable[..., Any], texts: Tuple[Text, ...], arguments: Tuple[str, ...] = _TEXT) -> Any:
+    """What a call writes for texts: a str if they are."""
+    room, needed = 2 * _length(*texts) + 64, ctypes.c_size_t()
     while True:
         out = ctypes.create_string_buffer(room)
         code = called(call, texts, out, room, needed)
         if code != NO_ROOM:
-            _check(code, *texts)
-            return out.raw[:needed.value]
+            if code:
+                _check(code, texts, arguments)
+            written = out.raw[:needed.value]
+            return written.decode() if isinstance(texts[0], str) else written
         room = needed.value
 
 
-def normalize(text: Buffer) -> bytes:
+@overload
+def normalize(text: Buffer) -> bytes: ...
+@overload
+def normalize(text: str) -> str: ...
+def normalize(text: Text) -> Any:
     """The text of the normal form."""
-    return _written(_library.normalize, text)
+    return _written(_library.normalize, (text,))
 
 
-def resolve(base: Buffer, reference: Buffer) -> bytes:
+@overload
+def resolve(base: Buffer, reference: Buffer) -> bytes: ...
+@overload
+def resolve(base: str, reference: str) -> str: ...
+def resolve(base: Text, reference: Text) -> Any:
     """The text of the target of a reference against a base."""
-    return _written(_library.resolve, base, reference)
+    if isinstance(base, str) is not isinstance(reference, str):
+        raise wrong_type(base, reference)
+    return _written(_library.resolve, (base, reference), ("base", "reference"))
 
 
-def relativize(base: Buffer, uri: Buffer) -> bytes:
+@overload
+def relativize(base: Buffer, uri: Buffer) -> bytes: ...
+@overload
+def relativize(base: str, uri: str) -> str: ...
+def relativize(base: Text, uri: Text) -> Any:
     """The text of the reference that leads from a base to a URI: resolved against the base, it yields what the URI yields."""
-    return _written(_library.relativize, base, uri)
+    if isinstance(base, str) is not isinstance(uri, str):
+        raise wrong_type(base, uri)
+    return _written(_library.relativize, (base, uri), ("base", "uri"))
 
 
-def origin(text: Buffer) -> bytes:
+@overload
+def origin(text: Buffer) -> bytes: ...
+@overload
+def origin(text: str) -> str: ...
+def origin(text: Text) -> Any:
     """The text of the origin of a URI: its scheme, its host and, unless that is the default one, its port. A URI without a host,
     or with an empty one, has none. A name such as `%31.2.3.4` and the address `1.2.3.4` have one text."""
-    return _written(_library.origin, text)
+    return _written(_library.origin, (text,))
 
 
-def pairs(query: Buffer) -> List[Tuple[bytes, Optional[bytes]]]:
+@overload
+def pairs(query: Buffer) -> List[Tuple[bytes, Optional[bytes]]]: ...
+@overload
+def pairs(query: str) -> List[Tuple[str, Optional[str]]]: ...
+def pairs(query: Text) -> List[Any]:
     """The pairs of a query, in order: the pieces between its `&`, each a name and, after its first `=`, a value or None, as they
     stand in the text. `decode` reads each. The empty query has one pair, of an empty name. Any text is cut like that."""
+    if isinstance(query, str):
+        _well_formed(query, lambda _: Code.QUERY_BYTE, "query")
+        return [(name.decode(), value if value is None else value.decode()) for name, value in pairs(query.encode())]
     found: List[Tuple[bytes, Optional[bytes]]] = []
     pair = _library.Pair()
     while called(_library.next_pair, (query,), pair.next, pair):
@@ -253,29 +366,146 @@ def pairs(query: Buffer) -> List[Tuple[bytes, Optional[bytes]]]:
     return found
 
 
-def decode(text: Buffer) -> bytes:
-    """The bytes that the text of a component stands for, which is cut at its delimiters before."""
-    room, needed = len(text), ctypes.c_size_t()
+@overload
+def decode(text: Buffer) -> bytes: ...
+@overload
+def decode(text: str) -> str: ...
+def decode(text: Text) -> Any:
+    """The bytes that the text of a component stands for, which is cut at its delimiters before. Of a str they are decoded as
+    UTF-8: those that aren't UTF-8 raise UnicodeDecodeError."""
+    data: Buffer = utf8(text) if isinstance(text, str) else text
+    room, needed = _length(data), ctypes.c_size_t()
     out = ctypes.create_string_buffer(room)
-    code = called(_library.decode, (text,), out, room, needed)
+    code = called(_library.decode, (data,), out, room, needed)
     if code:
-        text = bytes(text)
-        query = text.split(b"#")[0]
+        data = bytes(data)
+        query = data.split(b"#")[0]
         fault = first_fault(b"?" + query)
-        raise URIError(code, text, fault[1] - 1 if fault else len(query))
-    return out.raw[:needed.value]
+        raise URIError(code, text if isinstance(text, str) else data, fault[1] - 1 if fault else len(query))
+    written = out.raw[:needed.value]
+    return written.decode() if isinstance(text, str) else written
 
 
-def encode(component: Encodable, data: Buffer) -> bytes:
-    """The text that stands for the bytes in a component: one of the names in ENCODED."""
+@overload
+def encode(component: Encodable, data: Buffer) -> bytes: ...
+@overload
+def encode(component: Encodable, data: str) -> str: ...
+def encode(component: Encodable, data: Text) -> Any:
+    """The text that stands for the bytes, or for the UTF-8 of a str, in a component: one of the names in ENCODED."""
     if component not in ENCODED:
         raise ValueError("no component %r: it is one of %s" % (component, ", ".join(ENCODED)))
-    return _written(functools.partial(_library.encode, ENCODED[component]), data)
+    _well_formed(data, lambda _: ENCODED[component] + 1, "data")
+    return _written(functools.partial(_library.encode, ENCODED[component]), (data,), ("data",))
 
 
-def escape(text: Buffer) -> bytes:
+def _code_of_surrogate(before: str) -> int:
+    """The code of a surrogate after a text that is escaped."""
+    fault = first_fault(escape(before) + "\ud800")
+    return fault[0] if fault else Code.OK
+
+
+@overload
+def escape(text: Buffer) -> bytes: ...
+@overload
+def escape(text: str) -> str: ...
+def escape(text: Text) -> Any:
     """The text of a reference, made of any text: with escapes for what may not stand where it does."""
-    return _written(_library.escape, text)
+    _well_formed(text, _code_of_surrogate, "text")
+    return _written(_library.escape, (text,))
+
+
+class URI:
+    """A URI or a relative reference, made from a str that stays as it is. It can't be changed. An absent component is None.
+
+    Two are equal if they differ at most in case and percent-encoding where these mean nothing, as `equal` says."""
+
+    __slots__ = ("_text", "_components")
+    _text: str
+    _components: Components[str]
+
+    def __new__(cls, text: str) -> URI:
+        if not isinstance(text, str):
+            raise TypeError("str expected, not %s" % type(text).__name__)
+        text = str.__str__(text)
+        made = object.__new__(cls)
+        object.__setattr__(made, "_text", text)
+        object.__setattr__(made, "_components", parse(text))
+        return made
+
+    def __setattr__(self, name: str, value: object) -> NoReturn:
+        raise AttributeError("a URI can't be changed")
+
+    def __delattr__(self, name: str) -> NoReturn:
+        raise AttributeError("a URI can't be changed")
+
+    def __reduce__(self) -> Tuple[Any, ...]:
+        return type(self), (self._text,)
+
+    def __str__(self) -> str:
+        return self._text
+
+    def __repr__(self) -> str:
+        return "URI(%r)" % self._text
+
+    def __eq__(self, other: object) -> bool:
+        if not isinstance(other, URI):
+            return NotImplemented
+        return equal(self._text, other._text)
+
+    def __hash__(self) -> int:
+        return hash_of(self._text)
+
+    def normalize(self) -> URI:
+        """The normal form."""
+        return type(self)(normalize(self._text))
+
+    def resolve(self, reference: Union[str, URI]) -> URI:
+        """The target of a reference against this base."""
+        return type(self)(resolve(self._text, reference._text if isinstance(reference, URI) else reference))
+
+    @property
+    def scheme(self) -> Optional[str]:
+        return self._components.scheme
+
+    @property
+    def authority(self) -> Optional[str]:
+        return self._components.authority
+
+    @property
+    def username(self) -> Optional[str]:
+        return self._components.username
+
+    @property
+    def password(self) -> Optional[str]:
+        return self._components.password
+
+    @property
+    def host(self) -> Optional[str]:
+        return self._components.host
+
+    @property
+    def host_kind(self) -> Optional[HostKind]:
+        return self._components.host_kind
+
+    @property
+    def port(self) -> Optional[str]:
+        return self._components.port
+
+    @property
+    def port_number(self) -> Optional[int]:
+        return self._components.port_number
+
+    @property
+    def path(self) -> str:
+        return self._components.path
+
+    @property
+    def query(self) -> Optional[str]:
+        return self._components.query
+
+    @property
+    def fragment(self) -> Optional[str]:
+        return self._components.fragment
 
 
 def _is_raising(errors: str) -> bool:
@@ -284,14 +514,14 @@ def _is_raising(errors: str) -> bool:
     return errors == "raise"
 
 
-def _settled(made: Iterable[Tuple[List[bytes], Iterable[int], List[Any]]], errors: str) -> List[Any]:
+def _settled(made: Iterable[Tuple[List[Any], Iterable[int], List[Any]]], errors: str, argument: str) -> List[Any]:
     """What was made of the texts, but None for one that has a code, or its error raised."""
     is_raising = _is_raising(errors)
     found: List[Any] = []
     for some, codes, results in made:
         for at, code in enumerate(codes) if any(codes) else ():
             if code and is_raising:
-                _check(code, some[at])
+                _check(code, (some[at],), (argument,))
             if code:
                 results[at] = None
         found += results
@@ -302,30 +532,45 @@ def _settled(made: Iterable[Tuple[List[bytes], Iterable[int], List[Any]]], error
 def normalize_many(texts: Iterable[Buffer], errors: Literal["none"] = "none") -> List[Optional[bytes]]: ...
 @overload
 def normalize_many(texts: Iterable[Buffer], errors: Literal["raise"]) -> List[bytes]: ...
-def normalize_many(texts: Iterable[Buffer], errors: str = "none") -> List[Any]:
+@overload
+def normalize_many(texts: Iterable[str], errors: Literal["none"] = "none") -> List[Optional[str]]: ...
+@overload
+def normalize_many(texts: Iterable[str], errors: Literal["raise"]) -> List[str]: ...
+def normalize_many(texts: Iterable[Text], errors: str = "none") -> List[Any]:
     """The text of the normal form of each text, or None for one that is rejected; with errors="raise" the first of these raises
     its URIError."""
     from . import _many
-    return _settled(_many.write(_library.normalize, None, texts), errors)
+    return _settled(_many.write(_library.normalize, None, texts), errors, "text")
 
 
 @overload
 def resolve_many(base: Buffer, references: Iterable[Buffer], errors: Literal["none"] = "none") -> List[Optional[bytes]]: ...
 @overload
 def resolve_many(base: Buffer, references: Iterable[Buffer], errors: Literal["raise"]) -> List[bytes]: ...
-def resolve_many(base: Buffer, references: Iterable[Buffer], errors: str = "none") -> List[Any]:
+@overload
+def resolve_many(base: str, references: Iterable[str], errors: Literal["none"] = "none") -> List[Optional[str]]: ...
+@overload
+def resolve_many(base: str, references: Iterable[str], errors: Literal["raise"]) -> List[str]: ...
+def resolve_many(base: Text, references: Iterable[Text], errors: str = "none") -> List[Any]:
     """The text of the target of each reference against a base, or None for one that is rejected; with errors="raise" the first
     of these raises its URIError. A rejected base always raises its own."""
     from . import _many
-    resolve(base, b"")
-    return _settled(_many.write(_library.resolve, bytes(base), references), errors)
+    if isinstance(base, str):
+        resolve(base, "")
+    else:
+        resolve(base, b"")
+    return _settled(_many.write(_library.resolve, base, references), errors, "reference")
 
 
 @overload
-def parse_many(texts: Iterable[Buffer], errors: Literal["none"] = "none") -> List[Optional[Components]]: ...
+def parse_many(texts: Iterable[Buffer], errors: Literal["none"] = "none") -> List[Optional[Components[bytes]]]: ...
 @overload
-def parse_many(texts: Iterable[Buffer], errors: Literal["raise"]) -> List[Components]: ...
-def parse_many(texts: Iterable[Buffer], errors: str = "none") -> List[Any]:
+def parse_many(texts: Iterable[Buffer], errors: Literal["raise"]) -> List[Components[bytes]]: ...
+@overload
+def parse_many(texts: Iterable[str], errors: Literal["none"] = "none") -> List[Optional[Components[str]]]: ...
+@overload
+def parse_many(texts: Iterable[str], errors: Literal["raise"]) -> List[Components[str]]: ...
+def parse_many(texts: Iterable[Text], errors: str = "none") -> List[Any]:
     """The components of each text, or None for one that is rejected; with errors="raise" the first of these raises its
     URIError."""
     from . import _many
@@ -333,15 +578,19 @@ def parse_many(texts: Iterable[Buffer], errors: str = "none") -> List[Any]:
     found: List[Any] = []
     for text, code, numbers in _many.parse(texts):
         if code and is_raising:
-            _check(code, text)
+            _check(code, (text,), _TEXT)
         found.append(None if code else _components(text, numbers))
     return found
 
 
-def get_many(component: str, texts: Iterable[Buffer], errors: Literal["none", "raise"] = "none") -> List[Optional[bytes]]:
+@overload
+def get_many(component: Component, texts: Iterable[Buffer], errors: Literal["none", "raise"] = "none") -> List[Optional[bytes]]: ...
+@overload
+def get_many(component: Component, texts: Iterable[str], errors: Literal["none", "raise"] = "none") -> List[Optional[str]]: ...
+def get_many(component: Component, texts: Iterable[Text], errors: Literal["none", "raise"] = "none") -> List[Any]:
     """A component of each text, one of the names in COMPONENTS, or None if it is absent or the text is rejected; with
     errors="raise" the first rejected text raises its URIError. Takes less time than `parse_many`."""
     from . import _many
     if component not in COMPONENTS:
         raise ValueError("no component %r: it is one of %s" % (component, ", ".join(COMPONENTS)))
-    return _settled(_many.find(COMPONENTS.index(component), texts), errors)
+    return _settled(_many.find(COMPONENTS.index(component), texts), errors, "text")

@@ -4,11 +4,13 @@ from __future__ import annotations
 import ctypes
 import os
 import struct
-from typing import Any, Callable, List, Tuple, Union
+from typing import Any, Callable, List, Literal, Tuple, Union
 
 Buffer = Union[bytes, bytearray, memoryview]
+Text = Union[str, Buffer]
+Component = Literal["scheme", "authority", "username", "password", "host", "port", "path", "query", "fragment"]
 
-COMPONENTS = ("scheme", "authority", "username", "password", "host", "port", "path", "query", "fragment")
+COMPONENTS: Tuple[Component, ...] = ("scheme", "authority", "username", "password", "host", "port", "path", "query", "fragment")
 
 _NAME = "liburiparse.so"
 _LOOPS = "liburiparse_many.so"
@@ -113,22 +115,38 @@ def is_bytes(text: object) -> bool:
     return view.ndim == 1 and view.itemsize == 1
 
 
-def called(call: Callable[..., Any], texts: Tuple[Buffer, ...], *others: Any) -> Any:
-    """What a call returns for texts and for the arguments after them. Each text is passed as its address and length, without
-    a copy, and is held meanwhile: a bytearray can't change its length."""
+def utf8(text: str) -> bytes:
+    """The bytes of a str, also of one with surrogates: the library rejects what these become, as all that isn't ASCII."""
+    return text.encode("utf-8", "surrogatepass")
+
+
+def wrong_type(*texts: object) -> TypeError:
+    """The error of arguments that are neither all str nor all bytes."""
+    for text in texts:
+        if not isinstance(text, str) and not is_bytes(text):
+            return TypeError("str or bytes expected, not %s" % ("None" if text is None else type(text).__name__))
+    return TypeError("str and bytes can't be mixed")
+
+
+def called(call: Callable[..., Any], texts: Tuple[Text, ...], *others: Any) -> Any:
+    """What a call returns for texts and for the arguments after them. Bytes are passed as their address and length, without
+    a copy, and are held meanwhile: a bytearray can't change its length."""
     arguments: List[Any] = []
     buffers: List[_Buffer] = []
     try:
         for text in texts:
             if isinstance(text, bytes):
                 arguments += text, len(text)
+            elif isinstance(text, str):
+                data = text.encode("utf-8", "surrogatepass")
+                arguments += data, len(data)
             elif is_bytes(text):
                 buffer = _Buffer()
                 _get_buffer(text, buffer, 0)
                 buffers.append(buffer)
                 arguments += buffer.buf if buffer.len else b"", buffer.len
             else:
-                raise TypeError("bytes expected, not %s" % type(text).__name__)
+                raise wrong_type(text)
         return call(*arguments, *others)
     finally:
         for buffer in buffers:

@@ -7,7 +7,7 @@ from array import array
 from typing import Any, Iterable, Iterator, List, Optional, Tuple
 
 from . import _library
-from ._library import Buffer, Parts
+from ._library import Buffer, Parts, Text
 
 # A buffer has at most so many texts, and takes no other once it has so many bytes.
 _TEXTS = 4096
@@ -51,15 +51,15 @@ def _at(numbers: array[int]) -> int:
 def _copied(text: Buffer) -> bytes:
     if _library.is_bytes(text):
         return bytes(text)
-    raise TypeError("bytes expected, not %s" % type(text).__name__)
+    raise _library.wrong_type(text)
 
 
-def _slices(texts: Iterable[Buffer]) -> Iterator[List[bytes]]:
+def _lists(texts: Iterable[Text]) -> Iterator[List[Any]]:
     """The texts, in lists of as many as are in a buffer."""
-    some: List[bytes] = []
+    some: List[Any] = []
     size = 0
     for text in texts:
-        if not isinstance(text, bytes):
+        if not isinstance(text, (bytes, str)):
             text = _copied(text)
         some.append(text)
         size += len(text)
@@ -70,30 +70,41 @@ def _slices(texts: Iterable[Buffer]) -> Iterator[List[bytes]]:
         yield some
 
 
+def _slices(texts: Iterable[Text], is_str: Optional[bool] = None) -> Iterator[Tuple[List[Any], List[bytes], bool]]:
+    """The same, with the bytes of the texts, and whether these are str: then all are, or none."""
+    for some in _lists(texts):
+        if is_str is None:
+            is_str = isinstance(some[0], str)
+        if any(issubclass(kind, str) is not is_str for kind in {*map(type, some)}):
+            raise _library.wrong_type(*some)
+        yield some, [*map(_library.utf8, some)] if is_str else some, is_str
+
+
 def _joined(texts: List[bytes]) -> Tuple[_Texts, array[int]]:
     """The texts in one buffer, and where each ends, which must be kept as long as they are used."""
     ends = array("Q", itertools.accumulate(map(len, texts)))
     return _Texts(b"".join(texts), _at(ends), len(texts)), ends
 
 
-def _parsed(texts: Iterable[Buffer]) -> Iterator[Tuple[List[bytes], array[int], ctypes.Array[Parts]]]:
+def _parsed(texts: Iterable[Text]) -> Iterator[Tuple[List[Any], array[int], ctypes.Array[Parts]]]:
     """Of some texts after others: the texts, their codes, and their parts."""
     address = _address(_library.parse)
-    for some in _slices(texts):
-        joined, kept = _joined(some)
+    for some, data, _ in _slices(texts):
+        joined, kept = _joined(data)
         codes, parts = _numbers("I", len(some)), (Parts * len(some))()
         _many.many_parse(address, joined, _at(codes), parts)
         yield some, codes, parts
 
 
-def parse(texts: Iterable[Buffer]) -> Iterator[Tuple[bytes, int, Tuple[int, ...]]]:
+def parse(texts: Iterable[Text]) -> Iterator[Tuple[Any, int, Tuple[int, ...]]]:
     """Of each text: the text, its code, and the numbers of its Parts."""
     for some, codes, parts in _parsed(texts):
         yield from zip(some, codes, _library.PARTS.iter_unpack(parts))
 
 
-def find(index: int, texts: Iterable[Buffer]) -> Iterator[Tuple[List[bytes], array[int], List[Optional[bytes]]]]:
-    """Of some texts after others: the texts, their codes, and one component of each, by its index, or None."""
+def find(index: int, texts: Iterable[Text]) -> Iterator[Tuple[List[Any], array[int], List[Any]]]:
+    """Of some texts after others: the texts, their codes, and one component of each, by its index, or None. A text that is
+    accepted is ASCII, so an index of its bytes is one of its characters."""
     for some, codes, parts in _parsed(texts):
         numbers = memoryview(parts).cast("B").cast("N")
         begins, ends, presences = (numbers[3 * index + at::_NUMBERS].tolist() for at in range(3))
@@ -101,18 +112,21 @@ def find(index: int, texts: Iterable[Buffer]) -> Iterator[Tuple[List[bytes], arr
         yield some, codes, [text[begin:end] if is_present & 1 else None for text, begin, end, is_present in pieces]
 
 
-def write(call: Any, base: Optional[bytes], texts: Iterable[Buffer]) -> Iterator[Tuple[List[bytes], array[int], List[Any]]]:
+def write(call: Any, base: Optional[Text], texts: Iterable[Text]) -> Iterator[Tuple[List[Any], array[int], List[Any]]]:
     """Of some texts after others: the texts, their codes, and what a call of the library writes for each, with this base if
     it takes one. It is empty for a text that is rejected."""
     address, needed = _address(call), ctypes.c_size_t()
-    base_len = 0 if base is None else len(base)
-    for some in _slices(texts):
-        while some:
-            joined, kept = _joined(some)
-            room = max(needed.value, kept[-1] + min((base_len + 16) * len(some), _ROOM))
-            codes, ends, out = _numbers("I", len(some)), _numbers("Q", len(some)), _numbers("B", room)
-            done = _many.many_write(address, base, base_len, joined, _at(codes), _at(ends), _at(out), room, needed)
-            whole = ctypes.string_at(_at(out), ends[done - 1] if done else 0)
+    is_str = None if base is None else isinstance(base, str)
+    start = _library.utf8(base) if isinstance(base, str) else base if base is None else bytes(base)
+    base_len = 0 if start is None else len(start)
+    for some, data, is_str in _slices(texts, is_str):
+        while data:
+            joined, kept = _joined(data)
+            room = max(needed.value, kept[-1] + min((base_len + 16) * len(data), _ROOM))
+            codes, ends, out = _numbers("I", len(data)), _numbers("Q", len(data)), _numbers("B", room)
+            done = _many.many_write(address, start, base_len, joined, _at(codes), _at(ends), _at(out), room, needed)
+            written = ctypes.string_at(_at(out), ends[done - 1] if done else 0)
+            whole: Any = written.decode() if is_str else written
             pieces = zip(itertools.chain((0,), ends), ends[:done])
             yield some[:done], codes[:done], [whole[begin:end] for begin, end in pieces]
-            some = some[done:]
+            some, data = some[done:], data[done:]
