@@ -1,4 +1,4 @@
-//! Promises of the libraries for which the gate has mutants, a module for each library.
+//! Promises of `uriparse_reference` and of schemes for which the gate has mutants.
 //!
 //! Each function hands on what the library returns, and its clauses follow from the contracts of
 //! the calls alone. So a body that breaks a clause breaks the library's too: what the prover
@@ -6,8 +6,4 @@
 //! it.
 #![tactic(auto)]
 
-pub mod authorities;
-pub mod lifetimes;
-pub mod paths;
 pub mod references;
-pub mod texts;
