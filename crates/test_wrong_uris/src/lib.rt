@@ -1,0 +1,108 @@
+//! Promises of `URI` and of its builder. `must-fail` has wrong bodies, as in `test_wrong_texts`.
+#![tactic(auto)]
+
+ghost use Rattle.std.specs.Prelude.{◌≡◌, Err, IfOk, IsOk, MatchOption, Ok, OnOk, Some, is_some, length, string_bytes, true};
+ghost use Rattle.uriparse_text.specs.Readings.{IsUnless};
+ghost use Rattle.uriparse_text.specs.declared.segment.error.PathError.TheVariants as paths;
+ghost use Rattle.uriparse_reference.specs.Normal.{canonical_texts, normal};
+ghost use Rattle.uriparse_reference.specs.Reference.{Parts, Spells};
+ghost use Rattle.uriparse_reference.specs.Target.{target};
+ghost use Rattle.uriparse.specs.File as files;
+ghost use Rattle.uriparse.specs.Kinds.{fault_of, of_kind};
+ghost use Rattle.uriparse.specs.Origin as origins;
+ghost use Rattle.uriparse.specs.Uri.{base as without_fragment, map_error};
+ghost use Rattle.uriparse.specs.declared.file.error.FileError.TheVariants as file_errors;
+ghost use Rattle.uriparse.specs.declared.uri.error.URIError.{URIError};
+ghost use Rattle.uriparse.specs.declared.uri.error.URIError.TheVariants as errors;
+
+use std::alloc::{AllocError, Global};
+use uriparse::file::{FileError, from_path, to_path};
+use uriparse::{Origin, Query, URI, URIBuilder, URIError, URIReference};
+
+/// Reads a URI. A fault, or that there is no scheme, is returned whatever memory there is, and a path
+/// of one segment takes none.
+pub fn read(alloc: Global, bytes: &[u8]) -> Result<URI<'_>, URIError>
+    ensures always { (e : URIError) → fault_of true map_error errors.NotURI bytes.now ≡ Some e → result ≡ Err e }
+    ensures takes_no_memory { (p : Parts) → Spells bytes.now p → is_some p.scheme ≡ true → length p.path.segments ≡ 1 → result ≡ Ok p }
+{
+    URI::try_from_bytes(alloc, bytes)
+}
+
+/// Sets a builder's query.
+pub fn build_query<'b>(builder: &mut URIBuilder<'b>, query: Option<Query<'b>>)
+    ensures { builder.new ≡ record builder.old { query = query.entry } }
+{
+    builder.query(query);
+}
+
+/// Takes a reference for the URI that it is.
+pub fn as_uri(reference: URIReference<'_>) -> Result<URI<'_>, URIError>
+    ensures { result ≡ of_kind true errors.NotURI reference.entry }
+{
+    URI::try_from(reference)
+}
+
+/// Brings a URI into its normal form. Does not allocate where each text is canonical.
+pub fn normalize(uri: &mut URI<'_>, alloc: Global) -> Result<(), AllocError>
+    ensures ok { OnOk result (uri.new ≡ normal uri.old) }
+    ensures takes_no_memory { canonical_texts uri.old ≡ uri.old → IsOk result }
+{
+    uri.normalize(alloc)
+}
+
+/// The target of a reference against a base.
+pub fn resolve<'a>(
+    alloc: Global,
+    base: &'a URI<'_>,
+    reference: &'a URIReference<'_>,
+) -> Result<URI<'a>, URIError>
+    ensures { MatchOption (target base.now reference.now) (result ≡ Err (errors.Path paths.ExceededMaximumLength)) (λ t. IsUnless (errors.Path paths.OutOfMemory) result (Ok t)) }
+{
+    base.resolve(alloc, reference)
+}
+
+/// The reference that leads from a base to a URI.
+pub fn relativize<'a>(
+    alloc: Global,
+    base: &URI<'_>,
+    uri: &'a URI<'_>,
+) -> Result<URIReference<'a>, AllocError>
+    ensures { IfOk result (λ r. target base.now r ≡ target base.now uri.now) }
+{
+    base.relativize(alloc, uri)
+}
+
+/// The URI without its fragment.
+pub fn into_base_uri(uri: URI<'_>) -> URI<'_>
+    ensures { result ≡ without_fragment uri.entry }
+{
+    uri.into_base_uri()
+}
+
+/// Whether two URIs have the same origin.
+pub fn same_origin(left: &URI<'_>, right: &URI<'_>) -> bool
+    ensures { result ≡ origins.have_same_origin left.now right.now }
+{
+    left.same_origin(right)
+}
+
+/// The text of an origin.
+pub fn write_origin(alloc: Global, origin: &Origin<'_>) -> Result<String, AllocError>
+    ensures { IfOk result (λ s. string_bytes s ≡ origins.text origin.now) }
+{
+    origin.to_string(alloc)
+}
+
+/// The URI of a file's path.
+pub fn uri_of_path(alloc: Global, path: &[u8]) -> Result<URI<'static>, FileError>
+    ensures { IsUnless (file_errors.Path paths.OutOfMemory) result (files.uri_of_path path.now) }
+{
+    from_path(alloc, path)
+}
+
+/// The path of the file that a URI names.
+pub fn path_of_uri(alloc: Global, uri: &URI<'_>) -> Result<Vec<u8>, FileError>
+    ensures { IfOk result (λ v. files.path_of_uri uri.now ≡ Ok v.items) }
+{
+    to_path(alloc, uri)
+}
