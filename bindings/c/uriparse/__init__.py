@@ -15,10 +15,10 @@ from . import _library
 from ._library import COMPONENTS, Buffer, Component, Parts, Span, Text, called, utf8, wrong_type
 
 __all__ = [
-    "COMPONENTS", "ENCODED", "IN_BASE", "NO_ROOM", "URI", "Buffer", "Code", "Component", "Components", "Encodable", "HostKind",
-    "Parts", "Span", "Text", "URIError", "decode", "encode", "equal", "error_text", "escape", "first_fault", "get_many", "hash_of", "is_uri", "normalize",
-    "normalize_many", "origin", "pairs", "parse", "parse_many", "relativize", "resolve",
-    "resolve_many", "spans"]
+    "COMPONENTS", "ENCODED", "IN_BASE", "NO_ROOM", "URI", "Buffer", "Code", "Component", "Components", "Encodable",
+    "HostKind", "Parts", "Span", "Text", "URIError", "decode", "encode", "equal", "error_text", "escape", "first_fault",
+    "get_many", "hash_of", "is_uri", "normalize", "normalize_many", "origin", "pairs", "parse", "parse_many", "relativize",
+    "resolve", "resolve_many", "spans"]
 __version__ = "0.3.0"
 
 Encodable = Literal["username", "password", "segment", "query", "fragment"]
