@@ -15,10 +15,10 @@ from . import _library
 from ._library import COMPONENTS, Buffer, Component, Parts, Span, Text, called, utf8, wrong_type
 
 __all__ = [
-    "COMPONENTS", "ENCODED", "IN_BASE", "NO_ROOM", "URI", "Buffer", "Code", "Component", "Components", "Encodable", "HostKind",
-    "Parts", "Span", "Text", "URIError", "decode", "encode", "equal", "error_text", "escape", "first_fault", "get_many", "hash_of", "is_uri", "normalize",
-    "normalize_many", "origin", "pairs", "parse", "parse_many", "relativize", "resolve",
-    "resolve_many", "spans"]
+    "COMPONENTS", "ENCODED", "IN_BASE", "NO_ROOM", "URI", "Buffer", "Code", "Component", "Components", "Encodable",
+    "HostKind", "Parts", "Span", "Text", "URIError", "decode", "encode", "equal", "error_text", "escape", "first_fault",
+    "get_many", "hash_of", "is_uri", "normalize", "normalize_many", "origin", "pairs", "parse", "parse_many", "relativize",
+    "resolve", "resolve_many", "spans"]
 __version__ = "0.3.0"
 
 Encodable = Literal["username", "password", "segment", "query", "fragment"]
@@ -165,13 +165,12 @@ _TEXT = ("text",)
 _LEFT_RIGHT = ("left", "right")
 
 
-def _well_formed(text: Text, code_at: Callable[[str], int], argument: str) -> None:
-    """Raises the error of a str with a surrogate, which UTF-8 can't encode. Its code is that of the text before it."""
-    if isinstance(text, str):
-        try:
-            text.encode()
-        except UnicodeEncodeError as error:
-            raise URIError(code_at(text[:error.start]), text, error.start, argument) from None
+def _encoded(text: str, code_at: Callable[[str], int], argument: str) -> bytes:
+    """The UTF-8 of a str. For a surrogate, which has none, it raises the error with the code that one has after such a text."""
+    try:
+        return text.encode()
+    except UnicodeEncodeError as error:
+        raise URIError(code_at(text[:error.start]), text, error.start, argument) from None
 
 
 def spans(text: Text) -> Parts:
@@ -286,16 +285,12 @@ def hash_of(text: Text) -> int:
     return answer.value
 
 
-def _length(*texts: Text) -> int:
-    try:
-        return sum(map(len, texts))
-    except TypeError:
-        raise wrong_type(*texts) from None
-
-
 def _written(call: Callable[..., Any], texts: Tuple[Text, ...], arguments: Tuple[str, ...] = _TEXT) -> Any:
     """What a call writes for texts: a str if they are."""
-    room, needed = 2 * _length(*texts) + 64, ctypes.c_size_t()
+    try:
+        room, needed = 2 * sum(map(len, texts)) + 64, ctypes.c_size_t()
+    except TypeError:
+        raise wrong_type(*texts) from None
     while True:
         out = ctypes.create_string_buffer(room)
         code = called(call, texts, out, room, needed)
@@ -355,14 +350,17 @@ def pairs(query: str) -> List[Tuple[str, Optional[str]]]: ...
 def pairs(query: Text) -> List[Any]:
     """The pairs of a query, in order: the pieces between its `&`, each a name and, after its first `=`, a value or None, as they
     stand in the text. `decode` reads each. The empty query has one pair, of an empty name. Any text is cut like that."""
-    if isinstance(query, str):
-        _well_formed(query, lambda _: Code.QUERY_BYTE, "query")
-        return [(name.decode(), value if value is None else value.decode()) for name, value in pairs(query.encode())]
-    found: List[Tuple[bytes, Optional[bytes]]] = []
+    data: Buffer = _encoded(query, lambda _: Code.QUERY_BYTE, "query") if isinstance(query, str) else query
+    is_ascii = isinstance(query, str) and query.isascii()
+    whole: Any = query if is_ascii else data
+    kind = str if is_ascii else bytes
+    found: List[Any] = []
     pair = _library.Pair()
-    while called(_library.next_pair, (query,), pair.next, pair):
+    while called(_library.next_pair, (data,), pair.next, pair):
         name, value = pair.name, pair.value
-        found.append((bytes(query[name.begin:name.end]), bytes(query[value.begin:value.end]) if value.present else None))
+        found.append((kind(whole[name.begin:name.end]), kind(whole[value.begin:value.end]) if value.present else None))
+    if isinstance(query, str) and not is_ascii:
+        return [(one.decode(), None if other is None else other.decode()) for one, other in found]
     return found
 
 
@@ -374,7 +372,10 @@ def decode(text: Text) -> Any:
     """The bytes that the text of a component stands for, which is cut at its delimiters before. Of a str they are decoded as
     UTF-8: those that aren't UTF-8 raise UnicodeDecodeError."""
     data: Buffer = utf8(text) if isinstance(text, str) else text
-    room, needed = _length(data), ctypes.c_size_t()
+    try:
+        room, needed = len(data), ctypes.c_size_t()
+    except TypeError:
+        raise wrong_type(data) from None
     out = ctypes.create_string_buffer(room)
     code = called(_library.decode, (data,), out, room, needed)
     if code:
@@ -394,8 +395,10 @@ def encode(component: Encodable, data: Text) -> Any:
     """The text that stands for the bytes, or for the UTF-8 of a str, in a component: one of the names in ENCODED."""
     if component not in ENCODED:
         raise ValueError("no component %r: it is one of %s" % (component, ", ".join(ENCODED)))
-    _well_formed(data, lambda _: ENCODED[component] + 1, "data")
-    return _written(functools.partial(_library.encode, ENCODED[component]), (data,), ("data",))
+    call = functools.partial(_library.encode, ENCODED[component])
+    if isinstance(data, str):
+        return _written(call, (_encoded(data, lambda _: ENCODED[component] + 1, "data"),)).decode()
+    return _written(call, (data,))
 
 
 def _code_of_surrogate(before: str) -> int:
@@ -410,7 +413,8 @@ def escape(text: Buffer) -> bytes: ...
 def escape(text: str) -> str: ...
 def escape(text: Text) -> Any:
     """The text of a reference, made of any text: with escapes for what may not stand where it does."""
-    _well_formed(text, _code_of_surrogate, "text")
+    if isinstance(text, str):
+        return _written(_library.escape, (_encoded(text, _code_of_surrogate, "text"),)).decode()
     return _written(_library.escape, (text,))
 
 

@@ -138,7 +138,10 @@ def called(call: Callable[..., Any], texts: Tuple[Text, ...], *others: Any) -> A
             if isinstance(text, bytes):
                 arguments += text, len(text)
             elif isinstance(text, str):
-                data = text.encode("utf-8", "surrogatepass")
+                try:
+                    data = text.encode()
+                except UnicodeEncodeError:
+                    data = utf8(text)
                 arguments += data, len(data)
             elif is_bytes(text):
                 buffer = _Buffer()
