@@ -33,9 +33,10 @@
 #define URIPARSE_VERSION "0.3.0"
 
 /* What a call returns. The error of a text is its first one: of the authority (user name, password, host, port), then
- * of the path, the colon rule, the query, the fragment; and within each of these the leftmost one. `code & 0xf0` names
- * the component, unless it is 0, and `code & URIPARSE_IN_BASE` is set if `uriparse_resolve` or `uriparse_relativize`
- * rejects the base. Later versions may add codes. */
+ * of the path, the colon rule, the query, the fragment; and within each of these the leftmost one.
+ * `code & URIPARSE_COMPONENT_MASK` is the component, one of uriparse_component, or 0 for the codes below 0x10.
+ * `code & URIPARSE_IN_BASE` is set if `uriparse_resolve` or `uriparse_relativize` rejects the base. Later versions may
+ * add codes. */
 enum uriparse_code {
   URIPARSE_OK = 0,
   URIPARSE_OUT_OF_MEMORY = 1,     /* reserved: earlier versions allocated */
@@ -43,7 +44,7 @@ enum uriparse_code {
   URIPARSE_NO_SCHEME = 3,         /* of a base, and of the URI of `uriparse_relativize`: no scheme, and no error but code 4 */
   URIPARSE_COLON_IN_SEGMENT = 4,  /* without a scheme, a colon precedes the path's first slash: "1:2" */
   URIPARSE_TOO_MANY_SEGMENTS = 5, /* a path, or the one merged of both, has more than 1,000,000 segments */
-  URIPARSE_NO_COMPONENT = 8,      /* of `uriparse_encode` alone: the number is none of uriparse_component */
+  URIPARSE_NO_COMPONENT = 8,      /* of `uriparse_encode` alone: it writes no component with this number */
   URIPARSE_NO_ORIGIN = 10,        /* of `uriparse_origin` alone: the reference has no origin */
 
   URIPARSE_USERNAME_BYTE = 0x11,   /* a byte that no user name has */
@@ -64,7 +65,8 @@ enum uriparse_code {
   URIPARSE_FRAGMENT_BYTE = 0x71,
   URIPARSE_FRAGMENT_ESCAPE = 0x72,
 
-  URIPARSE_IN_BASE = 0x100 /* added to a code: it is the base's error */
+  URIPARSE_COMPONENT_MASK = 0xf0, /* the digit of a code that names the component */
+  URIPARSE_IN_BASE = 0x100        /* added to a code: it is the base's error */
 };
 
 /* Where a component is: the bytes from text[begin] up to text[end], without text[end]. An absent component has begin
@@ -107,11 +109,13 @@ struct uriparse_pair {
   size_t next;                /* where the next pair begins; after the last pair it is greater than the query's length */
 };
 
-/* What `uriparse_encode` writes. */
+/* What an error is about. `uriparse_encode` writes each of these except a host and a port. */
 enum uriparse_component {
   URIPARSE_USERNAME = 0x10,
   URIPARSE_PASSWORD = 0x20,
-  URIPARSE_SEGMENT = 0x50, /* of a path: a '/' becomes "%2F" */
+  URIPARSE_HOST = 0x30,
+  URIPARSE_PORT = 0x40,
+  URIPARSE_SEGMENT = 0x50, /* of a path: a '/' that is encoded becomes "%2F". Of an error: the path */
   URIPARSE_QUERY = 0x60,
   URIPARSE_FRAGMENT = 0x70
 };
@@ -240,8 +244,8 @@ uint32_t uriparse_decode(const uint8_t *text, size_t len, uint8_t *out, size_t r
 
 /* Writes to `out` any bytes as the text of a component, one of uriparse_component, as `uriparse_decode` writes: a byte
  * that the component may have stays, and each other becomes an escape with upper-case digits, '%' too.
- * `uriparse_decode` returns the bytes again. In a query '&', '=' and '+' stay. Returns URIPARSE_NO_COMPONENT for another
- * number. Does not allocate.
+ * `uriparse_decode` returns the bytes again. In a query '&', '=' and '+' stay. Returns URIPARSE_NO_COMPONENT for a
+ * host, a port or another number. Does not allocate.
  *
  * The caller ensures: `bytes` is readable for `len` bytes; `out` is writable for `room` bytes; `needed` is writable. */
 uint32_t uriparse_encode(uint32_t component, const uint8_t *bytes, size_t len, uint8_t *out, size_t room,

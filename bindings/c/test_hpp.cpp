@@ -1,0 +1,154 @@
+// The calls of uriparse.hpp: results, absent components, errors, pairs, and strings that get more room. Prints how many checks
+// passed; the status is 0 if all did.
+#include "uriparse.hpp"
+
+#include <cstdio>
+#include <vector>
+
+static int passed, failed;
+
+static void check(bool holds, const char *what) {
+  if (holds) {
+    passed++;
+  } else {
+    failed++;
+    std::printf("FAILED %s\n", what);
+  }
+}
+
+// The host and the search of a link in a page, or what is wrong with it.
+static std::string search_of(std::string_view page, std::string_view link) {
+  try {
+    const std::string target = uriparse::resolve(page, link);
+    const uriparse::reference uri(target);
+    for (const auto &[name, value] : uriparse::pairs(uri.query()))
+      if (name == "q" && value) return std::string(uri.host().value_or("")) + ": " + uriparse::decode(*value);
+    return "no search";
+  } catch (const uriparse::error &error) {
+    return std::string(error.what()) + " at byte " + std::to_string(error.place);
+  }
+}
+
+// Whether a call throws an error with this code, argument and place.
+template <class Call> static bool throws(Call call, std::uint32_t code, std::size_t argument, std::size_t place) {
+  try {
+    call();
+  } catch (const uriparse::error &error) {
+    return error.code == code && error.argument == argument && error.place == place && error.component() == (code & 0xf0) &&
+           std::string_view(error.what()) == uriparse_error_text(code);
+  }
+  return false;
+}
+
+static void check_components() {
+  const std::string text = "http://user:@Example.com:080/a%7e?q=1#";
+  const uriparse::reference uri(text);
+  check(uri.text().data() == text.data() && uri.text().size() == text.size(), "text");
+  check(uri.scheme() == "http" && uri.authority() == "user:@Example.com:080" && uri.username() == "user", "first components");
+  check(uri.password() == "" && uri.host() == "Example.com" && uri.port() == "080" && uri.path() == "/a%7e", "middle components");
+  check(uri.query() == "q=1" && uri.fragment() == "" && uri.port_number() == 80U, "last components");
+  check(uri.host()->data() == text.data() + 13 && uri.host_kind() == URIPARSE_HOST_NAME, "host");
+  const uriparse::reference empty((std::string_view()));
+  check(!empty.scheme() && !empty.authority() && !empty.username() && !empty.password() && !empty.host() && !empty.port(), "absent");
+  check(!empty.query() && !empty.fragment() && !empty.port_number() && empty.path().empty(), "absent at the end");
+  check(empty.host_kind() == URIPARSE_NO_HOST, "no host");
+  const uriparse::reference address("//[::1]:");
+  check(address.host() == "[::1]" && address.host_kind() == URIPARSE_HOST_IPV6 && address.port() == "" && !address.port_number(), "empty port");
+  check(uriparse::reference("//h:0").port_number() == 0U, "port 0");
+  uriparse::reference copy = uri;
+  copy = address;
+  check(copy.host() == "[::1]", "copy");
+  static_assert(!std::is_constructible_v<uriparse::reference, std::string> && !std::is_constructible_v<uriparse::reference, const std::string>);
+  static_assert(std::is_constructible_v<uriparse::reference, std::string &> && std::is_constructible_v<uriparse::reference, const char *>);
+  static_assert(!std::is_convertible_v<std::string_view, uriparse::reference> && !std::is_constructible_v<uriparse::pairs, std::string>);
+}
+
+static void check_calls() {
+  check(uriparse::is_uri("a:") && !uriparse::is_uri("a") && !uriparse::is_uri("%") && !uriparse::is_uri({}), "is_uri");
+  check(uriparse::equal("HTTP://h/%7e", "http://H/~") && !uriparse::equal("a", "b") && uriparse::equal({}, {}), "equal");
+  check(uriparse::hash("HTTP://h/%7e") == uriparse::hash("http://H/~") && uriparse::hash("a") != uriparse::hash("b"), "hash");
+  check(uriparse::normalize("HTTP://h/%7e/../x") == "http://h/x" && uriparse::normalize({}).empty(), "normalize");
+  check(uriparse::resolve("http://a/b/c/d;p?q", "../g") == "http://a/b/g" && uriparse::resolve("s:", {}) == "s:", "resolve");
+  check(uriparse::relativize("http://a/b/c/d", "http://a/b/g#s") == "../g#s", "relativize");
+  check(uriparse::origin("HTTPS://u@EXAMPLE.com:443/b?c") == "https://example.com", "origin");
+  check(!uriparse::origin("file:///a") && !uriparse::origin("a") && !uriparse::origin({}), "no origin");
+  check(uriparse::escape("a b%\xff") == "a%20b%25%FF" && uriparse::escape({}).empty(), "escape");
+  check(uriparse::encode(URIPARSE_SEGMENT, "a/b") == "a%2Fb" && uriparse::encode(URIPARSE_QUERY, "a/b") == "a/b", "encode");
+  check(uriparse::encode(URIPARSE_QUERY, {}).empty() && uriparse::decode({}).empty(), "empty");
+  check(uriparse::decode("a%2Fb+%00") == std::string("a/b+\0", 5), "decode");
+  check(!uriparse::first_fault("a") && !uriparse::first_fault({}), "no fault");
+  const auto fault = uriparse::first_fault("http://h/a b");
+  check(fault && fault->code == URIPARSE_PATH_BYTE && fault->place == 10, "fault");
+}
+
+// A string that needs more room than the calls give it at first.
+static void check_room() {
+  const std::string bytes(1000, '\xff');
+  std::string escaped;
+  for (int i = 0; i < 1000; i++) escaped += "%FF";
+  check(uriparse::escape(bytes) == escaped && uriparse::encode(URIPARSE_FRAGMENT, bytes) == escaped, "three times the room");
+  check(uriparse::decode(escaped) == bytes, "a third of the room");
+  std::string base = "s:/a", up;
+  for (int i = 0; i < 1000; i++) {
+    base += "/a";
+    up += "../";
+  }
+  check(uriparse::relativize(base, "s:/b") == up + "b" && uriparse::resolve(base, up + "b") == "s:/b", "out of many directories");
+}
+
+static void check_errors() {
+  check(throws([] { uriparse::reference("http://h/a b"); }, URIPARSE_PATH_BYTE, 0, 10), "reference");
+  check(throws([] { uriparse::normalize("//h:70000"); }, URIPARSE_PORT_RANGE, 0, 4), "normalize rejects");
+  check(throws([] { uriparse::hash("1:2"); }, URIPARSE_COLON_IN_SEGMENT, 0, 0), "hash rejects");
+  check(throws([] { uriparse::origin("http://h/?^"); }, URIPARSE_QUERY_BYTE, 0, 10), "origin rejects");
+  check(throws([] { uriparse::equal("a^", "^"); }, URIPARSE_PATH_BYTE, 0, 1), "equal rejects the first");
+  check(throws([] { uriparse::equal("a", "#%4"); }, URIPARSE_FRAGMENT_ESCAPE, 1, 1), "equal rejects the second");
+  check(throws([] { uriparse::resolve("http://[::g]", "^"); }, URIPARSE_HOST_IPV6_BYTE, 0, 10), "resolve rejects the base");
+  check(throws([] { uriparse::resolve("http://h", "a^"); }, URIPARSE_PATH_BYTE, 1, 1), "resolve rejects the reference");
+  check(throws([] { uriparse::resolve("h", "a"); }, URIPARSE_NO_SCHEME, 0, 0), "base without a scheme");
+  check(throws([] { uriparse::relativize("s:", "a"); }, URIPARSE_NO_SCHEME, 1, 0), "URI without a scheme");
+  check(throws([] { uriparse::decode("a b"); }, URIPARSE_QUERY_BYTE, 0, 1), "decode rejects a byte");
+  check(throws([] { uriparse::decode("ab%4"); }, URIPARSE_QUERY_ESCAPE, 0, 2), "decode rejects an escape");
+  check(throws([] { uriparse::decode("a#b^"); }, URIPARSE_QUERY_BYTE, 0, 1), "decode rejects a '#'");
+  check(throws([] { uriparse::encode(URIPARSE_HOST, "a"); }, URIPARSE_NO_COMPONENT, 0, 0), "no host is encoded");
+  check(throws([] { uriparse::encode(URIPARSE_PORT, "1"); }, URIPARSE_NO_COMPONENT, 0, 0), "no port is encoded");
+  // The merged path has one segment more than a path may have.
+  std::string base = "s:";
+  for (int i = 0; i < 1000000; i++) base += "/a";
+  check(throws([&] { uriparse::resolve(base, "b/c"); }, URIPARSE_TOO_MANY_SEGMENTS, 1, 0), "merged path");
+  try {
+    uriparse::normalize("//h:x");
+  } catch (const std::runtime_error &caught) {
+    check(std::string(caught.what()) == "invalid byte in the port", "as a runtime_error");
+  }
+  check(uriparse::error({URIPARSE_HOST_IPV6_FORM, 0}, 0).component() == URIPARSE_HOST, "component");
+}
+
+static std::string listed(uriparse::view query) {
+  std::string all;
+  for (const auto &[name, value] : uriparse::pairs(query)) all.append(name).append(value ? "=" : "").append(value.value_or("")).append(";");
+  return all;
+}
+
+static void check_pairs() {
+  check(listed("a=1&b&=&&c=d=e") == "a=1;b;=;;c=d=e;", "pairs");
+  check(listed("") == ";" && listed(std::nullopt).empty() && listed(std::string_view()) == ";", "pairs of nothing");
+  const std::string query = "a=1&a=2";
+  const uriparse::pairs pairs(query);
+  int count = 0;
+  for (int round = 0; round < 2; round++)
+    for (const auto &pair : pairs) count += pair.first.data() >= query.data() && pair.first.data() <= query.data() + query.size();
+  check(count == 4, "pairs twice");
+}
+
+int main() {
+  check_components();
+  check_calls();
+  check_room();
+  check_errors();
+  check_pairs();
+  check(search_of("http://example.com/a/", "../find?x&q=R%26D#top") == "example.com: R&D", "search");
+  check(search_of("http://h", "?a=1") == "no search" && search_of("http://h", "a b") == "invalid byte in the path at byte 1", "no search");
+  std::printf("%d passed, %d failed\n", passed, failed);
+  return failed != 0;
+}
