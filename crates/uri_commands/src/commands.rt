@@ -90,8 +90,8 @@ pub fn run_texts<O: Write>(
 /// Runs the command that is this word alone.
 fn run_one_word<O: Write>(name: &str, out: &mut O) -> Result<(), Failure> {
     match name {
-        "help" | "--help" => help(out).map_err(Failure::from),
-        "--version" => version(out).map_err(Failure::from),
+        "help" | "--help" => help(out).map_err(Failure::Output),
+        "--version" => version(out).map_err(Failure::Output),
         _ => Err(Failure::Usage),
     }
 }

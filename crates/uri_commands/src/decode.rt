@@ -34,5 +34,5 @@ prints
 pub fn decode<O: Write>(alloc: Global, text: &[u8], out: &mut O) -> Result<(), Failure> {
     let query = Held(Query::try_from_bytes(text)?);
     let bytes = Held(query.0.decode(alloc)?);
-    print_bytes(&bytes.0, out).map_err(Failure::from)
+    print_bytes(&bytes.0, out).map_err(Failure::Output)
 }

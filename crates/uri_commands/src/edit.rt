@@ -234,5 +234,5 @@ fn print_changed<'w, O: Write>(
     out: &mut O,
 ) -> Result<(), Failure> {
     make_changes(alloc, reference, changes)?;
-    print_line(reference, out).map_err(Failure::from)
+    print_line(reference, out).map_err(Failure::Output)
 }

@@ -54,5 +54,5 @@ fn print_encoded<T: Display + Drop, O: Write>(
     out: &mut O,
 ) -> Result<(), Failure> {
     let component = encoded?;
-    print_line(&component, out).map_err(Failure::from)
+    print_line(&component, out).map_err(Failure::Output)
 }

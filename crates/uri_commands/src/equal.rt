@@ -43,7 +43,7 @@ pub fn equal<O: Write>(left: &[u8], right: &[u8], out: &mut O) -> Result<(), Fai
 /// Reads the right reference, and prints whether it equals the left one.
 fn compare<O: Write>(left: &ReferenceView<'_>, right: &[u8], out: &mut O) -> Result<(), Failure> {
     let right = ReferenceView::try_from_bytes(right)?;
-    print_answer(left, &right, out).map_err(Failure::from)
+    print_answer(left, &right, out).map_err(Failure::Output)
 }
 
 /// Prints whether the references are equal.

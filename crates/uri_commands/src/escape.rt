@@ -64,7 +64,7 @@ prints
 /// Prints the text with escapes for the bytes that a reference can't have where they stand.
 pub fn escape<O: Write>(alloc: Global, text: &[u8], out: &mut O) -> Result<(), Failure> {
     let escaped = escape_invalid(alloc, text)?;
-    print_line(&escaped, out).map_err(Failure::from)
+    print_line(&escaped, out).map_err(Failure::Output)
 }
 
 /// Prints the text without what is round a link, with escapes for the bytes that a reference can't

@@ -54,22 +54,12 @@ pub enum Failure {
     Input(io::Error),
     /// A write that failed.
     #[error("standard output: {0}")]
-    Output(io::Error),
+    Output(#[from] io::Error),
 }
 
 impl<T: Drop> From<AllocFailed<T>> for Failure {
     fn from(_error: AllocFailed<T>) -> Failure {
         Failure::Memory(AllocError)
-    }
-}
-
-/// An error of a write: of a stream, or of a buffer that could not grow.
-impl From<io::Error> for Failure {
-    fn from(error: io::Error) -> Failure {
-        match error.kind() {
-            io::ErrorKind::OutOfMemory => Failure::Memory(AllocError),
-            _ => Failure::Output(error),
-        }
     }
 }
 
@@ -108,9 +98,10 @@ impl Failure {
         }
     }
 
-    /// Whether memory ran out.
+    /// Whether memory ran out, also for a buffer in memory that is written to.
     pub fn is_out_of_memory(&self) -> bool {
         match self {
+            Failure::Output(error) => error.kind() == io::ErrorKind::OutOfMemory,
             Failure::Memory(_) | Failure::MemoryAtLine(_) => true,
             Failure::Reference(error) => error.is_out_of_memory(),
             Failure::Uri(error) => error.is_out_of_memory(),

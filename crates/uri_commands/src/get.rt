@@ -85,7 +85,7 @@ fn get_part<O: Write>(alloc: Global, part: Part, text: &[u8], out: &mut O) -> Re
     if !write_part(alloc, &reference, part, out)? {
         return Err(Failure::Absent);
     }
-    out.write_all(b"\n").map_err(Failure::from)
+    out.write_all(b"\n").map_err(Failure::Output)
 }
 
 /// Prints the component of a line's reference, or an empty line if it is absent.
@@ -96,7 +96,7 @@ pub fn get_or_empty<O: Write>(
     out: &mut O,
 ) -> Result<(), Failure> {
     match get_part(alloc, part, line, out) {
-        Err(Failure::Absent) => out.write_all(b"\n").map_err(Failure::from),
+        Err(Failure::Absent) => out.write_all(b"\n").map_err(Failure::Output),
         result => result,
     }
 }
@@ -124,7 +124,7 @@ pub fn get_parts<O: Write>(
         write_part(alloc, &reference, *part, out)?;
         separator = b"\t";
     }
-    out.write_all(b"\n").map_err(Failure::from)
+    out.write_all(b"\n").map_err(Failure::Output)
 }
 
 /// Writes the component, and returns whether it is present.

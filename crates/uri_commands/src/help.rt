@@ -59,5 +59,5 @@ pub fn help<O: Write>(out: &mut O) -> io::Result<()> {
 pub fn help_on<O: Write>(name: &str, out: &mut O) -> Result<(), Failure> {
     let found = (0..).map_while(topic).find(|topic| topic.name == name);
     let topic = found.ok_or(Failure::Usage)?;
-    write!(out, "{}", topic.page).map_err(Failure::from)
+    write!(out, "{}", topic.page).map_err(Failure::Output)
 }

@@ -285,13 +285,13 @@ pub fn parse_json<O: Write>(text: &[u8], out: &mut O) -> Result<(), Failure>
     ensures object { OnOk result ((p : Parts) × Spells text.now p × Appends (O.contents out.old) (O.contents out.new) (object text.now p ++ newline ∷ [])) }
 
     // Such a text fails only if a write does.
-    ensures only { (p : Parts) → Spells text.now p → IfErr result (λ f. (e : Error) × (f ≡ failures.Io e)) }
+    ensures only { (p : Parts) → Spells text.now p → IfErr result (λ f. (e : Error) × (f ≡ failures.Output e)) }
 
     // Any other text is rejected with its fault, and nothing is printed.
     ensures fault { (e : URIReferenceError) → fault text.now ≡ Some e → (result ≡ Err (failures.Reference e)) × (out.new ≡ out.old) }
 {
     match ReferenceView::try_from_bytes(text) {
-        Ok(reference) => write_object(&reference, out).map_err(Failure::from),
+        Ok(reference) => write_object(&reference, out).map_err(Failure::Output),
         Err(error) => Err(Failure::Reference(error)),
     }
 }

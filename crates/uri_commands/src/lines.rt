@@ -362,6 +362,14 @@ fn do_lines<I: Read, O: Write, E: Write>(
     Ok(worst)
 }
 
+/// What was made, unless memory ran out for its buffer.
+fn made<T>(buffered: io::Result<T>) -> Result<T, Failure> {
+    match buffered {
+        Ok(made) => Ok(made),
+        Err(_) => Err(Failure::Memory(AllocError)),
+    }
+}
+
 /// Does the task for each line with buffered output, which is written even if the work ends early.
 /// Of several errors the first is returned.
 fn do_buffered<I: Read, O: Write, E: Write>(
@@ -372,8 +380,8 @@ fn do_buffered<I: Read, O: Write, E: Write>(
 ) -> Result<Outcome, Failure>
     requires { 0 < work.now.width }
 {
-    let mut out = BufWriter::with_capacity(work.alloc, CAPACITY, out)?;
-    let mut err = BufWriter::with_capacity(work.alloc, CAPACITY, err)?;
+    let mut out = made(BufWriter::with_capacity(work.alloc, CAPACITY, out))?;
+    let mut err = made(BufWriter::with_capacity(work.alloc, CAPACITY, err))?;
     let mut written = Ok(());
     let worst = do_lines(work, input, &mut out, &mut written, &mut err);
     let flushed = out.flush();
@@ -409,7 +417,7 @@ pub fn lines<I: Read, O: Write, E: Write>(
         width: task.width(),
         task,
     };
-    let mut input = BufReader::with_capacity(alloc, CAPACITY, input)?;
+    let mut input = made(BufReader::with_capacity(alloc, CAPACITY, input))?;
     let worst = do_buffered(&work, &mut input, out, err)?;
     Ok(worst.status())
 }

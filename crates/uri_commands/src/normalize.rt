@@ -70,7 +70,7 @@ pub fn normalize_with<O: Write>(
 ) -> Result<(), Failure> {
     let reference = ReferenceView::try_from_bytes(text)?;
     let len = put_normal(&reference, buffer)?;
-    print_bytes(&buffer[..len], out).map_err(Failure::from)
+    print_bytes(&buffer[..len], out).map_err(Failure::Output)
 }
 
 /// Prints the reference's normal form without a port that is its scheme's default one.
@@ -78,7 +78,7 @@ pub fn normalize_port<O: Write>(alloc: Global, text: &[u8], out: &mut O) -> Resu
     let mut reference = URIReference::try_from_bytes(alloc, text)?;
     reference.normalize(alloc)?;
     reference.normalize_port();
-    print_line(&reference, out).map_err(Failure::from)
+    print_line(&reference, out).map_err(Failure::Output)
 }
 
 /// Puts the text of the normal form at the start of the buffer, and returns its length.

@@ -38,7 +38,7 @@ prints
 pub fn pairs<O: Write>(alloc: Global, text: &[u8], out: &mut O) -> Result<(), Failure> {
     let reference = URIReference::try_from_bytes(alloc, text)?;
     match reference.query() {
-        Some(query) => print_pairs(query, out).map_err(Failure::from),
+        Some(query) => print_pairs(query, out).map_err(Failure::Output),
         None => Err(Failure::Absent),
     }
 }

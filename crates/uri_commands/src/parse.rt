@@ -47,7 +47,7 @@ prints
 /// Prints the reference, its path, and its other components if present, a line each.
 pub fn parse<O: Write>(alloc: Global, text: &str, out: &mut O) -> Result<(), Failure> {
     let reference = URIReference::try_from_str(alloc, text)?;
-    print_reference(&reference, out).map_err(Failure::from)
+    print_reference(&reference, out).map_err(Failure::Output)
 }
 
 /// Prints the reference and its components.

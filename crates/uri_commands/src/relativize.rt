@@ -58,5 +58,5 @@ fn print_reference<O: Write>(
     out: &mut O,
 ) -> Result<(), Failure> {
     let reference = base.relativize(alloc, target)?;
-    print_line(&reference, out).map_err(Failure::from)
+    print_line(&reference, out).map_err(Failure::Output)
 }

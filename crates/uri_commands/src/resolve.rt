@@ -54,7 +54,7 @@ pub fn resolve_with<O: Write>(
 ) -> Result<(), Failure> {
     let reference = ReferenceView::try_from_bytes(reference)?;
     let len = put_target(base, &reference, buffer)?;
-    print_bytes(&buffer[..len], out).map_err(Failure::from)
+    print_bytes(&buffer[..len], out).map_err(Failure::Output)
 }
 
 /// Puts the text of the target at the start of the buffer, and returns its length.

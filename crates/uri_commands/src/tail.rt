@@ -56,7 +56,7 @@ fn read_tail(alloc: Global, text: &str) -> Result<Tail<'_>, URIReferenceError> {
 /// Prints the text, its path, and its query and its fragment if present, a line each.
 pub fn tail<O: Write>(alloc: Global, text: &str, out: &mut O) -> Result<(), Failure> {
     let tail = Held(read_tail(alloc, text)?);
-    print_tail(text, &tail.0, out).map_err(Failure::from)
+    print_tail(text, &tail.0, out).map_err(Failure::Output)
 }
 
 /// Prints the text and its components.
