@@ -97,3 +97,8 @@ pub rejected_text : (base : Parts) (written text : List ℕ) (e : URIReferenceEr
     → (fault text ≡ Some e) ⊎ (e ≡ references.Path OutOfMemory) → IsRejected base written (map_error e)
 rejected_text base written text e reads (inl is) = inl (e, sym (ap fault reads) ∙ is, refl)
 rejected_text base written text e reads (inr memory) = inr (inr (ap map_error memory))
+
+-- a link that leads somewhere is rejected only if memory runs out
+pub unreached : (e : URIError) (u : Parts) → IsUnless (uris.Path OutOfMemory) (Err e) (Ok u) → e ≡ uris.Path OutOfMemory
+unreached e u (inl h) = absurd (cc)
+unreached e u (inr h) = cc

@@ -21,9 +21,9 @@ GoesTo request location t = (r : Parts) × Spells location r × (target request 
 abbrev pub IsAt : authority.AuthorityParts → Parts → Type 0
 IsAt allowed t = IsSomeAnd t.authority (λ a. authority.key a ≡ authority.key allowed)
 
--- Its scheme is that of the request, or `https`. So a redirect never leads from `https` to `http`.
+-- Its scheme is `https`, or that of the request. So a redirect never leads from `https` to `http`.
 abbrev pub KeepsScheme : Parts → Parts → Type 0
-KeepsScheme request t = IsSomeAnd request.scheme (λ r. IsSomeAnd t.scheme (λ s. IsNamed (codes "https") s ⊎ (scheme.canonical_text s ≡ scheme.canonical_text r)))
+KeepsScheme request t = IsSomeAnd t.scheme (λ s. IsNamed (codes "https") s ⊎ IsSomeAnd request.scheme (λ r. scheme.canonical_text s ≡ scheme.canonical_text r))
 
 -- where a redirect may lead
 pub record MayFollow (request : Parts) (allowed : authority.AuthorityParts) (t : Parts) : Type 0 where
