@@ -80,9 +80,9 @@ uri --append --lines COMMAND
 uri --lines --append COMMAND
 uri --lines --column K --append COMMAND
 
-Prints each line of the standard input as it is, a tab, and the result. The text
-is the whole line, or with --column its K-th field. A text that is rejected gives
-an empty result, and is reported. Exactly one line is printed for each.
+Prints each line of the standard input as it is, a tab, and the result for the
+whole line, or with --column for its K-th field. Rejected input gives an empty
+result, and is reported. Exactly one line is printed for each.
 
 Exit status: 0 on success, 1 if a line is rejected or the work ends early, 2 on
 a usage error.
