@@ -1,24 +1,18 @@
 -- What a proxy can be asked for: RFC 9112, section 3.2.2.
-use Rattle.std.specs.Prelude.{◌≡◌, ◌⊎◌, ℕ, true, false, List, Some, None, IsSome, codes}
+use Rattle.std.specs.Prelude.{◌≡◌, ◌⊎◌, ℕ, true, false, List, Some, None, IsSome}
 use Rattle.std.specs.Option.{IsSomeAnd}
-use Rattle.std.specs.Str.{str_to_ascii_lowercase}
 use Rattle.uriparse.specs.SchemeValue.{Scheme}
-use Rattle.uriparse.specs.Scheme as scheme
 use Rattle.uriparse.specs.Host.{is_empty}
 use Rattle.uriparse.specs.Reference.{Parts, Spells, host_of}
 use Rattle.uriparse.specs.declared.uri.error.URIError.TheVariants as uris
 use Rattle.uriparse.specs.Kinds.{fault_of}
-use Rattle.uriparse.specs.Uri.{map_error}
+use Rattle.uriparse.specs.Uri.{IsNamed, http, https, map_error}
 use Rattle.uriparse.specs.PathError.TheVariants.{OutOfMemory}
 use Rattle.examples.specs.declared.proxy.ProxyError.{ProxyError}
 use Rattle.examples.specs.declared.proxy.ProxyError.TheVariants as errors
 
--- the scheme has this name, in any case
-abbrev pub IsNamed : List ℕ → Scheme → Type 0
-IsNamed name s = name ≡ str_to_ascii_lowercase (scheme.text s)
-
 abbrev pub IsWebScheme : Scheme → Type 0
-IsWebScheme s = IsNamed (codes "http") s ⊎ IsNamed (codes "https") s
+IsWebScheme s = IsNamed http s ⊎ IsNamed https s
 
 -- the URI has a host, which isn't empty
 abbrev pub HasHost : Parts → Type 0

@@ -1,5 +1,5 @@
 -- Where a redirect leads to, and whether that is allowed.
-use Rattle.std.specs.Prelude.{◌≡◌, ◌⊎◌, ⊤, ℕ, List, Option, Some, None, Result, Ok, Err, codes}
+use Rattle.std.specs.Prelude.{◌≡◌, ◌⊎◌, ⊤, ℕ, List, Option, Some, None, Result, Ok, Err}
 use Rattle.std.specs.Option.{IsSomeAnd}
 use Rattle.uriparse.specs.PathError.TheVariants.{ExceededMaximumLength, OutOfMemory}
 use Rattle.uriparse.specs.Authority as authority
@@ -8,10 +8,10 @@ use Rattle.uriparse.specs.URIReferenceError.TheVariants as references
 use Rattle.uriparse.specs.Reading.{fault}
 use Rattle.uriparse.specs.Reference.{Parts, Spells}
 use Rattle.uriparse.specs.Target.{target}
+use Rattle.uriparse.specs.Uri.{IsNamed, https}
 use Rattle.uriparse.specs.declared.uri.error.URIError.TheVariants as uris
 use Rattle.examples.specs.declared.redirects.RedirectError.{RedirectError}
 use Rattle.examples.specs.declared.redirects.RedirectError.TheVariants as errors
-use Rattle.examples.specs.Proxy.{IsNamed}
 
 -- The text of a Location is a reference, and this is its target against the request's URI.
 abbrev pub GoesTo : Parts → List ℕ → Parts → Type 0
@@ -23,7 +23,7 @@ IsAt allowed t = IsSomeAnd t.authority (λ a. authority.key a ≡ authority.key 
 
 -- Its scheme is `https`, or that of the request. So a redirect never leads from `https` to `http`.
 abbrev pub KeepsScheme : Parts → Parts → Type 0
-KeepsScheme request t = IsSomeAnd t.scheme (λ s. IsNamed (codes "https") s ⊎ IsSomeAnd request.scheme (λ r. scheme.canonical_text s ≡ scheme.canonical_text r))
+KeepsScheme request t = IsSomeAnd t.scheme (λ s. IsNamed https s ⊎ IsSomeAnd request.scheme (λ r. scheme.canonical_text s ≡ scheme.canonical_text r))
 
 -- where a redirect may lead
 pub record MayFollow (request : Parts) (allowed : authority.AuthorityParts) (t : Parts) : Type 0 where

@@ -9,6 +9,7 @@ pub mod cookbook;
 pub mod hosts;
 pub mod links;
 pub mod proxy;
+pub mod queries;
 pub mod redirects;
 pub mod registry;
 pub mod schema_store;

@@ -1,6 +1,7 @@
 //! The first steps with `uriparse`: read a page and a link, and print where the link leads.
 #![tactic(auto)]
 
+mod promises;
 mod words;
 
 use std::alloc::Global;

@@ -16,13 +16,13 @@ uri get PART TEXT     that part alone: scheme, authority, username, password,
                       host, port, path, query, fragment or origin
 ",
     page: "\
-uri get PART TEXT
+uri get PART[,PART..] TEXT
 uri --lines get PART[,PART..]
 
 Prints one part of the reference: scheme, authority, username, password, host,
-port, path, query, fragment or origin. An IPv6 address has its brackets. With
---lines an absent part is an empty line, and the status is 0; several parts are
-printed with tabs between them. For `uri get file URI` see uri help file.
+port, path, query, fragment or origin. An IPv6 address has its brackets. Several
+parts are printed with tabs between them; then, and with --lines, an absent part
+is empty, and the status is 0. For `uri get file URI` see uri help file.
 
 The origin is scheme, host and port, by which RFC 6454 compares URIs, in one
 spelling: scheme and host in lower case, with no escape that isn't needed, and
@@ -35,8 +35,10 @@ Exit status: 0 on success, 1 if a text is no reference, 2 on a usage error,
 
 Example:
     uri get host 'http://example.com:8080/a?b&c#d'
+    uri get host,port 'http://example.com:8080/a?b&c#d'
 prints
     example.com
+    example.com\t8080
 ",
 };
 
@@ -72,11 +74,15 @@ pub fn read_part(name: &str) -> Result<Part, Failure> {
     }
 }
 
-/// Prints the component of this name, or fails with `Failure::Absent` if the reference has none.
-/// The name is checked before the text is read. Allocates only the text of an origin.
-pub fn get<O: Write>(alloc: Global, name: &str, text: &[u8], out: &mut O) -> Result<(), Failure> {
-    let part = read_part(name)?;
-    get_part(alloc, part, text, out)
+/// Prints the component of this name, or fails with `Failure::Absent` if the reference has none. Several
+/// names with commas between them are for a line with tabs, where an absent component is empty. The names
+/// are checked before the text is read. Allocates their list, and the string of an origin.
+pub fn get<O: Write>(alloc: Global, names: &str, text: &[u8], out: &mut O) -> Result<(), Failure> {
+    let parts = read_parts(alloc, names)?;
+    match parts.as_slice() {
+        [part] => get_part(alloc, *part, text, out),
+        parts => get_parts(alloc, parts, text, out),
+    }
 }
 
 /// Reads the text, and prints the component, or fails with `Failure::Absent`.

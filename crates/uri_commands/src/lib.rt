@@ -71,7 +71,23 @@ pub fn run_with_input<I: Read, O: Write, E: Write>(
 ) -> u8
     ensures { result ≤ 3 }
 {
-    let (options, words) = split_options(words);
+    match split_options(alloc, words) {
+        Ok((options, words)) => run_command(alloc, options, words.as_slice(), input, out, err),
+        Err(error) => status_of(Options::NONE, words, Err(Failure::from(error)), err),
+    }
+}
+
+/// Runs the command of these words with these options.
+fn run_command<I: Read, O: Write, E: Write>(
+    alloc: Global,
+    options: Options,
+    words: &[&str],
+    input: &mut I,
+    out: &mut O,
+    err: &mut E,
+) -> u8
+    ensures { result ≤ 3 }
+{
     if options.reads_lines {
         let result = lines(alloc, options, words, input, out, err);
         return status_of(options, words, result, err);

@@ -1,8 +1,9 @@
-//! The options that precede a command.
+//! The options of a command, which precede its texts.
 
 ghost use Rattle.std.specs.Prelude.{◌<◌, ◌≤◌, IfSome, length};
 
 use crate::columns::Columns;
+use std::alloc::{AllocError, Global};
 
 /// What a command prints, and of which text, as the options say that exclude each other.
 #[derive(Clone, Copy, PartialEq, Eq)]
@@ -32,7 +33,7 @@ impl Manner {
     }
 }
 
-/// The options before a command.
+/// The options of a command.
 #[derive(Clone, Copy)]
 pub struct Options {
     /// `--lines`: the texts are the lines of the standard input.
@@ -45,6 +46,14 @@ pub struct Options {
 }
 
 impl Options {
+    /// No option.
+    pub const NONE: Options = Options {
+        reads_lines: false,
+        explains: false,
+        columns: None,
+        manner: Manner::Plain,
+    };
+
     /// The options with one more manner.
     fn with_manner(self, manner: Manner) -> Options {
         let manner = self.manner.with(manner);
@@ -112,20 +121,37 @@ fn read_column(number: &str) -> Option<usize> {
     number.parse::<usize>().ok()?.checked_sub(1)
 }
 
-/// Splits the words into the options and the words of the command.
-///
-/// Options precede the command, in any order. A word that follows the command is not an option.
-pub fn split_options<'w, 't>(words: &'w [&'t str]) -> (Options, &'w [&'t str]) {
-    let mut options = Options {
-        reads_lines: false,
-        explains: false,
-        columns: None,
-        manner: Manner::Plain,
-    };
+/// Reads the options at the front of the words. Returns them, with those before, and the other words.
+fn read_options<'w, 't>(before: Options, words: &'w [&'t str]) -> (Options, &'w [&'t str]) {
+    let mut options = before;
     let mut at = 0;
     'options: while let Some((more, count)) = options.read(&words[at..]) {
         options = more;
         at += count;
     }
     (options, &words[at..])
+}
+
+/// Splits the words into the options, and the command with its texts. Allocates a list of these.
+///
+/// Options stand before the command or after it, in any order, but before its texts. `--` ends them.
+pub fn split_options<'t>(
+    alloc: Global,
+    words: &[&'t str],
+) -> Result<(Options, Vec<&'t str>), AllocError> {
+    let mut command = Vec::with_capacity(alloc, words.len())?;
+    let (options, rest) = read_options(Options::NONE, words);
+    let (options, texts) = match rest {
+        ["--", rest @ ..] => (options, rest),
+        [name, rest @ ..] => {
+            command.push(*name)?;
+            read_options(options, rest)
+        }
+        [] => (options, rest),
+    };
+    match texts {
+        ["--", texts @ ..] => command.extend_from_slice(texts)?,
+        texts => command.extend_from_slice(texts)?,
+    }
+    Ok((options, command))
 }

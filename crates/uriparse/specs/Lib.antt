@@ -87,10 +87,12 @@ pub use Rattle.uriparse_reference.specs.Masked
 pub use Rattle.uriparse_reference.specs.Edits
 pub use Rattle.uriparse_reference.specs.Builder
 pub use Rattle.uriparse_reference.specs.Key
+pub use Rattle.uriparse_reference.specs.TextKey
 pub use Rattle.uriparse_reference.specs.Normal
 pub use Rattle.uriparse_reference.specs.Target
 pub use Rattle.uriparse_reference.specs.Relate
 pub use Rattle.uriparse_reference.specs.declared.uri_reference.edit.Edit
+pub use Rattle.uriparse_reference.specs.declared.uri_reference.text.key.ReferenceKey
 pub use Rattle.uriparse_reference.specs.declared.uri_reference.error.URIReferenceError
 pub use Rattle.uriparse_reference.specs.declared.uri_reference.error.BufferError
 pub use Rattle.uriparse_reference.specs.declared.uri_reference.error.TargetError

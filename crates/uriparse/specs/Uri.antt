@@ -1,5 +1,8 @@
 -- URIs: references that have a scheme. RFC 3986, section 3.
-use Rattle.std.specs.Prelude.{true, Option, Some, None, Result, unwrap_or}
+use Rattle.std.specs.Prelude.{◌≡◌, ℕ, List, true, Option, Some, None, Result, codes, unwrap_or}
+use Rattle.std.specs.Str.{str_to_ascii_lowercase}
+use Rattle.uriparse_scheme.specs.Scheme as scheme
+use Rattle.uriparse_scheme.specs.declared.scheme.Scheme.{Scheme}
 use Rattle.uriparse_text.specs.Readings.{◌>>=◌}
 use Rattle.uriparse_reference.specs.declared.uri_reference.error.URIReferenceError.{URIReferenceError}
 use Rattle.uriparse_reference.specs.declared.uri_reference.error.URIReferenceError.TheVariants as references
@@ -35,3 +38,28 @@ uri_built h = with_mapped_error map_built_error (built h) >>= of_kind true error
 -- without its fragment
 abbrev pub base : Parts → Parts
 base p = record p { fragment = None }
+
+-- ---- which scheme a URI has: RFC 3986, section 3.1
+
+-- the scheme has this name in lower case, however it is spelled
+abbrev pub IsNamed : List ℕ → Scheme → Type 0
+IsNamed name s = name ≡ str_to_ascii_lowercase (scheme.text s)
+
+-- names of common schemes
+abbrev pub http : List ℕ
+http = codes "http"
+
+abbrev pub https : List ℕ
+https = codes "https"
+
+abbrev pub ftp : List ℕ
+ftp = codes "ftp"
+
+abbrev pub file : List ℕ
+file = codes "file"
+
+abbrev pub mailto : List ℕ
+mailto = codes "mailto"
+
+abbrev pub urn : List ℕ
+urn = codes "urn"

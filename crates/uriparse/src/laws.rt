@@ -1,6 +1,6 @@
 //! Laws of the definitions that contracts cite. Each function does nothing: its contract is the
-//! law.
-ghost use Rattle.std.specs.Prelude.{◌≡◌, ◌↔◌, ◌∷◌, [], ℕ, List, Err, Ok, Some, None, codes, false, true};
+//! law. Call it where a proof needs the law.
+ghost use Rattle.std.specs.Prelude.{◌≡◌, ◌↔◌, ◌⊎◌, ◌∷◌, [], ℕ, List, Err, Ok, Some, None, codes, false, true};
 ghost use Rattle.uriparse_text.specs.Bytes.{slash};
 ghost use Rattle.uriparse_text.specs.Coding.{are_bytes};
 ghost use Rattle.uriparse_reference.specs.Builder.{held};
@@ -13,10 +13,18 @@ ghost use Rattle.uriparse.specs.Kinds.{IsOfKind, with_mapped_error};
 ghost use Rattle.uriparse.specs.Origin.{are_alike, fed, have_same_origin, origin, printed_origin, share_origin, text};
 ghost use Rattle.uriparse.specs.declared.uri.origin.Origin.{Origin};
 ghost use Rattle.uriparse_authority.specs.Host as host;
+ghost use Rattle.uriparse_authority.specs.Normal.{canonical_host};
 ghost use Rattle.uriparse_authority.specs.declared.authority.host.Host.{Host};
 ghost use Rattle.uriparse_scheme.specs.Scheme as scheme;
 ghost use Rattle.uriparse.specs.RelativeReference as relative;
 ghost use Rattle.uriparse.specs.Uri as uri;
+
+pub use uriparse_reference::laws::{
+    equal_in_equal_out, faults_of_reading, normalising_commutes, one_build, one_cut,
+    one_default_port, one_edit, one_escaping, one_key, one_merge, one_normal_form,
+    one_offset_of_fault, one_reading, one_run, one_target, order_of_references, reading_back,
+    reading_what_is_written,
+};
 
 /// The components of a URI build it again, passed to `from_parts` or held by a builder.
 pub fn one_uri()
@@ -34,7 +42,8 @@ pub fn one_relative_reference()
 /// A URI has the origin that it has without its scheme's default port. Two URIs have the same origin
 /// if both have one, and these are alike: in the canonical spelling of their schemes, in the kind and
 /// the canonical spelling of their hosts, and in their ports. A hasher is fed the same for both then, and
-/// they have one text. A URI with an empty host has no origin.
+/// they have one string. Origins with one string are alike, unless one has as a name what the other has as
+/// an IPv4 address. A URI with an empty host has no origin.
 pub fn one_origin()
     ensures port { (p : Parts) → origin (without_default_port p) ≡ origin p }
     ensures hostless { (p : Parts) (h : Host) → host_of p ≡ Some h → host.is_empty h ≡ true → origin p ≡ None }
@@ -43,6 +52,7 @@ pub fn one_origin()
     ensures parts { (a b : Origin) → (are_alike a b ≡ true) ↔ ((scheme.canonical_text a.scheme ≡ scheme.canonical_text b.scheme) × (host.key a.host ≡ host.key b.host) × (a.port ≡ b.port)) }
     ensures hash { (a b : Origin) → are_alike a b ≡ true → fed a ≡ fed b }
     ensures text { (p q : Parts) (a b : Origin) → Valid p → Valid q → origin p ≡ Some a → origin q ≡ Some b → are_alike a b ≡ true → text a ≡ text b }
+    ensures back { (p q : Parts) (a b : Origin) → Valid p → Valid q → origin p ≡ Some a → origin q ≡ Some b → text a ≡ text b → (are_alike a b ≡ true) ⊎ host.OneHidesAddress (canonical_host a.host) (canonical_host b.host) }
 {}
 
 /// Origins: of one spelling each, and of URIs that have none.

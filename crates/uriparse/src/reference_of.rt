@@ -1,5 +1,5 @@
 //! A reference of one kind: what URIs and relative references share.
-ghost use Rattle.std.specs.Prelude.{◌≡◌, ◌⊎◌, ◌<◌, if◌then◌else◌, false, [], IfOk, IfErr, IfSome, Ok, Err, Some, bytes_eq, fold, is_some, length, string_bytes};
+ghost use Rattle.std.specs.Prelude.{◌≡◌, ◌↔◌, ◌⊎◌, ◌<◌, if◌then◌else◌, false, [], IfOk, IfErr, IfSome, IsOk, IsTrue, Ok, Err, Some, bytes_eq, fold, is_some, length, string_bytes};
 ghost use Rattle.std.specs.Bool.{beq};
 ghost use Rattle.std.specs.Option.{option_map};
 ghost use Rattle.std.proofs.Common.{rules};
@@ -9,7 +9,7 @@ ghost use Rattle.uriparse_text.specs.Readings.{IsUnless, unless_fault};
 ghost use Rattle.uriparse_text.specs.declared.segment.error.PathError.TheVariants.{OutOfMemory};
 ghost use Rattle.uriparse_reference.specs.declared.uri_reference.error.URIReferenceError.TheVariants as errors;
 ghost use Rattle.uriparse_reference.specs.Key.{fed, fed_key, key};
-ghost use Rattle.uriparse_reference.specs.Reference.{print};
+ghost use Rattle.uriparse_reference.specs.Reference.{Same, print};
 ghost use Rattle.uriparse.specs.Kinds.{IsOfKind, fault_of, first_fault_of, of_kind, reading_of, with_mapped_error};
 
 use crate::builder_of::BuilderOf;
@@ -51,7 +51,7 @@ impl<'r, K: ReferenceKind> Model for ReferenceOf<'r, K> {
 
 impl<'r, K: ReferenceKind> ReferenceOf<'r, K> {
     ghost use Rattle.uriparse_reference.specs.Builder.{held, nothing};
-    ghost use Rattle.uriparse_reference.specs.Reference.{Parts, Spells, Valid};
+    ghost use Rattle.uriparse_reference.specs.Reference.{Parts, ReadsBack, Spells, Valid};
 
     /// Wraps a reference that is known to be of this kind.
     pub(crate) fn of_checked(reference: URIReference<'r>) -> ReferenceOf<'r, K>
@@ -242,7 +242,10 @@ impl<'r, K: ReferenceKind> ReferenceOf<'r, K> {
     /// A copy that borrows this value's texts. Allocates the list of segments, if there is more
     /// than one.
     pub fn to_borrowed(&self, alloc: Global) -> Result<ReferenceOf<'_, K>, AllocError>
-        ensures { IfOk result (λ u. u ≡ self.now) }
+        ensures copy { IfOk result (λ u. u ≡ self.now) }
+
+        // A path of one segment takes no memory.
+        ensures takes_no_memory { length self.now.path.segments ≡ 1 → IsOk result }
     {
         Ok(ReferenceOf {
             reference: self.reference.to_borrowed(alloc)?,
@@ -269,9 +272,12 @@ impl<'r, K: ReferenceKind> ReferenceOf<'r, K> {
         self.to_borrowed(alloc)?.into_owned(alloc)
     }
 
-    /// A copy of the text. Allocates.
+    /// A copy of the string. Allocates.
     pub fn to_string(&self, alloc: Global) -> Result<String, AllocError>
-        ensures { IfOk result (λ s. string_bytes s ≡ print self.now) }
+        ensures printed { IfOk result (λ s. string_bytes s ≡ print self.now) }
+
+        // The string spells the value, unless its host is a name that reads as an address.
+        ensures back { IfOk result (λ s. ReadsBack self.now → Spells (string_bytes s) self.now) }
     {
         self.reference.to_string(alloc)
     }
@@ -301,7 +307,10 @@ impl<'r, K: ReferenceKind> PartialEq for ReferenceOf<'r, K> {
 
     ghost laws = { Prim.search (comparing, rules) };
 
-    fn eq(&self, other: &ReferenceOf<'r, K>) -> bool {
+    fn eq(&self, other: &ReferenceOf<'r, K>) -> bool
+        ensures key { result ≡ bytes_eq (key self.now) (key other.now) }
+        ensures same { IsTrue result ↔ Same self.now other.now }
+    {
         self.reference == other.reference
     }
 }

@@ -1,5 +1,5 @@
 //! A URI reference: RFC 3986, section 4.1.
-ghost use Rattle.std.specs.Prelude.{◌≡◌, ◌⊎◌, ◌&&◌, IfOk, IfErr, Ok, Err, IfSome, Some, ◌<◌, ◌≤◌, bytes_eq, fold, is_some, length, option_copied, string_bytes};
+ghost use Rattle.std.specs.Prelude.{◌≡◌, ◌↔◌, ◌⊎◌, ◌&&◌, IfOk, IfErr, IsTrue, Ok, Err, IfSome, Some, ◌<◌, ◌≤◌, bytes_eq, fold, is_some, length, option_copied, string_bytes};
 ghost use Rattle.std.proofs.Common.{rules};
 ghost use Rattle.std.specs.Ordering.{on};
 ghost use Rattle.std.specs.Cmp.Rules.{comparing, hashing};
@@ -11,7 +11,7 @@ ghost use Rattle.uriparse_reference.specs.declared.uri_reference.error.URIRefere
 ghost use Rattle.uriparse_reference.specs.Key.{each_alike, ends_alike, fed, fed_key, key, authority_and_path_alike};
 ghost use Rattle.uriparse_reference.specs.Offset.{first_fault};
 ghost use Rattle.uriparse_reference.specs.Reading.{fault};
-ghost use Rattle.uriparse_reference.specs.Reference.{host_of, password_of, port_of, print, username_of};
+ghost use Rattle.uriparse_reference.specs.Reference.{Same, host_of, password_of, port_of, print, username_of};
 
 use std::alloc::{AllocError, Global};
 use std::fmt;
@@ -106,7 +106,7 @@ impl<'r> Model for URIReference<'r> {
 }
 
 impl<'r> URIReference<'r> {
-    ghost use Rattle.uriparse_reference.specs.Reference.{Parts, Spells, Valid};
+    ghost use Rattle.uriparse_reference.specs.Reference.{Parts, ReadsBack, Spells, Valid};
     ghost use Rattle.uriparse_reference.specs.declared.uri_reference.error.URIReferenceError.{URIReferenceError};
 
     /// Reads a reference, which borrows the bytes: RFC 3986, section 4.1. Allocates only for the
@@ -317,8 +317,12 @@ impl<'r> URIReference<'r> {
 
     /// Writes the reference's text into a new `String`. Allocates.
     pub fn to_string(&self, alloc: Global) -> Result<String, AllocError>
-        ensures { IfOk result (λ s. string_bytes s ≡ print self.now) }
+        ensures printed { IfOk result (λ s. string_bytes s ≡ print self.now) }
+
+        // The string spells the reference, unless its host is a name that reads as an address.
+        ensures back { IfOk result (λ s. ReadsBack self.now → Spells (string_bytes s) self.now) }
     {
+        let _path = self.path();
         let mut text = String::with_capacity(alloc, self.most_bytes())?;
         write!(text, "{self}")?;
         Ok(text)
@@ -353,7 +357,10 @@ impl<'r> PartialEq for URIReference<'r> {
 
     ghost laws = { Prim.search (comparing, rules) };
 
-    fn eq(&self, other: &URIReference<'r>) -> bool {
+    fn eq(&self, other: &URIReference<'r>) -> bool
+        ensures key { result ≡ bytes_eq (key self.now) (key other.now) }
+        ensures same { IsTrue result ↔ Same self.now other.now }
+    {
         self.is_each_alike(other)
     }
 }

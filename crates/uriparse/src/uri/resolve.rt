@@ -1,5 +1,5 @@
 //! The target of a reference against a base: RFC 3986, section 5.2.
-ghost use Rattle.std.specs.Prelude.{◌≡◌, Err, IfOk, MatchOption, Ok, true};
+ghost use Rattle.std.specs.Prelude.{◌≡◌, Err, IfOk, MatchOption, Ok, Some, true};
 ghost use Rattle.uriparse_text.specs.Readings.{IsUnless};
 ghost use Rattle.uriparse_text.specs.declared.segment.error.PathError.TheVariants as paths;
 ghost use Rattle.uriparse_reference.specs.Normal.{normal};
@@ -39,6 +39,8 @@ impl<'u> URI<'u> {
     ) -> Result<URI<'a>, URIError>
         // Section 5.2.2's target.
         ensures answer { MatchOption (target self.now reference.now) (result ≡ Err (errors.Path paths.ExceededMaximumLength)) (λ t. IsUnless (errors.Path paths.OutOfMemory) result (Ok t)) }
+
+        ensures found { IfOk result (λ t. target self.now reference.now ≡ Some t) }
 
         // Equal references have equal targets against equal bases, or both have none.
         ensures equal { (c q : Parts) → Valid c → Valid q → Same self.now c → Same reference.now q → AreSame (target self.now reference.now) (target c q) }

@@ -1,5 +1,5 @@
 //! Copies of a path. They allocate the list of several segments.
-ghost use Rattle.std.specs.Prelude.{◌≡◌, IfOk};
+ghost use Rattle.std.specs.Prelude.{◌≡◌, IfOk, IsOk, length};
 
 use super::list::{SegmentList, Storage};
 use super::segments::push_borrowed;
@@ -37,11 +37,12 @@ fn borrowed_list<'s>(
     alloc: Global,
     list: &'s SegmentList<Segment<'_>>,
 ) -> Result<SegmentList<Segment<'s>>, AllocError>
-    ensures { IfOk result (λ l. l ≡ list.now) }
+    ensures copy { IfOk result (λ l. l ≡ list.now) }
+    ensures takes_no_memory { length list.now ≡ 1 → IsOk result }
 {
-    match &list.kept {
-        Storage::One(only) => Ok(SegmentList::one(only.as_borrowed())),
-        Storage::Many(segments) => Ok(SegmentList::several(borrowed_segments(alloc, segments)?)),
+    match list.as_slice() {
+        [only] => Ok(SegmentList::one(only.as_borrowed())),
+        segments => Ok(SegmentList::several(borrowed_segments(alloc, segments)?)),
     }
 }
 
@@ -62,7 +63,10 @@ impl<'p> Path<'p> {
     /// A copy with segments that borrow the texts of this path's. Allocates the list once, if there
     /// is more than one segment.
     pub fn to_borrowed(&self, alloc: Global) -> Result<Path<'_>, AllocError>
-        ensures { IfOk result (λ p. p ≡ self.now) }
+        ensures copy { IfOk result (λ p. p ≡ self.now) }
+
+        // One segment takes no memory.
+        ensures takes_no_memory { length self.now.segments ≡ 1 → IsOk result }
     {
         Ok(Path {
             segments: borrowed_list(alloc, &self.segments)?,

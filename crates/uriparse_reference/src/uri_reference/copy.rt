@@ -1,5 +1,5 @@
 //! Copies of a reference. They allocate the list of segments, if there is more than one.
-ghost use Rattle.std.specs.Prelude.{◌≡◌, IfOk, option_copied};
+ghost use Rattle.std.specs.Prelude.{◌≡◌, IfOk, IsOk, length, option_copied};
 
 use super::URIReference;
 use std::alloc::{AllocError, Global};
@@ -97,7 +97,10 @@ impl<'r> URIReference<'r> {
     /// A copy that borrows the texts of this reference. Allocates once, for the list of segments,
     /// if there is more than one.
     pub fn to_borrowed(&self, alloc: Global) -> Result<URIReference<'_>, AllocError>
-        ensures { IfOk result (λ r. r ≡ self.now) }
+        ensures copy { IfOk result (λ r. r ≡ self.now) }
+
+        // A path of one segment takes no memory.
+        ensures takes_no_memory { length self.now.path.segments ≡ 1 → IsOk result }
     {
         let path = self.path.to_borrowed(alloc)?;
         Ok(URIReference {

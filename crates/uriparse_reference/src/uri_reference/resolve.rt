@@ -1,5 +1,5 @@
 //! Resolving a reference against a base: RFC 3986, section 5.2.
-ghost use Rattle.std.specs.Prelude.{◌≡◌, Err, IfOk, IsSome, MatchOption, MatchResult, Ok, false, if◌then◌else◌};
+ghost use Rattle.std.specs.Prelude.{◌≡◌, Err, IfOk, IsSome, MatchOption, MatchResult, Ok, Some, false, if◌then◌else◌};
 ghost use Rattle.uriparse_text.specs.Readings.{IsUnless};
 ghost use Rattle.uriparse_path.specs.Dots.{without_dots};
 ghost use Rattle.uriparse_path.specs.Edits.{with_dot_prefix};
@@ -82,6 +82,7 @@ pub fn resolve<'r>(
     requires { IsSome base.now.scheme }
     ensures scheme { IfOk result (λ t. IsSome t.scheme) }
     ensures valid { Valid base.now × Valid reference.now }
+    ensures found { IfOk result (λ t. target base.now reference.now ≡ Some t) }
     ensures answer { MatchOption (target base.now reference.now) (result ≡ Err (errors.Path paths.ExceededMaximumLength)) (λ t. IsUnless (errors.Path paths.OutOfMemory) result (Ok t)) }
 {
     let own = reference.path();

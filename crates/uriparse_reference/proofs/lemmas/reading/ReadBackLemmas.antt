@@ -9,7 +9,7 @@ use Rattle.uriparse_authority.specs.Authority as authority
 use Rattle.uriparse_authority.specs.Authority.{AuthorityParts}
 use Rattle.uriparse_authority.proofs.lemmas.authorities.ReadBackLemmas.{authority_printed}
 use Rattle.uriparse_scheme.specs.Scheme as scheme
-use Rattle.uriparse_reference.specs.OwnedText.{IsReference, viewed_in}
+use Rattle.uriparse_reference.specs.OwnedText.{IsReference, parts_in, viewed_in}
 use Rattle.uriparse_reference.specs.Normal.{normal}
 use Rattle.uriparse_reference.specs.Reference.{Parts, ReadsBack, Spells, Valid, print}
 use Rattle.uriparse_reference.specs.View.{Viewed}
@@ -55,6 +55,10 @@ printed_stands p v = let q = printed_spelled p v in (stands (print p) q.0 q.1).0
 
 pub normal_stands : (t : List ℕ) (p : Parts) → Spells t p → IsReference (print (normal p))
 normal_stands t p s = printed_stands (normal p) (normal_valid p (valid t p s))
+
+-- a string that is the normal form's has its parts
+pub normal_parts : (t u : List ℕ) (p : Parts) → Spells t p → u ≡ print (normal p) → ReadsBack (normal p) → parts_in u ≡ normal p
+normal_parts t u p s e r = ap parts_in e ∙ (stands (print (normal p)) (normal p) (back (normal p) (normal_valid p (valid t p s)) r)).1
 
 -- ---- targets
 

@@ -255,7 +255,7 @@ IsResult o result =
 module _ (b r : Parts) (s : Option Scheme) (a : Option AuthorityParts) (q : Option (List ℕ)) (given : Result PathParts PathError)
     (is : IsTarget (target b r) s a q r.fragment given) where
   module _ (p : PathParts) (was : given ≡ Ok p) where
-    resolved : target b r ≡ Some (make_of s a p q r.fragment)
+    pub resolved : target b r ≡ Some (make_of s a p q r.fragment)
     resolved = by_target (target b r) (subst (IsTarget (target b r) s a q r.fragment) was is)
       where
         by_target : (o : Option Parts) → IsTarget o s a q r.fragment (Ok p) → o ≡ Some (make_of s a p q r.fragment)

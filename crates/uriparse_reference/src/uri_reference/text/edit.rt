@@ -1,5 +1,5 @@
 //! Another query or another fragment in a text that is owned: RFC 3986, sections 3.4 and 3.5.
-ghost use Rattle.std.specs.Prelude.{◌≡◌, IfOk, IfSome, IsOk, MatchResult, None, Ok, string_bytes};
+ghost use Rattle.std.specs.Prelude.{◌≡◌, ◌↔◌, IfOk, IfSome, IsOk, IsTrue, MatchResult, None, Ok, string_bytes};
 ghost use Rattle.uriparse_text.specs.Fragment.{IsFragment};
 ghost use Rattle.uriparse_text.specs.Query.{IsQuery};
 ghost use Rattle.uriparse_reference.specs.Edits.{edited};
@@ -8,6 +8,7 @@ ghost use Rattle.uriparse_reference.specs.TextEdits.{with_fragment, with_query};
 ghost use Rattle.uriparse_reference.specs.declared.uri_reference.edit.Edit.TheVariants as edits;
 
 use super::ReferenceText;
+use super::super::same::has_same_text;
 use super::make::{checked_text, known_cuts};
 use std::alloc::{AllocError, Global};
 use uriparse_text::fragment::Fragment;
@@ -39,9 +40,17 @@ impl ReferenceText {
         view.with_end(alloc, &Held(view.query()).0, fragment)
     }
 
+    /// Whether the query is this one, in the same spelling.
+    fn has_query_text(&self, query: &Option<Query<'_>>) -> bool
+        ensures same { IsTrue result ↔ (self.now.parts.query ≡ query.now) }
+        ensures spelled { Spells self.now.text self.now.parts }
+    {
+        has_same_text(self.as_view().query().as_ref(), query.as_ref())
+    }
+
     /// Sets or removes the query, as [`URIReference::set_query`](super::super::URIReference::set_query)
-    /// does, and keeps the rest of the text as it is spelled. Allocates once, exactly the new text's
-    /// length. If memory runs out, the text is unchanged.
+    /// does, and keeps the rest of the string byte for byte. Allocates once, exactly the new string's
+    /// length, or not at all if the string stays the same. If memory runs out, it is unchanged.
     ///
     /// ```
     /// let mut text = ReferenceText::try_from_str(alloc, "HTTP://h/%7Ea?q#f")?;
@@ -53,7 +62,11 @@ impl ReferenceText {
     pub fn set_query(&mut self, alloc: Global, query: Option<Query<'_>>) -> Result<(), AllocError>
         ensures text { MatchResult result (λ _. self.new.text ≡ with_query self.old.text query.entry) (λ _. self.new ≡ self.old) }
         ensures parts { IfOk result (λ _. edited self.old.parts (edits.Query query.entry) ≡ Ok self.new.parts) }
+        ensures takes_no_memory { with_query self.old.text query.entry ≡ self.old.text → IsOk result }
     {
+        if self.has_query_text(&query) {
+            return Ok(());
+        }
         *self = checked_text(self.with_query(alloc, &query)?);
         Ok(())
     }

@@ -3,7 +3,7 @@
 ghost use Rattle.std.specs.Prelude.{◌≡◌, Err, IfOk, IfSome, IsOk, MatchOption, MatchResult, is_some, string_bytes, true, false};
 ghost use Rattle.uriparse_reference.specs.Normal.{normal};
 ghost use Rattle.uriparse_reference.specs.OwnedText.{AreCuts, IsReference, viewed_in};
-ghost use Rattle.uriparse_reference.specs.Reference.{ReadsBack, print};
+ghost use Rattle.uriparse_reference.specs.Reference.{ReadsBack, Spells, print};
 ghost use Rattle.uriparse_reference.specs.Target.{ResolvesTo};
 ghost use Rattle.uriparse_reference.specs.View.{printed};
 ghost use Rattle.uriparse_reference.specs.declared.uri_reference.error.TargetError.TheVariants as targets;
@@ -42,6 +42,7 @@ impl ReferenceText {
         ensures other { IfOk result (λ o. MatchOption o (print (normal self.now.parts) ≡ self.now.text) (λ s. string_bytes s ≡ print (normal self.now.parts))) }
         ensures takes_no_memory { print (normal self.now.parts) ≡ self.now.text → IsOk result }
         ensures normal { IsReference (print (normal self.now.parts)) }
+        ensures spelled { Spells self.now.text self.now.parts }
     {
         let view = self.as_view();
         if view.is_normalized_text() {
@@ -63,6 +64,7 @@ impl ReferenceText {
     /// ```
     pub fn normalize(&mut self, alloc: Global) -> Result<(), AllocError>
         ensures text { MatchResult result (λ _. self.new.text ≡ print (normal self.old.parts)) (λ _. self.new ≡ self.old) }
+        ensures parts { IfOk result (λ _. ReadsBack (normal self.old.parts) → self.new.parts ≡ normal self.old.parts) }
         ensures takes_no_memory { print (normal self.old.parts) ≡ self.old.text → IsOk result }
     {
         if let Some(text) = self.other_normal_text(alloc)? {

@@ -8,7 +8,7 @@ use Rattle.uriparse_reference.specs.Reference.{Parts, Valid}
 use Rattle.uriparse_reference.specs.declared.uri_reference.error.URIReferenceError.TheVariants as errors
 use Rattle.uriparse_reference.specs.Target.{is_empty, target}
 use Rattle.uriparse_reference.proofs.lemmas.resolving.ResolveLemmas.{IsTarget, scheme_target, authority_target, kept_target, rooted_target, merged_target}
-use Rattle.uriparse_reference.proofs.lemmas.resolving.ResolveLemmas.{IsResult, refused_answer, resolved_valid, resolved_answer}
+use Rattle.uriparse_reference.proofs.lemmas.resolving.ResolveLemmas.{IsResult, resolved, refused_answer, resolved_valid, resolved_answer}
 use Rattle.uriparse_reference.proofs.uri_reference.resolve.resolve.Goals as goal
 use Rattle.uriparse_reference.proofs.uri_reference.resolve.resolve.Goals.{After-branch-path}
 use Rattle.uriparse_reference.proofs.uri_reference.resolve.resolve.Goals.{then-is_some, else-is_some+then-is_some-2, else-is_some+else-is_some-2+then-is_empty}
@@ -126,4 +126,13 @@ returns-clause-answer c =
     c.borrowed_authority.result c.borrowed_text.result c.borrowed_text-2.result c.args.reference.now.fragment c.borrowed_scheme.ensures
     c.borrowed_authority.ensures c.borrowed_text.ensures (c.borrowed_text-2.ensures ∙ c.fragment.ensures)))
     (resolved_answer c.args.base.now c.args.reference.now (option_copied c.if-is_some.path.0) (option_copied c.if-is_some.path.1)
+    (option_copied c.if-is_some.path.3) c.if-is_some.path.2 (found c.before.before.before.before.before.before) c.in_ok-path.field-0 c.in_ok-path.was)
+
+pub returns-clause-found : goal.returns-clause-found
+returns-clause-found c =
+    subst (λ t. target c.args.base.now c.args.reference.now ≡ Some t)
+    (sym (same_parts c.if-is_some.path.0 c.if-is_some.path.1 c.in_ok-path.field-0 c.if-is_some.path.3 c.borrowed_scheme.result
+    c.borrowed_authority.result c.borrowed_text.result c.borrowed_text-2.result c.args.reference.now.fragment c.borrowed_scheme.ensures
+    c.borrowed_authority.ensures c.borrowed_text.ensures (c.borrowed_text-2.ensures ∙ c.fragment.ensures)))
+    (resolved c.args.base.now c.args.reference.now (option_copied c.if-is_some.path.0) (option_copied c.if-is_some.path.1)
     (option_copied c.if-is_some.path.3) c.if-is_some.path.2 (found c.before.before.before.before.before.before) c.in_ok-path.field-0 c.in_ok-path.was)
