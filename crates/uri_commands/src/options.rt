@@ -134,7 +134,8 @@ fn read_options<'w, 't>(before: Options, words: &'w [&'t str]) -> (Options, &'w 
 
 /// Splits the words into the options, and the command with its texts. Allocates a list of these.
 ///
-/// Options stand before the command or after it, in any order, but before its texts. `--` ends them.
+/// Options stand before the command or after it, in any order, but before its texts. `--` ends them. What
+/// follows `help` is a name, also an option's.
 pub fn split_options<'t>(
     alloc: Global,
     words: &[&'t str],
@@ -143,11 +144,11 @@ pub fn split_options<'t>(
     let (options, rest) = read_options(Options::NONE, words);
     let (options, texts) = match rest {
         ["--", rest @ ..] => (options, rest),
+        ["help", ..] | [] => (options, rest),
         [name, rest @ ..] => {
             command.push(*name)?;
             read_options(options, rest)
         }
-        [] => (options, rest),
     };
     match texts {
         ["--", texts @ ..] => command.extend_from_slice(texts)?,
