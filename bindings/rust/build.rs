@@ -1,12 +1,9 @@
 //! Links the library for C: that of the folder `URIPARSE_LIB_DIR`, which has `liburiparse.a`, or the one that `make` builds from
-//! what `rt lib` made in this source tree.
+//! what `rt lib` made in this source tree, or for aarch64 `tools/gate/archive`.
 
 use std::env;
 use std::path::{Path, PathBuf};
 use std::process::{exit, Command};
-
-/// Where `rt lib` leaves the archive.
-const PROVED: &str = "../../crates/uriparse_c/out/liburiparse_c.a";
 
 fn main() {
     println!("cargo:rerun-if-env-changed=URIPARSE_LIB_DIR");
@@ -24,13 +21,19 @@ fn main() {
 
 /// The folder of the library that `make` builds for the target.
 fn built() -> PathBuf {
-    for source in [PROVED, "../c/Makefile", "build.rs"] {
-        println!("cargo:rerun-if-changed={}", source);
+    let is_arm = env::var("CARGO_CFG_TARGET_ARCH").map_or(false, |arch| arch == "aarch64");
+    let target = if is_arm { "aarch64-linux-gnu" } else { "" };
+    let proved = Path::new("../../crates/uriparse_c/out")
+        .join(target)
+        .join("liburiparse_c.a");
+    for source in [&proved, Path::new("../c/Makefile"), Path::new("build.rs")] {
+        println!("cargo:rerun-if-changed={}", source.display());
     }
     println!("cargo:rerun-if-env-changed=KIT");
     let out = PathBuf::from(env::var_os("OUT_DIR").unwrap_or_default()).join("c");
     let made = Command::new("make")
         .args(["-s", "-C", "../c"])
+        .arg(format!("TARGET={target}"))
         .arg(format!("OUT={}", out.display()))
         .arg(out.join("liburiparse.a"))
         .status();
