@@ -1,5 +1,6 @@
 """Builds Python's package for `pip install ./bindings/c`, with -e too: a wheel of the folder uriparse and of the shared library, which
-`make` builds. An sdist has the built library, since its source needs the kit.
+`make` builds. An sdist has the built library, since its source needs the kit. The setting `target`, as in
+`pip wheel -C target=aarch64-linux-gnu ./bindings/c`, builds for another machine.
 
 It is the backend that pyproject.toml names (PEP 517, PEP 660), and needs nothing but Python and what `make` needs."""
 import base64
@@ -27,20 +28,21 @@ def in_sdist():
     return os.path.exists(os.path.join(HERE, LIBRARIES[0]))
 
 
-def make(out):
-    """Builds the library in a folder."""
-    if not os.path.exists(os.path.join(HERE, "..", "..", "crates", "uriparse_c", "out", "liburiparse_c.a")):
-        raise SystemExit("The library isn't built. Run `(cd crates/uriparse_c && rt lib)` first.")
-    if subprocess.run(["make", "-s", "-C", HERE, "OUT=" + out]).returncode:
+def make(out, target=""):
+    """Builds the library in a folder, for this machine if no target is named."""
+    if not os.path.exists(os.path.join(HERE, "..", "..", "crates", "uriparse_c", "out", target, "liburiparse_c.a")):
+        also = ", then `tools/gate/archive %s`," % target if target else ""
+        raise SystemExit("The library isn't built. Run `(cd crates/uriparse_c && rt lib)`%s first." % also)
+    if subprocess.run(["make", "-s", "-C", HERE, "OUT=" + out, "TARGET=" + target]).returncode:
         raise SystemExit("`make -C bindings/c` failed.")
 
 
-def libraries():
+def libraries(config_settings):
     """The libraries' contents, by their names."""
     if in_sdist():
         return {name: read(name) for name in LIBRARIES}
     with tempfile.TemporaryDirectory() as out:
-        make(out)
+        make(out, (config_settings or {}).get("target", ""))
         return {name: read(out, os.path.basename(name)) for name in LIBRARIES}
 
 
@@ -63,10 +65,16 @@ def metadata():
     return "\n".join(lines).encode()
 
 
+# Machines by their numbers in ELF.
+MACHINES = {62: "x86_64", 183: "aarch64"}
+
+
 def tag(content):
-    """The tag of a wheel that has libraries: the oldest glibc with the symbols that they take. No name is older than 2.17."""
+    """The tag of a wheel that has libraries: the oldest glibc with the symbols that they take, and the machine. No name is older than
+    2.17."""
+    machine = MACHINES[int.from_bytes(content[18:20], "little")]
     minors = [int(minor) for minor in re.findall(rb"GLIBC_2\.(\d+)", content)]
-    return "py3-none-manylinux_2_%d_x86_64" % max(17, *minors) if minors else "py3-none-linux_x86_64"
+    return "py3-none-manylinux_2_%d_%s" % (max(17, *minors), machine) if minors else "py3-none-linux_" + machine
 
 
 def record(files):
@@ -94,7 +102,7 @@ def write_wheel(folder, files, wheel_tag):
 
 def build_wheel(wheel_directory, config_settings=None, metadata_directory=None):
     files = {name: read(name) for name in MODULES}
-    built = libraries()
+    built = libraries(config_settings)
     files.update(built)
     return write_wheel(wheel_directory, files, tag(b"".join(built.values())))
 
@@ -108,7 +116,7 @@ def build_editable(wheel_directory, config_settings=None, metadata_directory=Non
 
 def build_sdist(sdist_directory, config_settings=None):
     files = {name: read(name) for name in ("pyproject.toml", "package.py", "uriparse/README.md", "test.py", *MODULES)}
-    files.update({"LICENSE": license_text(), "PKG-INFO": metadata(), **libraries()})
+    files.update({"LICENSE": license_text(), "PKG-INFO": metadata(), **libraries(config_settings)})
     base = "%s-%s" % (NAME, version())
     with tarfile.open(os.path.join(sdist_directory, base + ".tar.gz"), "w:gz", format=tarfile.PAX_FORMAT) as archive:
         for name, content in files.items():

@@ -1,7 +1,7 @@
 """Runs the code of README.md and uriparse/README.md.
 
     page.py c FILE      writes the blocks of C to FILE.c as one program, and what their comments `// prints ..` say to FILE.txt;
-                        the blocks in other languages must stand in test.cpp, test_hpp.cpp, test.rs and test.go, which are run
+                        the blocks in other languages must stand in test.cpp, test_hpp.cpp and test.go, which are run
     page.py python      runs the blocks of Python of uriparse/README.md as doctests
 
 The last line that is printed counts the blocks. The status is 1 if one isn't as the page says."""
@@ -11,7 +11,7 @@ import re
 import sys
 
 HERE = os.path.dirname(os.path.abspath(__file__))
-TESTS = {"cpp": ("test.cpp", "test_hpp.cpp"), "rust": ("test.rs",), "go": ("test.go",)}
+TESTS = {"cpp": ("test.cpp", "test_hpp.cpp"), "go": ("test.go",)}
 FUNCTION = re.compile(r"^(?!for|if|while)\w[^;]*\) \{$", re.MULTILINE)
 HEAD = '#include "uriparse.h"\n#include <stdio.h>\n#include <stdlib.h>\n#include <string.h>\n\n'
 

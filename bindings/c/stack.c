@@ -7,7 +7,12 @@
 #include <stdio.h>
 #include <ucontext.h>
 
-enum { STACK = 1 << 16, PAINT = 0xa5, SAID = 6144, LONG = 400000, MIDDLE = 1000 };
+/* How long the long texts are. */
+#ifndef LONG
+#define LONG 400000
+#endif
+
+enum { STACK = 1 << 16, PAINT = 0xa5, SAID = 6144, MIDDLE = 1000 };
 
 struct text {
   const char *bytes;

@@ -3,8 +3,8 @@
  * terminates, and it computes what this header says of results, codes and what is written. That no call allocates, and
  * what it says of threads, signal handlers and the stack, is only tested. README.md says more.
  *
- * The library is for Linux on x86-64 processors of level x86-64-v2 or later, those with SSE4.2 and POPCNT. It doesn't
- * check the processor.
+ * The library is for Linux on x86-64 processors of level x86-64-v2 or later, those with SSE4.2 and POPCNT, and on aarch64.
+ * It doesn't check the processor.
  *
  * Texts are bytes with a length in bytes, and need no zero byte at their end. A zero byte in a text is rejected like
  * any other byte that no URI has. An empty text may be NULL with length 0: the calls below allow it, and `out` too may

@@ -1,0 +1,45 @@
+//! Links the library for C: that of the folder `URIPARSE_LIB_DIR`, which has `liburiparse.a`, or the one that `make` builds from
+//! what `rt lib` made in this source tree, or for aarch64 `tools/gate/archive`.
+
+use std::env;
+use std::path::{Path, PathBuf};
+use std::process::{exit, Command};
+
+fn main() {
+    println!("cargo:rerun-if-env-changed=URIPARSE_LIB_DIR");
+    let folder = match env::var_os("URIPARSE_LIB_DIR") {
+        Some(folder) => PathBuf::from(folder),
+        None => built(),
+    };
+    println!(
+        "cargo:rerun-if-changed={}",
+        folder.join("liburiparse.a").display()
+    );
+    println!("cargo:rustc-link-search=native={}", folder.display());
+    println!("cargo:rustc-link-lib=static=uriparse");
+}
+
+/// The folder of the library that `make` builds for the target.
+fn built() -> PathBuf {
+    let is_arm = env::var("CARGO_CFG_TARGET_ARCH").map_or(false, |arch| arch == "aarch64");
+    let target = if is_arm { "aarch64-linux-gnu" } else { "" };
+    let proved = Path::new("../../crates/uriparse_c/out")
+        .join(target)
+        .join("liburiparse_c.a");
+    for source in [&proved, Path::new("../c/Makefile"), Path::new("build.rs")] {
+        println!("cargo:rerun-if-changed={}", source.display());
+    }
+    println!("cargo:rerun-if-env-changed=KIT");
+    let out = PathBuf::from(env::var_os("OUT_DIR").unwrap_or_default()).join("c");
+    let made = Command::new("make")
+        .args(["-s", "-C", "../c"])
+        .arg(format!("TARGET={target}"))
+        .arg(format!("OUT={}", out.display()))
+        .arg(out.join("liburiparse.a"))
+        .status();
+    if Path::new("../c/Makefile").exists() && made.map_or(false, |status| status.success()) {
+        return out;
+    }
+    eprintln!("uriparse-rattle: the library for C isn't built: run `rt lib` in crates/uriparse_c, or set URIPARSE_LIB_DIR to the folder of liburiparse.a");
+    exit(1)
+}

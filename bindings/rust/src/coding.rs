@@ -1,0 +1,78 @@
+//! Percent-encoding.
+
+use crate::error::Error;
+use crate::owned::written;
+use crate::sys::Write;
+use alloc::string::String;
+use alloc::vec::Vec;
+
+/// A component that [`encode`] writes.
+#[derive(Clone, Copy, Debug, PartialEq, Eq, Hash)]
+pub enum Encoding {
+    /// A user name: a `:` is encoded.
+    Username = 0x10,
+    /// A password.
+    Password = 0x20,
+    /// A segment of a path: a `/` is encoded.
+    Segment = 0x50,
+    /// A query: `&`, `=` and `+` stay.
+    Query = 0x60,
+    /// A fragment.
+    Fragment = 0x70,
+}
+
+/// Writes any bytes as a component: a byte that the component may have stays, and each other becomes an escape, `%` too. [`decode`]
+/// returns the bytes again.
+///
+/// ```
+/// use uriparse_rattle::{encode, Encoding};
+///
+/// assert_eq!(encode(Encoding::Segment, "a/b é"), "a%2Fb%20%C3%A9");
+/// assert_eq!(encode(Encoding::Query, "R&D #1"), "R&D%20%231");
+/// ```
+#[must_use]
+pub fn encode(encoding: Encoding, bytes: impl AsRef<[u8]>) -> String {
+    written(Write::Encoded(encoding as u32, bytes.as_ref())).expect("any bytes can be encoded")
+}
+
+/// The bytes that a component stands for: each escape as its byte, each other byte as it is, so a `+` stays. Cut a query or a path at its
+/// delimiters before you decode its pieces.
+///
+/// ```
+/// use uriparse_rattle::decode;
+///
+/// assert_eq!(decode("R%26D")?, b"R&D");
+/// assert_eq!(decode("a%2").unwrap_err().position(), 1);
+/// # Ok::<(), uriparse_rattle::Error>(())
+/// ```
+///
+/// # Errors
+///
+/// The string is that of a query, as user names, passwords, names of hosts, paths and fragments are too. The error of another string is
+/// [`InvalidQueryCharacter`](crate::ErrorKind::InvalidQueryCharacter) or
+/// [`InvalidQueryPercentEncoding`](crate::ErrorKind::InvalidQueryPercentEncoding).
+pub fn decode(component: &str) -> Result<Vec<u8>, Error> {
+    let decoded = Write::Decoded(component.as_bytes()).into_vec();
+    decoded.map_err(|code| faulty_query(code, component))
+}
+
+/// The error of a string that isn't a query: that of the reference `?STRING`, in which a `#` would begin a fragment.
+fn faulty_query(code: u32, text: &str) -> Error {
+    let query = text.split('#').next().unwrap_or(text);
+    let reference = ["?", query, "<"].concat();
+    Error::new(code, reference.as_bytes()).moved_back(1)
+}
+
+/// Makes a reference of any string: what RFC 3986 doesn't allow in its place is percent-encoded, except the delimiters of an authority;
+/// all else stays. Characters that aren't ASCII become the escapes of their UTF-8, also in a host. A `%` without two hexadecimal digits
+/// becomes `%25`. The result may still be rejected: for its authority, for too many segments, or for a colon in its first segment.
+///
+/// ```
+/// use uriparse_rattle::escape;
+///
+/// assert_eq!(escape("http://h/ü b?100%"), "http://h/%C3%BC%20b?100%25");
+/// ```
+#[must_use]
+pub fn escape(text: &str) -> String {
+    written(Write::Escaped(text.as_bytes())).expect("any string can be escaped")
+}

@@ -1,0 +1,258 @@
+//! Why a string is rejected.
+
+use crate::sys;
+use core::fmt;
+
+/// A component of a reference, as errors name it.
+#[derive(Clone, Copy, Debug, PartialEq, Eq, Hash)]
+#[non_exhaustive]
+pub enum Component {
+    /// The user name, before the first `:` of the user information.
+    Username,
+    /// The password, after that colon.
+    Password,
+    /// The host.
+    Host,
+    /// The port.
+    Port,
+    /// The path.
+    Path,
+    /// The query.
+    Query,
+    /// The fragment.
+    Fragment,
+}
+
+/// What is wrong with a string. It prints in the words of `uriparse`.
+#[derive(Clone, Copy, Debug, PartialEq, Eq, Hash)]
+#[non_exhaustive]
+pub enum ErrorKind {
+    /// There is no scheme where a URI is expected.
+    NotUri,
+    /// Without a scheme, a colon precedes the first slash of the path: `1:2`.
+    SchemelessPathStartsWithColonSegment,
+    /// A path has more than 1,000,000 segments: that of the string, or that of a target.
+    ExceededMaximumPathLength,
+    /// A byte that no user name has.
+    InvalidUsernameCharacter,
+    /// A `%` in the user name that two hexadecimal digits don't follow.
+    InvalidUsernamePercentEncoding,
+    /// A byte that no password has.
+    InvalidPasswordCharacter,
+    /// A `%` in the password that two hexadecimal digits don't follow.
+    InvalidPasswordPercentEncoding,
+    /// A byte that no name of a host has, or a `%` that two hexadecimal digits don't follow.
+    InvalidHostCharacter,
+    /// In brackets, a byte that no IPv6 address has.
+    InvalidIpv6Character,
+    /// In brackets, no form of an IPv6 address.
+    InvalidIpv6Format,
+    /// In brackets, after `v`, a byte that no address of a later version has.
+    InvalidIpvFutureCharacter,
+    /// In brackets, after `v`, no form of such an address.
+    InvalidIpvFutureFormat,
+    /// A byte of the port that is no digit.
+    InvalidPortCharacter,
+    /// The port is above 65535.
+    PortOverflow,
+    /// A byte that no path has.
+    InvalidPathCharacter,
+    /// A `%` in the path that two hexadecimal digits don't follow.
+    InvalidPathPercentEncoding,
+    /// A byte that no query has.
+    InvalidQueryCharacter,
+    /// A `%` in the query that two hexadecimal digits don't follow.
+    InvalidQueryPercentEncoding,
+    /// A byte that no fragment has.
+    InvalidFragmentCharacter,
+    /// A `%` in the fragment that two hexadecimal digits don't follow.
+    InvalidFragmentPercentEncoding,
+    /// A code of `uriparse.h` that this version of the crate doesn't know.
+    Unknown(u32),
+}
+
+/// The code of each kind in `uriparse.h`, and its words.
+#[rustfmt::skip]
+const KINDS: [(u32, ErrorKind, &str); 20] = {
+    use ErrorKind::*;
+    [
+        (0x03, NotUri, "not URI"),
+        (0x04, SchemelessPathStartsWithColonSegment, "schemeless path URI reference starts with colon segment"),
+        (0x05, ExceededMaximumPathLength, "exceeded maximum path length"),
+        (0x11, InvalidUsernameCharacter, "invalid username character"),
+        (0x12, InvalidUsernamePercentEncoding, "invalid username percent encoding"),
+        (0x21, InvalidPasswordCharacter, "invalid password character"),
+        (0x22, InvalidPasswordPercentEncoding, "invalid password percent encoding"),
+        (0x31, InvalidHostCharacter, "invalid host IPv4 or registered name character"),
+        (0x32, InvalidIpv6Character, "invalid host IPv6 character"),
+        (0x33, InvalidIpv6Format, "invalid host IPv6 format"),
+        (0x34, InvalidIpvFutureCharacter, "invalid host IPvFuture character"),
+        (0x35, InvalidIpvFutureFormat, "invalid host IPvFuture format"),
+        (0x41, InvalidPortCharacter, "invalid port character"),
+        (0x42, PortOverflow, "port overflow"),
+        (0x51, InvalidPathCharacter, "invalid path character"),
+        (0x52, InvalidPathPercentEncoding, "invalid path percent encoding"),
+        (0x61, InvalidQueryCharacter, "invalid query character"),
+        (0x62, InvalidQueryPercentEncoding, "invalid query percent encoding"),
+        (0x71, InvalidFragmentCharacter, "invalid fragment character"),
+        (0x72, InvalidFragmentPercentEncoding, "invalid fragment percent encoding"),
+    ]
+};
+
+impl ErrorKind {
+    fn of(code: u32) -> Self {
+        KINDS
+            .iter()
+            .find(|kind| kind.0 == code)
+            .map_or(Self::Unknown(code), |kind| kind.1)
+    }
+
+    /// The number of the kind in `uriparse.h`.
+    #[must_use]
+    pub fn code(self) -> u32 {
+        match self {
+            Self::Unknown(code) => code,
+            _ => KINDS
+                .iter()
+                .find(|kind| kind.1 == self)
+                .map_or(0, |kind| kind.0),
+        }
+    }
+
+    /// The component that is wrong, if it is one.
+    #[must_use]
+    pub fn component(self) -> Option<Component> {
+        match self.code() & 0xf0 {
+            0x10 => Some(Component::Username),
+            0x20 => Some(Component::Password),
+            0x30 => Some(Component::Host),
+            0x40 => Some(Component::Port),
+            0x50 => Some(Component::Path),
+            0x60 => Some(Component::Query),
+            0x70 => Some(Component::Fragment),
+            _ => None,
+        }
+    }
+}
+
+impl fmt::Display for ErrorKind {
+    fn fmt(&self, f: &mut fmt::Formatter<'_>) -> fmt::Result {
+        match KINDS.iter().find(|kind| kind.1 == *self) {
+            Some((_, _, words)) => f.pad(words),
+            None => write!(f, "error {:#x}", self.code()),
+        }
+    }
+}
+
+/// Why a string is rejected, and where.
+///
+/// If several components are wrong, the error is that of the authority, else of the path, the colon rule, the query, the fragment; and
+/// within each of these the leftmost one.
+///
+/// ```
+/// use uriparse_rattle::{Component, ErrorKind, UriRef};
+///
+/// let error = UriRef::parse("http://h/a b").unwrap_err();
+/// assert_eq!(error.kind(), ErrorKind::InvalidPathCharacter);
+/// assert_eq!(error.component(), Some(Component::Path));
+/// assert_eq!(error.position(), 10);
+/// assert_eq!(error.to_string(), "invalid path character at byte 10");
+/// ```
+#[derive(Clone, Copy, Debug, PartialEq, Eq, Hash)]
+pub struct Error {
+    kind: ErrorKind,
+    position: usize,
+}
+
+impl Error {
+    /// A string without a scheme where a URI is expected.
+    pub(crate) const NOT_URI: Self = Self {
+        kind: ErrorKind::NotUri,
+        position: 0,
+    };
+
+    /// The error with this code of a string, at the string's first fault if it has one.
+    pub(crate) fn new(code: u32, text: &[u8]) -> Self {
+        let position = sys::first_fault(text).map_or(0, |fault| fault.1);
+        Self {
+            kind: ErrorKind::of(code),
+            position,
+        }
+    }
+
+    /// The same error in a string that begins `skipped` bytes later.
+    #[cfg(feature = "alloc")]
+    pub(crate) fn moved_back(self, skipped: usize) -> Self {
+        Self {
+            position: self.position.saturating_sub(skipped),
+            ..self
+        }
+    }
+
+    /// What is wrong.
+    #[must_use]
+    pub fn kind(&self) -> ErrorKind {
+        self.kind
+    }
+
+    /// How many bytes precede the first fault.
+    ///
+    /// The position of a wrong byte is its own, of an escape without two digits that of its `%`, of one segment too many that of the
+    /// slash before it. An address of a wrong form is wrong at its `[`, a port that is too large at its first digit, and a path with a
+    /// colon where none may be at its first byte. It is 0 if the string isn't wrong by itself: it has no scheme, or the target of two
+    /// strings has too many segments.
+    #[must_use]
+    pub fn position(&self) -> usize {
+        self.position
+    }
+
+    /// The component that is wrong, if it is one.
+    #[must_use]
+    pub fn component(&self) -> Option<Component> {
+        self.kind.component()
+    }
+}
+
+impl fmt::Display for Error {
+    fn fmt(&self, f: &mut fmt::Formatter<'_>) -> fmt::Result {
+        write!(f, "{} at byte {}", self.kind, self.position)
+    }
+}
+
+/// Why nothing is written to a buffer.
+#[derive(Clone, Copy, Debug, PartialEq, Eq, Hash)]
+#[non_exhaustive]
+pub enum BufferError {
+    /// The buffer is too small.
+    TooSmall {
+        /// How many bytes are enough.
+        needed: usize,
+    },
+    /// The path of the target has more than 1,000,000 segments.
+    TooManySegments,
+}
+
+impl BufferError {
+    /// The error of a call that returned this code, and how many bytes are enough for what it writes.
+    pub(crate) fn of((code, needed): (u32, usize)) -> Self {
+        match code {
+            sys::NO_ROOM => Self::TooSmall { needed },
+            _ => Self::TooManySegments,
+        }
+    }
+}
+
+impl fmt::Display for BufferError {
+    fn fmt(&self, f: &mut fmt::Formatter<'_>) -> fmt::Result {
+        match self {
+            Self::TooSmall { needed } => write!(f, "buffer too small: {needed} bytes are enough"),
+            Self::TooManySegments => f.pad("merged path with too many segments"),
+        }
+    }
+}
+
+#[cfg(feature = "std")]
+impl std::error::Error for Error {}
+
+#[cfg(feature = "std")]
+impl std::error::Error for BufferError {}

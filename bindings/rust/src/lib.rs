@@ -1,0 +1,31 @@
+#![doc = include_str!("../README.md")]
+#![no_std]
+#![deny(unsafe_code)]
+#![deny(unsafe_op_in_unsafe_fn)]
+#![warn(missing_docs, rust_2018_idioms, clippy::undocumented_unsafe_blocks)]
+
+#[cfg(feature = "alloc")]
+extern crate alloc;
+#[cfg(feature = "std")]
+extern crate std;
+
+#[macro_use]
+mod components;
+
+#[cfg(feature = "alloc")]
+mod coding;
+mod error;
+#[cfg(feature = "alloc")]
+mod owned;
+mod pairs;
+mod reference;
+#[allow(unsafe_code)]
+mod sys;
+
+#[cfg(feature = "alloc")]
+pub use coding::{decode, encode, escape, Encoding};
+pub use error::{BufferError, Component, Error, ErrorKind};
+#[cfg(feature = "alloc")]
+pub use owned::{UriBuf, UriRefBuf};
+pub use pairs::Pairs;
+pub use reference::{HostKind, Uri, UriRef};

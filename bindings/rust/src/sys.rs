@@ -1,0 +1,283 @@
+//! The calls of `uriparse.h`, which says what each does. This file has all unsafe code of the crate, and each of its functions is safe.
+//!
+//! A slice meets what the header asks of a text: its pointer isn't null, it is readable for its length, which is at most
+//! `isize::MAX`, and nothing changes it during a call.
+
+#[cfg(feature = "alloc")]
+use alloc::vec::Vec;
+
+pub(crate) const OK: u32 = 0;
+pub(crate) const NO_ROOM: u32 = 2;
+
+/// `struct uriparse_span`: where a component is.
+#[repr(C)]
+#[derive(Clone, Copy, Default)]
+pub(crate) struct Span {
+    begin: usize,
+    end: usize,
+    present: u8,
+}
+
+impl Span {
+    /// The component of the text that was read, if it is present.
+    pub(crate) fn of(self, text: &str) -> Option<&str> {
+        (self.present != 0).then(|| &text[self.begin..self.end])
+    }
+}
+
+/// `struct uriparse_parts`: where the components of a reference are.
+#[repr(C)]
+#[derive(Clone, Copy, Default)]
+pub(crate) struct Parts {
+    pub(crate) scheme: Span,
+    pub(crate) authority: Span,
+    pub(crate) username: Span,
+    pub(crate) password: Span,
+    pub(crate) host: Span,
+    pub(crate) port: Span,
+    pub(crate) path: Span,
+    pub(crate) query: Span,
+    pub(crate) fragment: Span,
+    pub(crate) host_kind: u32,
+    pub(crate) port_number: u32,
+}
+
+/// `struct uriparse_pair`: where a pair of a query is, and where the next one begins.
+#[repr(C)]
+#[derive(Clone, Copy, Default)]
+pub(crate) struct Pair {
+    pub(crate) name: Span,
+    pub(crate) value: Span,
+    pub(crate) next: usize,
+}
+
+extern "C" {
+    fn uriparse_parse(text: *const u8, len: usize, parts: *mut Parts) -> u32;
+    fn uriparse_first_fault(text: *const u8, len: usize, place: *mut usize) -> u32;
+    fn uriparse_equal(
+        left: *const u8,
+        left_len: usize,
+        right: *const u8,
+        right_len: usize,
+        equal: *mut u8,
+    ) -> u32;
+    fn uriparse_hash(text: *const u8, len: usize, hash: *mut u64) -> u32;
+    fn uriparse_normalize(
+        text: *const u8,
+        len: usize,
+        out: *mut u8,
+        room: usize,
+        needed: *mut usize,
+    ) -> u32;
+    fn uriparse_resolve(
+        base: *const u8,
+        base_len: usize,
+        text: *const u8,
+        len: usize,
+        out: *mut u8,
+        room: usize,
+        needed: *mut usize,
+    ) -> u32;
+    fn uriparse_relativize(
+        base: *const u8,
+        base_len: usize,
+        text: *const u8,
+        len: usize,
+        out: *mut u8,
+        room: usize,
+        needed: *mut usize,
+    ) -> u32;
+    fn uriparse_next_pair(query: *const u8, len: usize, at: usize, pair: *mut Pair) -> bool;
+}
+
+#[cfg(feature = "alloc")]
+extern "C" {
+    fn uriparse_origin(
+        text: *const u8,
+        len: usize,
+        out: *mut u8,
+        room: usize,
+        needed: *mut usize,
+    ) -> u32;
+    fn uriparse_decode(
+        text: *const u8,
+        len: usize,
+        out: *mut u8,
+        room: usize,
+        needed: *mut usize,
+    ) -> u32;
+    fn uriparse_encode(
+        component: u32,
+        bytes: *const u8,
+        len: usize,
+        out: *mut u8,
+        room: usize,
+        needed: *mut usize,
+    ) -> u32;
+    fn uriparse_escape(
+        text: *const u8,
+        len: usize,
+        out: *mut u8,
+        room: usize,
+        needed: *mut usize,
+    ) -> u32;
+}
+
+/// Where the components of a reference are, or the code of its error.
+pub(crate) fn parse(text: &[u8]) -> Result<Parts, u32> {
+    let mut parts = Parts::default();
+    // SAFETY: the slice is a text, and `parts` is writable.
+    match unsafe { uriparse_parse(text.as_ptr(), text.len(), &mut parts) } {
+        OK => Ok(parts),
+        code => Err(code),
+    }
+}
+
+/// The code of a text's error, and how many bytes precede its first fault.
+pub(crate) fn first_fault(text: &[u8]) -> Option<(u32, usize)> {
+    let mut place = 0;
+    // SAFETY: the slice is a text, and `place` is writable.
+    match unsafe { uriparse_first_fault(text.as_ptr(), text.len(), &mut place) } {
+        OK => None,
+        code => Some((code, place)),
+    }
+}
+
+/// Whether both texts are references, and equal.
+pub(crate) fn equal(left: &[u8], right: &[u8]) -> bool {
+    let mut equal = 0;
+    // SAFETY: both slices are texts, and `equal` is writable.
+    let code = unsafe {
+        uriparse_equal(
+            left.as_ptr(),
+            left.len(),
+            right.as_ptr(),
+            right.len(),
+            &mut equal,
+        )
+    };
+    code == OK && equal != 0
+}
+
+/// The hash of a reference, or 0 for another text.
+pub(crate) fn hash(text: &[u8]) -> u64 {
+    let mut hash = 0;
+    // SAFETY: the slice is a text, and `hash` is writable. On an error it keeps its value.
+    unsafe { uriparse_hash(text.as_ptr(), text.len(), &mut hash) };
+    hash
+}
+
+/// The pair that begins at this place of a query, if one does.
+pub(crate) fn next_pair(query: &[u8], at: usize) -> Option<Pair> {
+    let mut pair = Pair::default();
+    // SAFETY: the slice is a text, and `pair` is writable.
+    unsafe { uriparse_next_pair(query.as_ptr(), query.len(), at, &mut pair) }.then_some(pair)
+}
+
+/// A call that writes to a buffer, with the texts that it reads.
+#[derive(Clone, Copy)]
+pub(crate) enum Write<'a> {
+    Normal(&'a [u8]),
+    /// The target of the second against the first.
+    Target(&'a [u8], &'a [u8]),
+    /// What leads from the first to the second.
+    Relative(&'a [u8], &'a [u8]),
+    #[cfg(feature = "alloc")]
+    Origin(&'a [u8]),
+    #[cfg(feature = "alloc")]
+    Decoded(&'a [u8]),
+    /// The bytes as a component with this number.
+    #[cfg(feature = "alloc")]
+    Encoded(u32, &'a [u8]),
+    #[cfg(feature = "alloc")]
+    Escaped(&'a [u8]),
+}
+
+impl Write<'_> {
+    /// Makes the call.
+    ///
+    /// # Safety
+    ///
+    /// `out` isn't null, is writable for `room` bytes and overlaps no text. It need not be initialized.
+    ///
+    /// With the code `OK` the first `needed` bytes are written, and that is at most `room`. With any other code none is written, and
+    /// with `NO_ROOM` `needed` bytes are enough.
+    unsafe fn call(self, out: *mut u8, room: usize, needed: &mut usize) -> u32 {
+        // SAFETY: each slice is a text, and of the buffer the caller ensures what the header asks.
+        unsafe {
+            match self {
+                Self::Normal(text) => {
+                    uriparse_normalize(text.as_ptr(), text.len(), out, room, needed)
+                }
+                Self::Target(base, text) => {
+                    let (base, base_len) = (base.as_ptr(), base.len());
+                    uriparse_resolve(base, base_len, text.as_ptr(), text.len(), out, room, needed)
+                }
+                Self::Relative(base, text) => {
+                    let (base, base_len) = (base.as_ptr(), base.len());
+                    uriparse_relativize(
+                        base,
+                        base_len,
+                        text.as_ptr(),
+                        text.len(),
+                        out,
+                        room,
+                        needed,
+                    )
+                }
+                #[cfg(feature = "alloc")]
+                Self::Origin(text) => uriparse_origin(text.as_ptr(), text.len(), out, room, needed),
+                #[cfg(feature = "alloc")]
+                Self::Decoded(text) => {
+                    uriparse_decode(text.as_ptr(), text.len(), out, room, needed)
+                }
+                #[cfg(feature = "alloc")]
+                Self::Encoded(component, bytes) => {
+                    uriparse_encode(component, bytes.as_ptr(), bytes.len(), out, room, needed)
+                }
+                #[cfg(feature = "alloc")]
+                Self::Escaped(text) => {
+                    uriparse_escape(text.as_ptr(), text.len(), out, room, needed)
+                }
+            }
+        }
+    }
+
+    /// Writes to the buffer. Returns how many bytes were written, or the code of the error and how many would be enough.
+    pub(crate) fn into_slice(self, out: &mut [u8]) -> Result<usize, (u32, usize)> {
+        let mut needed = 0;
+        // SAFETY: the slice is writable for its length, and as it is borrowed alone it overlaps no text.
+        match unsafe { self.call(out.as_mut_ptr(), out.len(), &mut needed) } {
+            OK => Ok(needed),
+            code => Err((code, needed)),
+        }
+    }
+
+    /// What the call writes, or the code of its error. Most results fit the first buffer; else the second has the room that is needed.
+    #[cfg(feature = "alloc")]
+    pub(crate) fn into_vec(self) -> Result<Vec<u8>, u32> {
+        let mut out = Vec::with_capacity(self.first_room());
+        loop {
+            let mut needed = 0;
+            // SAFETY: the vector is writable for its capacity, and is new, so it overlaps no text.
+            match unsafe { self.call(out.as_mut_ptr(), out.capacity(), &mut needed) } {
+                OK => {
+                    // SAFETY: so many bytes were written, and they are within the capacity.
+                    unsafe { out.set_len(needed) };
+                    return Ok(out);
+                }
+                NO_ROOM => out.reserve_exact(needed),
+                code => return Err(code),
+            }
+        }
+    }
+
+    #[cfg(feature = "alloc")]
+    fn first_room(self) -> usize {
+        match self {
+            Self::Normal(text) | Self::Origin(text) | Self::Decoded(text) => text.len() + 2,
+            Self::Encoded(_, text) | Self::Escaped(text) => text.len() + 16,
+            Self::Target(base, text) | Self::Relative(base, text) => base.len() + text.len() + 2,
+        }
+    }
+}

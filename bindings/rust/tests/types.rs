@@ -1,0 +1,202 @@
+//! What Rust's types add: owned forms, conversions, maps, buffers and threads.
+
+use std::collections::HashMap;
+use std::convert::TryFrom;
+use uriparse_rattle::{
+    decode, BufferError, Component, Error, ErrorKind, HostKind, Pairs, Uri, UriBuf, UriRef,
+    UriRefBuf,
+};
+
+fn is_shared<T: Send + Sync + Unpin + 'static>() {}
+
+#[test]
+fn types_cross_threads() {
+    is_shared::<UriRef<'static>>();
+    is_shared::<Uri<'static>>();
+    is_shared::<UriRefBuf>();
+    is_shared::<UriBuf>();
+    is_shared::<Error>();
+    is_shared::<Pairs<'static>>();
+}
+
+#[test]
+fn a_component_outlives_its_reference() {
+    let text = String::from("http://h/a?b#c");
+    let host = { UriRef::parse(&text).unwrap().host() };
+    let query = { Uri::parse(&text).unwrap().query() };
+    assert_eq!((host, query), (Some("h"), Some("b")));
+}
+
+#[test]
+fn owned_forms() {
+    let read: UriRefBuf = "HTTP://u:p@h:8/a?b#c".parse().unwrap();
+    let uri = UriBuf::try_from(read.clone()).unwrap();
+    assert_eq!((read.scheme(), uri.scheme()), (Some("HTTP"), "HTTP"));
+    assert_eq!(
+        (uri.authority(), uri.username(), uri.password()),
+        (Some("u:p@h:8"), Some("u"), Some("p"))
+    );
+    assert_eq!(
+        (uri.host(), uri.host_kind()),
+        (Some("h"), Some(HostKind::Name))
+    );
+    assert_eq!((uri.port(), uri.port_number()), (Some("8"), Some(8)));
+    assert_eq!(
+        (uri.path(), uri.query(), uri.fragment()),
+        ("/a", Some("b"), Some("c"))
+    );
+    assert_eq!(uri.query_pairs().next(), Some(("b", None)));
+    assert_eq!(uri.as_uri().as_uri_ref(), read.as_uri_ref());
+    assert_eq!(uri.as_uri().to_buf(), uri);
+    assert_eq!(UriRefBuf::from(uri.clone()), read);
+    assert_eq!(String::from(uri), read.into_string());
+}
+
+#[test]
+fn conversions() {
+    let not_uri = |error: Error| error.kind() == ErrorKind::NotUri && error.position() == 0;
+    let reference = UriRef::parse("a").unwrap();
+    assert!(!reference.is_uri() && not_uri(Uri::try_from(reference).unwrap_err()));
+    assert!(not_uri(UriBuf::try_from(reference.to_buf()).unwrap_err()));
+    assert!(not_uri("1:a".parse::<UriBuf>().unwrap_err()));
+    assert!(not_uri(UriBuf::try_from(String::from("//h")).unwrap_err()));
+    assert_eq!(
+        UriRefBuf::try_from(String::from("a b"))
+            .unwrap_err()
+            .position(),
+        1
+    );
+    assert_eq!(UriRef::try_from(&b"//h"[..]).unwrap().host(), Some("h"));
+    assert_eq!(UriRef::try_from(&b"a\xff"[..]).unwrap_err().position(), 1);
+    let uri = Uri::try_from("s:").unwrap();
+    assert_eq!((UriRef::from(uri).path(), uri.as_ref()), ("", "s:"));
+}
+
+#[test]
+fn printing() {
+    let uri = Uri::parse("s:a").unwrap();
+    assert_eq!(format!("{uri}|{uri:>5}|{uri:?}"), "s:a|  s:a|Uri(\"s:a\")");
+    assert_eq!(format!("{:?}", uri.to_buf()), "UriBuf(\"s:a\")");
+    assert_eq!(
+        format!("{:?}", uri.as_uri_ref().to_buf()),
+        "UriRefBuf(\"s:a\")"
+    );
+    let error: Box<dyn std::error::Error> = Box::new(Uri::parse("http://h:8o").unwrap_err());
+    assert_eq!(error.to_string(), "invalid port character at byte 10");
+}
+
+#[test]
+fn kinds_have_codes() {
+    let error = UriRef::parse("//h:65536").unwrap_err();
+    assert_eq!(
+        (error.kind().code(), error.component()),
+        (0x42, Some(Component::Port))
+    );
+    assert_eq!(ErrorKind::Unknown(0x1f).code(), 0x1f);
+    assert_eq!(ErrorKind::NotUri.component(), None);
+    assert_eq!(ErrorKind::Unknown(0x200).to_string(), "error 0x200");
+}
+
+#[test]
+fn maps_by_canonical_spelling() {
+    let mut counts = HashMap::new();
+    for link in [
+        "http://h/%7e",
+        "HTTP://H/~",
+        "http://h/a/../~",
+        "http://%31.2.3.4",
+        "http://1.2.3.4",
+    ] {
+        *counts.entry(UriRef::parse(link).unwrap()).or_insert(0) += 1;
+    }
+    assert_eq!(counts.len(), 4);
+    assert_eq!(counts[&UriRef::parse("http://h/~").unwrap()], 2);
+}
+
+#[test]
+fn buffers() {
+    let base = Uri::parse("http://h/a/b").unwrap();
+    let link = UriRef::parse("c").unwrap();
+    let mut out = *b"................";
+    assert_eq!(base.resolve_into(&link, &mut out), Ok("http://h/a/c"));
+    assert_eq!(&out[12..], b"....");
+    assert_eq!(
+        base.resolve_into(&link, &mut []),
+        Err(BufferError::TooSmall { needed: 12 })
+    );
+    assert_eq!(UriRef::parse("").unwrap().normalize_into(&mut []), Ok(""));
+    let long = format!("http://h{}", "/".repeat(1_000_000));
+    let long = Uri::parse(&long).unwrap();
+    let too_long = UriRef::parse("a/b").unwrap();
+    assert_eq!(
+        long.resolve_into(&too_long, &mut out),
+        Err(BufferError::TooManySegments)
+    );
+    assert_eq!(
+        long.resolve(&too_long).unwrap_err().kind(),
+        ErrorKind::ExceededMaximumPathLength
+    );
+    assert_eq!(
+        BufferError::TooSmall { needed: 12 }.to_string(),
+        "buffer too small: 12 bytes are enough"
+    );
+}
+
+#[test]
+fn longest_relative_references() {
+    let base = format!("s:/{}x", "a/".repeat(999_999));
+    let base = Uri::parse(&base).unwrap();
+    for text in ["s:/b", "s:/b/c/d", "s:/b/c:d", "s:/a/b", "s://h"] {
+        let uri = Uri::parse(text).unwrap();
+        let reference = base.relativize(&uri);
+        assert_eq!(
+            base.resolve(&reference.as_uri_ref()).unwrap(),
+            uri.normalize()
+        );
+    }
+}
+
+#[test]
+fn written_to_a_larger_buffer() {
+    let address = Uri::parse("s://[1:2:3:4:5:6:1.2.3.4]").unwrap();
+    assert_eq!(address.normalize().as_str(), "s://[1:2:3:4:5:6:102:304]/");
+    let bytes: Vec<u8> = (0..=255).collect();
+    let encoded = uriparse_rattle::encode(uriparse_rattle::Encoding::Segment, &bytes);
+    assert_eq!(decode(&encoded).unwrap(), bytes);
+}
+
+#[test]
+fn faults_of_decode() {
+    let position = |text: &str| decode(text).unwrap_err().position();
+    assert_eq!(
+        (
+            position("a%4"),
+            position("%"),
+            position("ab#%"),
+            position("é")
+        ),
+        (1, 0, 2, 0)
+    );
+    assert_eq!(
+        decode("a#").unwrap_err().kind(),
+        ErrorKind::InvalidQueryCharacter
+    );
+    assert_eq!(
+        decode("%zz").unwrap_err().kind(),
+        ErrorKind::InvalidQueryPercentEncoding
+    );
+}
+
+#[test]
+fn pairs_of_any_string() {
+    assert_eq!(UriRef::parse("a").unwrap().query_pairs().count(), 0);
+    assert_eq!(
+        UriRef::parse("?")
+            .unwrap()
+            .query_pairs()
+            .collect::<Vec<_>>(),
+        [("", None)]
+    );
+    let pairs: Vec<_> = Pairs::new("ä=ö&=&").collect();
+    assert_eq!(pairs, [("ä", Some("ö")), ("", Some("")), ("", None)]);
+}
