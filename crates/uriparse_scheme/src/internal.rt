@@ -1,12 +1,10 @@
 //! What the crates above build on. Not for users.
-ghost use Rattle.std.specs.Prelude.{◌≡◌, IfOk, IsOk, true};
+ghost use Rattle.std.specs.Prelude.{◌≡◌, IfOk, IsOk};
 ghost use Rattle.std.specs.Option.{option_map, option_or};
 ghost use Rattle.uriparse_scheme.specs.Normal.{canonical_scheme};
-ghost use Rattle.uriparse_scheme.specs.Scheme as spec;
 
 use crate::scheme::Scheme;
 pub use crate::scheme::cut::{SchemeCut, scheme_if, split_scheme};
-pub use crate::scheme::read::is_scheme;
 use std::alloc::{AllocError, Global};
 
 /// A copy of the scheme in canonical spelling, if it is present and not canonical. Allocates only
@@ -36,13 +34,4 @@ pub fn put_copy<'s>(scheme: &mut Option<Scheme<'s>>, copy: Option<Scheme<'s>>)
     if copy.is_some() {
         *scheme = copy;
     }
-}
-
-/// The scheme that these bytes spell. The caller knows that they are one. An unregistered scheme
-/// borrows them. Does not allocate.
-pub fn scheme_of(bytes: &[u8]) -> Scheme<'_>
-    requires { spec.is_scheme bytes.now ≡ true }
-    ensures { result ≡ spec.named bytes.now }
-{
-    Scheme::of_checked(bytes)
 }
