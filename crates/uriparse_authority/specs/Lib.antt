@@ -11,3 +11,4 @@ pub mod Offset
 pub mod Normal
 pub mod Found
 pub mod Ends
+pub mod Within

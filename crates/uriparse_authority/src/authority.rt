@@ -28,6 +28,7 @@ mod print;
 mod printed;
 pub(crate) mod read;
 mod username;
+mod within;
 
 pub use error::{
     AuthorityError, HostError, PasswordError, PortError, RegisteredNameError, UsernameError,

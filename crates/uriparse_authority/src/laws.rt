@@ -22,6 +22,7 @@ ghost use Rattle.uriparse_authority.specs.Port as port;
 ghost use Rattle.uriparse_authority.specs.Normal.{canonical_host, canonical_authority};
 ghost use Rattle.uriparse_authority.specs.Offset.{IsAtPercentIff, IsWrongByte, fault_offset};
 ghost use Rattle.uriparse_authority.specs.Authority.{AuthorityParts, Spells, Valid, ReadsBack, canonical_text, ends_authority, fault, fed, fed_key, host_text, joined, key, kind, password_text, port_text, print, reading, rest_error, username_text, whole_authority, whole_reading};
+ghost use Rattle.uriparse_authority.specs.Within.{EndsWithName, IsWithin, hides_address, labels, without_end_dot};
 
 /// Reading returns exactly what a text spells: a host, a name by itself, an address of a later
 /// version by itself, a port, an authority, and an authority that is the whole text. A text spells
@@ -171,4 +172,19 @@ pub fn normal_examples()
     ensures empty { canonical_host (RegisteredName []) ≡ RegisteredName [] }
     ensures later_version { canonical_host (IPvFuture (codes "V1.X:y")) ≡ IPvFuture (codes "v1.x:y") }
     ensures whole { canonical_authority (whole_authority (codes "%7eU") (codes "%7E%3a") (RegisteredName (codes "H")) 80) ≡ whole_authority (codes "~U") (codes "~%3A") (RegisteredName (codes "h")) 80 }
+{}
+
+/// Being within a domain: each host is within itself, and within what a domain that it is within is
+/// within. Equal hosts are within the same hosts, and the same hosts are within them. Two hosts are
+/// of one kind if one is within the other, and equal if one of them hides an address. The labels of
+/// a name end with those of each domain that it is within, and the bytes of its canonical spelling,
+/// apart from a dot at the end, with a dot and the domain's.
+pub fn within_domains()
+    ensures itself { (h : Host) → IsWithin h h }
+    ensures again { (g h d : Host) → IsWithin g h → IsWithin h d → IsWithin g d }
+    ensures equals { (g h c d : Host) → host.key g ≡ host.key h → host.key c ≡ host.key d → IsWithin g c → IsWithin h d }
+    ensures kinds { (h d : Host) → IsWithin h d → host.kind h ≡ host.kind d }
+    ensures hidden { (h d : Host) → (hides_address h ≡ true) ⊎ (hides_address d ≡ true) → IsWithin h d → host.key h ≡ host.key d }
+    ensures labels { (h d : Host) → host.kind d ≡ host.Kind.Name → IsWithin h d → (front : List (List ℕ)) × (labels (host.canonical_text h) ≡ front ++ labels (host.canonical_text d)) }
+    ensures bytes { (h d : Host) → IsWithin h d → (host.key h ≡ host.key d) ⊎ EndsWithName (without_end_dot (host.canonical_text h)) (without_end_dot (host.canonical_text d)) }
 {}

@@ -10,6 +10,7 @@ pub mod Readings
 pub mod Query
 pub mod Fragment
 pub mod Segment
+pub mod Ambiguous
 pub mod Address
 pub mod IpAddr
 pub mod Alike

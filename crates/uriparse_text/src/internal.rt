@@ -1,6 +1,7 @@
 //! What the crates above build on. Users do not need it.
 
 mod alike;
+mod ambiguous;
 mod backward_buffer;
 mod bits;
 mod canonical;
@@ -31,6 +32,7 @@ mod text;
 mod token;
 
 pub use alike::same_spelling;
+pub use ambiguous::has_ambiguous_escape;
 pub use backward_buffer::{Form, put, put_after, put_formed};
 pub use bits::{bits_below, count_below, has_adjacent, highest, lowest, without, without_lowest};
 pub use canonical::{canonical_bytes, feed_spelling, feed_text, is_canonical};

@@ -4,6 +4,7 @@ ghost use Rattle.uriparse_text.specs.declared.internal.class.Class.TheVariants a
 ghost use Rattle.uriparse_text.specs.declared.internal.case.Case.TheVariants as case;
 ghost use Rattle.uriparse_text.specs.Segment as spec;
 
+mod ambiguous;
 mod error;
 
 use crate::internal::{Case, Class, Text, TextKind, text_from_checked};

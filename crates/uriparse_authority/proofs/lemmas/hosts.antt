@@ -1,2 +1,6 @@
 pub mod FutureLemmas
 pub mod HostLemmas
+pub mod WithinLawLemmas
+pub mod NameWithinLemmas
+pub mod EndDotLemmas
+pub mod WithinLemmas

@@ -5,3 +5,4 @@ pub mod EscapingLemmas
 pub mod StartLemmas
 pub mod PieceLemmas
 pub mod BackLemmas
+pub mod AmbiguousLemmas
