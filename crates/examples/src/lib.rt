@@ -1,5 +1,6 @@
-//! Small users of URIs: a cookbook, a test of links by host, a link rewriter, a redirect checker, two
-//! schema stores, an identifier registry and a check of a proxy's target.
+//! Small users of URIs: a cookbook, a test of links by host, a link rewriter, queries without tracking
+//! parameters, a redirect checker, two schema stores, an identifier registry and a check of a proxy's
+//! target.
 //!
 //! Each depends on `uriparse` alone, and four on `thiserror` for their errors. The contract of each
 //! says in its user's words what it does. They serve as examples: copy what fits.

@@ -8,6 +8,7 @@ use Rattle.std.specs.Str.{str_to_ascii_lowercase}
 use Rattle.uriparse_text.specs.Bytes.{colon, slash}
 use Rattle.uriparse_text.specs.Canonical.{canonical_lowered, fed_text}
 use Rattle.uriparse_text.specs.Cuts.{following}
+use Rattle.uriparse_text.proofs.lemmas.canonical.DotLemmas.{empty_segment}
 use Rattle.uriparse_authority.specs.Authority as authority
 use Rattle.uriparse_authority.specs.Authority.{AuthorityParts}
 use Rattle.uriparse_authority.specs.Host as host
@@ -213,7 +214,7 @@ valid_of p a v e =
         is_host = valid_host p.authority a.host v.is_authority (made_host p.scheme (named_host p) (port_or_default p) a e);
         is_port = valid_port p.authority (default_port a.scheme) a.port v.is_authority used;
       });
-      is_path = record { some = omega arith; short = omega arith; each = refl };
+      is_path = record { some = omega arith; short = omega arith; each = and_from _ _ empty_segment refl };
       absolute = refl;
       plain = refl;
       fit = refl;
