@@ -39,9 +39,9 @@ pub use uriparse_path::path;
 pub use uriparse_path::path::{Path, PathError, PathOf, Segment, Segments};
 pub use uriparse_reference::uri_reference;
 pub use uriparse_reference::uri_reference::{
-    BufferError, Edit, ReferenceKey, ReferenceText, ReferenceView, RejectedText, TargetError,
-    URIReference, URIReferenceBuilder, URIReferenceError, WithoutPassword, escape_invalid,
-    escape_invalid_into,
+    BufferError, Change, ChangeError, Changes, Edit, ReferenceKey, ReferenceText, ReferenceView,
+    RejectedText, TargetError, URIReference, URIReferenceBuilder, URIReferenceError,
+    WithoutPassword, escape_invalid, escape_invalid_into,
 };
 pub use uriparse_scheme::scheme;
 pub use uriparse_scheme::scheme::{Scheme, SchemeError, SchemeStatus, UnregisteredScheme};

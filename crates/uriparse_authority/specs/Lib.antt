@@ -5,6 +5,7 @@ pub mod Port
 pub mod Future
 pub mod Host
 pub mod Authority
+pub mod Pieces
 pub mod KeyOrder
 pub mod Order
 pub mod Offset

@@ -23,6 +23,7 @@ pub(crate) mod normal;
 pub(crate) mod offset;
 mod order;
 mod password;
+pub(crate) mod pieces;
 mod port;
 mod print;
 mod printed;

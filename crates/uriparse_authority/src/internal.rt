@@ -8,6 +8,7 @@ use crate::authority::Authority;
 pub use crate::authority::found::{FoundAuthority, found_named};
 pub use crate::authority::normal::{CanonicalCopies, canonical_copies, put_copies};
 pub use crate::authority::offset::offset_in_authority;
+pub use crate::authority::pieces::check_pieces;
 pub use crate::authority::read::{find_authority, split_before_path, split_port, split_userinfo};
 use uriparse_text::internal::Form;
 

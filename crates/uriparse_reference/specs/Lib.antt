@@ -11,6 +11,8 @@ pub mod View
 pub mod OwnedText
 pub mod TextKey
 pub mod TextEdits
+pub mod Wanted
+pub mod Change
 pub mod Escaped
 pub mod Normal
 pub mod Target

@@ -28,6 +28,7 @@ use uriparse_text::internal::len_of;
 use uriparse_text::query::Query;
 
 mod builder;
+mod change;
 mod copy;
 mod edit;
 mod error;
@@ -47,6 +48,7 @@ mod text;
 pub(crate) mod view;
 
 pub use builder::URIReferenceBuilder;
+pub use change::{Change, ChangeError, Changes};
 pub use edit::Edit;
 pub use error::{BufferError, RejectedText, TargetError, URIReferenceError};
 pub use escape::{escape_invalid, escape_invalid_into};

@@ -3,3 +3,4 @@ pub mod EditLemmas
 pub mod EditListLemmas
 pub mod SegmentLemmas
 pub mod PortLemmas
+pub mod ChangeLemmas

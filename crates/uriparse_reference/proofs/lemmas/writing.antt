@@ -2,3 +2,4 @@ pub mod EndLemmas
 pub mod TargetLemmas
 pub mod SameTextLemmas
 pub mod BackLemmas
+pub mod ChangedEndLemmas

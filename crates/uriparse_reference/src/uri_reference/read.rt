@@ -79,7 +79,7 @@ fn find_authority_if(text: &[u8]) -> Result<(Option<FoundAuthority<'_>>, &[u8]),
 /// Rejects a path that is not allowed, given whether there is a scheme and an authority. With
 /// neither, `has_colon_segment` says whether the path's first segment has a colon, so no byte is
 /// read for it.
-fn check_path(
+pub(super) fn check_path(
     has_scheme: bool,
     has_authority: bool,
     has_colon_segment: bool,

@@ -21,6 +21,7 @@ use std::hash::{Hash, Hasher};
 use std::marker::Model;
 use uriparse_path::path::PathError;
 
+mod change;
 mod edit;
 mod key;
 mod make;

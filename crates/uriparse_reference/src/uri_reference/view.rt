@@ -22,6 +22,7 @@ use uriparse_text::fragment::Fragment;
 use uriparse_text::internal::Held;
 use uriparse_text::query::Query;
 
+mod change;
 mod compare;
 pub(in crate::uri_reference) mod cuts;
 mod end;
