@@ -18,6 +18,7 @@ pub use Rattle.uriparse_text.specs.Starts
 pub use Rattle.uriparse_text.specs.Query
 pub use Rattle.uriparse_text.specs.Pairs
 pub use Rattle.uriparse_text.specs.Link
+pub use Rattle.uriparse_text.specs.Ambiguous
 pub use Rattle.uriparse_text.specs.Fragment
 pub use Rattle.uriparse_text.specs.declared.internal.class.Class
 pub use Rattle.uriparse_text.specs.declared.internal.case.Case
@@ -45,6 +46,7 @@ pub use Rattle.uriparse_authority.specs.Authority
 pub use Rattle.uriparse_authority.specs.Username
 pub use Rattle.uriparse_authority.specs.Password
 pub use Rattle.uriparse_authority.specs.Host
+pub use Rattle.uriparse_authority.specs.Within as HostWithin
 pub use Rattle.uriparse_authority.specs.Name
 pub use Rattle.uriparse_authority.specs.Future
 pub use Rattle.uriparse_authority.specs.Port
@@ -85,6 +87,8 @@ pub use Rattle.uriparse_reference.specs.Into
 pub use Rattle.uriparse_reference.specs.Ports
 pub use Rattle.uriparse_reference.specs.Masked
 pub use Rattle.uriparse_reference.specs.Edits
+pub use Rattle.uriparse_reference.specs.Wanted
+pub use Rattle.uriparse_reference.specs.Change
 pub use Rattle.uriparse_reference.specs.Builder
 pub use Rattle.uriparse_reference.specs.Key
 pub use Rattle.uriparse_reference.specs.TextKey
@@ -92,6 +96,7 @@ pub use Rattle.uriparse_reference.specs.Normal
 pub use Rattle.uriparse_reference.specs.Target
 pub use Rattle.uriparse_reference.specs.Relate
 pub use Rattle.uriparse_reference.specs.declared.uri_reference.edit.Edit
+pub use Rattle.uriparse_reference.specs.declared.uri_reference.change.ChangeError
 pub use Rattle.uriparse_reference.specs.declared.uri_reference.text.key.ReferenceKey
 pub use Rattle.uriparse_reference.specs.declared.uri_reference.error.URIReferenceError
 pub use Rattle.uriparse_reference.specs.declared.uri_reference.error.BufferError
