@@ -6,3 +6,4 @@ pub mod Redirects
 pub mod Registry
 pub mod SchemaStore
 pub mod Schemas
+pub mod Trusted

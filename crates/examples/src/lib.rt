@@ -15,3 +15,4 @@ pub mod redirects;
 pub mod registry;
 pub mod schema_store;
 pub mod schemas;
+pub mod trusted;

@@ -1,0 +1,54 @@
+//! Which links may be followed unasked: over `https`, to the domains of a list, and not to where a name only looks
+//! like one of them.
+ghost use Rattle.std.specs.Option.{IsSomeAnd};
+ghost use Rattle.std.specs.Prelude.{◌≡◌, ◌↔◌, IsTrue};
+ghost use Rattle.uriparse.specs.Reference.{host_of};
+ghost use Rattle.uriparse.specs.Uri.{IsNamed, https};
+ghost use Rattle.examples.specs.Trusted.{IsTrusted, IsTrustedHost};
+
+use uriparse::{Host, Scheme, URI};
+
+/// Whether the scheme is `https`.
+fn is_https(scheme: &Scheme<'_>) -> bool
+    ensures { IsTrue result ↔ IsNamed https scheme.now }
+{
+    scheme.eq_str("https")
+}
+
+/// Whether the host is one of the domains or within one, and no resolver takes it for an address.
+fn is_trusted_host(host: &Host<'_>, domains: &[Host<'_>]) -> bool
+    ensures { IsTrue result ↔ IsTrustedHost domains.now host.now }
+{
+    host.is_within_any(domains) && !host.may_be_numeric()
+}
+
+/// Whether the URI has such a host.
+fn has_trusted_host(uri: &URI<'_>, domains: &[Host<'_>]) -> bool
+    ensures { IsTrue result ↔ IsSomeAnd (host_of uri.now) (IsTrustedHost domains.now) }
+{
+    match uri.host() {
+        Some(host) => is_trusted_host(host, domains),
+        None => false,
+    }
+}
+
+/// Whether a link leads over `https` to one of the domains or to a host within one, at the port of `https`
+/// and without user information. Does not allocate.
+///
+/// ```
+/// let domains = [Host::try_from_str("example.com")?];
+/// let uri = URI::try_from_str(alloc, "https://WWW.Example.com:443/a")?;
+/// assert!(is_trusted(&uri, &domains));
+/// let other = URI::try_from_str(alloc, "https://example.com@evil.org/")?;
+/// assert!(!is_trusted(&other, &domains));
+/// let other = URI::try_from_str(alloc, "https://evilexample.com/")?;
+/// assert!(!is_trusted(&other, &domains));
+/// ```
+pub fn is_trusted(uri: &URI<'_>, domains: &[Host<'_>]) -> bool
+    ensures { IsTrue result ↔ IsTrusted domains.now uri.now }
+{
+    is_https(uri.scheme())
+        && has_trusted_host(uri, domains)
+        && uri.port_or_default() == Some(443)
+        && !uri.has_username()
+}
