@@ -7,7 +7,7 @@ use core::convert::TryFrom;
 /// The components, for a type that has `as_parts`: its string and where they are in it.
 macro_rules! components {
     ($life:lifetime) => {
-        /// What precedes the authority's host, as `user:password`, its host and what follows that, as `:80`.
+        /// The authority: the user information, the host and the port, as in `user:password@example.com:80`.
         #[must_use]
         pub fn authority(&self) -> Option<&$life str> {
             let (text, parts) = self.as_parts();
