@@ -15,3 +15,4 @@ pub mod List
 pub mod ListLends
 pub mod Remaining
 pub mod Last
+pub mod Within

@@ -14,3 +14,4 @@ pub use crate::path::text::into::{put_merged, put_normal_path, put_parent_steps,
 pub use crate::path::text::normal::is_normal_path_text;
 pub use crate::path::text::order::compare_path_texts;
 pub use crate::path::text::{are_path_texts_alike, feed_path_text, segments_of};
+pub use crate::path::within::is_path_within;

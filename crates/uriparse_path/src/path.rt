@@ -41,6 +41,7 @@ mod segment;
 mod segments;
 pub(crate) mod start;
 pub(crate) mod text;
+pub(crate) mod within;
 
 use counts::{Counts, Dotted};
 use list::SegmentList;

@@ -4,3 +4,5 @@ pub mod UndottedLemmas
 pub mod KeptLemmas
 pub mod RelativeRemainingLemmas
 pub mod NormalTextLemmas
+pub mod NormalSegmentsLemmas
+pub mod PathWithinLemmas

@@ -1,6 +1,6 @@
 //! What is asked of segments in order, of those in a list and of those in the text of a path: RFC
 //! 3986, sections 4.2 and 6.2.2.
-ghost use Rattle.std.specs.Prelude.{◌≡◌, ◌∷◌, ◌&&◌, ◌||◌, [], ℕ, List, MatchOption, false, not};
+ghost use Rattle.std.specs.Prelude.{◌≡◌, ◌∷◌, ◌++◌, ◌&&◌, ◌||◌, [], ℕ, List, MatchOption, false, not};
 ghost use Rattle.uriparse_path.specs.Path as path;
 ghost use Rattle.uriparse_path.specs.Dots as dots;
 ghost use Rattle.uriparse_path.specs.Normal as spec;
@@ -21,6 +21,10 @@ pub trait SegmentSequence<'t>: Drop {
     /// The first segment, and those that follow it.
     fn split(&self) -> Option<(Segment<'t>, Self)>
         ensures { MatchOption result (listed self.now ≡ []) (λ r. listed self.now ≡ r.0 ∷ listed r.1) };
+
+    /// The last segment, and those that precede it.
+    fn split_last(&self) -> Option<(Self, Segment<'t>)>
+        ensures { MatchOption result (listed self.now ≡ []) (λ r. listed self.now ≡ listed r.0 ++ r.1 ∷ []) };
 }
 
 impl<'t, 's> SegmentSequence<'t> for &'t [Segment<'s>] {
@@ -35,6 +39,12 @@ impl<'t, 's> SegmentSequence<'t> for &'t [Segment<'s>] {
     fn split(&self) -> Option<(Segment<'t>, &'t [Segment<'s>])> {
         let (first, later) = (*self).split_first()?;
         Some((first.as_borrowed(), later))
+    }
+
+    #[inline(always)]
+    fn split_last(&self) -> Option<(&'t [Segment<'s>], Segment<'t>)> {
+        let (last, front) = (**self).split_last()?;
+        Some((front, last.as_borrowed()))
     }
 }
 

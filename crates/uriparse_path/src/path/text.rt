@@ -7,6 +7,7 @@ ghost use Rattle.uriparse_path.specs.Path.{IsPath, fed, pieces};
 use super::read::split_root;
 use super::rules::SegmentSequence;
 use super::{Segment, feed_piece};
+use backward::split_last;
 use std::hash::Hasher;
 use std::marker::Model;
 use uriparse_text::internal::{
@@ -69,6 +70,11 @@ impl<'p> SegmentSequence<'p> for Segments<'p> {
         let mut later = self.again();
         let first = later.next()?;
         Some((first, later))
+    }
+
+    fn split_last(&self) -> Option<(Segments<'p>, Segment<'p>)> {
+        let (front, last) = split_last(self.rest?);
+        Some((Segments { rest: front }, text_from_checked(last, false)))
     }
 }
 

@@ -96,7 +96,7 @@ module _ (c : ℕ) (plain : is_unreserved c ≡ false) (digit : is_hex c ≡ fal
       list_all-append (λ b. not (b == c)) (spell (canonical_token Kept t)) (flat_map spell (map (canonical_token Kept) ts))
       ∙ rw (lacks_token t both.0, lacks_tokens ts both.1) (sym (list_all-append (λ b. not (b == c)) (spell t) (flat_map spell ts)))
 
-  lacks-canonical : (s : List ℕ) → lacks c (canonical s) ≡ lacks c s
+  pub lacks-canonical : (s : List ℕ) → lacks c (canonical s) ≡ lacks c s
   lacks-canonical s = ap (lacks c) (sym (spell-canonical_token Kept s)) ∙ lacks_tokens (tokens s) (digits-tokens s) ∙ ap (lacks c) (spell-tokens s)
 
 slash_reserved : is_unreserved slash ≡ false

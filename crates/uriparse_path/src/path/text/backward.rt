@@ -265,7 +265,7 @@ impl BackwardState {
 }
 
 /// Cuts off the last segment: what precedes the last slash, if there is one, and what follows it.
-fn split_last(text: &[u8]) -> (Option<&[u8]>, &[u8])
+pub(super) fn split_last(text: &[u8]) -> (Option<&[u8]>, &[u8])
     ensures { slice_split is_slash text.now ≡ pieces_left (option_copied result.0) ++ result.1.now ∷ [] }
 {
     match text.iter().rposition(|&b| b == b'/') {
