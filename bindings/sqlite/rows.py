@@ -6,18 +6,21 @@ import re
 from typing import Dict, Iterator, List, Optional, Tuple
 from urllib.parse import unquote_to_bytes
 
+from fuzz import APPENDIX_B
+
 TOP = os.path.dirname(os.path.dirname(os.path.dirname(os.path.abspath(__file__))))
 RFC_BASE = "http://a/b/c/d;p?q"
 
 _WORD = r"(?:'([^']*)'|(\S+))"
 _ONE = re.compile(r"^(check|normalize|rfc) %s -> (.*)$" % _WORD)
 _TWO = re.compile(r"^resolve %s %s -> (.*)$" % (_WORD, _WORD))
+_RELATED = re.compile(r"^relate (\S+) (\S+) -> (\S+)$")
 _REJECTED = re.compile(r"invalid|overflow|too many|schemeless|exceeded|not URI| character$| format$")
 
 
-def _lines() -> Iterator[Tuple[str, str]]:
-    """The lines of the tests of references, with the names of their files."""
-    folder = os.path.join(TOP, "tests/references")
+def _lines(subject: str) -> Iterator[Tuple[str, str]]:
+    """The lines of the tests of a subject, with the names of their files."""
+    folder = os.path.join(TOP, "tests", subject)
     for name in sorted(os.listdir(folder)):
         with open(os.path.join(folder, name), encoding="utf-8") as file:
             yield from ((name, line.rstrip("\n").rstrip(";").rstrip('"')) for line in file)
@@ -32,7 +35,7 @@ def library_rows() -> Dict[str, List[Tuple[str, ...]]]:
     """Texts that are references, or aren't; normal forms; bases, references and targets. A target is '' if a text is
     rejected."""
     found: Dict[str, List[Tuple[str, ...]]] = {"valid": [], "invalid": [], "normal": [], "target": []}
-    for name, line in _lines():
+    for name, line in _lines("references"):
         if (row := _ONE.match(line)):
             text, answer = row[2] if row[2] is not None else row[3], _answer(row[4])
             if row[1] == "check" and name == "references.rt.txt":
@@ -45,6 +48,12 @@ def library_rows() -> Dict[str, List[Tuple[str, ...]]]:
             base, text = (row[at] if row[at] is not None else row[at + 1] for at in (1, 3))
             found["target"].append((base, text, _answer(row[5]) or ""))
     return found
+
+
+def related_rows() -> List[Tuple[str, str, str]]:
+    """Bases, URIs and the references that lead from the one to the other."""
+    found = [_RELATED.match(line) for _, line in _lines("relations")]
+    return [(row[1], row[2], "" if row[3] == "''" else row[3]) for row in found if row]
 
 
 def program_rows() -> List[Tuple[str, str, bool]]:
@@ -97,3 +106,28 @@ def decoded_pairs(query: Optional[bytes], in_ascii: bool = False) -> List[Tuple[
     """The rows of `uri_pairs` for a reference with this query, if it has one."""
     pieces = [piece.partition(b"=") for piece in query.split(b"&")] if query is not None else []
     return [(_read(name, in_ascii), _read(value, in_ascii) if sign else None) for name, sign, value in pieces]
+
+
+# What a query has (RFC 3986, section 3.4), and an IPv4 address (section 3.2.2).
+_QUERY = re.compile(rb"(?:[A-Za-z0-9._~!$&'()*+,;=:@/?-]|%[0-9A-Fa-f]{2})*")
+_OCTET = rb"(?:25[0-5]|2[0-4][0-9]|1[0-9][0-9]|[1-9]?[0-9])"
+_IPV4 = re.compile(rb"\.".join([_OCTET] * 4))
+
+
+def decoded(text: bytes) -> Optional[bytes]:
+    """The bytes that the text of a component stands for, if it is one, without a zero byte."""
+    found = unquote_to_bytes(text) if _QUERY.fullmatch(text) else b"\0"
+    return None if b"\0" in found else found
+
+
+def authority_parts(text: bytes) -> Tuple[Optional[bytes], Optional[bytes], Optional[str]]:
+    """The user name, the password and the kind of the host of a reference, by appendix B and section 3.2 of RFC 3986."""
+    match = APPENDIX_B.match(text)
+    authority: Optional[bytes] = match[4] if match else None
+    if authority is None:
+        return None, None, None
+    userinfo, sign, host = authority.rpartition(b"@")
+    username, colon, password = userinfo.partition(b":")
+    is_ipv4 = _IPV4.fullmatch(host.partition(b":")[0])
+    kind = "ipvfuture" if host[:2] in (b"[v", b"[V") else "ipv6" if host[:1] == b"[" else "ipv4" if is_ipv4 else "name"
+    return username if sign else None, password if colon else None, kind

@@ -7,10 +7,13 @@ import ctypes
 import os
 import random
 import re
+import shutil
 import sqlite3
 import struct
 import sys
+import tempfile
 from typing import Any, Callable, List, Optional, Tuple
+from urllib.parse import quote
 
 TOP = os.path.dirname(os.path.dirname(os.path.abspath(__file__)))
 sys.path.insert(0, os.path.join(TOP, "c"))
@@ -19,15 +22,16 @@ import fuzz  # noqa: E402
 import rows  # noqa: E402
 import uriparse  # noqa: E402
 
-ONE = ("valid", "fault", "scheme", "authority", "host", "port", "path", "query", "fragment", "normalize", "hash", "origin", "escape")
+ONE = ("valid", "fault", "scheme", "authority", "host", "port", "path", "query", "fragment", "normalize", "hash", "origin", "escape", "username",
+       "password", "host_kind", "decode")
 EXTENSION = os.path.abspath(sys.argv[1])
 COUNT = int(sys.argv[2]) if len(sys.argv) > 2 else 100_000
 
 
-def connect(encoding: str = "UTF-8") -> sqlite3.Connection:
+def connect(encoding: str = "UTF-8", extension: str = EXTENSION) -> sqlite3.Connection:
     db = sqlite3.connect(":memory:", isolation_level=None)
     db.enable_load_extension(True)
-    db.load_extension(EXTENSION)
+    db.load_extension(extension)
     db.enable_load_extension(False)
     db.execute("PRAGMA trusted_schema = OFF")
     db.execute("PRAGMA encoding = '%s'" % encoding)
@@ -46,9 +50,19 @@ def raised(call: Callable[[], object]) -> str:
     raise AssertionError("nothing raised")
 
 
-def shown_origin(text: bytes) -> Optional[str]:
-    found = answer_of(uriparse.origin, text)
-    return found and found.decode()
+def written(call: Callable[..., bytes], *texts: bytes) -> Optional[str]:
+    """What a call of the package writes, or None if it rejects a text."""
+    found: Optional[bytes] = answer_of(call, *texts)
+    return None if found is None else found.decode()
+
+
+def decoded(text: bytes) -> Optional[str]:
+    """What the text of a component stands for, if that is UTF-8."""
+    found = rows.decoded(text)
+    try:
+        return None if found is None else found.decode()
+    except UnicodeDecodeError:
+        return None
 
 
 def expected(text: bytes) -> Tuple[Any, ...]:
@@ -56,13 +70,14 @@ def expected(text: bytes) -> Tuple[Any, ...]:
     escaped = uriparse.escape(text).decode()
     fault = uriparse.first_fault(text)
     if fault:
-        return (0, fault[1], *[None] * 10, escaped)
+        return (0, fault[1], *[None] * 10, escaped, None, None, None, decoded(text))
     found = uriparse.parse(text)
     parts = [part if part is None else part.decode() for part in (
         found.scheme, found.authority, found.host, found.path, found.query, found.fragment)]
     parts.insert(3, found.port_number)  # type: ignore[arg-type]
     signed = struct.unpack("q", struct.pack("Q", uriparse.hash_of(text)))[0]
-    return (1, None, *parts, uriparse.normalize(text).decode(), signed, shown_origin(text), escaped)
+    return (1, None, *parts, uriparse.normalize(text).decode(), signed, written(uriparse.origin, text), escaped,
+            *(part.decode() if isinstance(part, bytes) else part for part in rows.authority_parts(text)), decoded(text))
 
 
 def test_rows(db: sqlite3.Connection) -> int:
@@ -75,12 +90,16 @@ def test_rows(db: sqlite3.Connection) -> int:
         assert one(db, "uri_normalize(?)", text) == normal, text
     for base, text, target in found["target"]:
         assert one(db, "uri_resolve(?, ?)", base, text) == (target or None if base.startswith("a") else target), (base, text)
+    related = rows.related_rows()
+    for base, text, reference in related:
+        assert one(db, "uri_relativize(?, ?)", base, text) == reference, (base, text)
+        assert one(db, "uri_resolve(?, ?)", base, reference) == one(db, "uri_resolve(?, ?)", base, text), (base, text)
     equal = rows.program_rows()
     for left, right, is_equal in equal:
         assert one(db, "uri_equal(?, ?)", left, right) == is_equal, left
         assert one(db, "? = ? COLLATE URI", left, right) == is_equal, left
-    counts = [len(of_kind) for of_kind in found.values()] + [len(equal)]
-    assert min(counts) > 2 and sum(counts) > 120, counts
+    counts = [len(of_kind) for of_kind in found.values()] + [len(related), len(equal)]
+    assert min(counts) > 2 and sum(counts) > 190, counts
     return sum(counts)
 
 
@@ -91,7 +110,7 @@ def test_errors(db: sqlite3.Connection) -> None:
     for name in (*ONE, "check"):
         assert one(db, "uri_%s(NULL)" % name) is None, name
         assert "wrong number of arguments" in raised(lambda: one(db, "uri_%s('a', 'b')" % name)), name
-    for name in ("equal", "resolve"):
+    for name in ("equal", "resolve", "relativize"):
         for pair in (("a:", None), (None, "a:"), (None, None), ("a b", "a:"), ("a:", "a b")):
             assert one(db, "uri_%s(?, ?)" % name, *pair) is None, (name, pair)
     assert one(db, "typeof(uri_port('//h:080'))") == "integer" and one(db, "uri_port('//h:080')") == 80
@@ -100,6 +119,34 @@ def test_errors(db: sqlite3.Connection) -> None:
         assert one(db, "uri_origin(?)", text) is None, text
     assert one(db, "uri_origin('http://%31.2.3.4')") == one(db, "uri_origin('http://1.2.3.4')") == "http://1.2.3.4"
     assert one(db, "uri_port('//h:')") is None and one(db, "uri_host('//')") == "" and one(db, "uri_path(12)") == "12"
+
+
+def test_components(db: sqlite3.Connection) -> None:
+    """Components that are encoded and decoded (RFC 3986, section 2), and the parts of an authority (section 3.2)."""
+    for component, encoded in (("username", "a%3Ab%40c%2F%3F%20%C3%A9%25&"), ("password", "a:b%40c%2F%3F%20%C3%A9%25&"),
+                               ("segment", "a:b@c%2F%3F%20%C3%A9%25&"), ("query", "a:b@c/?%20%C3%A9%25&"),
+                               ("fragment", "a:b@c/?%20%C3%A9%25&")):
+        for text in ("a:b@c/? \u00e9%&", "a:b@c/? \u00e9%&".encode()):
+            assert one(db, "uri_encode(?, ?)", component, text) == encoded, component
+        assert one(db, "uri_decode(?)", encoded) == "a:b@c/? \u00e9%&", component
+        assert one(db, "uri_encode(?, NULL)", component) is None and one(db, "uri_encode(?, '')", component) == ""
+        assert one(db, "uri_encode(?, ?)", component.encode(), "\0") == "%00", component
+    for component in ("host", "port", "path", "Query", "querys", "quer", "", "query\0", 96, b""):
+        assert raised(lambda: one(db, "uri_encode(?, 'a')", component)) == (
+            "OperationalError: uri_encode: the component must be username, password, segment, query or fragment"), component
+        assert one(db, "uri_encode(?, NULL)", component) is None
+    assert one(db, "uri_encode(NULL, 'a')") is None and one(db, "uri_encode(NULL, NULL)") is None
+    assert "wrong number of arguments" in raised(lambda: one(db, "uri_encode('query')"))
+    for text, found in (("a%2fb%20c+d?", "a/b c+d?"), ("", ""), ("%C3%A9%25", "\u00e9%"), ("a%2", None), ("a b", None), ("#", None),
+                        ("%ff", None), ("%00", None), ("%C0%80", None), ("%ED%A0%80", None), ("%F0%9F%98%80", "\U0001f600"), (12, "12")):
+        assert one(db, "uri_decode(?)", text) == found, text
+    for authority, parts in (("u:p@h", ("u", "p", "name")), ("u@1.2.3.4:1", ("u", None, "ipv4")), (":@[::1]", ("", "", "ipv6")),
+                             ("@[v1.a]", ("", None, "ipvfuture")), ("", (None, None, "name")), ("%31.2.3.4", (None, None, "name")),
+                             ("u:p:q@1.2.3.256", ("u", "p:q", "name"))):
+        assert db.execute("SELECT uri_username(?1), uri_password(?1), uri_host_kind(?1)", ("//" + authority,)).fetchone() == parts
+        assert rows.authority_parts(b"//" + authority.encode()) == tuple(
+            part.encode() if part is not None and at < 2 else part for at, part in enumerate(parts)), authority
+    assert one(db, "uri_host_kind('mailto:a')") is None
 
 
 def test_texts(db: sqlite3.Connection) -> None:
@@ -114,7 +161,10 @@ def test_texts(db: sqlite3.Connection) -> None:
         assert one(db, "uri_path(?)", "S:/" + tail) == "/" + tail, size
         assert one(db, "uri_normalize(?)", "S:/%61/../" + tail) == "s:/" + tail, size
         assert one(db, "uri_resolve('http://h/', ?)", tail) == "http://h/" + tail, size
+        assert one(db, "uri_relativize('http://h/x', ?)", "http://h/" + tail) == tail, size
         assert one(db, "uri_escape(?)", tail + " ") == tail + "%20", size
+        assert one(db, "uri_encode('segment', ?)", tail + "/") == tail + "%2F", size
+        assert one(db, "uri_decode(?)", tail + "%2F") == tail + "/" and one(db, "uri_decode(?)", tail + "%ff") is None, size
         assert one(db, "uri_equal(?1, ?2) AND uri_hash(?1) = uri_hash(?2) AND ?1 = ?2 COLLATE URI", "S:" + tail,
                    "s:%61" + tail[1:]) == 1, size
         assert one(db, "?1 < ?2 COLLATE URI AND NOT ?2 < ?1 COLLATE URI", "S:" + tail, "s:%61" + tail) == 1, size
@@ -164,11 +214,16 @@ def test_random(db: sqlite3.Connection, encoding: str) -> int:
         shown = text.decode("utf-8", "replace").encode()
         assert row == expected(shown), (text, row)
     pairs = zip(texts, texts[1:])
-    two = db.execute("SELECT uri_resolve(a.x, b.x), uri_equal(a.x, b.x) FROM random a JOIN random b ON b.rowid = a.rowid + 1 "
+    two = db.execute("SELECT uri_resolve(a.x, b.x), uri_relativize(a.x, b.x), uri_equal(a.x, b.x) FROM random a JOIN random b ON b.rowid = a.rowid + 1 "
                      "ORDER BY a.rowid")
-    for (target, is_equal), (left, right) in zip(two, pairs):
-        assert (target or "").encode() == (answer_of(uriparse.resolve, left, right) or b""), (left, right)
+    for (target, reference, is_equal), (left, right) in zip(two, pairs):
+        assert target == written(uriparse.resolve, left, right), (left, right)
+        assert reference == written(uriparse.relativize, left, right), (left, right)
         assert is_equal == answer_of(uriparse.equal, left, right), (left, right)
+    for component, kept in fuzz.KEPT.items():
+        found = db.execute("SELECT uri_encode(?1, x), uri_decode(uri_encode(?1, text)) IS CASE WHEN instr(text, char(0)) = 0 THEN text END "
+                           "FROM random ORDER BY rowid", (component,)).fetchall()
+        assert found == [(quote(text, safe=kept), 1) for text in texts], component
     return len(texts)
 
 
@@ -237,6 +292,15 @@ def test_indexes(db: sqlite3.Connection) -> None:
     assert valid == sorted(valid, reverse=True)
 
 
+def test_names() -> None:
+    """The extension loads under any file name."""
+    with tempfile.TemporaryDirectory() as folder:
+        for name in ("uri0.so", "mod_links.so", "3.so", "libsome.thing.so.1"):
+            path = os.path.join(folder, name)
+            shutil.copy(EXTENSION, path)
+            assert one(connect(extension=path), "uri_host('//h')") == "h", name
+
+
 def test_page() -> int:
     """The statements of README.md print what stands there, and its Python runs."""
     page = os.path.join(os.path.dirname(os.path.abspath(__file__)), "README.md")
@@ -263,6 +327,7 @@ def main() -> None:
         found: Optional[int] = None
         found = test_rows(db)
         test_errors(db)
+        test_components(db)
         test_texts(db)
         texts = test_random(db, encoding) if encoding != "UTF-16be" else 0
         pairs = test_order(db)
@@ -273,6 +338,7 @@ def main() -> None:
         counts.append("%s: %d rows, %d random texts, %d pairs of their queries, %d pairs in order" % (
             encoding, found, texts, of_queries, pairs))
         db.close()
+    test_names()
     counts.append("%d statements of README.md" % test_page())
     print("; ".join(counts))
 

@@ -2,6 +2,7 @@
 #include "sqlite3ext.h"
 SQLITE_EXTENSION_INIT1
 
+#include "kinds.h"
 #include "order.h"
 #include "pairs.h"
 #include "uriparse.h"
@@ -55,6 +56,14 @@ static void port(sqlite3_context *context, int count, sqlite3_value **values) {
   (void)count;
   if (read_reference(context, values[0], &text, &parts) && parts.port.end > parts.port.begin)
     sqlite3_result_int64(context, parts.port_number);
+}
+
+static void host_kind(sqlite3_context *context, int count, sqlite3_value **values) {
+  struct text text;
+  struct uriparse_parts parts;
+  (void)count;
+  if (read_reference(context, values[0], &text, &parts))
+    sqlite3_result_text(context, kinds_host(parts.host_kind), -1, SQLITE_STATIC);
 }
 
 static void valid(sqlite3_context *context, int count, sqlite3_value **values) {
@@ -123,6 +132,20 @@ static uint32_t write_target(const struct text *texts, char *out, size_t room, s
   return uriparse_resolve(texts[0].at, texts[0].len, texts[1].at, texts[1].len, out, room, needed);
 }
 
+static uint32_t write_relative(const struct text *texts, char *out, size_t room, size_t *needed) {
+  return uriparse_relativize(texts[0].at, texts[0].len, texts[1].at, texts[1].len, out, room, needed);
+}
+
+/* The text is rejected too if what it stands for isn't UTF-8, or has a zero byte. */
+static uint32_t write_decoded(const struct text *texts, char *out, size_t room, size_t *needed) {
+  uint32_t code = uriparse_decode(texts[0].at, texts[0].len, out, room, needed);
+  return code == URIPARSE_OK && !pairs_are_text(out, *needed) ? URIPARSE_QUERY_ESCAPE : code;
+}
+
+static uint32_t write_encoded(const struct text *texts, char *out, size_t room, size_t *needed) {
+  return uriparse_encode(kinds_component(texts[0].at, texts[0].len), texts[1].at, texts[1].len, out, room, needed);
+}
+
 static uint32_t write_escaped(const struct text *texts, char *out, size_t room, size_t *needed) {
   return uriparse_escape(texts[0].at, texts[0].len, out, room, needed);
 }
@@ -157,6 +180,24 @@ static void normalize(sqlite3_context *context, int count, sqlite3_value **value
 
 static void resolve(sqlite3_context *context, int count, sqlite3_value **values) {
   result_written(context, count, values, write_target);
+}
+
+static void relativize(sqlite3_context *context, int count, sqlite3_value **values) {
+  result_written(context, count, values, write_relative);
+}
+
+static void decode(sqlite3_context *context, int count, sqlite3_value **values) {
+  result_written(context, count, values, write_decoded);
+}
+
+/* An error if the first argument names no component. */
+static void encode(sqlite3_context *context, int count, sqlite3_value **values) {
+  struct text texts[2];
+  if (!read_text(context, values[0], &texts[0]) || !read_text(context, values[1], &texts[1])) return;
+  if (kinds_component(texts[0].at, texts[0].len))
+    result_written(context, count, values, write_encoded);
+  else
+    sqlite3_result_error(context, "uri_encode: the component must be " KINDS_ENCODED, -1);
 }
 
 static void escape(sqlite3_context *context, int count, sqlite3_value **values) {
@@ -311,7 +352,8 @@ static int collate(void *db, int left_len, const void *left, int right_len, cons
 }
 
 #define PLACE(name) offsetof(struct uriparse_parts, name)
-static const size_t PLACES[] = {PLACE(scheme), PLACE(authority), PLACE(host), PLACE(path), PLACE(query), PLACE(fragment)};
+static const size_t PLACES[] = {PLACE(scheme), PLACE(authority), PLACE(host), PLACE(path), PLACE(query), PLACE(fragment),
+                                PLACE(username), PLACE(password)};
 
 static const struct {
   const char *name;
@@ -327,6 +369,9 @@ static const struct {
   {"uri_normalize", 1, normalize, NULL},   {"uri_resolve", 2, resolve, NULL},
   {"uri_equal", 2, equal, NULL},           {"uri_hash", 1, hash, NULL},
   {"uri_escape", 1, escape, NULL},         {"uri_origin", 1, origin, NULL},
+  {"uri_username", 1, component, &PLACES[6]}, {"uri_password", 1, component, &PLACES[7]},
+  {"uri_host_kind", 1, host_kind, NULL},   {"uri_relativize", 2, relativize, NULL},
+  {"uri_decode", 1, decode, NULL},         {"uri_encode", 2, encode, NULL},
 };
 
 __attribute__((visibility("default")))
@@ -342,3 +387,13 @@ int sqlite3_uri_init(sqlite3 *db, char **message, const sqlite3_api_routines *ap
   if (code == SQLITE_OK) code = sqlite3_create_module_v2(db, "uri_pairs", &PAIRS, NULL, NULL);
   return code == SQLITE_OK ? sqlite3_create_collation_v2(db, "URI", SQLITE_UTF8, db, collate, NULL) : code;
 }
+
+#ifndef SQLITE_CORE
+/* SQLite calls this first, and by the file's name only if it isn't there: so the file may have any name. */
+__attribute__((visibility("default")))
+int sqlite3_extension_init(sqlite3 *db, char **message, const sqlite3_api_routines *api);
+
+int sqlite3_extension_init(sqlite3 *db, char **message, const sqlite3_api_routines *api) {
+  return sqlite3_uri_init(db, message, api);
+}
+#endif
