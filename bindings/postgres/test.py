@@ -12,7 +12,8 @@ import subprocess
 import sys
 import threading
 import time
-from typing import Any, List, Optional, Tuple
+from typing import Any, Callable, List, Optional, Tuple
+from urllib.parse import quote
 
 TOP = os.path.dirname(os.path.dirname(os.path.abspath(__file__)))
 sys.path[:0] = [os.path.join(TOP, "c"), os.path.join(TOP, "sqlite")]
@@ -24,7 +25,8 @@ import uriparse  # noqa: E402
 COUNT = int(sys.argv[1]) if len(sys.argv) > 1 else 20_000
 # What Python calls the encoding of a database that isn't UTF-8.
 CODECS = {"latin": "latin-1", "eucjp": "euc_jp"}
-ONE = ("valid", "fault", "scheme", "authority", "host", "port", "path", "query", "fragment", "normalize", "hash", "origin", "escape")
+ONE = ("valid", "fault", "scheme", "authority", "host", "port", "path", "query", "fragment", "normalize", "hash", "origin", "escape", "username",
+       "password", "host_kind")
 
 
 def psql(database: str, *commands: str, data: bytes = b"", check: bool = True) -> Tuple[List[List[Optional[str]]], str]:
@@ -69,16 +71,29 @@ def expected(database: str, text: bytes) -> List[Optional[str]]:
     escaped = uriparse.escape(text.decode(codec).encode() if codec else text)
     fault = uriparse.first_fault(text)
     if fault:
-        return ["f", shown(fault[1]), *[None] * 10, shown(escaped)]
+        return ["f", shown(fault[1]), *[None] * 10, shown(escaped), None, None, None]
     found = uriparse.parse(text)
     signed = struct.unpack("q", struct.pack("Q", uriparse.hash_of(text)))[0]
-    try:
-        origin: Optional[bytes] = uriparse.origin(text)
-    except uriparse.URIError:
-        origin = None
     values = (found.scheme, found.authority, found.host, found.port_number, found.path, found.query, found.fragment,
-              uriparse.normalize(text), signed, origin, escaped)
+              uriparse.normalize(text), signed, answer_of(uriparse.origin, text), escaped, *rows.authority_parts(text))
     return ["t", None, *map(shown, values)]
+
+
+def answer_of(call: Callable[..., Any], *texts: bytes) -> Any:
+    """What a call of the package returns, or None if it rejects a text."""
+    try:
+        return call(*texts)
+    except uriparse.URIError:
+        return None
+
+
+def decoded(database: str, text: bytes) -> Optional[bytes]:
+    """What the text of a component stands for, in the database's encoding, if that is a text there."""
+    found = rows.decoded(text)
+    try:
+        return found if found is None or database == "ascii" else found.decode().encode(CODECS.get(database, "utf-8"))
+    except UnicodeError:
+        return None
 
 
 def load(database: str, texts: List[bytes]) -> None:
@@ -95,6 +110,9 @@ def test_rows(database: str) -> str:
     wanted += [("uri_normalize(%s)" % quoted(text), normal) for text, normal in found["normal"]]
     wanted += [("uri_resolve(%s, %s)" % (quoted(base), quoted(text)), target)
                for base, text, target in found["target"] if not base.startswith("a")]
+    for base, text, reference in rows.related_rows():
+        wanted.append(("uri_relativize(%s, %s)" % (quoted(base), quoted(text)), reference))
+        wanted.append(("uri_relativize(uri %s, uri %s)" % (quoted(base), quoted(text)), reference))
     for left, right, is_equal in rows.program_rows():
         wanted.append(("uri_equal(%s, %s)" % (quoted(left), quoted(right)), "t" if is_equal else "f"))
         wanted.append(("uri %s = uri %s" % (quoted(left), quoted(right)), "t" if is_equal else "f"))
@@ -103,7 +121,7 @@ def test_rows(database: str) -> str:
     answers = psql(database, *("SELECT " + expression for expression, _ in wanted))[0]
     for (expression, answer), row in zip(wanted, answers):
         assert row == [answer], (expression, row, answer)
-    assert len(answers) == len(wanted) > 120
+    assert len(answers) == len(wanted) > 310
     return "rows: %d" % len(wanted)
 
 
@@ -112,23 +130,27 @@ def test_random(database: str, texts: List[bytes]) -> str:
     calls = ", ".join("uri_%s(x)" % name for name in ONE)
     for row, text in zip(psql(database, "SELECT %s FROM random ORDER BY at" % calls)[0], texts):
         assert row == expected(database, text), (text, row, expected(database, text))
-    two = psql(database, "SELECT uri_resolve(a.x, b.x), uri_equal(a.x, b.x) FROM random a JOIN random b ON b.at = a.at + 1 "
-               "ORDER BY a.at")[0]
+    two = psql(database, "SELECT uri_resolve(a.x, b.x), uri_relativize(a.x, b.x), uri_equal(a.x, b.x) FROM random a "
+               "JOIN random b ON b.at = a.at + 1 ORDER BY a.at")[0]
     for row, left, right in zip(two, texts, texts[1:]):
-        try:
-            is_equal: Optional[bool] = uriparse.equal(left, right)
-        except uriparse.URIError:
-            is_equal = None
-        try:
-            target: Optional[bytes] = uriparse.resolve(left, right)
-        except uriparse.URIError:
-            target = None
-        assert row == [shown(target), {True: "t", False: "f", None: None}[is_equal]], (left, right, row)
+        written = [shown(answer_of(call, left, right)) for call in (uriparse.resolve, uriparse.relativize)]
+        is_equal = answer_of(uriparse.equal, left, right)
+        assert row == [*written, {True: "t", False: "f", None: None}[is_equal]], (left, right, row)
+    encodes = ", ".join("uri_encode('%s', x)" % component for component in fuzz.KEPT)
+    # Texts that are decoded may have tabs: their sums are compared.
+    found = psql(database, "SELECT md5(uri_decode(x)), uri_decode(uri_encode('query', x)) = x, %s FROM random ORDER BY at" % encodes)[0]
+    for row, text in zip(found, texts):
+        sum_of = decoded(database, text)
+        utf8 = text.decode(CODECS[database]).encode() if database in CODECS else text
+        assert row == [sum_of if sum_of is None else hashlib.md5(sum_of).hexdigest(), "t",
+                       *(quote(utf8, safe=kept) for kept in fuzz.KEPT.values())], (database, text, row)
     # The functions of the type, and the plan in parallel, answer the same.
-    of_text = psql(database, "SELECT md5(string_agg(concat_ws(' ', uri_host(x), uri_path(x), uri_hash(x)), ',' ORDER BY at)) "
+    of_text = psql(database, "SELECT md5(string_agg(concat_ws(' ', uri_host(x), uri_path(x), uri_hash(x), uri_username(x), "
+                   "uri_password(x), uri_host_kind(x)), ',' ORDER BY at)) "
                    "FROM random WHERE uri_valid(x)")[0]
     of_type = psql(database, "SET force_parallel_mode = on; SET parallel_setup_cost = 0; SET parallel_tuple_cost = 0",
-                   "SELECT md5(string_agg(concat_ws(' ', uri_host(x::uri), uri_path(x::uri), uri_hash(x::uri)), ',' ORDER BY at)) "
+                   "SELECT md5(string_agg(concat_ws(' ', uri_host(x::uri), uri_path(x::uri), uri_hash(x::uri), uri_username(x::uri), "
+                   "uri_password(x::uri), uri_host_kind(x::uri)), ',' ORDER BY at)) "
                    "FROM random WHERE uri_valid(x)")[0]
     assert of_text == of_type
     return "random texts in %s: %d" % (database, len(texts))
@@ -144,13 +166,28 @@ def test_encodings() -> str:
             ("eucjp", "\u00e9", "%C3%A9"), ("eucjp", "a b", "a%20b"), ("eucjp", "", "")):
         assert one(database, "uri_escape(convert_from('\\x%s', 'UTF8'))" % spelled.encode().hex()) == escaped, (database, spelled)
         assert one(database, "uri_valid(uri_escape(convert_from('\\x%s', 'UTF8')))" % spelled.encode().hex()) == "t"
+        assert one(database, "uri_encode('fragment', convert_from('\\x%s', 'UTF8'))" % spelled.encode().hex()) == quote(
+            spelled, safe=fuzz.KEPT["fragment"]), (database, spelled)
         count += 1
+    # A character that the encoding doesn't have can't be decoded.
+    for database, text, answer in (
+            ("utf8", "%F0%9F%98%80%E6%97%A5", "f09f9880e697a5"), ("utf8", "%E6%97", None), ("utf8", "%C0%80", None), ("utf8", "a%00", None),
+            ("latin", "%C3%A9+a%20b", "e92b612062"), ("latin", "%E6%97%A5", None), ("latin", "%E9", None), ("eucjp", "%E6%97%A5", "c6fc"),
+            ("eucjp", "a%2F%E6%97%A5", "612fc6fc"), ("eucjp", "%F0%9F%98%80", None), ("eucjp", "%C6%FC", None), ("ascii", "%C6%FC", "c6fc"),
+            ("ascii", "%00", None), ("latin", "", ""), ("latin", "%2", None), ("latin", "a b", None), ("eucjp", "[", None)):
+        assert one(database, "encode(uri_decode('%s')::bytea, 'hex')" % text if database != "utf8" else
+                   "encode(convert_to(uri_decode('%s'), 'UTF8'), 'hex')" % text) == answer, (database, text)
+        count += 1
+    assert error_of("utf8", "SELECT uri_encode('host', 'a')") == (
+        "ERROR:  22023: uri_encode: the component must be username, password, segment, query or fragment")
     assert one("latin", "uri_escape(chr(233))") == "%C3%A9" and one("ascii", "uri_escape(chr(233))") == "%E9"
     assert one("eucjp", "uri_escape(convert_from('\\xc6fc', 'EUC_JP'))") == "%E6%97%A5"
     for database, spelled, size in (("latin", "\u00e9", 2), ("eucjp", "\u65e5", 3)):
         for length in (512 // size, 513, 2_000_000):
             assert one(database, "uri_escape(repeat(convert_from('\\x%s', 'UTF8'), %d)) = repeat('%s', %d)" % (
                 spelled.encode().hex(), length, uriparse.escape(spelled.encode()).decode(), length)) == "t", (database, length)
+            assert one(database, "uri_decode(repeat('%s', %d)) = repeat(convert_from('\\x%s', 'UTF8'), %d)" % (
+                quote(spelled), length, spelled.encode().hex(), length)) == "t", (database, length)
             count += 1
     return "escapes of UTF-8 in four encodings: %d" % count
 
@@ -181,7 +218,6 @@ def test_type() -> str:
         "ERROR:  22P02: invalid input syntax for type uri: invalid byte in the path / DETAIL:  First wrong byte: 10.")
     assert error_of("utf8", "SELECT uri_check('%')").endswith("DETAIL:  First wrong byte: 0.")
     assert error_of("utf8", "SELECT ('http://h/' || chr(252))::uri").endswith("First wrong byte: 9.")
-    assert error_of("utf8", "SELECT uri 'a' = text 'a'").startswith("ERROR:  42883"), "no silent comparison of bytes"
     psql("utf8", "CREATE TABLE ids (url uri PRIMARY KEY, note text)", "INSERT INTO ids VALUES ('HTTP://h/%7e', 'kept')")
     assert error_of("utf8", "INSERT INTO ids VALUES ('http://H:/~')").startswith("ERROR:  23505")
     assert error_of("utf8", "INSERT INTO ids VALUES ('a b')").startswith("ERROR:  22P02")
@@ -193,7 +229,9 @@ def test_type() -> str:
     assert one("utf8", "pg_typeof(uri_resolve(uri 'http://a/b', uri 'c'))::text || uri_resolve(uri 'http://a/b', uri 'c')::text") == (
         "urihttp://a/c")
     nulls = ", ".join("uri_%s(NULL::text)" % name for name in (*ONE, "check"))
-    assert psql("utf8", "SELECT " + nulls)[0] == [[None] * 14]
+    assert psql("utf8", "SELECT " + nulls)[0] == [[None] * (len(ONE) + 1)]
+    psql("utf8", "INSERT INTO ids VALUES ('http://h/varying'::varchar(20))", "DELETE FROM ids WHERE url = 'http://h/varying'::varchar")
+    assert error_of("utf8", "INSERT INTO ids VALUES ('a b'::varchar)").startswith("ERROR:  22P02")
     assert one("utf8", "count(*) FROM pg_proc WHERE proname ~ '^uri' AND NOT (proisstrict AND provolatile = 'i' "
                "AND proparallel = 's')") == "0"
     # Binary copies come in again, and are checked.
@@ -203,6 +241,93 @@ def test_type() -> str:
     wrong = psql("utf8", "COPY again FROM STDIN (FORMAT binary)", data=copied.replace(b"%7e", b"%7 "), check=False)[1]
     assert "22P02" in wrong and "First wrong byte: 9." in wrong, wrong
     return "type: casts, keys, binary copies and errors"
+
+
+def test_overloads() -> str:
+    """Calls and comparisons of a text and a value, of literals, and of other strings find one function."""
+    psql("utf8", "CREATE TABLE two (u uri, t text, v varchar, n name)",
+         "INSERT INTO two VALUES ('http://a/b', 'http://a/b', 'http://a/b', 'http://a/b')")
+    columns = ("u", "t", "v", "n", "'http://a/b'", "NULL")
+    pairs = [(left, right) for left in columns for right in columns]
+    wanted: List[Tuple[str, Optional[str]]] = []
+    for name, answer in (("resolve", "http://a/b"), ("relativize", "")):
+        for pair in pairs:
+            call = "uri_%s(%s, %s)" % (name, *pair)
+            wanted += [("pg_typeof(%s)" % call, "uri" if "u" in pair else "text"), (call, None if "NULL" in pair else answer)]
+    for name in ("scheme", "host", "path", "origin", "hash", "username", "host_kind", "normalize"):
+        for column in columns:
+            kind = "bigint" if name == "hash" else "uri" if name == "normalize" and column == "u" else "text"
+            wanted.append(("pg_typeof(uri_%s(%s))" % (name, column), kind))
+    for operator in ("=", "<>", "<", "<=", ">", ">="):
+        wanted += [("%s %s %s" % (left, operator, right), None if "NULL" in (left, right) else "t" if "=" in operator else "f")
+                   for left, right in pairs]
+    wanted += [("uri_cmp('a', 'b')", "-1"), ("uri_lt('a', 'b')", "t"), ("uri_eq('a', 'a')", "t"), ("min('a')", "a"), ("min(u)", "http://a/b"),
+               ("max(t)", "http://a/b"), ("min(v)", "http://a/b"), ("max(n)", "http://a/b"), ("pg_typeof(min(u))", "uri"),
+               ("pg_typeof(max(v))", "text"), ("uri_or_null(max(t))", "http://a/b"), ("max(uri_or_null('a b'))", None),
+               ("max(u) FILTER (WHERE false)", None), ("uri_resolve(u, 'a b')", None), ("uri_relativize('a b', u)", None),
+               ("u = ANY(ARRAY['a b', 'HTTP://a/b'])", "t"), ("u = ANY(ARRAY['a b', 'HTTP://a/b']::varchar[])", "t"),
+               ("u IN ('a', 'HTTP://a/b')", "t"), ("u IN (t, v)", "t"), ("u NOT IN (SELECT t FROM two)", "f")]
+    for text, answer in (("HTTP://A/%62", "t"), ("http://a/c", "f"), ("a b", None), ("%", None), ("", "f")):
+        wanted += [(expression % text, answer) for expression in ("u = text '%s'", "text '%s' = u", "u = '%s'::varchar", "NOT u <> text '%s'")]
+    answers = psql("utf8", *("SELECT %s FROM two" % expression for expression, _ in wanted))[0]
+    for (expression, answer), row in zip(wanted, answers):
+        assert row == [answer], (expression, row, answer)
+    assert len(answers) == len(wanted) > 400
+    return "calls and comparisons of texts and values: %d" % len(wanted)
+
+
+def test_joins() -> str:
+    """Comparisons with texts use the indexes and the joins of the type, and skip the texts that are no references."""
+    for query, word in (("SELECT * FROM valid WHERE x = text 's:'", "Index Cond"), ("SELECT * FROM valid WHERE text 's:' = x", "Index Cond"),
+                        ("SELECT * FROM valid WHERE x < 's:'::varchar", "by_order"), ("SELECT min(x) FROM valid", "Index Only Scan"),
+                        ("SELECT max(x) FROM valid", "Backward")):
+        plan = str(psql("ascii", "SET enable_seqscan = off; SET enable_bitmapscan = off", "EXPLAIN " + query)[0])
+        assert word in plan, (query, plan)
+    wanted = psql("ascii", "SELECT count(*), sum(a.at), sum(b.at) FROM few a JOIN random b ON uri_equal(a.x::text, b.x)")[0]
+    assert int(wanted[0][0] or 0) > 1000, wanted
+    for kind in ("hashjoin", "mergejoin"):
+        off = "; ".join("SET enable_%s = %s" % (name, "on" if name == kind else "off") for name in ("hashjoin", "mergejoin", "nestloop"))
+        for clause in ("a.x = b.x", "b.x = a.x"):
+            query = "FROM few a JOIN random b ON " + clause
+            plan = str(psql("ascii", off, "EXPLAIN SELECT count(*) " + query)[0])
+            assert {"hashjoin": "Hash Join", "mergejoin": "Merge Join"}[kind] in plan, plan
+            assert psql("ascii", off, "SELECT count(*), sum(a.at), sum(b.at) " + query)[0] == wanted, kind
+    row = psql("ascii", "SELECT count(*) FILTER (WHERE (a.x < b.x) IS DISTINCT FROM (a.x < b.x::text) OR (a.x > b.x) IS DISTINCT FROM "
+               "(a.x::text > b.x) OR (a.x <= b.x) IS DISTINCT FROM (a.x::text <= b.x) OR (a.x >= b.x) IS DISTINCT FROM (a.x >= b.x::text) "
+               "OR (a.x <> b.x) IS DISTINCT FROM (a.x::text <> b.x)) FROM few a, few b")[0]
+    assert row == [["0"]], row
+    row = psql("ascii", "SELECT min(x) = (SELECT x FROM few ORDER BY x LIMIT 1), max(x) = (SELECT x FROM few ORDER BY x DESC LIMIT 1) FROM few",
+               "SELECT bool_and(low = (SELECT min(x) FROM few b WHERE b.at % 7 = a.part)) FROM (SELECT at % 7 AS part, min(x) AS low FROM few "
+               "GROUP BY at % 7) a", "SET force_parallel_mode = on", "SELECT min(x) = (SELECT x FROM few ORDER BY x LIMIT 1) FROM few")[0]
+    assert row == [["t", "t"], ["t"], ["t"]], row
+    return "indexes, joins, min and max of texts and values"
+
+
+def test_update() -> str:
+    """A database with version 1.0 gets what a new one has. A role that isn't a superuser may do both."""
+    members = ("SELECT pg_describe_object(classid, objid, 0) FROM pg_depend WHERE refclassid = 'pg_extension'::regclass AND deptype = 'e' "
+               "AND refobjid = (SELECT oid FROM pg_extension WHERE extname = 'uri') ORDER BY 1")
+    psql("postgres", "CREATE ROLE plain", "CREATE DATABASE old OWNER plain TEMPLATE template0 ENCODING 'UTF8'",
+         "CREATE DATABASE fresh OWNER plain TEMPLATE template0 ENCODING 'UTF8'")
+    psql("fresh", "SET ROLE plain", "CREATE EXTENSION uri")
+    for is_built_later in (False, True):
+        psql("old", "SET ROLE plain", "CREATE EXTENSION uri VERSION '1.0'", "CREATE TABLE ids (url uri PRIMARY KEY)",
+             "INSERT INTO ids VALUES ('HTTP://h/%7e'), ('s:')")
+        assert error_of("old", "SELECT uri_origin('http://h')").startswith("ERROR:  42883")
+        if is_built_later:
+            psql("old", *("CREATE FUNCTION uri_origin(%s) RETURNS text AS '$libdir/uri' LANGUAGE C IMMUTABLE STRICT PARALLEL SAFE" % kind
+                          for kind in ("text", "uri")), *("ALTER EXTENSION uri ADD FUNCTION uri_origin(%s)" % kind for kind in ("text", "uri")))
+        psql("old", "SET ROLE plain", "ALTER EXTENSION uri UPDATE")
+        assert psql("old", members)[0] == psql("fresh", members)[0] and len(psql("old", members)[0]) > 80
+        assert psql("old", "SELECT extversion FROM pg_extension WHERE extname = 'uri'", "SELECT url FROM ids WHERE url = text 'http://H/~'",
+                    "SELECT uri_origin(url) FROM ids WHERE uri_host_kind(url) = 'name'", "SELECT max(url) FROM ids")[0] == [
+                        ["1.1"], ["HTTP://h/%7e"], ["http://h"], ["s:"]]
+        psql("old", "SET ROLE plain", "DROP EXTENSION uri CASCADE", "DROP TABLE ids")
+    # Each function of the extension but the two aggregates.
+    assert one("fresh", "count(*) FROM pg_proc p JOIN pg_depend d ON d.classid = 'pg_proc'::regclass AND d.objid = p.oid AND d.deptype = 'e' "
+               "JOIN pg_extension e ON e.oid = d.refobjid AND e.extname = 'uri' WHERE NOT (p.proisstrict AND p.provolatile = 'i' AND "
+               "p.proparallel = 's')") == "2"
+    return "an update from 1.0, by a role that is no superuser"
 
 
 def test_order() -> str:
@@ -242,14 +367,25 @@ def test_long() -> str:
         psql("utf8", "DROP TABLE IF EXISTS long", "CREATE TABLE long AS SELECT repeat('a', %d) AS x" % size)
         row = psql("utf8", "SELECT uri_path('S:/' || x) = '/' || x, uri_normalize('S:/%61/../' || x) = 's:/' || x, "
                    "uri_resolve('http://h/', x) = 'http://h/' || x, uri_escape(x || ' ') = x || '%20', uri_fault(x || ' ') = length(x), "
+                   "uri_relativize('http://h/x', 'http://h/' || x) = x, uri_encode('segment', x || '/') = x || '%2F', "
+                   "uri_decode(x || '%2F') = x || '/', uri_decode(x || '%ff') IS NULL, "
                    "('S:' || x)::uri = ('s:%61' || substr(x, 2))::uri, uri_cmp(('S:' || x)::uri, ('s:%61' || substr(x, 2))::uri) = 0, "
                    "('S:' || x)::uri < ('s:' || x || 'a')::uri FROM long")[0]
-        assert row == [["t"] * 8], (size, row)
+        assert row == [["t"] * 12], (size, row)
     # Stored compressed, and out of line.
     psql("utf8", "CREATE TABLE stored (x uri)",
          "INSERT INTO stored SELECT ('s:' || repeat('ab', n))::uri FROM generate_series(1, 9000, 900) n",
          "INSERT INTO stored SELECT x FROM stored")
     assert one("utf8", "count(*) FROM (SELECT DISTINCT x FROM stored) d") == "10"
+    assert psql("utf8", "SELECT length(min(x)::text), length(max(x)::text) FROM stored")[0] == [["4", "16204"]]
+    # An entry of a btree has at most 2,704 bytes; a hash index has no such limit, also as a constraint.
+    psql("utf8", "CREATE TABLE limits (x uri)", "CREATE INDEX ON limits (x)",
+         "CREATE TABLE unlimited (x uri, EXCLUDE USING hash (x WITH =))")
+    spelled = "('s:' || (SELECT string_agg(md5(n::text), '') FROM generate_series(1, %d) n))::uri"
+    psql("utf8", "INSERT INTO limits VALUES (%s)" % spelled % 84)
+    assert error_of("utf8", "INSERT INTO limits VALUES (%s)" % spelled % 85).startswith("ERROR:  54000: index row size")
+    psql("utf8", "INSERT INTO unlimited VALUES (%s)" % spelled % 9000)
+    assert error_of("utf8", "INSERT INTO unlimited SELECT replace(x::text, 's:', 'S:')::uri FROM unlimited").startswith("ERROR:  23P01")
     return "texts of 0 to 10,000,000 bytes"
 
 
@@ -288,7 +424,7 @@ def test_page() -> str:
     statements = rows.page_statements(os.path.join(os.path.dirname(os.path.abspath(__file__)), "README.md"))
     for statement, wanted in statements:
         found, errors = psql("page", statement, check=False)
-        lines = ["|".join("NULL" if field is None else field for field in row) for row in found]
+        lines = ["|".join("NULL" if field is None else field for field in row).encode("latin-1").decode() for row in found]
         lines += ["error: " + text for text in re.findall("^ERROR:  [0-9A-Z]{5}: (.*)$", errors, re.MULTILINE)]
         assert lines == wanted, (statement, lines, errors, wanted)
     return "README.md: %d statements" % len(statements)
@@ -307,7 +443,8 @@ def main() -> None:
                            ("latin", texts[:2000]), ("eucjp", [text.decode("latin-1").encode("euc_jp", "ignore") for text in texts[:2000]])):
         print(test_random(database, some))
         print(test_pairs(database, some))
-    for found in (test_page(), test_encodings(), test_type(), test_order(), test_long(), test_cancelled()):
+    for found in (test_page(), test_encodings(), test_type(), test_overloads(), test_order(), test_joins(), test_update(), test_long(),
+                  test_cancelled()):
         print(found)
     psql("utf8", "DROP EXTENSION uri CASCADE")
 

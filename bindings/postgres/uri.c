@@ -4,13 +4,16 @@
 #include "postgres.h"
 
 #include "access/htup_details.h"
+#include "catalog/namespace.h"
 #include "common/hashfn.h"
 #include "fmgr.h"
 #include "funcapi.h"
 #include "libpq/pqformat.h"
 #include "mb/pg_wchar.h"
 #include "utils/builtins.h"
+#include "utils/memutils.h"
 
+#include "kinds.h"
 #include "order.h"
 #include "pairs.h"
 #include "uriparse.h"
@@ -76,6 +79,8 @@ demand_reference(const char *at, size_t len)
 
 COMPONENT(scheme)
 COMPONENT(authority)
+COMPONENT(username)
+COMPONENT(password)
 COMPONENT(host)
 COMPONENT(path)
 COMPONENT(query)
@@ -90,6 +95,18 @@ uri_port(PG_FUNCTION_ARGS)
 	if (!is_reference(argument(fcinfo, 0), &parts) || parts.port.begin == parts.port.end)
 		PG_RETURN_NULL();
 	PG_RETURN_INT32(parts.port_number);
+}
+
+PG_FUNCTION_INFO_V1(uri_host_kind);
+Datum
+uri_host_kind(PG_FUNCTION_ARGS)
+{
+	struct uriparse_parts parts;
+	const char *kind = is_reference(argument(fcinfo, 0), &parts) ? kinds_host(parts.host_kind) : NULL;
+
+	if (!kind)
+		PG_RETURN_NULL();
+	PG_RETURN_TEXT_P(cstring_to_text(kind));
 }
 
 PG_FUNCTION_INFO_V1(uri_valid);
@@ -152,6 +169,18 @@ static uint32_t
 write_target(const struct bytes *texts, char *out, size_t room, size_t *needed)
 {
 	return uriparse_resolve(texts[0].at, texts[0].len, texts[1].at, texts[1].len, out, room, needed);
+}
+
+static uint32_t
+write_relative(const struct bytes *texts, char *out, size_t room, size_t *needed)
+{
+	return uriparse_relativize(texts[0].at, texts[0].len, texts[1].at, texts[1].len, out, room, needed);
+}
+
+static uint32_t
+write_encoded(const struct bytes *texts, char *out, size_t room, size_t *needed)
+{
+	return uriparse_encode(kinds_component(texts[0].at, texts[0].len), texts[1].at, texts[1].len, out, room, needed);
 }
 
 static uint32_t
@@ -226,6 +255,13 @@ uri_resolve(PG_FUNCTION_ARGS)
 	return written(fcinfo, write_target);
 }
 
+PG_FUNCTION_INFO_V1(uri_relativize);
+Datum
+uri_relativize(PG_FUNCTION_ARGS)
+{
+	return written(fcinfo, write_relative);
+}
+
 PG_FUNCTION_INFO_V1(uri_escape);
 Datum
 uri_escape(PG_FUNCTION_ARGS)
@@ -233,6 +269,64 @@ uri_escape(PG_FUNCTION_ARGS)
 	struct bytes text = in_utf8(argument(fcinfo, 0));
 
 	return written_of(fcinfo, write_escaped, &text);
+}
+
+/* An error if the first argument names no component. */
+PG_FUNCTION_INFO_V1(uri_encode);
+Datum
+uri_encode(PG_FUNCTION_ARGS)
+{
+	struct bytes texts[2] = {argument(fcinfo, 0), in_utf8(argument(fcinfo, 1))};
+
+	if (!kinds_component(texts[0].at, texts[0].len))
+		ereport(ERROR,
+				(errcode(ERRCODE_INVALID_PARAMETER_VALUE),
+				 errmsg("uri_encode: the component must be " KINDS_ENCODED)));
+	return written_of(fcinfo, write_encoded, texts);
+}
+
+/* Of bytes without a zero byte: the text in the database's encoding that they are in UTF-8, or NULL if there is none. */
+static text *
+from_utf8(const char *at, size_t len)
+{
+	int			encoding = GetDatabaseEncoding();
+	Oid			conversion;
+	unsigned char *out;
+	size_t		room;
+
+	if (encoding != PG_SQL_ASCII && !pairs_are_text(at, len))
+		return NULL;
+	if (encoding == PG_UTF8 || encoding == PG_SQL_ASCII || pairs_are_ascii(at, len))
+		return cstring_to_text_with_len(at, len);
+	conversion = FindDefaultConversionProc(PG_UTF8, encoding);
+	if (!OidIsValid(conversion))
+		return NULL;
+	if (len >= INT_MAX / MAX_CONVERSION_GROWTH)
+		ereport(ERROR,
+				(errcode(ERRCODE_PROGRAM_LIMIT_EXCEEDED),
+				 errmsg("string of %zu bytes is too long for encoding conversion", len)));
+	room = len * MAX_CONVERSION_GROWTH + 1;
+	out = MemoryContextAllocHuge(CurrentMemoryContext, room);
+	if ((size_t) pg_do_encoding_conversion_buf(conversion, PG_UTF8, encoding, (unsigned char *) at, (int) len, out, (int) room, true) < len)
+		return NULL;
+	return cstring_to_text((char *) out);
+}
+
+/* What the text of a component stands for. NULL if it is none, or if that is no text of this database. */
+PG_FUNCTION_INFO_V1(uri_decode);
+Datum
+uri_decode(PG_FUNCTION_ARGS)
+{
+	struct bytes text = argument(fcinfo, 0);
+	char	   *out = palloc(text.len + 1);
+	struct varlena *result = NULL;
+	size_t		len;
+
+	if (uriparse_decode(text.at, text.len, out, text.len, &len) == URIPARSE_OK && !memchr(out, 0, len))
+		result = from_utf8(out, len);
+	if (!result)
+		PG_RETURN_NULL();
+	PG_RETURN_TEXT_P(result);
 }
 
 PG_FUNCTION_INFO_V1(uri_origin);
@@ -353,6 +447,18 @@ uri_check(PG_FUNCTION_ARGS)
 	PG_RETURN_DATUM(PG_GETARG_DATUM(0));
 }
 
+/* The text itself, if it is a reference; else NULL. */
+PG_FUNCTION_INFO_V1(uri_or_null);
+Datum
+uri_or_null(PG_FUNCTION_ARGS)
+{
+	struct uriparse_parts parts;
+
+	if (!is_reference(argument(fcinfo, 0), &parts))
+		PG_RETURN_NULL();
+	PG_RETURN_DATUM(PG_GETARG_DATUM(0));
+}
+
 static void *
 allocate(size_t size)
 {
@@ -379,13 +485,17 @@ compare_references(const struct bytes *texts)
 
 /* The sign of the order of two values. Equal texts are equal. */
 static int
+compare_values(const struct bytes *texts)
+{
+	return order_bytes(texts[0].at, texts[0].len, texts[1].at, texts[1].len) ? compare_references(texts) : 0;
+}
+
+static int
 compare(FunctionCallInfo fcinfo)
 {
 	struct bytes texts[2] = {argument(fcinfo, 0), argument(fcinfo, 1)};
-	int			order = order_bytes(texts[0].at, texts[0].len, texts[1].at, texts[1].len);
+	int			order = compare_values(texts);
 
-	if (order)
-		order = compare_references(texts);
 	release(fcinfo, 0, texts[0]);
 	release(fcinfo, 1, texts[1]);
 	return order;
@@ -400,6 +510,19 @@ COMPARISON(lt, BOOL, order < 0)
 COMPARISON(le, BOOL, order <= 0)
 COMPARISON(gt, BOOL, order > 0)
 COMPARISON(ge, BOOL, order >= 0)
+
+/* For min and max. Of equal values they return the second. */
+#define CHOICE(name, is_first) \
+	PG_FUNCTION_INFO_V1(uri_##name); \
+	Datum uri_##name(PG_FUNCTION_ARGS) \
+	{ \
+		struct bytes texts[2] = {argument(fcinfo, 0), argument(fcinfo, 1)}; \
+		int order = compare_values(texts); \
+		PG_RETURN_TEXT_P(texts[(is_first) ? 0 : 1].value); \
+	}
+
+CHOICE(smaller, order < 0)
+CHOICE(larger, order > 0)
 
 static bool
 are_equal(FunctionCallInfo fcinfo)
