@@ -24,7 +24,8 @@ import uriparse  # noqa: E402
 COUNT = int(sys.argv[1]) if len(sys.argv) > 1 else 20_000
 # What Python calls the encoding of a database that isn't UTF-8.
 CODECS = {"latin": "latin-1", "eucjp": "euc_jp"}
-ONE = ("valid", "fault", "scheme", "authority", "host", "port", "path", "query", "fragment", "normalize", "hash", "origin", "escape")
+ONE = ("valid", "fault", "scheme", "authority", "host", "port", "path", "query", "fragment", "normalize", "hash", "origin", "escape",
+       "username", "password", "host_kind")
 
 
 def psql(database: str, *commands: str, data: bytes = b"", check: bool = True) -> Tuple[List[List[Optional[str]]], str]:
@@ -69,7 +70,7 @@ def expected(database: str, text: bytes) -> List[Optional[str]]:
     escaped = uriparse.escape(text.decode(codec).encode() if codec else text)
     fault = uriparse.first_fault(text)
     if fault:
-        return ["f", shown(fault[1]), *[None] * 10, shown(escaped)]
+        return ["f", shown(fault[1]), *[None] * 10, shown(escaped), None, None, None]
     found = uriparse.parse(text)
     signed = struct.unpack("q", struct.pack("Q", uriparse.hash_of(text)))[0]
     try:
@@ -77,7 +78,7 @@ def expected(database: str, text: bytes) -> List[Optional[str]]:
     except uriparse.URIError:
         origin = None
     values = (found.scheme, found.authority, found.host, found.port_number, found.path, found.query, found.fragment,
-              uriparse.normalize(text), signed, origin, escaped)
+              uriparse.normalize(text), signed, origin, escaped, found.username, found.password, found.host_kind)
     return ["t", None, *map(shown, values)]
 
 
@@ -100,6 +101,14 @@ def test_rows(database: str) -> str:
         wanted.append(("uri %s = uri %s" % (quoted(left), quoted(right)), "t" if is_equal else "f"))
     wanted += [("uri_origin(%s)" % quoted(text), None) for text in ("file:///a", "http:///a", "http://", "https://u@:443/a")]
     wanted += [("uri_origin(%s)" % quoted(text), "http://1.2.3.4") for text in ("http://%31.2.3.4", "http://1.2.3.4")]
+    wanted += [
+        ("uri_replace('HTTP://u:p@h:8080/%7Ea?q#f', 'host', 'example.org')", "HTTP://u:p@example.org:8080/%7Ea?q#f"),
+        ("uri_replace('HTTP://u:p@h/a', 'username', NULL)", "HTTP://h/a"), ("uri_replace('//h', 'port', '80')", "//h:80"),
+        ("uri_replace('a', 'port', '80')", None), ("uri_replace(NULL::text, 'port', '80')", None), ("uri_replace('a', NULL, '80')", None),
+        ("uri_replace(uri 's:a', 'path', %s)" % quoted("b" * 5000), "s:" + "b" * 5000), ("uri_replace(uri 's:a:b', 'scheme', NULL)", None),
+        ("uri_relativize('http://a/b/c', 'http://a/g#s')", "../g#s"), ("uri_relativize(uri 's:a', uri '/b')", None),
+        ("uri_encode('segment', 'a/b c')", "a%2Fb%20c"), ("uri_encode('query', '\\xff26'::bytea)", "%FF&"),
+        ("uri_decode('a%20%ff')", "\\x6120ff"), ("uri_decode('%')", None), ("uri_host_kind(uri '//[::1]')", "ipv6")]
     answers = psql(database, *("SELECT " + expression for expression, _ in wanted))[0]
     for (expression, answer), row in zip(wanted, answers):
         assert row == [answer], (expression, row, answer)
@@ -193,8 +202,8 @@ def test_type() -> str:
     assert one("utf8", "pg_typeof(uri_resolve(uri 'http://a/b', uri 'c'))::text || uri_resolve(uri 'http://a/b', uri 'c')::text") == (
         "urihttp://a/c")
     nulls = ", ".join("uri_%s(NULL::text)" % name for name in (*ONE, "check"))
-    assert psql("utf8", "SELECT " + nulls)[0] == [[None] * 14]
-    assert one("utf8", "count(*) FROM pg_proc WHERE proname ~ '^uri' AND NOT (proisstrict AND provolatile = 'i' "
+    assert psql("utf8", "SELECT " + nulls)[0] == [[None] * 17]
+    assert one("utf8", "count(*) FROM pg_proc WHERE proname ~ '^uri' AND NOT (proisstrict = (proname <> 'uri_replace') AND provolatile = 'i' "
                "AND proparallel = 's')") == "0"
     # Binary copies come in again, and are checked.
     copied = run("utf8", "COPY ids TO STDOUT (FORMAT binary)")

@@ -19,7 +19,8 @@ import fuzz  # noqa: E402
 import rows  # noqa: E402
 import uriparse  # noqa: E402
 
-ONE = ("valid", "fault", "scheme", "authority", "host", "port", "path", "query", "fragment", "normalize", "hash", "origin", "escape")
+ONE = ("valid", "fault", "scheme", "authority", "host", "port", "path", "query", "fragment", "normalize", "hash", "origin", "escape",
+       "username", "password", "host_kind")
 EXTENSION = os.path.abspath(sys.argv[1])
 COUNT = int(sys.argv[2]) if len(sys.argv) > 2 else 100_000
 
@@ -56,13 +57,14 @@ def expected(text: bytes) -> Tuple[Any, ...]:
     escaped = uriparse.escape(text).decode()
     fault = uriparse.first_fault(text)
     if fault:
-        return (0, fault[1], *[None] * 10, escaped)
+        return (0, fault[1], *[None] * 10, escaped, None, None, None)
     found = uriparse.parse(text)
     parts = [part if part is None else part.decode() for part in (
         found.scheme, found.authority, found.host, found.path, found.query, found.fragment)]
     parts.insert(3, found.port_number)  # type: ignore[arg-type]
     signed = struct.unpack("q", struct.pack("Q", uriparse.hash_of(text)))[0]
-    return (1, None, *parts, uriparse.normalize(text).decode(), signed, shown_origin(text), escaped)
+    user = [part if part is None else part.decode() for part in (found.username, found.password)]
+    return (1, None, *parts, uriparse.normalize(text).decode(), signed, shown_origin(text), escaped, *user, found.host_kind)
 
 
 def test_rows(db: sqlite3.Connection) -> int:
@@ -100,6 +102,36 @@ def test_errors(db: sqlite3.Connection) -> None:
         assert one(db, "uri_origin(?)", text) is None, text
     assert one(db, "uri_origin('http://%31.2.3.4')") == one(db, "uri_origin('http://1.2.3.4')") == "http://1.2.3.4"
     assert one(db, "uri_port('//h:')") is None and one(db, "uri_host('//')") == "" and one(db, "uri_path(12)") == "12"
+
+
+def test_changes(db: sqlite3.Connection) -> int:
+    """Components that are replaced, encoded and decoded, beside the package."""
+    draw, count = random.Random(5), 0
+    assert one(db, "uri_replace('HTTP://u:p@h:8080/%7Ea?q#f', 'host', 'example.org')") == "HTTP://u:p@example.org:8080/%7Ea?q#f"
+    assert one(db, "uri_replace('HTTP://u:p@h/a', 'username', NULL)") == "HTTP://h/a"
+    assert one(db, "uri_replace('//h', 'port', 80)") == "//h:80" and one(db, "uri_replace('a', 'port', 80)") is None
+    assert one(db, "uri_replace(NULL, 'port', 80)") is None and one(db, "uri_replace('a', NULL, 80)") is None
+    assert one(db, "uri_replace('a b', 'path', 'a')") is None
+    for expression in ("uri_replace('a', 'authority', 'h')", "uri_replace('a', 'Host', 'h')", "uri_replace('a', '', 'h')"):
+        assert "no component" in raised(lambda: one(db, expression)), expression
+    assert "no component 'host'" in raised(lambda: one(db, "uri_encode('host', 'a')"))
+    for _ in range(COUNT // 20):
+        text, value = fuzz.some_text(draw), draw.choice((None, *fuzz.VALUES))
+        name = draw.choice(("scheme", "username", "password", "host", "port", "path", "query", "fragment"))
+        found = answer_of(lambda whole: uriparse.replace(whole, **{name: value}), text)
+        count += found is not None
+        assert one(db, "uri_replace(?, ?, ?)", text, name, value) == (None if found is None else found.decode()), (text, name, value)
+        component = draw.choice(list(fuzz.KEPT))
+        assert one(db, "uri_encode(?, ?)", component, text) == uriparse.encode(component, text).decode(), (component, text)  # type: ignore[arg-type]
+        decoded = answer_of(uriparse.decode, text)
+        wanted: Any = decoded
+        if decoded is not None and b"\0" not in decoded:
+            try:
+                wanted = decoded.decode()
+            except UnicodeDecodeError:
+                pass
+        assert one(db, "uri_decode(?)", text) == wanted, text
+    return count
 
 
 def test_texts(db: sqlite3.Connection) -> None:
@@ -164,9 +196,11 @@ def test_random(db: sqlite3.Connection, encoding: str) -> int:
         shown = text.decode("utf-8", "replace").encode()
         assert row == expected(shown), (text, row)
     pairs = zip(texts, texts[1:])
-    two = db.execute("SELECT uri_resolve(a.x, b.x), uri_equal(a.x, b.x) FROM random a JOIN random b ON b.rowid = a.rowid + 1 "
-                     "ORDER BY a.rowid")
-    for (target, is_equal), (left, right) in zip(two, pairs):
+    two = db.execute("SELECT uri_resolve(a.x, b.x), uri_equal(a.x, b.x), uri_relativize(a.x, b.x) "
+                     "FROM random a JOIN random b ON b.rowid = a.rowid + 1 ORDER BY a.rowid")
+    for (target, is_equal, relative), (left, right) in zip(two, pairs):
+        leading = answer_of(uriparse.relativize, left, right)
+        assert relative == (leading if leading is None else leading.decode()), (left, right)
         assert (target or "").encode() == (answer_of(uriparse.resolve, left, right) or b""), (left, right)
         assert is_equal == answer_of(uriparse.equal, left, right), (left, right)
     return len(texts)
@@ -263,6 +297,7 @@ def main() -> None:
         found: Optional[int] = None
         found = test_rows(db)
         test_errors(db)
+        changed = test_changes(db)
         test_texts(db)
         texts = test_random(db, encoding) if encoding != "UTF-16be" else 0
         pairs = test_order(db)
@@ -270,8 +305,8 @@ def main() -> None:
         if texts:
             test_indexes(db)
         assert one(db, "encoding FROM pragma_encoding") == encoding
-        counts.append("%s: %d rows, %d random texts, %d pairs of their queries, %d pairs in order" % (
-            encoding, found, texts, of_queries, pairs))
+        counts.append("%s: %d rows, %d changes, %d random texts, %d pairs of their queries, %d pairs in order" % (
+            encoding, found, changed, texts, of_queries, pairs))
         db.close()
     counts.append("%d statements of README.md" % test_page())
     print("; ".join(counts))

@@ -57,6 +57,20 @@ static void port(sqlite3_context *context, int count, sqlite3_value **values) {
     sqlite3_result_int64(context, parts.port_number);
 }
 
+/* The kind of the host, which is named as in other languages. */
+static void host_kind(sqlite3_context *context, int count, sqlite3_value **values) {
+  struct text text;
+  struct uriparse_parts parts;
+  (void)count;
+  if (!read_reference(context, values[0], &text, &parts)) return;
+  switch (parts.host_kind) {
+  case URIPARSE_HOST_NAME: sqlite3_result_text(context, "name", -1, SQLITE_STATIC); break;
+  case URIPARSE_HOST_IPV4: sqlite3_result_text(context, "ipv4", -1, SQLITE_STATIC); break;
+  case URIPARSE_HOST_IPV6: sqlite3_result_text(context, "ipv6", -1, SQLITE_STATIC); break;
+  case URIPARSE_HOST_FUTURE: sqlite3_result_text(context, "ipvfuture", -1, SQLITE_STATIC); break;
+  }
+}
+
 static void valid(sqlite3_context *context, int count, sqlite3_value **values) {
   struct text text;
   size_t place;
@@ -123,6 +137,10 @@ static uint32_t write_target(const struct text *texts, char *out, size_t room, s
   return uriparse_resolve(texts[0].at, texts[0].len, texts[1].at, texts[1].len, out, room, needed);
 }
 
+static uint32_t write_relative(const struct text *texts, char *out, size_t room, size_t *needed) {
+  return uriparse_relativize(texts[0].at, texts[0].len, texts[1].at, texts[1].len, out, room, needed);
+}
+
 static uint32_t write_escaped(const struct text *texts, char *out, size_t room, size_t *needed) {
   return uriparse_escape(texts[0].at, texts[0].len, out, room, needed);
 }
@@ -132,14 +150,10 @@ static uint32_t write_origin(const struct text *texts, char *out, size_t room, s
 }
 
 /* What the call writes; NULL if it rejects a text. */
-static void result_written(sqlite3_context *context, int count, sqlite3_value **values, writer *write) {
-  struct text texts[2];
+static void result_of(sqlite3_context *context, const struct text *texts, writer *write) {
   char room[SHORT], *out;
   size_t needed;
-  uint32_t code;
-  for (int i = 0; i < count; i++)
-    if (!read_text(context, values[i], &texts[i])) return;
-  code = write(texts, room, sizeof room, &needed);
+  uint32_t code = write(texts, room, sizeof room, &needed);
   if (code == URIPARSE_OK) sqlite3_result_text64(context, room, needed, SQLITE_TRANSIENT, SQLITE_UTF8);
   if (code != URIPARSE_NO_ROOM) return;
   out = sqlite3_malloc64(needed);
@@ -151,6 +165,13 @@ static void result_written(sqlite3_context *context, int count, sqlite3_value **
     sqlite3_free(out);
 }
 
+static void result_written(sqlite3_context *context, int count, sqlite3_value **values, writer *write) {
+  struct text texts[2];
+  for (int i = 0; i < count; i++)
+    if (!read_text(context, values[i], &texts[i])) return;
+  result_of(context, texts, write);
+}
+
 static void normalize(sqlite3_context *context, int count, sqlite3_value **values) {
   result_written(context, count, values, write_normal);
 }
@@ -159,12 +180,90 @@ static void resolve(sqlite3_context *context, int count, sqlite3_value **values)
   result_written(context, count, values, write_target);
 }
 
+static void relativize(sqlite3_context *context, int count, sqlite3_value **values) {
+  result_written(context, count, values, write_relative);
+}
+
 static void escape(sqlite3_context *context, int count, sqlite3_value **values) {
   result_written(context, count, values, write_escaped);
 }
 
 static void origin(sqlite3_context *context, int count, sqlite3_value **values) {
   result_written(context, count, values, write_origin);
+}
+
+/* The bytes that a component stands for: a text if they are UTF-8 without a zero byte, else a blob. */
+static void decode(sqlite3_context *context, int count, sqlite3_value **values) {
+  struct text text;
+  size_t len;
+  char *out;
+  (void)count;
+  if (!read_text(context, values[0], &text)) return;
+  out = sqlite3_malloc64(text.len + 1);
+  if (!out)
+    sqlite3_result_error_nomem(context);
+  else if (uriparse_decode(text.at, text.len, out, text.len, &len) != URIPARSE_OK)
+    sqlite3_free(out);
+  else if (pairs_are_text(out, len))
+    sqlite3_result_text64(context, out, len, sqlite3_free, SQLITE_UTF8);
+  else
+    sqlite3_result_blob64(context, out, len, sqlite3_free);
+}
+
+/* The place of a name in a list that ends with NULL. If it isn't there the function's result is an error. */
+static int find_name(sqlite3_context *context, const struct text *name, const char *const *list) {
+  char *message;
+  for (int i = 0; list[i]; i++)
+    if (strlen(list[i]) == name->len && memcmp(list[i], name->at, name->len) == 0) return i;
+  message = sqlite3_mprintf("no component %.*Q", (int)(name->len < 40 ? name->len : 40), name->at);
+  if (message)
+    sqlite3_result_error(context, message, -1);
+  else
+    sqlite3_result_error_nomem(context);
+  sqlite3_free(message);
+  return -1;
+}
+
+static uint32_t write_encoded(const struct text *texts, char *out, size_t room, size_t *needed) {
+  static const uint32_t COMPONENTS[] = {URIPARSE_USERNAME, URIPARSE_PASSWORD, URIPARSE_SEGMENT, URIPARSE_QUERY, URIPARSE_FRAGMENT};
+  return uriparse_encode(COMPONENTS[texts[0].len], texts[1].at, texts[1].len, out, room, needed);
+}
+
+/* uri_encode(component, value) */
+static void encode(sqlite3_context *context, int count, sqlite3_value **values) {
+  static const char *const NAMES[] = {"username", "password", "segment", "query", "fragment", NULL};
+  struct text texts[2];
+  int at;
+  (void)count;
+  if (!read_text(context, values[0], &texts[0]) || !read_text(context, values[1], &texts[1])) return;
+  at = find_name(context, &texts[0], NAMES);
+  if (at < 0) return;
+  texts[0].len = (size_t)at;
+  result_of(context, texts, write_encoded);
+}
+
+/* The text, and the change of a component to a value: which one, and whether it is set. */
+static uint32_t write_replaced(const struct text *texts, char *out, size_t room, size_t *needed) {
+  struct uriparse_changes changes = {0};
+  struct uriparse_change *fields[] = {&changes.scheme, &changes.username, &changes.password, &changes.host,
+                                      &changes.port,   &changes.path,     &changes.query,    &changes.fragment};
+  struct uriparse_change *field = fields[texts[1].len];
+  field->end = texts[2].len;
+  field->action = texts[2].at ? URIPARSE_SET : URIPARSE_REMOVE;
+  return uriparse_change(texts[0].at, texts[0].len, &changes, texts[2].at, texts[2].len, out, room, needed);
+}
+
+/* uri_replace(t, component, value): NULL removes the component. */
+static void replace(sqlite3_context *context, int count, sqlite3_value **values) {
+  static const char *const NAMES[] = {"scheme", "username", "password", "host", "port", "path", "query", "fragment", NULL};
+  struct text texts[3] = {{.at = NULL, .len = 0}};
+  int at;
+  (void)count;
+  if (!read_text(context, values[0], &texts[0]) || !read_text(context, values[1], &texts[1])) return;
+  at = find_name(context, &texts[1], NAMES);
+  if (at < 0 || (sqlite3_value_type(values[2]) != SQLITE_NULL && !read_text(context, values[2], &texts[2]))) return;
+  texts[1].len = (size_t)at;
+  result_of(context, texts, write_replaced);
 }
 
 /* The table uri_pairs(t): a row for each pair of the query of a reference. The third column is hidden, and is the argument. */
@@ -311,7 +410,8 @@ static int collate(void *db, int left_len, const void *left, int right_len, cons
 }
 
 #define PLACE(name) offsetof(struct uriparse_parts, name)
-static const size_t PLACES[] = {PLACE(scheme), PLACE(authority), PLACE(host), PLACE(path), PLACE(query), PLACE(fragment)};
+static const size_t PLACES[] = {PLACE(scheme), PLACE(authority), PLACE(host), PLACE(path), PLACE(query), PLACE(fragment),
+                                PLACE(username), PLACE(password)};
 
 static const struct {
   const char *name;
@@ -327,6 +427,10 @@ static const struct {
   {"uri_normalize", 1, normalize, NULL},   {"uri_resolve", 2, resolve, NULL},
   {"uri_equal", 2, equal, NULL},           {"uri_hash", 1, hash, NULL},
   {"uri_escape", 1, escape, NULL},         {"uri_origin", 1, origin, NULL},
+  {"uri_username", 1, component, &PLACES[6]}, {"uri_password", 1, component, &PLACES[7]},
+  {"uri_host_kind", 1, host_kind, NULL},   {"uri_relativize", 2, relativize, NULL},
+  {"uri_decode", 1, decode, NULL},         {"uri_encode", 2, encode, NULL},
+  {"uri_replace", 3, replace, NULL},
 };
 
 __attribute__((visibility("default")))
