@@ -195,7 +195,7 @@ static void keeps_all(void) {
   values_len = 0;
 }
 
-static void sets(struct uriparse_change *change, const char *value) {
+static void sets(struct uriparse_value *change, const char *value) {
   change->action = value ? URIPARSE_SET : URIPARSE_REMOVE;
   if (value) {
     change->begin = values_len;
@@ -215,9 +215,9 @@ static void changes_all(const char *text, const char *expected) {
   writes(change, "change nothing", expected, strlen(expected), expected, strlen(expected));
 }
 
-static void changes_to(const char *text, struct uriparse_change *component, const char *value, const char *expected) {
+static void changes_to(const char *text, struct uriparse_value *field, const char *value, const char *expected) {
   keeps_all();
-  sets(component, value);
+  sets(field, value);
   changes_all(text, expected);
 }
 
@@ -228,9 +228,9 @@ static void change_rejects_all(const char *text, uint32_t expected) {
             && out[0] == 1, "change rejects", text);
 }
 
-static void change_rejects(const char *text, struct uriparse_change *component, const char *value, uint32_t expected) {
+static void change_rejects(const char *text, struct uriparse_value *field, const char *value, uint32_t expected) {
   keeps_all();
-  sets(component, value);
+  sets(field, value);
   change_rejects_all(text, expected);
 }
 

@@ -116,7 +116,7 @@ enum uriparse_action {
 };
 
 /* What becomes of a component. */
-struct uriparse_change {
+struct uriparse_value {
   size_t begin;
   size_t end;
   uint8_t action; /* one of uriparse_action */
@@ -124,14 +124,14 @@ struct uriparse_change {
 
 /* What becomes of each component. One that is all zero changes nothing. */
 struct uriparse_changes {
-  struct uriparse_change scheme;
-  struct uriparse_change username;
-  struct uriparse_change password;
-  struct uriparse_change host;
-  struct uriparse_change port;
-  struct uriparse_change path;
-  struct uriparse_change query;
-  struct uriparse_change fragment;
+  struct uriparse_value scheme;
+  struct uriparse_value username;
+  struct uriparse_value password;
+  struct uriparse_value host;
+  struct uriparse_value port;
+  struct uriparse_value path;
+  struct uriparse_value query;
+  struct uriparse_value fragment;
 };
 
 /* A pair of a query, as name=value. The places count from the start of the query. */

@@ -297,9 +297,9 @@ static uint32_t
 write_replaced(const struct bytes *texts, char *out, size_t room, size_t *needed)
 {
 	struct uriparse_changes changes = {0};
-	struct uriparse_change *fields[] = {&changes.scheme, &changes.username, &changes.password, &changes.host,
+	struct uriparse_value *fields[] = {&changes.scheme, &changes.username, &changes.password, &changes.host,
 	&changes.port, &changes.path, &changes.query, &changes.fragment};
-	struct uriparse_change *field = fields[texts[1].len];
+	struct uriparse_value *field = fields[texts[1].len];
 
 	field->end = texts[2].len;
 	field->action = texts[2].at ? URIPARSE_SET : URIPARSE_REMOVE;

@@ -245,9 +245,9 @@ static void encode(sqlite3_context *context, int count, sqlite3_value **values) 
 /* The text, and the change of a component to a value: which one, and whether it is set. */
 static uint32_t write_replaced(const struct text *texts, char *out, size_t room, size_t *needed) {
   struct uriparse_changes changes = {0};
-  struct uriparse_change *fields[] = {&changes.scheme, &changes.username, &changes.password, &changes.host,
+  struct uriparse_value *fields[] = {&changes.scheme, &changes.username, &changes.password, &changes.host,
                                       &changes.port,   &changes.path,     &changes.query,    &changes.fragment};
-  struct uriparse_change *field = fields[texts[1].len];
+  struct uriparse_value *field = fields[texts[1].len];
   field->end = texts[2].len;
   field->action = texts[2].at ? URIPARSE_SET : URIPARSE_REMOVE;
   return uriparse_change(texts[0].at, texts[0].len, &changes, texts[2].at, texts[2].len, out, room, needed);
