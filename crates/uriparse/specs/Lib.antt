@@ -3,6 +3,7 @@ pub mod Kinds
 pub mod Uri
 pub mod RelativeReference
 pub mod Origin
+pub mod Within
 pub mod File
 -- texts: RFC 3986, section 2
 pub use Rattle.uriparse_text.specs.Bytes
@@ -53,6 +54,7 @@ pub use Rattle.uriparse_authority.specs.Port
 pub use Rattle.uriparse_authority.specs.Offset as AuthorityOffset
 pub use Rattle.uriparse_authority.specs.Order as AuthorityOrder
 pub use Rattle.uriparse_authority.specs.Normal as AuthorityNormal
+pub use Rattle.uriparse_authority.specs.Within as HostWithin
 pub use Rattle.uriparse_authority.specs.declared.authority.host.Host as HostValue
 pub use Rattle.uriparse_authority.specs.declared.authority.error.AuthorityError
 pub use Rattle.uriparse_authority.specs.declared.authority.error.UsernameError
@@ -61,6 +63,7 @@ pub use Rattle.uriparse_authority.specs.declared.authority.error.HostError
 pub use Rattle.uriparse_authority.specs.declared.authority.error.PortError
 -- paths: section 3.3
 pub use Rattle.uriparse_text.specs.Segment
+pub use Rattle.uriparse_text.specs.Ambiguous
 pub use Rattle.uriparse_path.specs.Path
 pub use Rattle.uriparse_path.specs.Faults as PathFaults
 pub use Rattle.uriparse_path.specs.Offset as PathOffset
@@ -71,6 +74,7 @@ pub use Rattle.uriparse_path.specs.Lends as PathLends
 pub use Rattle.uriparse_path.specs.Normal as PathNormal
 pub use Rattle.uriparse_path.specs.Merge as PathMerge
 pub use Rattle.uriparse_path.specs.Relate as PathRelate
+pub use Rattle.uriparse_path.specs.Within as PathWithin
 pub use Rattle.uriparse_text.specs.declared.segment.error.PathError
 -- references: sections 4 and 5
 pub use Rattle.uriparse_reference.specs.Reference
