@@ -103,7 +103,12 @@ fn is_text_within(path: &[u8], base: &[u8]) -> bool
 {
     let (absolute, _) = split_root(path);
     let (base_absolute, _) = split_root(base);
-    is_path_within(absolute, segments_of(path), base_absolute, segments_of(base))
+    is_path_within(
+        absolute,
+        segments_of(path),
+        base_absolute,
+        segments_of(base),
+    )
 }
 
 /// Whether the URI of one view is below the URI of the other one.
