@@ -54,7 +54,6 @@ pub use Rattle.uriparse_authority.specs.Port
 pub use Rattle.uriparse_authority.specs.Offset as AuthorityOffset
 pub use Rattle.uriparse_authority.specs.Order as AuthorityOrder
 pub use Rattle.uriparse_authority.specs.Normal as AuthorityNormal
-pub use Rattle.uriparse_authority.specs.Within as HostWithin
 pub use Rattle.uriparse_authority.specs.declared.authority.host.Host as HostValue
 pub use Rattle.uriparse_authority.specs.declared.authority.error.AuthorityError
 pub use Rattle.uriparse_authority.specs.declared.authority.error.UsernameError
@@ -63,7 +62,6 @@ pub use Rattle.uriparse_authority.specs.declared.authority.error.HostError
 pub use Rattle.uriparse_authority.specs.declared.authority.error.PortError
 -- paths: section 3.3
 pub use Rattle.uriparse_text.specs.Segment
-pub use Rattle.uriparse_text.specs.Ambiguous
 pub use Rattle.uriparse_path.specs.Path
 pub use Rattle.uriparse_path.specs.Faults as PathFaults
 pub use Rattle.uriparse_path.specs.Offset as PathOffset
