@@ -4,7 +4,9 @@ Of each accepted text the components are those of the regular expression of RFC 
 components put together; the normal form is its own normal form; a text that is equal to its neighbour has the same hash.
 A rejected text is rejected by every call with one code. Each text, encoded, is decoded to itself, as Python's `quote` and
 `unquote_to_bytes` do it; and escaped it stays if it is escaped again, and means the same. Its pairs, as those of a query, are
-those that Python's `split` and `partition` find."""
+those that Python's `split` and `partition` find. With some components changed, each accepted text is what the components of appendix B
+are put together to, if each that is set has the form that the RFC gives it."""
+import ipaddress
 import random
 import re
 import sys
@@ -91,10 +93,84 @@ def check_codings(text):
     assert code_of(uriparse.spans, text) or escaped == text, text
 
 
+CHARACTER = rb"(?:[A-Za-z0-9._~!$&'()*+,;=-]|%[0-9A-Fa-f]{2})"
+FORMS = {name: re.compile(form) for name, form in (
+    ("scheme", rb"[A-Za-z][A-Za-z0-9+.-]*"), ("username", CHARACTER + rb"*"), ("password", rb"(?:%s|:)*" % CHARACTER),
+    ("path", rb"(?:%s|[:@/])*" % CHARACTER), ("query", rb"(?:%s|[:@/?])*" % CHARACTER), ("fragment", rb"(?:%s|[:@/?])*" % CHARACTER))}
+NAME = re.compile(CHARACTER + rb"*")
+FUTURE = re.compile(rb"\[[vV][0-9A-Fa-f]+\.[A-Za-z0-9._~!$&'()*+,;=:-]+\]")
+VALUES = [b"", b"a", b"x.y", b"h", b"[::1]", b"[v1.a]", b"1.2.3.4", b"080", b"65536", b"a:b", b"//a", b"/a/../b", b"%7e", b"%7", b"a@b", b"a/b",
+          b"a?b", b"a#b", b"[::", b"Http", b"1a", b"\xff", b" ", b"../x", b"./a:b", b"[1:2:3:4:5:6:7:8]:9"]
+
+
+def has_form(name, value):
+    """Whether a value has the form of a component."""
+    if name == "port":
+        return value == b"" or (value.isdigit() and int(value) <= 65535)
+    if name != "host":
+        return bool(FORMS[name].fullmatch(value))
+    if NAME.fullmatch(value) or FUTURE.fullmatch(value):
+        return True
+    try:
+        return value[:1] == b"[" and value[-1:] == b"]" and b"%" not in value and bool(ipaddress.IPv6Address(value[1:-1].decode()))
+    except ValueError:
+        return False
+
+
+def spliced(text, wanted):
+    """The text with components changed, or None if it isn't a reference."""
+    scheme, authority, path, query, fragment = APPENDIX_B.match(text).group(2, 4, 5, 7, 9)
+    username = password = host = port = None
+    if authority is not None:
+        user, sign, host_and_port = authority.partition(b"@")
+        host_and_port = host_and_port if sign else authority
+        if sign:
+            username, colon, secret = user.partition(b":")
+            password = secret if colon else None
+        name, colon, digits = host_and_port.rpartition(b":")
+        host, port = (name, digits) if colon and b"]" not in digits else (host_and_port, None)
+    host = wanted.get("host", host)
+    if host is None and any(wanted.get(name) is not None for name in ("username", "password", "port")):
+        return None
+    username = wanted.get("username", username)
+    password = wanted["password"] if "password" in wanted else None if username is None else password
+    username = b"" if username is None and password is not None else username
+    port = wanted.get("port", port)
+    if "path" in wanted:
+        path = wanted["path"] or b""
+    elif authority is not None and host is None and path == b"":
+        path = b"/"
+    scheme, query, fragment = wanted.get("scheme", scheme), wanted.get("query", query), wanted.get("fragment", fragment)
+    if not all(value is None or has_form(name, value) for name, value in wanted.items()):
+        return None
+    if host is not None:
+        path = b"/" + path if path and path[:1] != b"/" else path
+    elif path[:2] == b"//" or (scheme is None and b":" in path.partition(b"/")[0]):
+        return None
+    user = b"" if username is None else username + (b"" if password is None else b":" + password) + b"@"
+    return ((b"" if scheme is None else scheme + b":") + (b"" if host is None else b"//" + user + host + (b"" if port is None else b":" + port))
+            + path + (b"" if query is None else b"?" + query) + (b"" if fragment is None else b"#" + fragment))
+
+
+def check_changes(draw, text):
+    """Changes some components, and then nothing."""
+    names = draw.sample(("scheme", "username", "password", "host", "port", "path", "query", "fragment"), draw.choice((0, 1, 1, 1, 2, 3, 8)))
+    wanted = {name: None if draw.random() < 0.3 else draw.choice(VALUES) for name in names}
+    expected = spliced(text, wanted)
+    try:
+        found = uriparse.replace(text, **wanted)
+    except uriparse.URIError:
+        found = None
+    assert found == expected, (text, wanted, found, expected)
+    if found is not None:
+        assert uriparse.replace(found) == found, (text, wanted)
+    return found is not None
+
+
 def main():
     count = int(sys.argv[1]) if len(sys.argv) > 1 else 10_000
     draw = random.Random(int(sys.argv[2]) if len(sys.argv) > 2 else 1)
-    accepted = equal = 0
+    accepted = equal = changed = 0
     last = b""
     for _ in range(count):
         text = some_text(draw)
@@ -106,12 +182,13 @@ def main():
             continue
         accepted += 1
         check_accepted(text, uriparse.parse(text))
+        changed += check_changes(draw, text)
         alike = text.replace(b"a", b"%61").replace(b"%7e", b"~") if draw.random() < 0.3 else last
         if code_of(uriparse.spans, alike) == 0 and uriparse.equal(text, alike):
             equal += 1
             assert uriparse.hash_of(text) == uriparse.hash_of(alike), (text, alike)
         last = text
-    print("%d texts, %d accepted, %d equal to another" % (count, accepted, equal))
+    print("%d texts, %d accepted, %d equal to another, %d changed" % (count, accepted, equal, changed))
 
 
 if __name__ == "__main__":

@@ -1,5 +1,5 @@
 /* Rows with what is expected: the tables of RFC 3986, section 5.4, references that lead to a URI, normal forms, components,
- * texts that are rejected, and texts that are decoded, encoded, escaped and cut into pairs. Prints a line for each check that
+ * texts that are rejected, components that are changed, and texts that are decoded, encoded, escaped and cut into pairs. Prints a line for each check that
  * fails and how many passed; the status is 0 if all did. */
 #include "uriparse.h"
 
@@ -185,6 +185,55 @@ static void relates_not(const char *base, const char *text, uint32_t expected) {
         "relativize rejects", text);
 }
 
+static struct uriparse_changes changes;
+static char values[100];
+static size_t values_len;
+
+/* Of the next change: no change, and a component that is set, or removed by NULL. */
+static void keeps_all(void) {
+  memset(&changes, 0, sizeof changes);
+  values_len = 0;
+}
+
+static void sets(struct uriparse_value *change, const char *value) {
+  change->action = value ? URIPARSE_SET : URIPARSE_REMOVE;
+  if (value) {
+    change->begin = values_len;
+    memcpy(values + values_len, value, strlen(value));
+    values_len += strlen(value);
+    change->end = values_len;
+  }
+}
+
+static uint32_t change(const char *text, size_t len, uint8_t *out, size_t room, size_t *needed) {
+  return uriparse_change(text, len, &changes, values, values_len, out, room, needed);
+}
+
+static void changes_all(const char *text, const char *expected) {
+  writes(change, "change", text, strlen(text), expected, strlen(expected));
+  keeps_all();
+  writes(change, "change nothing", expected, strlen(expected), expected, strlen(expected));
+}
+
+static void changes_to(const char *text, struct uriparse_value *field, const char *value, const char *expected) {
+  keeps_all();
+  sets(field, value);
+  changes_all(text, expected);
+}
+
+static void change_rejects_all(const char *text, uint32_t expected) {
+  uint8_t out[4] = {1, 2, 3, 4};
+  size_t needed = 7;
+  check(uriparse_change(text, strlen(text), &changes, values, values_len, out, 4, &needed) == expected && needed == 0
+            && out[0] == 1, "change rejects", text);
+}
+
+static void change_rejects(const char *text, struct uriparse_value *field, const char *value, uint32_t expected) {
+  keeps_all();
+  sets(field, value);
+  change_rejects_all(text, expected);
+}
+
 static uint32_t origin(const char *text, size_t len, uint8_t *out, size_t room, size_t *needed) {
   return uriparse_origin(text, len, out, room, needed);
 }
@@ -226,7 +275,7 @@ static void texts(void) {
   for (uint32_t code = 0; code < 0x100; code++) {
     named += strcmp(uriparse_error_text(code), "unknown code") != 0;
   }
-  check(named == 25, "texts", "codes");
+  check(named == 32, "texts", "codes");
   check(strcmp(uriparse_error_text(URIPARSE_IN_BASE | URIPARSE_PORT_RANGE), "the port is above 65535") == 0, "text", "0x142");
   check((URIPARSE_USERNAME_BYTE & URIPARSE_COMPONENT_MASK) == URIPARSE_USERNAME
             && (URIPARSE_PASSWORD_ESCAPE & URIPARSE_COMPONENT_MASK) == URIPARSE_PASSWORD
@@ -235,6 +284,8 @@ static void texts(void) {
             && (URIPARSE_PATH_BYTE & URIPARSE_COMPONENT_MASK) == URIPARSE_SEGMENT
             && (URIPARSE_QUERY_ESCAPE & URIPARSE_COMPONENT_MASK) == URIPARSE_QUERY
             && (URIPARSE_FRAGMENT_BYTE & URIPARSE_COMPONENT_MASK) == URIPARSE_FRAGMENT
+            && (URIPARSE_USERNAME_COLON & URIPARSE_COMPONENT_MASK) == URIPARSE_USERNAME
+            && (URIPARSE_SCHEME_EMPTY & URIPARSE_COMPONENT_MASK) == URIPARSE_SCHEME
             && (URIPARSE_NO_ORIGIN & URIPARSE_COMPONENT_MASK) == 0, "component", "codes");
   check(strcmp(uriparse_version(), URIPARSE_VERSION) == 0, "version", URIPARSE_VERSION);
 }
@@ -354,6 +405,75 @@ int main(void) {
   escapes("", "");
 
   /* RFC 6454, sections 4, 5 and 6.2. */
+  changes_to("HTTP://u@h/%7Ea?q#f", &changes.host, "example.org", "HTTP://u@example.org/%7Ea?q#f");
+  changes_to("http://h/a", &changes.host, "[0:0::1]", "http://[0:0::1]/a");
+  changes_to("a:b/c", &changes.host, "h", "a://h/b/c");
+  changes_to("a:/b?q", &changes.host, "", "a:///b?q");
+  changes_to("?q", &changes.host, "h", "//h?q");
+  changes_to("http://u:p@h:80/a#f", &changes.host, NULL, "http:/a#f");
+  changes_to("http://h?q", &changes.host, NULL, "http:/?q");
+  changes_to("//h", &changes.host, NULL, "/");
+  changes_to("http://u:p@h/", &changes.username, NULL, "http://h/");
+  changes_to("http://u:p@h/", &changes.username, "", "http://:p@h/");
+  changes_to("http://u:p@h/", &changes.password, NULL, "http://u@h/");
+  changes_to("http://h/", &changes.password, "a:b", "http://:a:b@h/");
+  changes_to("http://u@h:8/", &changes.port, "080", "http://u@h:080/");
+  changes_to("http://h:/", &changes.port, NULL, "http://h/");
+  changes_to("http://h", &changes.port, "", "http://h:");
+  changes_to("http://h:/", &changes.path, "x/y", "http://h:/x/y");
+  changes_to("http://h/a?q", &changes.path, NULL, "http://h?q");
+  changes_to("a/b?q", &changes.path, "/c%2f", "/c%2f?q");
+  changes_to("s:/a#f", &changes.query, "x?y", "s:/a?x?y#f");
+  changes_to("s:a?q#f", &changes.query, NULL, "s:a#f");
+  changes_to("s:a?q#f", &changes.query, "", "s:a?#f");
+  changes_to("s:a?q#f", &changes.fragment, NULL, "s:a?q");
+  changes_to("a", &changes.fragment, "?", "a#?");
+  changes_to("Http://h", &changes.scheme, "Ws", "Ws://h");
+  changes_to("s://h/a:b", &changes.scheme, NULL, "//h/a:b");
+  changes_to("a/b:c", &changes.scheme, "x", "x:a/b:c");
+  keeps_all();
+  sets(&changes.scheme, NULL);
+  sets(&changes.host, NULL);
+  sets(&changes.path, "./a:b");
+  changes_all("s://u@h:1/c?q", "./a:b?q");
+  keeps_all();
+  sets(&changes.password, "p");
+  sets(&changes.username, NULL);
+  changes_all("//u:w@h", "//:p@h");
+  change_rejects("//h//a", &changes.host, NULL, URIPARSE_TWO_SLASHES);
+  change_rejects("s:a", &changes.path, "//b", URIPARSE_TWO_SLASHES);
+  change_rejects("s:a:b", &changes.scheme, NULL, URIPARSE_COLON_IN_SEGMENT);
+  change_rejects("a", &changes.path, "b:c", URIPARSE_COLON_IN_SEGMENT);
+  change_rejects("a", &changes.port, "80", URIPARSE_MISSING_HOST);
+  change_rejects("s:a", &changes.username, "u", URIPARSE_MISSING_HOST);
+  change_rejects("/a", &changes.password, "p", URIPARSE_MISSING_HOST);
+  change_rejects("s:a", &changes.scheme, "1a", URIPARSE_SCHEME_LETTER);
+  change_rejects("s:a", &changes.scheme, "", URIPARSE_SCHEME_EMPTY);
+  change_rejects("s:a", &changes.scheme, "a/", URIPARSE_SCHEME_BYTE);
+  change_rejects("//h", &changes.host, "a/b", URIPARSE_HOST_BYTE);
+  change_rejects("//h", &changes.host, "a@b", URIPARSE_HOST_BYTE);
+  change_rejects("//h", &changes.host, "a:1", URIPARSE_HOST_BYTE);
+  change_rejects("//h", &changes.host, "[::x]", URIPARSE_HOST_IPV6_BYTE);
+  change_rejects("//h", &changes.username, "a:b", URIPARSE_USERNAME_COLON);
+  change_rejects("//h", &changes.password, "a@b", URIPARSE_PASSWORD_BYTE);
+  change_rejects("//h", &changes.port, "65536", URIPARSE_PORT_RANGE);
+  change_rejects("//h", &changes.port, "8x", URIPARSE_PORT_BYTE);
+  change_rejects("//h", &changes.path, "a?b", URIPARSE_PATH_BYTE);
+  change_rejects("//h", &changes.path, "a#b", URIPARSE_PATH_BYTE);
+  change_rejects("//h", &changes.path, "%2", URIPARSE_PATH_ESCAPE);
+  change_rejects("//h", &changes.query, "a#b", URIPARSE_QUERY_BYTE);
+  change_rejects("//h", &changes.fragment, "a#b", URIPARSE_FRAGMENT_BYTE);
+  change_rejects("a b", &changes.fragment, "x", URIPARSE_PATH_BYTE);
+  keeps_all();
+  changes.query.action = 3;
+  change_rejects_all("a", URIPARSE_BAD_CHANGE);
+  keeps_all();
+  sets(&changes.query, "x");
+  changes.query.end = 2;
+  change_rejects_all("a", URIPARSE_BAD_CHANGE);
+  changes.query.begin = 1;
+  changes.query.end = 0;
+  change_rejects_all("a", URIPARSE_BAD_CHANGE);
   has_origin("http://example.com/", "http://example.com");
   has_origin("http://example.com:80/", "http://example.com");
   has_origin("http://example.com/path/file", "http://example.com");

@@ -4,6 +4,7 @@ The status is 0 if each answer is right."""
 from __future__ import annotations
 
 import copy
+import dataclasses
 import os
 import pickle
 import re
@@ -286,6 +287,38 @@ def test_reasons() -> None:
     assert fault and fault[0] is uriparse.Code.PATH_ESCAPE
 
 
+def test_replace() -> None:
+    """What is changed and what is kept; uriparse.h's tests have more."""
+    assert uriparse.replace("HTTP://u:p@h:8080/%7Ea?q#f", host="example.org", username=None) == "HTTP://example.org:8080/%7Ea?q#f"
+    assert uriparse.replace(b"a:b/c", host=b"h", port=80) == b"a://h:80/b/c"
+    assert uriparse.replace(bytearray(b"//h"), host=None, path=memoryview(b"x")) == b"x"
+    assert uriparse.replace("a?q", path="", query=None) == "" and uriparse.replace("a?q") == "a?q"
+    assert uriparse.replace("s:" + "a" * 9000, fragment="f" * 9000) == "s:" + "a" * 9000 + "#" + "f" * 9000
+    rows: List[Any] = [
+        ("http://h/a b", {"host": "x"}, "text", "path", uriparse.Code.PATH_BYTE, 10),
+        ("http://h", {"host": "a/b"}, "host", "host", uriparse.Code.HOST_BYTE, 0),
+        ("http://h", {"host": "x", "port": 65536}, "port", "port", uriparse.Code.PORT_RANGE, 0),
+        ("//h", {"username": "a:b"}, "username", "username", uriparse.Code.USERNAME_COLON, 0),
+        ("//h", {"scheme": "1"}, "scheme", "scheme", uriparse.Code.SCHEME_LETTER, 0),
+        ("a", {"port": 1}, "change", "host", uriparse.Code.MISSING_HOST, 0),
+        ("s:a:b", {"scheme": None}, "change", "path", uriparse.Code.COLON_IN_SEGMENT, 0),
+        ("//h//a", {"host": None}, "change", "path", uriparse.Code.TWO_SLASHES, 0),
+        ("//h", {"query": "\u00fc"}, "query", "query", uriparse.Code.QUERY_BYTE, 0)]
+    for text, values, argument, component, code, place in rows:
+        error = raised(lambda: uriparse.replace(text, **values))
+        assert isinstance(error, uriparse.URIError), (text, error)
+        assert (error.argument, error.component, error.reason, error.place) == (argument, component, code, place), (text, error)
+    assert str(raised(lambda: uriparse.replace("a", port=1))) == "a user name, password or port without a host: 'a'"
+    for wrong in (lambda: uriparse.replace("a", host=b"h"), lambda: uriparse.replace(b"a", host="h"),  # type: ignore[call-overload]
+                  lambda: uriparse.replace("//h", port=True), lambda: uriparse.replace(None, host="h"),  # type: ignore[call-overload]
+                  lambda: uriparse.replace("//h", path=5.0)):  # type: ignore[call-overload]
+        assert type(raised(wrong)) is TypeError
+    found = dataclasses.replace(uriparse.parse("http://u@h:80/a"), host="1.2.3.4", port="081", password="p")
+    assert (found.authority, found.host_kind, found.port_number) == ("u:p@1.2.3.4:081", "ipv4", 81)
+    found = dataclasses.replace(found, host=None, username=None, password=None, port=None)
+    assert (found.authority, found.host_kind, found.port_number) == (None, None, None)
+
+
 def test_uri() -> None:
     uri = uriparse.URI("HTTP://u:p@h:080/a/../b?q#f")
     assert (uri.scheme, uri.authority, uri.username, uri.password, uri.host, uri.host_kind, uri.port, uri.port_number, uri.path, uri.query,
@@ -341,7 +374,7 @@ def test_header(path: str) -> None:
 
 def main() -> None:
     for test in (test_calls, test_rejected, test_components, test_messages, test_copied_errors, test_pool, test_buffers,
-                 test_many, test_no_copy, test_released, test_wrong_types, test_str, test_surrogates, test_reasons, test_uri,
+                 test_many, test_no_copy, test_released, test_wrong_types, test_str, test_surrogates, test_reasons, test_replace, test_uri,
                  test_package):
         test()
     for header in sys.argv[1:]:

@@ -81,6 +81,26 @@ static void check_calls() {
   check(fault && fault->code == URIPARSE_PATH_BYTE && fault->place == 10, "fault");
 }
 
+static void check_changes() {
+  uriparse::changes changes;
+  check(uriparse::replace("HTTP://u:p@h/%7Ea", changes) == "HTTP://u:p@h/%7Ea", "no change");
+  changes.host = "example.org";
+  changes.username = std::nullopt;
+  changes.query = std::string_view();
+  const std::string port = "8080";
+  changes.port = port;
+  check(uriparse::replace("HTTP://u:p@h/%7Ea#f", changes) == "HTTP://example.org:8080/%7Ea?#f", "changes");
+  const std::string path(5000, 'a');
+  changes.path = path;
+  check(uriparse::replace("s:", changes) == "s://example.org:8080/" + path + "?", "a long path");
+  check(throws([&] { uriparse::replace("a b", changes); }, URIPARSE_PATH_BYTE, 0, 1), "a change of no reference");
+  changes.path = "a?";
+  check(throws([&] { uriparse::replace("a", changes); }, URIPARSE_PATH_BYTE, 0, 0), "a path that is rejected");
+  changes.path = {};
+  changes.host = std::nullopt;
+  check(throws([&] { uriparse::replace("//h", changes); }, URIPARSE_MISSING_HOST, 0, 0), "a port without a host");
+}
+
 // A string that needs more room than the calls give it at first.
 static void check_room() {
   const std::string bytes(1000, '\xff');
@@ -144,6 +164,7 @@ static void check_pairs() {
 int main() {
   check_components();
   check_calls();
+  check_changes();
   check_room();
   check_errors();
   check_pairs();

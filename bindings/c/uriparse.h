@@ -1,5 +1,5 @@
-/* URIs and URI references of RFC 3986: read, compare, hash, normalize, resolve, relativize, decode, encode and escape
- * them, write their origins, and read the pairs of a query. The code behind these calls is proved: it is safe, it
+/* URIs and URI references of RFC 3986: read, compare, hash, normalize, resolve, relativize, change, decode, encode and
+ * escape them, write their origins, and read the pairs of a query. The code behind these calls is proved: it is safe, it
  * terminates, and it computes what this header says of results, codes and what is written. That no call allocates, and
  * what it says of threads, signal handlers and the stack, is only tested. README.md says more.
  *
@@ -46,7 +46,11 @@ enum uriparse_code {
   URIPARSE_TOO_MANY_SEGMENTS = 5, /* a path, or the one merged of both, has more than 1,000,000 segments */
   URIPARSE_NO_COMPONENT = 8,      /* of `uriparse_encode` alone: it writes no component with this number */
   URIPARSE_NO_ORIGIN = 10,        /* of `uriparse_origin` alone: the reference has no origin */
+  URIPARSE_MISSING_HOST = 11,     /* of `uriparse_change` alone: a user name, a password or a port is set without a host */
+  URIPARSE_BAD_CHANGE = 12,       /* of `uriparse_change` alone: no `enum uriparse_action`, or bytes outside the values */
+  URIPARSE_TWO_SLASHES = 6,       /* of `uriparse_change` alone: without an authority the path would start with "//" */
 
+  URIPARSE_USERNAME_COLON = 0x10,  /* of `uriparse_change` alone: a ':' in the user name */
   URIPARSE_USERNAME_BYTE = 0x11,   /* a byte that no user name has */
   URIPARSE_USERNAME_ESCAPE = 0x12, /* a '%' that two hexadecimal digits don't follow */
   URIPARSE_PASSWORD_BYTE = 0x21,
@@ -64,6 +68,9 @@ enum uriparse_code {
   URIPARSE_QUERY_ESCAPE = 0x62,
   URIPARSE_FRAGMENT_BYTE = 0x71,
   URIPARSE_FRAGMENT_ESCAPE = 0x72,
+  URIPARSE_SCHEME_EMPTY = 0x80,  /* of `uriparse_change` alone, as the next two */
+  URIPARSE_SCHEME_BYTE = 0x81,   /* a byte that no scheme has */
+  URIPARSE_SCHEME_LETTER = 0x82, /* the first byte of the scheme is no letter */
 
   URIPARSE_COMPONENT_MASK = 0xf0, /* the digit of a code that names the component */
   URIPARSE_IN_BASE = 0x100        /* added to a code: it is the base's error */
@@ -102,6 +109,31 @@ struct uriparse_parts {
   uint32_t port_number; /* 0 to 65535; 0 if there are no digits */
 };
 
+enum uriparse_action {
+  URIPARSE_KEEP = 0,  /* the component keeps its bytes, or its absence */
+  URIPARSE_SET = 1,   /* it is the bytes from values[begin] up to values[end] */
+  URIPARSE_REMOVE = 2 /* it is absent; a path is empty */
+};
+
+/* What becomes of a component. */
+struct uriparse_value {
+  size_t begin;
+  size_t end;
+  uint8_t action; /* one of uriparse_action */
+};
+
+/* What becomes of each component. One that is all zero changes nothing. */
+struct uriparse_changes {
+  struct uriparse_value scheme;
+  struct uriparse_value username;
+  struct uriparse_value password;
+  struct uriparse_value host;
+  struct uriparse_value port;
+  struct uriparse_value path;
+  struct uriparse_value query;
+  struct uriparse_value fragment;
+};
+
 /* A pair of a query, as name=value. The places count from the start of the query. */
 struct uriparse_pair {
   struct uriparse_span name;  /* always present, and may be empty */
@@ -109,7 +141,7 @@ struct uriparse_pair {
   size_t next;                /* where the next pair begins; after the last pair it is greater than the query's length */
 };
 
-/* What an error is about. `uriparse_encode` writes each of these except a host and a port. */
+/* What an error is about. `uriparse_encode` writes each of these except a host, a port and a scheme. */
 enum uriparse_component {
   URIPARSE_USERNAME = 0x10,
   URIPARSE_PASSWORD = 0x20,
@@ -117,7 +149,8 @@ enum uriparse_component {
   URIPARSE_PORT = 0x40,
   URIPARSE_SEGMENT = 0x50, /* of a path: a '/' that is encoded becomes "%2F". Of an error: the path */
   URIPARSE_QUERY = 0x60,
-  URIPARSE_FRAGMENT = 0x70
+  URIPARSE_FRAGMENT = 0x70,
+  URIPARSE_SCHEME = 0x80 /* of an error alone */
 };
 
 #ifdef __cplusplus
@@ -216,6 +249,25 @@ uint32_t uriparse_relativize(const uint8_t *base, size_t base_len, const uint8_t
  *
  * The caller ensures: `text` is readable for `len` bytes; `out` is writable for `room` bytes; `needed` is writable. */
 uint32_t uriparse_origin(const uint8_t *text, size_t len, uint8_t *out, size_t room, size_t *needed);
+
+/* Writes to `out` the string of a reference with some components changed, as `uriparse_normalize` does. All changes are
+ * made at once; a component that is kept keeps its bytes. The values are strings without delimiters, as the fields of
+ * `struct uriparse_parts` are, each among the bytes `values`.
+ *
+ * Setting a host makes an authority, and removing it removes the authority. A user name, a password or a port that is set
+ * without a host is an error. Setting a password brings an empty user name, and removing the user name removes a password
+ * that is kept. After an authority a path that isn't empty gets a leading '/'; an empty one stands for "/", and becomes
+ * that if the authority is removed.
+ *
+ * The first error is returned: URIPARSE_BAD_CHANGE, URIPARSE_MISSING_HOST, then the error of the first component of the
+ * result, in the order of the fields, which is as a reader of that component alone reports it. Without an authority the
+ * path may not start with "//" (URIPARSE_TWO_SLASHES), and with neither a scheme nor an authority no colon precedes its
+ * first slash (URIPARSE_COLON_IN_SEGMENT). Does not allocate.
+ *
+ * The caller ensures: `text` is readable for `len` bytes and `values` for `values_len`; `changes` is initialized; `out` is
+ * writable for `room` bytes; `needed` is writable. */
+uint32_t uriparse_change(const uint8_t *text, size_t len, const struct uriparse_changes *changes, const uint8_t *values,
+                         size_t values_len, uint8_t *out, size_t room, size_t *needed);
 
 /* Writes to `*pair` where the pair is that begins at `at` in a query, and where the next one begins. Returns whether there
  * is one: if `at` is greater than `len` there is none, and `*pair` is unchanged. To read all pairs:
@@ -319,6 +371,12 @@ inline uint32_t uriparse_origin(const void *text, size_t len, void *out, size_t 
   return uriparse_c::uriparse_origin(uriparse_text(text), len, uriparse_room(out), room, needed);
 }
 
+inline uint32_t uriparse_change(const void *text, size_t len, const uriparse_changes *changes, const void *values,
+                                size_t values_len, void *out, size_t room, size_t *needed) {
+  return uriparse_c::uriparse_change(uriparse_text(text), len, changes, uriparse_text(values), values_len,
+                                     uriparse_room(out), room, needed);
+}
+
 inline bool uriparse_next_pair(const void *query, size_t len, size_t at, uriparse_pair *pair) {
   return uriparse_c::uriparse_next_pair(uriparse_text(query), len, at, pair);
 }
@@ -360,6 +418,9 @@ static inline uint8_t *uriparse_room(void *out) {
   (uriparse_relativize)(uriparse_text(base), base_len, uriparse_text(text), len, uriparse_room(out), room, needed)
 #define uriparse_origin(text, len, out, room, needed)                                                                  \
   (uriparse_origin)(uriparse_text(text), len, uriparse_room(out), room, needed)
+#define uriparse_change(text, len, changes, values, values_len, out, room, needed)                                     \
+  (uriparse_change)(uriparse_text(text), len, changes, uriparse_text(values), values_len, uriparse_room(out), room,    \
+                    needed)
 #define uriparse_next_pair(query, len, at, pair) (uriparse_next_pair)(uriparse_text(query), len, at, pair)
 #define uriparse_decode(text, len, out, room, needed)                                                                  \
   (uriparse_decode)(uriparse_text(text), len, uriparse_room(out), room, needed)
@@ -380,6 +441,10 @@ static inline const char *uriparse_error_text(uint32_t code) {
   case URIPARSE_TOO_MANY_SEGMENTS: return "the path has too many segments";
   case URIPARSE_NO_COMPONENT: return "no component has this number";
   case URIPARSE_NO_ORIGIN: return "the reference has no origin";
+  case URIPARSE_MISSING_HOST: return "a user name, password or port without a host";
+  case URIPARSE_BAD_CHANGE: return "a change without a meaning";
+  case URIPARSE_TWO_SLASHES: return "without an authority the path would start with two slashes";
+  case URIPARSE_USERNAME_COLON: return "a colon in the user name";
   case URIPARSE_USERNAME_BYTE: return "invalid byte in the user name";
   case URIPARSE_USERNAME_ESCAPE: return "invalid percent-encoding in the user name";
   case URIPARSE_PASSWORD_BYTE: return "invalid byte in the password";
@@ -397,6 +462,9 @@ static inline const char *uriparse_error_text(uint32_t code) {
   case URIPARSE_QUERY_ESCAPE: return "invalid percent-encoding in the query";
   case URIPARSE_FRAGMENT_BYTE: return "invalid byte in the fragment";
   case URIPARSE_FRAGMENT_ESCAPE: return "invalid percent-encoding in the fragment";
+  case URIPARSE_SCHEME_EMPTY: return "the scheme is empty";
+  case URIPARSE_SCHEME_BYTE: return "invalid byte in the scheme";
+  case URIPARSE_SCHEME_LETTER: return "the scheme does not start with a letter";
   default: return "unknown code";
   }
 }

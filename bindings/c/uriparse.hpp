@@ -105,6 +105,44 @@ inline std::string escape(std::string_view text) { return detail::write(uriparse
 inline std::string resolve(std::string_view base, std::string_view text) { return detail::write(uriparse_resolve, base, text); }
 inline std::string relativize(std::string_view base, std::string_view uri) { return detail::write(uriparse_relativize, base, uri); }
 
+// What becomes of a component: it is kept, unless it is set to a string, or removed by std::nullopt.
+class change {
+  std::optional<view> wanted_;
+
+public:
+  change() noexcept = default;
+  change(std::nullopt_t) noexcept : wanted_(std::in_place) {}
+  template <class Text, class = std::enable_if_t<std::is_convertible_v<const Text &, std::string_view>>>
+  change(const Text &text) noexcept : wanted_(std::in_place, std::string_view(text)) {}
+  const std::optional<view> &wanted() const noexcept { return wanted_; }
+};
+
+// What becomes of each component: views of strings, which must outlive them.
+struct changes {
+  change scheme, username, password, host, port, path, query, fragment;
+};
+
+// The text with these components changed. What isn't named stays, byte for byte.
+inline std::string replace(std::string_view text, const changes &wanted) {
+  uriparse_changes fields{};
+  std::string values, out;
+  const auto note = [&values](auto &field, const change &one) {
+    if (!one.wanted()) return;
+    field.action = *one.wanted() ? URIPARSE_SET : URIPARSE_REMOVE;
+    field.begin = values.size();
+    values += one.wanted()->value_or("");
+    field.end = values.size();
+  };
+  note(fields.scheme, wanted.scheme), note(fields.username, wanted.username), note(fields.password, wanted.password);
+  note(fields.host, wanted.host), note(fields.port, wanted.port), note(fields.path, wanted.path);
+  note(fields.query, wanted.query), note(fields.fragment, wanted.fragment);
+  const auto call = [&](const void *at, std::size_t len, void *to, std::size_t room, std::size_t *needed) {
+    return uriparse_change(at, len, &fields, values.data(), values.size(), to, room, needed);
+  };
+  detail::check(detail::fill(out, call, text), text);
+  return out;
+}
+
 inline std::optional<std::string> origin(std::string_view text) {
   std::string out;
   const auto code = detail::fill(out, uriparse_origin, text);

@@ -13,7 +13,6 @@
 #include "utils/builtins.h"
 #include "utils/memutils.h"
 
-#include "kinds.h"
 #include "order.h"
 #include "pairs.h"
 #include "uriparse.h"
@@ -97,16 +96,27 @@ uri_port(PG_FUNCTION_ARGS)
 	PG_RETURN_INT32(parts.port_number);
 }
 
+/* The kind of the host, which is named as in other languages. */
 PG_FUNCTION_INFO_V1(uri_host_kind);
 Datum
 uri_host_kind(PG_FUNCTION_ARGS)
 {
 	struct uriparse_parts parts;
-	const char *kind = is_reference(argument(fcinfo, 0), &parts) ? kinds_host(parts.host_kind) : NULL;
 
-	if (!kind)
+	if (!is_reference(argument(fcinfo, 0), &parts))
 		PG_RETURN_NULL();
-	PG_RETURN_TEXT_P(cstring_to_text(kind));
+	switch (parts.host_kind)
+	{
+		case URIPARSE_HOST_NAME:
+			PG_RETURN_TEXT_P(cstring_to_text("name"));
+		case URIPARSE_HOST_IPV4:
+			PG_RETURN_TEXT_P(cstring_to_text("ipv4"));
+		case URIPARSE_HOST_IPV6:
+			PG_RETURN_TEXT_P(cstring_to_text("ipv6"));
+		case URIPARSE_HOST_FUTURE:
+			PG_RETURN_TEXT_P(cstring_to_text("ipvfuture"));
+	}
+	PG_RETURN_NULL();
 }
 
 PG_FUNCTION_INFO_V1(uri_valid);
@@ -175,12 +185,6 @@ static uint32_t
 write_relative(const struct bytes *texts, char *out, size_t room, size_t *needed)
 {
 	return uriparse_relativize(texts[0].at, texts[0].len, texts[1].at, texts[1].len, out, room, needed);
-}
-
-static uint32_t
-write_encoded(const struct bytes *texts, char *out, size_t room, size_t *needed)
-{
-	return uriparse_encode(kinds_component(texts[0].at, texts[0].len), texts[1].at, texts[1].len, out, room, needed);
 }
 
 static uint32_t
@@ -271,18 +275,101 @@ uri_escape(PG_FUNCTION_ARGS)
 	return written_of(fcinfo, write_escaped, &text);
 }
 
-/* An error if the first argument names no component. */
+PG_FUNCTION_INFO_V1(uri_origin);
+Datum
+uri_origin(PG_FUNCTION_ARGS)
+{
+	return written(fcinfo, write_origin);
+}
+
+/* The place of a name in a list that ends with NULL. A name that isn't there is an error. */
+static size_t
+place_of(struct bytes name, const char *const *list)
+{
+	for (size_t i = 0; list[i]; i++)
+		if (strlen(list[i]) == name.len && memcmp(list[i], name.at, name.len) == 0)
+			return i;
+	ereport(ERROR,
+			(errcode(ERRCODE_INVALID_PARAMETER_VALUE),
+			 errmsg("no component \"%s\"", text_to_cstring(name.value))));
+}
+
+/* The text, the place of a component, and its value, or none. */
+static uint32_t
+write_replaced(const struct bytes *texts, char *out, size_t room, size_t *needed)
+{
+	struct uriparse_changes changes = {0};
+	struct uriparse_value *fields[] = {&changes.scheme, &changes.username, &changes.password, &changes.host,
+	&changes.port, &changes.path, &changes.query, &changes.fragment};
+	struct uriparse_value *field = fields[texts[1].len];
+
+	field->end = texts[2].len;
+	field->action = texts[2].at ? URIPARSE_SET : URIPARSE_REMOVE;
+	return uriparse_change(texts[0].at, texts[0].len, &changes, texts[2].at, texts[2].len, out, room, needed);
+}
+
+/* A text with a component set to a value, or removed by NULL. */
+PG_FUNCTION_INFO_V1(uri_replace);
+Datum
+uri_replace(PG_FUNCTION_ARGS)
+{
+	static const char *const names[] = {"scheme", "username", "password", "host", "port", "path", "query", "fragment", NULL};
+	struct bytes texts[3] = {{NULL, 0, NULL}};
+
+	if (PG_ARGISNULL(0) || PG_ARGISNULL(1))
+		PG_RETURN_NULL();
+	texts[0] = argument(fcinfo, 0);
+	texts[1].len = place_of(argument(fcinfo, 1), names);
+	if (!PG_ARGISNULL(2))
+		texts[2] = argument(fcinfo, 2);
+	return written_of(fcinfo, write_replaced, texts);
+}
+
+static uint32_t
+write_encoded(const struct bytes *texts, char *out, size_t room, size_t *needed)
+{
+	static const uint32_t components[] = {URIPARSE_USERNAME, URIPARSE_PASSWORD, URIPARSE_SEGMENT, URIPARSE_QUERY, URIPARSE_FRAGMENT};
+
+	return uriparse_encode(components[texts[0].len], texts[1].at, texts[1].len, out, room, needed);
+}
+
+/* The UTF-8 of a text, or bytes, as a component. */
+static Datum
+encoded(FunctionCallInfo fcinfo, struct bytes data)
+{
+	static const char *const names[] = {"username", "password", "segment", "query", "fragment", NULL};
+	struct bytes texts[2] = {{NULL, 0, NULL}, data};
+
+	texts[0].len = place_of(argument(fcinfo, 0), names);
+	return written_of(fcinfo, write_encoded, texts);
+}
+
 PG_FUNCTION_INFO_V1(uri_encode);
 Datum
 uri_encode(PG_FUNCTION_ARGS)
 {
-	struct bytes texts[2] = {argument(fcinfo, 0), in_utf8(argument(fcinfo, 1))};
+	return encoded(fcinfo, in_utf8(argument(fcinfo, 1)));
+}
 
-	if (!kinds_component(texts[0].at, texts[0].len))
-		ereport(ERROR,
-				(errcode(ERRCODE_INVALID_PARAMETER_VALUE),
-				 errmsg("uri_encode: the component must be " KINDS_ENCODED)));
-	return written_of(fcinfo, write_encoded, texts);
+PG_FUNCTION_INFO_V1(uri_encode_bytes);
+Datum
+uri_encode_bytes(PG_FUNCTION_ARGS)
+{
+	return encoded(fcinfo, argument(fcinfo, 1));
+}
+
+static uint32_t
+write_decoded(const struct bytes *texts, char *out, size_t room, size_t *needed)
+{
+	return uriparse_decode(texts[0].at, texts[0].len, out, room, needed);
+}
+
+/* The bytes that a component stands for. A bytea is laid out as a text. */
+PG_FUNCTION_INFO_V1(uri_decode_bytes);
+Datum
+uri_decode_bytes(PG_FUNCTION_ARGS)
+{
+	return written(fcinfo, write_decoded);
 }
 
 /* Of bytes without a zero byte: the text in the database's encoding that they are in UTF-8, or NULL if there is none. */
@@ -327,13 +414,6 @@ uri_decode(PG_FUNCTION_ARGS)
 	if (!result)
 		PG_RETURN_NULL();
 	PG_RETURN_TEXT_P(result);
-}
-
-PG_FUNCTION_INFO_V1(uri_origin);
-Datum
-uri_origin(PG_FUNCTION_ARGS)
-{
-	return written(fcinfo, write_origin);
 }
 
 /* The pairs of a query that are left. */

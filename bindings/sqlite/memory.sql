@@ -7,6 +7,7 @@ CREATE TABLE results AS SELECT uri_valid(x), uri_fault(x), uri_scheme(x), uri_au
   uri_query(x), uri_fragment(x), uri_normalize(x), uri_hash(x), uri_origin(x), uri_escape(x), uri_username(x), uri_password(x), uri_host_kind(x), uri_decode(x)
   FROM some;
 SELECT count(uri_resolve(a.x, b.x)), sum(uri_equal(a.x, b.x)), count(uri_relativize(a.x, b.x)) FROM some a, some b;
+SELECT count(uri_replace(x, 'host', 'h')), count(uri_replace(x, 'port', NULL)) FROM some;
 SELECT count(uri_decode(uri_encode(component, x))) FROM some,
   (SELECT 'username' AS component UNION SELECT 'password' UNION SELECT 'segment' UNION SELECT 'query' UNION SELECT 'fragment');
 SELECT count(name), sum(length(value)) FROM some, uri_pairs(x || '?a=%41&%c3%bc=%ff&=&b');

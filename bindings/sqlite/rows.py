@@ -115,9 +115,8 @@ _IPV4 = re.compile(rb"\.".join([_OCTET] * 4))
 
 
 def decoded(text: bytes) -> Optional[bytes]:
-    """The bytes that the text of a component stands for, if it is one, without a zero byte."""
-    found = unquote_to_bytes(text) if _QUERY.fullmatch(text) else b"\0"
-    return None if b"\0" in found else found
+    """The bytes that the text of a component stands for, if it is one."""
+    return unquote_to_bytes(text) if _QUERY.fullmatch(text) else None
 
 
 def authority_parts(text: bytes) -> Tuple[Optional[bytes], Optional[bytes], Optional[str]]:

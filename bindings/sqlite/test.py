@@ -22,8 +22,8 @@ import fuzz  # noqa: E402
 import rows  # noqa: E402
 import uriparse  # noqa: E402
 
-ONE = ("valid", "fault", "scheme", "authority", "host", "port", "path", "query", "fragment", "normalize", "hash", "origin", "escape", "username",
-       "password", "host_kind", "decode")
+ONE = ("valid", "fault", "scheme", "authority", "host", "port", "path", "query", "fragment", "normalize", "hash", "origin", "escape",
+       "username", "password", "host_kind", "decode")
 EXTENSION = os.path.abspath(sys.argv[1])
 COUNT = int(sys.argv[2]) if len(sys.argv) > 2 else 100_000
 
@@ -50,19 +50,18 @@ def raised(call: Callable[[], object]) -> str:
     raise AssertionError("nothing raised")
 
 
-def written(call: Callable[..., bytes], *texts: bytes) -> Optional[str]:
-    """What a call of the package writes, or None if it rejects a text."""
-    found: Optional[bytes] = answer_of(call, *texts)
-    return None if found is None else found.decode()
+def shown_origin(text: bytes) -> Optional[str]:
+    found = answer_of(uriparse.origin, text)
+    return found and found.decode()
 
 
-def decoded(text: bytes) -> Optional[str]:
-    """What the text of a component stands for, if that is UTF-8."""
+def decoded(text: bytes) -> Any:
+    """What the text of a component stands for: a text if that is UTF-8 without a zero byte, else bytes."""
     found = rows.decoded(text)
     try:
-        return None if found is None else found.decode()
+        return found if found is None or b"\0" in found else found.decode()
     except UnicodeDecodeError:
-        return None
+        return found
 
 
 def expected(text: bytes) -> Tuple[Any, ...]:
@@ -76,7 +75,7 @@ def expected(text: bytes) -> Tuple[Any, ...]:
         found.scheme, found.authority, found.host, found.path, found.query, found.fragment)]
     parts.insert(3, found.port_number)  # type: ignore[arg-type]
     signed = struct.unpack("q", struct.pack("Q", uriparse.hash_of(text)))[0]
-    return (1, None, *parts, uriparse.normalize(text).decode(), signed, written(uriparse.origin, text), escaped,
+    return (1, None, *parts, uriparse.normalize(text).decode(), signed, shown_origin(text), escaped,
             *(part.decode() if isinstance(part, bytes) else part for part in rows.authority_parts(text)), decoded(text))
 
 
@@ -121,6 +120,36 @@ def test_errors(db: sqlite3.Connection) -> None:
     assert one(db, "uri_port('//h:')") is None and one(db, "uri_host('//')") == "" and one(db, "uri_path(12)") == "12"
 
 
+def test_changes(db: sqlite3.Connection) -> int:
+    """Components that are replaced, encoded and decoded, beside the package."""
+    draw, count = random.Random(5), 0
+    assert one(db, "uri_replace('HTTP://u:p@h:8080/%7Ea?q#f', 'host', 'example.org')") == "HTTP://u:p@example.org:8080/%7Ea?q#f"
+    assert one(db, "uri_replace('HTTP://u:p@h/a', 'username', NULL)") == "HTTP://h/a"
+    assert one(db, "uri_replace('//h', 'port', 80)") == "//h:80" and one(db, "uri_replace('a', 'port', 80)") is None
+    assert one(db, "uri_replace(NULL, 'port', 80)") is None and one(db, "uri_replace('a', NULL, 80)") is None
+    assert one(db, "uri_replace('a b', 'path', 'a')") is None
+    for expression in ("uri_replace('a', 'authority', 'h')", "uri_replace('a', 'Host', 'h')", "uri_replace('a', '', 'h')"):
+        assert "no component" in raised(lambda: one(db, expression)), expression
+    assert "no component 'host'" in raised(lambda: one(db, "uri_encode('host', 'a')"))
+    for _ in range(COUNT // 20):
+        text, value = fuzz.some_text(draw), draw.choice((None, *fuzz.VALUES))
+        name = draw.choice(("scheme", "username", "password", "host", "port", "path", "query", "fragment"))
+        found = answer_of(lambda whole: uriparse.replace(whole, **{name: value}), text)
+        count += found is not None
+        assert one(db, "uri_replace(?, ?, ?)", text, name, value) == (None if found is None else found.decode()), (text, name, value)
+        component = draw.choice(list(fuzz.KEPT))
+        assert one(db, "uri_encode(?, ?)", component, text) == uriparse.encode(component, text).decode(), (component, text)  # type: ignore[arg-type]
+        decoded = answer_of(uriparse.decode, text)
+        wanted: Any = decoded
+        if decoded is not None and b"\0" not in decoded:
+            try:
+                wanted = decoded.decode()
+            except UnicodeDecodeError:
+                pass
+        assert one(db, "uri_decode(?)", text) == wanted, text
+    return count
+
+
 def test_components(db: sqlite3.Connection) -> None:
     """Components that are encoded and decoded (RFC 3986, section 2), and the parts of an authority (section 3.2)."""
     for component, encoded in (("username", "a%3Ab%40c%2F%3F%20%C3%A9%25&"), ("password", "a:b%40c%2F%3F%20%C3%A9%25&"),
@@ -132,13 +161,12 @@ def test_components(db: sqlite3.Connection) -> None:
         assert one(db, "uri_encode(?, NULL)", component) is None and one(db, "uri_encode(?, '')", component) == ""
         assert one(db, "uri_encode(?, ?)", component.encode(), "\0") == "%00", component
     for component in ("host", "port", "path", "Query", "querys", "quer", "", "query\0", 96, b""):
-        assert raised(lambda: one(db, "uri_encode(?, 'a')", component)) == (
-            "OperationalError: uri_encode: the component must be username, password, segment, query or fragment"), component
+        assert "OperationalError: no component" in raised(lambda: one(db, "uri_encode(?, 'a')", component)), component
         assert one(db, "uri_encode(?, NULL)", component) is None
     assert one(db, "uri_encode(NULL, 'a')") is None and one(db, "uri_encode(NULL, NULL)") is None
     assert "wrong number of arguments" in raised(lambda: one(db, "uri_encode('query')"))
     for text, found in (("a%2fb%20c+d?", "a/b c+d?"), ("", ""), ("%C3%A9%25", "\u00e9%"), ("a%2", None), ("a b", None), ("#", None),
-                        ("%ff", None), ("%00", None), ("%C0%80", None), ("%ED%A0%80", None), ("%F0%9F%98%80", "\U0001f600"), (12, "12")):
+                        ("%ff", b"\xff"), ("a%00", b"a\0"), ("%C0%80", b"\xc0\x80"), ("%ED%A0%80", b"\xed\xa0\x80"), ("%F0%9F%98%80", "\U0001f600"), (12, "12")):
         assert one(db, "uri_decode(?)", text) == found, text
     for authority, parts in (("u:p@h", ("u", "p", "name")), ("u@1.2.3.4:1", ("u", None, "ipv4")), (":@[::1]", ("", "", "ipv6")),
                              ("@[v1.a]", ("", None, "ipvfuture")), ("", (None, None, "name")), ("%31.2.3.4", (None, None, "name")),
@@ -164,7 +192,7 @@ def test_texts(db: sqlite3.Connection) -> None:
         assert one(db, "uri_relativize('http://h/x', ?)", "http://h/" + tail) == tail, size
         assert one(db, "uri_escape(?)", tail + " ") == tail + "%20", size
         assert one(db, "uri_encode('segment', ?)", tail + "/") == tail + "%2F", size
-        assert one(db, "uri_decode(?)", tail + "%2F") == tail + "/" and one(db, "uri_decode(?)", tail + "%ff") is None, size
+        assert one(db, "uri_decode(?)", tail + "%2F") == tail + "/" and one(db, "uri_decode(?)", tail + "%ff") == tail.encode() + b"\xff", size
         assert one(db, "uri_equal(?1, ?2) AND uri_hash(?1) = uri_hash(?2) AND ?1 = ?2 COLLATE URI", "S:" + tail,
                    "s:%61" + tail[1:]) == 1, size
         assert one(db, "?1 < ?2 COLLATE URI AND NOT ?2 < ?1 COLLATE URI", "S:" + tail, "s:%61" + tail) == 1, size
@@ -211,19 +239,20 @@ def test_random(db: sqlite3.Connection, encoding: str) -> int:
     for row, text in zip(db.execute("SELECT %s FROM random ORDER BY rowid" % (calls % (("x",) * len(ONE)))), texts):
         assert row == expected(text), (text, row, expected(text))
     for row, text in zip(db.execute("SELECT %s FROM random ORDER BY rowid" % (calls % (("text",) * len(ONE)))), texts):
-        shown = text.decode("utf-8", "replace").encode()
-        assert row == expected(shown), (text, row)
+        assert row == expected(text.decode("utf-8", "replace").encode()), (text, row)
     pairs = zip(texts, texts[1:])
-    two = db.execute("SELECT uri_resolve(a.x, b.x), uri_relativize(a.x, b.x), uri_equal(a.x, b.x) FROM random a JOIN random b ON b.rowid = a.rowid + 1 "
-                     "ORDER BY a.rowid")
-    for (target, reference, is_equal), (left, right) in zip(two, pairs):
-        assert target == written(uriparse.resolve, left, right), (left, right)
-        assert reference == written(uriparse.relativize, left, right), (left, right)
+    two = db.execute("SELECT uri_resolve(a.x, b.x), uri_equal(a.x, b.x), uri_relativize(a.x, b.x) "
+                     "FROM random a JOIN random b ON b.rowid = a.rowid + 1 ORDER BY a.rowid")
+    for (target, is_equal, relative), (left, right) in zip(two, pairs):
+        leading = answer_of(uriparse.relativize, left, right)
+        assert relative == (leading if leading is None else leading.decode()), (left, right)
+        assert (target or "").encode() == (answer_of(uriparse.resolve, left, right) or b""), (left, right)
         assert is_equal == answer_of(uriparse.equal, left, right), (left, right)
+    shown = [text.decode("utf-8", "replace") for text in texts]
+    back = [text.encode() if "\0" in text else text for text in shown]
     for component, kept in fuzz.KEPT.items():
-        found = db.execute("SELECT uri_encode(?1, x), uri_decode(uri_encode(?1, text)) IS CASE WHEN instr(text, char(0)) = 0 THEN text END "
-                           "FROM random ORDER BY rowid", (component,)).fetchall()
-        assert found == [(quote(text, safe=kept), 1) for text in texts], component
+        found = db.execute("SELECT uri_encode(?1, x), uri_decode(uri_encode(?1, text)) FROM random ORDER BY rowid", (component,)).fetchall()
+        assert found == list(zip((quote(text, safe=kept) for text in texts), back)), component
     return len(texts)
 
 
@@ -328,6 +357,7 @@ def main() -> None:
         found = test_rows(db)
         test_errors(db)
         test_components(db)
+        changed = test_changes(db)
         test_texts(db)
         texts = test_random(db, encoding) if encoding != "UTF-16be" else 0
         pairs = test_order(db)
@@ -335,8 +365,8 @@ def main() -> None:
         if texts:
             test_indexes(db)
         assert one(db, "encoding FROM pragma_encoding") == encoding
-        counts.append("%s: %d rows, %d random texts, %d pairs of their queries, %d pairs in order" % (
-            encoding, found, texts, of_queries, pairs))
+        counts.append("%s: %d rows, %d changes, %d random texts, %d pairs of their queries, %d pairs in order" % (
+            encoding, found, changed, texts, of_queries, pairs))
         db.close()
     test_names()
     counts.append("%d statements of README.md" % test_page())

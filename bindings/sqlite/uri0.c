@@ -2,7 +2,6 @@
 #include "sqlite3ext.h"
 SQLITE_EXTENSION_INIT1
 
-#include "kinds.h"
 #include "order.h"
 #include "pairs.h"
 #include "uriparse.h"
@@ -58,12 +57,18 @@ static void port(sqlite3_context *context, int count, sqlite3_value **values) {
     sqlite3_result_int64(context, parts.port_number);
 }
 
+/* The kind of the host, which is named as in other languages. */
 static void host_kind(sqlite3_context *context, int count, sqlite3_value **values) {
   struct text text;
   struct uriparse_parts parts;
   (void)count;
-  if (read_reference(context, values[0], &text, &parts))
-    sqlite3_result_text(context, kinds_host(parts.host_kind), -1, SQLITE_STATIC);
+  if (!read_reference(context, values[0], &text, &parts)) return;
+  switch (parts.host_kind) {
+  case URIPARSE_HOST_NAME: sqlite3_result_text(context, "name", -1, SQLITE_STATIC); break;
+  case URIPARSE_HOST_IPV4: sqlite3_result_text(context, "ipv4", -1, SQLITE_STATIC); break;
+  case URIPARSE_HOST_IPV6: sqlite3_result_text(context, "ipv6", -1, SQLITE_STATIC); break;
+  case URIPARSE_HOST_FUTURE: sqlite3_result_text(context, "ipvfuture", -1, SQLITE_STATIC); break;
+  }
 }
 
 static void valid(sqlite3_context *context, int count, sqlite3_value **values) {
@@ -136,16 +141,6 @@ static uint32_t write_relative(const struct text *texts, char *out, size_t room,
   return uriparse_relativize(texts[0].at, texts[0].len, texts[1].at, texts[1].len, out, room, needed);
 }
 
-/* The text is rejected too if what it stands for isn't UTF-8, or has a zero byte. */
-static uint32_t write_decoded(const struct text *texts, char *out, size_t room, size_t *needed) {
-  uint32_t code = uriparse_decode(texts[0].at, texts[0].len, out, room, needed);
-  return code == URIPARSE_OK && !pairs_are_text(out, *needed) ? URIPARSE_QUERY_ESCAPE : code;
-}
-
-static uint32_t write_encoded(const struct text *texts, char *out, size_t room, size_t *needed) {
-  return uriparse_encode(kinds_component(texts[0].at, texts[0].len), texts[1].at, texts[1].len, out, room, needed);
-}
-
 static uint32_t write_escaped(const struct text *texts, char *out, size_t room, size_t *needed) {
   return uriparse_escape(texts[0].at, texts[0].len, out, room, needed);
 }
@@ -155,14 +150,10 @@ static uint32_t write_origin(const struct text *texts, char *out, size_t room, s
 }
 
 /* What the call writes; NULL if it rejects a text. */
-static void result_written(sqlite3_context *context, int count, sqlite3_value **values, writer *write) {
-  struct text texts[2];
+static void result_of(sqlite3_context *context, const struct text *texts, writer *write) {
   char room[SHORT], *out;
   size_t needed;
-  uint32_t code;
-  for (int i = 0; i < count; i++)
-    if (!read_text(context, values[i], &texts[i])) return;
-  code = write(texts, room, sizeof room, &needed);
+  uint32_t code = write(texts, room, sizeof room, &needed);
   if (code == URIPARSE_OK) sqlite3_result_text64(context, room, needed, SQLITE_TRANSIENT, SQLITE_UTF8);
   if (code != URIPARSE_NO_ROOM) return;
   out = sqlite3_malloc64(needed);
@@ -172,6 +163,13 @@ static void result_written(sqlite3_context *context, int count, sqlite3_value **
     sqlite3_result_text64(context, out, needed, sqlite3_free, SQLITE_UTF8);
   else
     sqlite3_free(out);
+}
+
+static void result_written(sqlite3_context *context, int count, sqlite3_value **values, writer *write) {
+  struct text texts[2];
+  for (int i = 0; i < count; i++)
+    if (!read_text(context, values[i], &texts[i])) return;
+  result_of(context, texts, write);
 }
 
 static void normalize(sqlite3_context *context, int count, sqlite3_value **values) {
@@ -186,26 +184,86 @@ static void relativize(sqlite3_context *context, int count, sqlite3_value **valu
   result_written(context, count, values, write_relative);
 }
 
-static void decode(sqlite3_context *context, int count, sqlite3_value **values) {
-  result_written(context, count, values, write_decoded);
-}
-
-/* An error if the first argument names no component. */
-static void encode(sqlite3_context *context, int count, sqlite3_value **values) {
-  struct text texts[2];
-  if (!read_text(context, values[0], &texts[0]) || !read_text(context, values[1], &texts[1])) return;
-  if (kinds_component(texts[0].at, texts[0].len))
-    result_written(context, count, values, write_encoded);
-  else
-    sqlite3_result_error(context, "uri_encode: the component must be " KINDS_ENCODED, -1);
-}
-
 static void escape(sqlite3_context *context, int count, sqlite3_value **values) {
   result_written(context, count, values, write_escaped);
 }
 
 static void origin(sqlite3_context *context, int count, sqlite3_value **values) {
   result_written(context, count, values, write_origin);
+}
+
+/* The bytes that a component stands for: a text if they are UTF-8 without a zero byte, else a blob. */
+static void decode(sqlite3_context *context, int count, sqlite3_value **values) {
+  struct text text;
+  size_t len;
+  char *out;
+  (void)count;
+  if (!read_text(context, values[0], &text)) return;
+  out = sqlite3_malloc64(text.len + 1);
+  if (!out)
+    sqlite3_result_error_nomem(context);
+  else if (uriparse_decode(text.at, text.len, out, text.len, &len) != URIPARSE_OK)
+    sqlite3_free(out);
+  else if (pairs_are_text(out, len))
+    sqlite3_result_text64(context, out, len, sqlite3_free, SQLITE_UTF8);
+  else
+    sqlite3_result_blob64(context, out, len, sqlite3_free);
+}
+
+/* The place of a name in a list that ends with NULL. If it isn't there the function's result is an error. */
+static int find_name(sqlite3_context *context, const struct text *name, const char *const *list) {
+  char *message;
+  for (int i = 0; list[i]; i++)
+    if (strlen(list[i]) == name->len && memcmp(list[i], name->at, name->len) == 0) return i;
+  message = sqlite3_mprintf("no component %.*Q", (int)(name->len < 40 ? name->len : 40), name->at);
+  if (message)
+    sqlite3_result_error(context, message, -1);
+  else
+    sqlite3_result_error_nomem(context);
+  sqlite3_free(message);
+  return -1;
+}
+
+static uint32_t write_encoded(const struct text *texts, char *out, size_t room, size_t *needed) {
+  static const uint32_t COMPONENTS[] = {URIPARSE_USERNAME, URIPARSE_PASSWORD, URIPARSE_SEGMENT, URIPARSE_QUERY, URIPARSE_FRAGMENT};
+  return uriparse_encode(COMPONENTS[texts[0].len], texts[1].at, texts[1].len, out, room, needed);
+}
+
+/* uri_encode(component, value) */
+static void encode(sqlite3_context *context, int count, sqlite3_value **values) {
+  static const char *const NAMES[] = {"username", "password", "segment", "query", "fragment", NULL};
+  struct text texts[2];
+  int at;
+  (void)count;
+  if (!read_text(context, values[0], &texts[0]) || !read_text(context, values[1], &texts[1])) return;
+  at = find_name(context, &texts[0], NAMES);
+  if (at < 0) return;
+  texts[0].len = (size_t)at;
+  result_of(context, texts, write_encoded);
+}
+
+/* The text, and the change of a component to a value: which one, and whether it is set. */
+static uint32_t write_replaced(const struct text *texts, char *out, size_t room, size_t *needed) {
+  struct uriparse_changes changes = {0};
+  struct uriparse_value *fields[] = {&changes.scheme, &changes.username, &changes.password, &changes.host,
+                                      &changes.port,   &changes.path,     &changes.query,    &changes.fragment};
+  struct uriparse_value *field = fields[texts[1].len];
+  field->end = texts[2].len;
+  field->action = texts[2].at ? URIPARSE_SET : URIPARSE_REMOVE;
+  return uriparse_change(texts[0].at, texts[0].len, &changes, texts[2].at, texts[2].len, out, room, needed);
+}
+
+/* uri_replace(t, component, value): NULL removes the component. */
+static void replace(sqlite3_context *context, int count, sqlite3_value **values) {
+  static const char *const NAMES[] = {"scheme", "username", "password", "host", "port", "path", "query", "fragment", NULL};
+  struct text texts[3] = {{.at = NULL, .len = 0}};
+  int at;
+  (void)count;
+  if (!read_text(context, values[0], &texts[0]) || !read_text(context, values[1], &texts[1])) return;
+  at = find_name(context, &texts[1], NAMES);
+  if (at < 0 || (sqlite3_value_type(values[2]) != SQLITE_NULL && !read_text(context, values[2], &texts[2]))) return;
+  texts[1].len = (size_t)at;
+  result_of(context, texts, write_replaced);
 }
 
 /* The table uri_pairs(t): a row for each pair of the query of a reference. The third column is hidden, and is the argument. */
@@ -372,6 +430,7 @@ static const struct {
   {"uri_username", 1, component, &PLACES[6]}, {"uri_password", 1, component, &PLACES[7]},
   {"uri_host_kind", 1, host_kind, NULL},   {"uri_relativize", 2, relativize, NULL},
   {"uri_decode", 1, decode, NULL},         {"uri_encode", 2, encode, NULL},
+  {"uri_replace", 3, replace, NULL},
 };
 
 __attribute__((visibility("default")))

@@ -113,7 +113,7 @@ await test("the messages are those of the header", async () => {
   const header = await readFile(new URL("../c/uriparse.h", import.meta.url), "utf8");
   const codes = new Map([...header.matchAll(/^  URIPARSE_(\w+) = (0x\w+|\d+)/gm)].map(([, name, code]) => [name, Number(code)]));
   const texts = [...header.matchAll(/case URIPARSE_(\w+): return "(.*)";/g)].map(([, name, text]) => [codes.get(name), text]);
-  assert.equal(texts.length, 25);
+  assert.equal(texts.length, 32);
   for (const [code, text] of texts.filter(([code]) => code > 2)) {
     assert.equal(new URIParseError(code, null, "").message, text);
   }
@@ -183,6 +183,28 @@ await test("what leads to a URI", () => {
   assert.equal(uris.relativize("s:a", "s:a"), "");
   assert.throws(() => uris.relativize("s:", "/a"), { inBase: false, argument: "reference", component: "scheme", code: 3, place: 0, message: "reference: the scheme is missing" });
   assert.throws(() => uris.relativize("/a", "%"), { inBase: true, argument: "base", code: 0x103 });
+});
+
+await test("components that are replaced", () => {
+  assert.equal(uris.replace("HTTP://u:p@h:8080/%7Ea?q#f", { host: "example.org", username: null }), "HTTP://example.org:8080/%7Ea?q#f");
+  assert.equal(uris.replace("a:b/c", { port: 80, host: "h" }), "a://h:80/b/c");
+  assert.equal(uris.replace(new URL("http://h/"), { path: "x", query: "", fragment: undefined }), "http://h/x?");
+  assert.equal(uris.replace("//h", { host: null }), "/");
+  assert.equal(uris.replace("", {}), "");
+  assert.equal(uris.replace("s:", { path: "a".repeat(99999), fragment: "b".repeat(99999) }), `s:${"a".repeat(99999)}#${"b".repeat(99999)}`);
+  assert.throws(() => uris.replace("a b", { host: "h" }), { code: 0x51, argument: "text", place: 1 });
+  assert.throws(() => uris.replace("//h", { query: "", host: "a/b" }), { code: 0x31, argument: "host", component: "host", text: "a/b", place: 0,
+    message: "host: invalid byte or percent-encoding in the host" });
+  assert.throws(() => uris.replace("//h", { port: 65536 }), { code: 0x42, argument: "port" });
+  assert.throws(() => uris.replace("//h", { path: "\u00fc" }), { code: 0x51, argument: "path", text: "\u00fc" });
+  assert.throws(() => uris.replace("//h", { username: "a:b" }), { code: 0x10, argument: "username" });
+  assert.throws(() => uris.replace("s:a", { scheme: "1" }), { code: 0x82, component: "scheme" });
+  assert.throws(() => uris.replace("a", { port: 1 }), { code: 11, argument: "text", component: "host" });
+  assert.throws(() => uris.replace("s:a:b", { scheme: null }), { code: 4, argument: "text" });
+  assert.throws(() => uris.replace("//h//a", { host: null, path: undefined }), { code: 6, component: "path" });
+  for (const wrong of [{ Host: "h" }, { authority: "h" }, { host: 5 }, { port: 1.5 }, { path: ["a"] }, { port: true }]) {
+    assert.throws(() => uris.replace("//h", wrong), TypeError);
+  }
 });
 await test("origins", () => {
   assert.equal(uris.origin("HTTPS://u@EXAMPLE.com:443/b?c"), "https://example.com");

@@ -1,5 +1,5 @@
 // A user of the types, which `bindings/web/run` has the TypeScript compiler check without the types of the DOM.
-import { load, isSupported, URIParseError, type Encoded, type Fault, type Pair, type Parts, type Place, type URIs } from "./uriparse.mjs";
+import { load, isSupported, URIParseError, type Changes, type Encoded, type Fault, type Pair, type Parts, type Place, type URIs } from "./uriparse.mjs";
 
 async function told(text: string): Promise<string> {
   const uris: URIs = await load("uriparse.wasm");
@@ -15,11 +15,15 @@ async function told(text: string): Promise<string> {
   const bytes: Uint8Array = uris.decode(parts.query ?? "");
   const pairs: Pair[] = uris.pairs(parts.query ?? "");
   const values: (string | null)[] = pairs.map(([name, value]) => value ?? name);
+  const changes: Changes = { host: "h", port: 80, query: null, fragment: undefined };
   const hash: bigint = uris.hash(text) % 2n;
   const equal: boolean = uris.equal(text, uris.normalize(text)) && uris.isURI(uris.resolve(text, "a"));
   return [host?.[0], kind, parts.port?.toFixed(), segments, names, bytes.length, values, hash, equal, uris.escape(text), uris.origin(text),
-    uris.relativize(text, text)].join();
+    uris.relativize(text, text), uris.replace(text, changes)].join();
 }
+
+// @ts-expect-error an authority is changed by its components
+const whole: Changes = { authority: "h" };
 
 // @ts-expect-error no component is encoded as a path
 const wrong: Encoded = "path";
@@ -38,8 +42,8 @@ export async function main(): Promise<string> {
   } catch (error: unknown) {
     if (error instanceof URIParseError) {
       const inBase: boolean = error.inBase;
-      const argument: "text" | "base" | "reference" | "left" | "right" = error.argument;
-      return [error.code.toFixed(), error.component, error.place.toFixed(), error.text, error.message, argument, inBase, wrong, number, none].join();
+      const argument: string = error.argument;
+      return [error.code.toFixed(), error.component, error.place.toFixed(), error.text, error.message, argument, inBase, wrong, number, none, whole.host].join();
     }
     throw error;
   }

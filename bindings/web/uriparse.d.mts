@@ -40,8 +40,8 @@ export class URIParseError extends Error {
   readonly place: number;
   /** The text that is rejected. */
   readonly text: string;
-  /** Which text of the call it is; the URI of `relativize` is its reference. */
-  readonly argument: "text" | "base" | "reference" | "left" | "right";
+  /** Which text of the call it is; the URI of `relativize` is its reference. Of `replace` also the component whose value it is. */
+  readonly argument: "text" | "base" | "reference" | "left" | "right" | Exclude<Component, "authority">;
   /** Whether it is the base of `resolve` or `relativize`. */
   readonly inBase: boolean;
 }
@@ -55,6 +55,18 @@ export type Input = string | { readonly href: string };
 /** A pair of a query, as it stands in the text: `decode` reads both. The value is null if the pair has no "=". */
 export type Pair = [name: string, value: string | null];
 
+/** What becomes of components: each has a new string, or null if it is removed. What isn't named stays. */
+export interface Changes {
+  scheme?: string | null;
+  username?: string | null;
+  password?: string | null;
+  host?: string | null;
+  port?: string | number | null;
+  path?: string | null;
+  query?: string | null;
+  fragment?: string | null;
+}
+
 /** The calls. A string or a result that is longer than the memory or a string can be is a `RangeError`. */
 export interface URIs {
   parse(text: Input): Parts;
@@ -67,6 +79,8 @@ export interface URIs {
   relativize(base: Input, uri: Input): string;
   /** A URI without a host, or with an empty one, has no origin. The name "%31.2.3.4" and the address "1.2.3.4" have one text. */
   origin(text: Input): string;
+  /** Setting the host makes an authority, and removing it removes the authority. Another name is a `TypeError`. */
+  replace(text: Input, changes: Changes): string;
   /** A lone surrogate is a `TypeError`. */
   escape(text: Input): string;
   /** A lone surrogate is a `TypeError`. */

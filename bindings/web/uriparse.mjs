@@ -10,8 +10,12 @@ const CODES = {
   3: ["scheme", "the scheme is missing"],
   4: ["path", "a colon in the first segment of a reference without a scheme"],
   5: ["path", "the path has too many segments"],
+  6: ["path", "without an authority the path would start with two slashes"],
   8: [null, "no component has this number"],
   10: [null, "the reference has no origin"],
+  11: ["host", "a user name, password or port without a host"],
+  12: [null, "a change without a meaning"],
+  0x10: ["username", "a colon in the user name"],
   0x11: ["username", "invalid byte in the user name"],
   0x12: ["username", "invalid percent-encoding in the user name"],
   0x21: ["password", "invalid byte in the password"],
@@ -29,6 +33,9 @@ const CODES = {
   0x62: ["query", "invalid percent-encoding in the query"],
   0x71: ["fragment", "invalid byte in the fragment"],
   0x72: ["fragment", "invalid percent-encoding in the fragment"],
+  0x80: ["scheme", "the scheme is empty"],
+  0x81: ["scheme", "invalid byte in the scheme"],
+  0x82: ["scheme", "the scheme does not start with a letter"],
 };
 
 const NO_ROOM = 2;
@@ -46,6 +53,12 @@ const SPAN = 6;
 const HOST_KIND = COMPONENTS.length * SPAN;
 const PORT = HOST_KIND + 1;
 const PARTS = 4 * (PORT + 1);
+
+// The components that are replaced, in the order of its struct of changes, which has a span for each with what becomes of it.
+const REPLACED = COMPONENTS.filter((name) => name !== "authority");
+const CHANGES = 4 * REPLACED.length * SPAN;
+const SET = 1;
+const REMOVE = 2;
 
 // The same of its struct of a pair.
 const NAME = 0;
@@ -111,6 +124,22 @@ function wellFormed(value) {
     throw new TypeError(`a lone surrogate at index ${place}`);
   }
   return text;
+}
+
+// The names of the components that are set and of those that are removed, and the strings that they are set to.
+function changesOf(changes) {
+  const names = Object.keys(changes).filter((name) => changes[name] !== undefined);
+  const other = names.find((name) => !REPLACED.includes(name));
+  if (other !== undefined) {
+    throw new TypeError(`no component that is replaced is ${other}`);
+  }
+  const set = names.filter((name) => changes[name] !== null);
+  const values = set.map((name) => (name === "port" && Number.isInteger(changes.port) ? String(changes.port) : changes[name]));
+  const wrong = values.findIndex((value) => typeof value !== "string");
+  if (wrong >= 0) {
+    throw new TypeError(`${set[wrong]} is a string or null, not ${typeof values[wrong]}`);
+  }
+  return [set, names.filter((name) => changes[name] === null), values];
 }
 
 async function bytesOf(source) {
@@ -388,6 +417,47 @@ class URIs {
   /** The text of the origin of a URI: RFC 6454, section 6.2. A name such as "%31.2.3.4" and the address "1.2.3.4" have one. */
   origin(text) {
     return this.#written("uriparse_origin", [textOf(text)]);
+  }
+
+  /** The text of a reference with components set, or removed by null. What isn't named stays, byte for byte. */
+  replace(text, changes) {
+    text = textOf(text);
+    const [set, removed, values] = changesOf(changes);
+    const { spans, next } = this.#put(text, ...values);
+    const needed = next + CHANGES;
+    const out = needed + WORD;
+    let room = values.reduce((sum, value) => sum + value.length, text.length) + 8;
+    for (;;) {
+      this.#view(out + room);
+      const words = this.#words.fill(0, next / 4, needed / 4);
+      const note = (name) => next / 4 + REPLACED.indexOf(name) * SPAN;
+      removed.forEach((name) => { words[note(name) + IS_PRESENT] = REMOVE; });
+      set.forEach((name, at) => {
+        const begin = Number(spans[2 + 2 * at] - spans[2]);
+        words[note(name) + BEGIN] = begin;
+        words[note(name) + END] = begin + Number(spans[3 + 2 * at]);
+        words[note(name) + IS_PRESENT] = SET;
+      });
+      const end = spans.length > 2 ? spans.at(-2) + spans.at(-1) : spans[0];
+      const first = spans[2] ?? spans[0];
+      const code = this.#calls.uriparse_change(spans[0], spans[1], BigInt(next), first, end - first, BigInt(out), BigInt(room), BigInt(needed));
+      if (code === 0) {
+        return this.#string(this.#bytes.subarray(out, out + this.#length(needed)));
+      }
+      if (code !== NO_ROOM) {
+        throw this.#errorOfChange(code, text, set, values);
+      }
+      room = this.#length(needed);
+    }
+  }
+
+  // The error of a text, else of the value of a component, else of the result.
+  #errorOfChange(code, text, set, values) {
+    if (this.fault(text)) {
+      return this.#error(code, text);
+    }
+    const at = set.indexOf(meaning(code)[0]);
+    return at < 0 || code < 0x10 ? new URIParseError(code, null, text) : new URIParseError(code, null, values[at], set[at]);
   }
 
   /** The pairs of a query: the pieces between its "&", each a name and, after its first "=", a value or null. */

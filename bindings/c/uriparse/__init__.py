@@ -8,7 +8,7 @@ from __future__ import annotations
 import ctypes
 import enum
 import functools
-from dataclasses import dataclass
+from dataclasses import dataclass, field
 from typing import Any, AnyStr, Callable, Dict, Iterable, Iterator, List, Literal, Mapping, NoReturn, Optional, Tuple, Union, overload
 
 from . import _library
@@ -18,7 +18,7 @@ __all__ = [
     "COMPONENTS", "ENCODED", "IN_BASE", "NO_ROOM", "URI", "Buffer", "Code", "Component", "Components", "Encodable",
     "HostKind", "Parts", "Span", "Text", "URIError", "decode", "encode", "equal", "error_text", "escape", "first_fault",
     "get_many", "hash_of", "is_uri", "normalize", "normalize_many", "origin", "pairs", "parse", "parse_many", "relativize",
-    "resolve", "resolve_many", "spans"]
+    "replace", "resolve", "resolve_many", "spans"]
 __version__ = "0.3.0"
 
 Encodable = Literal["username", "password", "segment", "query", "fragment"]
@@ -38,8 +38,12 @@ class Code(enum.IntEnum):
     NO_SCHEME = 3
     COLON_IN_SEGMENT = 4
     TOO_MANY_SEGMENTS = 5
+    TWO_SLASHES = 6
     NO_COMPONENT = 8
     NO_ORIGIN = 10
+    MISSING_HOST = 11
+    BAD_CHANGE = 12
+    USERNAME_COLON = 0x10
     USERNAME_BYTE = 0x11
     USERNAME_ESCAPE = 0x12
     PASSWORD_BYTE = 0x21
@@ -57,15 +61,19 @@ class Code(enum.IntEnum):
     QUERY_ESCAPE = 0x62
     FRAGMENT_BYTE = 0x71
     FRAGMENT_ESCAPE = 0x72
+    SCHEME_EMPTY = 0x80
+    SCHEME_BYTE = 0x81
+    SCHEME_LETTER = 0x82
 
 
 _CODES: Dict[int, Code] = {code.value: code for code in Code}
 
 # The component that an error is about, by the upper digit of its code.
 _COMPONENTS_OF_CODES: Dict[int, Component] = {
-    1: "username", 2: "password", 3: "host", 4: "port", 5: "path", 6: "query", 7: "fragment"}
+    1: "username", 2: "password", 3: "host", 4: "port", 5: "path", 6: "query", 7: "fragment", 8: "scheme"}
 _COMPONENTS_OF_OTHERS: Dict[int, Component] = {
-    Code.NO_SCHEME: "scheme", Code.COLON_IN_SEGMENT: "path", Code.TOO_MANY_SEGMENTS: "path"}
+    Code.NO_SCHEME: "scheme", Code.COLON_IN_SEGMENT: "path", Code.TOO_MANY_SEGMENTS: "path", Code.TWO_SLASHES: "path",
+    Code.MISSING_HOST: "host"}
 _HOST_KINDS: Dict[int, HostKind] = {1: "name", 4: "ipv4", 6: "ipv6", 7: "ipvfuture"}
 _ERROR_TEXTS = {
     0: "no error",
@@ -74,8 +82,12 @@ _ERROR_TEXTS = {
     3: "the scheme is missing",
     4: "a colon in the first segment of a reference without a scheme",
     5: "the path has too many segments",
+    6: "without an authority the path would start with two slashes",
     8: "no component has this number",
     10: "the reference has no origin",
+    11: "a user name, password or port without a host",
+    12: "a change without a meaning",
+    0x10: "a colon in the user name",
     0x11: "invalid byte in the user name",
     0x12: "invalid percent-encoding in the user name",
     0x21: "invalid byte in the password",
@@ -93,6 +105,9 @@ _ERROR_TEXTS = {
     0x62: "invalid percent-encoding in the query",
     0x71: "invalid byte in the fragment",
     0x72: "invalid percent-encoding in the fragment",
+    0x80: "the scheme is empty",
+    0x81: "invalid byte in the scheme",
+    0x82: "the scheme does not start with a letter",
 }
 
 # How many bytes of a text the message of an error shows.
@@ -111,10 +126,11 @@ def _excerpt(text: Union[str, bytes], place: int) -> str:
     return "%s%r%s" % ("..." if begin else "", text[begin:end], "..." if end < len(text) else "")
 
 
-def _message(code: int, text: Union[str, bytes], place: int) -> str:
+def _message(code: int, text: Union[str, bytes], place: int, argument: str) -> str:
     why = code & ~IN_BASE
     whose = "base: " if code & IN_BASE else ""
-    is_placed = why not in (Code.NO_SCHEME, Code.NO_ORIGIN) and (why != Code.TOO_MANY_SEGMENTS or place)
+    is_placed = (argument not in ("change", *_library.CHANGED) and why not in (Code.NO_SCHEME, Code.NO_ORIGIN)
+                 and (why != Code.TOO_MANY_SEGMENTS or place))
     where = "first wrong byte %d: " % place if is_placed else ""
     return "%s%s%s: %s" % (whose, where, error_text(code), _excerpt(text, place))
 
@@ -122,7 +138,8 @@ def _message(code: int, text: Union[str, bytes], place: int) -> str:
 class URIError(ValueError):
     """A text is rejected, with a code of uriparse.h: what is wrong, and how many bytes of it, or characters of a str, precede it.
 
-    The place is 0 if the text isn't wrong by itself: a base without a scheme, or a target with too many segments."""
+    The place is 0 if the text isn't wrong by itself: a base without a scheme, a target with too many segments, or what
+    `replace` is given."""
 
     code: int
     text: Union[str, bytes]
@@ -134,7 +151,7 @@ class URIError(ValueError):
         self.text = text
         self.place = place
         self.argument = argument
-        super().__init__(_message(code, text, place))
+        super().__init__(_message(code, text, place, argument))
 
     def __reduce__(self) -> Tuple[Any, ...]:
         return type(self), (self.code, self.text, self.place, self.argument), self.__dict__
@@ -185,10 +202,13 @@ def spans(text: Text) -> Parts:
 @dataclass(frozen=True, eq=False)
 class Components(Mapping[str, AnyStr]):
     """The components of a reference, as they stand in its text. An absent one is None. As a mapping it has those that are
-    present, by name, and is equal to a dict of them."""
+    present, by name, and is equal to a dict of them.
+
+    In one that is made of other components, as by `dataclasses.replace`, these determine the authority, the kind of the host and
+    the number of the port."""
 
     scheme: Optional[AnyStr]
-    authority: Optional[AnyStr]
+    authority: Optional[AnyStr] = field(init=False)
     username: Optional[AnyStr]
     password: Optional[AnyStr]
     host: Optional[AnyStr]
@@ -196,8 +216,23 @@ class Components(Mapping[str, AnyStr]):
     path: AnyStr
     query: Optional[AnyStr]
     fragment: Optional[AnyStr]
-    host_kind: Optional[HostKind]
-    port_number: Optional[int]
+    host_kind: Optional[HostKind] = field(init=False)
+    port_number: Optional[int] = field(init=False)
+
+    def __post_init__(self) -> None:
+        authority: Any = None
+        kind: Optional[HostKind] = None
+        if self.host is not None:
+            empty, at, colon, slashes = ("", "@", ":", "//") if isinstance(self.path, str) else (b"", b"@", b":", b"//")
+            user: Any = self.username
+            if self.password is not None:
+                user = (empty if user is None else user) + colon + self.password
+            port: Any = empty if self.port is None else colon + self.port
+            authority = (empty if user is None else user + at) + self.host + port
+            kind = _HOST_KINDS.get(spans(slashes + self.host).host_kind)
+        object.__setattr__(self, "authority", authority)
+        object.__setattr__(self, "host_kind", kind)
+        object.__setattr__(self, "port_number", int(self.port) if self.port else None)
 
     def __getitem__(self, name: str) -> AnyStr:
         found: Optional[AnyStr] = getattr(self, name) if name in COMPONENTS else None
@@ -331,6 +366,76 @@ def relativize(base: Text, uri: Text) -> Any:
     if isinstance(base, str) is not isinstance(uri, str):
         raise wrong_type(base, uri)
     return _written(_library.relativize, (base, uri), ("base", "uri"))
+
+
+class _Keep(enum.Enum):
+    """What `replace` does to a component that it isn't given."""
+
+    KEEP = "keep"
+
+
+_KEEP = _Keep.KEEP
+
+
+def _value(value: object, text: Text) -> Text:
+    """The value of a component, of the text's type."""
+    if isinstance(value, int) and not isinstance(value, bool):
+        return str(value) if isinstance(text, str) else b"%d" % value
+    if isinstance(value, str) is not isinstance(text, str) or not (isinstance(value, str) or _library.is_bytes(value)):
+        raise wrong_type(value, text)
+    return value  # type: ignore[return-value]
+
+
+def _change_fault(code: int, text: Text, values: Dict[Component, Text]) -> None:
+    """Raises the error of a code that a change of this text to these values returned."""
+    if first_fault(text):
+        _check(code, (text,), _TEXT)
+    component = _COMPONENTS_OF_CODES.get(code >> 4)
+    argument, whose = (component, values[component]) if component and component in values else ("change", text)
+    raise URIError(code, whose if isinstance(whose, str) else bytes(whose), 0, argument)
+
+
+@overload
+def replace(text: Buffer, *, scheme: Union[Buffer, None, _Keep] = ..., username: Union[Buffer, None, _Keep] = ...,
+            password: Union[Buffer, None, _Keep] = ..., host: Union[Buffer, None, _Keep] = ...,
+            port: Union[Buffer, int, None, _Keep] = ..., path: Union[Buffer, None, _Keep] = ...,
+            query: Union[Buffer, None, _Keep] = ..., fragment: Union[Buffer, None, _Keep] = ...) -> bytes: ...
+@overload
+def replace(text: str, *, scheme: Union[str, None, _Keep] = ..., username: Union[str, None, _Keep] = ...,
+            password: Union[str, None, _Keep] = ..., host: Union[str, None, _Keep] = ...,
+            port: Union[str, int, None, _Keep] = ..., path: Union[str, None, _Keep] = ...,
+            query: Union[str, None, _Keep] = ..., fragment: Union[str, None, _Keep] = ...) -> str: ...
+def replace(text: Text, *, scheme: Any = _KEEP, username: Any = _KEEP, password: Any = _KEEP, host: Any = _KEEP, port: Any = _KEEP,
+            path: Any = _KEEP, query: Any = _KEEP, fragment: Any = _KEEP) -> Any:
+    """The text of a reference with these components set, or removed by None. What isn't named stays, byte for byte. All
+    changes are made at once.
+
+    A value has no delimiters; the port may be an int. Setting the host makes an authority, and removing it removes the
+    authority; removing the user name removes the password. A path that isn't empty gets a leading slash after an authority.
+    The `argument` of a URIError is "text" if the text is rejected, the component if its value is, else "change"."""
+    wanted = zip(_library.CHANGED, (scheme, username, password, host, port, path, query, fragment))
+    changes, data = _library.Changes(), b""
+    values: Dict[Component, Text] = {}
+    for name, value in wanted:
+        change = getattr(changes, name)
+        if value is None:
+            change.action = 2
+        elif value is not _KEEP:
+            values[name] = _value(value, text)
+            found = values[name]
+            change.begin, change.action = len(data), 1
+            data += utf8(found) if isinstance(found, str) else bytes(found)
+            change.end = len(data)
+    try:
+        room, needed = len(text) + len(data) + 8, ctypes.c_size_t()
+    except TypeError:
+        raise wrong_type(text) from None
+    out = ctypes.create_string_buffer(room)
+    code = called(_library.change, (text,), changes, data, len(data), out, room, needed)
+    if code:
+        _change_fault(code, text, values)
+    written = out.raw[:needed.value]
+    return written.decode() if isinstance(text, str) else written
 
 
 @overload

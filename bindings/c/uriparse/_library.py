@@ -85,6 +85,25 @@ class Pair(ctypes.Structure):
     _fields_ = [("name", Span), ("value", Span), ("next", ctypes.c_size_t)]
 
 
+class Change(ctypes.Structure):
+    """What becomes of a component: 0 keeps it, 1 sets it to the bytes of the values from `begin` up to `end`, 2 removes it."""
+
+    begin: int
+    end: int
+    action: int
+    _fields_ = [("begin", ctypes.c_size_t), ("end", ctypes.c_size_t), ("action", ctypes.c_uint8)]
+
+
+# The components that can be changed, in the order of C's struct.
+CHANGED: Tuple[Component, ...] = ("scheme", "username", "password", "host", "port", "path", "query", "fragment")
+
+
+class Changes(ctypes.Structure):
+    """What becomes of each component."""
+
+    _fields_ = [(name, Change) for name in CHANGED]
+
+
 # The numbers of Parts, all at once: begin, end and presence of each component, then the last two.
 PARTS = struct.Struct("NN?0N" * len(COMPONENTS) + "II")
 
@@ -176,6 +195,7 @@ normalize = _export("normalize", ctypes.c_uint32, *_text, *_out)
 resolve = _export("resolve", ctypes.c_uint32, *_text, *_text, *_out)
 relativize = _export("relativize", ctypes.c_uint32, *_text, *_text, *_out)
 origin = _export("origin", ctypes.c_uint32, *_text, *_out)
+change = _export("change", ctypes.c_uint32, *_text, ctypes.POINTER(Changes), *_text, *_out)
 next_pair = _export("next_pair", ctypes.c_bool, *_text, _size, ctypes.POINTER(Pair))
 decode = _export("decode", ctypes.c_uint32, *_text, *_out)
 encode = _export("encode", ctypes.c_uint32, ctypes.c_uint32, *_text, *_out)

@@ -44,6 +44,7 @@ use uriparse_text::internal::TooSmall;
 use uriparse_text::query::Query;
 
 pub mod builders;
+pub mod changes;
 pub mod owned;
 
 /// Reads a scheme, which is looked up in the table of registered ones.

@@ -3,6 +3,7 @@ pub mod Kinds
 pub mod Uri
 pub mod RelativeReference
 pub mod Origin
+pub mod Within
 pub mod File
 -- texts: RFC 3986, section 2
 pub use Rattle.uriparse_text.specs.Bytes
@@ -71,6 +72,7 @@ pub use Rattle.uriparse_path.specs.Lends as PathLends
 pub use Rattle.uriparse_path.specs.Normal as PathNormal
 pub use Rattle.uriparse_path.specs.Merge as PathMerge
 pub use Rattle.uriparse_path.specs.Relate as PathRelate
+pub use Rattle.uriparse_path.specs.Within as PathWithin
 pub use Rattle.uriparse_text.specs.declared.segment.error.PathError
 -- references: sections 4 and 5
 pub use Rattle.uriparse_reference.specs.Reference

@@ -22,6 +22,7 @@ mod relate;
 mod resolve;
 mod text;
 mod view;
+mod within;
 
 pub use error::URIError;
 pub use origin::Origin;

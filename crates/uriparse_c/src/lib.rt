@@ -5,13 +5,14 @@
 //! is what a text spells by the grammar, and `fault` is why it spells nothing.
 #![tactic(auto)]
 
-ghost use Rattle.std.specs.Prelude.{◌≡◌, ◌⊎◌, ◌↔◌, ◌<◌, ◌∷◌, ℕ, [], IsTrue, List, Err, Some, None, bytes_eq, is_some, length, true, false};
+ghost use Rattle.std.specs.Prelude.{◌≡◌, ◌⊎◌, ◌↔◌, ◌<◌, ◌∷◌, ℕ, [], IsTrue, List, Err, Ok, Some, None, bytes_eq, is_some, length, true, false};
 ghost use Rattle.uriparse_text.specs.declared.internal.class.Class.{Class};
 ghost use Rattle.uriparse_text.specs.declared.query.QueryError.{QueryError};
 ghost use Rattle.uriparse_text.specs.Coding.{decoded, encoded};
 ghost use Rattle.uriparse_text.specs.Pairs.{Pair, pairs_left};
 ghost use Rattle.uriparse_text.specs.Query.{IsQuery, reading};
 ghost use Rattle.uriparse_text.specs.Starts.{most};
+ghost use Rattle.uriparse_reference.specs.Change.{changing};
 ghost use Rattle.uriparse_reference.specs.Escaped.{escaped};
 ghost use Rattle.uriparse_reference.specs.Key.{key};
 ghost use Rattle.uriparse_reference.specs.declared.uri_reference.error.URIReferenceError.{URIReferenceError};
@@ -20,8 +21,11 @@ ghost use Rattle.uriparse_reference.specs.Offset.{first_fault};
 ghost use Rattle.uriparse_reference.specs.Reading.{fault};
 ghost use Rattle.uriparse_reference.specs.Reference.{Parts, Spells, print};
 ghost use Rattle.uriparse_reference.specs.Target.{target};
+ghost use Rattle.uriparse_reference.specs.View.{Viewed};
+ghost use Rattle.uriparse_reference.specs.declared.uri_reference.change.ChangeError.TheVariants as changes;
 ghost use Rattle.uriparse.specs.declared.uri.origin.Origin.{Origin};
 ghost use Rattle.uriparse.specs.Origin.{origin, text as origin_text};
+ghost use Rattle.uriparse_ffi.specs.Changes.{are_wishes, wanted_in};
 ghost use Rattle.uriparse_ffi.specs.Code as spec;
 ghost use Rattle.uriparse_ffi.specs.Components.{class_of};
 ghost use Rattle.uriparse_ffi.specs.Hash.{hash_of};
@@ -29,6 +33,7 @@ ghost use Rattle.uriparse_ffi.specs.Pairs.{IsPairAt, left_from};
 ghost use Rattle.uriparse_ffi.specs.Places.{ArePlacesOf};
 ghost use Rattle.uriparse_ffi.specs.Put.{IsPut, IsRefused, IsRelativePut};
 
+use uriparse_ffi::changes::{UriChanges, write_changed};
 use uriparse_ffi::code::{ACCEPTED, code_of, truth_of};
 use uriparse_ffi::coding::{write_decoded, write_encoded, write_escaped};
 use uriparse_ffi::origins::write_origin;
@@ -192,6 +197,31 @@ pub extern "C" fn uriparse_origin(text: &[u8], out: &mut [u8], needed: &mut usiz
     ensures refused { (e : URIReferenceError) → fault text.now ≡ Some e → IsRefused (spec.code_of e) out.old out.new needed.new result }
 {
     write_origin(text, out, needed)
+}
+
+/// Writes the string of a reference with components changed to the buffer. Does not allocate.
+#[unsafe(no_mangle)]
+pub extern "C" fn uriparse_change(
+    text: &[u8],
+    wanted: &UriChanges,
+    values: &[u8],
+    out: &mut [u8],
+    needed: &mut usize,
+) -> u32
+    // The buffer holds the string in which each component is changed or has its old bytes, or it is
+    // too small.
+    ensures written { (p : Parts) (v : Viewed) → Spells text.now p → are_wishes values.now wanted.now ≡ true → changing (wanted_in values.now wanted.now) text.now ≡ Ok v → IsPut v.text out.old out.new needed.new result }
+
+    // A user name, a password or a port that is set without a host is rejected, and so is a result
+    // that is no reference. The buffer is kept.
+    ensures host { (p : Parts) → Spells text.now p → are_wishes values.now wanted.now ≡ true → changing (wanted_in values.now wanted.now) text.now ≡ Err changes.MissingHost → IsRefused spec.no_host out.old out.new needed.new result }
+    ensures rejected { (p : Parts) (e : URIReferenceError) → Spells text.now p → are_wishes values.now wanted.now ≡ true → changing (wanted_in values.now wanted.now) text.now ≡ Err (changes.Reference e) → IsRefused (spec.code_of e) out.old out.new needed.new result }
+
+    // A change with another number, or outside the values, is rejected, and so is a faulty text.
+    ensures malformed { (p : Parts) → Spells text.now p → are_wishes values.now wanted.now ≡ false → IsRefused spec.bad_change out.old out.new needed.new result }
+    ensures refused { (e : URIReferenceError) → fault text.now ≡ Some e → IsRefused (spec.code_of e) out.old out.new needed.new result }
+{
+    write_changed(text, wanted, values, out, needed)
 }
 
 /// Finds the pair that begins at a place of a query, and says where it is and where the next one

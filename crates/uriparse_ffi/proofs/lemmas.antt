@@ -1,3 +1,4 @@
+pub mod ChangeLemmas
 pub mod CodeLemmas
 pub mod OriginLemmas
 pub mod PairLemmas

@@ -57,6 +57,14 @@ no_component = 8
 abbrev pub no_origin : ℕ
 no_origin = 10
 
+-- a user name, a password or a port has no host beside which it may stand
+abbrev pub no_host : ℕ
+no_host = 11
+
+-- what is wanted of a component has no meaning
+abbrev pub bad_change : ℕ
+bad_change = 12
+
 -- added to the code of a base's error
 abbrev pub in_base : ℕ
 in_base = 0x100

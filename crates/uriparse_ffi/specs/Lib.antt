@@ -4,6 +4,7 @@ pub mod Hash
 pub mod Origins
 pub mod Pairs
 pub mod Put
+pub mod Changes
 pub mod Places
 pub mod Relatives
 pub mod Spans

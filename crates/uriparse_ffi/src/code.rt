@@ -19,6 +19,10 @@ pub const NO_COMPONENT: u32 = 8;
 
 pub const NO_ORIGIN: u32 = 10;
 
+pub const NO_HOST: u32 = 11;
+
+pub const BAD_CHANGE: u32 = 12;
+
 pub const IN_BASE: u32 = 0x100;
 
 fn of_username(error: UsernameError) -> u32

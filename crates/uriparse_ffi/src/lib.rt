@@ -4,6 +4,7 @@
 //! the clauses `p` is what a text spells by the grammar, and `fault` is why it spells nothing.
 #![tactic(auto)]
 
+pub mod changes;
 pub mod code;
 pub mod coding;
 pub mod laws;

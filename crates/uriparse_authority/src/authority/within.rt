@@ -36,7 +36,11 @@ fn octet_of_escape(high: u8, low: u8) -> u8
     if is_escaped_dot(high, low) {
         return b'.';
     }
-    if is_escaped_digit(high, low) { low } else { b'%' }
+    if is_escaped_digit(high, low) {
+        low
+    } else {
+        b'%'
+    }
 }
 
 /// The first byte of a name's text, or the dot or the digit that a first escape stands for, and

@@ -7,8 +7,8 @@ ghost use Rattle.uriparse_reference.specs.Reference.{Spells};
 ghost use Rattle.uriparse_reference.specs.TextEdits.{with_fragment, with_query};
 ghost use Rattle.uriparse_reference.specs.declared.uri_reference.edit.Edit.TheVariants as edits;
 
-use super::ReferenceText;
 use super::super::same::has_same_text;
+use super::ReferenceText;
 use super::make::{checked_text, known_cuts};
 use std::alloc::{AllocError, Global};
 use uriparse_text::fragment::Fragment;

@@ -1,5 +1,5 @@
 use Rattle.std.proofs.Common.{◌-◌, ◌≤◌, length}
-use Rattle.uri_commands.proofs.options.split_options.Given as goal
+use Rattle.uri_commands.proofs.options.read_options.Given as goal
 
 abbrev pub invariant-options : goal.invariant-options
 invariant-options l = l.at ≤ length l.words

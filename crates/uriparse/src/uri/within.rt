@@ -1,0 +1,199 @@
+//! Whether a URI is below another one: RFC 3986, sections 3.3, 6.2.2 and 6.2.3.
+ghost use Rattle.std.specs.Prelude.{◌≡◌, ◌↔◌, false, IfSome, IsTrue, Some, bytes_eq, option_copied};
+ghost use Rattle.std.specs.Option.{option_eq};
+ghost use Rattle.std.specs.Ordering.{on};
+ghost use Rattle.uriparse_text.specs.Canonical.{canonical_in};
+ghost use Rattle.uriparse_authority.specs.Authority.{each_alike, key, with_port};
+ghost use Rattle.uriparse_authority.specs.Port.{IsPort};
+ghost use Rattle.uriparse_path.specs.Normal.{pnormal};
+ghost use Rattle.uriparse_path.specs.Path.{IsPath, has_hidden_root, spelled};
+ghost use Rattle.uriparse_path.specs.Within.{IsPathWithin};
+ghost use Rattle.uriparse.specs.Within as spec;
+
+use super::{URI, URIView};
+use uriparse_authority::authority::Authority;
+use uriparse_path::internal::{is_path_within, segments_of, split_root};
+use uriparse_reference::uri_reference::ReferenceView;
+use uriparse_scheme::scheme::Scheme;
+use uriparse_text::internal::{Held, Text, TextKind};
+
+/// Whether both are absent, or present and equal.
+fn are_alike<K: TextKind>(left: Option<&Text<'_, K>>, right: Option<&Text<'_, K>>) -> bool
+    ensures { result ≡ option_eq (on (canonical_in K.case) bytes_eq) (option_copied left.entry) (option_copied right.entry) }
+{
+    match (left, right) {
+        (Some(one), Some(other)) => one == other,
+        (None, None) => true,
+        _ => false,
+    }
+}
+
+/// Whether the authorities with these ports are spelled alike, component by component.
+fn has_each_alike(
+    left: &Authority<'_>,
+    right: &Authority<'_>,
+    port: Option<u16>,
+    other_port: Option<u16>,
+) -> bool
+    ensures { result ≡ each_alike (with_port left.now port) (with_port right.now other_port) }
+{
+    are_alike(left.username(), right.username())
+        && are_alike(left.password(), right.password())
+        && left.host() == right.host()
+        && port == other_port
+}
+
+/// Does nothing. Its contract states that the number, if there is one, is a port.
+fn is_port(port: Option<u16>)
+    ensures { IfSome port IsPort }
+{
+    match port {
+        Some(_port) => {}
+        None => {}
+    }
+}
+
+/// Whether the authorities are equal with these ports.
+fn is_same_authority(
+    left: &Authority<'_>,
+    right: &Authority<'_>,
+    port: Option<u16>,
+    other_port: Option<u16>,
+) -> bool
+    ensures { IsTrue result ↔ (key (with_port left.now port) ≡ key (with_port right.now other_port)) }
+{
+    // The authorities are valid, which is known once their hosts are read.
+    let _host = left.host();
+    let _other_host = right.host();
+    is_port(port);
+    is_port(other_port);
+    has_each_alike(left, right, port, other_port)
+}
+
+/// Whether the schemes and the authorities are equal, with the ports that they use.
+fn is_same_place(
+    scheme: &Scheme<'_>,
+    other_scheme: &Scheme<'_>,
+    authority: Option<&Authority<'_>>,
+    other_authority: Option<&Authority<'_>>,
+) -> bool
+    ensures { IsTrue result ↔ spec.IsSamePlace (Some scheme.now) (Some other_scheme.now) (option_copied authority.entry) (option_copied other_authority.entry) }
+{
+    if scheme != other_scheme {
+        return false;
+    }
+    match (authority, other_authority) {
+        (Some(one), Some(other)) => {
+            let port = one.port().or(scheme.default_port());
+            let other_port = other.port().or(other_scheme.default_port());
+            is_same_authority(one, other, port, other_port)
+        }
+        (None, None) => true,
+        _ => false,
+    }
+}
+
+/// Whether the normal form of a path's text is in the directory of the other one's.
+fn is_text_within(path: &[u8], base: &[u8]) -> bool
+    requires path { IsPath path.now }
+    requires base { IsPath base.now }
+    requires shown { has_hidden_root (spelled path.now) ≡ false }
+    requires shown_base { has_hidden_root (spelled base.now) ≡ false }
+    ensures { IsTrue result ↔ IsPathWithin (pnormal (spelled path.now) false) (pnormal (spelled base.now) false) }
+{
+    let (absolute, _) = split_root(path);
+    let (base_absolute, _) = split_root(base);
+    is_path_within(
+        absolute,
+        segments_of(path),
+        base_absolute,
+        segments_of(base),
+    )
+}
+
+/// Whether the URI of one view is below the URI of the other one.
+fn is_view_within(
+    view: &ReferenceView<'_>,
+    base: &ReferenceView<'_>,
+    scheme: &Scheme<'_>,
+    base_scheme: &Scheme<'_>,
+) -> bool
+    requires scheme { view.now.parts.scheme ≡ Some scheme.now }
+    requires base_scheme { base.now.parts.scheme ≡ Some base_scheme.now }
+    ensures { IsTrue result ↔ spec.IsWithin view.now.parts base.now.parts }
+{
+    let _text = view.as_str();
+    let _base_text = base.as_str();
+    let authority = Held(view.authority());
+    let base_authority = Held(base.authority());
+    if !is_same_place(
+        scheme,
+        base_scheme,
+        authority.0.as_ref(),
+        base_authority.0.as_ref(),
+    ) {
+        return false;
+    }
+    is_text_within(view.path().as_bytes(), base.path().as_bytes())
+}
+
+impl<'u> URI<'u> {
+    /// Whether the URI is below `base`: the schemes are equal, and the authorities, each with the
+    /// port that it names or else the scheme's default port; and the path's normal form begins with
+    /// the directory of the base's, through its last slash. The query and the fragment don't count.
+    /// RFC 3986, sections 6.2.2 and 6.2.3. Does not allocate.
+    ///
+    /// Segments are compared whole and in canonical spelling, after dot segments are removed. So
+    /// `/app/../admin` and `/app/%2e%2e/admin` are not below `/app/`, and `/appX` is not either.
+    /// User information, if either has any, must be equal. A base whose path has no slash, as
+    /// `mailto:a@b`, has nothing below it but what has the same path.
+    ///
+    /// A URI is never below `base` if a segment after the directory [is
+    /// ambiguous](uriparse_text::segment::Segment::is_ambiguous), so neither is `/app/..;/admin`.
+    ///
+    /// ```
+    /// let base = URI::try_from_str(alloc, "https://example.com/app/")?;
+    /// let below = URI::try_from_str(alloc, "HTTPS://EXAMPLE.com:443/x/../app/a?b#c")?;
+    /// assert!(below.is_within(&base));
+    /// let beside = URI::try_from_str(alloc, "https://example.com/app/%2e%2e/admin")?;
+    /// assert!(!beside.is_within(&base));
+    /// ```
+    pub fn is_within(&self, base: &URI<'_>) -> bool
+        ensures { IsTrue result ↔ spec.IsWithin self.now base.now }
+    {
+        let path = self.reference.path();
+        let base_path = base.reference.path();
+        is_same_place(
+            self.scheme(),
+            base.scheme(),
+            self.reference.authority(),
+            base.reference.authority(),
+        ) && is_path_within(
+            path.is_absolute(),
+            path.segments(),
+            base_path.is_absolute(),
+            base_path.segments(),
+        )
+    }
+}
+
+impl<'u> URIView<'u> {
+    /// Whether the URI is below `base`, as [`URI::is_within`](URI::is_within) reports. Does not
+    /// allocate.
+    ///
+    /// ```
+    /// let base = URIView::try_from_str("https://example.com/app/")?;
+    /// assert!(URIView::try_from_str("https://example.com/app/a?b")?.is_within(&base));
+    /// assert!(!URIView::try_from_str("https://example.com/appX")?.is_within(&base));
+    /// ```
+    pub fn is_within(&self, base: &URIView<'_>) -> bool
+        ensures { IsTrue result ↔ spec.IsWithin self.now.parts base.now.parts }
+    {
+        is_view_within(
+            self.as_reference_view(),
+            base.as_reference_view(),
+            &Held(self.scheme()).0,
+            &Held(base.scheme()).0,
+        )
+    }
+}
