@@ -207,7 +207,8 @@ impl<'h> Host<'h> {
         }
     }
 
-    /// Whether the host [is within](Host::is_within) one of the domains. Does not allocate.
+    /// Whether the host is one of the domains or within one, as [`Host::is_within`](Host::is_within)
+    /// reports. Does not allocate.
     ///
     /// ```
     /// let domains = [Host::try_from_str("example.com")?, Host::try_from_str("example.org")?];
