@@ -1,6 +1,4 @@
-use Rattle.std.proofs.Common.{◌≡◌, ◌∙◌}
-use Rattle.std.specs.Prelude.{bytes_eq}
-use Rattle.uriparse_reference.specs.Key.{key}
+use Rattle.std.proofs.Common.{◌∙◌}
 use Rattle.uriparse_reference.proofs.lemmas.equality.EqualityLemmas.{key_compared, tested}
 use Rattle.uriparse_reference.proofs.uri_reference.URIReferencePartialEq.eq.Goals as goal
 

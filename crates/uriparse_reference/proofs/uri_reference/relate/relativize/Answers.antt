@@ -8,7 +8,7 @@ returns-then-not-has_same_scheme-clause-relates c =
     let b = c.args.base.now in
     let t = c.args.target.now in
     let differ : b.scheme ≡ t.scheme → ⊥ = search rules in
-    ok_more (λ r. r ≡ t) (Relates b t) c.to_borrowed.result (λ r e. subst (Relates b t) (sym e) (whole_leads b t differ)) c.to_borrowed.ensures
+    ok_more (λ r. r ≡ t) (Relates b t) c.to_borrowed.result (λ r e. subst (Relates b t) (sym e) (whole_leads b t differ)) c.to_borrowed.ensures.copy
 
 pub returns-then-not-has_same_authority-clause-relates : goal.returns-then-not-has_same_authority-clause-relates
 returns-then-not-has_same_authority-clause-relates c =
