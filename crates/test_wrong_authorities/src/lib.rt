@@ -1,13 +1,14 @@
 //! Promises of hosts and authorities. In `must-fail` stand wrong bodies, as in `test_wrong_texts`.
 #![tactic(auto)]
 
-ghost use Rattle.std.specs.Prelude.{◌≡◌, Ok, OnOk, Some, bytes_eq};
+ghost use Rattle.std.specs.Prelude.{◌≡◌, ◌↔◌, IsTrue, Ok, OnOk, Some, bytes_eq};
 ghost use Rattle.std.specs.Fmt.{DisplaysOnOk};
 ghost use Rattle.uriparse_text.specs.Canonical.{canonical_lowered};
 ghost use Rattle.uriparse_authority.specs.Authority as authorities;
 ghost use Rattle.uriparse_authority.specs.Authority.{with_host, with_username};
 ghost use Rattle.uriparse_authority.specs.Host.{key, reading, text};
 ghost use Rattle.uriparse_authority.specs.Normal.{canonical_host};
+ghost use Rattle.uriparse_authority.specs.Within.{IsWithin};
 ghost use Rattle.uriparse_authority.specs.Order.{authority_key_cmp, host_key_cmp};
 
 use std::alloc::{AllocError, Global};
@@ -50,6 +51,13 @@ pub fn same_host(left: &Host<'_>, right: &Host<'_>) -> bool
     ensures { result ≡ bytes_eq (key left.now) (key right.now) }
 {
     left == right
+}
+
+/// Whether a host is a domain or within it.
+pub fn is_within(host: &Host<'_>, domain: &Host<'_>) -> bool
+    ensures { IsTrue result ↔ IsWithin host.now domain.now }
+{
+    host.is_within(domain)
 }
 
 /// Sets an authority's user name, or takes it away, with the password.
