@@ -58,7 +58,9 @@ function result(command, texts) {
 }
 
 let tried = 0;
-for (const [[command, ...texts], status, out] of rows) {
+for (const [[command, ...words], status, out] of rows) {
+  // The words after `--` are texts, however they are spelled.
+  const texts = words[0] === "--" ? words.slice(1) : words;
   if (!(command in CALLS) || status === 2) {
     continue;
   }
