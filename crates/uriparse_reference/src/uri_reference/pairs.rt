@@ -1,17 +1,60 @@
 //! The pairs of the query of a reference: RFC 3986, section 3.4.
-ghost use Rattle.std.specs.Prelude.{◌≡◌, ◌++◌, ◌∷◌, [], MatchResult, is_some};
+ghost use Rattle.std.specs.Prelude.{◌≡◌, ◌∷◌, [], IfOk, MatchResult};
 ghost use Rattle.std.specs.Option.{option_copied};
-ghost use Rattle.uriparse_text.specs.Pairs.{encoded_pair, pairs, sorted_pairs, with_appended, with_pair, without_names};
+ghost use Rattle.uriparse_text.specs.Pairs.{encoded_pair, pairs, pairs_left, sorted_pairs, with_appended, with_pair, without_names};
 ghost use Rattle.uriparse_reference.specs.PairEdits as spec;
 
 use super::URIReference;
 use std::alloc::{AllocError, Global};
 use uriparse_text::query::Query;
 
+/// The query of one pair.
+#[tactic(auto, using(crate::proofs::lemmas::edits::PairEditLemmas::pair_alone))]
+fn query_of_pair(
+    alloc: Global,
+    name: &[u8],
+    value: Option<&[u8]>,
+) -> Result<Query<'static>, AllocError>
+    ensures { IfOk result (λ q. pairs q ≡ encoded_pair (name.now, option_copied value.entry) ∷ []) }
+{
+    Query::from_pairs(alloc, &[(name, value)])
+}
+
+/// The query with this pair in place of those of its name, or of it alone.
+fn query_with(
+    query: &Option<Query<'_>>,
+    alloc: Global,
+    name: &[u8],
+    value: Option<&[u8]>,
+) -> Result<Query<'static>, AllocError>
+    ensures { IfOk result (λ q. pairs q ≡ with_pair name.now (encoded_pair (name.now, option_copied value.entry)) (pairs_left query.now)) }
+{
+    match query {
+        Some(query) => query.with_pair(alloc, name, value),
+        None => query_of_pair(alloc, name, value),
+    }
+}
+
+/// The query with this pair after all others, or of it alone.
+fn query_with_appended(
+    query: &Option<Query<'_>>,
+    alloc: Global,
+    name: &[u8],
+    value: Option<&[u8]>,
+) -> Result<Query<'static>, AllocError>
+    ensures { IfOk result (λ q. pairs q ≡ with_appended (encoded_pair (name.now, option_copied value.entry)) (pairs_left query.now)) }
+{
+    match query {
+        Some(query) => query.with_appended_pair(alloc, name, value),
+        None => query_of_pair(alloc, name, value),
+    }
+}
+
 impl<'r> URIReference<'r> {
     /// Replaces the query.
+    #[tactic(auto, using(crate::proofs::lemmas::edits::PairEditLemmas::query_is))]
     fn put_query(&mut self, query: Option<Query<'r>>)
-        ensures { self.new ≡ record self.old { query = query.entry } }
+        ensures { self.new ≡ spec.with_pairs self.old (pairs_left query.entry) }
     {
         self.query = query;
     }
@@ -61,10 +104,7 @@ impl<'r> URIReference<'r> {
     ) -> Result<(), AllocError>
         ensures { MatchResult result (λ _. self.new ≡ spec.with_pairs self.old (with_pair name.now (encoded_pair (name.now, option_copied value.entry)) (spec.pairs_of self.old))) (λ _. self.new ≡ self.old) }
     {
-        let query = match &self.query {
-            Some(query) => query.with_pair(alloc, name, value)?,
-            None => Query::from_pairs(alloc, &[(name, value)])?,
-        };
+        let query = query_with(&self.query, alloc, name, value)?;
         self.put_query(Some(query));
         Ok(())
     }
@@ -86,10 +126,7 @@ impl<'r> URIReference<'r> {
     ) -> Result<(), AllocError>
         ensures { MatchResult result (λ _. self.new ≡ spec.with_pairs self.old (with_appended (encoded_pair (name.now, option_copied value.entry)) (spec.pairs_of self.old))) (λ _. self.new ≡ self.old) }
     {
-        let query = match &self.query {
-            Some(query) => query.with_appended_pair(alloc, name, value)?,
-            None => Query::from_pairs(alloc, &[(name, value)])?,
-        };
+        let query = query_with_appended(&self.query, alloc, name, value)?;
         self.put_query(Some(query));
         Ok(())
     }
@@ -111,10 +148,11 @@ impl<'r> URIReference<'r> {
     ) -> Result<(), AllocError>
         ensures { MatchResult result (λ _. self.new ≡ spec.with_pairs self.old (without_names (pairs names.now) (spec.pairs_of self.old))) (λ _. self.new ≡ self.old) }
     {
-        if let Some(query) = &self.query {
-            let left = query.without_pairs_named(alloc, names)?;
-            self.put_query(left);
-        }
+        let Some(query) = &self.query else {
+            return Ok(());
+        };
+        let left = query.without_pairs_named(alloc, names)?;
+        self.put_query(left);
         Ok(())
     }
 
@@ -129,10 +167,11 @@ impl<'r> URIReference<'r> {
     pub fn sort_pairs(&mut self, alloc: Global) -> Result<(), AllocError>
         ensures { MatchResult result (λ _. self.new ≡ spec.with_pairs self.old (sorted_pairs (spec.pairs_of self.old))) (λ _. self.new ≡ self.old) }
     {
-        if let Some(query) = &self.query {
-            let sorted = query.sorted_pairs(alloc)?;
-            self.put_query(Some(sorted));
-        }
+        let Some(query) = &self.query else {
+            return Ok(());
+        };
+        let sorted = query.sorted_pairs(alloc)?;
+        self.put_query(Some(sorted));
         Ok(())
     }
 }
