@@ -54,11 +54,7 @@ impl<'r, K: ReferenceKind> ReferenceOf<'r, K> {
     /// Removes the query's pairs of these names, as [`Query::without_pairs_named`] does, and the
     /// query itself if no pair is left. Allocates once, or not at all without a query. If memory runs
     /// out, the value is unchanged.
-    pub fn remove_pairs_named(
-        &mut self,
-        alloc: Global,
-        names: &Query<'_>,
-    ) -> Result<(), AllocError>
+    pub fn remove_pairs_named(&mut self, alloc: Global, names: &Query<'_>) -> Result<(), AllocError>
         ensures { MatchResult result (λ _. self.new ≡ spec.with_pairs self.old (without_names (pairs names.now) (spec.pairs_of self.old))) (λ _. self.new ≡ self.old) }
     {
         self.reference.remove_pairs_named(alloc, names)

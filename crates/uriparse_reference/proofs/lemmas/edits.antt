@@ -5,3 +5,4 @@ pub mod SegmentLemmas
 pub mod PortLemmas
 pub mod ChangeLemmas
 pub mod PairEditLemmas
+pub mod BesideLemmas

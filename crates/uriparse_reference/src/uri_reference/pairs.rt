@@ -141,11 +141,7 @@ impl<'r> URIReference<'r> {
     /// reference.remove_pairs_named(alloc, &names)?;
     /// assert_eq!(reference.to_string(alloc)?.as_str(), "/a?q=2#f");
     /// ```
-    pub fn remove_pairs_named(
-        &mut self,
-        alloc: Global,
-        names: &Query<'_>,
-    ) -> Result<(), AllocError>
+    pub fn remove_pairs_named(&mut self, alloc: Global, names: &Query<'_>) -> Result<(), AllocError>
         ensures { MatchResult result (λ _. self.new ≡ spec.with_pairs self.old (without_names (pairs names.now) (spec.pairs_of self.old))) (λ _. self.new ≡ self.old) }
     {
         let Some(query) = &self.query else {
