@@ -5,7 +5,7 @@ use Rattle.std.specs.Bool.{beq}
 use Rattle.std.specs.Option.{option_map}
 use Rattle.uriparse_text.specs.Query as query
 use Rattle.uriparse_text.specs.Fragment as fragment
-use Rattle.uriparse_text.specs.Readings.{◌>>=◌, of_piece, if_present, IfPresent}
+use Rattle.uriparse_text.specs.Readings.{of_piece, if_present, IfPresent}
 use Rattle.uriparse_text.proofs.lemmas.readings.ReadingLemmas.{IsExact, present_found, piece_found, bind_ok}
 use Rattle.uriparse_scheme.specs.Scheme as scheme
 use Rattle.uriparse_scheme.proofs.lemmas.schemes.SchemeLemmas.{reads}
