@@ -9,7 +9,6 @@ use std::alloc::{AllocError, Global};
 use uriparse_text::query::Query;
 
 /// The query of one pair.
-#[tactic(auto, using(crate::proofs::lemmas::edits::PairEditLemmas::pair_alone))]
 fn query_of_pair(
     alloc: Global,
     name: &[u8],

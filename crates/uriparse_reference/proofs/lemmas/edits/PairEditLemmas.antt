@@ -1,5 +1,6 @@
 -- The pairs of the query of a reference.
-use Rattle.std.proofs.Common.{◌≡◌, ℕ, arith, List, [], ◌∷◌, map, Option, Some, None, refl, sym, ap, ◌∙◌}
+use Rattle.std.proofs.Common.{◌≡◌, ℕ, arith, List, [], ◌∷◌, map, Option, Some, None, Ok, Err, refl, sym, ap, ◌∙◌}
+use Rattle.std.specs.Prelude.{IfOk, Result}
 use Rattle.uriparse_text.specs.Pairs.{Pair, encoded_pair, joined_pairs, pairs, pairs_left}
 use Rattle.uriparse_text.proofs.lemmas.readings.PairLemmas.{first_pair, joined-pairs, pairs-joined}
 use Rattle.uriparse_reference.specs.PairEdits.{query_of}
@@ -13,5 +14,7 @@ query_is None = refl
 query_is (Some q) = some_pairs (pairs q) _ _ (first_pair q) ∙ ap Some (joined-pairs q)
 
 -- the pairs of the query of one pair
-pub pair_alone : (p : Pair) (q : List ℕ) → q ≡ joined_pairs (map encoded_pair (p ∷ [])) → pairs q ≡ encoded_pair p ∷ []
-pair_alone p q e = ap pairs e ∙ pairs-joined (p ∷ []) (omega arith)
+pub pair_alone : {E : Type 0} (p : Pair) (r : Result (List ℕ) E) → IfOk r (λ q. q ≡ joined_pairs (map encoded_pair (p ∷ [])))
+    → IfOk r (λ q. pairs q ≡ encoded_pair p ∷ [])
+pair_alone p (Ok q) e = ap pairs e ∙ pairs-joined (p ∷ []) (omega arith)
+pair_alone p (Err x) e = tt
