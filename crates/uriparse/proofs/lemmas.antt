@@ -2,6 +2,7 @@
 pub mod KindLemmas
 pub mod ViewLemmas
 pub mod WithinLemmas
+pub mod WithinLawLemmas
 pub mod BuilderLemmas
 pub mod ResolveLemmas
 pub mod FileLemmas
