@@ -13,7 +13,6 @@
 #include "utils/builtins.h"
 #include "utils/memutils.h"
 
-#include "order.h"
 #include "pairs.h"
 #include "uriparse.h"
 
@@ -152,6 +151,58 @@ uri_equal(PG_FUNCTION_ARGS)
 	if (uriparse_equal(left.at, left.len, right.at, right.len, &is_equal) != URIPARSE_OK)
 		PG_RETURN_NULL();
 	PG_RETURN_BOOL(is_equal);
+}
+
+PG_FUNCTION_INFO_V1(uri_compare);
+Datum
+uri_compare(PG_FUNCTION_ARGS)
+{
+	struct bytes left = argument(fcinfo, 0),
+				right = argument(fcinfo, 1);
+	int32_t		order;
+
+	if (uriparse_compare(left.at, left.len, right.at, right.len, &order) != URIPARSE_OK)
+		PG_RETURN_NULL();
+	PG_RETURN_INT32(order);
+}
+
+PG_FUNCTION_INFO_V1(uri_is_within);
+Datum
+uri_is_within(PG_FUNCTION_ARGS)
+{
+	struct bytes text = argument(fcinfo, 0),
+				base = argument(fcinfo, 1);
+	bool		within;
+
+	if (uriparse_is_within(text.at, text.len, base.at, base.len, &within) != URIPARSE_OK)
+		PG_RETURN_NULL();
+	PG_RETURN_BOOL(within);
+}
+
+PG_FUNCTION_INFO_V1(uri_host_is_within);
+Datum
+uri_host_is_within(PG_FUNCTION_ARGS)
+{
+	struct bytes text = argument(fcinfo, 0),
+				domain = argument(fcinfo, 1);
+	bool		within;
+
+	if (uriparse_host_is_within(text.at, text.len, domain.at, domain.len, &within) != URIPARSE_OK)
+		PG_RETURN_NULL();
+	PG_RETURN_BOOL(within);
+}
+
+/* The default port of a scheme; NULL if it has none. */
+PG_FUNCTION_INFO_V1(uri_default_port);
+Datum
+uri_default_port(PG_FUNCTION_ARGS)
+{
+	struct bytes scheme = argument(fcinfo, 0);
+	uint32_t	number = uriparse_default_port(scheme.at, scheme.len);
+
+	if (!number)
+		PG_RETURN_NULL();
+	PG_RETURN_INT32((int32) number);
 }
 
 PG_FUNCTION_INFO_V1(uri_hash);
@@ -539,35 +590,15 @@ uri_or_null(PG_FUNCTION_ARGS)
 	PG_RETURN_DATUM(PG_GETARG_DATUM(0));
 }
 
-static void *
-allocate(size_t size)
-{
-	return palloc(size);
-}
-
-static int
-compare_references(const struct bytes *texts)
-{
-	struct order_text values[2];
-	int			order;
-
-	for (int i = 0; i < 2; i++)
-	{
-		values[i].at = texts[i].at;
-		values[i].len = texts[i].len;
-		if (!is_reference(texts[i], &values[i].parts))
-			elog(ERROR, "value of type uri is no reference");
-	}
-	if (!order_references(&values[0], &values[1], allocate, pfree, &order))
-		elog(ERROR, "values of type uri have no order");
-	return order;
-}
-
-/* The sign of the order of two values. Equal texts are equal. */
+/* The sign of the order of two values. */
 static int
 compare_values(const struct bytes *texts)
 {
-	return order_bytes(texts[0].at, texts[0].len, texts[1].at, texts[1].len) ? compare_references(texts) : 0;
+	int32_t		order;
+
+	if (uriparse_compare(texts[0].at, texts[0].len, texts[1].at, texts[1].len, &order) != URIPARSE_OK)
+		elog(ERROR, "value of type uri is no reference");
+	return order;
 }
 
 static int

@@ -2,7 +2,8 @@
 #include "sqlite3ext.h"
 SQLITE_EXTENSION_INIT1
 
-#include "order.h"
+#include <string.h>
+
 #include "pairs.h"
 #include "uriparse.h"
 
@@ -124,6 +125,45 @@ static void equal(sqlite3_context *context, int count, sqlite3_value **values) {
   if (read_text(context, values[0], &left) && read_text(context, values[1], &right) &&
       uriparse_equal(left.at, left.len, right.at, right.len, &is_equal) == URIPARSE_OK)
     sqlite3_result_int(context, is_equal);
+}
+
+static void compare(sqlite3_context *context, int count, sqlite3_value **values) {
+  struct text left, right;
+  int32_t order;
+  (void)count;
+  if (read_text(context, values[0], &left) && read_text(context, values[1], &right) &&
+      uriparse_compare(left.at, left.len, right.at, right.len, &order) == URIPARSE_OK)
+    sqlite3_result_int(context, order);
+}
+
+/* uri_is_within(uri, base) */
+static void is_within(sqlite3_context *context, int count, sqlite3_value **values) {
+  struct text text, base;
+  bool within;
+  (void)count;
+  if (read_text(context, values[0], &text) && read_text(context, values[1], &base) &&
+      uriparse_is_within(text.at, text.len, base.at, base.len, &within) == URIPARSE_OK)
+    sqlite3_result_int(context, within);
+}
+
+/* uri_host_is_within(uri, domain) */
+static void host_is_within(sqlite3_context *context, int count, sqlite3_value **values) {
+  struct text text, domain;
+  bool within;
+  (void)count;
+  if (read_text(context, values[0], &text) && read_text(context, values[1], &domain) &&
+      uriparse_host_is_within(text.at, text.len, domain.at, domain.len, &within) == URIPARSE_OK)
+    sqlite3_result_int(context, within);
+}
+
+/* The default port of a scheme; NULL if it has none. */
+static void default_port(sqlite3_context *context, int count, sqlite3_value **values) {
+  struct text text;
+  uint32_t number;
+  (void)count;
+  if (!read_text(context, values[0], &text)) return;
+  number = uriparse_default_port(text.at, text.len);
+  if (number) sqlite3_result_int64(context, number);
 }
 
 /* A call of the library that writes a text, of one text or of two. */
@@ -391,22 +431,29 @@ static const sqlite3_module PAIRS = {
   .xColumn = pairs_column,   .xRowid = pairs_row,
 };
 
-static void *allocate(size_t size) { return sqlite3_malloc64(size); }
+/* The sign of the order of two byte strings. */
+static int compare_bytes(const struct text *left, const struct text *right) {
+  size_t least = left->len < right->len ? left->len : right->len;
+  int first = least ? memcmp(left->at, right->at, least) : 0;
+  return first ? (first < 0 ? -1 : 1) : (left->len > right->len) - (left->len < right->len);
+}
 
-static void release(void *memory) { sqlite3_free(memory); }
+static bool is_reference(const struct text *text) {
+  size_t place;
+  return uriparse_first_fault(text->at, text->len, &place) == URIPARSE_OK;
+}
 
-/* References by their order (order.h), then all other texts by their bytes. */
-static int collate(void *db, int left_len, const void *left, int right_len, const void *right) {
-  struct order_text texts[2] = {{.at = left ? left : "", .len = (size_t)left_len}, {.at = right ? right : "", .len = (size_t)right_len}};
-  int order = order_bytes(texts[0].at, texts[0].len, texts[1].at, texts[1].len);
-  bool is_left, is_right;
-  if (!order) return 0;
-  is_left = uriparse_parse(texts[0].at, texts[0].len, &texts[0].parts) == URIPARSE_OK;
-  is_right = uriparse_parse(texts[1].at, texts[1].len, &texts[1].parts) == URIPARSE_OK;
-  if (is_left != is_right) return is_left ? -1 : 1;
-  /* A collation can't return an error. */
-  if (is_left && !order_references(&texts[0], &texts[1], allocate, release, &order)) sqlite3_interrupt(db);
-  return order;
+/* References in their order, then all other texts by their bytes. */
+static int collate(void *data, int left_len, const void *left, int right_len, const void *right) {
+  struct text texts[2] = {{.at = left ? left : "", .len = (size_t)left_len}, {.at = right ? right : "", .len = (size_t)right_len}};
+  int bytes = compare_bytes(&texts[0], &texts[1]);
+  int32_t order;
+  bool is_left;
+  (void)data;
+  if (!bytes) return 0;
+  if (uriparse_compare(texts[0].at, texts[0].len, texts[1].at, texts[1].len, &order) == URIPARSE_OK) return order;
+  is_left = is_reference(&texts[0]);
+  return is_left == is_reference(&texts[1]) ? bytes : is_left ? -1 : 1;
 }
 
 #define PLACE(name) offsetof(struct uriparse_parts, name)
@@ -430,7 +477,9 @@ static const struct {
   {"uri_username", 1, component, &PLACES[6]}, {"uri_password", 1, component, &PLACES[7]},
   {"uri_host_kind", 1, host_kind, NULL},   {"uri_relativize", 2, relativize, NULL},
   {"uri_decode", 1, decode, NULL},         {"uri_encode", 2, encode, NULL},
-  {"uri_replace", 3, replace, NULL},
+  {"uri_replace", 3, replace, NULL},       {"uri_compare", 2, compare, NULL},
+  {"uri_is_within", 2, is_within, NULL},   {"uri_host_is_within", 2, host_is_within, NULL},
+  {"uri_default_port", 1, default_port, NULL},
 };
 
 __attribute__((visibility("default")))
@@ -444,7 +493,7 @@ int sqlite3_uri_init(sqlite3 *db, char **message, const sqlite3_api_routines *ap
     code = sqlite3_create_function_v2(db, FUNCTIONS[i].name, FUNCTIONS[i].count, flags, (void *)FUNCTIONS[i].place,
                                       FUNCTIONS[i].call, NULL, NULL, NULL);
   if (code == SQLITE_OK) code = sqlite3_create_module_v2(db, "uri_pairs", &PAIRS, NULL, NULL);
-  return code == SQLITE_OK ? sqlite3_create_collation_v2(db, "URI", SQLITE_UTF8, db, collate, NULL) : code;
+  return code == SQLITE_OK ? sqlite3_create_collation_v2(db, "URI", SQLITE_UTF8, NULL, collate, NULL) : code;
 }
 
 #ifndef SQLITE_CORE
