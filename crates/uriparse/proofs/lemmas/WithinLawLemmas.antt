@@ -11,6 +11,7 @@ use Rattle.uriparse_authority.specs.Authority as authority
 use Rattle.uriparse_authority.specs.Host as host
 use Rattle.uriparse_authority.specs.Normal.{canonical_authority, canonical_host}
 use Rattle.uriparse_authority.specs.Port as port
+use Rattle.uriparse_authority.specs.declared.authority.host.Host.{Host}
 use Rattle.uriparse_authority.proofs.lemmas.authorities.NormalLemmas as authorities
 use Rattle.uriparse_path.specs.Dots.{all_but_last}
 use Rattle.uriparse_path.specs.Normal.{pnormal}
@@ -109,7 +110,7 @@ scheme_texts : (s : Option Scheme) → IfSome s scheme.Valid → option_map sche
 scheme_texts None v = refl
 scheme_texts (Some s) v = ap Some (scheme_text s v)
 
-host_text : (h : host.Host) → host.Valid h → host.canonical_text (canonical_host h) ≡ host.canonical_text h
+host_text : (h : Host) → host.Valid h → host.canonical_text (canonical_host h) ≡ host.canonical_text h
 host_text h v = sym (authorities.host_text-canonical (canonical_host h)) ∙ ap host.text (authorities.host_twice h v) ∙ authorities.host_text-canonical h
 
 -- the authority in canonical spelling has the same key, with any port

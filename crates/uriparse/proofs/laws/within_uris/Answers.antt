@@ -1,7 +1,7 @@
 use Rattle.uriparse_path.specs.Normal.{pnormal}
 use Rattle.uriparse_path.specs.Within.{between_slashes}
 use Rattle.uriparse.proofs.lemmas.WithinLawLemmas.{again_place, are_within_again, are_within_itself, one_directory, within_equals, within_normal, within_normal_base}
-use Rattle.std.proofs.Common.{refl}
+use Rattle.std.proofs.Common.{false, refl}
 use Rattle.uriparse.proofs.laws.within_uris.Goals as goal
 
 pub returns : goal.returns
