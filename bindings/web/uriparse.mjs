@@ -561,12 +561,18 @@ class URIs {
     return this.#strict.decode(this.decode(query.slice(begin, end)));
   }
 
+  // Where a text that is no query is wrong.
+  #placeInQuery(text) {
+    const [query] = text.split("#");
+    const fault = this.fault(`?${query}`);
+    return fault ? fault.place - 1 : query.length;
+  }
+
   // The reference with the query that a call writes for these texts, or without one if no pair is left.
   #withQuery(uri, call, texts, last) {
     const { code, bytes } = this.#answer(call, texts, [], last);
     if (code !== 0 && code !== NO_PAIRS) {
-      const fault = this.fault(`?${texts[1]}`);
-      throw new URIParseError(code, fault && fault.place - 1, texts[1], "names");
+      throw new URIParseError(code, this.#placeInQuery(texts[1]), texts[1], "names");
     }
     return this.replace(uri, { query: code === NO_PAIRS ? null : this.#string(bytes) });
   }
@@ -602,9 +608,7 @@ class URIs {
     text = textOf(text);
     const { code, bytes } = this.#answer("uriparse_decode", [text]);
     if (code !== 0) {
-      const [query] = text.split("#");
-      const fault = this.fault(`?${query}`);
-      throw new URIParseError(code, fault ? fault.place - 1 : query.length, text);
+      throw new URIParseError(code, this.#placeInQuery(text), text);
     }
     return bytes.slice();
   }

@@ -185,7 +185,10 @@ def _check(code: int, texts: Tuple[Text, ...], arguments: Tuple[str, ...]) -> No
     if code:
         copies: List[Union[str, bytes]] = [text if isinstance(text, str) else bytes(text) for text in texts]
         faulty = (at for at, text in enumerate(copies) if first_fault(text))
-        at = arguments.index("base") if code & IN_BASE else next(faulty, 0 if arguments == _URI_BASE else len(copies) - 1)
+        if code & IN_BASE:
+            at = arguments.index("base")
+        else:
+            at = 0 if arguments == _URI_BASE else next(faulty, len(copies) - 1)
         fault = first_fault(copies[at])
         raise URIError(code, copies[at], fault[1] if fault else 0, arguments[at])
 
@@ -554,6 +557,13 @@ def pairs(query: Text) -> List[Any]:
     return found
 
 
+def _place_in_query(data: bytes) -> int:
+    """Where a text that is no query is wrong."""
+    query = data.split(b"#")[0]
+    fault = first_fault(b"?" + query)
+    return fault[1] - 1 if fault else len(query)
+
+
 def _query_of(uri: Text) -> bytes:
     """The query of a reference, or the empty one if it has none."""
     query = spans(uri).query
@@ -630,8 +640,7 @@ def without_pairs(uri: Text, *names: Any) -> Any:
         return uri if isinstance(uri, str) else bytes(uri)
     code = called(_library.drop_pairs, (query, wanted), out, len(query), needed)
     if code == Code.BAD_NAMES:
-        fault = first_fault(b"?" + wanted)
-        raise URIError(code, wanted.decode() if isinstance(uri, str) else wanted, fault[1] - 1 if fault else 0, "names")
+        raise URIError(code, wanted.decode() if isinstance(uri, str) else wanted, _place_in_query(wanted), "names")
     return _with_query(uri, None if code == Code.NO_PAIRS else out.raw[:needed.value])
 
 
@@ -651,9 +660,7 @@ def decode(text: Text) -> Any:
     code = called(_library.decode, (data,), out, room, needed)
     if code:
         data = bytes(data)
-        query = data.split(b"#")[0]
-        fault = first_fault(b"?" + query)
-        raise URIError(code, text if isinstance(text, str) else data, fault[1] - 1 if fault else len(query))
+        raise URIError(code, text if isinstance(text, str) else data, _place_in_query(data))
     written = out.raw[:needed.value]
     return written.decode() if isinstance(text, str) else written
 
