@@ -265,13 +265,14 @@ static int find_name(sqlite3_context *context, const struct text *name, const ch
 }
 
 static uint32_t write_encoded(const struct text *texts, char *out, size_t room, size_t *needed) {
-  static const uint32_t COMPONENTS[] = {URIPARSE_USERNAME, URIPARSE_PASSWORD, URIPARSE_SEGMENT, URIPARSE_QUERY, URIPARSE_FRAGMENT};
+  static const uint32_t COMPONENTS[] = {URIPARSE_USERNAME, URIPARSE_PASSWORD, URIPARSE_SEGMENT,
+                                        URIPARSE_QUERY,    URIPARSE_FRAGMENT, URIPARSE_PAIR};
   return uriparse_encode(COMPONENTS[texts[0].len], texts[1].at, texts[1].len, out, room, needed);
 }
 
 /* uri_encode(component, value) */
 static void encode(sqlite3_context *context, int count, sqlite3_value **values) {
-  static const char *const NAMES[] = {"username", "password", "segment", "query", "fragment", NULL};
+  static const char *const NAMES[] = {"username", "password", "segment", "query", "fragment", "pair", NULL};
   struct text texts[2];
   int at;
   (void)count;
@@ -304,6 +305,99 @@ static void replace(sqlite3_context *context, int count, sqlite3_value **values)
   if (at < 0 || (sqlite3_value_type(values[2]) != SQLITE_NULL && !read_text(context, values[2], &texts[2]))) return;
   texts[1].len = (size_t)at;
   result_of(context, texts, write_replaced);
+}
+
+/* The query of a reference: empty if it is absent. Returns whether the argument is a reference. */
+static bool read_query(sqlite3_context *context, sqlite3_value *value, struct text *text, struct text *query, bool *present) {
+  struct uriparse_parts parts;
+  if (!read_reference(context, value, text, &parts)) return false;
+  query->at = text->at + parts.query.begin;
+  query->len = parts.query.end - parts.query.begin;
+  *present = parts.query.present;
+  return true;
+}
+
+/* uri_param(t, name): the value of the first pair of the name, as uri_pairs has it; empty without an "=". */
+static void param(sqlite3_context *context, int count, sqlite3_value **values) {
+  struct text text, query, name;
+  struct uriparse_pair pair;
+  bool present;
+  char *out;
+  size_t len;
+  (void)count;
+  if (!read_query(context, values[0], &text, &query, &present) || !read_text(context, values[1], &name) || !present ||
+      !uriparse_find_pair(query.at, query.len, name.at, name.len, &pair))
+    return;
+  len = pair.value.end - pair.value.begin;
+  out = sqlite3_malloc64(len + 1);
+  if (!out) {
+    sqlite3_result_error_nomem(context);
+    return;
+  }
+  len = pairs_read(query.at + pair.value.begin, len, false, out);
+  sqlite3_result_text64(context, out, len, sqlite3_free, SQLITE_UTF8);
+}
+
+/* The reference with this query, or without one. */
+static void result_with_query(sqlite3_context *context, const struct text *text, const char *query, size_t len) {
+  struct text texts[3] = {*text, {.at = "", .len = 6}, {.at = query, .len = len}};
+  result_of(context, texts, write_replaced);
+}
+
+/* uri_with_param(t, name, value): NULL as the value sets a pair without "=". */
+static void with_param(sqlite3_context *context, int count, sqlite3_value **values) {
+  struct text text, query, name, value = {.at = "", .len = 0};
+  bool present, has_value = sqlite3_value_type(values[2]) != SQLITE_NULL;
+  size_t room;
+  char *out;
+  (void)count;
+  if (!read_query(context, values[0], &text, &query, &present) || !read_text(context, values[1], &name) ||
+      (has_value && !read_text(context, values[2], &value)))
+    return;
+  room = query.len + 3 * (name.len + value.len) + 2;
+  out = sqlite3_malloc64(room);
+  if (!out)
+    sqlite3_result_error_nomem(context);
+  else if (uriparse_set_pair(query.at, query.len, name.at, name.len, value.at, value.len, has_value, out, room, &room) == URIPARSE_OK)
+    result_with_query(context, &text, out, room);
+  sqlite3_free(out);
+}
+
+/* uri_without_params(t, name, ..): the names are written as in a query, and "utm_*" stands for each that begins so. */
+static void without_params(sqlite3_context *context, int count, sqlite3_value **values) {
+  struct text text, query, name;
+  size_t len = 0, size, needed;
+  uint32_t code;
+  bool present;
+  char *names, *out;
+  if (!read_query(context, values[0], &text, &query, &present)) return;
+  size = query.len + 1;
+  for (int i = 1; i < count; i++) {
+    if (!read_text(context, values[i], &name)) return;
+    size += name.len + 1;
+  }
+  if (count < 2 || !present) {
+    sqlite3_result_text64(context, text.at, text.len, SQLITE_TRANSIENT, SQLITE_UTF8);
+    return;
+  }
+  out = sqlite3_malloc64(size);
+  if (!out) {
+    sqlite3_result_error_nomem(context);
+    return;
+  }
+  names = out + query.len;
+  for (int i = 1; i < count; i++) {
+    read_text(context, values[i], &name);
+    memcpy(names + len, name.at, name.len);
+    names[len + name.len] = '&';
+    len += name.len + 1;
+  }
+  code = uriparse_drop_pairs(query.at, query.len, names, len - 1, out, query.len, &needed);
+  if (code == URIPARSE_OK || code == URIPARSE_NO_PAIRS)
+    result_with_query(context, &text, code == URIPARSE_OK ? out : NULL, needed);
+  else if (code == URIPARSE_BAD_NAMES)
+    sqlite3_result_error(context, uriparse_error_text(code), -1);
+  sqlite3_free(out);
 }
 
 /* The table uri_pairs(t): a row for each pair of the query of a reference. The third column is hidden, and is the argument. */
@@ -479,7 +573,8 @@ static const struct {
   {"uri_decode", 1, decode, NULL},         {"uri_encode", 2, encode, NULL},
   {"uri_replace", 3, replace, NULL},       {"uri_compare", 2, compare, NULL},
   {"uri_is_within", 2, is_within, NULL},   {"uri_host_is_within", 2, host_is_within, NULL},
-  {"uri_default_port", 1, default_port, NULL},
+  {"uri_default_port", 1, default_port, NULL}, {"uri_param", 2, param, NULL},
+  {"uri_with_param", 3, with_param, NULL}, {"uri_without_params", -1, without_params, NULL},
 };
 
 __attribute__((visibility("default")))
