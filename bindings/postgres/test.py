@@ -345,10 +345,11 @@ def test_update() -> str:
                     "SELECT uri_origin(url) FROM ids WHERE uri_host_kind(url) = 'name'", "SELECT max(url) FROM ids")[0] == [
                         ["1.1"], ["HTTP://h/%7e"], ["http://h"], ["s:"]]
         psql("old", "SET ROLE plain", "DROP EXTENSION uri CASCADE", "DROP TABLE ids")
-    # Each function of the extension but the two aggregates, and the two that remove a component by NULL.
+    # Each function of the extension but the two aggregates, the two that remove a component by NULL, and the two that set a pair without
+    # a value by it.
     assert one("fresh", "count(*) FROM pg_proc p JOIN pg_depend d ON d.classid = 'pg_proc'::regclass AND d.objid = p.oid AND d.deptype = 'e' "
                "JOIN pg_extension e ON e.oid = d.refobjid AND e.extname = 'uri' WHERE NOT (p.proisstrict AND p.provolatile = 'i' AND "
-               "p.proparallel = 's')") == "4"
+               "p.proparallel = 's')") == "6"
     return "an update from 1.0, by a role that is no superuser"
 
 
