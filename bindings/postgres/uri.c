@@ -195,6 +195,19 @@ uri_host_is_within(PG_FUNCTION_ARGS)
 	PG_RETURN_BOOL(within);
 }
 
+/* The sum of enum uriparse_host_flag. */
+PG_FUNCTION_INFO_V1(uri_host_flags);
+Datum
+uri_host_flags(PG_FUNCTION_ARGS)
+{
+	struct bytes text = argument(fcinfo, 0);
+	uint32_t	flags;
+
+	if (uriparse_host_flags(text.at, text.len, &flags) != URIPARSE_OK)
+		PG_RETURN_NULL();
+	PG_RETURN_INT32((int32) flags);
+}
+
 /* The default port of a scheme; NULL if it has none. */
 PG_FUNCTION_INFO_V1(uri_default_port);
 Datum

@@ -156,6 +156,15 @@ static void host_is_within(sqlite3_context *context, int count, sqlite3_value **
     sqlite3_result_int(context, within);
 }
 
+/* The sum of enum uriparse_host_flag. */
+static void host_flags(sqlite3_context *context, int count, sqlite3_value **values) {
+  struct text text;
+  uint32_t flags;
+  (void)count;
+  if (read_text(context, values[0], &text) && uriparse_host_flags(text.at, text.len, &flags) == URIPARSE_OK)
+    sqlite3_result_int64(context, flags);
+}
+
 /* The default port of a scheme; NULL if it has none. */
 static void default_port(sqlite3_context *context, int count, sqlite3_value **values) {
   struct text text;
@@ -573,7 +582,8 @@ static const struct {
   {"uri_decode", 1, decode, NULL},         {"uri_encode", 2, encode, NULL},
   {"uri_replace", 3, replace, NULL},       {"uri_compare", 2, compare, NULL},
   {"uri_is_within", 2, is_within, NULL},   {"uri_host_is_within", 2, host_is_within, NULL},
-  {"uri_default_port", 1, default_port, NULL}, {"uri_param", 2, param, NULL},
+  {"uri_default_port", 1, default_port, NULL}, {"uri_host_flags", 1, host_flags, NULL},
+  {"uri_param", 2, param, NULL},
   {"uri_with_param", 3, with_param, NULL}, {"uri_without_params", -1, without_params, NULL},
 };
 
