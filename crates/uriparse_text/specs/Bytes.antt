@@ -20,6 +20,10 @@ percent = 37
 abbrev pub ampersand : ℕ
 ampersand = 38
 
+-- `*`
+abbrev pub asterisk : ℕ
+asterisk = 42
+
 -- `+`
 abbrev pub plus_sign : ℕ
 plus_sign = 43

@@ -1,13 +1,13 @@
 -- The pairs of a query: RFC 3986, section 3.4.
-use Rattle.std.specs.Prelude.{◌≡◌, ℕ, Bool, ◌==◌, ◌&&◌, not, if◌then◌else◌, false, List, [], ◌∷◌, ◌++◌, map, bytes_eq, codes, Option, Some, None, unwrap_or}
+use Rattle.std.specs.Prelude.{◌≡◌, ℕ, Bool, ◌==◌, ◌-◌, ◌&&◌, not, if◌then◌else◌, false, List, [], ◌∷◌, ◌++◌, length, take, map, bytes_eq, codes, Option, Some, None, unwrap_or}
 use Rattle.std.specs.Borrow.{Bor}
 use Rattle.std.specs.Option.{option_map, option_copied}
-use Rattle.std.specs.List.{filter, slice_split, join_with_byte}
+use Rattle.std.specs.List.{ends_with, filter, list_any, slice_split, starts_with, join_with_byte}
 use Rattle.std.specs.List.Retain.{IsFiltered}
 use Rattle.std.specs.Cmp.Lexicographic.{slice_cmp}
 use Rattle.std.specs.Ordering.{is_lt, nat_cmp}
 use Rattle.uriparse_text.specs.declared.internal.class.Class.TheVariants.{Query}
-use Rattle.uriparse_text.specs.Bytes.{ampersand, equals_sign}
+use Rattle.uriparse_text.specs.Bytes.{ampersand, asterisk, equals_sign}
 use Rattle.uriparse_text.specs.Cuts.{following, before, after}
 use Rattle.uriparse_text.specs.Coding.{are_bytes, decoded, encoded_without, form_decoded}
 
@@ -80,6 +80,30 @@ abbrev pub with_pair : List ℕ → Pair → List Pair → List Pair
 with_pair name new [] = new ∷ []
 with_pair name new (p ∷ ps) =
     if is_named name p then new ∷ without_name name ps else if is_empty_end (p ∷ ps) then new ∷ [] else p ∷ with_pair name new ps
+
+-- ---- a pair that is appended
+
+-- the pair follows all others, in the place of an empty piece at the end
+abbrev pub with_appended : Pair → List Pair → List Pair
+with_appended new ps = without_empty_end ps ++ new ∷ []
+
+-- ---- pairs of several names
+
+-- A pattern that ends in "*" stands for each name that begins with what precedes the "*", and any other one for itself: the bytes that both stand for
+-- are compared.
+abbrev pub stands_for : List ℕ → List ℕ → Bool
+stands_for pattern name =
+    if ends_with (λ b c. b == c) pattern (asterisk ∷ [])
+    then starts_with (λ b c. b == c) (decoded name) (decoded (take (length pattern - 1) pattern))
+    else bytes_eq (decoded pattern) (decoded name)
+
+-- one of the pairs has a name that stands for the pair's
+abbrev pub is_among_names : List Pair → Pair → Bool
+is_among_names names p = list_any (λ n. stands_for n.0 p.0) names
+
+-- the pairs of other names
+abbrev pub without_names : List Pair → List Pair → List Pair
+without_names names ps = filter (λ p. not (is_among_names names p)) ps
 
 -- ---- pairs in the order of their names
 

@@ -1,12 +1,12 @@
 -- How pieces of a query are written one after another. No public contract cites these words.
 use Rattle.std.specs.Prelude.{ℕ, Bool, ◌≡◌, ◌&&◌, ◌||◌, not, bytes_eq, true, if◌then◌else◌, List, [], ◌∷◌, ◌++◌, flat_map, map}
-use Rattle.std.specs.List.{list_all, slice_split}
+use Rattle.std.specs.List.{list_all, list_any, slice_split}
 use Rattle.uriparse_text.specs.declared.internal.class.Class.TheVariants.{Query}
 use Rattle.uriparse_text.specs.Bytes.{ampersand}
-use Rattle.uriparse_text.specs.Cuts.{lacks}
+use Rattle.uriparse_text.specs.Cuts.{before, lacks}
 use Rattle.uriparse_text.specs.Faults.{allows}
 use Rattle.uriparse_text.specs.Tokens.{tokens}
-use Rattle.uriparse_text.specs.Pairs.{Pair, pair_of, is_ampersand, is_named}
+use Rattle.uriparse_text.specs.Pairs.{Pair, pair_of, pairs, piece_of, is_ampersand, is_named}
 
 -- a query without "&"
 abbrev pub is_piece : List ℕ → Bool
@@ -36,3 +36,11 @@ ArePairsWritten ps t = (ss : List (List ℕ)) × AreWritten ss t × (map pair_of
 -- the pieces of a query between its "&", of which each is one
 abbrev pub ArePieces : List ℕ → List (List ℕ) → Type 0
 ArePieces q ss = (ss ≡ slice_split is_ampersand q) × (list_all is_piece ss ≡ true)
+
+-- This is left of a query from the first pair on that passes.
+pub record IsFirstAt (passes : Pair → Bool) (q left : List ℕ) : Type 0 where
+  pub others : List Pair
+  pub whole : q ≡ flat_map (λ p. piece_of p ++ ampersand ∷ []) others ++ left
+  pub split : pairs q ≡ others ++ pairs left
+  pub none : list_any passes others ≡ false
+  pub first : passes (pair_of (before ampersand left)) ≡ true

@@ -31,6 +31,7 @@ mod spelling;
 mod text;
 mod token;
 
+pub use super::query::{Among, Named, PairTest, find_pair, mark_after};
 pub use alike::same_spelling;
 pub use ambiguous::has_ambiguous_escape;
 pub use backward_buffer::{Form, put, put_after, put_formed};
@@ -42,11 +43,11 @@ pub use class::{Class, Outside};
 pub use clear::{has_byte, has_pair, marks_of_pairs};
 pub use coding::{
     compare_represented, form_decoded_bytes, most_escaped_bytes, push_encoded, push_escaped,
-    represents,
+    represents, represents_prefix,
 };
 pub use copy::{borrowed_text, canonical_copy, is_canonical_part, owned_text, put_copy};
 pub use cut::{split_at_mark, without_mark};
-pub use forward_buffer::{TooSmall, append, append_escaped, encode_into};
+pub use forward_buffer::{TooSmall, append, append_encoded, append_escaped, encode_into};
 pub use found::{Found, find_text_before, find_text_if, found_again, no_text};
 pub use held::Held;
 pub use offset::offset_of_fault;

@@ -6,11 +6,15 @@ ghost use Rattle.uriparse_text.specs.Query as spec;
 use crate::internal::{Case, Class, Text, TextKind};
 use thiserror::Error;
 
+mod append;
+mod find;
 mod pairs;
 mod set;
 mod sort;
 mod without;
 
+pub use append::mark_after;
+pub use find::{Among, Named, PairTest, find_pair};
 pub use pairs::Pairs;
 
 /// Why a text is not a query: its leftmost fault.
@@ -65,8 +69,10 @@ impl TextKind for QueryKind {
 /// [`InvalidCharacter`](QueryError::InvalidCharacter). Two queries are equal if their canonical
 /// spellings are. It has the calls of [`Text`], and
 /// [`pairs`](Query::pairs), [`from_pairs`](Query::from_pairs),
+/// [`pair`](Query::pair), [`has_pair`](Query::has_pair),
 /// [`without_pairs`](Query::without_pairs), [`without_name`](Query::without_name),
-/// [`with_pair`](Query::with_pair), [`sorted_pairs`](Query::sorted_pairs) and
+/// [`without_pairs_named`](Query::without_pairs_named), [`with_pair`](Query::with_pair),
+/// [`with_appended_pair`](Query::with_appended_pair), [`sorted_pairs`](Query::sorted_pairs) and
 /// [`decode_form`](Query::decode_form).
 ///
 /// ```

@@ -2,6 +2,7 @@
 //! 3986, section 2.
 ghost use Rattle.std.specs.Prelude.{◌≡◌, [], ◌∷◌, ◌++◌, ◌||◌, ◌==◌, bytes_eq, not, IfOk, IfSome, OnOk, true};
 ghost use Rattle.std.specs.Cmp.Lexicographic.{slice_cmp};
+ghost use Rattle.std.specs.List.{starts_with};
 ghost use Rattle.std.specs.Ordering.{nat_cmp};
 ghost use Rattle.uriparse_text.specs.Bytes.{is_among, percent, plus_sign};
 ghost use Rattle.uriparse_text.specs.Classes.{is_plain};
@@ -151,6 +152,26 @@ pub fn compare_represented(text: &[u8], other: &[u8]) -> Ordering
     }
 }
 
+/// Whether the bytes that the text represents begin with those that the prefix represents. Walks no
+/// more of the text than of the prefix.
+pub fn represents_prefix(text: &[u8], prefix: &[u8]) -> bool
+    ensures { result ≡ starts_with (λ b c. b == c) (decoded text.now) (decoded prefix.now) }
+{
+    let mut rest = text;
+    let mut left = prefix;
+    'tokens: while let Some((next, later)) = split_token(left) {
+        let Some((token, after)) = split_token(rest) else {
+            return false;
+        };
+        if token.value() != next.value() {
+            return false;
+        }
+        rest = after;
+        left = later;
+    }
+    true
+}
+
 /// Encoding: a byte that is not in the class becomes an escape.
 #[derive(Clone, Copy)]
 pub(super) struct Encoding(pub(super) Class);
@@ -237,7 +258,7 @@ pub fn form_decoded_bytes(alloc: Global, text: &[u8]) -> Result<Vec<u8>, AllocEr
 
 /// Encoding for which some bytes of the class become escapes, too.
 #[derive(Clone, Copy)]
-struct EncodingWithout<'w>(Class, &'w [u8]);
+pub(super) struct EncodingWithout<'w>(pub(super) Class, pub(super) &'w [u8]);
 
 impl<'w> ByteTest for EncodingWithout<'w> {
     ghost passes = { λ s b. not (is_plain s.0 b) || is_among s.1.now b };

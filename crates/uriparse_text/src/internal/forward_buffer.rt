@@ -1,13 +1,13 @@
 //! A text that is written to the start of a buffer. If it is longer than the buffer, only its length
 //! is counted.
 ghost use Rattle.std.specs.Prelude.{◌≡◌, ◌≤◌, ◌∷◌, [], length, true};
-ghost use Rattle.uriparse_text.specs.Coding.{decoded, encoded, escaped_in};
+ghost use Rattle.uriparse_text.specs.Coding.{decoded, encoded, encoded_without, escaped_in};
 ghost use Rattle.uriparse_text.specs.Pieces.{Keeps};
 ghost use Rattle.uriparse_text.specs.Starts.{Appends, LeavesRest, Writes};
 ghost use Rattle.uriparse_text.specs.Tokens as tokens;
 
 use super::class::Class;
-use super::coding::{Decoding, Encoding, Escaping};
+use super::coding::{Decoding, Encoding, EncodingWithout, Escaping};
 use super::rewrite::{Rewriting, split_run};
 use super::token::Token;
 use thiserror::Error;
@@ -150,6 +150,22 @@ pub fn append_escaped(class: Class, more: &[u8], text: &[u8], out: &mut [u8], le
     ensures rest { LeavesRest out.old len out.new result }
 {
     append_rewritten(&Escaping(class, more), text, out, len)
+}
+
+/// Appends the text that represents the bytes. A byte of the class stays unless it is one of
+/// `without`; any other becomes an escape. Walks them once.
+pub fn append_encoded(
+    class: Class,
+    without: &[u8],
+    bytes: &[u8],
+    out: &mut [u8],
+    len: usize,
+) -> usize
+    ensures room { length out.new ≡ length out.old }
+    ensures appends { Appends (encoded_without class without.now bytes.now) out.old len out.new result }
+    ensures rest { LeavesRest out.old len out.new result }
+{
+    append_rewritten(&EncodingWithout(class, without), bytes, out, len)
 }
 
 /// Writes the bytes that the text's tokens represent to the start of the buffer, if it has room for

@@ -6,8 +6,8 @@ ghost use Rattle.uriparse_text.specs.Query.{IsQuery};
 ghost use Rattle.uriparse_text.specs.Written.{ArePairsWritten, AreWritten};
 
 use super::Query;
+use super::find::{Among, Named, PairTest};
 use super::pairs::pair_of;
-use super::set::is_named;
 use crate::internal::{split_at_mark, text_from_checked_vec, without_mark};
 use std::alloc::{AllocError, Global};
 
@@ -45,17 +45,17 @@ where
     Ok(text)
 }
 
-/// The pieces of the query whose names stand for other bytes, each with a `&` after it.
-fn other_pieces(alloc: Global, query: &[u8], name: &[u8]) -> Result<Vec<u8>, AllocError>
+/// The pieces of the query whose pairs don't pass, each with a `&` after it.
+fn other_pieces<T: PairTest>(alloc: Global, query: &[u8], test: &T) -> Result<Vec<u8>, AllocError>
     requires { IsQuery query.now }
-    ensures { IfOk result (λ v. ArePairsWritten (spec.without_name name.now (spec.pairs query.now)) v.items) }
+    ensures { IfOk result (λ v. ArePairsWritten (filter (λ p. not (T.passes test.now p)) (spec.pairs query.now)) v.items) }
 {
     let mut text = Vec::with_capacity(alloc, query.len().saturating_add(1))?;
     let mut rest = Some(query);
     while let Some(left) = rest {
         let (piece, following) = split_at_mark(left, b'&');
         rest = without_mark(following);
-        if !is_named(piece, name) {
+        if !test.has(piece) {
             text.extend_from_slice(piece)?;
             text.push(b'&')?;
         }
@@ -102,6 +102,7 @@ impl<'q> Query<'q> {
         let text = kept_pieces(alloc, self.as_bytes(), test)?;
         Ok(query_of_pieces(text))
     }
+
     /// The query without the pairs whose names stand for these bytes, or `None` if no pair is left.
     /// The others stay in order, byte for byte. Reserves capacity once.
     ///
@@ -123,7 +124,35 @@ impl<'q> Query<'q> {
         // A query without a pair of the name is returned as it is.
         ensures kept { spec.without_name name.now (spec.pairs self.now) ≡ spec.pairs self.now → IfOk result (λ q. q ≡ Some self.now) }
     {
-        let text = other_pieces(alloc, self.as_bytes(), name)?;
+        let text = other_pieces(alloc, self.as_bytes(), &Named(name))?;
+        Ok(query_of_pieces(text))
+    }
+    /// The query without the pairs whose names are among the names of the pairs of `names`, or `None`
+    /// if no pair is left. The others stay in order, byte for byte. A name of `names` that ends in a
+    /// literal `*` stands for each name that begins with what precedes the `*`. The values of `names`
+    /// don't matter. Reserves capacity once. Takes time in proportion to the length of the query times
+    /// the number of names.
+    ///
+    /// Names are compared by the bytes that they stand for, so `%61` is `a`, and `+` is no space. The
+    /// escape `%2A` is a `*` of the name itself.
+    ///
+    /// ```
+    /// let query = Query::try_from_str("%75tm_id=1&q=b%20c&gclid=2&utm&z")?;
+    /// let query = query.without_pairs_named(alloc, &Query::try_from_str("utm_*&gclid")?)?;
+    /// assert_eq!(query.unwrap().as_str(), "q=b%20c&utm&z");
+    /// ```
+    pub fn without_pairs_named(
+        &self,
+        alloc: Global,
+        names: &Query<'_>,
+    ) -> Result<Option<Query<'static>>, AllocError>
+        // The pairs of other names.
+        ensures pairs { IfOk result (λ q. spec.pairs_left q ≡ spec.without_names (spec.pairs names.now) (spec.pairs self.now)) }
+
+        // A query without a pair of these names is returned as it is.
+        ensures kept { spec.without_names (spec.pairs names.now) (spec.pairs self.now) ≡ spec.pairs self.now → IfOk result (λ q. q ≡ Some self.now) }
+    {
+        let text = other_pieces(alloc, self.as_bytes(), &Among(names.as_bytes()))?;
         Ok(query_of_pieces(text))
     }
 }
