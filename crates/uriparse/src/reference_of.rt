@@ -23,6 +23,7 @@ use uriparse_reference::internal::find_pieces;
 use uriparse_reference::uri_reference::{ReferenceView, URIReference, URIReferenceError};
 
 mod access;
+mod beside;
 mod edit;
 mod normal;
 

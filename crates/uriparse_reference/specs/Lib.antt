@@ -2,6 +2,7 @@ pub mod Reference
 pub mod Kinds
 pub mod Cuts
 pub mod Edits
+pub mod Beside
 pub mod Builder
 pub mod Key
 pub mod Reading

@@ -113,8 +113,9 @@ impl<'r, K: ReferenceKind> ReferenceOf<'r, K> {
         self.reference.has_fragment()
     }
 
-    /// What may be shown of it: prints `***` in place of the password, if there is one. Does not
-    /// allocate.
+    /// What may be shown of it: prints `***` in place of the password, if there is one. The value
+    /// still has the password; [`without_userinfo`](ReferenceOf::without_userinfo) removes it. Does
+    /// not allocate.
     pub fn without_password(&self) -> WithoutPassword<'_, 'r>
         ensures { result ≡ self.now }
     {

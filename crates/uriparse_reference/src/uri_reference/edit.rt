@@ -15,6 +15,8 @@ use uriparse_scheme::scheme::Scheme;
 use uriparse_text::fragment::Fragment;
 use uriparse_text::query::Query;
 
+mod authority;
+
 /// One change of a reference, for [`apply_all`](URIReference::apply_all): what the setter of that
 /// name does, or [`normalize`](URIReference::normalize).
 ///

@@ -65,7 +65,8 @@ fn write_masked<W: fmt::Write>(
 
 impl<'r> URIReference<'r> {
     /// The reference as it may be shown: prints `***` in place of the password, if there is one, and
-    /// else as the reference itself. Does not allocate.
+    /// else as the reference itself, which still has the password
+    /// ([`without_userinfo`](URIReference::without_userinfo) removes it). Does not allocate.
     ///
     /// ```
     /// let reference = URIReference::try_from_str(alloc, "ftp://u:secret@h/a")?;
