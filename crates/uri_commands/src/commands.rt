@@ -23,9 +23,7 @@ use crate::relativize::{self, relativize, relativize_against};
 use crate::resolve::{self, resolve, resolve_with};
 use crate::tail::{self, tail};
 use crate::topic::Topic;
-use crate::within::{
-    self, host_within, print_host_within, print_within, read_domain, within,
-};
+use crate::within::{self, host_within, print_host_within, print_within, read_domain, within};
 use crate::{columns, explain, lines};
 use std::alloc::Global;
 use std::io::Write;

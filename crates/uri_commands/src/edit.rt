@@ -50,10 +50,10 @@ error.
 
 Example:
     uri edit 'http://h/a?q#f' scheme https port 8080 drop-query fragment g
-    uri edit 'http://h/?utm_id=1&q=a%20b&%75tm_x' drop-pair 'utm_*' set-pair p '&'
+    uri edit 'http://h/?utm_id=1&q=a&%75tm_x' drop-pair 'utm_*' set-pair p '&'
 prints
     https://h:8080/a#g
-    http://h/?q=a%20b&p=%26
+    http://h/?q=a&p=%26
 ",
 };
 
@@ -287,10 +287,7 @@ fn dropped_names(alloc: Global, changes: &[Change<'_>]) -> Result<String, AllocE
 }
 
 /// Reads the names of the `drop-pair` edits that the changes begin with, as one query.
-fn read_names(
-    alloc: Global,
-    changes: &[Change<'_>],
-) -> Result<Query<'static>, URIReferenceError> {
+fn read_names(alloc: Global, changes: &[Change<'_>]) -> Result<Query<'static>, URIReferenceError> {
     let names = dropped_names(alloc, changes)?;
     Ok(Query::try_from_str(names.as_str())?.to_owned(alloc)?)
 }
@@ -369,6 +366,56 @@ fn drop_part(reference: &mut URIReference<'_>, dropped: Dropped) -> Result<(), E
     Ok(())
 }
 
+fn set_pair(
+    alloc: Global,
+    reference: &mut URIReference<'_>,
+    name: &[u8],
+    value: &[u8],
+) -> Result<(), EditError> {
+    let query = match reference.query() {
+        Some(query) => query.with_pair(alloc, name, Some(value))?,
+        None => Query::from_pairs(alloc, &[(name, Some(value))])?,
+    };
+    reference.set_query(Some(query))?;
+    Ok(())
+}
+
+fn append_pair(
+    alloc: Global,
+    reference: &mut URIReference<'_>,
+    name: &[u8],
+    value: &[u8],
+) -> Result<(), EditError> {
+    let query = match reference.query() {
+        Some(query) => query.with_appended_pair(alloc, name, Some(value))?,
+        None => Query::from_pairs(alloc, &[(name, Some(value))])?,
+    };
+    reference.set_query(Some(query))?;
+    Ok(())
+}
+
+fn drop_pairs(
+    alloc: Global,
+    reference: &mut URIReference<'_>,
+    names: &Query<'_>,
+) -> Result<(), EditError> {
+    let query = match reference.query() {
+        Some(query) => query.without_pairs_named(alloc, names)?,
+        None => None,
+    };
+    reference.set_query(query)?;
+    Ok(())
+}
+
+fn sort_pairs(alloc: Global, reference: &mut URIReference<'_>) -> Result<(), EditError> {
+    let query = match reference.query() {
+        Some(query) => Some(query.sorted_pairs(alloc)?),
+        None => None,
+    };
+    reference.set_query(query)?;
+    Ok(())
+}
+
 /// Makes one step.
 fn make_step<'r>(
     alloc: Global,
@@ -379,13 +426,13 @@ fn make_step<'r>(
         Act::Set(value) => set_value(alloc, reference, value)?,
         Act::Drop(dropped) => drop_part(reference, *dropped)?,
         Act::SetPair(name, value) => {
-            reference.set_pair(alloc, name.as_bytes(), Some(value.as_bytes()))?
+            set_pair(alloc, reference, name.as_bytes(), value.as_bytes())?
         }
         Act::AppendPair(name, value) => {
-            reference.append_pair(alloc, name.as_bytes(), Some(value.as_bytes()))?
+            append_pair(alloc, reference, name.as_bytes(), value.as_bytes())?
         }
-        Act::DropPairs(names) => reference.remove_pairs_named(alloc, names)?,
-        Act::SortPairs => reference.sort_pairs(alloc)?,
+        Act::DropPairs(names) => drop_pairs(alloc, reference, names)?,
+        Act::SortPairs => sort_pairs(alloc, reference)?,
         Act::Normalize => reference.normalize(alloc)?,
     }
     Ok(())

@@ -26,17 +26,25 @@ pub static ABOUT: Topic = Topic {
     name: "--lines",
     summary: "\
 uri --lines parse, uri --lines normalize, uri --lines resolve BASE,
-uri --lines get PART[,PART..], uri --lines equal, uri --lines escape,
-uri --lines --trim escape, uri --lines --drop-default-port normalize
-                      the same for each line of the standard input;
-                      parse prints JSON objects
+uri --lines relativize BASE, uri --lines get PART[,PART..],
+uri --lines pair NAME, uri --lines edit EDIT.., uri --lines equal,
+uri --lines within BASE, uri --lines host-within DOMAIN,
+uri --lines escape, uri --lines --trim escape,
+uri --lines --drop-default-port normalize
+                      the same for each line of the standard input; parse
+                      prints JSON objects, within the lines that are within
 ",
     page: "\
 uri --lines parse
 uri --lines normalize
 uri --lines resolve BASE
+uri --lines relativize BASE
 uri --lines get PART[,PART..]
+uri --lines pair NAME
+uri --lines edit EDIT..
 uri --lines equal
+uri --lines within BASE
+uri --lines host-within DOMAIN
 uri --lines escape
 uri --lines --trim escape
 uri --lines --drop-default-port normalize
@@ -46,11 +54,14 @@ uri --lines --explain parse
 uri --lines --explain resolve BASE
 
 Runs the command for each line of the standard input, and prints one line for
-each, in order. A line is one text, or for equal two, separated by a tab; parse
-prints JSON objects; get with several parts prints them with tabs between them.
-Lines are bytes and of any length, and end with a newline
-alone: a carriage return is part of the text, which is rejected for it, or with
-escape is escaped, or taken off by --trim. A rejected line is reported as
+each, in order; within and host-within print the lines that are within. A line
+is one text, or for equal two, separated by a tab; parse prints JSON objects;
+get with several parts prints them with tabs between them. pairs is left out,
+since it prints any number of lines: pair prints the value of one.
+
+Lines are bytes and of any length, and end with a newline alone: a carriage
+return is part of the text, which is rejected for it, or with escape is escaped,
+or taken off by --trim. A rejected line is reported as
 `line N: ERROR: TEXT` on the standard error, prints nothing else, and the work
 goes on. TEXT is cut to 72 bytes around the error, and a byte that is not
 printable ASCII is shown as a dot. The work ends early if memory runs out, or a

@@ -37,12 +37,7 @@ prints
 };
 
 /// Prints the decoded value of the query's first pair of this name, or fails with `Failure::Absent`.
-pub fn pair<O: Write>(
-    alloc: Global,
-    name: &str,
-    text: &[u8],
-    out: &mut O,
-) -> Result<(), Failure> {
+pub fn pair<O: Write>(alloc: Global, name: &str, text: &[u8], out: &mut O) -> Result<(), Failure> {
     let reference = ReferenceView::try_from_bytes(text)?;
     match Held(reference.query()).0.as_ref() {
         Some(query) => print_value(alloc, query.pair(name.as_bytes()), out),

@@ -115,11 +115,7 @@ fn is_under(domain: &Host<'_>, text: &[u8]) -> Result<bool, Failure> {
 }
 
 /// Prints the line if its URI is below the base.
-pub fn print_within<O: Write>(
-    base: &URIView<'_>,
-    line: &[u8],
-    out: &mut O,
-) -> Result<(), Failure> {
+pub fn print_within<O: Write>(base: &URIView<'_>, line: &[u8], out: &mut O) -> Result<(), Failure> {
     print_if(is_below(base, line)?, line, out)
 }
 
