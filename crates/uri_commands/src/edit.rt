@@ -366,6 +366,7 @@ fn drop_part(reference: &mut URIReference<'_>, dropped: Dropped) -> Result<(), E
     Ok(())
 }
 
+/// Sets the pair in the query, or makes a query of it alone.
 fn set_pair(
     alloc: Global,
     reference: &mut URIReference<'_>,
@@ -380,6 +381,7 @@ fn set_pair(
     Ok(())
 }
 
+/// Adds the pair to the query, or makes a query of it alone.
 fn append_pair(
     alloc: Global,
     reference: &mut URIReference<'_>,
@@ -394,6 +396,7 @@ fn append_pair(
     Ok(())
 }
 
+/// Leaves out the pairs whose names are among these names, and the query if no pair is left.
 fn drop_pairs(
     alloc: Global,
     reference: &mut URIReference<'_>,
@@ -407,6 +410,7 @@ fn drop_pairs(
     Ok(())
 }
 
+/// Sorts the pairs of the query by their names.
 fn sort_pairs(alloc: Global, reference: &mut URIReference<'_>) -> Result<(), EditError> {
     let query = match reference.query() {
         Some(query) => Some(query.sorted_pairs(alloc)?),
