@@ -1,5 +1,5 @@
 -- How pieces of a query are written one after another. No public contract cites these words.
-use Rattle.std.specs.Prelude.{ℕ, Bool, ◌≡◌, ◌&&◌, ◌||◌, not, bytes_eq, true, if◌then◌else◌, List, [], ◌∷◌, ◌++◌, flat_map, map}
+use Rattle.std.specs.Prelude.{ℕ, Bool, ◌≡◌, ◌⊎◌, ◌&&◌, ◌||◌, not, bytes_eq, false, true, if◌then◌else◌, List, [], ◌∷◌, ◌++◌, flat_map, map}
 use Rattle.std.specs.List.{list_all, list_any, slice_split}
 use Rattle.uriparse_text.specs.declared.internal.class.Class.TheVariants.{Query}
 use Rattle.uriparse_text.specs.Bytes.{ampersand}
@@ -36,6 +36,10 @@ ArePairsWritten ps t = (ss : List (List ℕ)) × AreWritten ss t × (map pair_of
 -- the pieces of a query between its "&", of which each is one
 abbrev pub ArePieces : List ℕ → List (List ℕ) → Type 0
 ArePieces q ss = (ss ≡ slice_split is_ampersand q) × (list_all is_piece ss ≡ true)
+
+-- an empty piece ends the query
+abbrev pub EndsOpen : List ℕ → Type 0
+EndsOpen q = (q ≡ []) ⊎ ((front : List ℕ) × (q ≡ front ++ ampersand ∷ []))
 
 -- This is left of a query from the first pair on that passes.
 pub record IsFirstAt (passes : Pair → Bool) (q left : List ℕ) : Type 0 where

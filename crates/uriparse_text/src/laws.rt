@@ -2,14 +2,14 @@
 //! law.
 ghost use Rattle.std.specs.Prelude.{◌≡◌, ◌==◌, ◌↔◌, ◌<◌, ◌∷◌, ◌++◌, ℕ, List, [], Result, Ok, Err, Some, None, true, false, flat_map, length, map, not, codes, drop, take, slice_get};
 ghost use Rattle.std.specs.Char.{is_ascii_whitespace};
-ghost use Rattle.std.specs.List.{filter, list_all, list_any};
+ghost use Rattle.std.specs.List.{ends_with, filter, find, list_all, list_any};
 ghost use Rattle.std.specs.List.Sorted.{IsPermutation, IsSortedBy};
 ghost use Rattle.uriparse_text.specs.declared.internal.token.Token.{Token};
 ghost use Rattle.uriparse_text.specs.declared.internal.class.Class.{Class};
 ghost use Rattle.uriparse_text.specs.declared.internal.class.Class.TheVariants as class;
 ghost use Rattle.uriparse_text.specs.declared.internal.case.Case.{Case};
 ghost use Rattle.uriparse_text.specs.declared.internal.case.Case.TheVariants as case;
-ghost use Rattle.uriparse_text.specs.Bytes.{is_among, left_bracket, right_bracket};
+ghost use Rattle.uriparse_text.specs.Bytes.{asterisk, is_among, left_bracket, right_bracket};
 ghost use Rattle.uriparse_text.specs.Tokens.{is_well_formed, spell, IsConcatenation};
 ghost use Rattle.uriparse_text.specs.Faults.{fault, IsIn, IsOfClass, HasFaultAt};
 ghost use Rattle.uriparse_text.specs.Offset.{fault_offset};
@@ -17,7 +17,7 @@ ghost use Rattle.uriparse_text.specs.Canonical.{canonical_token, canonical_in, f
 ghost use Rattle.uriparse_text.specs.Coding.{are_bytes, decoded, encoded, escaped_in, form_decoded};
 ghost use Rattle.uriparse_text.specs.Cuts.{lacks, none_pass};
 ghost use Rattle.uriparse_text.specs.Link.{in_brackets, less_than, link, trimmed};
-ghost use Rattle.uriparse_text.specs.Pairs.{Pair, are_pair_bytes, decoded_pair, encoded_in_pair, encoded_pair, form_decoded_pair, has_less_name, is_named, joined_pairs, pairs, sorted_pairs, with_pair, without_empty_end, without_name};
+ghost use Rattle.uriparse_text.specs.Pairs.{Pair, are_pair_bytes, decoded_pair, encoded_in_pair, encoded_pair, form_decoded_pair, has_less_name, is_among_names, is_named, joined_pairs, pairs, sorted_pairs, with_appended, with_pair, without_empty_end, without_name, without_names};
 ghost use Rattle.uriparse_text.specs.Starts.{Writes, too_small};
 ghost use Rattle.uriparse_text.specs.declared.internal.forward_buffer.TooSmall.{TooSmall};
 ghost use Rattle.uriparse_text.specs.Address.{IsOctets, IsSegments, SpellsIpv4, SpellsIpv6, ipv4_text, ipv6_text, ipv4_reading, ipv6_reading, IsPrintedIpv6, is_ipv4_byte, is_ipv6_byte};
@@ -162,6 +162,21 @@ pub fn no_pair_of_a_name()
     ensures set { (name : List ℕ) (new : Pair) (ps : List Pair) → is_named name new ≡ true → list_any (is_named name) ps ≡ true → without_name name (with_pair name new ps) ≡ without_name name ps }
 {}
 
+/// Once a pair of a name is set, it is the one that is found. A pair of a name that is not there is
+/// appended.
+pub fn one_pair_found()
+    ensures set { (name : List ℕ) (new : Pair) (ps : List Pair) → is_named name new ≡ true → find (is_named name) (with_pair name new ps) ≡ Some new }
+    ensures appended { (name : List ℕ) (new : Pair) (ps : List Pair) → list_any (is_named name) ps ≡ false → with_pair name new ps ≡ with_appended new ps }
+{}
+
+/// Once the pairs of some names are left out, there is none of these names, and leaving them out again
+/// changes nothing. One name that doesn't end in `*` leaves out the pairs of that name alone.
+pub fn no_pair_of_several_names()
+    ensures none { (names ps : List Pair) → filter (is_among_names names) (without_names names ps) ≡ [] }
+    ensures twice { (names ps : List Pair) → without_names names (without_names names ps) ≡ without_names names ps }
+    ensures one { (n : Pair) (ps : List Pair) → ends_with (λ b c. b == c) n.0 (asterisk ∷ []) ≡ false → without_names (n ∷ []) ps ≡ without_name (decoded n.0) ps }
+{}
+
 /// What is written to a buffer, and what is reported, is determined by the text and the buffer.
 pub fn one_writing()
     ensures result { (t old new other : List ℕ) (r s : Result ℕ TooSmall) → length new ≡ length old → length other ≡ length old → Writes t r old new → Writes t s old other → r ≡ s }
@@ -201,6 +216,16 @@ pub fn examples_of_pairs()
     ensures set_in_place { with_pair (codes "a") (codes "a", Some (codes "2")) (pairs (codes "a=1&")) ≡ pairs (codes "a=2&") }
     ensures set_after_value { with_pair (codes "b") (codes "b", None) (pairs (codes "a&=")) ≡ pairs (codes "a&=&b") }
     ensures without { without_name (codes "a") (pairs (codes "a=1&%61&b=%2f&A=a")) ≡ pairs (codes "b=%2f&A=a") }
+    ensures found { find (is_named (codes "a")) (pairs (codes "b&%61=1&a=2")) ≡ Some (codes "%61", Some (codes "1")) }
+    ensures not_found { find (is_named (codes "A")) (pairs (codes "a&b=A")) ≡ None }
+    ensures appended { with_appended (codes "a", Some (codes "2")) (pairs (codes "a=1&%61")) ≡ pairs (codes "a=1&%61&a=2") }
+    ensures appended_alone { with_appended (codes "a", None) (pairs []) ≡ pairs (codes "a") }
+    ensures appended_at_end { with_appended (codes "b", Some []) (pairs (codes "a=1&&")) ≡ pairs (codes "a=1&&b=") }
+    ensures without_names { without_names (pairs (codes "utm_*&gclid=1")) (pairs (codes "%75tm_id=1&q=b%20c&gclid&utm&z")) ≡ pairs (codes "q=b%20c&utm&z") }
+    ensures escaped_star { without_names (pairs (codes "a%2A")) (pairs (codes "a*&ab&%61%2a=1")) ≡ pairs (codes "ab") }
+    ensures escaped_prefix { without_names (pairs (codes "%75*=v")) (pairs (codes "u&%75b=1&v=u")) ≡ pairs (codes "v=u") }
+    ensures no_name { without_names (pairs []) (pairs (codes "a&=1&")) ≡ pairs (codes "a") }
+    ensures each_name { without_names (pairs (codes "*")) (pairs (codes "a&=1&")) ≡ [] }
     ensures sorted { sorted_pairs (pairs (codes "z=1&b=2&a&%62=1&ab&")) ≡ pairs (codes "&a&ab&b=2&%62=1&z=1") }
     ensures sorted_case { sorted_pairs (pairs (codes "a=2&B&%C3%A4&a=1&+")) ≡ pairs (codes "+&B&a=2&a=1&%C3%A4") }
     ensures form { form_decoded (codes "a+b%2Bc%20d") ≡ codes "a b+c d" }

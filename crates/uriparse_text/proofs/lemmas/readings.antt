@@ -7,3 +7,4 @@ pub mod LinkLemmas
 pub mod WithoutLemmas
 pub mod SetLemmas
 pub mod SortLemmas
+pub mod NamedLemmas

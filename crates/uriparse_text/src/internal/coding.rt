@@ -163,7 +163,7 @@ pub fn represents_prefix(text: &[u8], prefix: &[u8]) -> bool
         let Some((token, after)) = split_token(rest) else {
             return false;
         };
-        if token.value() != next.value() {
+        if next.value() != token.value() {
             return false;
         }
         rest = after;

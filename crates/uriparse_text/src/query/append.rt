@@ -1,22 +1,32 @@
 //! Queries with one pair more: RFC 3986, section 3.4.
-ghost use Rattle.std.specs.Prelude.{◌≡◌, ◌∷◌, ◌++◌, [], IfOk};
+ghost use Rattle.std.specs.Prelude.{◌≡◌, ◌↔◌, ◌++◌, ℕ, IfOk, IsTrue, List};
 ghost use Rattle.std.specs.Option.{option_copied};
 ghost use Rattle.uriparse_text.specs.Pairs as spec;
+ghost use Rattle.uriparse_text.specs.Query.{IsQuery};
+ghost use Rattle.uriparse_text.specs.Written.{EndsOpen};
 
 use super::Query;
 use super::pairs::{most_pair_bytes, push_pair};
 use crate::internal::text_from_checked_vec;
 use std::alloc::{AllocError, Global};
 
-/// What is between the query and a pair that follows its pairs, in the place of an empty piece at
+/// Whether an empty piece ends the query.
+fn ends_open(query: &[u8]) -> bool
+    ensures { IsTrue result ↔ EndsOpen query.now }
+{
+    match query.split_last() {
+        None => true,
+        Some((last, _)) => *last == b'&',
+    }
+}
+
+/// What is between the query and a piece that follows its pieces, in the place of an empty piece at
 /// the end: a `&`, or nothing if there is such a piece.
 pub fn mark_after(query: &[u8]) -> &'static [u8]
-    ensures { (p : spec.Pair) → (query.now ++ result.now) ++ spec.piece_of p ≡ spec.joined_pairs (spec.with_appended p (spec.pairs query.now)) }
+    ensures pairs { (piece : List ℕ) → spec.pairs ((query.now ++ result.now) ++ piece) ≡ spec.without_empty_end (spec.pairs query.now) ++ spec.pairs piece }
+    ensures query { (piece : List ℕ) → IsQuery query.now → IsQuery piece → IsQuery ((query.now ++ result.now) ++ piece) }
 {
-    match query {
-        [] | [.., b'&'] => b"",
-        _ => b"&",
-    }
+    if ends_open(query) { b"" } else { b"&" }
 }
 
 impl<'q> Query<'q> {

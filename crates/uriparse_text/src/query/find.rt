@@ -41,9 +41,10 @@ impl<'n> PairTest for StandsFor<'n> {
 
     fn has(&self, piece: &[u8]) -> bool {
         let (pattern, _) = split_at_mark(piece, b'=');
-        match pattern.strip_suffix(b"*") {
-            Some(prefix) => represents_prefix(self.0, prefix),
-            None => compare_represented(pattern, self.0).is_eq(),
+        if pattern.ends_with(b"*") {
+            represents_prefix(self.0, &pattern[..pattern.len() - 1])
+        } else {
+            compare_represented(pattern, self.0).is_eq()
         }
     }
 }

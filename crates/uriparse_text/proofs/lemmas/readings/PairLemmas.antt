@@ -28,7 +28,7 @@ use Rattle.uriparse_text.proofs.lemmas.readings.CutLemmas.{before_after, before_
 -- ---- the parts of a text at a delimiter are in the class of the text
 
 module _ (class : Class) (mark : ℕ) (digit : is_hex mark ≡ false) (sign : not (mark == percent) ≡ true) where
-  in_both : (t u : List ℕ) → IsIn class (t ++ mark ∷ u) → IsIn class t × IsIn class u
+  pub in_both : (t u : List ℕ) → IsIn class (t ++ mark ∷ u) → IsIn class t × IsIn class u
   in_both t u h =
       let all = sym (ap (list_all (allows class)) (tokens-mark mark digit sign t u) ∙ list_all-append (allows class) (tokens t) (Byte mark ∷ tokens u)) ∙ h in
       let both = and_parts (list_all (allows class) (tokens t)) (list_all (allows class) (Byte mark ∷ tokens u)) all in

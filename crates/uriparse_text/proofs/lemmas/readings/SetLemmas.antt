@@ -201,7 +201,7 @@ module _ (name : List ℕ) where
       by_name false e h = others-no p ps e ∙ ap (λ l. p ∷ l) (h (sym (filter-no p ps e) ∙ none))
 
   -- an empty piece at the end is the only pair that is left
-  end_alone : (p : Pair) (ps : List Pair) → is_empty_end (p ∷ ps) ≡ true → ps ≡ []
+  pub end_alone : (p : Pair) (ps : List Pair) → is_empty_end (p ∷ ps) ≡ true → ps ≡ []
   end_alone p [] e = refl
   end_alone p (q ∷ ps) e = absurd (false≢true e)
 

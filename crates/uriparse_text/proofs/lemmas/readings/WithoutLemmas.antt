@@ -11,7 +11,7 @@ use Rattle.std.proofs.lemmas.List.Elements.{filter_from_retain}
 use Rattle.uriparse_text.specs.Bytes.{ampersand}
 use Rattle.uriparse_text.specs.Cuts.{lacks, following, before, after}
 use Rattle.uriparse_text.specs.Query.{IsQuery}
-use Rattle.uriparse_text.specs.Pairs.{Pair, is_ampersand, is_named, joined_pairs, pair_of, pairs, pairs_left, without_name, AnswersBy, IsWithout}
+use Rattle.uriparse_text.specs.Pairs.{Pair, is_ampersand, joined_pairs, pair_of, pairs, pairs_left, AnswersBy, IsWithout}
 use Rattle.uriparse_text.specs.Written.{is_piece, AreWritten, ArePairsWritten}
 use Rattle.uriparse_text.proofs.lemmas.readings.CutLemmas.{before_after, up_to-none}
 use Rattle.uriparse_text.proofs.lemmas.readings.PairLemmas.{ampersand_plain, first_pair, in_join, joined-pairs, query_pieces, split_joined}
@@ -169,17 +169,17 @@ pub without_is : {F : Type 0} (step : F → List ℕ → Option (List ℕ) → B
 without_is step test says =
     filter_from_retain (λ f p b g. step f p.0 p.1 (not b) g) (λ p. not (test p)) (λ f p b g call. sym (not-not b) ∙ ap not (says f g p (not b) call))
 
--- ---- a test of the name alone, which has no state
+-- ---- a test of a pair, which has no state
 
-abbrev pub NameStep : List ℕ → ⊤ → List ℕ → Option (List ℕ) → Bool → ⊤ → Type 0
-NameStep name _ own value b _ = b ≡ is_named name (own, value)
+abbrev pub TestStep : (Pair → Bool) → ⊤ → List ℕ → Option (List ℕ) → Bool → ⊤ → Type 0
+TestStep passes _ own value b _ = b ≡ passes (own, value)
 
--- The text has the pieces of the other names once the loop ends.
-pub others_last : (name q : List ℕ) (o : Option (List ℕ)) (text : List ℕ) → Going (NameStep name) tt q tt o text → o ≡ None
-    → ArePairsWritten (without_name name (pairs q)) text
-others_last name q o text g none =
-    let (ss, written, chosen) = going_last (NameStep name) tt q tt o text g none in
-    (ss, written, without_is (NameStep name) (is_named name) (λ _ _ _ _ says. says) tt (pairs q) (map pair_of ss) chosen)
+-- The text has the pieces of the pairs that don't pass once the loop ends.
+pub others_last : (passes : Pair → Bool) (q : List ℕ) (o : Option (List ℕ)) (text : List ℕ) → Going (TestStep passes) tt q tt o text → o ≡ None
+    → ArePairsWritten (filter (λ p. not (passes p)) (pairs q)) text
+others_last passes q o text g none =
+    let (ss, written, chosen) = going_last (TestStep passes) tt q tt o text g none in
+    (ss, written, without_is (TestStep passes) passes (λ _ _ _ _ says. says) tt (pairs q) (map pair_of ss) chosen)
 
 -- pairs of which none is left out are those of the same query
 pub same_query : (q : List ℕ) (o : Option (List ℕ)) → pairs_left o ≡ pairs q → o ≡ Some q

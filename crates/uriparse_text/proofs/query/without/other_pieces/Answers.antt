@@ -2,35 +2,35 @@ use Rattle.std.proofs.Common.{◌≡◌, ◌++◌, ◌∷◌, [], true, false, S
 use Rattle.std.specs.Option.{option_copied}
 use Rattle.uriparse_text.specs.Bytes.{ampersand}
 use Rattle.uriparse_text.specs.Cuts.{part}
-use Rattle.uriparse_text.proofs.lemmas.readings.WithoutLemmas.{NameStep, next_on, next_past, next_smaller, others_last}
+use Rattle.uriparse_text.proofs.lemmas.readings.WithoutLemmas.{TestStep, next_on, next_past, next_smaller, others_last}
 use Rattle.uriparse_text.proofs.query.without.other_pieces.Goals as goal
 
 pub loop-rest-smaller-in-Continue-branch-3 : goal.loop-rest-smaller-in-Continue-branch-3
-loop-rest-smaller-in-Continue-branch-3 c =
+loop-rest-smaller-in-Continue-branch-3 g c =
     let some : option_copied c.loop-rest.rest ≡ Some c.in-Some.left.now = search rules in
     next_smaller _ c.in-Some.left.now _ some (c.without_mark-rest.ensures ∙ ap part c.split_at_mark.ensures.rest)
 
 pub loop-rest-smaller : goal.loop-rest-smaller
-loop-rest-smaller c =
+loop-rest-smaller g c =
     let some : option_copied c.loop-rest.rest ≡ Some c.in-Some.left.now = search rules in
     next_smaller _ c.in-Some.left.now _ some (c.without_mark-rest.ensures ∙ ap part c.split_at_mark.ensures.rest)
 
 pub loop-rest-preserved-in-Continue-branch-3 : goal.loop-rest-preserved-in-Continue-branch-3
-loop-rest-preserved-in-Continue-branch-3 c =
+loop-rest-preserved-in-Continue-branch-3 g c =
     let some : option_copied c.loop-rest.rest ≡ Some c.in-Some.left.now = search rules in
-    let no : c.is_named.result ≡ false = search rules in
+    let no : c.has.result ≡ false = search rules in
     let more : c.push.new.self.items ≡ (c.loop-rest.text.items ++ c.split_at_mark.result.0.now) ++ ampersand ∷ [] = search rules in
-    next_on (NameStep c.args.name.now) _ _ _ _ _ c.in-Some.left.now _ _ _ c.is_named.result _ c.loop-rest.invariant some c.split_at_mark.ensures.front c.is_named.ensures no
+    next_on (TestStep (g.T.PairTest.passes c.args.test.now)) _ _ _ _ _ c.in-Some.left.now _ _ _ c.has.result _ c.loop-rest.invariant some c.split_at_mark.ensures.front c.has.ensures no
     (c.without_mark-rest.ensures ∙ ap part c.split_at_mark.ensures.rest) more
 
 pub loop-rest-preserved : goal.loop-rest-preserved
-loop-rest-preserved c =
+loop-rest-preserved g c =
     let some : option_copied c.loop-rest.rest ≡ Some c.in-Some.left.now = search rules in
-    let yes : c.is_named.result ≡ true = search rules in
-    next_past (NameStep c.args.name.now) _ _ _ _ _ c.in-Some.left.now _ _ c.is_named.result _ c.loop-rest.invariant some c.split_at_mark.ensures.front c.is_named.ensures yes
+    let yes : c.has.result ≡ true = search rules in
+    next_past (TestStep (g.T.PairTest.passes c.args.test.now)) _ _ _ _ _ c.in-Some.left.now _ _ c.has.result _ c.loop-rest.invariant some c.split_at_mark.ensures.front c.has.ensures yes
     (c.without_mark-rest.ensures ∙ ap part c.split_at_mark.ensures.rest)
 
 pub returns : goal.returns
-returns c =
+returns g c =
     let none : option_copied c.loop-rest.rest ≡ None = search rules in
     others_last _ _ _ _ c.loop-rest.invariant none

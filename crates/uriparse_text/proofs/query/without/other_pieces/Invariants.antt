@@ -1,9 +1,9 @@
 use Rattle.std.specs.Option.{option_copied}
-use Rattle.uriparse_text.proofs.lemmas.readings.WithoutLemmas.{Going, NameStep, left_of}
+use Rattle.uriparse_text.proofs.lemmas.readings.WithoutLemmas.{Going, TestStep, left_of}
 use Rattle.uriparse_text.proofs.query.without.other_pieces.Given as goal
 
 abbrev pub invariant-loop-rest : goal.invariant-loop-rest
-invariant-loop-rest l = Going (NameStep l.fn.name) tt l.fn.query tt (option_copied l.rest) l.text.items
+invariant-loop-rest g l = Going (TestStep (g.T.PairTest.passes l.fn.test)) tt l.fn.query tt (option_copied l.rest) l.text.items
 
 abbrev pub decreases-loop-rest : goal.decreases-loop-rest
-decreases-loop-rest l = left_of (option_copied l.rest)
+decreases-loop-rest g l = left_of (option_copied l.rest)
