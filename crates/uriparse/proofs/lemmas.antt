@@ -1,5 +1,6 @@
 -- The lemmas of this crate, and one file of a crate below that callers cite: so they need not list that crate.
 pub mod KindLemmas
+pub mod KindChangeLemmas
 pub mod ViewLemmas
 pub mod WithinLemmas
 pub mod BuilderLemmas

@@ -5,6 +5,7 @@ pub mod RelativeReference
 pub mod Origin
 pub mod Within
 pub mod File
+pub mod ChangeOf
 -- texts: RFC 3986, section 2
 pub use Rattle.uriparse_text.specs.Bytes
 pub use Rattle.uriparse_text.specs.Classes
@@ -88,6 +89,7 @@ pub use Rattle.uriparse_reference.specs.Escaped
 pub use Rattle.uriparse_reference.specs.Into
 pub use Rattle.uriparse_reference.specs.Ports
 pub use Rattle.uriparse_reference.specs.Masked
+pub use Rattle.uriparse_reference.specs.Beside
 pub use Rattle.uriparse_reference.specs.Edits
 pub use Rattle.uriparse_reference.specs.Wanted
 pub use Rattle.uriparse_reference.specs.Change

@@ -12,6 +12,7 @@
 #![tactic(auto)]
 
 mod builder_of;
+mod change_of;
 pub mod file;
 mod kind;
 pub mod laws;
@@ -23,6 +24,7 @@ pub mod uri;
 mod view_of;
 
 pub use builder_of::BuilderOf;
+pub use change_of::KindChangeError;
 pub use reference_of::ReferenceOf;
 pub use relative_reference::{
     RelativeReference, RelativeReferenceBuilder, RelativeReferenceError, RelativeReferenceText,

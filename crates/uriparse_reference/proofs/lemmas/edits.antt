@@ -4,3 +4,4 @@ pub mod EditListLemmas
 pub mod SegmentLemmas
 pub mod PortLemmas
 pub mod ChangeLemmas
+pub mod BesideLemmas

@@ -1,14 +1,17 @@
 //! Setting one part of the authority of a reference: RFC 3986, section 3.2.
-ghost use Rattle.std.specs.Prelude.{◌≡◌};
+ghost use Rattle.std.specs.Prelude.{◌≡◌, if◌then◌else◌, Err, Ok, Some};
 ghost use Rattle.uriparse_text.specs.Readings.{Settles};
 ghost use Rattle.uriparse_reference.specs.Beside as spec;
+ghost use Rattle.uriparse_reference.specs.declared.uri_reference.change.ChangeError.TheVariants as errors;
 
 use super::super::URIReference;
 use super::super::change::ChangeError;
 use uriparse_authority::authority::{Authority, Host, Password, Username};
 
 /// What setting or removing a part of an authority yields where there is none.
-fn without_host(is_set: bool) -> Result<(), ChangeError> {
+fn without_host(is_set: bool) -> Result<(), ChangeError>
+    ensures { result ≡ (if is_set then Err errors.MissingHost else Ok tt) }
+{
     if is_set {
         Err(ChangeError::MissingHost)
     } else {
@@ -55,16 +58,15 @@ impl<'r> URIReference<'r> {
     /// reference.set_username(None)?;
     /// assert_eq!(reference.to_string(alloc)?.as_str(), "//h/");
     /// ```
+    #[tactic(auto, using(crate::proofs::lemmas::edits::BesideLemmas::none_beside))]
     pub fn set_username(&mut self, username: Option<Username<'r>>) -> Result<(), ChangeError>
         ensures { Settles self.old self.new result (spec.with_username self.old username.entry) }
     {
-        match &mut self.authority {
-            Some(authority) => {
-                let _ok = authority.set_username(username);
-                Ok(())
-            }
-            None => without_host(username.is_some()),
-        }
+        let Some(authority) = &mut self.authority else {
+            return without_host(username.is_some());
+        };
+        let _ok = authority.set_username(username);
+        Ok(())
     }
 
     /// Sets or removes the password. A password without a user name gets an empty one, as
@@ -77,16 +79,15 @@ impl<'r> URIReference<'r> {
     /// reference.set_password(Some(Password::try_from_str("p")?))?;
     /// assert_eq!(reference.to_string(alloc)?.as_str(), "//:p@h/");
     /// ```
+    #[tactic(auto, using(crate::proofs::lemmas::edits::BesideLemmas::none_beside))]
     pub fn set_password(&mut self, password: Option<Password<'r>>) -> Result<(), ChangeError>
         ensures { Settles self.old self.new result (spec.with_password self.old password.entry) }
     {
-        match &mut self.authority {
-            Some(authority) => {
-                let _ok = authority.set_password(password);
-                Ok(())
-            }
-            None => without_host(password.is_some()),
-        }
+        let Some(authority) = &mut self.authority else {
+            return without_host(password.is_some());
+        };
+        let _ok = authority.set_password(password);
+        Ok(())
     }
 
     /// Sets or removes the port. Without an authority, setting it fails with
@@ -100,16 +101,15 @@ impl<'r> URIReference<'r> {
     /// let mut path = URIReference::try_from_str(alloc, "/a")?;
     /// assert!(path.set_port(Some(80)) == Err(ChangeError::MissingHost));
     /// ```
+    #[tactic(auto, using(crate::proofs::lemmas::edits::BesideLemmas::none_beside))]
     pub fn set_port(&mut self, port: Option<u16>) -> Result<(), ChangeError>
         ensures { Settles self.old self.new result (spec.with_port self.old port) }
     {
-        match &mut self.authority {
-            Some(authority) => {
-                authority.set_port(port);
-                Ok(())
-            }
-            None => without_host(port.is_some()),
-        }
+        let Some(authority) = &mut self.authority else {
+            return without_host(port.is_some());
+        };
+        authority.set_port(port);
+        Ok(())
     }
 
     /// The reference without its user name and its password: RFC 3986, section 3.2.1.
