@@ -26,7 +26,7 @@ impl EditError {
     pub fn is_out_of_memory(&self) -> bool {
         match self {
             EditError::Reference(error) => error.is_out_of_memory(),
-            EditError::Change(error) => *error == ChangeError::OutOfMemory,
+            EditError::Change(error) => matches!(error, ChangeError::OutOfMemory),
             EditError::Memory(_) => true,
         }
     }
