@@ -1,16 +1,16 @@
 -- What a change makes of a reference of one kind.
-use Rattle.std.proofs.Common.{◌≡◌, ℕ, Bool, true, false, List, Option, Some, None, Ok, Err, refl, sym, ap, ◌∙◌}
-use Rattle.std.specs.Prelude.{IfOk, MatchResult, Result, is_some, string_bytes}
+use Rattle.std.proofs.Common.{◌≡◌, ℕ, Bool, true, false, cond, List, Option, Some, None, Ok, Err, refl, sym, ap, ◌∙◌}
+use Rattle.std.specs.Prelude.{Result, is_some}
 use Rattle.std.specs.Bool.{beq}
 use Rattle.std.specs.Option.{option_map}
 use Rattle.uriparse_text.specs.Query as query
 use Rattle.uriparse_text.specs.Fragment as fragment
-use Rattle.uriparse_text.specs.Readings.{◌>>=◌, of_piece, if_present, IfPresent}
+use Rattle.uriparse_text.specs.Readings.{of_piece, if_present, IfPresent}
 use Rattle.uriparse_text.proofs.lemmas.readings.ReadingLemmas.{IsExact, present_found, piece_found, bind_ok}
 use Rattle.uriparse_scheme.specs.Scheme as scheme
 use Rattle.uriparse_scheme.proofs.lemmas.schemes.SchemeLemmas.{reads}
 use Rattle.uriparse_reference.specs.Change.{AuthorityStrings, Strings, authority_if, changed, changed_authority, changed_strings, changing, path_reading, strings, strings_reading}
-use Rattle.uriparse_reference.specs.Change.{viewed_strings, whole, with_authority, WritesChanged, ChangesTo}
+use Rattle.uriparse_reference.specs.Change.{viewed_strings, whole, with_authority, ChangesTo}
 use Rattle.uriparse_reference.specs.Cuts.{scheme_text}
 use Rattle.uriparse_reference.specs.Reference.{Parts, Spells}
 use Rattle.uriparse_reference.specs.View.{Viewed}
@@ -19,9 +19,9 @@ use Rattle.uriparse_reference.specs.declared.uri_reference.change.ChangeError.{C
 use Rattle.uriparse_reference.specs.declared.uri_reference.change.ChangeError.TheVariants as changes
 use Rattle.uriparse_reference.specs.declared.uri_reference.error.URIReferenceError.TheVariants as faults
 use Rattle.uriparse_reference.proofs.lemmas.reading.TextEditLemmas.{own_cut}
-use Rattle.uriparse.specs.ChangeOf as spec
-use Rattle.uriparse.specs.ChangeOf.{keeps_kind}
+use Rattle.uriparse.specs.ChangeOf.{if_of_kind, keeps_kind}
 use Rattle.uriparse.specs.Kinds.{IsOfKind}
+use Rattle.uriparse.specs.declared.change_of.KindChangeError.{KindChangeError}
 use Rattle.uriparse.specs.declared.change_of.KindChangeError.TheVariants as errors
 
 -- ---- the scheme of a changed reference
@@ -68,7 +68,7 @@ same_bool false true h = cc
 same_bool false false h = refl
 
 -- a change that keeps the kind leaves a reference of the kind
-pub kind_kept : (has : Bool) (c : Wanted) (t : List ℕ) (p : Parts) (v : Viewed) → Spells t p → IsOfKind has p → keeps_kind has c.scheme ≡ true
+kind_kept : (has : Bool) (c : Wanted) (t : List ℕ) (p : Parts) (v : Viewed) → Spells t p → IsOfKind has p → keeps_kind has c.scheme ≡ true
     → changing c t ≡ Ok v → IsOfKind has v.parts
 kind_kept has c t p v s own keep h = changed_scheme c t v h ∙ by_wish c.scheme keep
   where
@@ -76,25 +76,20 @@ kind_kept has c t p v s own keep h = changed_scheme c t v h ∙ by_wish c.scheme
     by_wish None e = sym (spelled_scheme t p s) ∙ own
     by_wish (Some new) e = same_bool (is_some new) has e
 
--- ---- what is made and written, with the errors of a change of one kind
+-- ---- what was made of a reference of the kind is of the kind
 
-pub written : (made : Result Viewed ChangeError) (r : Result ℕ ChangeError) (old new : List ℕ) → WritesChanged made r old new
-    → spec.WritesChanged (of_piece errors.Change made) (of_piece errors.Change r) old new
-written (Ok v) (Ok n) old new h = h
-written (Ok v) (Err e) old new h = (ap errors.Change h.0, h.1)
-written (Err x) r old new h = (ap (of_piece errors.Change) h.0, h.1)
-
-pub made_to : {A : Type 0} (Is : A → Viewed → Type 0) (made : Result Viewed ChangeError) (r : Result A ChangeError) → ChangesTo Is made r
-    → spec.ChangesTo Is (of_piece errors.Change made) (of_piece errors.Change r)
-made_to Is (Ok v) (Ok x) h = h
-made_to Is (Ok v) (Err e) h = ap errors.Change h
-made_to Is (Err x) r h = ap (of_piece errors.Change) h
-
--- what was made of a reference of the kind is of the kind
-pub kind_made : (has : Bool) (c : Wanted) (t : List ℕ) (p u : Parts) (x : List ℕ) → Spells t p → IsOfKind has p → keeps_kind has c.scheme ≡ true
-    → ChangesTo (λ (r v : Viewed). r ≡ v) (changing c t) (Ok (record { text = x; parts = u })) → IsOfKind has u
-kind_made has c t p u x s own keep h = by_made (changing c t) refl h
+keeps : (has : Bool) (c : Wanted) → ◌≡◌ {A = Result (Unit {0}) KindChangeError} (Ok tt) (if_of_kind has c) → keeps_kind has c.scheme ≡ true
+keeps has c h = by_test (keeps_kind has c.scheme) h
   where
-    by_made : (r : Result Viewed ChangeError) → changing c t ≡ r → ChangesTo (λ (r v : Viewed). r ≡ v) r (Ok (record { text = x; parts = u })) → IsOfKind has u
-    by_made (Ok v) e k = ap (λ (q : Viewed). is_some q.parts.scheme) k ∙ kind_kept has c t p v s own keep e
-    by_made (Err y) e k = absurd (cc)
+    by_test : (b : Bool) → ◌≡◌ {A = Result (Unit {0}) KindChangeError} (Ok tt) (cond b (Ok tt) (Err errors.OtherKind)) → b ≡ true
+    by_test true h = refl
+    by_test false h = cc
+
+pub kind_made : (has : Bool) (c : Wanted) (t : List ℕ) (p : Parts) (u : Viewed) → Spells t p → IsOfKind has p
+    → ◌≡◌ {A = Result (Unit {0}) KindChangeError} (Ok tt) (if_of_kind has c)
+    → ChangesTo (λ (r v : Viewed). r ≡ v) (changing c t) (Ok u) → IsOfKind has u.parts
+kind_made has c t p u s own k h = by_made (changing c t) refl h
+  where
+    by_made : (r : Result Viewed ChangeError) → changing c t ≡ r → ChangesTo (λ (r v : Viewed). r ≡ v) r (Ok u) → IsOfKind has u.parts
+    by_made (Ok v) e m = ap (λ (q : Viewed). is_some q.parts.scheme) m ∙ kind_kept has c t p v s own (keeps has c k) e
+    by_made (Err y) e m = absurd (cc)
