@@ -3,10 +3,12 @@
 
 #include <string.h>
 
-enum { CALLS = 14 };
+enum { CALLS = 23 };
 
-static const char *const names[CALLS] = {"parse",  "is_uri", "equal",  "hash",      "first_fault", "normalize", "decode",
-                                         "encode", "escape", "next_pair", "origin", "relativize",  "change",    "resolve"};
+static const char *const names[CALLS] = {"parse", "is_uri", "equal", "hash", "first_fault", "normalize", "decode",
+                                         "encode", "escape", "next_pair", "origin", "relativize", "change",
+                                         "compare", "is_within", "host_is_within", "host_flags", "default_port",
+                                         "find_pair", "set_pair", "append_pair", "drop_pairs", "resolve"};
 
 /* What a call writes. */
 struct written {
@@ -17,6 +19,8 @@ struct written {
   struct uriparse_parts parts;
   struct uriparse_pair pair;
   bool equal;
+  int32_t order;
+  uint32_t flags;
 };
 
 /* The query becomes the base, the port is removed, and all else is kept. */
@@ -39,6 +43,15 @@ static uint32_t call(int which, const char *base, size_t base_len, const char *t
   case 10: return uriparse_origin(text, len, to->out, ROOM, &to->needed);
   case 11: return uriparse_relativize(base, base_len, text, len, to->out, ROOM, &to->needed);
   case 12: return uriparse_change(text, len, &changes, base, base_len, to->out, ROOM, &to->needed);
+  case 13: return uriparse_compare(base, base_len, text, len, &to->order);
+  case 14: return uriparse_is_within(text, len, base, base_len, &to->equal);
+  case 15: return uriparse_host_is_within(text, len, base, base_len, &to->equal);
+  case 16: return uriparse_host_flags(text, len, &to->flags);
+  case 17: return uriparse_default_port(text, len);
+  case 18: return uriparse_find_pair(text, len, base, base_len, &to->pair) ? URIPARSE_OK : URIPARSE_NO_ROOM;
+  case 19: return uriparse_set_pair(text, len, base, base_len, text, len, true, to->out, ROOM, &to->needed);
+  case 20: return uriparse_append_pair(text, len, base, base_len, text, len, true, to->out, ROOM, &to->needed);
+  case 21: return uriparse_drop_pairs(text, len, base, base_len, to->out, ROOM, &to->needed);
   default: return uriparse_resolve(base, base_len, text, len, to->out, ROOM, &to->needed);
   }
 }

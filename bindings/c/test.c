@@ -1,22 +1,9 @@
 /* Rows with what is expected: the tables of RFC 3986, section 5.4, references that lead to a URI, normal forms, components,
- * texts that are rejected, components that are changed, and texts that are decoded, encoded, escaped and cut into pairs. Prints a line for each check that
- * fails and how many passed; the status is 0 if all did. */
-#include "uriparse.h"
+ * texts that are rejected, components that are changed, and texts that are decoded, encoded, escaped and cut into pairs. Prints a line
+ * for each check that fails and how many passed; the status is 0 if all did. */
+#include "rows.h"
 
-#include <stdio.h>
 #include <stdlib.h>
-#include <string.h>
-
-static int passed, failed;
-
-static void check(int holds, const char *what, const char *row) {
-  if (holds) {
-    passed++;
-  } else {
-    failed++;
-    printf("FAILED %s: %s\n", what, row);
-  }
-}
 
 /* Resolves into a buffer that has exactly the room that is needed, one byte less, and more. */
 static void resolves(const char *base, const char *text, const char *expected) {
@@ -45,26 +32,6 @@ static void normalizes(const char *text, const char *expected) {
   uint8_t out[300];
   uint32_t code = uriparse_normalize(text, strlen(text), out, sizeof out, &needed);
   check(code == URIPARSE_OK && needed == strlen(expected) && memcmp(out, expected, needed) == 0, "normalize", text);
-}
-
-/* The call of a text in a buffer that has exactly the room that is needed, one byte less, and more. */
-typedef uint32_t writer(const char *text, size_t len, uint8_t *out, size_t room, size_t *needed);
-
-static void writes(writer *call, const char *what, const char *text, size_t len, const char *expected, size_t size) {
-  size_t needed = 99999;
-  uint8_t out[100];
-  memset(out, '~', sizeof out);
-  check(call(text, len, out, sizeof out, &needed) == URIPARSE_OK && needed == size && memcmp(out, expected, size) == 0
-            && out[size] == '~' && out[99] == '~', what, text);
-  memset(out, '~', sizeof out);
-  check(call(text, len, out, size, &needed) == URIPARSE_OK && needed == size && memcmp(out, expected, size) == 0
-            && out[size] == '~', "exact room", text);
-  if (size > 0) {
-    memset(out, '~', sizeof out);
-    check(call(text, len, out, size - 1, &needed) == URIPARSE_NO_ROOM && needed == size && out[0] == '~' && out[size - 1] == '~',
-          "no room", text);
-    check(call(text, len, NULL, 0, &needed) == URIPARSE_NO_ROOM && needed == size, "room NULL", text);
-  }
 }
 
 static uint32_t decode(const char *text, size_t len, uint8_t *out, size_t room, size_t *needed) {
@@ -275,7 +242,7 @@ static void texts(void) {
   for (uint32_t code = 0; code < 0x100; code++) {
     named += strcmp(uriparse_error_text(code), "unknown code") != 0;
   }
-  check(named == 32, "texts", "codes");
+  check(named == 34, "texts", "codes");
   check(strcmp(uriparse_error_text(URIPARSE_IN_BASE | URIPARSE_PORT_RANGE), "the port is above 65535") == 0, "text", "0x142");
   check((URIPARSE_USERNAME_BYTE & URIPARSE_COMPONENT_MASK) == URIPARSE_USERNAME
             && (URIPARSE_PASSWORD_ESCAPE & URIPARSE_COMPONENT_MASK) == URIPARSE_PASSWORD

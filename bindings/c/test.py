@@ -39,7 +39,7 @@ def test_calls() -> None:
     assert uriparse.relativize(b"http://a/b/c", b"http://a/g#s") == b"../g#s" and uriparse.relativize(b"s:a", b"s:a") == b""
     assert uriparse.decode(b"a%20b%00+") == b"a b\0+" and uriparse.decode(b"") == b""
     assert uriparse.encode("segment", b"a/b c") == b"a%2Fb%20c" and uriparse.encode("query", b"") == b""
-    assert [uriparse.encode(name, b":/") for name in uriparse.ENCODED] == [b"%3A%2F", b":%2F", b":%2F", b":/", b":/"]
+    assert [uriparse.encode(name, b":/") for name in uriparse.ENCODED] == [b"%3A%2F", b":%2F", b":%2F", b":/", b":/", b":/"]
     assert uriparse.escape("http://h/a b?\u00fc%".encode()) == b"http://h/a%20b?%C3%BC%25"
     assert uriparse.origin(b"HTTPS://u@H:443/a") == b"https://h" and uriparse.origin(b"http://h:1") == b"http://h:1"
     assert uriparse.origin(b"http://%31.2.3.4") == uriparse.origin(b"http://1.2.3.4") == b"http://1.2.3.4"
@@ -195,7 +195,7 @@ def test_wrong_types() -> None:
     assert type(raised(uriparse.normalize, memoryview(b"abcd")[::2])) is BufferError
     error = raised(lambda: uriparse.encode("host", b""))  # type: ignore[call-overload]
     assert type(error) is ValueError
-    assert str(error) == "no component 'host': it is one of username, password, segment, query, fragment", error
+    assert str(error) == "no component 'host': it is one of username, password, segment, query, fragment, pair", error
 
 
 def test_str() -> None:
@@ -336,7 +336,7 @@ def test_uri() -> None:
     assert uri.scheme == "HTTP"
     for copied in (copy.copy(uri), copy.deepcopy(uri), pickle.loads(pickle.dumps(uri))):
         assert type(copied) is uriparse.URI and str(copied) == str(uri) and copied == uri
-    assert type(raised(lambda: one < other)) is TypeError  # type: ignore[operator]
+    assert type(raised(lambda: one < str(other))) is TypeError  # type: ignore[operator]
     for wrong in (None, b"s:", 5, one):
         assert str(raised(uriparse.URI, wrong)) == "str expected, not " + type(wrong).__name__
     error = raised(uriparse.URI, "http://h/a b")
@@ -350,6 +350,69 @@ def test_uri() -> None:
         def __str__(self) -> str:
             return "s:other"
     assert str(uriparse.URI(Loud("s:a"))) == "s:a"
+
+
+def test_checks() -> None:
+    """The order, and URIs and hosts within others."""
+    for left, right, order in (("http://h/%7e", "HTTP://H/~", 0), ("http:b", "https:a", -1), ("//2.0.0.0", "//10.0.0.0", -1),
+                               ("//h:9", "//h:10", -1), ("a?", "a#z", 1), ("a", "a#", -1)):
+        assert uriparse.compare(left, right) == order == -uriparse.compare(right.encode(), left.encode())
+        assert (uriparse.URI(left) < uriparse.URI(right)) is (order < 0) is (uriparse.URI(right) > uriparse.URI(left))
+        assert (uriparse.URI(left) <= uriparse.URI(right)) is (order <= 0) is (uriparse.URI(right) >= uriparse.URI(left))
+    assert sorted(map(uriparse.URI, ("//h:10", "//h:9"))) == [uriparse.URI("//h:9"), uriparse.URI("//h:10")]
+    for uri, base, within in (("HTTP://H:80/x/../a/b?q", "http://h/a/c", True), ("http://h/appX", "http://h/app/", False),
+                              ("http://h/app/%2e%2e/admin", "http://h/app/", False), ("http://h/app/..;/admin", "http://h/app/", False),
+                              ("https://h/a/b", "http://h/a/", False), ("mailto:a@b", "mailto:a@b", True)):
+        assert uriparse.is_within(uri, base) is within is uriparse.URI(uri).is_within(uriparse.URI(base))
+        assert uriparse.is_within(uri.encode(), bytearray(base.encode())) is within
+    for text, domain, within in (("http://WWW.Example.com./", "example.com", True), ("//evilexample.com", "example.com", False),
+                                 ("//1.2.3.4", "4", False), ("//[::1]", "[::1]", True), ("/a", "h", False)):
+        assert uriparse.host_is_within(text, domain) is within is uriparse.host_is_within(text.encode(), domain.encode())
+    assert uriparse.host_flags("//%31.2.3.4") == uriparse.HostFlag.HIDES_ADDRESS | uriparse.HostFlag.MAY_BE_NUMERIC
+    assert uriparse.host_flags(b"//0x7f.1") is uriparse.HostFlag.MAY_BE_NUMERIC and not uriparse.host_flags("//example.com")
+    assert uriparse.default_port("HTTPS") == 443 and uriparse.default_port(b"mailto") is None and uriparse.default_port("") is None
+    for call, arguments, argument, code, place in (
+            (uriparse.compare, ("a", "a b"), "right", 0x51, 1), (uriparse.is_within, ("/a", "%"), "uri", 3, 0),
+            (uriparse.is_within, ("s:", "%"), "base", 0x152, 0), (uriparse.is_within, ("a b", "%"), "uri", 0x51, 1),
+            (uriparse.is_within, ("s:", "a"), "base", 0x103, 0), (uriparse.host_is_within, ("//h", "a b"), "domain", 0x131, 1),
+            (uriparse.host_is_within, ("a b", "["), "text", 0x51, 1), (uriparse.host_flags, ("a b",), "text", 0x51, 1)):
+        error = raised(call, *arguments)
+        assert isinstance(error, uriparse.URIError) and (error.argument, error.code, error.place) == (argument, code, place), (error, arguments)
+    for wrong in (lambda: uriparse.compare("a", b"a"), lambda: uriparse.is_within(b"s:", "s:"),  # type: ignore[call-overload]
+                  lambda: uriparse.host_is_within("a", None), lambda: uriparse.host_flags(1),  # type: ignore[call-overload,arg-type]
+                  lambda: uriparse.default_port(None), lambda: uriparse.URI("a") < "a"):  # type: ignore[arg-type,operator]
+        assert isinstance(raised(wrong), TypeError)
+
+
+def test_pairs_by_name() -> None:
+    """Pairs that are found, set, appended and left out, and segments below a URI."""
+    assert uriparse.pair("http://h/?q=R%26D&all", "q") == "R&D" and uriparse.pair(b"?%61=%FF&a=2", b"a") == b"\xff"
+    assert uriparse.pair("?all", "all") == "" and uriparse.pair("?a", "b") is None and uriparse.pair("a", "a") is None
+    assert uriparse.pair("?%C3%BC=%C3%BC", "\u00fc") == "\u00fc"
+    assert isinstance(raised(uriparse.pair, "?a=%FF", "a"), UnicodeDecodeError)
+    assert uriparse.with_pair("http://h/?p=1&lang=de&%70=2#f", "p", "a&b") == "http://h/?p=a%26b&lang=de#f"
+    assert uriparse.with_pair("http://h", "n", 2) == "http://h?n=2" and uriparse.with_pair(b"?", b"n", None) == b"?n"
+    assert uriparse.with_appended_pair("?a=1", "a", "\u00fc +") == "?a=1&a=%C3%BC%20%2B"
+    assert uriparse.without_pairs("http://h/?utm_source=x&q=1&%75tm_id=2&gclid#f", "utm_*", "gclid") == "http://h/?q=1#f"
+    assert uriparse.without_pairs(b"http://h/?utm_a#f", b"utm_*") == b"http://h/#f"
+    assert uriparse.without_pairs("?a", "b") == "?a" and uriparse.without_pairs("a", "b") == "a" and uriparse.without_pairs("?a") == "?a"
+    assert uriparse.encode("pair", "a&b=c d+") == "a%26b%3Dc%20d%2B"
+    for call, arguments, argument, code, place in (
+            (uriparse.with_pair, ("a b", "n", "v"), "text", 0x51, 1), (uriparse.without_pairs, ("?a", "c", "b#"), "names", 13, 3),
+            (uriparse.pair, ("?a", "\ud800"), "name", 0x61, 0), (uriparse.encode, ("pair", "a\ud800"), "data", 0x61, 1)):
+        error = raised(call, *arguments)
+        assert isinstance(error, uriparse.URIError) and (error.argument, error.code, error.place) == (argument, code, place), (error, arguments)
+    for wrong in (lambda: uriparse.pair("?a", b"a"), lambda: uriparse.with_pair(b"?a", b"a", "b"),  # type: ignore[call-overload]
+                  lambda: uriparse.without_pairs("?a", None), lambda: uriparse.with_pair("a", None, "b")):  # type: ignore[call-overload]
+        assert isinstance(raised(wrong), TypeError)
+    one = uriparse.URI("http://u@h/a?q#f")
+    assert str(one / "b c/") == "http://u@h/a/b%20c%2F" and str(uriparse.URI("http://h") / "x") == "http://h/x"
+    assert str(uriparse.URI("a/") / "b") == "a/b" and str(uriparse.URI("") / "b") == "b" and str(uriparse.URI("s:") / "b") == "s:b"
+    assert all(isinstance(raised(lambda name: one / name, name), ValueError) for name in (".", ".."))
+    assert str(one.with_scheme("s").with_username(None).with_host("x").with_port(8).with_path("/y").with_query(None).with_fragment("g")) == "s://x:8/y#g"
+    assert str(one.with_password("p")) == "http://u:p@h/a?q#f" and str(one.replace(username=None, fragment=None)) == "http://h/a?q"
+    assert str(one.with_pair("n", "v").with_appended_pair("n", 2).without_pairs("q")) == "http://u@h/a?n=v&n=2#f"
+    assert one.with_pair("n", "v").pair("n") == "v" and str(one.relativize("http://u@h/b")) == "b"
 
 
 def test_package() -> None:
@@ -375,7 +438,7 @@ def test_header(path: str) -> None:
 def main() -> None:
     for test in (test_calls, test_rejected, test_components, test_messages, test_copied_errors, test_pool, test_buffers,
                  test_many, test_no_copy, test_released, test_wrong_types, test_str, test_surrogates, test_reasons, test_replace, test_uri,
-                 test_package):
+                 test_checks, test_pairs_by_name, test_package):
         test()
     for header in sys.argv[1:]:
         test_header(header)

@@ -150,6 +150,27 @@ static std::string listed(uriparse::view query) {
   return all;
 }
 
+static void check_checks() {
+  check(uriparse::compare("//h:9", "//h:10") == -1 && uriparse::compare("http://h/%7e", "HTTP://H/~") == 0, "compare");
+  check(throws([] { uriparse::compare("a", "a b"); }, URIPARSE_PATH_BYTE, 1, 1), "compare rejects");
+  check(uriparse::is_within("HTTP://H:80/x/../a/b", "http://h/a/") && !uriparse::is_within("http://h/appX", "http://h/app/"), "is_within");
+  check(throws([] { uriparse::is_within("/a", "%"); }, URIPARSE_NO_SCHEME, 0, 0), "is_within rejects");
+  check(throws([] { uriparse::is_within("s:", "%"); }, URIPARSE_PATH_ESCAPE, 1, 0), "is_within rejects the base");
+  check(uriparse::host_is_within("//WWW.Example.com", "example.com") && !uriparse::host_is_within("//evilexample.com", "example.com"), "host_is_within");
+  check(throws([] { uriparse::host_is_within("//h", "a b"); }, URIPARSE_HOST_BYTE, 1, 1), "host_is_within rejects");
+  check(uriparse::host_flags("//%31.2.3.4") == (URIPARSE_HIDES_ADDRESS | URIPARSE_MAY_BE_NUMERIC) && uriparse::host_flags("a") == 0, "host_flags");
+  check(uriparse::default_port("HTTPS") == 443 && !uriparse::default_port("mailto"), "default_port");
+  check(uriparse::pair("http://h/?q=R%26D&all", "q") == "R&D" && uriparse::pair("?all", "all") == "" && !uriparse::pair("?a", "b")
+            && !uriparse::pair("a", "a"), "pair");
+  check(uriparse::with_pair("http://h/?p=1&lang=de&%70=2#f", "p", "a&b") == "http://h/?p=a%26b&lang=de#f"
+            && uriparse::with_pair("http://h", "n", std::nullopt) == "http://h?n", "with_pair");
+  check(uriparse::with_appended_pair("?a=1", "a", "") == "?a=1&a=", "with_appended_pair");
+  check(uriparse::without_pairs("http://h/?utm_source=x&q=1&%75tm_id=2&gclid#f", "utm_*&gclid") == "http://h/?q=1#f"
+            && uriparse::without_pairs("?utm_a#f", "utm_*") == "#f" && uriparse::without_pairs("a", "b") == "a", "without_pairs");
+  check(throws([] { uriparse::without_pairs("?a", "b#"); }, URIPARSE_BAD_NAMES, 1, 0), "without_pairs rejects");
+  check(uriparse::encode(URIPARSE_PAIR, "a&b=c d+") == "a%26b%3Dc%20d%2B", "encode a pair");
+}
+
 static void check_pairs() {
   check(listed("a=1&b&=&&c=d=e") == "a=1;b;=;;c=d=e;", "pairs");
   check(listed("") == ";" && listed(std::nullopt).empty() && listed(std::string_view()) == ";", "pairs of nothing");
@@ -167,6 +188,7 @@ int main() {
   check_changes();
   check_room();
   check_errors();
+  check_checks();
   check_pairs();
   check(search_of("http://example.com/a/", "../find?x&q=R%26D#top") == "example.com: R&D", "search");
   check(search_of("http://h", "?a=1") == "no search" && search_of("http://h", "a b") == "invalid byte in the path at byte 1", "no search");

@@ -1,7 +1,8 @@
 /* URIs and URI references of RFC 3986: read, compare, hash, normalize, resolve, relativize, change, decode, encode and
- * escape them, write their origins, and read the pairs of a query. The code behind these calls is proved: it is safe, it
- * terminates, and it computes what this header says of results, codes and what is written. That no call allocates, and
- * what it says of threads, signal handlers and the stack, is only tested. README.md says more.
+ * escape them, check whether one is below another, write their origins, and read and change the pairs of a query. The
+ * code behind these calls is proved: it is safe, it terminates, and it computes what this header says of results,
+ * codes and what is written. That no call allocates, and what it says of threads, signal handlers and the stack, is
+ * only tested. README.md says more.
  *
  * The library is for Linux on x86-64 processors of level x86-64-v2 or later, those with SSE4.2 and POPCNT, and on aarch64.
  * It doesn't check the processor.
@@ -13,7 +14,8 @@
  *
  * A text isn't written and isn't kept: after the call nothing points into it. Its bytes are initialized, and nothing
  * changes them during the call, be it another thread, a signal handler or another process that shares the memory: a
- * call reads a text more than once. What a call writes to (`out`, `needed`, `parts`, `place`, `equal`, `hash`, `pair`)
+ * call reads a text more than once. What a call writes to (`out`, `needed`, `parts`, `place`, `equal`, `order`, `within`,
+ * `flags`, `hash`, `pair`)
  * overlaps no other argument. It need not be initialized, and nothing else uses it during the call. On an error
  * nothing is written except `*needed`, which becomes 0, or with URIPARSE_NO_ROOM the length of the text, and `*place`.
  *
@@ -35,8 +37,8 @@
 /* What a call returns. The error of a text is its first one: of the authority (user name, password, host, port), then
  * of the path, the colon rule, the query, the fragment; and within each of these the leftmost one.
  * `code & URIPARSE_COMPONENT_MASK` is the component, one of uriparse_component, or 0 for the codes below 0x10.
- * `code & URIPARSE_IN_BASE` is set if `uriparse_resolve` or `uriparse_relativize` rejects the base. Later versions may
- * add codes. */
+ * `code & URIPARSE_IN_BASE` is set if `uriparse_resolve`, `uriparse_relativize` or `uriparse_is_within` rejects the base, or
+ * `uriparse_host_is_within` the domain. Later versions may add codes. */
 enum uriparse_code {
   URIPARSE_OK = 0,
   URIPARSE_OUT_OF_MEMORY = 1,     /* reserved: earlier versions allocated */
@@ -48,6 +50,8 @@ enum uriparse_code {
   URIPARSE_NO_ORIGIN = 10,        /* of `uriparse_origin` alone: the reference has no origin */
   URIPARSE_MISSING_HOST = 11,     /* of `uriparse_change` alone: a user name, a password or a port is set without a host */
   URIPARSE_BAD_CHANGE = 12,       /* of `uriparse_change` alone: no `enum uriparse_action`, or bytes outside the values */
+  URIPARSE_BAD_NAMES = 13,        /* of `uriparse_drop_pairs` alone: `names` is no query */
+  URIPARSE_NO_PAIRS = 14,         /* of `uriparse_drop_pairs` alone: no pair of the query is left */
   URIPARSE_TWO_SLASHES = 6,       /* of `uriparse_change` alone: without an authority the path would start with "//" */
 
   URIPARSE_USERNAME_COLON = 0x10,  /* of `uriparse_change` alone: a ':' in the user name */
@@ -90,6 +94,12 @@ enum uriparse_host_kind {
   URIPARSE_HOST_IPV4 = 4,
   URIPARSE_HOST_IPV6 = 6,
   URIPARSE_HOST_FUTURE = 7  /* an address of a later version, IPvFuture: "[v1.x]" */
+};
+
+/* What a name of a host may be taken for: RFC 3986, section 7.4. An address has no flag. */
+enum uriparse_host_flag {
+  URIPARSE_HIDES_ADDRESS = 1, /* a name whose canonical spelling is that of an IPv4 address: "%31.2.3.4" */
+  URIPARSE_MAY_BE_NUMERIC = 2 /* a name whose last label begins with a digit: "2130706433", "0x7f.1", "127.1" */
 };
 
 /* The components of a reference as its text spells them: without their delimiters (':', "//", '@', '?', '#'), not
@@ -150,7 +160,8 @@ enum uriparse_component {
   URIPARSE_SEGMENT = 0x50, /* of a path: a '/' that is encoded becomes "%2F". Of an error: the path */
   URIPARSE_QUERY = 0x60,
   URIPARSE_FRAGMENT = 0x70,
-  URIPARSE_SCHEME = 0x80 /* of an error alone */
+  URIPARSE_SCHEME = 0x80,  /* of an error alone */
+  URIPARSE_PAIR = 0x90     /* of `uriparse_encode` alone: a name or a value of a pair, in which '&', '=' and '+' become escapes too */
 };
 
 #ifdef __cplusplus
@@ -189,6 +200,52 @@ bool uriparse_is_uri(const uint8_t *text, size_t len);
  *
  * The caller ensures: each text is readable for its length; `equal` is writable. */
 uint32_t uriparse_equal(const uint8_t *left, size_t left_len, const uint8_t *right, size_t right_len, bool *equal);
+
+/* Writes to `*order` -1, 0 or 1: whether the left reference is less than the right one, equal to it or greater. The first
+ * component that differs decides, in the order scheme, authority, path, query, fragment, each in the spelling by which
+ * `uriparse_equal` compares; an absent one is less than any that is present. Hosts of one kind are compared by their
+ * bytes, ports as numbers. It is 0 exactly if `uriparse_equal` writes true. If both texts are faulty, the error is the
+ * left one's. Does not allocate.
+ *
+ * The caller ensures: each text is readable for its length; `order` is writable. */
+uint32_t uriparse_compare(const uint8_t *left, size_t left_len, const uint8_t *right, size_t right_len, int32_t *order);
+
+/* Writes to `*within` whether a URI is below another one: whether the schemes are equal, the authorities too, each with the
+ * port that it names or the scheme's default port, and the path, without dot segments, begins with the directory of the
+ * base's path, through its last slash. Segments are compared whole and in canonical spelling, so "/appX", "/app/../admin"
+ * and "/app/%2e%2e/admin" are not below "/app/". User information must be equal or absent in both. The query and the
+ * fragment don't count. A base whose path has no slash has nothing below it but what has the same path.
+ *
+ * A URI isn't below the base if a segment after the directory is one that servers read in different ways: one with an
+ * escaped '/', '\', '%' or zero byte, or "." or ".." followed by ';' ("/app/..;/admin", "/app/..%2fadmin").
+ *
+ * Both texts need a scheme (URIPARSE_NO_SCHEME). If both are faulty, the error is the first one's. Does not allocate.
+ *
+ * The caller ensures: each text is readable for its length; `within` is writable. */
+uint32_t uriparse_is_within(const uint8_t *text, size_t len, const uint8_t *base, size_t base_len, bool *within);
+
+/* Writes to `*within` whether the host of a reference is a domain or within it: whether the hosts are equal, or both are names
+ * and the labels of the reference's host, which dots separate, end with all labels of the domain. Names are compared in
+ * canonical spelling, and one dot at the end of either is ignored. "evilexample.com" isn't within "example.com". A name
+ * with an empty label is within nothing but its equals, and so is an address, and a name whose canonical spelling is that
+ * of an IPv4 address. Without a host it is false.
+ *
+ * The domain is a host as `uriparse_parse` finds it; its error has URIPARSE_IN_BASE. If both texts are faulty, the error is
+ * the reference's. Does not allocate.
+ *
+ * The caller ensures: each text is readable for its length; `within` is writable. */
+uint32_t uriparse_host_is_within(const uint8_t *text, size_t len, const uint8_t *domain, size_t domain_len, bool *within);
+
+/* Writes to `*flags` the sum of the enum uriparse_host_flag of the reference's host, or 0 without a host. Does not allocate.
+ *
+ * The caller ensures: `text` is readable for `len` bytes; `flags` is writable. */
+uint32_t uriparse_host_flags(const uint8_t *text, size_t len, uint32_t *flags);
+
+/* The default port of the scheme of this name, or 0 if it has none that is known or if the text is no scheme. It is 443 of
+ * "https". Does not allocate.
+ *
+ * The caller ensures: `scheme` is readable for `len` bytes. */
+uint32_t uriparse_default_port(const uint8_t *scheme, size_t len);
 
 /* Writes to `*hash` a hash of a reference: equal references have equal hashes, on every machine and in every run. It is
  * SipHash-1-3 with both keys 0; the key isn't secret, so it doesn't protect a hash table from texts chosen to collide.
@@ -283,6 +340,47 @@ uint32_t uriparse_change(const uint8_t *text, size_t len, const struct uriparse_
  * The caller ensures: `query` is readable for `len` bytes; `pair` is writable. */
 bool uriparse_next_pair(const uint8_t *query, size_t len, size_t at, struct uriparse_pair *pair);
 
+/* Writes to `*pair` where the first pair is whose name stands for the bytes of `name`, as `uriparse_next_pair` does, and
+ * returns whether there is one. If there is none, `*pair` is unchanged. The names are compared by the bytes that they stand
+ * for: "%61" is 'a', and a "+" is no space. `name` itself is plain bytes, in which "%61" is three. To find the next pair of
+ * the name, search the bytes from `pair.next` on. Does not allocate.
+ *
+ * The caller ensures: `query` is readable for `len` bytes and `name` for `name_len`; `pair` is writable. */
+bool uriparse_find_pair(const uint8_t *query, size_t len, const uint8_t *name, size_t name_len, struct uriparse_pair *pair);
+
+/* Writes to `out` the query with one pair of this name, as `uriparse_decode` writes: the pair stands in place of the first one
+ * whose name stands for the same bytes, and the others of that name are left out. If there is none, the pair follows all
+ * others, in place of an empty piece at the end: "" becomes "a=1", and "b&" becomes "b&a=1". Each byte of the name and the
+ * value is encoded as `uriparse_encode` does for URIPARSE_PAIR; all other pairs keep their bytes. Without `has_value` the pair
+ * is the name alone, without '=', and the bytes of `value` don't count. Returns URIPARSE_QUERY_BYTE or URIPARSE_QUERY_ESCAPE
+ * for a text that is no query. Does not allocate.
+ *
+ * The caller ensures: `query` is readable for `len` bytes, `name` for `name_len` and `value` for `value_len`; `out` is writable
+ * for `room` bytes; `needed` is writable. */
+uint32_t uriparse_set_pair(const uint8_t *query, size_t len, const uint8_t *name, size_t name_len, const uint8_t *value,
+                           size_t value_len, bool has_value, uint8_t *out, size_t room, size_t *needed);
+
+/* The same, but all pairs of the query stay, and the new one follows them, in place of an empty piece at the end. Does not
+ * allocate.
+ *
+ * The caller ensures: `query` is readable for `len` bytes, `name` for `name_len` and `value` for `value_len`; `out` is writable
+ * for `room` bytes; `needed` is writable. */
+uint32_t uriparse_append_pair(const uint8_t *query, size_t len, const uint8_t *name, size_t name_len, const uint8_t *value,
+                              size_t value_len, bool has_value, uint8_t *out, size_t room, size_t *needed);
+
+/* Writes to `out` the query without the pairs of some names, as `uriparse_decode` writes. `names` is written like a query, and
+ * its names are meant: "gclid&utm_*". A name that ends in '*' stands for each name that begins with what precedes the '*'
+ * ("%2A" is a '*' of the name itself). The names are compared by the bytes that they stand for: "utm_*" leaves out
+ * "%75tm_id=1". The other pairs stay in order, byte for byte. If no pair is left, returns URIPARSE_NO_PAIRS, with `*needed` 0
+ * and `out` unchanged: remove the query then (an empty query is one pair with an empty name). Returns URIPARSE_QUERY_BYTE or
+ * URIPARSE_QUERY_ESCAPE for a text that is no query, and then URIPARSE_BAD_NAMES if `names` is none. Takes time in proportion to
+ * the length of the query times the number of names. Does not allocate.
+ *
+ * The caller ensures: `query` is readable for `len` bytes and `names` for `names_len`; `out` is writable for `room` bytes;
+ * `needed` is writable. */
+uint32_t uriparse_drop_pairs(const uint8_t *query, size_t len, const uint8_t *names, size_t names_len, uint8_t *out,
+                             size_t room, size_t *needed);
+
 /* Writes to `out` the bytes that the text of a component stands for, and to `*needed` their number: each escape as its
  * byte, each other byte as it is, so a "+" stays. If `room` is less, returns URIPARSE_NO_ROOM, and `out` is
  * unchanged. The text is that of a query, as the texts of user names, passwords, names of hosts, paths and fragments are
@@ -296,7 +394,8 @@ uint32_t uriparse_decode(const uint8_t *text, size_t len, uint8_t *out, size_t r
 
 /* Writes to `out` any bytes as the text of a component, one of uriparse_component, as `uriparse_decode` writes: a byte
  * that the component may have stays, and each other becomes an escape with upper-case digits, '%' too.
- * `uriparse_decode` returns the bytes again. In a query '&', '=' and '+' stay. Returns URIPARSE_NO_COMPONENT for a
+ * `uriparse_decode` returns the bytes again. In a query '&', '=' and '+' stay; as URIPARSE_PAIR they become escapes too, so
+ * a name or a value can be made of any bytes: "a&b=c d+" becomes "a%26b%3Dc%20d%2B". Returns URIPARSE_NO_COMPONENT for a
  * host, a port or another number. Does not allocate.
  *
  * The caller ensures: `bytes` is readable for `len` bytes; `out` is writable for `room` bytes; `needed` is writable. */
@@ -347,6 +446,26 @@ inline uint32_t uriparse_equal(const void *left, size_t left_len, const void *ri
   return uriparse_c::uriparse_equal(uriparse_text(left), left_len, uriparse_text(right), right_len, equal);
 }
 
+inline uint32_t uriparse_compare(const void *left, size_t left_len, const void *right, size_t right_len, int32_t *order) {
+  return uriparse_c::uriparse_compare(uriparse_text(left), left_len, uriparse_text(right), right_len, order);
+}
+
+inline uint32_t uriparse_is_within(const void *text, size_t len, const void *base, size_t base_len, bool *within) {
+  return uriparse_c::uriparse_is_within(uriparse_text(text), len, uriparse_text(base), base_len, within);
+}
+
+inline uint32_t uriparse_host_is_within(const void *text, size_t len, const void *domain, size_t domain_len, bool *within) {
+  return uriparse_c::uriparse_host_is_within(uriparse_text(text), len, uriparse_text(domain), domain_len, within);
+}
+
+inline uint32_t uriparse_host_flags(const void *text, size_t len, uint32_t *flags) {
+  return uriparse_c::uriparse_host_flags(uriparse_text(text), len, flags);
+}
+
+inline uint32_t uriparse_default_port(const void *scheme, size_t len) {
+  return uriparse_c::uriparse_default_port(uriparse_text(scheme), len);
+}
+
 inline uint32_t uriparse_hash(const void *text, size_t len, uint64_t *hash) {
   return uriparse_c::uriparse_hash(uriparse_text(text), len, hash);
 }
@@ -381,6 +500,28 @@ inline bool uriparse_next_pair(const void *query, size_t len, size_t at, uripars
   return uriparse_c::uriparse_next_pair(uriparse_text(query), len, at, pair);
 }
 
+inline bool uriparse_find_pair(const void *query, size_t len, const void *name, size_t name_len, uriparse_pair *pair) {
+  return uriparse_c::uriparse_find_pair(uriparse_text(query), len, uriparse_text(name), name_len, pair);
+}
+
+inline uint32_t uriparse_set_pair(const void *query, size_t len, const void *name, size_t name_len, const void *value,
+                                  size_t value_len, bool has_value, void *out, size_t room, size_t *needed) {
+  return uriparse_c::uriparse_set_pair(uriparse_text(query), len, uriparse_text(name), name_len, uriparse_text(value),
+                                       value_len, has_value, uriparse_room(out), room, needed);
+}
+
+inline uint32_t uriparse_append_pair(const void *query, size_t len, const void *name, size_t name_len, const void *value,
+                                     size_t value_len, bool has_value, void *out, size_t room, size_t *needed) {
+  return uriparse_c::uriparse_append_pair(uriparse_text(query), len, uriparse_text(name), name_len, uriparse_text(value),
+                                          value_len, has_value, uriparse_room(out), room, needed);
+}
+
+inline uint32_t uriparse_drop_pairs(const void *query, size_t len, const void *names, size_t names_len, void *out,
+                                    size_t room, size_t *needed) {
+  return uriparse_c::uriparse_drop_pairs(uriparse_text(query), len, uriparse_text(names), names_len, uriparse_room(out),
+                                         room, needed);
+}
+
 inline uint32_t uriparse_decode(const void *text, size_t len, void *out, size_t room, size_t *needed) {
   return uriparse_c::uriparse_decode(uriparse_text(text), len, uriparse_room(out), room, needed);
 }
@@ -409,6 +550,14 @@ static inline uint8_t *uriparse_room(void *out) {
 #define uriparse_is_uri(text, len) (uriparse_is_uri)(uriparse_text(text), len)
 #define uriparse_equal(left, left_len, right, right_len, equal)                                                        \
   (uriparse_equal)(uriparse_text(left), left_len, uriparse_text(right), right_len, equal)
+#define uriparse_compare(left, left_len, right, right_len, order)                                                      \
+  (uriparse_compare)(uriparse_text(left), left_len, uriparse_text(right), right_len, order)
+#define uriparse_is_within(text, len, base, base_len, within)                                                          \
+  (uriparse_is_within)(uriparse_text(text), len, uriparse_text(base), base_len, within)
+#define uriparse_host_is_within(text, len, domain, domain_len, within)                                                 \
+  (uriparse_host_is_within)(uriparse_text(text), len, uriparse_text(domain), domain_len, within)
+#define uriparse_host_flags(text, len, flags) (uriparse_host_flags)(uriparse_text(text), len, flags)
+#define uriparse_default_port(scheme, len) (uriparse_default_port)(uriparse_text(scheme), len)
 #define uriparse_hash(text, len, hash) (uriparse_hash)(uriparse_text(text), len, hash)
 #define uriparse_normalize(text, len, out, room, needed)                                                               \
   (uriparse_normalize)(uriparse_text(text), len, uriparse_room(out), room, needed)
@@ -422,6 +571,16 @@ static inline uint8_t *uriparse_room(void *out) {
   (uriparse_change)(uriparse_text(text), len, changes, uriparse_text(values), values_len, uriparse_room(out), room,    \
                     needed)
 #define uriparse_next_pair(query, len, at, pair) (uriparse_next_pair)(uriparse_text(query), len, at, pair)
+#define uriparse_find_pair(query, len, name, name_len, pair)                                                           \
+  (uriparse_find_pair)(uriparse_text(query), len, uriparse_text(name), name_len, pair)
+#define uriparse_set_pair(query, len, name, name_len, value, value_len, has_value, out, room, needed)                  \
+  (uriparse_set_pair)(uriparse_text(query), len, uriparse_text(name), name_len, uriparse_text(value), value_len,       \
+                      has_value, uriparse_room(out), room, needed)
+#define uriparse_append_pair(query, len, name, name_len, value, value_len, has_value, out, room, needed)               \
+  (uriparse_append_pair)(uriparse_text(query), len, uriparse_text(name), name_len, uriparse_text(value), value_len,    \
+                         has_value, uriparse_room(out), room, needed)
+#define uriparse_drop_pairs(query, len, names, names_len, out, room, needed)                                           \
+  (uriparse_drop_pairs)(uriparse_text(query), len, uriparse_text(names), names_len, uriparse_room(out), room, needed)
 #define uriparse_decode(text, len, out, room, needed)                                                                  \
   (uriparse_decode)(uriparse_text(text), len, uriparse_room(out), room, needed)
 #define uriparse_encode(component, bytes, len, out, room, needed)                                                      \
@@ -443,6 +602,8 @@ static inline const char *uriparse_error_text(uint32_t code) {
   case URIPARSE_NO_ORIGIN: return "the reference has no origin";
   case URIPARSE_MISSING_HOST: return "a user name, password or port without a host";
   case URIPARSE_BAD_CHANGE: return "a change without a meaning";
+  case URIPARSE_BAD_NAMES: return "the names of pairs are no query";
+  case URIPARSE_NO_PAIRS: return "no pair of the query is left";
   case URIPARSE_TWO_SLASHES: return "without an authority the path would start with two slashes";
   case URIPARSE_USERNAME_COLON: return "a colon in the user name";
   case URIPARSE_USERNAME_BYTE: return "invalid byte in the user name";

@@ -99,11 +99,39 @@ public:
 
 inline bool is_uri(std::string_view text) noexcept { return uriparse_is_uri(text.data(), text.size()); }
 inline bool equal(std::string_view left, std::string_view right) { return detail::read<bool>(uriparse_equal, left, right); }
+inline int compare(std::string_view left, std::string_view right) { return detail::read<std::int32_t>(uriparse_compare, left, right); }
 inline std::uint64_t hash(std::string_view text) { return detail::read<std::uint64_t>(uriparse_hash, text); }
 inline std::string normalize(std::string_view text) { return detail::write(uriparse_normalize, text); }
 inline std::string escape(std::string_view text) { return detail::write(uriparse_escape, text); }
 inline std::string resolve(std::string_view base, std::string_view text) { return detail::write(uriparse_resolve, base, text); }
 inline std::string relativize(std::string_view base, std::string_view uri) { return detail::write(uriparse_relativize, base, uri); }
+
+inline bool is_within(std::string_view uri, std::string_view base) {
+  bool within = false;
+  const auto code = uriparse_is_within(uri.data(), uri.size(), base.data(), base.size(), &within);
+  if ((code & URIPARSE_IN_BASE) != 0) detail::check(code, base, 1);
+  detail::check(code, uri);
+  return within;
+}
+
+inline bool host_is_within(std::string_view text, std::string_view domain) {
+  bool within = false;
+  const auto code = uriparse_host_is_within(text.data(), text.size(), domain.data(), domain.size(), &within);
+  if ((code & URIPARSE_IN_BASE) != 0) {
+    const auto fault = first_fault("//" + std::string(domain));
+    throw error({code & ~std::uint32_t{URIPARSE_IN_BASE}, fault && fault->place > 2 ? fault->place - 2 : 0}, 1);
+  }
+  detail::check(code, text);
+  return within;
+}
+
+// A sum of uriparse_host_flag.
+inline std::uint32_t host_flags(std::string_view text) { return detail::read<std::uint32_t>(uriparse_host_flags, text); }
+
+inline std::optional<std::uint32_t> default_port(std::string_view scheme) noexcept {
+  const auto port = uriparse_default_port(scheme.data(), scheme.size());
+  return port ? std::optional(port) : std::nullopt;
+}
 
 // What becomes of a component: it is kept, unless it is set to a string, or removed by std::nullopt.
 class change {
@@ -164,6 +192,49 @@ inline std::string decode(std::string_view text) {
     throw error({code, first_fault(query).value_or(fault{code, query.size()}).place - 1}, 0);
   }
   return out;
+}
+
+// The decoded value of the first pair of the query with this name: empty without a '='.
+inline std::optional<std::string> pair(std::string_view uri, std::string_view name) {
+  const auto query = reference(uri).query();
+  uriparse_pair found;
+  if (!query || !uriparse_find_pair(query->data(), query->size(), name.data(), name.size(), &found)) return std::nullopt;
+  return decode(detail::cut(*query, found.value).value_or(""));
+}
+
+namespace detail {
+template <class Call> std::string with(Call call, std::string_view uri, std::string_view name, view value) {
+  const auto query = reference(uri).query().value_or(""), text = value.value_or("");
+  std::string out(query.size() + 3 * (name.size() + text.size()) + 2, '\0');
+  std::size_t needed = 0;
+  call(query.data(), query.size(), name.data(), name.size(), text.data(), text.size(), value.has_value(), out.data(), out.size(), &needed);
+  out.resize(needed);
+  changes wanted;
+  wanted.query = out;
+  return replace(uri, wanted);
+}
+} // namespace detail
+
+// The URI with one pair of this name, in place of the first one, or with a pair after all others; std::nullopt sets one without '='.
+inline std::string with_pair(std::string_view uri, std::string_view name, view value) {
+  return detail::with([](auto... arguments) { return uriparse_set_pair(arguments...); }, uri, name, value);
+}
+inline std::string with_appended_pair(std::string_view uri, std::string_view name, view value) {
+  return detail::with([](auto... arguments) { return uriparse_append_pair(arguments...); }, uri, name, value);
+}
+
+// The URI without the pairs of these names, which are written like a query: "utm_*&gclid".
+inline std::string without_pairs(std::string_view uri, std::string_view names) {
+  const auto query = reference(uri).query();
+  if (!query) return std::string(uri);
+  std::string out(query->size() + 1, '\0');
+  std::size_t needed = 0;
+  const auto code = uriparse_drop_pairs(query->data(), query->size(), names.data(), names.size(), out.data(), out.size(), &needed);
+  if (code == URIPARSE_BAD_NAMES) throw error({code, 0}, 1);
+  out.resize(needed);
+  changes wanted;
+  wanted.query = code == URIPARSE_OK ? change(out) : change(std::nullopt);
+  return replace(uri, wanted);
 }
 
 // The pairs of a query, name and value, for a range-based `for`. An absent query has none.

@@ -124,6 +124,22 @@ def test_rows(database: str) -> str:
         ("uri_replace('HTTP://u:p@h/a', 'username', NULL)", "HTTP://h/a"), ("uri_replace('//h', 'port', '80')", "//h:80"),
         ("uri_replace('a', 'port', '80')", None), ("uri_replace(NULL::text, 'port', '80')", None), ("uri_replace('a', NULL, '80')", None),
         ("uri_replace(uri 's:a', 'path', %s)" % quoted("b" * 5000), "s:" + "b" * 5000), ("uri_replace(uri 's:a:b', 'scheme', NULL)", None),
+        ("uri_is_within('HTTP://H:80/x/../a/b', 'http://h/a/')", "t"), ("uri_is_within(uri 'http://h/appX', 'http://h/app/')", "f"),
+        ("uri_is_within('http://h/app/%2e%2e/admin', uri 'http://h/app/')", "f"), ("uri_is_within(uri 's:/a', uri 's:/')", "t"),
+        ("uri_is_within('/a', 's:/')", None), ("uri_is_within('s:/a', NULL)", None),
+        ("uri_host_is_within('//WWW.Example.com', 'example.com')", "t"), ("uri_host_is_within(uri '//evilexample.com', 'example.com')", "f"),
+        ("uri_host_is_within('a', 'h')", "f"), ("uri_host_is_within('//h', 'a b')", None),
+        ("uri_compare('//h:9', '//h:10')", "-1"), ("uri_compare('http://h/%7e', 'HTTP://H/~')", "0"), ("uri_compare('a b', '')", None),
+        ("uri_default_port('HTTPS')", "443"), ("uri_host_flags('//%31.2.3.4')", "3"),
+        ("uri_host_flags(uri '//127.1')", "2"), ("uri_host_flags('a')", "0"), ("uri_host_flags('a b')", None), ("uri_default_port('mailto')", None),
+        ("uri_param('http://h/?q=R%26D&all', 'q')", "R&D"), ("uri_param(uri '?all', 'all')", ""), ("uri_param('?a', 'b')", None),
+        ("uri_param('a', 'a')", None), ("uri_param('?%61=1&a=2', 'a')", "1"),
+        ("uri_with_param('http://h/?p=1&lang=de&%70=2#f', 'p', 'a&b')", "http://h/?p=a%26b&lang=de#f"),
+        ("uri_with_param(uri 'http://h', 'n', 'c d+')", "http://h?n=c%20d%2B"), ("uri_with_param('?a', 'n', NULL)", "?a&n"),
+        ("uri_with_param('a', NULL, 'x')", None), ("uri_with_param('a b', 'n', 'x')", None),
+        ("uri_without_params('http://h/?utm_source=x&q=1&%75tm_id=2&gclid#f', 'utm_*', 'gclid')", "http://h/?q=1#f"),
+        ("uri_without_params(uri 'http://h/?utm_a#f', 'utm_*')", "http://h/#f"), ("uri_without_params('a', 'b')", "a"),
+        ("uri_without_params('?a', 'b', NULL)", None), ("uri_encode('pair', 'a&b=c d+')", "a%26b%3Dc%20d%2B"),
         ("uri_relativize('http://a/b/c', 'http://a/g#s')", "../g#s"), ("uri_relativize(uri 's:a', uri '/b')", None),
         ("uri_encode('segment', 'a/b c')", "a%2Fb%20c"), ("uri_encode('query', '\\xff26'::bytea)", "%FF&"),
         ("uri_decode_bytes('a%20%ff')", "\\x6120ff"),
@@ -330,10 +346,11 @@ def test_update() -> str:
                     "SELECT uri_origin(url) FROM ids WHERE uri_host_kind(url) = 'name'", "SELECT max(url) FROM ids")[0] == [
                         ["1.1"], ["HTTP://h/%7e"], ["http://h"], ["s:"]]
         psql("old", "SET ROLE plain", "DROP EXTENSION uri CASCADE", "DROP TABLE ids")
-    # Each function of the extension but the two aggregates, and the two that remove a component by NULL.
+    # Each function of the extension but the two aggregates, the two that remove a component by NULL, and the two that set a pair without
+    # a value by it.
     assert one("fresh", "count(*) FROM pg_proc p JOIN pg_depend d ON d.classid = 'pg_proc'::regclass AND d.objid = p.oid AND d.deptype = 'e' "
                "JOIN pg_extension e ON e.oid = d.refobjid AND e.extname = 'uri' WHERE NOT (p.proisstrict AND p.provolatile = 'i' AND "
-               "p.proparallel = 's')") == "4"
+               "p.proparallel = 's')") == "6"
     return "an update from 1.0, by a role that is no superuser"
 
 

@@ -5,15 +5,17 @@
 
 #include "access/htup_details.h"
 #include "catalog/namespace.h"
+#include "catalog/pg_type.h"
 #include "common/hashfn.h"
 #include "fmgr.h"
 #include "funcapi.h"
+#include "lib/stringinfo.h"
 #include "libpq/pqformat.h"
 #include "mb/pg_wchar.h"
+#include "utils/array.h"
 #include "utils/builtins.h"
 #include "utils/memutils.h"
 
-#include "order.h"
 #include "pairs.h"
 #include "uriparse.h"
 
@@ -152,6 +154,71 @@ uri_equal(PG_FUNCTION_ARGS)
 	if (uriparse_equal(left.at, left.len, right.at, right.len, &is_equal) != URIPARSE_OK)
 		PG_RETURN_NULL();
 	PG_RETURN_BOOL(is_equal);
+}
+
+PG_FUNCTION_INFO_V1(uri_compare);
+Datum
+uri_compare(PG_FUNCTION_ARGS)
+{
+	struct bytes left = argument(fcinfo, 0),
+				right = argument(fcinfo, 1);
+	int32_t		order;
+
+	if (uriparse_compare(left.at, left.len, right.at, right.len, &order) != URIPARSE_OK)
+		PG_RETURN_NULL();
+	PG_RETURN_INT32(order);
+}
+
+PG_FUNCTION_INFO_V1(uri_is_within);
+Datum
+uri_is_within(PG_FUNCTION_ARGS)
+{
+	struct bytes text = argument(fcinfo, 0),
+				base = argument(fcinfo, 1);
+	bool		within;
+
+	if (uriparse_is_within(text.at, text.len, base.at, base.len, &within) != URIPARSE_OK)
+		PG_RETURN_NULL();
+	PG_RETURN_BOOL(within);
+}
+
+PG_FUNCTION_INFO_V1(uri_host_is_within);
+Datum
+uri_host_is_within(PG_FUNCTION_ARGS)
+{
+	struct bytes text = argument(fcinfo, 0),
+				domain = argument(fcinfo, 1);
+	bool		within;
+
+	if (uriparse_host_is_within(text.at, text.len, domain.at, domain.len, &within) != URIPARSE_OK)
+		PG_RETURN_NULL();
+	PG_RETURN_BOOL(within);
+}
+
+/* The sum of enum uriparse_host_flag. */
+PG_FUNCTION_INFO_V1(uri_host_flags);
+Datum
+uri_host_flags(PG_FUNCTION_ARGS)
+{
+	struct bytes text = argument(fcinfo, 0);
+	uint32_t	flags;
+
+	if (uriparse_host_flags(text.at, text.len, &flags) != URIPARSE_OK)
+		PG_RETURN_NULL();
+	PG_RETURN_INT32((int32) flags);
+}
+
+/* The default port of a scheme; NULL if it has none. */
+PG_FUNCTION_INFO_V1(uri_default_port);
+Datum
+uri_default_port(PG_FUNCTION_ARGS)
+{
+	struct bytes scheme = argument(fcinfo, 0);
+	uint32_t	number = uriparse_default_port(scheme.at, scheme.len);
+
+	if (!number)
+		PG_RETURN_NULL();
+	PG_RETURN_INT32((int32) number);
 }
 
 PG_FUNCTION_INFO_V1(uri_hash);
@@ -328,7 +395,7 @@ uri_replace(PG_FUNCTION_ARGS)
 static uint32_t
 write_encoded(const struct bytes *texts, char *out, size_t room, size_t *needed)
 {
-	static const uint32_t components[] = {URIPARSE_USERNAME, URIPARSE_PASSWORD, URIPARSE_SEGMENT, URIPARSE_QUERY, URIPARSE_FRAGMENT};
+	static const uint32_t components[] = {URIPARSE_USERNAME, URIPARSE_PASSWORD, URIPARSE_SEGMENT, URIPARSE_QUERY, URIPARSE_FRAGMENT, URIPARSE_PAIR};
 
 	return uriparse_encode(components[texts[0].len], texts[1].at, texts[1].len, out, room, needed);
 }
@@ -337,7 +404,7 @@ write_encoded(const struct bytes *texts, char *out, size_t room, size_t *needed)
 static Datum
 encoded(FunctionCallInfo fcinfo, struct bytes data)
 {
-	static const char *const names[] = {"username", "password", "segment", "query", "fragment", NULL};
+	static const char *const names[] = {"username", "password", "segment", "query", "fragment", "pair", NULL};
 	struct bytes texts[2] = {{NULL, 0, NULL}, data};
 
 	texts[0].len = place_of(argument(fcinfo, 0), names);
@@ -491,6 +558,125 @@ uri_pairs(PG_FUNCTION_ARGS)
 	SRF_RETURN_NEXT(context, HeapTupleGetDatum(heap_form_tuple(context->tuple_desc, values, nulls)));
 }
 
+/* The query of a reference, or the empty one. Returns whether the text is a reference. */
+static bool
+query_of(struct bytes text, struct bytes *query, bool *present)
+{
+	struct uriparse_parts parts;
+
+	if (!is_reference(text, &parts))
+		return false;
+	*query = (struct bytes) {text.at + parts.query.begin, parts.query.end - parts.query.begin, NULL};
+	*present = parts.query.present;
+	return true;
+}
+
+/* The value of the first pair of a name, as uri_pairs has it; empty without an "=". */
+PG_FUNCTION_INFO_V1(uri_param);
+Datum
+uri_param(PG_FUNCTION_ARGS)
+{
+	struct bytes name = in_utf8(argument(fcinfo, 1)),
+				query;
+	struct uriparse_pair pair;
+	struct pairs all = {0};
+	bool		present;
+
+	if (!query_of(argument(fcinfo, 0), &query, &present) || !present ||
+		!uriparse_find_pair(query.at, query.len, name.at, name.len, &pair))
+		PG_RETURN_NULL();
+	all.query = (char *) query.at;
+	PG_RETURN_DATUM(decoded(&all, pair.value));
+}
+
+/* The reference with this query, or without one. */
+static Datum
+with_query(FunctionCallInfo fcinfo, struct bytes text, const char *query, size_t len)
+{
+	struct bytes texts[3] = {text, {NULL, 6, NULL}, {query, len, NULL}};
+
+	return written_of(fcinfo, write_replaced, texts);
+}
+
+/* The reference with one pair of a name. NULL as the value sets one without "=". */
+PG_FUNCTION_INFO_V1(uri_with_param);
+Datum
+uri_with_param(PG_FUNCTION_ARGS)
+{
+	struct bytes text,
+				name,
+				query,
+				value = {"", 0, NULL};
+	bool		present;
+	size_t		room;
+	char	   *out;
+
+	if (PG_ARGISNULL(0) || PG_ARGISNULL(1))
+		PG_RETURN_NULL();
+	text = argument(fcinfo, 0);
+	name = in_utf8(argument(fcinfo, 1));
+	if (!PG_ARGISNULL(2))
+		value = in_utf8(argument(fcinfo, 2));
+	if (!query_of(text, &query, &present))
+		PG_RETURN_NULL();
+	room = query.len + 3 * (name.len + value.len) + 2;
+	out = MemoryContextAllocHuge(CurrentMemoryContext, room);
+	if (uriparse_set_pair(query.at, query.len, name.at, name.len, value.at, value.len, !PG_ARGISNULL(2), out, room, &room) != URIPARSE_OK)
+		PG_RETURN_NULL();
+	return with_query(fcinfo, text, out, room);
+}
+
+/* The names of the array, with "&" between each two; NULL if one is NULL, or there is none. */
+static char *
+joined_names(ArrayType *array, size_t *len)
+{
+	Datum	   *names;
+	bool	   *nulls;
+	int			count;
+	StringInfoData joined;
+
+	deconstruct_array(array, TEXTOID, -1, false, TYPALIGN_INT, &names, &nulls, &count);
+	initStringInfo(&joined);
+	for (int i = 0; i < count; i++)
+	{
+		text	   *name;
+
+		if (nulls[i])
+			return NULL;
+		name = DatumGetTextPP(names[i]);
+		if (i)
+			appendStringInfoChar(&joined, '&');
+		appendBinaryStringInfo(&joined, VARDATA_ANY(name), VARSIZE_ANY_EXHDR(name));
+	}
+	*len = joined.len;
+	return count ? joined.data : NULL;
+}
+
+/* The reference without the pairs of some names, which are written as in a query; "utm_*" stands for each that begins so. */
+PG_FUNCTION_INFO_V1(uri_without_params);
+Datum
+uri_without_params(PG_FUNCTION_ARGS)
+{
+	struct bytes text = argument(fcinfo, 0),
+				query;
+	size_t		len = 0,
+				needed;
+	char	   *names = joined_names(PG_GETARG_ARRAYTYPE_P(1), &len),
+			   *out;
+	bool		present;
+	uint32_t	code;
+
+	if (!names || !query_of(text, &query, &present))
+		PG_RETURN_NULL();
+	if (!present)
+		PG_RETURN_TEXT_P(text.value);
+	out = palloc(query.len + 1);
+	code = uriparse_drop_pairs(query.at, query.len, names, len, out, query.len, &needed);
+	if (code == URIPARSE_BAD_NAMES)
+		ereport(ERROR, (errcode(ERRCODE_INVALID_PARAMETER_VALUE), errmsg("%s", uriparse_error_text(code))));
+	return with_query(fcinfo, text, code == URIPARSE_OK ? out : NULL, needed);
+}
+
 /* The type. */
 
 PG_FUNCTION_INFO_V1(uri_in);
@@ -539,35 +725,15 @@ uri_or_null(PG_FUNCTION_ARGS)
 	PG_RETURN_DATUM(PG_GETARG_DATUM(0));
 }
 
-static void *
-allocate(size_t size)
-{
-	return palloc(size);
-}
-
-static int
-compare_references(const struct bytes *texts)
-{
-	struct order_text values[2];
-	int			order;
-
-	for (int i = 0; i < 2; i++)
-	{
-		values[i].at = texts[i].at;
-		values[i].len = texts[i].len;
-		if (!is_reference(texts[i], &values[i].parts))
-			elog(ERROR, "value of type uri is no reference");
-	}
-	if (!order_references(&values[0], &values[1], allocate, pfree, &order))
-		elog(ERROR, "values of type uri have no order");
-	return order;
-}
-
-/* The sign of the order of two values. Equal texts are equal. */
+/* The sign of the order of two values. */
 static int
 compare_values(const struct bytes *texts)
 {
-	return order_bytes(texts[0].at, texts[0].len, texts[1].at, texts[1].len) ? compare_references(texts) : 0;
+	int32_t		order;
+
+	if (uriparse_compare(texts[0].at, texts[0].len, texts[1].at, texts[1].len, &order) != URIPARSE_OK)
+		elog(ERROR, "value of type uri is no reference");
+	return order;
 }
 
 static int

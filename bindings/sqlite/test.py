@@ -123,6 +123,24 @@ def test_errors(db: sqlite3.Connection) -> None:
 def test_changes(db: sqlite3.Connection) -> int:
     """Components that are replaced, encoded and decoded, beside the package."""
     draw, count = random.Random(5), 0
+    for expression, expected in (
+            ("uri_is_within('HTTP://H:80/x/../a/b', 'http://h/a/')", 1), ("uri_is_within('http://h/appX', 'http://h/app/')", 0),
+            ("uri_is_within('http://h/app/%2e%2e/admin', 'http://h/app/')", 0), ("uri_is_within('/a', 's:/')", None),
+            ("uri_is_within('s:/a', NULL)", None), ("uri_host_is_within('//WWW.Example.com', 'example.com')", 1),
+            ("uri_host_is_within('//evilexample.com', 'example.com')", 0), ("uri_host_is_within('a', 'h')", 0),
+            ("uri_host_is_within('//h', 'a b')", None), ("uri_compare('//h:9', '//h:10')", -1), ("uri_compare('a b', '')", None),
+            ("uri_compare('http://h/%7e', 'HTTP://H/~')", 0), ("uri_default_port('HTTPS')", 443), ("uri_host_flags('//%31.2.3.4')", 3),
+            ("uri_host_flags('//127.1')", 2), ("uri_host_flags('a')", 0), ("uri_host_flags('a b')", None), ("uri_default_port('mailto')", None),
+            ("uri_param('http://h/?q=R%26D&all', 'q')", "R&D"), ("uri_param('?all', 'all')", ""), ("uri_param('?a', 'b')", None),
+            ("uri_param('a', 'a')", None), ("uri_param('?%61=1&a=2', 'a')", "1"),
+            ("uri_with_param('http://h/?p=1&lang=de&%70=2#f', 'p', 'a&b')", "http://h/?p=a%26b&lang=de#f"),
+            ("uri_with_param('http://h', 'n', 2)", "http://h?n=2"), ("uri_with_param('?a', 'n', NULL)", "?a&n"),
+            ("uri_with_param('a', NULL, 'x')", None), ("uri_with_param('a b', 'n', 'x')", None),
+            ("uri_without_params('http://h/?utm_source=x&q=1&%75tm_id=2&gclid#f', 'utm_*', 'gclid')", "http://h/?q=1#f"),
+            ("uri_without_params('http://h/?utm_a#f', 'utm_*')", "http://h/#f"), ("uri_without_params('a', 'b')", "a"),
+            ("uri_without_params('?a')", "?a"), ("uri_without_params('?a', 'b', NULL)", None),
+            ("uri_encode('pair', 'a&b=c d+')", "a%26b%3Dc%20d%2B")):
+        assert one(db, expression) == expected, expression
     assert one(db, "uri_replace('HTTP://u:p@h:8080/%7Ea?q#f', 'host', 'example.org')") == "HTTP://u:p@example.org:8080/%7Ea?q#f"
     assert one(db, "uri_replace('HTTP://u:p@h/a', 'username', NULL)") == "HTTP://h/a"
     assert one(db, "uri_replace('//h', 'port', 80)") == "//h:80" and one(db, "uri_replace('a', 'port', 80)") is None

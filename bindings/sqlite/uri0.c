@@ -2,7 +2,8 @@
 #include "sqlite3ext.h"
 SQLITE_EXTENSION_INIT1
 
-#include "order.h"
+#include <string.h>
+
 #include "pairs.h"
 #include "uriparse.h"
 
@@ -126,6 +127,54 @@ static void equal(sqlite3_context *context, int count, sqlite3_value **values) {
     sqlite3_result_int(context, is_equal);
 }
 
+static void compare(sqlite3_context *context, int count, sqlite3_value **values) {
+  struct text left, right;
+  int32_t order;
+  (void)count;
+  if (read_text(context, values[0], &left) && read_text(context, values[1], &right) &&
+      uriparse_compare(left.at, left.len, right.at, right.len, &order) == URIPARSE_OK)
+    sqlite3_result_int(context, order);
+}
+
+/* uri_is_within(uri, base) */
+static void is_within(sqlite3_context *context, int count, sqlite3_value **values) {
+  struct text text, base;
+  bool within;
+  (void)count;
+  if (read_text(context, values[0], &text) && read_text(context, values[1], &base) &&
+      uriparse_is_within(text.at, text.len, base.at, base.len, &within) == URIPARSE_OK)
+    sqlite3_result_int(context, within);
+}
+
+/* uri_host_is_within(uri, domain) */
+static void host_is_within(sqlite3_context *context, int count, sqlite3_value **values) {
+  struct text text, domain;
+  bool within;
+  (void)count;
+  if (read_text(context, values[0], &text) && read_text(context, values[1], &domain) &&
+      uriparse_host_is_within(text.at, text.len, domain.at, domain.len, &within) == URIPARSE_OK)
+    sqlite3_result_int(context, within);
+}
+
+/* The sum of enum uriparse_host_flag. */
+static void host_flags(sqlite3_context *context, int count, sqlite3_value **values) {
+  struct text text;
+  uint32_t flags;
+  (void)count;
+  if (read_text(context, values[0], &text) && uriparse_host_flags(text.at, text.len, &flags) == URIPARSE_OK)
+    sqlite3_result_int64(context, flags);
+}
+
+/* The default port of a scheme; NULL if it has none. */
+static void default_port(sqlite3_context *context, int count, sqlite3_value **values) {
+  struct text text;
+  uint32_t number;
+  (void)count;
+  if (!read_text(context, values[0], &text)) return;
+  number = uriparse_default_port(text.at, text.len);
+  if (number) sqlite3_result_int64(context, number);
+}
+
 /* A call of the library that writes a text, of one text or of two. */
 typedef uint32_t writer(const struct text *texts, char *out, size_t room, size_t *needed);
 
@@ -225,13 +274,14 @@ static int find_name(sqlite3_context *context, const struct text *name, const ch
 }
 
 static uint32_t write_encoded(const struct text *texts, char *out, size_t room, size_t *needed) {
-  static const uint32_t COMPONENTS[] = {URIPARSE_USERNAME, URIPARSE_PASSWORD, URIPARSE_SEGMENT, URIPARSE_QUERY, URIPARSE_FRAGMENT};
+  static const uint32_t COMPONENTS[] = {URIPARSE_USERNAME, URIPARSE_PASSWORD, URIPARSE_SEGMENT,
+                                        URIPARSE_QUERY,    URIPARSE_FRAGMENT, URIPARSE_PAIR};
   return uriparse_encode(COMPONENTS[texts[0].len], texts[1].at, texts[1].len, out, room, needed);
 }
 
 /* uri_encode(component, value) */
 static void encode(sqlite3_context *context, int count, sqlite3_value **values) {
-  static const char *const NAMES[] = {"username", "password", "segment", "query", "fragment", NULL};
+  static const char *const NAMES[] = {"username", "password", "segment", "query", "fragment", "pair", NULL};
   struct text texts[2];
   int at;
   (void)count;
@@ -264,6 +314,99 @@ static void replace(sqlite3_context *context, int count, sqlite3_value **values)
   if (at < 0 || (sqlite3_value_type(values[2]) != SQLITE_NULL && !read_text(context, values[2], &texts[2]))) return;
   texts[1].len = (size_t)at;
   result_of(context, texts, write_replaced);
+}
+
+/* The query of a reference: empty if it is absent. Returns whether the argument is a reference. */
+static bool read_query(sqlite3_context *context, sqlite3_value *value, struct text *text, struct text *query, bool *present) {
+  struct uriparse_parts parts;
+  if (!read_reference(context, value, text, &parts)) return false;
+  query->at = text->at + parts.query.begin;
+  query->len = parts.query.end - parts.query.begin;
+  *present = parts.query.present;
+  return true;
+}
+
+/* uri_param(t, name): the value of the first pair of the name, as uri_pairs has it; empty without an "=". */
+static void param(sqlite3_context *context, int count, sqlite3_value **values) {
+  struct text text, query, name;
+  struct uriparse_pair pair;
+  bool present;
+  char *out;
+  size_t len;
+  (void)count;
+  if (!read_query(context, values[0], &text, &query, &present) || !read_text(context, values[1], &name) || !present ||
+      !uriparse_find_pair(query.at, query.len, name.at, name.len, &pair))
+    return;
+  len = pair.value.end - pair.value.begin;
+  out = sqlite3_malloc64(len + 1);
+  if (!out) {
+    sqlite3_result_error_nomem(context);
+    return;
+  }
+  len = pairs_read(query.at + pair.value.begin, len, false, out);
+  sqlite3_result_text64(context, out, len, sqlite3_free, SQLITE_UTF8);
+}
+
+/* The reference with this query, or without one. */
+static void result_with_query(sqlite3_context *context, const struct text *text, const char *query, size_t len) {
+  struct text texts[3] = {*text, {.at = "", .len = 6}, {.at = query, .len = len}};
+  result_of(context, texts, write_replaced);
+}
+
+/* uri_with_param(t, name, value): NULL as the value sets a pair without "=". */
+static void with_param(sqlite3_context *context, int count, sqlite3_value **values) {
+  struct text text, query, name, value = {.at = "", .len = 0};
+  bool present, has_value = sqlite3_value_type(values[2]) != SQLITE_NULL;
+  size_t room;
+  char *out;
+  (void)count;
+  if (!read_query(context, values[0], &text, &query, &present) || !read_text(context, values[1], &name) ||
+      (has_value && !read_text(context, values[2], &value)))
+    return;
+  room = query.len + 3 * (name.len + value.len) + 2;
+  out = sqlite3_malloc64(room);
+  if (!out)
+    sqlite3_result_error_nomem(context);
+  else if (uriparse_set_pair(query.at, query.len, name.at, name.len, value.at, value.len, has_value, out, room, &room) == URIPARSE_OK)
+    result_with_query(context, &text, out, room);
+  sqlite3_free(out);
+}
+
+/* uri_without_params(t, name, ..): the names are written as in a query, and "utm_*" stands for each that begins so. */
+static void without_params(sqlite3_context *context, int count, sqlite3_value **values) {
+  struct text text, query, name;
+  size_t len = 0, size, needed;
+  uint32_t code;
+  bool present;
+  char *names, *out;
+  if (!read_query(context, values[0], &text, &query, &present)) return;
+  size = query.len + 1;
+  for (int i = 1; i < count; i++) {
+    if (!read_text(context, values[i], &name)) return;
+    size += name.len + 1;
+  }
+  if (count < 2 || !present) {
+    sqlite3_result_text64(context, text.at, text.len, SQLITE_TRANSIENT, SQLITE_UTF8);
+    return;
+  }
+  out = sqlite3_malloc64(size);
+  if (!out) {
+    sqlite3_result_error_nomem(context);
+    return;
+  }
+  names = out + query.len;
+  for (int i = 1; i < count; i++) {
+    read_text(context, values[i], &name);
+    memcpy(names + len, name.at, name.len);
+    names[len + name.len] = '&';
+    len += name.len + 1;
+  }
+  code = uriparse_drop_pairs(query.at, query.len, names, len - 1, out, query.len, &needed);
+  if (code == URIPARSE_OK || code == URIPARSE_NO_PAIRS)
+    result_with_query(context, &text, code == URIPARSE_OK ? out : NULL, needed);
+  else if (code == URIPARSE_BAD_NAMES)
+    sqlite3_result_error(context, uriparse_error_text(code), -1);
+  sqlite3_free(out);
 }
 
 /* The table uri_pairs(t): a row for each pair of the query of a reference. The third column is hidden, and is the argument. */
@@ -391,22 +534,29 @@ static const sqlite3_module PAIRS = {
   .xColumn = pairs_column,   .xRowid = pairs_row,
 };
 
-static void *allocate(size_t size) { return sqlite3_malloc64(size); }
+/* The sign of the order of two byte strings. */
+static int compare_bytes(const struct text *left, const struct text *right) {
+  size_t least = left->len < right->len ? left->len : right->len;
+  int first = least ? memcmp(left->at, right->at, least) : 0;
+  return first ? (first < 0 ? -1 : 1) : (left->len > right->len) - (left->len < right->len);
+}
 
-static void release(void *memory) { sqlite3_free(memory); }
+static bool is_reference(const struct text *text) {
+  size_t place;
+  return uriparse_first_fault(text->at, text->len, &place) == URIPARSE_OK;
+}
 
-/* References by their order (order.h), then all other texts by their bytes. */
-static int collate(void *db, int left_len, const void *left, int right_len, const void *right) {
-  struct order_text texts[2] = {{.at = left ? left : "", .len = (size_t)left_len}, {.at = right ? right : "", .len = (size_t)right_len}};
-  int order = order_bytes(texts[0].at, texts[0].len, texts[1].at, texts[1].len);
-  bool is_left, is_right;
-  if (!order) return 0;
-  is_left = uriparse_parse(texts[0].at, texts[0].len, &texts[0].parts) == URIPARSE_OK;
-  is_right = uriparse_parse(texts[1].at, texts[1].len, &texts[1].parts) == URIPARSE_OK;
-  if (is_left != is_right) return is_left ? -1 : 1;
-  /* A collation can't return an error. */
-  if (is_left && !order_references(&texts[0], &texts[1], allocate, release, &order)) sqlite3_interrupt(db);
-  return order;
+/* References in their order, then all other texts by their bytes. */
+static int collate(void *data, int left_len, const void *left, int right_len, const void *right) {
+  struct text texts[2] = {{.at = left ? left : "", .len = (size_t)left_len}, {.at = right ? right : "", .len = (size_t)right_len}};
+  int bytes = compare_bytes(&texts[0], &texts[1]);
+  int32_t order;
+  bool is_left;
+  (void)data;
+  if (!bytes) return 0;
+  if (uriparse_compare(texts[0].at, texts[0].len, texts[1].at, texts[1].len, &order) == URIPARSE_OK) return order;
+  is_left = is_reference(&texts[0]);
+  return is_left == is_reference(&texts[1]) ? bytes : is_left ? -1 : 1;
 }
 
 #define PLACE(name) offsetof(struct uriparse_parts, name)
@@ -430,7 +580,11 @@ static const struct {
   {"uri_username", 1, component, &PLACES[6]}, {"uri_password", 1, component, &PLACES[7]},
   {"uri_host_kind", 1, host_kind, NULL},   {"uri_relativize", 2, relativize, NULL},
   {"uri_decode", 1, decode, NULL},         {"uri_encode", 2, encode, NULL},
-  {"uri_replace", 3, replace, NULL},
+  {"uri_replace", 3, replace, NULL},       {"uri_compare", 2, compare, NULL},
+  {"uri_is_within", 2, is_within, NULL},   {"uri_host_is_within", 2, host_is_within, NULL},
+  {"uri_default_port", 1, default_port, NULL}, {"uri_host_flags", 1, host_flags, NULL},
+  {"uri_param", 2, param, NULL},
+  {"uri_with_param", 3, with_param, NULL}, {"uri_without_params", -1, without_params, NULL},
 };
 
 __attribute__((visibility("default")))
@@ -444,7 +598,7 @@ int sqlite3_uri_init(sqlite3 *db, char **message, const sqlite3_api_routines *ap
     code = sqlite3_create_function_v2(db, FUNCTIONS[i].name, FUNCTIONS[i].count, flags, (void *)FUNCTIONS[i].place,
                                       FUNCTIONS[i].call, NULL, NULL, NULL);
   if (code == SQLITE_OK) code = sqlite3_create_module_v2(db, "uri_pairs", &PAIRS, NULL, NULL);
-  return code == SQLITE_OK ? sqlite3_create_collation_v2(db, "URI", SQLITE_UTF8, db, collate, NULL) : code;
+  return code == SQLITE_OK ? sqlite3_create_collation_v2(db, "URI", SQLITE_UTF8, NULL, collate, NULL) : code;
 }
 
 #ifndef SQLITE_CORE

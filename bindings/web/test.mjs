@@ -187,6 +187,55 @@ await test("what leads to a URI", () => {
   assert.throws(() => uris.relativize("/a", "%"), { inBase: true, argument: "base", code: 0x103 });
 });
 
+await test("the order, and URIs and hosts within others", () => {
+  for (const [left, right, order] of [["http://h/%7e", "HTTP://H/~", 0], ["http:b", "https:a", -1], ["//2.0.0.0", "//10.0.0.0", -1],
+    ["//h:9", "//h:10", -1], ["a?", "a#z", 1], ["a", "a#", -1]]) {
+    assert.equal(uris.compare(left, right), order);
+    assert.equal(uris.compare(right, left), -order | 0);
+  }
+  assert.throws(() => uris.compare("a", "a b"), { argument: "right", place: 1 });
+  for (const [uri, base, within] of [["HTTP://H:80/x/../a/b?q", "http://h/a/c", true], ["http://h/appX", "http://h/app/", false],
+    ["http://h/app/%2e%2e/admin", "http://h/app/", false], ["http://h/app/..;/admin", "http://h/app/", false],
+    ["https://h/a/b", "http://h/a/", false], ["http://u@h/a/b", "http://h/a/", false], ["mailto:a@b", "mailto:a@b", true]]) {
+    assert.equal(uris.isWithin(uri, base), within);
+  }
+  assert.equal(uris.isWithin(new URL("http://h/a/b"), new URL("http://h/a/")), true);
+  assert.throws(() => uris.isWithin("/a", "%"), { argument: "uri", code: 3, inBase: false });
+  assert.throws(() => uris.isWithin("s:", "%"), { argument: "base", code: 0x152, inBase: true, place: 0 });
+  for (const [text, domain, within] of [["http://WWW.Example.com./", "example.com", true], ["//evilexample.com", "example.com", false],
+    ["//1.2.3.4", "4", false], ["//[::1]", "[::1]", true], ["/a", "h", false]]) {
+    assert.equal(uris.hostIsWithin(text, domain), within);
+  }
+  assert.throws(() => uris.hostIsWithin("//h", "a b"), { argument: "domain", code: 0x131, place: 1, text: "a b" });
+  assert.throws(() => uris.hostIsWithin("a b", "h"), { argument: "text", code: 0x51 });
+  assert.deepEqual(uris.hostFlags("//%31.2.3.4"), { hidesAddress: true, mayBeNumeric: true });
+  assert.deepEqual(uris.hostFlags("//0x7f.1"), { hidesAddress: false, mayBeNumeric: true });
+  assert.deepEqual(uris.hostFlags("//example.com"), { hidesAddress: false, mayBeNumeric: false });
+  assert.deepEqual([uris.defaultPort("HTTPS"), uris.defaultPort("mailto"), uris.defaultPort("")], [443, null, null]);
+});
+
+await test("pairs by name", () => {
+  assert.equal(uris.pair("http://h/?q=R%26D&all", "q"), "R&D");
+  assert.equal(uris.pair("?q=R%26D&all", "all"), "");
+  assert.equal(uris.pair("?%61=%C3%BC&a=2", "a"), "\u00fc");
+  assert.equal(uris.pair("?a", "b"), null);
+  assert.equal(uris.pair("a", "a"), null);
+  assert.throws(() => uris.pair("?a=%FF", "a"), TypeError);
+  assert.equal(uris.withPair("http://h/?p=1&lang=de&%70=2#f", "p", "a&b"), "http://h/?p=a%26b&lang=de#f");
+  assert.equal(uris.withPair("http://h/", "n", 2), "http://h/?n=2");
+  assert.equal(uris.withPair("?", "n", null), "?n");
+  assert.equal(uris.withAppendedPair("?a=1", "a", "\u00fc +"), "?a=1&a=%C3%BC%20%2B");
+  assert.equal(uris.withPair("?", "a".repeat(9999), "[".repeat(9999)), `?${"a".repeat(9999)}=${"%5B".repeat(9999)}`);
+  assert.equal(uris.withoutPairs("http://h/?utm_source=x&q=1&%75tm_id=2&gclid#f", "utm_*", "gclid"), "http://h/?q=1#f");
+  assert.equal(uris.withoutPairs("http://h/?utm_a#f", "utm_*"), "http://h/#f");
+  assert.equal(uris.withoutPairs("?a", "b"), "?a");
+  assert.equal(uris.withoutPairs("a", "b"), "a");
+  assert.throws(() => uris.withoutPairs("?a", "b#"), { code: 13, argument: "names", place: 1 });
+  assert.throws(() => uris.withPair("a b", "n", "v"), { code: 0x51, argument: "text" });
+  assert.throws(() => uris.withPair("a", "n", undefined), TypeError);
+  assert.equal(uris.encode("pair", "a&b=c d+"), "a%26b%3Dc%20d%2B");
+});
+
 await test("components that are replaced", () => {
   assert.equal(uris.replace("HTTP://u:p@h:8080/%7Ea?q#f", { host: "example.org", username: null }), "HTTP://example.org:8080/%7Ea?q#f");
   assert.equal(uris.replace("a:b/c", { port: 80, host: "h" }), "a://h:80/b/c");

@@ -1,5 +1,5 @@
 // A user of the types, which `bindings/web/run` has the TypeScript compiler check without the types of the DOM.
-import { load, isSupported, URIParseError, type Changes, type Encoded, type Fault, type Pair, type Parts, type Place, type URIs } from "./uriparse.mjs";
+import { load, isSupported, URIParseError, type Changes, type Encoded, type Fault, type HostFlags, type Pair, type Parts, type Place, type URIs } from "./uriparse.mjs";
 
 async function told(text: string): Promise<string> {
   const uris: URIs = await load("uriparse.wasm");
@@ -16,10 +16,16 @@ async function told(text: string): Promise<string> {
   const pairs: Pair[] = uris.pairs(parts.query ?? "");
   const values: (string | null)[] = pairs.map(([name, value]) => value ?? name);
   const changes: Changes = { host: "h", port: 80, query: null, fragment: undefined };
+  const flags: HostFlags = uris.hostFlags(text);
+  const order: -1 | 0 | 1 = uris.compare(text, text);
+  const checks: boolean[] = [uris.isWithin(text, text), uris.hostIsWithin(text, "h"), flags.hidesAddress, flags.mayBeNumeric];
+  const port: number | null = uris.defaultPort("http");
+  const value: string | null = uris.pair(text, "a");
+  const edited: string = uris.withoutPairs(uris.withAppendedPair(uris.withPair(text, "a", 1), "b", null), "a", "b*");
   const hash: bigint = uris.hash(text) % 2n;
   const equal: boolean = uris.equal(text, uris.normalize(text)) && uris.isURI(uris.resolve(text, "a"));
   return [host?.[0], kind, parts.port?.toFixed(), segments, names, bytes.length, values, hash, equal, uris.escape(text), uris.origin(text),
-    uris.relativize(text, text), uris.replace(text, changes)].join();
+    uris.relativize(text, text), uris.replace(text, changes), order, checks, port?.toFixed(), value, edited].join();
 }
 
 // @ts-expect-error an authority is changed by its components

@@ -41,13 +41,19 @@ export class URIParseError extends Error {
   /** The text that is rejected. */
   readonly text: string;
   /** Which text of the call it is; the URI of `relativize` is its reference. Of `replace` also the component whose value it is. */
-  readonly argument: "text" | "base" | "reference" | "left" | "right" | Exclude<Component, "authority">;
-  /** Whether it is the base of `resolve` or `relativize`. */
+  readonly argument: "text" | "base" | "reference" | "left" | "right" | "uri" | "domain" | "names" | Exclude<Component, "authority">;
+  /** Whether it is the base of `resolve`, `relativize` or `isWithin`. */
   readonly inBase: boolean;
 }
 
 /** What bytes are encoded as. */
-export type Encoded = "username" | "password" | "segment" | "query" | "fragment";
+export type Encoded = "username" | "password" | "segment" | "query" | "fragment" | "pair";
+
+/** What a name of a host may be taken for: an IPv4 address that it hides, or a number. */
+export interface HostFlags {
+  hidesAddress: boolean;
+  mayBeNumeric: boolean;
+}
 
 /** A string, or an object that has one, such as a `URL`. Another value is a `TypeError`. */
 export type Input = string | { readonly href: string };
@@ -73,6 +79,11 @@ export interface URIs {
   fault(text: Input): Fault | null;
   isURI(text: Input): boolean;
   equal(left: Input, right: Input): boolean;
+  compare(left: Input, right: Input): -1 | 0 | 1;
+  isWithin(uri: Input, base: Input): boolean;
+  hostIsWithin(text: Input, domain: string): boolean;
+  hostFlags(text: Input): HostFlags;
+  defaultPort(scheme: string): number | null;
   hash(text: Input): bigint;
   normalize(text: Input): string;
   resolve(base: Input, reference: Input): string;
@@ -85,6 +96,11 @@ export interface URIs {
   escape(text: Input): string;
   /** A lone surrogate is a `TypeError`. */
   pairs(query: Input): Pair[];
+  /** The decoded value of the first pair of this name: "" without an "=". One that isn't UTF-8 is a `TypeError`. */
+  pair(uri: Input, name: string): string | null;
+  withPair(uri: Input, name: string, value: string | number | null): string;
+  withAppendedPair(uri: Input, name: string, value: string | number | null): string;
+  withoutPairs(uri: Input, ...names: string[]): string;
   /** A lone surrogate is a `TypeError`. */
   encode(component: Encoded, text: Input): string;
   decode(text: Input): Uint8Array;

@@ -15,6 +15,8 @@ const CODES = {
   10: [null, "the reference has no origin"],
   11: ["host", "a user name, password or port without a host"],
   12: [null, "a change without a meaning"],
+  13: ["query", "the names of pairs are no query"],
+  14: ["query", "no pair of the query is left"],
   0x10: ["username", "a colon in the user name"],
   0x11: ["username", "invalid byte in the user name"],
   0x12: ["username", "invalid percent-encoding in the user name"],
@@ -39,9 +41,10 @@ const CODES = {
 };
 
 const NO_ROOM = 2;
+const NO_PAIRS = 14;
 const IN_BASE = 0x100;
 const HOST_KINDS = { 1: "name", 4: "ipv4", 6: "ipv6", 7: "ipvfuture" };
-const ENCODED = { username: 0x10, password: 0x20, segment: 0x50, query: 0x60, fragment: 0x70 };
+const ENCODED = { username: 0x10, password: 0x20, segment: 0x50, query: 0x60, fragment: 0x70, pair: 0x90 };
 const COMPONENTS = ["scheme", "authority", "username", "password", "host", "port", "path", "query", "fragment"];
 
 // Where the module's struct of components has its fields, in words of 32 bits. An index into a text in memory fits in one
@@ -64,6 +67,10 @@ const REMOVE = 2;
 const NAME = 0;
 const VALUE = SPAN;
 const NEXT = 2 * SPAN;
+
+// The flags of a host.
+const HIDES_ADDRESS = 1;
+const MAY_BE_NUMERIC = 2;
 
 const WORD = 16;
 const PAGE = 65536;
@@ -124,6 +131,11 @@ function wellFormed(value) {
     throw new TypeError(`a lone surrogate at index ${place}`);
   }
   return text;
+}
+
+// The value of a pair, which may be a number; null stands for none.
+function dataOf(value) {
+  return value === null ? "" : wellFormed(typeof value === "number" ? String(value) : value);
 }
 
 // The names of the components that are set and of those that are removed, and the strings that they are set to.
@@ -189,6 +201,7 @@ class URIs {
   #words = new Uint32Array();
   #encoder = new TextEncoder();
   #decoder = new TextDecoder("utf-8", { ignoreBOM: true });
+  #strict = new TextDecoder("utf-8", { ignoreBOM: true, fatal: true });
 
   constructor(module, instance) {
     this.#module = module;
@@ -357,6 +370,64 @@ class URIs {
     return this.#bytes[next] !== 0;
   }
 
+  /** -1, 0 or 1: whether the left reference is less than the right one, equal to it or greater, component by component. */
+  compare(left, right) {
+    left = textOf(left);
+    right = textOf(right);
+    const { spans, next } = this.#put(left, right);
+    const code = this.#calls.uriparse_compare(...spans, BigInt(next));
+    if (code !== 0) {
+      throw this.fault(left) ? this.#error(code, left, "left") : this.#error(code, right, "right");
+    }
+    return this.#word(next) | 0;
+  }
+
+  /** Whether a URI is below another one, by its normal form. Segments that servers read in different ways are not. */
+  isWithin(uri, base) {
+    uri = textOf(uri);
+    base = textOf(base);
+    const { spans, next } = this.#put(uri, base);
+    const code = this.#calls.uriparse_is_within(...spans, BigInt(next));
+    if (code !== 0) {
+      throw code & IN_BASE ? this.#error(code, base, "base") : this.#error(code, uri, "uri");
+    }
+    return this.#bytes[next] !== 0;
+  }
+
+  /** Whether the host of a reference is a domain or a name within it, label by label. */
+  hostIsWithin(text, domain) {
+    text = textOf(text);
+    domain = wellFormed(domain);
+    const { spans, next } = this.#put(text, domain);
+    const code = this.#calls.uriparse_host_is_within(...spans, BigInt(next));
+    if (code & IN_BASE) {
+      const fault = this.fault(`//${domain}`);
+      throw new URIParseError(code, fault ? Math.max(fault.place - 2, 0) : domain.length, domain, "domain");
+    }
+    if (code !== 0) {
+      throw this.#error(code, text);
+    }
+    return this.#bytes[next] !== 0;
+  }
+
+  /** What the host of a reference may be taken for. */
+  hostFlags(text) {
+    text = textOf(text);
+    const { spans, next } = this.#put(text);
+    const code = this.#calls.uriparse_host_flags(spans[0], spans[1], BigInt(next));
+    if (code !== 0) {
+      throw this.#error(code, text);
+    }
+    const flags = this.#word(next);
+    return { hidesAddress: (flags & HIDES_ADDRESS) !== 0, mayBeNumeric: (flags & MAY_BE_NUMERIC) !== 0 };
+  }
+
+  /** The default port of a scheme, or null. */
+  defaultPort(scheme) {
+    const { spans } = this.#put(textOf(scheme));
+    return this.#calls.uriparse_default_port(spans[0], spans[1]) || null;
+  }
+
   /** A hash, as a BigInt: equal references have equal hashes, on every machine. */
   hash(text) {
     text = textOf(text);
@@ -369,13 +440,13 @@ class URIs {
   }
 
   // The bytes that a call writes for these texts, which stay until the next call, or the code that it returns.
-  #answer(call, texts, ...first) {
+  #answer(call, texts, first = [], last = []) {
     const { spans, next } = this.#put(...texts);
     const out = next + WORD;
     let room = 2 * texts.reduce((sum, text) => sum + text.length, 0) + 64;
     for (;;) {
       this.#view(out + room);
-      const code = this.#calls[call](...first, ...spans, BigInt(out), BigInt(room), BigInt(next));
+      const code = this.#calls[call](...first, ...spans, ...last, BigInt(out), BigInt(room), BigInt(next));
       const needed = this.#length(next);
       if (code !== NO_ROOM) {
         return { code, bytes: this.#bytes.subarray(out, out + needed) };
@@ -385,8 +456,8 @@ class URIs {
   }
 
   // The text that a call writes for these texts.
-  #written(call, texts, ...first) {
-    const { code, bytes } = this.#answer(call, texts, ...first);
+  #written(call, texts, first = []) {
+    const { code, bytes } = this.#answer(call, texts, first);
     if (code !== 0) {
       const [text, argument] = texts.length === 1 ? texts : code & IN_BASE ? [texts[0], "base"] : [texts[1], "reference"];
       throw this.#error(code, text, argument);
@@ -476,12 +547,60 @@ class URIs {
     return found;
   }
 
-  /** The UTF-8 of a string as the text of a component: "username", "password", "segment", "query" or "fragment". */
+  /** The decoded value of the first pair of the query with this name, or null if there is none. It must be UTF-8. */
+  pair(uri, name) {
+    const { query } = this.parse(uri);
+    if (query === null) {
+      return null;
+    }
+    const { spans, next } = this.#put(query, wellFormed(name));
+    if (this.#calls.uriparse_find_pair(...spans, BigInt(next)) === 0) {
+      return null;
+    }
+    const [begin, end] = [BEGIN, END].map((word) => this.#words[next / 4 + VALUE + word]);
+    return this.#strict.decode(this.decode(query.slice(begin, end)));
+  }
+
+  // Where a text that is no query is wrong.
+  #placeInQuery(text) {
+    const [query] = text.split("#");
+    const fault = this.fault(`?${query}`);
+    return fault ? fault.place - 1 : query.length;
+  }
+
+  // The reference with the query that a call writes for these texts, or without one if no pair is left.
+  #withQuery(uri, call, texts, last) {
+    const { code, bytes } = this.#answer(call, texts, [], last);
+    if (code !== 0 && code !== NO_PAIRS) {
+      throw new URIParseError(code, this.#placeInQuery(texts[1]), texts[1], "names");
+    }
+    return this.replace(uri, { query: code === NO_PAIRS ? null : this.#string(bytes) });
+  }
+
+  /** The reference with one pair of this name, in place of the first one; without an "=" if the value is null. */
+  withPair(uri, name, value) {
+    const query = this.parse(uri).query ?? "";
+    return this.#withQuery(uri, "uriparse_set_pair", [query, wellFormed(name), dataOf(value)], [value === null ? 0 : 1]);
+  }
+
+  /** The reference with a pair after all others. */
+  withAppendedPair(uri, name, value) {
+    const query = this.parse(uri).query ?? "";
+    return this.#withQuery(uri, "uriparse_append_pair", [query, wellFormed(name), dataOf(value)], [value === null ? 0 : 1]);
+  }
+
+  /** The reference without the pairs of these names, written as in a query: "utm_*" stands for each that begins with "utm_". */
+  withoutPairs(uri, ...names) {
+    const { text, query } = this.parse(uri);
+    return query === null || names.length === 0 ? text : this.#withQuery(uri, "uriparse_drop_pairs", [query, names.map(wellFormed).join("&")]);
+  }
+
+  /** The UTF-8 of a string as the text of a component: "username", "password", "segment", "query", "fragment" or "pair". */
   encode(component, text) {
     if (!Object.hasOwn(ENCODED, component)) {
       throw new TypeError(`no component that is encoded is ${component}`);
     }
-    return this.#written("uriparse_encode", [wellFormed(text)], ENCODED[component]);
+    return this.#written("uriparse_encode", [wellFormed(text)], [ENCODED[component]]);
   }
 
   /** The bytes that the text of a component stands for. */
@@ -489,9 +608,7 @@ class URIs {
     text = textOf(text);
     const { code, bytes } = this.#answer("uriparse_decode", [text]);
     if (code !== 0) {
-      const [query] = text.split("#");
-      const fault = this.fault(`?${query}`);
-      throw new URIParseError(code, fault ? fault.place - 1 : query.length, text);
+      throw new URIParseError(code, this.#placeInQuery(text), text);
     }
     return bytes.slice();
   }

@@ -16,17 +16,18 @@ from ._library import COMPONENTS, Buffer, Component, Parts, Span, Text, called, 
 
 __all__ = [
     "COMPONENTS", "ENCODED", "IN_BASE", "NO_ROOM", "URI", "Buffer", "Code", "Component", "Components", "Encodable",
-    "HostKind", "Parts", "Span", "Text", "URIError", "decode", "encode", "equal", "error_text", "escape", "first_fault",
-    "get_many", "hash_of", "is_uri", "normalize", "normalize_many", "origin", "pairs", "parse", "parse_many", "relativize",
-    "replace", "resolve", "resolve_many", "spans"]
+    "HostFlag", "HostKind", "Parts", "Span", "Text", "URIError", "compare", "decode", "default_port", "encode", "equal",
+    "error_text", "escape", "first_fault", "get_many", "hash_of", "host_flags", "host_is_within", "is_uri", "is_within",
+    "normalize", "normalize_many", "origin", "pair", "pairs", "parse", "parse_many", "relativize", "replace", "resolve",
+    "resolve_many", "spans", "with_appended_pair", "with_pair", "without_pairs"]
 __version__ = "0.3.0"
 
-Encodable = Literal["username", "password", "segment", "query", "fragment"]
+Encodable = Literal["username", "password", "segment", "query", "fragment", "pair"]
 HostKind = Literal["name", "ipv4", "ipv6", "ipvfuture"]
 
 NO_ROOM = 2
 IN_BASE = 0x100
-ENCODED: Dict[Encodable, int] = {"username": 0x10, "password": 0x20, "segment": 0x50, "query": 0x60, "fragment": 0x70}
+ENCODED: Dict[Encodable, int] = {"username": 0x10, "password": 0x20, "segment": 0x50, "query": 0x60, "fragment": 0x70, "pair": 0x90}
 
 
 class Code(enum.IntEnum):
@@ -43,6 +44,8 @@ class Code(enum.IntEnum):
     NO_ORIGIN = 10
     MISSING_HOST = 11
     BAD_CHANGE = 12
+    BAD_NAMES = 13
+    NO_PAIRS = 14
     USERNAME_COLON = 0x10
     USERNAME_BYTE = 0x11
     USERNAME_ESCAPE = 0x12
@@ -66,6 +69,13 @@ class Code(enum.IntEnum):
     SCHEME_LETTER = 0x82
 
 
+class HostFlag(enum.IntFlag):
+    """What a name of a host may be taken for: an IPv4 address that it hides, or a number."""
+
+    HIDES_ADDRESS = 1
+    MAY_BE_NUMERIC = 2
+
+
 _CODES: Dict[int, Code] = {code.value: code for code in Code}
 
 # The component that an error is about, by the upper digit of its code.
@@ -87,6 +97,8 @@ _ERROR_TEXTS = {
     10: "the reference has no origin",
     11: "a user name, password or port without a host",
     12: "a change without a meaning",
+    13: "the names of pairs are no query",
+    14: "no pair of the query is left",
     0x10: "a colon in the user name",
     0x11: "invalid byte in the user name",
     0x12: "invalid percent-encoding in the user name",
@@ -128,7 +140,7 @@ def _excerpt(text: Union[str, bytes], place: int) -> str:
 
 def _message(code: int, text: Union[str, bytes], place: int, argument: str) -> str:
     why = code & ~IN_BASE
-    whose = "base: " if code & IN_BASE else ""
+    whose = argument + ": " if code & IN_BASE else ""
     is_placed = (argument not in ("change", *_library.CHANGED) and why not in (Code.NO_SCHEME, Code.NO_ORIGIN)
                  and (why != Code.TOO_MANY_SEGMENTS or place))
     where = "first wrong byte %d: " % place if is_placed else ""
@@ -173,13 +185,17 @@ def _check(code: int, texts: Tuple[Text, ...], arguments: Tuple[str, ...]) -> No
     if code:
         copies: List[Union[str, bytes]] = [text if isinstance(text, str) else bytes(text) for text in texts]
         faulty = (at for at, text in enumerate(copies) if first_fault(text))
-        at = 0 if code & IN_BASE else next(faulty, len(copies) - 1)
+        if code & IN_BASE:
+            at = arguments.index("base")
+        else:
+            at = 0 if arguments == _URI_BASE else next(faulty, len(copies) - 1)
         fault = first_fault(copies[at])
         raise URIError(code, copies[at], fault[1] if fault else 0, arguments[at])
 
 
 _TEXT = ("text",)
 _LEFT_RIGHT = ("left", "right")
+_URI_BASE = ("uri", "base")
 
 
 def _encoded(text: str, code_at: Callable[[str], int], argument: str) -> bytes:
@@ -309,6 +325,78 @@ def equal(left: Text, right: Text) -> bool:
     if code:
         _check(code, (left, right), _LEFT_RIGHT)
     return answer.value
+
+
+@overload
+def compare(left: Buffer, right: Buffer) -> int: ...
+@overload
+def compare(left: str, right: str) -> int: ...
+def compare(left: Text, right: Text) -> int:
+    """-1, 0 or 1: whether the left reference is less than the right one, equal to it or greater. Components are compared in
+    order, each in the spelling by which `equal` compares; an absent one is less than any other."""
+    if isinstance(left, str) is not isinstance(right, str):
+        raise wrong_type(left, right)
+    answer = ctypes.c_int32()
+    code = called(_library.compare, (left, right), answer)
+    if code:
+        _check(code, (left, right), _LEFT_RIGHT)
+    return answer.value
+
+
+@overload
+def is_within(uri: Buffer, base: Buffer) -> bool: ...
+@overload
+def is_within(uri: str, base: str) -> bool: ...
+def is_within(uri: Text, base: Text) -> bool:
+    """Whether a URI is below another one: at the same scheme, user information, host and port, with a path that begins, without
+    dot segments, with the directory of the base's path. Segments that servers read in different ways, as `..;` and `%2f`, are not
+    below it. The query and the fragment don't count."""
+    if isinstance(uri, str) is not isinstance(base, str):
+        raise wrong_type(uri, base)
+    answer = ctypes.c_bool()
+    code = called(_library.is_within, (uri, base), answer)
+    if code:
+        _check(code, (uri, base), _URI_BASE)
+    return answer.value
+
+
+def _domain_fault(code: int, domain: Text) -> URIError:
+    """The error of a domain that is no host."""
+    copy: Any = domain if isinstance(domain, str) else bytes(domain)
+    fault = first_fault("//" + copy if isinstance(copy, str) else b"//" + copy)
+    return URIError(code, copy, max(fault[1] - 2, 0) if fault else len(copy), "domain")
+
+
+@overload
+def host_is_within(text: Buffer, domain: Buffer) -> bool: ...
+@overload
+def host_is_within(text: str, domain: str) -> bool: ...
+def host_is_within(text: Text, domain: Text) -> bool:
+    """Whether the host of a reference is the domain or a name within it, label by label. False without a host."""
+    if isinstance(text, str) is not isinstance(domain, str):
+        raise wrong_type(text, domain)
+    answer = ctypes.c_bool()
+    code = called(_library.host_is_within, (text, domain), answer)
+    if code & IN_BASE:
+        raise _domain_fault(code, domain)
+    if code:
+        _check(code, (text,), _TEXT)
+    return answer.value
+
+
+def host_flags(text: Text) -> HostFlag:
+    """What the host of a reference may be taken for: nothing for an address, and without a host."""
+    answer = ctypes.c_uint32()
+    code = called(_library.host_flags, (text,), answer)
+    if code:
+        _check(code, (text,), _TEXT)
+    return HostFlag(answer.value)
+
+
+def default_port(scheme: Text) -> Optional[int]:
+    """The default port of a scheme, or None if it has none."""
+    port: int = called(_library.default_port, (scheme,))
+    return port or None
 
 
 def hash_of(text: Text) -> int:
@@ -469,6 +557,93 @@ def pairs(query: Text) -> List[Any]:
     return found
 
 
+def _place_in_query(data: bytes) -> int:
+    """Where a text that is no query is wrong."""
+    query = data.split(b"#")[0]
+    fault = first_fault(b"?" + query)
+    return fault[1] - 1 if fault else len(query)
+
+
+def _query_of(uri: Text) -> bytes:
+    """The query of a reference, or the empty one if it has none."""
+    query = spans(uri).query
+    return utf8(uri)[query.begin:query.end] if isinstance(uri, str) else bytes(uri)[query.begin:query.end]
+
+
+def _data(value: object, uri: Text, argument: str) -> bytes:
+    """The bytes of a name or a value, which has the type of the URI or is an int."""
+    found = _value(value, uri)
+    return _encoded(found, lambda _: Code.QUERY_BYTE, argument) if isinstance(found, str) else bytes(found)
+
+
+def _with_query(uri: Text, query: Optional[bytes]) -> Any:
+    """The reference with this query, or without one."""
+    if isinstance(uri, str):
+        return replace(uri, query=None if query is None else query.decode())
+    return replace(uri, query=query)
+
+
+@overload
+def pair(uri: Buffer, name: Buffer) -> Optional[bytes]: ...
+@overload
+def pair(uri: str, name: str) -> Optional[str]: ...
+def pair(uri: Text, name: Text) -> Any:
+    """The decoded value of the first pair of the query with this name, or None if there is none. It is empty for a pair without
+    an `=`. Names are compared by the bytes that they stand for. The value of a str is decoded as UTF-8."""
+    query, found = _query_of(uri), _library.Pair()
+    if not spans(uri).query.present or not called(_library.find_pair, (query, _data(name, uri, "name")), found):
+        return None
+    value = decode(query[found.value.begin:found.value.end])
+    return value.decode() if isinstance(uri, str) else value
+
+
+def _with(call: Callable[..., Any], uri: Text, name: object, value: object) -> Any:
+    """The reference with the query that a call writes for a pair."""
+    query, key = _query_of(uri), _data(name, uri, "name")
+    data = b"" if value is None else _data(value, uri, "value")
+    room, needed = len(query) + 3 * (len(key) + len(data)) + 2, ctypes.c_size_t()
+    out = ctypes.create_string_buffer(room)
+    called(call, (query, key, data), value is not None, out, room, needed)
+    return _with_query(uri, out.raw[:needed.value])
+
+
+@overload
+def with_pair(uri: Buffer, name: Buffer, value: Union[Buffer, int, None]) -> bytes: ...
+@overload
+def with_pair(uri: str, name: str, value: Union[str, int, None]) -> str: ...
+def with_pair(uri: Text, name: Any, value: Any) -> Any:
+    """The reference with one pair of this name in its query, in place of the first one. The others of the name are left out, and
+    pairs of other names stay, byte for byte. Name and value are data: `pair` reads them back. With None there is no `=`."""
+    return _with(_library.set_pair, uri, name, value)
+
+
+@overload
+def with_appended_pair(uri: Buffer, name: Buffer, value: Union[Buffer, int, None]) -> bytes: ...
+@overload
+def with_appended_pair(uri: str, name: str, value: Union[str, int, None]) -> str: ...
+def with_appended_pair(uri: Text, name: Any, value: Any) -> Any:
+    """The reference with a pair after all others of its query."""
+    return _with(_library.append_pair, uri, name, value)
+
+
+@overload
+def without_pairs(uri: Buffer, *names: Buffer) -> bytes: ...
+@overload
+def without_pairs(uri: str, *names: str) -> str: ...
+def without_pairs(uri: Text, *names: Any) -> Any:
+    """The reference without the pairs of these names in its query, and without the query if none is left. A name is written as
+    in a query, and one that ends in `*` stands for each that begins with what precedes it: `utm_*`."""
+    wanted = b"&".join(_data(name, uri, "names") for name in names)
+    query = _query_of(uri)
+    out, needed = ctypes.create_string_buffer(len(query)), ctypes.c_size_t()
+    if not names or not spans(uri).query.present:
+        return uri if isinstance(uri, str) else bytes(uri)
+    code = called(_library.drop_pairs, (query, wanted), out, len(query), needed)
+    if code == Code.BAD_NAMES:
+        raise URIError(code, wanted.decode() if isinstance(uri, str) else wanted, _place_in_query(wanted), "names")
+    return _with_query(uri, None if code == Code.NO_PAIRS else out.raw[:needed.value])
+
+
 @overload
 def decode(text: Buffer) -> bytes: ...
 @overload
@@ -485,9 +660,7 @@ def decode(text: Text) -> Any:
     code = called(_library.decode, (data,), out, room, needed)
     if code:
         data = bytes(data)
-        query = data.split(b"#")[0]
-        fault = first_fault(b"?" + query)
-        raise URIError(code, text if isinstance(text, str) else data, fault[1] - 1 if fault else len(query))
+        raise URIError(code, text if isinstance(text, str) else data, _place_in_query(data))
     written = out.raw[:needed.value]
     return written.decode() if isinstance(text, str) else written
 
@@ -502,7 +675,8 @@ def encode(component: Encodable, data: Text) -> Any:
         raise ValueError("no component %r: it is one of %s" % (component, ", ".join(ENCODED)))
     call = functools.partial(_library.encode, ENCODED[component])
     if isinstance(data, str):
-        return _written(call, (_encoded(data, lambda _: ENCODED[component] + 1, "data"),)).decode()
+        wrong = Code.QUERY_BYTE if component == "pair" else ENCODED[component] + 1
+        return _written(call, (_encoded(data, lambda _: wrong, "data"),)).decode()
     return _written(call, (data,))
 
 
@@ -563,6 +737,74 @@ class URI:
 
     def __hash__(self) -> int:
         return hash_of(self._text)
+
+    def __lt__(self, other: URI) -> bool:
+        return compare(self._text, other._text) < 0 if isinstance(other, URI) else NotImplemented
+
+    def __le__(self, other: URI) -> bool:
+        return compare(self._text, other._text) <= 0 if isinstance(other, URI) else NotImplemented
+
+    def __gt__(self, other: URI) -> bool:
+        return compare(self._text, other._text) > 0 if isinstance(other, URI) else NotImplemented
+
+    def __ge__(self, other: URI) -> bool:
+        return compare(self._text, other._text) >= 0 if isinstance(other, URI) else NotImplemented
+
+    def __truediv__(self, name: str) -> URI:
+        """The URI of a segment below this one, without a query and a fragment. The name is data: a `/` becomes `%2F`."""
+        if name in (".", ".."):
+            raise ValueError("%r is no name of a segment" % name)
+        path = self.path if self.path.endswith("/") or not (self.path or self.host is not None) else self.path + "/"
+        return self.replace(path=path + encode("segment", name), query=None, fragment=None)
+
+    def replace(self, **components: Any) -> URI:
+        """The URI with these components set, or removed by None, as the function `replace` does."""
+        return type(self)(replace(self._text, **components))
+
+    def with_scheme(self, scheme: Optional[str]) -> URI:
+        return self.replace(scheme=scheme)
+
+    def with_username(self, username: Optional[str]) -> URI:
+        return self.replace(username=username)
+
+    def with_password(self, password: Optional[str]) -> URI:
+        return self.replace(password=password)
+
+    def with_host(self, host: Optional[str]) -> URI:
+        return self.replace(host=host)
+
+    def with_port(self, port: Union[str, int, None]) -> URI:
+        return self.replace(port=port)
+
+    def with_path(self, path: str) -> URI:
+        return self.replace(path=path)
+
+    def with_query(self, query: Optional[str]) -> URI:
+        return self.replace(query=query)
+
+    def with_fragment(self, fragment: Optional[str]) -> URI:
+        return self.replace(fragment=fragment)
+
+    def pair(self, name: str) -> Optional[str]:
+        """The decoded value of the first pair with this name, or None."""
+        return pair(self._text, name)
+
+    def with_pair(self, name: str, value: Union[str, int, None]) -> URI:
+        return type(self)(with_pair(self._text, name, value))
+
+    def with_appended_pair(self, name: str, value: Union[str, int, None]) -> URI:
+        return type(self)(with_appended_pair(self._text, name, value))
+
+    def without_pairs(self, *names: str) -> URI:
+        return type(self)(without_pairs(self._text, *names))
+
+    def is_within(self, base: Union[str, URI]) -> bool:
+        """Whether it is below the base."""
+        return is_within(self._text, base._text if isinstance(base, URI) else base)
+
+    def relativize(self, uri: Union[str, URI]) -> URI:
+        """The reference that leads from this base to a URI."""
+        return type(self)(relativize(self._text, uri._text if isinstance(uri, URI) else uri))
 
     def normalize(self) -> URI:
         """The normal form."""

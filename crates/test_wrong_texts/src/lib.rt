@@ -15,6 +15,7 @@ ghost use Rattle.std.specs.Option.{option_copied};
 ghost use Rattle.std.specs.Ordering.{nat_cmp};
 ghost use Rattle.uriparse_text.specs.declared.internal.case.Case.TheVariants as case;
 ghost use Rattle.uriparse_text.specs.Address.{ipv4_reading, ipv6_text};
+ghost use Rattle.uriparse_text.specs.Ambiguous as ambiguous;
 ghost use Rattle.uriparse_text.specs.Canonical.{SpellsAlike, canonical, fed_text};
 ghost use Rattle.uriparse_text.specs.Coding.{decoded, encoded, form_decoded};
 ghost use Rattle.uriparse_text.specs.Link as links;
@@ -31,6 +32,7 @@ use uriparse_text::address::{Ipv4Addr, Ipv6Addr};
 use uriparse_text::internal::TooSmall;
 use uriparse_text::link::trim_link;
 use uriparse_text::query::{Pairs, Query, QueryError};
+use uriparse_text::segment::Segment;
 
 pub mod lifetimes;
 
@@ -185,6 +187,13 @@ pub fn sorted_pairs(alloc: Global, query: &Query<'_>) -> Result<Query<'static>, 
     ensures { IfOk result (λ q. pairs.pairs q ≡ pairs.sorted_pairs (pairs.pairs query.now)) }
 {
     query.sorted_pairs(alloc)
+}
+
+/// Whether servers may take a segment for several segments, or for a dot segment.
+pub fn is_ambiguous(segment: &Segment<'_>) -> bool
+    ensures { result ≡ ambiguous.is_ambiguous segment.now }
+{
+    segment.is_ambiguous()
 }
 
 /// The reference in a text that was cut out of a page.

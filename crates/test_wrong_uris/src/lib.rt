@@ -1,7 +1,7 @@
 //! Promises of `URI` and of its builder. `must-fail` has wrong bodies, as in `test_wrong_texts`.
 #![tactic(auto)]
 
-ghost use Rattle.std.specs.Prelude.{◌≡◌, Err, IfOk, IsOk, MatchOption, Ok, OnOk, Some, is_some, length, string_bytes, true};
+ghost use Rattle.std.specs.Prelude.{◌≡◌, ◌↔◌, Err, IfOk, IsOk, IsTrue, MatchOption, Ok, OnOk, Some, is_some, length, string_bytes, true};
 ghost use Rattle.uriparse_text.specs.Readings.{IsUnless};
 ghost use Rattle.uriparse_text.specs.declared.segment.error.PathError.TheVariants as paths;
 ghost use Rattle.uriparse_reference.specs.Normal.{canonical_texts, normal};
@@ -11,13 +11,14 @@ ghost use Rattle.uriparse.specs.File as files;
 ghost use Rattle.uriparse.specs.Kinds.{fault_of, of_kind};
 ghost use Rattle.uriparse.specs.Origin as origins;
 ghost use Rattle.uriparse.specs.Uri.{base as without_fragment, map_error};
+ghost use Rattle.uriparse.specs.Within as within;
 ghost use Rattle.uriparse.specs.declared.file.error.FileError.TheVariants as file_errors;
 ghost use Rattle.uriparse.specs.declared.uri.error.URIError.{URIError};
 ghost use Rattle.uriparse.specs.declared.uri.error.URIError.TheVariants as errors;
 
 use std::alloc::{AllocError, Global};
 use uriparse::file::{FileError, from_path, to_path};
-use uriparse::{Origin, Query, URI, URIBuilder, URIError, URIReference};
+use uriparse::{Origin, Query, URI, URIBuilder, URIError, URIReference, URIView};
 
 /// Reads a URI. A fault, or that there is no scheme, is returned whatever memory there is, and a path
 /// of one segment takes none.
@@ -84,6 +85,13 @@ pub fn same_origin(left: &URI<'_>, right: &URI<'_>) -> bool
     ensures { result ≡ origins.have_same_origin left.now right.now }
 {
     left.same_origin(right)
+}
+
+/// Whether a URI is below another one.
+pub fn is_within(uri: &URIView<'_>, base: &URIView<'_>) -> bool
+    ensures { IsTrue result ↔ within.IsWithin uri.now.parts base.now.parts }
+{
+    uri.is_within(base)
 }
 
 /// The text of an origin.

@@ -3,6 +3,7 @@ pub mod KindLemmas
 pub mod KindChangeLemmas
 pub mod ViewLemmas
 pub mod WithinLemmas
+pub mod WithinLawLemmas
 pub mod BuilderLemmas
 pub mod ResolveLemmas
 pub mod FileLemmas

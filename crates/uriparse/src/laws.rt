@@ -1,12 +1,14 @@
 //! Laws of the definitions that contracts cite. Each function does nothing: its contract is the
 //! law. Call it where a proof needs the law.
-ghost use Rattle.std.specs.Prelude.{◌≡◌, ◌↔◌, ◌⊎◌, ◌∷◌, [], ℕ, List, Err, Ok, Some, None, codes, false, true};
+ghost use Rattle.std.specs.Prelude.{◌≡◌, ◌↔◌, ◌⊎◌, ◌∷◌, ◌++◌, [], ℕ, List, Err, Ok, Some, None, codes, false, true};
+ghost use Rattle.uriparse_text.specs.Ambiguous.{is_ambiguous};
 ghost use Rattle.uriparse_text.specs.Bytes.{slash};
 ghost use Rattle.uriparse_text.specs.Coding.{are_bytes};
 ghost use Rattle.uriparse_reference.specs.Builder.{held};
 ghost use Rattle.uriparse_reference.specs.Edits.{of_parts};
 ghost use Rattle.uriparse_reference.specs.Ports.{without_default_port};
-ghost use Rattle.uriparse_reference.specs.Reference.{Parts, Valid, host_of, print};
+ghost use Rattle.uriparse_reference.specs.Normal.{normal};
+ghost use Rattle.uriparse_reference.specs.Reference.{Parts, Same, Valid, host_of, print};
 ghost use Rattle.uriparse.specs.File.{file_uri, path_named, path_of_uri, uri_of_path};
 ghost use Rattle.uriparse.specs.declared.file.error.FileError.TheVariants as errors;
 ghost use Rattle.uriparse.specs.Kinds.{IsOfKind, with_mapped_error};
@@ -18,6 +20,10 @@ ghost use Rattle.uriparse_authority.specs.declared.authority.host.Host.{Host};
 ghost use Rattle.uriparse_scheme.specs.Scheme as scheme;
 ghost use Rattle.uriparse.specs.RelativeReference as relative;
 ghost use Rattle.uriparse.specs.Uri as uri;
+ghost use Rattle.uriparse.specs.Within.{IsWithin};
+ghost use Rattle.uriparse_path.specs.Dots.{all_but_last};
+ghost use Rattle.uriparse_path.specs.Normal.{pnormal};
+ghost use Rattle.uriparse_path.specs.Within.{between_slashes};
 
 pub use uriparse_reference::laws::{
     equal_in_equal_out, faults_of_reading, normalising_commutes, one_build, one_cut,
@@ -53,6 +59,19 @@ pub fn one_origin()
     ensures hash { (a b : Origin) → are_alike a b ≡ true → fed a ≡ fed b }
     ensures text { (p q : Parts) (a b : Origin) → Valid p → Valid q → origin p ≡ Some a → origin q ≡ Some b → are_alike a b ≡ true → text a ≡ text b }
     ensures back { (p q : Parts) (a b : Origin) → Valid p → Valid q → origin p ≡ Some a → origin q ≡ Some b → text a ≡ text b → (are_alike a b ≡ true) ⊎ host.OneHidesAddress (canonical_host a.host) (canonical_host b.host) }
+{}
+
+/// Being below a URI: each URI is below itself, if the last segment of its path's normal form is not
+/// ambiguous, and below what a URI that it is below is below. Two URIs of which each is below the
+/// other have the same directory. A URI and its normal form are below the same URIs, and the same
+/// URIs are below them; and so it is with equal URIs.
+pub fn within_uris()
+    ensures itself { (p : Parts) (front : List (List ℕ)) (last : List ℕ) → between_slashes (pnormal p.path false) ≡ front ++ last ∷ [] → is_ambiguous last ≡ false → IsWithin p p }
+    ensures again { (p q r : Parts) → IsWithin p q → IsWithin q r → IsWithin p r }
+    ensures directories { (p b : Parts) → IsWithin p b → IsWithin b p → all_but_last (between_slashes (pnormal p.path false)) ≡ all_but_last (between_slashes (pnormal b.path false)) }
+    ensures normal { (p b : Parts) → Valid p → IsOfKind true p → IsWithin p b ↔ IsWithin (normal p) b }
+    ensures normal_base { (p b : Parts) → Valid b → IsOfKind true b → IsWithin p b ↔ IsWithin p (normal b) }
+    ensures equals { (p q b c : Parts) → Valid p → Valid q → Valid b → Valid c → IsOfKind true p → IsOfKind true q → IsOfKind true b → IsOfKind true c → Same p q → Same b c → IsWithin p b → IsWithin q c }
 {}
 
 /// Origins: of one spelling each, and of URIs that have none.

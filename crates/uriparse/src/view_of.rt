@@ -157,6 +157,25 @@ impl<'t, K: ReferenceKind> ViewOf<'t, K> {
     }
 }
 
+impl<'t, K: ReferenceKind> From<ViewOf<'t, K>> for ReferenceView<'t> {
+    ghost from_gives = { λ v w. w ≡ v };
+
+    fn from(view: ViewOf<'t, K>) -> ReferenceView<'t> {
+        view.view
+    }
+}
+
+/// A view of a reference of the other kind is rejected.
+impl<'t, K: ReferenceKind> TryFrom<ReferenceView<'t>> for ViewOf<'t, K> {
+    type Error = K::Error;
+
+    ghost try_from_gives = { λ v answer. answer ≡ (if beq (is_some v.parts.scheme) K.has_scheme then Ok v else Err K.other) };
+
+    fn try_from(view: ReferenceView<'t>) -> Result<ViewOf<'t, K>, K::Error> {
+        ViewOf::of(view)
+    }
+}
+
 impl<'t, K: ReferenceKind> PartialEq for ViewOf<'t, K> {
     ghost eq = { on view_key bytes_eq };
 

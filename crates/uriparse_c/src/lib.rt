@@ -5,7 +5,7 @@
 //! is what a text spells by the grammar, and `fault` is why it spells nothing.
 #![tactic(auto)]
 
-ghost use Rattle.std.specs.Prelude.{◌≡◌, ◌⊎◌, ◌↔◌, ◌<◌, ◌∷◌, ℕ, [], IsTrue, List, Err, Ok, Some, None, bytes_eq, is_some, length, true, false};
+ghost use Rattle.std.specs.Prelude.{◌≡◌, ◌⊎◌, ◌↔◌, ◌+◌, ◌<◌, ◌∷◌, ℕ, [], IsTrue, List, Err, Ok, Some, None, bytes_eq, is_some, length, true, false};
 ghost use Rattle.uriparse_text.specs.declared.internal.class.Class.{Class};
 ghost use Rattle.uriparse_text.specs.declared.query.QueryError.{QueryError};
 ghost use Rattle.uriparse_text.specs.Coding.{decoded, encoded};
@@ -19,13 +19,20 @@ ghost use Rattle.uriparse_reference.specs.declared.uri_reference.error.URIRefere
 ghost use Rattle.uriparse_reference.specs.Normal.{normal};
 ghost use Rattle.uriparse_reference.specs.Offset.{first_fault};
 ghost use Rattle.uriparse_reference.specs.Reading.{fault};
-ghost use Rattle.uriparse_reference.specs.Reference.{Parts, Spells, print};
+ghost use Rattle.uriparse_reference.specs.Order.{reference_cmp};
+ghost use Rattle.uriparse_reference.specs.Reference.{Parts, Spells, host_of, print};
 ghost use Rattle.uriparse_reference.specs.Target.{target};
 ghost use Rattle.uriparse_reference.specs.View.{Viewed};
 ghost use Rattle.uriparse_reference.specs.declared.uri_reference.change.ChangeError.TheVariants as changes;
 ghost use Rattle.uriparse.specs.declared.uri.origin.Origin.{Origin};
 ghost use Rattle.uriparse.specs.Origin.{origin, text as origin_text};
+ghost use Rattle.uriparse.specs.Within.{IsWithin};
+ghost use Rattle.uriparse_authority.specs.Host as hosts;
+ghost use Rattle.uriparse_authority.specs.declared.authority.error.HostError.{HostError};
+ghost use Rattle.uriparse_authority.specs.declared.authority.host.Host.{Host};
+ghost use Rattle.uriparse_scheme.specs.Scheme as schemes;
 ghost use Rattle.uriparse_ffi.specs.Changes.{are_wishes, wanted_in};
+ghost use Rattle.uriparse_ffi.specs.Checks.{IsHostWithin, Tells, default_port_of, host_flags, order_number};
 ghost use Rattle.uriparse_ffi.specs.Code as spec;
 ghost use Rattle.uriparse_ffi.specs.Components.{class_of};
 ghost use Rattle.uriparse_ffi.specs.Hash.{hash_of};
@@ -34,6 +41,7 @@ ghost use Rattle.uriparse_ffi.specs.Places.{ArePlacesOf};
 ghost use Rattle.uriparse_ffi.specs.Put.{IsPut, IsRefused, IsRelativePut};
 
 use uriparse_ffi::changes::{UriChanges, write_changed};
+use uriparse_ffi::checks::{default_port, flags, write_host_within, write_order, write_within};
 use uriparse_ffi::code::{ACCEPTED, code_of, truth_of};
 use uriparse_ffi::coding::{write_decoded, write_encoded, write_escaped};
 use uriparse_ffi::origins::write_origin;
@@ -108,6 +116,76 @@ pub extern "C" fn uriparse_equal(left: &[u8], right: &[u8], equal: &mut u8) -> u
         }
         Err(code) => code,
     }
+}
+
+/// Writes the order of two references: -1, 0 or 1. Does not allocate.
+#[unsafe(no_mangle)]
+pub extern "C" fn uriparse_compare(left: &[u8], right: &[u8], order: &mut i32) -> u32
+    // For two references the number of their order is written.
+    ensures compared { (p q : Parts) → Spells left.now p → Spells right.now q → (result ≡ spec.accepted) × (order.new ≡ order_number (reference_cmp p q)) }
+
+    // A faulty text is rejected, the left one first, and nothing is written.
+    ensures left { (e : URIReferenceError) → fault left.now ≡ Some e → (result ≡ spec.code_of e) × (order.new ≡ order.old) }
+    ensures right { (p : Parts) (e : URIReferenceError) → Spells left.now p → fault right.now ≡ Some e → (result ≡ spec.code_of e) × (order.new ≡ order.old) }
+{
+    write_order(left, right, order)
+}
+
+/// Writes whether a URI is within another one. Does not allocate.
+#[unsafe(no_mangle)]
+pub extern "C" fn uriparse_is_within(text: &[u8], base: &[u8], within: &mut u8) -> u32
+    // For two URIs, 1 is written if the first is within the second, else 0.
+    ensures checked { (p b : Parts) → Spells text.now p → is_some p.scheme ≡ true → Spells base.now b → is_some b.scheme ≡ true → (result ≡ spec.accepted) × Tells (IsWithin p b) within.new }
+
+    // A text that spells no URI is rejected, and nothing is written.
+    ensures relative { (p : Parts) → Spells text.now p → is_some p.scheme ≡ false → (result ≡ spec.no_scheme) × (within.new ≡ within.old) }
+    ensures refused { (e : URIReferenceError) → fault text.now ≡ Some e → (result ≡ spec.fault_code e) × (within.new ≡ within.old) }
+
+    // If the first text spells one, so is the base.
+    ensures relative_base { (p b : Parts) → Spells text.now p → is_some p.scheme ≡ true → Spells base.now b → is_some b.scheme ≡ false → (result ≡ spec.base_code spec.no_scheme) × (within.new ≡ within.old) }
+    ensures base { (p : Parts) (e : URIReferenceError) → Spells text.now p → is_some p.scheme ≡ true → fault base.now ≡ Some e → (result ≡ spec.base_code (spec.fault_code e)) × (within.new ≡ within.old) }
+{
+    write_within(text, base, within)
+}
+
+/// Writes whether the host of a reference is a domain or within it. Does not allocate.
+#[unsafe(no_mangle)]
+pub extern "C" fn uriparse_host_is_within(text: &[u8], domain: &[u8], within: &mut u8) -> u32
+    // For a reference and a host, 1 is written if the reference's host is within the other, else 0.
+    ensures checked { (p : Parts) (d : Host) → Spells text.now p → hosts.reading domain.now ≡ Ok d → (result ≡ spec.accepted) × Tells (IsHostWithin p d) within.new }
+
+    // A faulty text is rejected, and nothing is written. If there is none, so is a domain that is no host.
+    ensures refused { (e : URIReferenceError) → fault text.now ≡ Some e → (result ≡ spec.code_of e) × (within.new ≡ within.old) }
+    ensures domain { (p : Parts) (e : HostError) → Spells text.now p → hosts.reading domain.now ≡ Err e → (result ≡ spec.in_base + spec.host_code e) × (within.new ≡ within.old) }
+{
+    write_host_within(text, domain, within)
+}
+
+/// Writes what the host of a reference may be taken for. Does not allocate.
+#[unsafe(no_mangle)]
+pub extern "C" fn uriparse_host_flags(text: &[u8], host: &mut u32) -> u32
+    // The sum of the flags of the reference's host is written.
+    ensures checked { (p : Parts) → Spells text.now p → (result ≡ spec.accepted) × (host.new ≡ host_flags (host_of p)) }
+
+    // A faulty text is rejected, and nothing is written.
+    ensures refused { (e : URIReferenceError) → fault text.now ≡ Some e → (result ≡ spec.code_of e) × (host.new ≡ host.old) }
+{
+    match flags(text) {
+        Ok(sum) => {
+            *host = sum;
+            ACCEPTED
+        }
+        Err(code) => code,
+    }
+}
+
+/// The default port of the scheme of this name, or 0. Does not allocate.
+#[unsafe(no_mangle)]
+pub extern "C" fn uriparse_default_port(scheme: &[u8]) -> u32
+    // A scheme without a default port, and what is no scheme, have 0.
+    ensures { result ≡ default_port_of (schemes.reading scheme.now) }
+{
+    default_port(scheme)
 }
 
 /// Hashes a reference. Equal references have equal hashes. Does not allocate.

@@ -1,4 +1,5 @@
 pub mod ChangeLemmas
+pub mod CheckLemmas
 pub mod CodeLemmas
 pub mod OriginLemmas
 pub mod PairLemmas

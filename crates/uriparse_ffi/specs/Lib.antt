@@ -5,6 +5,7 @@ pub mod Origins
 pub mod Pairs
 pub mod Put
 pub mod Changes
+pub mod Checks
 pub mod Places
 pub mod Relatives
 pub mod Spans

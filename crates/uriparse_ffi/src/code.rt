@@ -46,7 +46,8 @@ fn of_password(error: PasswordError) -> u32
     }
 }
 
-fn of_host(error: HostError) -> u32
+/// The code of a host's error.
+pub fn of_host(error: HostError) -> u32
     ensures code { result ≡ spec.host_code error }
     ensures small { result ≤ 255 }
 {

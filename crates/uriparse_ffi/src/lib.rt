@@ -5,6 +5,7 @@
 #![tactic(auto)]
 
 pub mod changes;
+pub mod checks;
 pub mod code;
 pub mod coding;
 pub mod laws;

@@ -31,7 +31,8 @@ mod spelling;
 mod text;
 mod token;
 
-pub use super::query::{Among, Named, PairTest, find_pair, mark_after};
+pub use crate::query::find::{Among, Named, PairTest, find_pair};
+pub use crate::query::put::{Appended, Appending, InPair, WithPair, Without, write_text};
 pub use alike::same_spelling;
 pub use ambiguous::has_ambiguous_escape;
 pub use backward_buffer::{Form, put, put_after, put_formed};

@@ -6,15 +6,14 @@ ghost use Rattle.uriparse_text.specs.Query as spec;
 use crate::internal::{Case, Class, Text, TextKind};
 use thiserror::Error;
 
-mod append;
-mod find;
+pub(crate) mod append;
+pub(crate) mod find;
 mod pairs;
+pub(crate) mod put;
 mod set;
 mod sort;
 mod without;
 
-pub use append::mark_after;
-pub use find::{Among, Named, PairTest, find_pair};
 pub use pairs::Pairs;
 
 /// Why a text is not a query: its leftmost fault.

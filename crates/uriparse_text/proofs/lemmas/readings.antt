@@ -8,3 +8,4 @@ pub mod WithoutLemmas
 pub mod SetLemmas
 pub mod SortLemmas
 pub mod NamedLemmas
+pub mod PutPairLemmas

@@ -206,13 +206,13 @@ module _ (name : List ℕ) where
   end_alone p (q ∷ ps) e = absurd (false≢true e)
 
   module _ (new : Pair) where
-    set-named : (p : Pair) (ps : List Pair) → is_named name p ≡ true → with_pair name new (p ∷ ps) ≡ new ∷ without_name name ps
+    pub set-named : (p : Pair) (ps : List Pair) → is_named name p ≡ true → with_pair name new (p ∷ ps) ≡ new ∷ without_name name ps
     set-named p ps e = rw e refl
 
     set-end : (p : Pair) (ps : List Pair) → is_named name p ≡ false → is_empty_end (p ∷ ps) ≡ true → with_pair name new (p ∷ ps) ≡ new ∷ []
     set-end p ps e f = rw (e, f) refl
 
-    set-other : (p : Pair) (ps : List Pair) → is_named name p ≡ false → is_empty_end (p ∷ ps) ≡ false
+    pub set-other : (p : Pair) (ps : List Pair) → is_named name p ≡ false → is_empty_end (p ∷ ps) ≡ false
         → with_pair name new (p ∷ ps) ≡ p ∷ with_pair name new ps
     set-other p ps e f = rw (e, f) refl
 

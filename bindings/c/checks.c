@@ -1,0 +1,204 @@
+/* Rows with what is expected: the order of references, URIs and hosts within others, what hosts may be taken for, default ports, and pairs
+ * that are found, set, appended and dropped. Prints as test.c does. */
+#include "rows.h"
+
+/* The order of two references, both ways round, and that `equal` agrees. */
+static void compares(const char *left, const char *right, int32_t expected) {
+  int32_t order = 7, other = 7;
+  bool equal = !expected;
+  check(uriparse_compare(left, strlen(left), right, strlen(right), &order) == URIPARSE_OK && order == expected, "compare", right);
+  check(uriparse_compare(right, strlen(right), left, strlen(left), &other) == URIPARSE_OK && other == -expected, "compare back", right);
+  check(uriparse_equal(left, strlen(left), right, strlen(right), &equal) == URIPARSE_OK && equal == !expected, "compare equal", right);
+}
+
+static void is_within(const char *text, const char *base, uint32_t expected, bool answer) {
+  bool within = !answer;
+  uint32_t code = uriparse_is_within(text, strlen(text), base, strlen(base), &within);
+  check(code == expected && within == (expected == URIPARSE_OK ? answer : !answer), "is_within", text);
+}
+
+static void host_is_within(const char *text, const char *domain, uint32_t expected, bool answer) {
+  bool within = !answer;
+  uint32_t code = uriparse_host_is_within(text, strlen(text), domain, strlen(domain), &within);
+  check(code == expected && within == (expected == URIPARSE_OK ? answer : !answer), "host_is_within", text);
+}
+
+static void host_flags(const char *text, uint32_t expected, uint32_t flags) {
+  uint32_t found = 99;
+  check(uriparse_host_flags(text, strlen(text), &found) == expected && found == (expected == URIPARSE_OK ? flags : 99), "host_flags", text);
+}
+
+static void default_port(const char *scheme, uint32_t expected) {
+  check(uriparse_default_port(scheme, strlen(scheme)) == expected, "default_port", scheme);
+}
+
+/* Where the value of the first pair of a name is; -1 if there is no such pair. */
+static void finds(const char *query, const char *name, long expected, const char *value) {
+  struct uriparse_pair pair, before;
+  memset(&before, 0x5a, sizeof before);
+  memcpy(&pair, &before, sizeof pair);
+  bool found = uriparse_find_pair(query, strlen(query), name, strlen(name), &pair);
+  check(found == (expected >= 0), "find_pair", query);
+  if (!found) {
+    check(memcmp(&pair, &before, sizeof pair) == 0, "find_pair keeps", query);
+  } else {
+    check(pair.name.present && pair.name.begin == (size_t)expected && pair.value.present == (value != NULL), "found pair", query);
+    check(value == NULL || (pair.value.end - pair.value.begin == strlen(value) && memcmp(query + pair.value.begin, value, strlen(value)) == 0),
+          "found value", query);
+  }
+}
+
+static const char *name_of, *value_of;
+
+static uint32_t set_pair(const char *text, size_t len, uint8_t *out, size_t room, size_t *needed) {
+  return uriparse_set_pair(text, len, name_of, strlen(name_of), value_of, value_of ? strlen(value_of) : 0, value_of != NULL, out, room, needed);
+}
+
+static uint32_t append_pair(const char *text, size_t len, uint8_t *out, size_t room, size_t *needed) {
+  return uriparse_append_pair(text, len, name_of, strlen(name_of), value_of, value_of ? strlen(value_of) : 0, value_of != NULL, out, room, needed);
+}
+
+static uint32_t drop_pairs(const char *text, size_t len, uint8_t *out, size_t room, size_t *needed) {
+  return uriparse_drop_pairs(text, len, name_of, strlen(name_of), out, room, needed);
+}
+
+static void sets_pair(const char *query, const char *name, const char *value, const char *expected) {
+  name_of = name;
+  value_of = value;
+  writes(set_pair, "set_pair", query, strlen(query), expected, strlen(expected));
+}
+
+static void appends_pair(const char *query, const char *name, const char *value, const char *expected) {
+  name_of = name;
+  value_of = value;
+  writes(append_pair, "append_pair", query, strlen(query), expected, strlen(expected));
+}
+
+/* Without `expected` no pair is left. */
+static void drops(const char *query, const char *names, const char *expected) {
+  name_of = names;
+  if (expected) {
+    writes(drop_pairs, "drop_pairs", query, strlen(query), expected, strlen(expected));
+  } else {
+    uint8_t out[4] = {1, 2, 3, 4};
+    size_t needed = 7;
+    check(drop_pairs(query, strlen(query), out, 4, &needed) == URIPARSE_NO_PAIRS && needed == 0 && out[0] == 1, "drop_pairs all", query);
+  }
+}
+
+static void pair_rejects(uint32_t code, const size_t *needed, uint32_t expected, const char *row) {
+  check(code == expected && *needed == 0, "pair rejects", row);
+}
+
+int main(void) {
+  uint8_t out[8];
+  size_t needed;
+  int32_t order = 7;
+  bool within = true;
+  compares("http://h/%7e", "HTTP://H/~", 0);
+  compares("http:b", "https:a", -1);
+  compares("b", "s:a", -1);
+  compares("//2.0.0.0", "//10.0.0.0", -1);
+  compares("//z", "//1.2.3.4", -1);
+  compares("//1.2.3.4", "//[::1]", -1);
+  compares("//h:9", "//h:10", -1);
+  compares("//h/b", "//h:1/a", -1);
+  compares("//h", "//h/", 0);
+  compares("a?", "a#z", 1);
+  compares("a", "a#", -1);
+  check(uriparse_compare("a b", 3, "%", 1, &order) == URIPARSE_PATH_BYTE && order == 7, "compare rejects", "a b");
+  check(uriparse_compare("a", 1, "%", 1, &order) == URIPARSE_PATH_ESCAPE && order == 7, "compare rejects", "%");
+
+  is_within("http://h/a/b?q#f", "http://h/a/", URIPARSE_OK, true);
+  is_within("HTTP://H:80/x/../a/b", "http://h/a/c?y", URIPARSE_OK, true);
+  is_within("http://h/a/", "http://h/a/", URIPARSE_OK, true);
+  is_within("http://h/a", "http://h/a/", URIPARSE_OK, false);
+  is_within("http://h/appX", "http://h/app/", URIPARSE_OK, false);
+  is_within("http://h/app/../admin", "http://h/app/", URIPARSE_OK, false);
+  is_within("http://h/app/%2e%2e/admin", "http://h/app/", URIPARSE_OK, false);
+  is_within("http://h/app/..;/admin", "http://h/app/", URIPARSE_OK, false);
+  is_within("http://h/app/..%2fadmin", "http://h/app/", URIPARSE_OK, false);
+  is_within("http://h/app/a%00", "http://h/app/", URIPARSE_OK, false);
+  is_within("https://h/a/b", "http://h/a/", URIPARSE_OK, false);
+  is_within("http://u@h/a/b", "http://h/a/", URIPARSE_OK, false);
+  is_within("http://h:8080/a/b", "http://h/a/", URIPARSE_OK, false);
+  is_within("mailto:a@b", "mailto:a@b", URIPARSE_OK, true);
+  is_within("mailto:a@b", "mailto:a@c", URIPARSE_OK, false);
+  is_within("/a/b", "http://h/a/", URIPARSE_NO_SCHEME, false);
+  is_within("http://h/a", "/a/", URIPARSE_IN_BASE | URIPARSE_NO_SCHEME, false);
+  is_within("http://h/a b", "http://h/%", URIPARSE_PATH_BYTE, false);
+  is_within("http://h/a", "http://h/%", URIPARSE_IN_BASE | URIPARSE_PATH_ESCAPE, false);
+
+  host_is_within("http://WWW.Example.com./", "example.com", URIPARSE_OK, true);
+  host_is_within("//example.com", "example.com", URIPARSE_OK, true);
+  host_is_within("//ex%61mple.com", "example.com.", URIPARSE_OK, true);
+  host_is_within("//evilexample.com", "example.com", URIPARSE_OK, false);
+  host_is_within("//example.com.evil.org", "example.com", URIPARSE_OK, false);
+  host_is_within("//a..example.com", "example.com", URIPARSE_OK, false);
+  host_is_within("//1.2.3.4", "4", URIPARSE_OK, false);
+  host_is_within("//1.2.3.4", "1.2.3.4", URIPARSE_OK, true);
+  host_is_within("//%31.2.3.4", "1.2.3.4", URIPARSE_OK, false);
+  host_is_within("/a", "example.com", URIPARSE_OK, false);
+  host_is_within("//h", "", URIPARSE_OK, false);
+  host_is_within("//", "", URIPARSE_OK, true);
+  host_is_within("//h[", "h", URIPARSE_HOST_BYTE, false);
+  host_is_within("//h", "h/", URIPARSE_IN_BASE | URIPARSE_HOST_BYTE, false);
+  host_is_within("//h", "[::1", URIPARSE_IN_BASE | URIPARSE_HOST_BYTE, false);
+
+  host_flags("http://example.com/", URIPARSE_OK, 0);
+  host_flags("//%31.2.3.4", URIPARSE_OK, URIPARSE_HIDES_ADDRESS | URIPARSE_MAY_BE_NUMERIC);
+  host_flags("//2130706433", URIPARSE_OK, URIPARSE_MAY_BE_NUMERIC);
+  host_flags("//0x7f.1.", URIPARSE_OK, URIPARSE_MAY_BE_NUMERIC);
+  host_flags("//1.example.com", URIPARSE_OK, 0);
+  host_flags("//1.2.3.4", URIPARSE_OK, 0);
+  host_flags("//[::1]", URIPARSE_OK, 0);
+  host_flags("a", URIPARSE_OK, 0);
+  host_flags("a b", URIPARSE_PATH_BYTE, 0);
+
+  default_port("https", 443);
+  default_port("HTTP", 80);
+  default_port("mailto", 0);
+  default_port("x-unknown", 0);
+  default_port("", 0);
+  default_port("h:", 0);
+
+  finds("a=1&b=%26&c", "b", 4, "%26");
+  finds("a=1&b=%26&c", "c", 10, NULL);
+  finds("a=1&%61=2", "a", 0, "1");
+  finds("%61=2&a=1", "a", 0, "2");
+  finds("a=1", "%61", -1, NULL);
+  finds("a+b=1", "a b", -1, NULL);
+  finds("", "", 0, NULL);
+  finds("a&=x", "", 2, "x");
+  finds("ab=1", "a", -1, NULL);
+
+  sets_pair("p=1&lang=de&%70=2", "p", "a&b", "p=a%26b&lang=de");
+  sets_pair("", "a", "1", "a=1");
+  sets_pair("b&", "a", "1", "b&a=1");
+  sets_pair("b", "a", NULL, "b&a");
+  sets_pair("x=%2f", "n=m", "c d+#%", "x=%2f&n%3Dm=c%20d%2B%23%25");
+  appends_pair("a=1", "a", "2", "a=1&a=2");
+  appends_pair("", "a", "", "a=");
+  appends_pair("b&", "a", NULL, "b&a");
+  drops("utm_source=x&q=1&%75tm_id=2&gclid", "utm_*&gclid", "q=1");
+  drops("q=1&q=2&r", "q", "r");
+  drops("a*=1&ab=2", "a%2A", "ab=2");
+  drops("A=1", "a", "A=1");
+  drops("utm_a", "utm_*", NULL);
+  drops("a&", "a", "");
+  drops("", "", NULL);
+  pair_rejects(uriparse_set_pair("a[", 2, "n", 1, "v", 1, true, out, sizeof out, &needed), &needed, URIPARSE_QUERY_BYTE, "a[");
+  pair_rejects(uriparse_append_pair("%", 1, "n", 1, "v", 1, true, out, sizeof out, &needed), &needed, URIPARSE_QUERY_ESCAPE, "%");
+  pair_rejects(uriparse_drop_pairs("a#", 2, "b", 1, out, sizeof out, &needed), &needed, URIPARSE_QUERY_BYTE, "a#");
+  pair_rejects(uriparse_drop_pairs("a", 1, "b#", 2, out, sizeof out, &needed), &needed, URIPARSE_BAD_NAMES, "b#");
+  check(uriparse_encode(URIPARSE_PAIR, "a&b=c d+", 8, NULL, 0, &needed) == URIPARSE_NO_ROOM && needed == 16, "encode", "pair");
+
+  check(uriparse_compare(NULL, 0, NULL, 0, &order) == URIPARSE_OK && order == 0, "compare", "NULL");
+  check(uriparse_is_within("s:", 2, NULL, 0, &within) == (URIPARSE_IN_BASE | URIPARSE_NO_SCHEME) && within, "is_within", "NULL");
+  check(uriparse_host_is_within(NULL, 0, NULL, 0, &within) == URIPARSE_OK && !within, "host_is_within", "NULL");
+  check(uriparse_default_port(NULL, 0) == 0, "default_port", "NULL");
+  check(uriparse_set_pair(NULL, 0, NULL, 0, NULL, 0, false, NULL, 0, &needed) == URIPARSE_OK && needed == 0, "set_pair", "NULL");
+  check(uriparse_append_pair(NULL, 0, NULL, 0, NULL, 0, true, NULL, 0, &needed) == URIPARSE_NO_ROOM && needed == 1, "append_pair", "NULL");
+  check(uriparse_drop_pairs(NULL, 0, NULL, 0, NULL, 0, &needed) == URIPARSE_NO_PAIRS && needed == 0, "drop_pairs", "NULL");
+  return printf("%d passed, %d failed\n", passed, failed) < 0 || failed != 0;
+}

@@ -1,0 +1,21 @@
+use Rattle.uriparse_path.specs.Normal.{pnormal}
+use Rattle.uriparse_path.specs.Within.{between_slashes}
+use Rattle.uriparse.proofs.lemmas.WithinLawLemmas.{again_place, are_within_again, are_within_itself, one_directory, within_equals, within_normal, within_normal_base}
+use Rattle.std.proofs.Common.{false, refl}
+use Rattle.uriparse.proofs.laws.within_uris.Goals as goal
+
+pub returns : goal.returns
+returns c = record {
+  itself = λ p front last e h. record {
+    place = record { schemes = refl; authorities = refl };
+    path = are_within_itself (between_slashes (pnormal p.path false)) front last e h;
+  };
+  again = λ p q r w x. record {
+    place = again_place p.scheme q.scheme r.scheme p.authority q.authority r.authority w.place x.place;
+    path = are_within_again (between_slashes (pnormal p.path false)) (between_slashes (pnormal q.path false)) (between_slashes (pnormal r.path false)) w.path x.path;
+  };
+  directories = λ p b w x. one_directory (between_slashes (pnormal p.path false)) (between_slashes (pnormal b.path false)) w.path x.path;
+  normal = within_normal;
+  normal_base = within_normal_base;
+  equals = within_equals;
+}

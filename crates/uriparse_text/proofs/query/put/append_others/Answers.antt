@@ -1,0 +1,48 @@
+use Rattle.std.proofs.Common.{◌≡◌, ◌∷◌, ◌++◌, [], true, false, Some, refl, ap, subst, ◌∙◌, rules}
+use Rattle.std.specs.Prelude.{not}
+use Rattle.std.specs.List.{filter}
+use Rattle.std.specs.Option.{option_copied}
+use Rattle.uriparse_text.specs.Bytes.{ampersand}
+use Rattle.uriparse_text.specs.Cuts.{part}
+use Rattle.uriparse_text.specs.Pairs.{pairs_left}
+use Rattle.uriparse_text.proofs.lemmas.readings.PutPairLemmas.{led, led_on, led_past}
+use Rattle.uriparse_text.proofs.lemmas.readings.WithoutLemmas.{next_smaller}
+use Rattle.uriparse_text.proofs.lemmas.tokens.StartLemmas.{Writing, writing_next}
+use Rattle.uriparse_text.proofs.query.put.append_others.Goals as goal
+
+pub loop-rest-smaller-then-not-has : goal.loop-rest-smaller-then-not-has
+loop-rest-smaller-then-not-has g c =
+    let some : option_copied c.loop-rest.rest ≡ Some c.in-Some.left.now = search rules in
+    next_smaller _ c.in-Some.left.now _ some (c.without_mark-rest.ensures ∙ ap part c.split_at_mark.ensures.rest)
+
+pub loop-rest-smaller : goal.loop-rest-smaller
+loop-rest-smaller g c =
+    let some : option_copied c.loop-rest.rest ≡ Some c.in-Some.left.now = search rules in
+    next_smaller _ c.in-Some.left.now _ some (c.without_mark-rest.ensures ∙ ap part c.split_at_mark.ensures.rest)
+
+pub loop-rest-preserved-then-not-has : goal.loop-rest-preserved-then-not-has
+loop-rest-preserved-then-not-has g c =
+    let passes = g.T.PairTest.passes c.args.test.now in
+    let some : option_copied c.loop-rest.rest ≡ Some c.in-Some.left.now = search rules in
+    let fails : c.has.result ≡ false = search rules in
+    let cutting = c.without_mark-rest.ensures ∙ ap part c.split_at_mark.ensures.rest in
+    let piece = c.split_at_mark.result.0.now in
+    let more = led (filter (λ p. not (passes p)) (pairs_left (option_copied c.without_mark-rest.result))) in
+    writing_next _ _ more piece _ _ _ _ _ _
+    (writing_next _ _ (piece ++ more) (ampersand ∷ []) _ _ _ _ _ _ c.loop-rest.invariant
+    (led_on passes (option_copied c.loop-rest.rest) c.in-Some.left.now piece (option_copied c.without_mark-rest.result) c.has.result some
+    c.split_at_mark.ensures.front cutting c.has.ensures fails)
+    c.append-total.ensures.appends c.append-total.ensures.room c.append-total.ensures.rest)
+    refl c.append-total-then-not-has.ensures.appends c.append-total-then-not-has.ensures.room c.append-total-then-not-has.ensures.rest
+
+pub loop-rest-preserved : goal.loop-rest-preserved
+loop-rest-preserved g c =
+    let passes = g.T.PairTest.passes c.args.test.now in
+    let some : option_copied c.loop-rest.rest ≡ Some c.in-Some.left.now = search rules in
+    let passing : c.has.result ≡ true = search rules in
+    let cutting = c.without_mark-rest.ensures ∙ ap part c.split_at_mark.ensures.rest in
+    subst
+    (λ t. Writing (led (filter (λ p. not (passes p)) (pairs_left (option_copied c.args.pairs)))) t c.args.out.now c.args.len c.loop-rest.out c.loop-rest.total)
+    (led_past passes (option_copied c.loop-rest.rest) c.in-Some.left.now c.split_at_mark.result.0.now (option_copied c.without_mark-rest.result) c.has.result some
+    c.split_at_mark.ensures.front cutting c.has.ensures passing)
+    c.loop-rest.invariant
