@@ -8,7 +8,6 @@ ghost use Rattle.std.specs.Io.KnownBytes.{Appends};
 ghost use Rattle.uriparse_text.specs.Cuts.{lacks};
 ghost use Rattle.uri_commands.specs.Columns as spec;
 ghost use Rattle.uri_commands.specs.Columns.{tab};
-ghost use Rattle.uri_commands.specs.Lines.{newline};
 ghost use Rattle.uri_commands.specs.declared.lines.Next.TheVariants.{End, LastLine};
 
 use crate::columns::{Columns, first_line, write_line, write_row};
