@@ -59,6 +59,7 @@ pub fn topic(place: usize) -> Option<&'static Topic> {
         23 => Some(&columns::ABOUT_ALIGN),
         24 => Some(&columns::ABOUT_COLUMN),
         25 => Some(&columns::ABOUT_APPEND),
+        26 => Some(&columns::ABOUT_NULL),
         _ => None,
     }
 }
@@ -81,7 +82,7 @@ pub fn run_texts<O: Write>(
     out: &mut O,
 ) -> Result<(), Failure> {
     match (options.manner, words) {
-        _ if !may_explain(options, words) || options.columns.is_some() => Err(Failure::Usage),
+        _ if !may_explain(options, words) || options.is_for_lines() => Err(Failure::Usage),
         (Manner::Plain, ["edit", text, edits @ ..]) => edit(alloc, text, edits, out),
         (Manner::Plain, [name]) => run_one_word(name, out),
         (manner, [name, text]) => run_two_words(alloc, manner, name, text, out),
