@@ -4,7 +4,9 @@ Of each accepted text the components are those of the regular expression of RFC 
 components put together; the normal form is its own normal form; a text that is equal to its neighbour has the same hash.
 A rejected text is rejected by every call with one code. Each text, encoded, is decoded to itself, as Python's `quote` and
 `unquote_to_bytes` do it; and escaped it stays if it is escaped again, and means the same. Its pairs, as those of a query, are
-those that Python's `split` and `partition` find. With some components changed, each accepted text is what the components of appendix B
+those that Python's `split` and `partition` find; pairs that are found by name, set, appended and left out are those that its lists
+give. Whether a URI is below another one, and a host within another, is what a slow program says that follows the definitions. With
+some components changed, each accepted text is what the components of appendix B
 are put together to, if each that is set has the form that the RFC gives it."""
 import ipaddress
 import random
@@ -167,6 +169,141 @@ def check_changes(draw, text):
     return found is not None
 
 
+def pieces_without_end(pieces):
+    """The pieces but an empty one at the end."""
+    return pieces if pieces[-1] else pieces[:-1]
+
+
+def check_named_pairs(draw, text):
+    """Finds, sets, appends and leaves out pairs of the query."""
+    query = APPENDIX_B.match(text).group(7)
+    pieces = (query or b"").split(b"&")
+    names = [unquote_to_bytes(piece.partition(b"=")[0]) for piece in pieces]
+    name = draw.choice(names) if draw.random() < 0.5 else draw.choice(VALUES)
+    value = draw.choice((None, *VALUES))
+    named = [at for at, other in enumerate(names) if other == name]
+    found = uriparse.pair(text, name)
+    assert found == (unquote_to_bytes(pieces[named[0]].partition(b"=")[2]) if named and query is not None else None), (text, name)
+    piece = b"=".join(quote(part, safe="!$'()*,;:@/?").encode() for part in (name, value) if part is not None)
+    if named:
+        kept = [piece if at == named[0] else other for at, other in enumerate(pieces) if at == named[0] or at not in named]
+    else:
+        kept = pieces_without_end(pieces) + [piece]
+    assert uriparse.with_pair(text, name, value) == spliced(text, {"query": b"&".join(kept)}), (text, name, value)
+    appended = spliced(text, {"query": b"&".join(pieces_without_end(pieces) + [piece])})
+    assert uriparse.with_appended_pair(text, name, value) == appended, (text, name, value)
+    wanted = draw.choice((quote(name[:2], safe="").encode() + b"*", quote(name, safe="").encode(), b"*", b"%2A", b"a*&b"))
+
+    def is_wanted(own):
+        return any(own.startswith(unquote_to_bytes(one[:-1])) if one[-1:] == b"*" else own == unquote_to_bytes(one)
+                   for one in (other.partition(b"=")[0] for other in wanted.split(b"&")))
+    left = [other for own, other in zip(names, pieces) if not is_wanted(own)]
+    expected = text if query is None else spliced(text, {"query": b"&".join(left) if left else None})
+    assert uriparse.without_pairs(text, wanted) == expected, (text, wanted)
+
+
+def canonical(text):
+    """The text with escapes of unreserved characters decoded, and the digits of others in upper case."""
+    def spelled(match):
+        byte = bytes.fromhex(match.group(1).decode())
+        return byte if re.fullmatch(rb"[A-Za-z0-9._~-]", byte) else match.group(0).upper()
+    return re.sub(rb"%([0-9A-Fa-f]{2})", spelled, text)
+
+
+def host_key(host):
+    """The kind of a host and its canonical spelling."""
+    if host[:1] == b"[":
+        return ("future", host.lower()) if host[1:2] in b"vV" else ("ipv6", ipaddress.IPv6Address(host[1:-1].decode()).packed)
+    if is_address(host):
+        return "ipv4", host
+    return "name", re.sub(rb"%..", lambda match: match.group(0).upper(), canonical(host).lower())
+
+
+def is_address(text):
+    octets = text.split(b".")
+    return len(octets) == 4 and all(re.fullmatch(rb"0|[1-9][0-9]{0,2}", octet) and int(octet) < 256 for octet in octets)
+
+
+def without_dots(path):
+    """RFC 3986, section 5.2.4, with whole segments."""
+    out = []
+    while path:
+        if path.startswith((b"../", b"./")):
+            path = path[path.index(b"/") + 1:]
+        elif path.startswith(b"/./") or path == b"/.":
+            path = b"/" + path[3:]
+        elif path.startswith(b"/../") or path == b"/..":
+            path = b"/" + path[4:]
+            out = out[:-1]
+        elif path in (b".", b".."):
+            path = b""
+        else:
+            end = path.find(b"/", 1)
+            end = len(path) if end < 0 else end
+            out.append(path[:end])
+            path = path[end:]
+    return b"".join(out)
+
+
+def place_and_path(text):
+    """What says where a URI is, and what slashes separate in its path's normal form."""
+    scheme, authority, path = APPENDIX_B.match(text).group(2, 4, 5)
+    key = None
+    if authority is not None:
+        user, sign, rest = authority.partition(b"@")
+        rest = rest if sign else authority
+        name, colon, digits = rest.rpartition(b":")
+        host, port = (name, digits) if colon and b"]" not in digits else (rest, b"")
+        username, mark, password = user.partition(b":")
+        userinfo = (canonical(username), canonical(password) if mark else None) if sign else None
+        key = userinfo, host_key(host), int(port) if port else uriparse.default_port(scheme)
+        path = path or b"/"
+    return (scheme.lower(), key), without_dots(canonical(path)).split(b"/")
+
+
+def is_ambiguous(segment):
+    before, semicolon, _ = segment.partition(b";")
+    return bool(re.search(rb"%(00|25|2F|5C)", segment)) or (bool(semicolon) and before in (b".", b".."))
+
+
+def is_below(text, base):
+    (place, path), (base_place, directory) = place_and_path(text), place_and_path(base)
+    if place != base_place or (len(directory) == 1 and path != directory) or path[:len(directory) - 1] != directory[:-1]:
+        return False
+    rest = path[len(directory) - 1:]
+    return bool(rest) and not any(map(is_ambiguous, rest))
+
+
+def is_in_domain(host, domain):
+    if host_key(host) == host_key(domain):
+        return True
+    (kind, name), (other, whole) = host_key(host), host_key(domain)
+    if kind != "name" or other != "name":
+        return False
+    name, whole = (text[:-1] if text[-1:] == b"." else text for text in (name, whole))
+    labels = name.split(b".")
+    return (all(labels) and not is_address(name) and not is_address(whole)
+            and labels[max(0, len(labels) - len(whole.split(b"."))):] == whole.split(b"."))
+
+
+BELOW = [b"", b"/", b"x", b"../x", b"%2e%2E/x", b"..;/x", b"%2e;a", b"a;x=1", b"a%2fb", b"a%5cb", b"a%00", b"%25", b"./", b"..", b"//x"]
+HOSTS = [b"", b"h", b"H", b"a.h", b"%61.H.", b"ah", b"a..h", b".h", b"1.2.3.4", b"%31.2.3.4", b"1.2.3.4.", b"4", b"[::1]", b"[0:0::1]", b"[v1.A]",
+         b"example.com", b"www.Example.com.", b"evilexample.com", b"com", b"a%2eh"]
+
+
+def check_within(draw, text):
+    """A text with something after it, against the text, and a host against another one."""
+    base = text.partition(b"#")[0].partition(b"?")[0]
+    other = base + draw.choice(BELOW) if draw.random() < 0.7 else change(draw, text)
+    if draw.random() < 0.2:
+        other, base = base, other
+    if not code_of(uriparse.spans, other) and not code_of(uriparse.spans, base) and uriparse.is_uri(other) and uriparse.is_uri(base):
+        assert uriparse.is_within(other, base) is is_below(other, base), (other, base)
+    host, domain = (change(draw, one) if draw.random() < 0.3 else one for one in draw.choices(HOSTS, k=2))
+    if has_form("host", host) and has_form("host", domain):
+        assert uriparse.host_is_within(b"//" + host, domain) is is_in_domain(host, domain), (host, domain)
+
+
 def main():
     count = int(sys.argv[1]) if len(sys.argv) > 1 else 10_000
     draw = random.Random(int(sys.argv[2]) if len(sys.argv) > 2 else 1)
@@ -183,6 +320,8 @@ def main():
         accepted += 1
         check_accepted(text, uriparse.parse(text))
         changed += check_changes(draw, text)
+        check_named_pairs(draw, text)
+        check_within(draw, text)
         alike = text.replace(b"a", b"%61").replace(b"%7e", b"~") if draw.random() < 0.3 else last
         if code_of(uriparse.spans, alike) == 0 and uriparse.equal(text, alike):
             equal += 1

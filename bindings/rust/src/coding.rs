@@ -19,6 +19,8 @@ pub enum Encoding {
     Query = 0x60,
     /// A fragment.
     Fragment = 0x70,
+    /// A name or a value of a pair of a query: `&`, `=` and `+` are encoded too.
+    Pair = 0x90,
 }
 
 /// Writes any bytes as a component: a byte that the component may have stays, and each other becomes an escape, `%` too. [`decode`]
@@ -29,6 +31,7 @@ pub enum Encoding {
 ///
 /// assert_eq!(encode(Encoding::Segment, "a/b é"), "a%2Fb%20%C3%A9");
 /// assert_eq!(encode(Encoding::Query, "R&D #1"), "R&D%20%231");
+/// assert_eq!(encode(Encoding::Pair, "R&D #1"), "R%26D%20%231");
 /// ```
 #[must_use]
 pub fn encode(encoding: Encoding, bytes: impl AsRef<[u8]>) -> String {
@@ -57,7 +60,7 @@ pub fn decode(component: &str) -> Result<Vec<u8>, Error> {
 }
 
 /// The error of a string that isn't a query: that of the reference `?STRING`, in which a `#` would begin a fragment.
-fn faulty_query(code: u32, text: &str) -> Error {
+pub(crate) fn faulty_query(code: u32, text: &str) -> Error {
     let query = text.split('#').next().unwrap_or(text);
     let reference = ["?", query, "<"].concat();
     Error::new(code, reference.as_bytes()).moved_back(1)

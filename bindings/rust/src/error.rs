@@ -21,6 +21,8 @@ pub enum Component {
     Query,
     /// The fragment.
     Fragment,
+    /// The scheme.
+    Scheme,
 }
 
 /// What is wrong with a string. It prints in the words of `uriparse`.
@@ -33,6 +35,20 @@ pub enum ErrorKind {
     SchemelessPathStartsWithColonSegment,
     /// A path has more than 1,000,000 segments: that of the string, or that of a target.
     ExceededMaximumPathLength,
+    /// Without an authority, the path of a changed reference would start with `//`.
+    AbsolutePathStartsWithTwoSlashes,
+    /// A change sets a user name, a password or a port of a reference without a host.
+    MissingHost,
+    /// The names of pairs are no query.
+    InvalidNames,
+    /// A colon in a user name that is set.
+    UsernameContainsColon,
+    /// A scheme that is set is empty.
+    SchemeIsEmpty,
+    /// A byte that no scheme has.
+    InvalidSchemeCharacter,
+    /// The first byte of a scheme that is set is no letter.
+    SchemeStartsWithNonAlphabetic,
     /// A byte that no user name has.
     InvalidUsernameCharacter,
     /// A `%` in the user name that two hexadecimal digits don't follow.
@@ -73,12 +89,19 @@ pub enum ErrorKind {
 
 /// The code of each kind in `uriparse.h`, and its words.
 #[rustfmt::skip]
-const KINDS: [(u32, ErrorKind, &str); 20] = {
+const KINDS: [(u32, ErrorKind, &str); 27] = {
     use ErrorKind::*;
     [
         (0x03, NotUri, "not URI"),
         (0x04, SchemelessPathStartsWithColonSegment, "schemeless path URI reference starts with colon segment"),
         (0x05, ExceededMaximumPathLength, "exceeded maximum path length"),
+        (0x06, AbsolutePathStartsWithTwoSlashes, "absolute path URI reference starts with two slashes"),
+        (0x0b, MissingHost, "user name, password or port without a host"),
+        (0x0d, InvalidNames, "invalid names of pairs"),
+        (0x10, UsernameContainsColon, "username contains a colon character"),
+        (0x80, SchemeIsEmpty, "scheme is empty"),
+        (0x81, InvalidSchemeCharacter, "invalid scheme character"),
+        (0x82, SchemeStartsWithNonAlphabetic, "scheme starts with non-alphabetic character"),
         (0x11, InvalidUsernameCharacter, "invalid username character"),
         (0x12, InvalidUsernamePercentEncoding, "invalid username percent encoding"),
         (0x21, InvalidPasswordCharacter, "invalid password character"),
@@ -130,6 +153,7 @@ impl ErrorKind {
             0x50 => Some(Component::Path),
             0x60 => Some(Component::Query),
             0x70 => Some(Component::Fragment),
+            0x80 => Some(Component::Scheme),
             _ => None,
         }
     }

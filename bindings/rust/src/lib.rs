@@ -12,8 +12,11 @@ extern crate std;
 #[macro_use]
 mod components;
 
+mod check;
 #[cfg(feature = "alloc")]
 mod coding;
+#[cfg(feature = "alloc")]
+mod edit;
 mod error;
 #[cfg(feature = "alloc")]
 mod owned;
@@ -22,8 +25,11 @@ mod reference;
 #[allow(unsafe_code)]
 mod sys;
 
+pub use check::default_port;
 #[cfg(feature = "alloc")]
 pub use coding::{decode, encode, escape, Encoding};
+#[cfg(feature = "alloc")]
+pub use edit::{Change, Changes};
 pub use error::{BufferError, Component, Error, ErrorKind};
 #[cfg(feature = "alloc")]
 pub use owned::{UriBuf, UriRefBuf};

@@ -5,9 +5,13 @@
 
 #[cfg(feature = "alloc")]
 use alloc::vec::Vec;
+use core::cmp::Ordering;
 
 pub(crate) const OK: u32 = 0;
 pub(crate) const NO_ROOM: u32 = 2;
+#[cfg(feature = "alloc")]
+pub(crate) const NO_PAIRS: u32 = 14;
+pub(crate) const IN_BASE: u32 = 0x100;
 
 /// `struct uriparse_span`: where a component is.
 #[repr(C)]
@@ -51,6 +55,38 @@ pub(crate) struct Pair {
     pub(crate) next: usize,
 }
 
+/// `struct uriparse_value`: what becomes of a component. By default it is kept.
+#[cfg(feature = "alloc")]
+#[repr(C)]
+#[derive(Clone, Copy, Default)]
+pub(crate) struct Value {
+    begin: usize,
+    end: usize,
+    action: u8,
+}
+
+#[cfg(feature = "alloc")]
+impl Value {
+    pub(crate) const REMOVE: Self = Self {
+        begin: 0,
+        end: 0,
+        action: 2,
+    };
+
+    /// The component becomes these bytes of the values.
+    pub(crate) fn set(begin: usize, end: usize) -> Self {
+        Self {
+            begin,
+            end,
+            action: 1,
+        }
+    }
+}
+
+/// `struct uriparse_changes`: scheme, user name, password, host, port, path, query and fragment.
+#[cfg(feature = "alloc")]
+pub(crate) type Values = [Value; 8];
+
 extern "C" {
     fn uriparse_parse(text: *const u8, len: usize, parts: *mut Parts) -> u32;
     fn uriparse_first_fault(text: *const u8, len: usize, place: *mut usize) -> u32;
@@ -88,6 +124,29 @@ extern "C" {
         needed: *mut usize,
     ) -> u32;
     fn uriparse_next_pair(query: *const u8, len: usize, at: usize, pair: *mut Pair) -> bool;
+    fn uriparse_compare(
+        left: *const u8,
+        left_len: usize,
+        right: *const u8,
+        right_len: usize,
+        order: *mut i32,
+    ) -> u32;
+    fn uriparse_is_within(
+        text: *const u8,
+        len: usize,
+        base: *const u8,
+        base_len: usize,
+        within: *mut u8,
+    ) -> u32;
+    fn uriparse_host_is_within(
+        text: *const u8,
+        len: usize,
+        domain: *const u8,
+        domain_len: usize,
+        within: *mut u8,
+    ) -> u32;
+    fn uriparse_host_flags(text: *const u8, len: usize, flags: *mut u32) -> u32;
+    fn uriparse_default_port(scheme: *const u8, len: usize) -> u32;
 }
 
 #[cfg(feature = "alloc")]
@@ -117,6 +176,56 @@ extern "C" {
     fn uriparse_escape(
         text: *const u8,
         len: usize,
+        out: *mut u8,
+        room: usize,
+        needed: *mut usize,
+    ) -> u32;
+    fn uriparse_change(
+        text: *const u8,
+        len: usize,
+        changes: *const Values,
+        values: *const u8,
+        values_len: usize,
+        out: *mut u8,
+        room: usize,
+        needed: *mut usize,
+    ) -> u32;
+    fn uriparse_find_pair(
+        query: *const u8,
+        len: usize,
+        name: *const u8,
+        name_len: usize,
+        pair: *mut Pair,
+    ) -> bool;
+    fn uriparse_set_pair(
+        query: *const u8,
+        len: usize,
+        name: *const u8,
+        name_len: usize,
+        value: *const u8,
+        value_len: usize,
+        has_value: bool,
+        out: *mut u8,
+        room: usize,
+        needed: *mut usize,
+    ) -> u32;
+    fn uriparse_append_pair(
+        query: *const u8,
+        len: usize,
+        name: *const u8,
+        name_len: usize,
+        value: *const u8,
+        value_len: usize,
+        has_value: bool,
+        out: *mut u8,
+        room: usize,
+        needed: *mut usize,
+    ) -> u32;
+    fn uriparse_drop_pairs(
+        query: *const u8,
+        len: usize,
+        names: *const u8,
+        names_len: usize,
         out: *mut u8,
         room: usize,
         needed: *mut usize,
@@ -174,6 +283,136 @@ pub(crate) fn next_pair(query: &[u8], at: usize) -> Option<Pair> {
     unsafe { uriparse_next_pair(query.as_ptr(), query.len(), at, &mut pair) }.then_some(pair)
 }
 
+/// The first pair of a query with this name, if there is one.
+#[cfg(feature = "alloc")]
+pub(crate) fn find_pair(query: &[u8], name: &[u8]) -> Option<Pair> {
+    let mut pair = Pair::default();
+    // SAFETY: both slices are texts, and `pair` is writable.
+    let is_found = unsafe {
+        uriparse_find_pair(
+            query.as_ptr(),
+            query.len(),
+            name.as_ptr(),
+            name.len(),
+            &mut pair,
+        )
+    };
+    is_found.then_some(pair)
+}
+
+/// The order of two references; of other texts they are equal.
+pub(crate) fn compare(left: &[u8], right: &[u8]) -> Ordering {
+    let mut order = 0;
+    // SAFETY: both slices are texts, and `order` is writable. On an error it keeps its value.
+    unsafe {
+        uriparse_compare(
+            left.as_ptr(),
+            left.len(),
+            right.as_ptr(),
+            right.len(),
+            &mut order,
+        )
+    };
+    order.cmp(&0)
+}
+
+/// Whether both texts are URIs, and the first is below the second.
+pub(crate) fn is_within(text: &[u8], base: &[u8]) -> bool {
+    let mut within = 0;
+    // SAFETY: both slices are texts, and `within` is writable.
+    let code = unsafe {
+        uriparse_is_within(
+            text.as_ptr(),
+            text.len(),
+            base.as_ptr(),
+            base.len(),
+            &mut within,
+        )
+    };
+    code == OK && within != 0
+}
+
+/// Whether the host of a reference is within the domain, or the code of an error.
+pub(crate) fn host_is_within(text: &[u8], domain: &[u8]) -> Result<bool, u32> {
+    let mut within = 0;
+    // SAFETY: both slices are texts, and `within` is writable.
+    let code = unsafe {
+        uriparse_host_is_within(
+            text.as_ptr(),
+            text.len(),
+            domain.as_ptr(),
+            domain.len(),
+            &mut within,
+        )
+    };
+    match code {
+        OK => Ok(within != 0),
+        code => Err(code),
+    }
+}
+
+/// The flags of the host of a reference, or 0 for another text.
+pub(crate) fn host_flags(text: &[u8]) -> u32 {
+    let mut flags = 0;
+    // SAFETY: the slice is a text, and `flags` is writable. On an error it keeps its value.
+    unsafe { uriparse_host_flags(text.as_ptr(), text.len(), &mut flags) };
+    flags
+}
+
+/// The default port of a scheme, or 0.
+pub(crate) fn default_port(scheme: &[u8]) -> u32 {
+    // SAFETY: the slice is a text.
+    unsafe { uriparse_default_port(scheme.as_ptr(), scheme.len()) }
+}
+
+/// A pair with its query, and whether it is appended or set.
+#[cfg(feature = "alloc")]
+#[derive(Clone, Copy)]
+pub(crate) struct Paired<'a> {
+    pub(crate) query: &'a [u8],
+    pub(crate) name: &'a [u8],
+    pub(crate) value: Option<&'a [u8]>,
+    pub(crate) is_appended: bool,
+}
+
+#[cfg(feature = "alloc")]
+impl Paired<'_> {
+    /// Makes the call.
+    ///
+    /// # Safety
+    ///
+    /// As for [`Write::call`].
+    unsafe fn call(self, out: *mut u8, room: usize, needed: &mut usize) -> u32 {
+        let Self {
+            query,
+            name,
+            value,
+            is_appended,
+        } = self;
+        let call = if is_appended {
+            uriparse_append_pair
+        } else {
+            uriparse_set_pair
+        };
+        let text = value.unwrap_or(b"");
+        // SAFETY: each slice is a text, and of the buffer the caller ensures what the header asks.
+        unsafe {
+            call(
+                query.as_ptr(),
+                query.len(),
+                name.as_ptr(),
+                name.len(),
+                text.as_ptr(),
+                text.len(),
+                value.is_some(),
+                out,
+                room,
+                needed,
+            )
+        }
+    }
+}
+
 /// A call that writes to a buffer, with the texts that it reads.
 #[derive(Clone, Copy)]
 pub(crate) enum Write<'a> {
@@ -191,6 +430,14 @@ pub(crate) enum Write<'a> {
     Encoded(u32, &'a [u8]),
     #[cfg(feature = "alloc")]
     Escaped(&'a [u8]),
+    /// The text with these changes, whose values are among the bytes.
+    #[cfg(feature = "alloc")]
+    Changed(&'a [u8], &'a Values, &'a [u8]),
+    #[cfg(feature = "alloc")]
+    WithPair(Paired<'a>),
+    /// The query without the pairs of these names.
+    #[cfg(feature = "alloc")]
+    WithoutPairs(&'a [u8], &'a [u8]),
 }
 
 impl Write<'_> {
@@ -239,6 +486,27 @@ impl Write<'_> {
                 Self::Escaped(text) => {
                     uriparse_escape(text.as_ptr(), text.len(), out, room, needed)
                 }
+                #[cfg(feature = "alloc")]
+                Self::Changed(text, changes, values) => {
+                    let (at, len) = (values.as_ptr(), values.len());
+                    uriparse_change(
+                        text.as_ptr(),
+                        text.len(),
+                        changes,
+                        at,
+                        len,
+                        out,
+                        room,
+                        needed,
+                    )
+                }
+                #[cfg(feature = "alloc")]
+                Self::WithPair(pair) => pair.call(out, room, needed),
+                #[cfg(feature = "alloc")]
+                Self::WithoutPairs(query, names) => {
+                    let (at, len) = (names.as_ptr(), names.len());
+                    uriparse_drop_pairs(query.as_ptr(), query.len(), at, len, out, room, needed)
+                }
             }
         }
     }
@@ -278,6 +546,9 @@ impl Write<'_> {
             Self::Normal(text) | Self::Origin(text) | Self::Decoded(text) => text.len() + 2,
             Self::Encoded(_, text) | Self::Escaped(text) => text.len() + 16,
             Self::Target(base, text) | Self::Relative(base, text) => base.len() + text.len() + 2,
+            Self::Changed(text, _, values) => text.len() + values.len() + 8,
+            Self::WithPair(pair) => pair.query.len() + pair.name.len() + 16,
+            Self::WithoutPairs(query, _) => query.len(),
         }
     }
 }

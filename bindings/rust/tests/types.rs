@@ -3,8 +3,8 @@
 use std::collections::HashMap;
 use std::convert::TryFrom;
 use uriparse_rattle::{
-    decode, BufferError, Component, Error, ErrorKind, HostKind, Pairs, Uri, UriBuf, UriRef,
-    UriRefBuf,
+    decode, default_port, BufferError, Change, Changes, Component, Error, ErrorKind, HostKind,
+    Pairs, Uri, UriBuf, UriRef, UriRefBuf,
 };
 
 fn is_shared<T: Send + Sync + Unpin + 'static>() {}
@@ -199,4 +199,159 @@ fn pairs_of_any_string() {
     );
     let pairs: Vec<_> = Pairs::new("ä=ö&=&").collect();
     assert_eq!(pairs, [("ä", Some("ö")), ("", Some("")), ("", None)]);
+}
+
+#[test]
+fn order() {
+    let rows = [
+        "a",
+        "a#",
+        "a?",
+        "//z",
+        "//2.0.0.0",
+        "//10.0.0.0",
+        "//h:9",
+        "//h:10",
+        "http:b",
+        "https:a",
+    ];
+    let mut read: Vec<_> = rows
+        .iter()
+        .rev()
+        .map(|row| UriRef::parse(row).unwrap())
+        .collect();
+    read.sort();
+    let texts: Vec<_> = read.iter().map(UriRef::as_str).collect();
+    assert_eq!(
+        texts,
+        [
+            "a",
+            "a#",
+            "a?",
+            "//h:9",
+            "//h:10",
+            "//z",
+            "//2.0.0.0",
+            "//10.0.0.0",
+            "http:b",
+            "https:a"
+        ]
+    );
+    let (left, right) = ("http://h/%7e", "HTTP://H/~");
+    assert!(UriRef::parse(left).unwrap() <= UriRef::parse(right).unwrap());
+    assert!(Uri::parse(left)
+        .unwrap()
+        .cmp(&Uri::parse(right).unwrap())
+        .is_eq());
+    assert!(left.parse::<UriBuf>().unwrap() >= right.parse::<UriBuf>().unwrap());
+    assert!("a".parse::<UriRefBuf>().unwrap() < "b".parse().unwrap());
+}
+
+#[test]
+fn checks() {
+    let is_within = |uri, base| {
+        Uri::parse(uri)
+            .unwrap()
+            .is_within(&Uri::parse(base).unwrap())
+    };
+    assert!(is_within("HTTP://H:80/x/../a/b?q", "http://h/a/c"));
+    assert!(!is_within("http://h/appX", "http://h/app/"));
+    assert!(!is_within("http://h/app/..;/admin", "http://h/app/"));
+    let host_is_within = |text, domain| UriRef::parse(text).unwrap().host_is_within(domain);
+    assert_eq!(
+        host_is_within("//WWW.Example.com.", "example.com"),
+        Ok(true)
+    );
+    assert_eq!(host_is_within("//1.2.3.4", "4"), Ok(false));
+    assert_eq!(host_is_within("/a", "h"), Ok(false));
+    let error = host_is_within("//h", "a b").unwrap_err();
+    assert_eq!(
+        (error.kind(), error.component(), error.position()),
+        (ErrorKind::InvalidHostCharacter, Some(Component::Host), 0)
+    );
+    let hidden = UriRef::parse("//%31.2.3.4").unwrap();
+    assert!(hidden.hides_address() && hidden.may_be_numeric());
+    let plain = UriRef::parse("//example.com").unwrap();
+    assert!(!plain.hides_address() && !plain.may_be_numeric());
+    assert_eq!(
+        (default_port("HTTPS"), default_port("h:")),
+        (Some(443), None)
+    );
+}
+
+#[test]
+fn changes() {
+    fn change(text: &str, changes: &Changes<'_>) -> Result<UriRefBuf, Error> {
+        UriRef::parse(text).unwrap().change(changes)
+    }
+    let changes = Changes {
+        host: Change::Set("h"),
+        port: Change::Set("80"),
+        ..Changes::default()
+    };
+    assert_eq!(change("a:b/c", &changes).unwrap().as_str(), "a://h:80/b/c");
+    let same = change("HTTP://u@h:/%7e?#", &Changes::default()).unwrap();
+    assert_eq!(same.as_str(), "HTTP://u@h:/%7e?#");
+    let rejected = |text, changes: Changes<'_>| change(text, &changes).unwrap_err();
+    let port = Changes {
+        port: Change::Set("1"),
+        ..Changes::default()
+    };
+    assert_eq!(rejected("a", port).kind(), ErrorKind::MissingHost);
+    let scheme = Changes {
+        scheme: Change::Set("1"),
+        ..Changes::default()
+    };
+    let error = rejected("s:a", scheme);
+    assert_eq!(error.kind(), ErrorKind::SchemeStartsWithNonAlphabetic);
+    assert_eq!(error.component(), Some(Component::Scheme));
+    let none = Changes {
+        scheme: Change::Remove,
+        ..Changes::default()
+    };
+    assert_eq!(
+        rejected("s:a:b", none).kind(),
+        ErrorKind::SchemelessPathStartsWithColonSegment
+    );
+    let uri = Uri::parse("s:a").unwrap();
+    assert_eq!(uri.change(&none).unwrap_err().kind(), ErrorKind::NotUri);
+    assert_eq!(uri.change(&changes).unwrap().as_str(), "s://h:80/a");
+}
+
+#[test]
+fn pairs_by_name() {
+    let read = |text| UriRef::parse(text).unwrap();
+    assert_eq!(read("?%61=%FF&a=2").pair("a"), Some(vec![0xff]));
+    assert_eq!(
+        (read("?a").pair("a"), read("?a").pair("b")),
+        (Some(vec![]), None)
+    );
+    assert_eq!(read("a").pair(""), None);
+    assert_eq!(read("?").with_pair("n", None).as_str(), "?n");
+    assert_eq!(
+        read("a#f").with_appended_pair("ü", Some("c d+")).as_str(),
+        "a?%C3%BC=c%20d%2B#f"
+    );
+    let long = "[".repeat(9999);
+    let text = read("?a").with_pair("a", Some(&long)).into_string();
+    assert_eq!(text, format!("?a={}", "%5B".repeat(9999)));
+    assert_eq!(read(&text).pair("a"), Some(long.into_bytes()));
+    assert_eq!(
+        read("?utm_a#f").without_pairs("utm_*").unwrap().as_str(),
+        "#f"
+    );
+    assert_eq!(read("a").without_pairs("b").unwrap().as_str(), "a");
+    let error = read("?a").without_pairs("b#").unwrap_err();
+    assert_eq!(
+        (error.kind(), error.position()),
+        (ErrorKind::InvalidNames, 1)
+    );
+    let uri = Uri::parse("s:?a=1").unwrap();
+    assert_eq!(uri.with_pair("a", Some("2")).as_str(), "s:?a=2");
+    assert_eq!(
+        uri.with_appended_pair("a", Some("2")).as_str(),
+        "s:?a=1&a=2"
+    );
+    assert_eq!(uri.without_pairs("a").unwrap().as_str(), "s:");
+    assert_eq!(uri.pair("a").as_deref(), Some(&b"1"[..]));
 }

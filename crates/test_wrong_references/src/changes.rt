@@ -1,10 +1,13 @@
 //! Promises of references with components changed. `must-fail` has wrong bodies.
-ghost use Rattle.std.specs.Prelude.{◌≡◌};
+ghost use Rattle.std.specs.Option.{option_copied};
+ghost use Rattle.std.specs.Prelude.{◌≡◌, MatchResult};
+ghost use Rattle.uriparse_text.specs.Pairs as pairs;
 ghost use Rattle.uriparse_text.specs.Readings.{Settles};
 ghost use Rattle.uriparse_reference.specs.Beside as parts;
 ghost use Rattle.uriparse_reference.specs.Change.{ChangesInPlace, WritesChanged, changing};
+ghost use Rattle.uriparse_reference.specs.PairEdits.{pairs_of, with_pairs};
 
-use std::alloc::Global;
+use std::alloc::{AllocError, Global};
 use uriparse_reference::uri_reference::{
     ChangeError, Changes, ReferenceText, ReferenceView, URIReference,
 };
@@ -43,4 +46,16 @@ pub fn without_userinfo(reference: URIReference<'_>) -> URIReference<'_>
     ensures { result ≡ parts.without_userinfo reference.entry }
 {
     reference.without_userinfo()
+}
+
+/// Sets a pair of a reference's query.
+pub fn set_pair(
+    reference: &mut URIReference<'_>,
+    alloc: Global,
+    name: &[u8],
+    value: Option<&[u8]>,
+) -> Result<(), AllocError>
+    ensures { MatchResult result (λ _. reference.new ≡ with_pairs reference.old (pairs.with_pair name.now (pairs.encoded_pair (name.now, option_copied value.entry)) (pairs_of reference.old))) (λ _. reference.new ≡ reference.old) }
+{
+    reference.set_pair(alloc, name, value)
 }

@@ -90,6 +90,7 @@ pub use Rattle.uriparse_reference.specs.Into
 pub use Rattle.uriparse_reference.specs.Ports
 pub use Rattle.uriparse_reference.specs.Masked
 pub use Rattle.uriparse_reference.specs.Beside
+pub use Rattle.uriparse_reference.specs.PairEdits
 pub use Rattle.uriparse_reference.specs.Edits
 pub use Rattle.uriparse_reference.specs.Wanted
 pub use Rattle.uriparse_reference.specs.Change

@@ -56,7 +56,9 @@ fn check_kind<K: ReferenceKind>(changes: &Changes<'_>) -> Result<(), KindChangeE
 
 impl<'t, K: ReferenceKind> ViewOf<'t, K> {
     /// Writes the string with some components changed to the start of the buffer, and returns its
-    /// length in bytes, as [`ReferenceView::change_into`] does. Does not allocate.
+    /// length in bytes, as
+    /// [`ReferenceView::change_into`](uriparse_reference::uri_reference::ReferenceView::change_into)
+    /// does. Does not allocate.
     ///
     /// The error is [`OtherKind`](KindChangeError::OtherKind) if the scheme of a URI is to be
     /// removed, or that of a relative reference to be set; else
@@ -72,8 +74,6 @@ impl<'t, K: ReferenceKind> ViewOf<'t, K> {
     /// changes.scheme = Change::Remove;
     /// assert!(view.change_into(&changes, &mut buffer) == Err(KindChangeError::OtherKind));
     /// ```
-    ///
-    /// [`ReferenceView::change_into`]: uriparse_reference::uri_reference::ReferenceView::change_into
     pub fn change_into(
         &self,
         changes: &Changes<'_>,

@@ -26,6 +26,7 @@ mod access;
 mod beside;
 mod edit;
 mod normal;
+mod pairs;
 
 /// A reference with a scheme or one without, by its kind. Users name it [`URI`](crate::uri::URI) or
 /// [`RelativeReference`](crate::relative_reference::RelativeReference). Contracts see it as the

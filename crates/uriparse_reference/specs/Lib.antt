@@ -3,6 +3,7 @@ pub mod Kinds
 pub mod Cuts
 pub mod Edits
 pub mod Beside
+pub mod PairEdits
 pub mod Builder
 pub mod Key
 pub mod Reading

@@ -37,6 +37,7 @@ mod kind;
 mod masked;
 mod normal;
 mod offset;
+mod pairs;
 mod port;
 mod print;
 pub(crate) mod read;

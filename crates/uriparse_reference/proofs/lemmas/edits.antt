@@ -4,4 +4,5 @@ pub mod EditListLemmas
 pub mod SegmentLemmas
 pub mod PortLemmas
 pub mod ChangeLemmas
+pub mod PairEditLemmas
 pub mod BesideLemmas

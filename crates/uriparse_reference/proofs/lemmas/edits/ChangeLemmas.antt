@@ -67,10 +67,10 @@ pieces_found u w g n p pair k =
       is_port = port_exact.found (unwrap_or n []) v.0 (piece_found authority_faults.Port _ v.0 v.1);
     })
 
-abbrev ArePaired : Option AuthorityStrings → Type 0
+abbrev pub ArePaired : Option AuthorityStrings → Type 0
 ArePaired o = IfSome o (λ a. IsPaired a.username a.password)
 
-authority_found : (o : Option AuthorityStrings) (a : Option AuthorityParts) → ArePaired o → authority_if o ≡ Ok a
+pub authority_found : (o : Option AuthorityStrings) (a : Option AuthorityParts) → ArePaired o → authority_if o ≡ Ok a
     → IfPresent authority.Spells (option_map authority_whole o) a
 authority_found None None pair h = tt
 authority_found None (Some p) pair h = cc
@@ -105,7 +105,7 @@ path_is h e =
     let fine : path.fault h ≡ None = ap path.fault (sym front) ∙ x.0 in
     (path_read h (spelled h) (ap (λ o. unless_fault o (spelled h)) fine)).0
 
-path_found : (v w : Bool) (h : List ℕ) (p : PathParts) → path_reading v w h ≡ Ok p → IsPath h × (path_refusal v w h ≡ None) × (p ≡ path_of w h)
+pub path_found : (v w : Bool) (h : List ℕ) (p : PathParts) → path_reading v w h ≡ Ok p → IsPath h × (path_refusal v w h ≡ None) × (p ≡ path_of w h)
 path_found v w h p k =
     let x = bind_ok (of_piece faults.Path (unless_fault (path_fault h) (path_of w h))) _ p k in
     let y = accepted (path_fault h) (path_of w h) x.0 (piece_found faults.Path _ x.0 x.1) in
@@ -117,7 +117,7 @@ slashed : (h : List ℕ) → is_abempty h ≡ false → pieces (slash ∷ h) ≡
 slashed [] e = absurd (false≢true (sym e))
 slashed (b ∷ t) e = sym (ap (λ v. slice_split is_slash (cond v t (b ∷ t))) e)
 
-placed_path : (w : Bool) (h : List ℕ) → IsPath h → IsPath (after_authority w h)
+pub placed_path : (w : Bool) (h : List ℕ) → IsPath h → IsPath (after_authority w h)
 placed_path false h is = is
 placed_path true h is = by_test (is_abempty h) refl
   where
@@ -140,20 +140,20 @@ placed_abempty h = by_test (is_abempty h) refl
     by_test true e = e
     by_test false e = refl
 
-placed_fit : (v w : Bool) (h : List ℕ) → path_refusal v w h ≡ None → path_refusal v w (after_authority w h) ≡ None
+pub placed_fit : (v w : Bool) (h : List ℕ) → path_refusal v w h ≡ None → path_refusal v w (after_authority w h) ≡ None
 placed_fit v true h e = refl
 placed_fit v false h e = e
 
 -- ---- the whole
 
-scheme_exact : IsExact scheme.Spells scheme.reading
+pub scheme_exact : IsExact scheme.Spells scheme.reading
 scheme_exact = record { again = λ t s h. (reads t s).1 h; found = λ t s h. (reads t s).0 h }
 
-still_there : (o : Option AuthorityStrings) → is_some (option_map authority_whole o) ≡ is_some o
+pub still_there : (o : Option AuthorityStrings) → is_some (option_map authority_whole o) ≡ is_some o
 still_there None = refl
 still_there (Some a) = refl
 
-if_there : (o : Option AuthorityStrings) (h : List ℕ) → IfSome (option_map authority_whole o) (λ _. is_abempty (after_authority (is_some o) h) ≡ true)
+pub if_there : (o : Option AuthorityStrings) (h : List ℕ) → IfSome (option_map authority_whole o) (λ _. is_abempty (after_authority (is_some o) h) ≡ true)
 if_there None h = tt
 if_there (Some a) h = placed_abempty h
 
