@@ -366,60 +366,6 @@ fn drop_part(reference: &mut URIReference<'_>, dropped: Dropped) -> Result<(), E
     Ok(())
 }
 
-/// Sets the pair in the query, or makes a query of it alone.
-fn set_pair(
-    alloc: Global,
-    reference: &mut URIReference<'_>,
-    name: &[u8],
-    value: &[u8],
-) -> Result<(), EditError> {
-    let query = match reference.query() {
-        Some(query) => query.with_pair(alloc, name, Some(value))?,
-        None => Query::from_pairs(alloc, &[(name, Some(value))])?,
-    };
-    reference.set_query(Some(query))?;
-    Ok(())
-}
-
-/// Adds the pair to the query, or makes a query of it alone.
-fn append_pair(
-    alloc: Global,
-    reference: &mut URIReference<'_>,
-    name: &[u8],
-    value: &[u8],
-) -> Result<(), EditError> {
-    let query = match reference.query() {
-        Some(query) => query.with_appended_pair(alloc, name, Some(value))?,
-        None => Query::from_pairs(alloc, &[(name, Some(value))])?,
-    };
-    reference.set_query(Some(query))?;
-    Ok(())
-}
-
-/// Leaves out the pairs whose names are among these names, and the query if no pair is left.
-fn drop_pairs(
-    alloc: Global,
-    reference: &mut URIReference<'_>,
-    names: &Query<'_>,
-) -> Result<(), EditError> {
-    let query = match reference.query() {
-        Some(query) => query.without_pairs_named(alloc, names)?,
-        None => None,
-    };
-    reference.set_query(query)?;
-    Ok(())
-}
-
-/// Sorts the pairs of the query by their names.
-fn sort_pairs(alloc: Global, reference: &mut URIReference<'_>) -> Result<(), EditError> {
-    let query = match reference.query() {
-        Some(query) => Some(query.sorted_pairs(alloc)?),
-        None => None,
-    };
-    reference.set_query(query)?;
-    Ok(())
-}
-
 /// Makes one step.
 fn make_step<'r>(
     alloc: Global,
@@ -430,13 +376,13 @@ fn make_step<'r>(
         Act::Set(value) => set_value(alloc, reference, value)?,
         Act::Drop(dropped) => drop_part(reference, *dropped)?,
         Act::SetPair(name, value) => {
-            set_pair(alloc, reference, name.as_bytes(), value.as_bytes())?
+            reference.set_pair(alloc, name.as_bytes(), Some(value.as_bytes()))?
         }
         Act::AppendPair(name, value) => {
-            append_pair(alloc, reference, name.as_bytes(), value.as_bytes())?
+            reference.append_pair(alloc, name.as_bytes(), Some(value.as_bytes()))?
         }
-        Act::DropPairs(names) => drop_pairs(alloc, reference, names)?,
-        Act::SortPairs => sort_pairs(alloc, reference)?,
+        Act::DropPairs(names) => reference.remove_pairs_named(alloc, names)?,
+        Act::SortPairs => reference.sort_pairs(alloc)?,
         Act::Normalize => reference.normalize(alloc)?,
     }
     Ok(())
