@@ -1,4 +1,4 @@
-use Rattle.std.proofs.Common.{◌≡◌, false, None, Some, sym, ◌∙◌, refl, rules}
+use Rattle.std.proofs.Common.{◌≡◌, false, sym, ◌∙◌, rules}
 use Rattle.std.specs.Prelude.{is_some}
 use Rattle.uriparse_text.specs.Pairs.{is_named, pairs}
 use Rattle.uriparse_text.proofs.lemmas.readings.NamedLemmas.{find_at, find_none}
