@@ -4,7 +4,7 @@ ghost use Rattle.std.specs.Option.{IsSomeAnd};
 ghost use Rattle.std.specs.Prelude.{◌≡◌, ◌↔◌, IsTrue};
 ghost use Rattle.uriparse.specs.Reference.{host_of};
 ghost use Rattle.uriparse.specs.Uri.{IsNamed, https};
-ghost use Rattle.examples.specs.Trusted.{IsTrusted, IsTrustedHost};
+ghost use Rattle.examples.specs.Trusted.{IsTrusted, IsTrustedBelow, IsTrustedHost};
 
 use uriparse::{Host, Scheme, URI};
 
@@ -51,4 +51,21 @@ pub fn is_trusted(uri: &URI<'_>, domains: &[Host<'_>]) -> bool
         && has_trusted_host(uri, domains)
         && uri.port_or_default() == Some(443)
         && !uri.has_username()
+}
+
+/// Whether a link [is trusted](is_trusted) and below a page: `..;` and `%2f` lead a proxy and the server behind it to
+/// different places, so a link with these in a segment is not. Does not allocate.
+///
+/// ```
+/// let domains = [Host::try_from_str("example.com")?];
+/// let page = URI::try_from_str(alloc, "https://example.com/app/")?;
+/// let uri = URI::try_from_str(alloc, "https://example.com/app/a?b")?;
+/// assert!(is_trusted_below(&uri, &domains, &page));
+/// let other = URI::try_from_str(alloc, "https://example.com/app/%2e%2e/admin")?;
+/// assert!(!is_trusted_below(&other, &domains, &page));
+/// ```
+pub fn is_trusted_below(uri: &URI<'_>, domains: &[Host<'_>], page: &URI<'_>) -> bool
+    ensures { IsTrue result ↔ IsTrustedBelow domains.now page.now uri.now }
+{
+    is_trusted(uri, domains) && uri.is_within(page)
 }

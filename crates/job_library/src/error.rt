@@ -3,7 +3,7 @@
 use std::alloc::{AllocError, AllocFailed};
 use std::io;
 use thiserror::Error;
-use uriparse::{BufferError, QueryError, TooSmall, URIError, URIReferenceError};
+use uriparse::{BufferError, ChangeError, QueryError, TooSmall, URIError, URIReferenceError};
 
 /// Why a job ends before its end.
 #[derive(Debug, Drop, Error)]
@@ -24,6 +24,8 @@ pub enum JobError {
     Buffer(#[from] BufferError),
     #[error(transparent)]
     Size(#[from] TooSmall),
+    #[error(transparent)]
+    Change(#[from] ChangeError),
 }
 
 impl<T: Drop> From<AllocFailed<T>> for JobError {

@@ -7,6 +7,7 @@
 pub mod awkward;
 pub mod buffers;
 pub mod digest;
+pub mod edits;
 pub mod error;
 pub mod languages;
 mod letters;

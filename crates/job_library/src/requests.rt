@@ -35,7 +35,7 @@ fn request(alloc: Global, number: u64, uri: &[u8], digest: &mut Digest) -> Resul
 }
 
 /// Requests of all kinds, for [`put_like`].
-fn request_models(alloc: Global, random: &mut Random) -> Result<Texts, AllocError> {
+pub(crate) fn request_models(alloc: Global, random: &mut Random) -> Result<Texts, AllocError> {
     let mut models = Texts::new(alloc);
     for _ in 0..8_192 {
         put_request(random, &mut models)?;

@@ -1,8 +1,8 @@
 //! The jobs that the benchmark times, on texts that they make from a seed: `jobs JOB COUNT SEED`
 //! prints a digest of all results. COUNT says how much is made: pages of 100 links, identifiers,
 //! requests, lines for each command, texts of each awkward form, or pages in many languages of 20
-//! links; `store` keeps what `registry` keeps, as owned texts. The job `all` prints the digest of all
-//! jobs but `texts` and `store` together, and then that of `texts`.
+//! links; `store` keeps what `registry` keeps, as owned texts, and `edits` changes what `requests` reads. The job
+//! `all` prints the digest of all jobs but `texts`, `store` and `edits` together, and then that of `texts`.
 #![tactic(auto)]
 
 mod lines;
@@ -10,6 +10,7 @@ mod lines;
 use job_library::awkward::awkward;
 use job_library::buffers::buffers;
 use job_library::digest::Digest;
+use job_library::edits::edits;
 use job_library::error::JobError;
 use job_library::languages::languages;
 use job_library::links::links;
@@ -37,13 +38,14 @@ fn run_job(
         "lines" => lines(alloc, count, random, digest),
         "buffers" => buffers(alloc, count, random, digest),
         "awkward" => awkward(alloc, count, random, digest),
+        "edits" => edits(alloc, count, random, digest),
         "store" => store(alloc, count, random, digest),
         "texts" => languages(alloc, count, random, digest),
         _ => Err(JobError::Usage),
     }
 }
 
-/// Runs the job of this name, or all but `texts`, and returns the digest of the results.
+/// Runs the job of this name, or all but `texts`, `store` and `edits`, and returns the digest of the results.
 fn run(alloc: Global, job: &str, count: u64, seed: u64) -> Result<u64, JobError> {
     let mut random = Random::new(seed);
     let mut digest = Digest::new();

@@ -20,7 +20,7 @@ pub fn next_of_input<I: BufRead>(input: &mut I, line: &mut Vec<u8>) -> io::Resul
     ensures end { result ≡ Ok End → IsAtEnd (I.remaining input.old) }
     ensures some { IfOk result (λ next. next ≢ End → IfSome (I.remaining input.old) (λ bytes. 0 < length bytes)) }
 {
-    read_line(input, line)
+    read_line(input, line, b'\n')
 }
 
 /// Reads the next line as [`next_of_input`] does. A reader that holds it is asked for no more, and an
@@ -36,5 +36,5 @@ pub fn next_of_reader<I: Read, O: Write>(
     ensures unasked { Contains (reader_buffer input.old) newline → (reader_inner input.new ≡ reader_inner input.old) × (out.new ≡ out.old) }
     ensures kept { IsErr written.old → written.new ≡ written.old }
 {
-    next_line(input, line, out, written)
+    next_line(input, line, b'\n', out, written)
 }

@@ -1,11 +1,10 @@
 -- Lines of fields, and their tabs.
-use Rattle.std.proofs.Common.{◌≡◌, ℕ, ◌+◌, ◌-◌, ◌<◌, ◌≤◌, Bool, true, false, not, cond, List, [], ◌∷◌, ◌++◌, Option, Some, None, length, take, drop, length-append, refl, sym, ap, ◌∙◌, arith, append-nil, append_assoc, inl, inr}
+use Rattle.std.proofs.Common.{◌≡◌, ◌==◌, ◌&&◌, ℕ, ◌+◌, ◌-◌, ◌<◌, ◌≤◌, Bool, true, false, not, cond, List, [], ◌∷◌, ◌++◌, Option, Some, None, length, take, drop, length-append, refl, sym, ap, ◌∙◌, arith, append-nil, append_assoc, inl, inr}
 use Rattle.std.proofs.Math.Seq.{take-append_seam, drop-append_seam}
 use Rattle.std.proofs.lemmas.Bool.{and_parts, eqb-true, not-true}
 use Rattle.std.proofs.lemmas.List.Sums.{sum_by-append, sum_by-cons}
 use Rattle.uriparse_text.specs.Cuts.{lacks, before, after, following, from_first}
 use Rattle.uriparse_text.proofs.lemmas.readings.CutLemmas.{before_after, before-lacks, cut-whole, lacks-append, lacks-left, lacks-right}
-use Rattle.uri_commands.specs.Lines.{newline}
 use Rattle.uri_commands.specs.Columns.{AreFields, IsCut, IsRead, IsRest, IsRow, done, short, row, is_tab, tab, tabs}
 
 pub tabs-append : (t u : List ℕ) → tabs (t ++ u) ≡ tabs t + tabs u
@@ -112,26 +111,30 @@ too_few_after first width line front rest some whole ahead few = omega (arith, a
 
 -- ---- a line that goes out
 
-parts_lack : (first : Option ℕ) (width : ℕ) (line front text back : List ℕ) → IsRead first width line front text back → lacks newline line ≡ true
-    → (lacks newline front ≡ true) × (lacks newline text ≡ true) × (lacks newline back ≡ true)
-parts_lack None width line front text back read h =
-    (ap (lacks newline) read.0, ap (lacks newline) read.1 ∙ h, ap (lacks newline) read.2)
-parts_lack (Some first) width line front text back read h =
-    let whole : lacks newline (front ++ (text ++ back)) ≡ true = sym (ap (lacks newline) read.whole) ∙ h in
-    let following = lacks-right newline front (text ++ back) whole in
-    (lacks-left newline front (text ++ back) whole, lacks-left newline text back following, lacks-right newline text back following)
+parts_lack : (end : ℕ) (first : Option ℕ) (width : ℕ) (line front text back : List ℕ) → IsRead first width line front text back → lacks end line ≡ true
+    → (lacks end front ≡ true) × (lacks end text ≡ true) × (lacks end back ≡ true)
+parts_lack end None width line front text back read h =
+    (ap (lacks end) read.0, ap (lacks end) read.1 ∙ h, ap (lacks end) read.2)
+parts_lack end (Some first) width line front text back read h =
+    let whole : lacks end (front ++ (text ++ back)) ≡ true = sym (ap (lacks end) read.whole) ∙ h in
+    let following = lacks-right end front (text ++ back) whole in
+    (lacks-left end front (text ++ back) whole, lacks-left end text back following, lacks-right end text back following)
 
-row_parts : (appends : Bool) (front text back result : List ℕ) → lacks newline front ≡ true → lacks newline text ≡ true → lacks newline back ≡ true
-    → lacks newline result ≡ true → lacks newline (row appends front text back result) ≡ true
-row_parts true front text back result f t b r =
-    lacks-append newline front (text ++ (back ++ tab ∷ result)) f
-    (lacks-append newline text (back ++ tab ∷ result) t (lacks-append newline back (tab ∷ result) b r))
-row_parts false front text back result f t b r = lacks-append newline front (result ++ back) f (lacks-append newline result back r b)
+-- a result after a tab
+after_tab : (end : ℕ) (result : List ℕ) → (tab == end) ≡ false → lacks end result ≡ true → lacks end (tab ∷ result) ≡ true
+after_tab end result other none = ap (λ b. not b && lacks end result) other ∙ none
 
--- what goes out for a line without a newline has none
-pub row_lacks : (first : Option ℕ) (width : ℕ) (appends : Bool) (line out : List ℕ) → IsRow first width appends line out → lacks newline line ≡ true
-    → lacks newline out ≡ true
-row_lacks first width appends line out (done front text back result read none is) h =
-    let parts = parts_lack first width line front text back read h in
-    ap (lacks newline) is ∙ row_parts appends front text back result parts.0 parts.1 parts.2 none
-row_lacks first width appends line out (short few is) h = ap (lacks newline) is ∙ h
+row_parts : (end : ℕ) (appends : Bool) (front text back result : List ℕ) → (tab == end) ≡ false → lacks end front ≡ true → lacks end text ≡ true
+    → lacks end back ≡ true → lacks end result ≡ true → lacks end (row appends front text back result) ≡ true
+row_parts end true front text back result other f t b r =
+    lacks-append end front (text ++ (back ++ tab ∷ result)) f
+    (lacks-append end text (back ++ tab ∷ result) t (lacks-append end back (tab ∷ result) b (after_tab end result other r)))
+row_parts end false front text back result other f t b r = lacks-append end front (result ++ back) f (lacks-append end result back r b)
+
+-- what goes out for a line without the byte that ends lines has none either
+pub row_lacks : (end : ℕ) (first : Option ℕ) (width : ℕ) (appends : Bool) (line out : List ℕ) → (tab == end) ≡ false
+    → IsRow end first width appends line out → lacks end line ≡ true → lacks end out ≡ true
+row_lacks end first width appends line out other (done front text back result read none is) h =
+    let parts = parts_lack end first width line front text back read h in
+    ap (lacks end) is ∙ row_parts end appends front text back result other parts.0 parts.1 parts.2 none
+row_lacks end first width appends line out other (short few is) h = ap (lacks end) is ∙ h

@@ -1,3 +1,4 @@
 pub mod ColumnLemmas
 pub mod JsonLemmas
 pub mod LineLemmas
+pub mod ObjectLemmas

@@ -94,6 +94,32 @@ prints
 ",
 };
 
+pub static ABOUT_NULL: Topic = Topic {
+    name: "--null",
+    summary: "\
+uri --null --lines COMMAND, uri -0 --lines COMMAND
+                      lines end with a NUL byte, in and out
+",
+    page: "\
+uri --lines --null COMMAND
+uri --lines -0 COMMAND
+
+Lines end with a NUL byte instead of a newline, in the input and in the output,
+as for sort -z and xargs -0. A newline is a byte like any other then: text with
+one is rejected, but escape makes %0A of it. Reports end with a newline. Goes
+with every command that --lines takes, and with --align, --column and --append.
+
+Exit status: 0 on success, 1 if a line is rejected or the work ends early, 2 on
+a usage error.
+
+Example:
+    printf 'HTTP://a\\0HTTP://b\\0' | uri --lines --null normalize | tr '\\0' '\\n'
+prints
+    http://a/
+    http://b/
+",
+};
+
 /// Which fields of a line are read, and where the result stands.
 #[derive(Clone, Copy)]
 pub struct Columns {
@@ -169,20 +195,21 @@ impl Columns {
     }
 }
 
-/// What precedes the first newline: a command's result for a line, without the newline that ends it.
-fn first_line(output: &[u8]) -> &[u8]
-    ensures { result.now ≡ before newline output.now }
+/// What precedes the first newline, and the first byte that ends lines: a command's result for a line.
+pub fn first_line(output: &[u8], end: u8) -> &[u8]
+    ensures { result.now ≡ before end (before newline output.now) }
 {
     let (line, _) = split_at_mark(output, b'\n');
+    let (line, _) = split_at_mark(line, end);
     line
 }
 
-/// Writes a line as it is.
-pub fn write_line<O: Write>(line: &[u8], out: &mut O) -> io::Result<()>
-    ensures { OnOk result (Appends (O.contents out.old) (O.contents out.new) (line.now ++ newline ∷ [])) }
+/// Writes a line as it is, and the byte that ends it.
+pub fn write_line<O: Write>(line: &[u8], end: u8, out: &mut O) -> io::Result<()>
+    ensures { OnOk result (Appends (O.contents out.old) (O.contents out.new) (line.now ++ end ∷ [])) }
 {
     out.write_all(line)?;
-    out.write_all(b"\n")
+    out.write_all(&[end])
 }
 
 /// Writes the line that goes out: the line that was read with the first line of the output in the place
@@ -191,9 +218,10 @@ pub fn write_row<O: Write>(
     cut: &Cut<'_>,
     appends: bool,
     output: &[u8],
+    end: u8,
     out: &mut O,
 ) -> io::Result<()>
-    ensures { OnOk result (Appends (O.contents out.old) (O.contents out.new) (spec.row appends cut.now.front.now cut.now.text.now cut.now.back.now (before newline output.now) ++ newline ∷ [])) }
+    ensures { OnOk result (Appends (O.contents out.old) (O.contents out.new) (spec.row appends cut.now.front.now cut.now.text.now cut.now.back.now (before end (before newline output.now)) ++ end ∷ [])) }
 {
     out.write_all(cut.front)?;
     if appends {
@@ -201,9 +229,9 @@ pub fn write_row<O: Write>(
         out.write_all(cut.back)?;
         out.write_all(b"\t")?;
     }
-    out.write_all(first_line(output))?;
+    out.write_all(first_line(output, end))?;
     if !appends {
         out.write_all(cut.back)?;
     }
-    out.write_all(b"\n")
+    out.write_all(&[end])
 }

@@ -4,7 +4,7 @@
 ghost use Rattle.std.specs.Prelude.{◌<◌};
 
 use crate::decode::{self, decode};
-use crate::edit::{self, edit};
+use crate::edit::{self, Step, edit, edit_line, read_edits};
 use crate::encode::{self, encode};
 use crate::equal::{self, equal, equal_pair, pair_fault_offset};
 use crate::escape::{self, escape, escape_link};
@@ -15,17 +15,19 @@ use crate::help::{self, help, help_on, version};
 use crate::json::{self, parse_json};
 use crate::normalize::{self, normalize, normalize_port, normalize_with};
 use crate::options::{Manner, Options};
+use crate::pair::{self, pair, pair_or_empty};
 use crate::pairs::{self, pairs};
 use crate::parse::{self, parse};
 use crate::quiet::{self, check, check_equal, check_pair};
-use crate::relativize::{self, relativize};
+use crate::relativize::{self, relativize, relativize_against};
 use crate::resolve::{self, resolve, resolve_with};
 use crate::tail::{self, tail};
 use crate::topic::Topic;
+use crate::within::{self, host_within, print_host_within, print_within, read_domain, within};
 use crate::{columns, explain, lines};
 use std::alloc::Global;
 use std::io::Write;
-use uriparse::{URIReference, URIView};
+use uriparse::{Host, URI, URIReference, URIView};
 
 /// The topic of `uri help` with this index, or `None` after the last. A `match`, since the prover takes quadratic time for a
 /// static table.
@@ -42,18 +44,22 @@ pub fn topic(place: usize) -> Option<&'static Topic> {
         8 => Some(&encode::ABOUT),
         9 => Some(&escape::ABOUT),
         10 => Some(&pairs::ABOUT),
-        11 => Some(&file::ABOUT),
-        12 => Some(&edit::ABOUT),
-        13 => Some(&help::ABOUT),
-        14 => Some(&json::ABOUT),
-        15 => Some(&quiet::ABOUT),
-        16 => Some(&explain::ABOUT),
-        17 => Some(&normalize::ABOUT_DROP_DEFAULT_PORT),
-        18 => Some(&escape::ABOUT_TRIM),
-        19 => Some(&lines::ABOUT),
-        20 => Some(&columns::ABOUT_ALIGN),
-        21 => Some(&columns::ABOUT_COLUMN),
-        22 => Some(&columns::ABOUT_APPEND),
+        11 => Some(&pair::ABOUT),
+        12 => Some(&within::ABOUT),
+        13 => Some(&within::ABOUT_HOST),
+        14 => Some(&file::ABOUT),
+        15 => Some(&edit::ABOUT),
+        16 => Some(&help::ABOUT),
+        17 => Some(&json::ABOUT),
+        18 => Some(&quiet::ABOUT),
+        19 => Some(&explain::ABOUT),
+        20 => Some(&normalize::ABOUT_DROP_DEFAULT_PORT),
+        21 => Some(&escape::ABOUT_TRIM),
+        22 => Some(&lines::ABOUT),
+        23 => Some(&columns::ABOUT_ALIGN),
+        24 => Some(&columns::ABOUT_COLUMN),
+        25 => Some(&columns::ABOUT_APPEND),
+        26 => Some(&columns::ABOUT_NULL),
         _ => None,
     }
 }
@@ -76,7 +82,7 @@ pub fn run_texts<O: Write>(
     out: &mut O,
 ) -> Result<(), Failure> {
     match (options.manner, words) {
-        _ if !may_explain(options, words) || options.columns.is_some() => Err(Failure::Usage),
+        _ if !may_explain(options, words) || options.is_for_lines() => Err(Failure::Usage),
         (Manner::Plain, ["edit", text, edits @ ..]) => edit(alloc, text, edits, out),
         (Manner::Plain, [name]) => run_one_word(name, out),
         (manner, [name, text]) => run_two_words(alloc, manner, name, text, out),
@@ -148,6 +154,9 @@ fn run_three_words<O: Write>(
             relativize(alloc, first.as_bytes(), second.as_bytes(), out)
         }
         (Manner::Plain, "encode") => encode(alloc, first, second.as_bytes(), out),
+        (Manner::Plain, "pair") => pair(alloc, first, second.as_bytes(), out),
+        (Manner::Plain, "within") => within(first.as_bytes(), second.as_bytes()),
+        (Manner::Plain, "host-within") => host_within(first, second.as_bytes()),
         _ => Err(Failure::Usage),
     }
 }
@@ -173,6 +182,16 @@ pub enum Task<'w> {
     CheckEqual,
     /// Print the target of the reference against this base.
     Resolve(URIView<'w>),
+    /// Print the reference that leads from this base to the URI.
+    Relativize(URI<'w>),
+    /// Print the reference with these edits made.
+    Edit(Vec<Step<'w>>),
+    /// Print the value of the pair of this name, or an empty line if it is absent.
+    Pair(&'w str),
+    /// Print the line if its URI is below this base.
+    Within(URIView<'w>),
+    /// Print the line if its host is within this domain.
+    HostWithin(Host<'w>),
     /// Print the text with escapes for what a reference can't have.
     Escape,
     /// Print the text with escapes, without what is round a link.
@@ -185,6 +204,7 @@ impl<'w> Task<'w> {
         match (options.manner, words) {
             _ if !may_explain(options, words) => Err(Failure::Usage),
             (Manner::Quiet, _) if options.columns.is_some() => Err(Failure::Usage),
+            (Manner::Plain, ["edit", edits @ ..]) => Ok(Task::Edit(read_edits(alloc, edits)?)),
             (manner, [name]) => Task::read_one_word(manner, name),
             (Manner::Plain, [name, text]) => Task::read_two_words(alloc, name, text),
             _ => Err(Failure::Usage),
@@ -212,6 +232,10 @@ impl<'w> Task<'w> {
             "get" if text.contains(',') => Ok(Task::GetParts(read_parts(alloc, text)?)),
             "get" => Ok(Task::Get(read_part(text)?)),
             "resolve" => Ok(Task::Resolve(URIView::try_from_str(text)?)),
+            "relativize" => Ok(Task::Relativize(URI::try_from_str(alloc, text)?)),
+            "pair" => Ok(Task::Pair(text)),
+            "within" => Ok(Task::Within(URIView::try_from_str(text)?)),
+            "host-within" => Ok(Task::HostWithin(read_domain(text)?)),
             _ => Err(Failure::Usage),
         }
     }
@@ -234,6 +258,11 @@ impl<'w> Task<'w> {
             Task::Equal => equal_pair(line, out),
             Task::CheckEqual => check_pair(line),
             Task::Resolve(base) => resolve_with(buffer, base, line, out),
+            Task::Relativize(base) => relativize_against(alloc, base, line, out),
+            Task::Edit(steps) => edit_line(alloc, steps, line, out),
+            Task::Pair(name) => pair_or_empty(name, line, out),
+            Task::Within(base) => print_within(base, line, out),
+            Task::HostWithin(domain) => print_host_within(domain, line, out),
             Task::Escape => escape(alloc, line, out),
             Task::EscapeLink => escape_link(alloc, line, out),
         }

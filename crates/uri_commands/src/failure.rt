@@ -6,7 +6,31 @@ use std::alloc::{AllocError, AllocFailed};
 use std::io;
 use thiserror::Error;
 use uriparse::file::FileError;
-use uriparse::{BufferError, PathError, QueryError, URIError, URIReferenceError};
+use uriparse::{BufferError, ChangeError, PathError, QueryError, URIError, URIReferenceError};
+
+/// Why an edit is rejected.
+#[derive(Clone, Copy, Debug, Error)]
+pub enum EditError {
+    /// A component that is not allowed, or memory ran out.
+    #[error(transparent)]
+    Reference(#[from] URIReferenceError),
+    /// A part of an authority without a host.
+    #[error(transparent)]
+    Change(#[from] ChangeError),
+    #[error("out of memory")]
+    Memory(#[from] AllocError),
+}
+
+impl EditError {
+    /// Whether memory ran out.
+    pub fn is_out_of_memory(&self) -> bool {
+        match self {
+            EditError::Reference(error) => error.is_out_of_memory(),
+            EditError::Change(error) => matches!(error, ChangeError::OutOfMemory),
+            EditError::Memory(_) => true,
+        }
+    }
+}
 
 /// Why a command printed nothing, or not all of its output.
 #[derive(Debug, Drop, Error)]
@@ -22,10 +46,7 @@ pub enum Failure {
     Uri(#[from] URIError),
     /// A rejected edit, by its index.
     #[error("edit {index}: {refusal}")]
-    Edit {
-        index: usize,
-        refusal: URIReferenceError,
-    },
+    Edit { index: usize, refusal: EditError },
     /// A text that is no query.
     #[error(transparent)]
     Query(#[from] QueryError),
@@ -44,6 +65,9 @@ pub enum Failure {
     /// References that differ, when the status alone reports it.
     #[error("different")]
     Different,
+    /// A URI that is not below a base, or a host that is not within a domain. The status alone reports it.
+    #[error("not within")]
+    Outside,
     #[error("out of memory")]
     Memory(#[from] AllocError),
     /// Memory ran out for this line of the input.
@@ -85,7 +109,7 @@ impl Failure {
     {
         match self {
             Failure::Usage => 2,
-            Failure::Absent | Failure::Different => 3,
+            Failure::Absent | Failure::Different | Failure::Outside => 3,
             _ => 1,
         }
     }
@@ -104,6 +128,7 @@ impl Failure {
             Failure::Output(error) => error.kind() == io::ErrorKind::OutOfMemory,
             Failure::Memory(_) | Failure::MemoryAtLine(_) => true,
             Failure::Reference(error) => error.is_out_of_memory(),
+            Failure::Edit { refusal, .. } => refusal.is_out_of_memory(),
             Failure::Uri(error) => error.is_out_of_memory(),
             Failure::File(error) => error.is_out_of_memory(),
             _ => false,

@@ -18,9 +18,10 @@ uri help COMMAND
 uri --help
 
 Prints the commands, or more on one of them or on one of the options --json,
---quiet, --explain, --drop-default-port, --trim, --lines, --align, --column and
---append. Options come before the command or after it, in any order, and before
-its texts. A text that is spelled as one of them follows --, which ends them.
+--quiet, --explain, --drop-default-port, --trim, --lines, --align, --column,
+--append and --null. Options come before the command or after it, in any order,
+and before its texts. A text that is spelled as one of them follows --, which
+ends them.
 
 Exit status: 0 on success, 2 on a usage error. Every command ends with 1 if
 memory runs out, a read or a write fails, or an argument is not UTF-8.

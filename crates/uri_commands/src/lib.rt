@@ -23,6 +23,7 @@ mod json;
 mod lines;
 mod normalize;
 mod options;
+mod pair;
 mod pairs;
 mod parse;
 mod print;
@@ -31,6 +32,7 @@ mod relativize;
 mod resolve;
 mod tail;
 mod topic;
+mod within;
 
 use commands::run_texts;
 use explain::explain;
@@ -56,8 +58,8 @@ pub fn run<O: Write, E: Write>(alloc: Global, words: &[&str], out: &mut O, err: 
 ///   why, or one for each rejected line of the input, but nothing if nobody reads the output any more;
 ///   with `--explain` it gets three lines for each rejected text;
 /// - 2 on a usage error: `err` gets two lines on the usage;
-/// - 3 if `get` finds no such part, `pairs` no query, or `--quiet equal` two references that differ.
-///   Nothing is written.
+/// - 3 if `get` finds no such part, `pairs` no query, `pair` no such pair, `--quiet equal` two references
+///   that differ, or `within` or `host-within` an input that is not within. Nothing is written.
 ///
 /// With `--quiet` nothing is written about rejected texts nor, without `--lines`, about a lack of
 /// memory. Only `--lines` reads the input. Without it nothing is written to `out` before all texts of

@@ -1,16 +1,16 @@
 //! `uri --lines COMMAND`: a command for each line of the standard input.
 
-ghost use Rattle.std.specs.Prelude.{◌≡◌, ◌≢◌, ℕ, List, [], ◌∷◌, ◌++◌, ◌<◌, ◌≤◌, All, Contains, IsErr, IsOk, Ok, false, length, take, true, IfOk, IfSome, OnErr, OnOk};
+ghost use Rattle.std.specs.Prelude.{◌≡◌, ◌≢◌, ◌==◌, ℕ, List, [], ◌∷◌, ◌++◌, ◌<◌, ◌≤◌, All, Contains, IsErr, IsOk, Ok, false, length, take, true, IfOk, IfSome, OnErr, OnOk};
 ghost use Rattle.std.specs.Io.BufRead.{DropsThrough, ends_with_byte, first_piece, strip_last};
 ghost use Rattle.std.specs.Io.Buffered.{reader_buffer, reader_inner, reader_remaining};
 ghost use Rattle.std.specs.Io.KnownBytes.{Consumes, IsAtEnd};
 ghost use Rattle.std.specs.Io.KnownBytes.{Appends};
 ghost use Rattle.uriparse_text.specs.Cuts.{lacks};
 ghost use Rattle.uri_commands.specs.Columns as spec;
-ghost use Rattle.uri_commands.specs.Lines.{newline};
+ghost use Rattle.uri_commands.specs.Columns.{tab};
 ghost use Rattle.uri_commands.specs.declared.lines.Next.TheVariants.{End, LastLine};
 
-use crate::columns::{Columns, write_line, write_row};
+use crate::columns::{Columns, first_line, write_line, write_row};
 use crate::commands::Task;
 use crate::explain::{explain_line, write_around};
 use crate::failure::Failure;
@@ -26,17 +26,25 @@ pub static ABOUT: Topic = Topic {
     name: "--lines",
     summary: "\
 uri --lines parse, uri --lines normalize, uri --lines resolve BASE,
-uri --lines get PART[,PART..], uri --lines equal, uri --lines escape,
-uri --lines --trim escape, uri --lines --drop-default-port normalize
-                      the same for each line of the standard input;
-                      parse prints JSON objects
+uri --lines relativize BASE, uri --lines get PART[,PART..],
+uri --lines pair NAME, uri --lines edit EDIT.., uri --lines equal,
+uri --lines within BASE, uri --lines host-within DOMAIN,
+uri --lines escape, uri --lines --trim escape,
+uri --lines --drop-default-port normalize
+                      the same for each line of the standard input; parse
+                      prints JSON objects, within the lines that are within
 ",
     page: "\
 uri --lines parse
 uri --lines normalize
 uri --lines resolve BASE
+uri --lines relativize BASE
 uri --lines get PART[,PART..]
+uri --lines pair NAME
+uri --lines edit EDIT..
 uri --lines equal
+uri --lines within BASE
+uri --lines host-within DOMAIN
 uri --lines escape
 uri --lines --trim escape
 uri --lines --drop-default-port normalize
@@ -46,11 +54,14 @@ uri --lines --explain parse
 uri --lines --explain resolve BASE
 
 Runs the command for each line of the standard input, and prints one line for
-each, in order. A line is one text, or for equal two, separated by a tab; parse
-prints JSON objects; get with several parts prints them with tabs between them.
-Lines are bytes and of any length, and end with a newline
-alone: a carriage return is part of the text, which is rejected for it, or with
-escape is escaped, or taken off by --trim. A rejected line is reported as
+each, in order; within and host-within print the lines that are within. A line
+is one text, or for equal two, separated by a tab; parse prints JSON objects;
+get with several parts prints them with tabs between them. pairs is left out,
+since it prints any number of lines: pair prints the value of one.
+
+Lines are bytes and of any length, and end with a newline alone: a carriage
+return is part of the text, which is rejected for it, or with escape is escaped,
+or taken off by --trim. A rejected line is reported as
 `line N: ERROR: TEXT` on the standard error, prints nothing else, and the work
 goes on. TEXT is cut to 72 bytes around the error, and a byte that is not
 printable ASCII is shown as a dot. The work ends early if memory runs out, or a
@@ -99,26 +110,26 @@ impl Outcome {
 /// What an input has next.
 #[derive(Clone, Copy, PartialEq, Eq)]
 pub enum Next {
-    /// A line, and the newline that ends it.
+    /// A line, and the byte that ends it.
     Line,
-    /// The last line, which no newline ends: the input has ended.
+    /// The last line, which no such byte ends: the input has ended.
     LastLine,
     /// No line: the input has ended.
     End,
 }
 
-/// Removes the newline that the bytes end with, if they do, and returns what they are.
-fn drop_newline(line: &mut Vec<u8>) -> Next
-    ensures line { line.new.items ≡ strip_last newline line.old.items }
+/// Removes the byte that ends a line, if the bytes end with it, and returns what they are.
+fn drop_end(line: &mut Vec<u8>, end: u8) -> Next
+    ensures line { line.new.items ≡ strip_last end line.old.items }
     ensures end { result ≡ End → line.old.items ≡ [] }
     ensures some { result ≢ End → 0 < length line.old.items }
-    ensures last { result ≡ LastLine → ends_with_byte newline line.old.items ≡ false }
+    ensures last { result ≡ LastLine → ends_with_byte end line.old.items ≡ false }
 {
     let count = line.len();
     if count == 0 {
         return Next::End;
     }
-    if line[count - 1] != b'\n' {
+    if line[count - 1] != end {
         return Next::LastLine;
     }
     line.truncate(count - 1);
@@ -126,7 +137,7 @@ fn drop_newline(line: &mut Vec<u8>) -> Next
 }
 
 /// Appends the bytes before this place to the buffer. The byte there counts as if it were appended
-/// too, so the buffer grows as it does with `read_until`, which appends the newline.
+/// too, so the buffer grows as it does with `read_until`, which appends the byte that ends the line.
 fn append_front(held: &[u8], offset: usize, line: &mut Vec<u8>) -> io::Result<()>
     requires { offset ≤ length held.now }
     ensures ok { OnOk result (line.new.items ≡ line.old.items ++ take offset held.now) }
@@ -137,18 +148,18 @@ fn append_front(held: &[u8], offset: usize, line: &mut Vec<u8>) -> io::Result<()
     Ok(())
 }
 
-/// Reads the next line into the buffer, without its newline, and returns what there was. After the
-/// last line, if no newline ends it, the input has ended and need not be read again.
-pub fn read_line<I: BufRead>(input: &mut I, line: &mut Vec<u8>) -> io::Result<Next>
-    ensures line { OnOk result (IfSome (I.remaining input.old) (λ bytes. line.new.items ≡ first_piece newline bytes)) }
-    ensures rest { OnOk result (DropsThrough (I.remaining input.old) (I.remaining input.new) newline) }
+/// Reads the next line into the buffer, without the byte that ends it, and returns what there was. After
+/// the last line, if no such byte ends it, the input has ended and need not be read again.
+pub fn read_line<I: BufRead>(input: &mut I, line: &mut Vec<u8>, end: u8) -> io::Result<Next>
+    ensures line { OnOk result (IfSome (I.remaining input.old) (λ bytes. line.new.items ≡ first_piece end bytes)) }
+    ensures rest { OnOk result (DropsThrough (I.remaining input.old) (I.remaining input.new) end) }
     ensures end { result ≡ Ok End → IsAtEnd (I.remaining input.old) }
     ensures some { IfOk result (λ next. next ≢ End → IfSome (I.remaining input.old) (λ bytes. 0 < length bytes)) }
     ensures last { result ≡ Ok LastLine → IfSome (I.remaining input.old) (λ _. IsAtEnd (I.remaining input.new)) }
 {
     line.clear();
-    input.read_until(b'\n', line)?;
-    Ok(drop_newline(line))
+    input.read_until(end, line)?;
+    Ok(drop_end(line, end))
 }
 
 /// What is done with each line.
@@ -161,6 +172,8 @@ struct Work<'w> {
     columns: Option<Columns>,
     /// How many fields the task reads.
     width: usize,
+    /// The byte that ends lines.
+    end: u8,
 }
 
 /// What the work on a line uses and the next line can use again.
@@ -252,35 +265,51 @@ fn do_row<O: Write, E: Write>(
     err: &mut E,
 ) -> Result<Outcome, Failure>
     requires { 0 < work.now.width }
-    ensures row { OnOk result ((row : List ℕ) × spec.IsRow columns.first work.now.width columns.appends line.now row × Appends (O.contents out.old) (O.contents out.new) (row ++ newline ∷ [])) }
-    ensures one { lacks newline line.now ≡ true → OnOk result ((row : List ℕ) × (lacks newline row ≡ true) × Appends (O.contents out.old) (O.contents out.new) (row ++ newline ∷ [])) }
+    ensures row { OnOk result ((row : List ℕ) × spec.IsRow work.now.end columns.first work.now.width columns.appends line.now row × Appends (O.contents out.old) (O.contents out.new) (row ++ work.now.end ∷ [])) }
+    ensures one { (tab == work.now.end) ≡ false → lacks work.now.end line.now ≡ true → OnOk result ((row : List ℕ) × (lacks work.now.end row ≡ true) × Appends (O.contents out.old) (O.contents out.new) (row ++ work.now.end ∷ [])) }
 {
     let Some(cut) = columns.cut(line, work.width) else {
         // The status reports a rejection that can't be written either.
         let _ = report(false, number, &Failure::TooFewFields, line, 0, err);
-        write_line(line, out)?;
+        write_line(line, work.end, out)?;
         return Ok(Outcome::Rejected);
     };
     let outcome = print_result(work, buffers, number, cut.text, err)?;
-    write_row(&cut, columns.appends, &buffers.printed, out)?;
+    write_row(&cut, columns.appends, &buffers.printed, work.end, out)?;
     Ok(outcome)
 }
 
-/// Takes the next line, with its newline, from a reader that holds it whole, and copies it to the
-/// empty buffer, without the newline. Returns whether the reader holds it; if not, nothing is taken.
+/// Does the task for a line, and writes the result, if there is one, with the byte that ends lines.
+fn do_ended<O: Write, E: Write>(
+    work: &Work<'_>,
+    buffers: &mut Buffers,
+    number: u64,
+    line: &[u8],
+    out: &mut O,
+    err: &mut E,
+) -> Result<Outcome, Failure> {
+    let outcome = print_result(work, buffers, number, line, err)?;
+    if outcome != Outcome::Rejected && !buffers.printed.is_empty() {
+        write_line(first_line(&buffers.printed, work.end), work.end, out)?;
+    }
+    Ok(outcome)
+}
+
+/// Takes the next line, with the byte that ends it, from a reader that holds it whole, and copies it to
+/// the empty buffer, without that byte. Returns whether the reader holds it; if not, nothing is taken.
 /// The reader is not asked for more.
-#[tactic(auto, using(crate::proofs::LineLemmas::none_before, crate::proofs::LineLemmas::held_line))]
-fn take_whole<I: Read>(input: &mut BufReader<I>, line: &mut Vec<u8>) -> io::Result<bool>
+#[tactic(auto, using(crate::proofs::LineLemmas::held_line))]
+fn take_whole<I: Read>(input: &mut BufReader<I>, line: &mut Vec<u8>, end: u8) -> io::Result<bool>
     requires { line.old.items ≡ [] }
-    ensures clean { All (λ b. b ≢ newline) line.new.items }
+    ensures clean { All (λ b. b ≢ end) line.new.items }
     ensures line { result ≡ Ok true →
-        Consumes (reader_remaining I.remaining input.old) (reader_remaining I.remaining input.new) (line.new.items ++ newline ∷ []) }
+        Consumes (reader_remaining I.remaining input.old) (reader_remaining I.remaining input.new) (line.new.items ++ end ∷ []) }
     ensures nothing { result ≡ Ok false → input.new ≡ input.old }
-    ensures held { result ≡ Ok false → All (λ b. b ≢ newline) (reader_buffer input.old) }
+    ensures held { result ≡ Ok false → All (λ b. b ≢ end) (reader_buffer input.old) }
     ensures unasked { reader_inner input.new ≡ reader_inner input.old }
 {
     let held = input.buffer();
-    let offset = first(&Is(b'\n'), held);
+    let offset = first(&Is(end), held);
     if offset == held.len() {
         return Ok(false);
     }
@@ -307,23 +336,24 @@ fn keep_first(written: &mut io::Result<()>, next: io::Result<()>)
 pub fn next_line<I: Read, O: Write>(
     input: &mut BufReader<I>,
     line: &mut Vec<u8>,
+    end: u8,
     out: &mut O,
     written: &mut io::Result<()>,
 ) -> io::Result<Next>
-    ensures line { OnOk result (IfSome (reader_remaining I.remaining input.old) (λ bytes. line.new.items ≡ first_piece newline bytes)) }
-    ensures rest { OnOk result (DropsThrough (reader_remaining I.remaining input.old) (reader_remaining I.remaining input.new) newline) }
+    ensures line { OnOk result (IfSome (reader_remaining I.remaining input.old) (λ bytes. line.new.items ≡ first_piece end bytes)) }
+    ensures rest { OnOk result (DropsThrough (reader_remaining I.remaining input.old) (reader_remaining I.remaining input.new) end) }
     ensures end { result ≡ Ok End → IsAtEnd (reader_remaining I.remaining input.old) }
     ensures some { IfOk result (λ next. next ≢ End → IfSome (reader_remaining I.remaining input.old) (λ bytes. 0 < length bytes)) }
     ensures last { result ≡ Ok LastLine → IfSome (reader_remaining I.remaining input.old) (λ _. IsAtEnd (reader_remaining I.remaining input.new)) }
-    ensures unasked { Contains (reader_buffer input.old) newline → (reader_inner input.new ≡ reader_inner input.old) × (out.new ≡ out.old) }
+    ensures unasked { Contains (reader_buffer input.old) end → (reader_inner input.new ≡ reader_inner input.old) × (out.new ≡ out.old) }
     ensures kept { IsErr written.old → written.new ≡ written.old }
 {
     line.clear();
-    if take_whole(input, line)? {
+    if take_whole(input, line, end)? {
         return Ok(Next::Line);
     }
     keep_first(written, out.flush());
-    read_line(input, line)
+    read_line(input, line, end)
 }
 
 /// Does the work on each line, and returns the worst outcome. `written` gets the first error of a
@@ -345,13 +375,14 @@ fn do_lines<I: Read, O: Write, E: Write>(
         printed: Vec::new(work.alloc),
     };
     'lines: for number in 1..u64::MAX {
-        let next = match next_line(input, &mut line, out, written) {
+        let next = match next_line(input, &mut line, work.end, out, written) {
             Ok(Next::End) => break,
             Ok(next) => next,
             Err(error) => return Err(Failure::of_read(error, number)),
         };
         let outcome = match work.columns {
             Some(columns) => do_row(work, columns, &mut buffers, number, &line, out, err)?,
+            None if work.end != b'\n' => do_ended(work, &mut buffers, number, &line, out, err)?,
             None => do_line(work, &mut buffers.form, number, &line, out, err)?,
         };
         worst = worst.max(outcome);
@@ -415,6 +446,7 @@ pub fn lines<I: Read, O: Write, E: Write>(
         explains: options.explains,
         columns: options.columns,
         width: task.width(),
+        end: options.end,
         task,
     };
     let mut input = made(BufReader::with_capacity(alloc, CAPACITY, input))?;

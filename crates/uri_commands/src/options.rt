@@ -42,6 +42,8 @@ pub struct Options {
     pub explains: bool,
     /// `--align`, `--column K`, `--append`: a line goes out for each line, with these fields.
     pub columns: Option<Columns>,
+    /// The byte that ends lines: a newline, or with `--null` a NUL byte.
+    pub end: u8,
     pub manner: Manner,
 }
 
@@ -51,8 +53,14 @@ impl Options {
         reads_lines: false,
         explains: false,
         columns: None,
+        end: b'\n',
         manner: Manner::Plain,
     };
+
+    /// Whether there is an option that only `--lines` takes.
+    pub fn is_for_lines(self) -> bool {
+        self.columns.is_some() || self.end != b'\n'
+    }
 
     /// The options with one more manner.
     fn with_manner(self, manner: Manner) -> Options {
@@ -85,6 +93,10 @@ impl Options {
             "--explain" => {
                 let explains = true;
                 Options { explains, ..self }
+            }
+            "--null" | "-0" => {
+                let end = 0;
+                Options { end, ..self }
             }
             "--json" => self.with_manner(Manner::Json),
             "--quiet" => self.with_manner(Manner::Quiet),

@@ -15,6 +15,7 @@ uri relativize BASE URI
 ",
     page: "\
 uri relativize BASE URI
+uri --lines relativize BASE
 
 Prints the reference that leads from the base to the URI, without what both
 have in common: `uri resolve` makes the same of it as of the URI.
@@ -40,7 +41,7 @@ pub fn relativize<O: Write>(
 }
 
 /// Reads the target, and prints the reference that leads to it from the base.
-fn relativize_against<O: Write>(
+pub fn relativize_against<O: Write>(
     alloc: Global,
     base: &URI<'_>,
     target: &[u8],

@@ -4,6 +4,7 @@ pub mod KindChangeLemmas
 pub mod ViewLemmas
 pub mod WithinLemmas
 pub mod WithinLawLemmas
+pub mod ChangeLawLemmas
 pub mod BuilderLemmas
 pub mod ResolveLemmas
 pub mod FileLemmas

@@ -1,14 +1,19 @@
 //! Laws of the definitions that contracts cite. Each function does nothing: its contract is the
 //! law. Call it where a proof needs the law.
-ghost use Rattle.std.specs.Prelude.{◌≡◌, ◌↔◌, ◌⊎◌, ◌∷◌, ◌++◌, [], ℕ, List, Err, Ok, Some, None, codes, false, true};
+ghost use Rattle.std.specs.Prelude.{◌≡◌, ◌↔◌, ◌⊎◌, ◌∷◌, ◌++◌, [], ℕ, List, Err, Ok, Some, None, codes, false, is_some, true};
 ghost use Rattle.uriparse_text.specs.Ambiguous.{is_ambiguous};
 ghost use Rattle.uriparse_text.specs.Bytes.{slash};
 ghost use Rattle.uriparse_text.specs.Coding.{are_bytes};
+ghost use Rattle.std.specs.Option.{option_map};
 ghost use Rattle.uriparse_reference.specs.Builder.{held};
+ghost use Rattle.uriparse_reference.specs.Change.{Strings, after_authority, authority_whole, changed, changed_strings, changing, strings};
+ghost use Rattle.uriparse_reference.specs.Cuts.{authority_text, fragment_text, path_text, query_text, scheme_text};
+ghost use Rattle.uriparse_reference.specs.View.{Viewed};
+ghost use Rattle.uriparse_reference.specs.Wanted.{Wanted};
 ghost use Rattle.uriparse_reference.specs.Edits.{of_parts};
 ghost use Rattle.uriparse_reference.specs.Ports.{without_default_port};
 ghost use Rattle.uriparse_reference.specs.Normal.{normal};
-ghost use Rattle.uriparse_reference.specs.Reference.{Parts, Same, Valid, host_of, print};
+ghost use Rattle.uriparse_reference.specs.Reference.{Parts, Same, Spells, Valid, host_of, print};
 ghost use Rattle.uriparse.specs.File.{file_uri, path_named, path_of_uri, uri_of_path};
 ghost use Rattle.uriparse.specs.declared.file.error.FileError.TheVariants as errors;
 ghost use Rattle.uriparse.specs.Kinds.{IsOfKind, with_mapped_error};
@@ -72,6 +77,19 @@ pub fn within_uris()
     ensures normal { (p b : Parts) → Valid p → IsOfKind true p → IsWithin p b ↔ IsWithin (normal p) b }
     ensures normal_base { (p b : Parts) → Valid b → IsOfKind true b → IsWithin p b ↔ IsWithin p (normal b) }
     ensures equals { (p q b c : Parts) → Valid p → Valid q → Valid b → Valid c → IsOfKind true p → IsOfKind true q → IsOfKind true b → IsOfKind true c → Same p q → Same b c → IsWithin p b → IsWithin q c }
+{}
+
+/// A changed reference: its string spells its components. Its scheme, query and fragment are the wanted
+/// ones, or byte for byte the old ones, and so are the strings that its authority and its path are made
+/// of. A component that two changes name is what the second wants, and one that a change doesn't name
+/// is what it was.
+pub fn one_change()
+    ensures spelled { (c : Wanted) (t : List ℕ) (v : Viewed) → changing c t ≡ Ok v → Spells v.text v.parts }
+    ensures scheme { (c : Wanted) (t : List ℕ) (v : Viewed) → changing c t ≡ Ok v → scheme_text v.text ≡ changed c.scheme (scheme_text t) }
+    ensures query { (c : Wanted) (t : List ℕ) (v : Viewed) → changing c t ≡ Ok v → query_text v.text ≡ changed c.query (query_text t) }
+    ensures fragment { (c : Wanted) (t : List ℕ) (v : Viewed) → changing c t ≡ Ok v → fragment_text v.text ≡ changed c.fragment (fragment_text t) }
+    ensures authority { (c : Wanted) (t : List ℕ) (v : Viewed) → changing c t ≡ Ok v → (x : Strings) × (changed_strings c (strings t) ≡ Ok x) × (authority_text v.text ≡ option_map authority_whole x.authority) × (path_text v.text ≡ after_authority (is_some x.authority) x.path) }
+    ensures twice { (c d : Wanted) (t : List ℕ) (v w : Viewed) → changing c t ≡ Ok v → changing d v.text ≡ Ok w → query_text w.text ≡ changed d.query (changed c.query (query_text t)) }
 {}
 
 /// Origins: of one spelling each, and of URIs that have none.

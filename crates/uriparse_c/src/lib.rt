@@ -6,10 +6,11 @@
 #![tactic(auto)]
 
 ghost use Rattle.std.specs.Prelude.{◌≡◌, ◌⊎◌, ◌↔◌, ◌+◌, ◌<◌, ◌∷◌, ℕ, [], IsTrue, List, Err, Ok, Some, None, bytes_eq, is_some, length, true, false};
+ghost use Rattle.std.specs.List.{find};
 ghost use Rattle.uriparse_text.specs.declared.internal.class.Class.{Class};
 ghost use Rattle.uriparse_text.specs.declared.query.QueryError.{QueryError};
 ghost use Rattle.uriparse_text.specs.Coding.{decoded, encoded};
-ghost use Rattle.uriparse_text.specs.Pairs.{Pair, pairs_left};
+ghost use Rattle.uriparse_text.specs.Pairs.{Pair, encoded_in_pair, encoded_pair, is_named, joined_pairs, pairs, pairs_left, with_appended, with_pair, without_names};
 ghost use Rattle.uriparse_text.specs.Query.{IsQuery, reading};
 ghost use Rattle.uriparse_text.specs.Starts.{most};
 ghost use Rattle.uriparse_reference.specs.Change.{changing};
@@ -34,9 +35,9 @@ ghost use Rattle.uriparse_scheme.specs.Scheme as schemes;
 ghost use Rattle.uriparse_ffi.specs.Changes.{are_wishes, wanted_in};
 ghost use Rattle.uriparse_ffi.specs.Checks.{IsHostWithin, Tells, default_port_of, host_flags, order_number};
 ghost use Rattle.uriparse_ffi.specs.Code as spec;
-ghost use Rattle.uriparse_ffi.specs.Components.{class_of};
+ghost use Rattle.uriparse_ffi.specs.Components.{class_of, pair_number};
 ghost use Rattle.uriparse_ffi.specs.Hash.{hash_of};
-ghost use Rattle.uriparse_ffi.specs.Pairs.{IsPairAt, left_from};
+ghost use Rattle.uriparse_ffi.specs.Pairs.{IsFirstNamedAt, IsPairAt, left_from, value_given};
 ghost use Rattle.uriparse_ffi.specs.Places.{ArePlacesOf};
 ghost use Rattle.uriparse_ffi.specs.Put.{IsPut, IsRefused, IsRelativePut};
 
@@ -45,7 +46,8 @@ use uriparse_ffi::checks::{default_port, flags, write_host_within, write_order, 
 use uriparse_ffi::code::{ACCEPTED, code_of, truth_of};
 use uriparse_ffi::coding::{write_decoded, write_encoded, write_escaped};
 use uriparse_ffi::origins::write_origin;
-use uriparse_ffi::pairs::{UriPair, pair_at};
+use uriparse_ffi::pair_edits::{write_appended, write_with_pair, write_without};
+use uriparse_ffi::pairs::{UriPair, named_pair, pair_at};
 use uriparse_ffi::places::{UriParts, places};
 use uriparse_ffi::relatives::write_relative;
 use uriparse_ffi::texts::{equal_texts, hashed, write_normal, write_target};
@@ -324,6 +326,87 @@ pub extern "C" fn uriparse_next_pair(query: &[u8], at: usize, pair: &mut UriPair
     }
 }
 
+/// Finds the first pair of this name in a query, and says where it is and where the next one begins.
+/// Does not allocate.
+#[unsafe(no_mangle)]
+pub extern "C" fn uriparse_find_pair(query: &[u8], name: &[u8], pair: &mut UriPair) -> bool
+    // The first pair whose name stands for these bytes is there.
+    ensures found { (p : Pair) → find (is_named name.now) (pairs query.now) ≡ Some p → IsTrue result × IsFirstNamedAt name.now query.now p pair.new }
+
+    // If there is none, nothing is written.
+    ensures none { find (is_named name.now) (pairs query.now) ≡ None → (result ≡ false) × (pair.new ≡ pair.old) }
+{
+    match named_pair(query, name) {
+        Some(found) => {
+            *pair = found;
+            true
+        }
+        None => false,
+    }
+}
+
+/// Writes the query with one pair of a name to the buffer. Does not allocate.
+#[unsafe(no_mangle)]
+pub extern "C" fn uriparse_set_pair(
+    query: &[u8],
+    name: &[u8],
+    value: &[u8],
+    has_value: bool,
+    out: &mut [u8],
+    needed: &mut usize,
+) -> u32
+    // The buffer holds the query with the pair in place of the first one of its name, without the
+    // others of that name, or it is too small.
+    ensures written { IsQuery query.now → IsPut (joined_pairs (with_pair name.now (encoded_pair (name.now, value_given has_value value.now)) (pairs query.now))) out.old out.new needed.new result }
+
+    // What is no query is rejected with its fault, and the buffer is kept.
+    ensures refused { (e : QueryError) → reading query.now ≡ Err e → IsRefused (spec.query_code e) out.old out.new needed.new result }
+{
+    write_with_pair(query, name, value, has_value, out, needed)
+}
+
+/// Writes the query with a pair after all others to the buffer. Does not allocate.
+#[unsafe(no_mangle)]
+pub extern "C" fn uriparse_append_pair(
+    query: &[u8],
+    name: &[u8],
+    value: &[u8],
+    has_value: bool,
+    out: &mut [u8],
+    needed: &mut usize,
+) -> u32
+    // The buffer holds the query with the pair at its end, in place of an empty piece there, or it is
+    // too small.
+    ensures written { IsQuery query.now → IsPut (joined_pairs (with_appended (encoded_pair (name.now, value_given has_value value.now)) (pairs query.now))) out.old out.new needed.new result }
+
+    // What is no query is rejected with its fault, and the buffer is kept.
+    ensures refused { (e : QueryError) → reading query.now ≡ Err e → IsRefused (spec.query_code e) out.old out.new needed.new result }
+{
+    write_appended(query, name, value, has_value, out, needed)
+}
+
+/// Writes the query without the pairs of some names, which are written like a query, to the buffer.
+/// Does not allocate.
+#[unsafe(no_mangle)]
+pub extern "C" fn uriparse_drop_pairs(
+    query: &[u8],
+    names: &[u8],
+    out: &mut [u8],
+    needed: &mut usize,
+) -> u32
+    // The buffer holds the pairs of other names, or it is too small.
+    ensures written { (p : Pair) (ps : List Pair) → IsQuery query.now → IsQuery names.now → without_names (pairs names.now) (pairs query.now) ≡ p ∷ ps → IsPut (joined_pairs (p ∷ ps)) out.old out.new needed.new result }
+
+    // A query of which no pair is left is rejected, and the buffer is kept.
+    ensures nothing { IsQuery query.now → IsQuery names.now → without_names (pairs names.now) (pairs query.now) ≡ [] → IsRefused spec.no_pairs out.old out.new needed.new result }
+
+    // What is no query is rejected with its fault, and so are then such names.
+    ensures refused { (e : QueryError) → reading query.now ≡ Err e → IsRefused (spec.query_code e) out.old out.new needed.new result }
+    ensures names { (e : QueryError) → IsQuery query.now → reading names.now ≡ Err e → IsRefused spec.bad_names out.old out.new needed.new result }
+{
+    write_without(query, names, out, needed)
+}
+
 /// Writes the bytes that the text of a query represents to the buffer. Does not allocate.
 #[unsafe(no_mangle)]
 pub extern "C" fn uriparse_decode(text: &[u8], out: &mut [u8], needed: &mut usize) -> u32
@@ -348,8 +431,11 @@ pub extern "C" fn uriparse_encode(
     // is too small.
     ensures written { (c : Class) → class_of component ≡ Some c → IsPut (encoded c bytes.now) out.old out.new needed.new result }
 
+    // Of the number of pairs, `&`, `=` and `+` become escapes, too.
+    ensures pair { component ≡ pair_number → IsPut (encoded_in_pair bytes.now) out.old out.new needed.new result }
+
     // Another number is rejected, and the buffer is kept.
-    ensures unknown { class_of component ≡ None → IsRefused spec.no_component out.old out.new needed.new result }
+    ensures unknown { class_of component ≡ None → (component ≡ pair_number → ⊥) → IsRefused spec.no_component out.old out.new needed.new result }
 {
     write_encoded(component, bytes, out, needed)
 }

@@ -65,6 +65,14 @@ no_host = 11
 abbrev pub bad_change : ℕ
 bad_change = 12
 
+-- the names of pairs are no query
+abbrev pub bad_names : ℕ
+bad_names = 13
+
+-- no pair of the query is left
+abbrev pub no_pairs : ℕ
+no_pairs = 14
+
 -- added to the code of a base's error
 abbrev pub in_base : ℕ
 in_base = 0x100

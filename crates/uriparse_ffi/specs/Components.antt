@@ -9,3 +9,7 @@ abbrev pub class_of : ℕ → Option Class
 class_of n =
     if n == 0x10 then Some Name else if n == 0x20 then Some UserInfo else if n == 0x50 then Some Segment else
     if n == 0x60 || n == 0x70 then Some Query else None
+
+-- a name or a value of a pair of a query: no component, so no error has this number
+abbrev pub pair_number : ℕ
+pair_number = 0x90

@@ -23,6 +23,10 @@ pub const NO_HOST: u32 = 11;
 
 pub const BAD_CHANGE: u32 = 12;
 
+pub const BAD_NAMES: u32 = 13;
+
+pub const NO_PAIRS: u32 = 14;
+
 pub const IN_BASE: u32 = 0x100;
 
 fn of_username(error: UsernameError) -> u32

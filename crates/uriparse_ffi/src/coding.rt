@@ -3,6 +3,7 @@ ghost use Rattle.std.specs.Prelude.{◌≡◌, None, Some, Err};
 ghost use Rattle.uriparse_text.specs.declared.internal.class.Class.{Class};
 ghost use Rattle.uriparse_text.specs.declared.query.QueryError.{QueryError};
 ghost use Rattle.uriparse_text.specs.Coding.{decoded, encoded};
+ghost use Rattle.uriparse_text.specs.Pairs.{encoded_in_pair};
 ghost use Rattle.uriparse_text.specs.Query as query;
 ghost use Rattle.uriparse_reference.specs.Escaped.{escaped};
 ghost use Rattle.uriparse_ffi.specs.Code as spec;
@@ -12,7 +13,7 @@ ghost use Rattle.uriparse_ffi.specs.Put.{IsPut, IsRefused};
 use crate::code::{NO_COMPONENT, of_query};
 use crate::put::{answer_room, refuse};
 use uriparse::{Query, escape_invalid_into};
-use uriparse_text::internal::{Class, encode_into};
+use uriparse_text::internal::{Class, InPair, encode_into, write_text};
 
 /// Writes the bytes that the text of a query represents, or returns the code of its error.
 pub fn write_decoded(text: &[u8], out: &mut [u8], needed: &mut usize) -> u32
@@ -38,11 +39,18 @@ fn class_of(component: u32) -> Option<Class>
     }
 }
 
-/// Writes the bytes encoded as the component with this number.
+/// The number of a name or a value of a pair.
+const PAIR: u32 = 0x90;
+
+/// Writes the bytes encoded as the component with this number, or as a name or a value of a pair.
 pub fn write_encoded(component: u32, bytes: &[u8], out: &mut [u8], needed: &mut usize) -> u32
     ensures written { (c : Class) → components.class_of component ≡ Some c → IsPut (encoded c bytes.now) out.old out.new needed.new result }
-    ensures unknown { components.class_of component ≡ None → IsRefused spec.no_component out.old out.new needed.new result }
+    ensures pair { component ≡ components.pair_number → IsPut (encoded_in_pair bytes.now) out.old out.new needed.new result }
+    ensures unknown { components.class_of component ≡ None → (component ≡ components.pair_number → ⊥) → IsRefused spec.no_component out.old out.new needed.new result }
 {
+    if component == PAIR {
+        return answer_room(write_text(&InPair(bytes), out), needed);
+    }
     match class_of(component) {
         Some(class) => answer_room(encode_into(class, bytes, out), needed),
         None => refuse(NO_COMPONENT, needed),

@@ -10,6 +10,7 @@ pub mod code;
 pub mod coding;
 pub mod laws;
 pub mod origins;
+pub mod pair_edits;
 pub mod pairs;
 pub mod places;
 pub mod put;

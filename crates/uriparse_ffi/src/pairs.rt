@@ -1,11 +1,12 @@
 //! Where the pairs of a query are in its text, one after another. Nothing here allocates.
-ghost use Rattle.std.specs.Prelude.{◌≡◌, ◌+◌, ◌<◌, ◌∷◌, ◌^◌, ℕ, [], IfSome, IsSome, List, None, length};
-ghost use Rattle.uriparse_text.specs.Pairs.{Pair, pair_of, pairs_left};
+ghost use Rattle.std.specs.Prelude.{◌≡◌, ◌+◌, ◌<◌, ◌∷◌, ◌^◌, ℕ, [], IfSome, IsSome, List, None, Some, length};
+ghost use Rattle.std.specs.List.{find};
+ghost use Rattle.uriparse_text.specs.Pairs.{Pair, is_named, pair_of, pairs, pairs_left};
 ghost use Rattle.uriparse_text.specs.Starts.{most};
-ghost use Rattle.uriparse_ffi.specs.Pairs.{IsPairAt, left_from};
+ghost use Rattle.uriparse_ffi.specs.Pairs.{IsFirstNamedAt, IsPairAt, left_from};
 
 use crate::span::{UriSpan, offset_after, place};
-use uriparse_text::internal::{split_at_mark, without_mark};
+use uriparse_text::internal::{Named, find_pair, split_at_mark, without_mark};
 
 /// Where a pair of a query is, and where the next one begins.
 #[repr(C)]
@@ -47,4 +48,13 @@ pub fn pair_at(query: &[u8], at: usize) -> Option<UriPair>
     }
     let (piece, _) = split_at_mark(&query[at..], b'&');
     Some(place_pair(at, piece))
+}
+
+/// Where the first pair of this name is; `None` if there is none.
+pub fn named_pair(query: &[u8], name: &[u8]) -> Option<UriPair>
+    ensures found { (p : Pair) → find (is_named name.now) (pairs query.now) ≡ Some p → IsSome result × IfSome result (λ o. IsFirstNamedAt name.now query.now p o) }
+    ensures none { find (is_named name.now) (pairs query.now) ≡ None → result ≡ None }
+{
+    let left = find_pair(&Named(name), query)?;
+    pair_at(query, query.len() - left.len())
 }

@@ -8,7 +8,7 @@ ghost use Rattle.uriparse.specs.Path.{IsPath};
 ghost use Rattle.uriparse.specs.Reference.{Parts, Spells};
 ghost use Rattle.uriparse.specs.SchemeGrammar.{is_scheme};
 ghost use Rattle.uriparse.specs.TextFaults.{IsIn};
-ghost use Rattle.uri_commands.specs.Json.{escaped, object_of};
+ghost use Rattle.uri_commands.specs.Json.{escaped, object, object_of};
 
 /// A JSON string has each byte of a reference, and of its components and printed host, as it is.
 #[tactic(auto, using(crate::proofs::JsonLemmas::escaped_plain, crate::proofs::JsonLemmas::escaped_host, crate::proofs::JsonLemmas::plain_spelled, crate::proofs::JsonLemmas::plain_scheme, crate::proofs::JsonLemmas::plain_in_class, crate::proofs::JsonLemmas::plain_path))]
@@ -18,6 +18,12 @@ pub fn one_string()
     ensures host { (h : Host) → host.Valid h → escaped (host.text h) ≡ host.text h }
     ensures path { (t : List ℕ) → IsPath t → escaped t ≡ t }
     ensures class { (c : Class) (t : List ℕ) → IsIn c t → escaped t ≡ t }
+{}
+
+/// References with equal objects have equal strings, so an object can be read in one way alone.
+#[tactic(auto, using(crate::proofs::ObjectLemmas::one_text))]
+pub fn one_object()
+    ensures { (t u : List ℕ) (p q : Parts) → Spells t p → Spells u q → object t p ≡ object u q → t ≡ u }
 {}
 
 /// Objects of references.

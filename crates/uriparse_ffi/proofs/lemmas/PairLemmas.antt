@@ -1,15 +1,21 @@
 -- What is left of a query after a pair.
-use Rattle.std.proofs.Common.{◌≡◌, ℕ, ◌+◌, ◌-◌, ◌≤◌, ◌<◌, Bool, true, false, cond, List, [], ◌∷◌, ◌++◌, length, drop, Option, Some, None, refl, sym, ap, ◌∙◌, arith, append-nil, take, take_all}
-use Rattle.std.specs.Prelude.{nat_le}
-use Rattle.std.proofs.Math.Seq.{drop-append-add}
+use Rattle.std.proofs.Common.{◌≡◌, ℕ, ◌+◌, ◌-◌, ◌≤◌, ◌<◌, Bool, true, false, cond, List, [], ◌∷◌, ◌++◌, flat_map, length, drop, Option, Some, None, refl, sym, ap, subst, ◌∙◌, arith, append-nil, take, take_all}
+use Rattle.std.specs.Prelude.{IfSome, IsSome, nat_le}
+use Rattle.std.specs.List.{find}
+use Rattle.std.proofs.Math.Seq.{drop-append-add, drop-append_seam}
 use Rattle.std.proofs.lemmas.List.{length-append, length-drop, drop-drop}
 use Rattle.std.proofs.lemmas.Bool.{le-leb, lt-leb, leb-true, leb-false}
 use Rattle.uriparse_text.specs.Bytes.{ampersand}
 use Rattle.uriparse_text.specs.Cuts.{following, before, after}
-use Rattle.uriparse_text.specs.Pairs.{Pair, pair_of, pairs_left}
+use Rattle.uriparse_text.specs.Pairs.{Pair, is_named, pair_of, pairs, pairs_left, piece_of}
+use Rattle.uriparse_text.specs.Starts.{most}
+use Rattle.uriparse_text.specs.Written.{IsFirstAt}
 use Rattle.uriparse_text.proofs.lemmas.readings.CutLemmas.{before_after}
+use Rattle.uriparse_text.proofs.lemmas.readings.NamedLemmas.{find_at}
 use Rattle.uriparse_text.proofs.lemmas.readings.PairLemmas.{first_pair}
-use Rattle.uriparse_ffi.specs.Pairs.{left_from}
+use Rattle.uriparse_ffi.specs.Pairs.{IsFirstNamedAt, IsPairAt, left_from}
+use Rattle.uriparse_ffi.specs.declared.pairs.UriPair.{UriPair}
+use Rattle.uriparse_ffi.proofs.lemmas.TextLemmas.{some_is}
 
 abbrev left : List ℕ → ℕ → Bool → Option (List ℕ)
 left q at v = cond {A = Option (List ℕ)} v (Some (drop at q)) None
@@ -70,3 +76,44 @@ first_is ps qs p q h rs k = let same : p ∷ qs ≡ q ∷ rs = sym h ∙ k in (c
 
 pub not_none : (ps qs : List Pair) (p : Pair) → ps ≡ p ∷ qs → ps ≡ [] → ⊥
 not_none ps qs p h k = let bad : p ∷ qs ≡ [] = sym h ∙ k in absurd (cc)
+
+-- ---- the first pair of a name
+
+-- what is left from the place that a text precedes
+pub left_at : (q front left : List ℕ) → q ≡ front ++ left → (length q - length left ≡ length front) × (left_from q (length q - length left) ≡ Some left)
+left_at q front left whole =
+    let size = ap length whole ∙ length-append front left in
+    let place : length q - length left ≡ length front = omega (arith, size) in (
+      place,
+      left_some q (length q - length left) (omega (arith, size))
+          ∙ ap (λ n. Some (drop n q)) place ∙ ap (λ t. Some (drop (length front) t)) whole ∙ ap (λ t. Some t) (drop-append_seam front left),
+    )
+
+module _ (name q left : List ℕ) (p : Pair) (at : IsFirstAt (is_named name) q left) (is : find (is_named name) (pairs q) ≡ Some p) where
+  first : pair_of (before ampersand left) ≡ p
+  first = some_is (pair_of (before ampersand left)) p (sym (find_at (is_named name) q left at) ∙ is)
+
+  abbrev others : List Pair
+  others = pairs_left (after ampersand left)
+
+  from_place : pairs_left (left_from q (length q - length left)) ≡ p ∷ others
+  from_place =
+      ap pairs_left (left_at q (flat_map (λ p. piece_of p ++ ampersand ∷ []) at.others) left at.whole).1 ∙ first_pair left ∙ ap (λ r. r ∷ others) first
+
+  pub named_at : (r : Option UriPair)
+      → ((p : Pair) (ps : List Pair) → pairs_left (left_from q (length q - length left)) ≡ p ∷ ps → IsSome r × IfSome r (λ o. IsPairAt (length q - length left) p o))
+      → ((p : Pair) (ps : List Pair) → pairs_left (left_from q (length q - length left)) ≡ p ∷ ps → length q < most
+      → IfSome r (λ o. pairs_left (left_from q o.next) ≡ ps))
+      → IsSome r × IfSome r (λ o. IsFirstNamedAt name q p o)
+  named_at None found later = let some = (found p others from_place).0 in absurd (cc)
+  named_at (Some o) found later = (
+    (found p others from_place).0,
+    record {
+      others = at.others;
+      none = at.none;
+      place = subst (λ n. IsPairAt n p o) (left_at q (flat_map (λ p. piece_of p ++ ampersand ∷ []) at.others) left at.whole).0 (found p others from_place).1;
+      split = λ short.
+          at.split ∙ ap (λ l. at.others ++ l) (first_pair left ∙ ap (λ r. r ∷ others) first)
+          ∙ ap (λ l. at.others ++ p ∷ l) (sym (later p others from_place short));
+    },
+  )

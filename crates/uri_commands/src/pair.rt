@@ -1,0 +1,78 @@
+//! `uri pair NAME TEXT`: the value of one pair of a reference's query.
+
+use crate::failure::Failure;
+use crate::print::{print_bytes, print_line};
+use crate::topic::Topic;
+use std::alloc::Global;
+use std::io::Write;
+use uriparse::{Query, ReferenceView};
+use uriparse_text::internal::Held;
+
+pub static ABOUT: Topic = Topic {
+    name: "pair",
+    summary: "\
+uri pair NAME TEXT    the bytes of the value of the query's first pair of this
+                      name
+",
+    page: "\
+uri pair NAME TEXT
+uri --lines pair NAME
+
+Prints the bytes that the value of a pair stands for, and a newline: of the
+first pair in the reference's query whose decoded name is NAME. A pair without
+a `=` has an empty value. A `+` is a `+`, as for uri decode.
+
+With --lines the value is printed as it stands, since a decoded newline would
+break the line in two: `uri decode` gets the bytes of one. An absent pair is an
+empty line then, and the status is 0.
+
+Exit status: 0 on success, 1 if a text is no reference, 2 on a usage error,
+3 without --lines if there is no such pair; nothing is printed then.
+
+Example:
+    uri pair q 'http://h/?p=1&q=a%20b'
+prints
+    a b
+",
+};
+
+/// Prints the decoded value of the query's first pair of this name, or fails with `Failure::Absent`.
+pub fn pair<O: Write>(alloc: Global, name: &str, text: &[u8], out: &mut O) -> Result<(), Failure> {
+    let reference = ReferenceView::try_from_bytes(text)?;
+    match Held(reference.query()).0.as_ref() {
+        Some(query) => print_value(alloc, query.pair(name.as_bytes()), out),
+        None => Err(Failure::Absent),
+    }
+}
+
+/// Prints the decoded value, or fails with `Failure::Absent`.
+fn print_value<O: Write>(
+    alloc: Global,
+    value: Option<Query<'_>>,
+    out: &mut O,
+) -> Result<(), Failure> {
+    match Held(value).0.as_ref() {
+        Some(value) => {
+            let bytes = Held(value.decode(alloc)?);
+            print_bytes(&bytes.0, out).map_err(Failure::Output)
+        }
+        None => Err(Failure::Absent),
+    }
+}
+
+/// Prints the value of a line's first pair of this name as it stands, or an empty line if it is absent.
+pub fn pair_or_empty<O: Write>(name: &str, line: &[u8], out: &mut O) -> Result<(), Failure> {
+    let reference = ReferenceView::try_from_bytes(line)?;
+    match Held(reference.query()).0.as_ref() {
+        Some(query) => print_text(query.pair(name.as_bytes()), out),
+        None => out.write_all(b"\n").map_err(Failure::Output),
+    }
+}
+
+/// Prints the value as it stands, or an empty line.
+fn print_text<O: Write>(value: Option<Query<'_>>, out: &mut O) -> Result<(), Failure> {
+    match Held(value).0.as_ref() {
+        Some(value) => print_line(value, out).map_err(Failure::Output),
+        None => out.write_all(b"\n").map_err(Failure::Output),
+    }
+}

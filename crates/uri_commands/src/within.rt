@@ -1,0 +1,137 @@
+//! `uri within BASE URI` and `uri host-within DOMAIN REF`: whether a URI is below another one, and whether
+//! a host is a domain or under it.
+
+use crate::edit::read_host;
+use crate::failure::Failure;
+use crate::print::print_bytes;
+use crate::topic::Topic;
+use std::io::Write;
+use uriparse::{Host, ReferenceView, URIReferenceError, URIView};
+use uriparse_text::internal::Held;
+
+pub static ABOUT: Topic = Topic {
+    name: "within",
+    summary: "\
+uri within BASE URI   nothing; the status says whether the URI is below the
+                      base, by scheme, host, port and directory
+",
+    page: "\
+uri within BASE URI
+uri --lines within BASE
+
+The status says whether the URI is below the base, a URI too: scheme, host, port
+and user information are equal, and the path begins with the base's up to its
+last slash. Both are compared in normal form, without dot segments and default
+ports. A URI with a segment that servers may take for several, or for a dot
+segment, is below nothing: one with %2F, %5C, %25 or %00, or such as ..;a.
+
+With --lines prints each line whose URI is below the base, as grep does, and the
+status is 0 even if none is.
+
+Exit status: 0 on success, 1 if a text is no URI, 2 on a usage error, 3 without
+--lines if the URI is not below the base.
+
+Example:
+    uri within 'https://h/app/' 'https://h:443/app/a?b' && echo below
+    uri within 'https://h/app/' 'https://h/app/../b' || echo elsewhere
+prints
+    below
+    elsewhere
+",
+};
+
+pub static ABOUT_HOST: Topic = Topic {
+    name: "host-within",
+    summary: "\
+uri host-within DOMAIN REF
+                      nothing; the status says whether the reference's host
+                      is the domain or under it
+",
+    page: "\
+uri host-within DOMAIN REF
+uri --lines host-within DOMAIN
+
+The status says whether the reference's host is the domain or under it: they are
+equal, or both are names, and the labels of the host end with those of the
+domain. Escapes, upper case and a dot at the end don't count. A reference
+without a host is under no domain, and so is an address other than itself.
+
+With --lines prints each line whose host is under the domain, as grep does, and
+the status is 0 even if none is.
+
+Exit status: 0 on success, 1 if the domain is no host or a text is no reference,
+2 on a usage error, 3 without --lines if the host is not under the domain.
+
+Example:
+    uri host-within example.com 'http://www.EXAMPLE.com/' && echo under
+    uri host-within example.com 'http://evilexample.com/' || echo other
+prints
+    under
+    other
+",
+};
+
+/// Reads a domain, which is a host.
+pub fn read_domain(text: &str) -> Result<Host<'_>, URIReferenceError> {
+    Ok(read_host(text)?)
+}
+
+/// Fails with `Failure::Outside` if it is not within.
+fn only_within(is_within: bool) -> Result<(), Failure> {
+    if is_within {
+        Ok(())
+    } else {
+        Err(Failure::Outside)
+    }
+}
+
+/// Checks whether the URI is below the base, which is read first, and fails with `Failure::Outside` if
+/// it is not. Does not allocate.
+pub fn within(base: &[u8], text: &[u8]) -> Result<(), Failure> {
+    let base = URIView::try_from_bytes(base)?;
+    only_within(is_below(&base, text)?)
+}
+
+/// Reads the URI, and returns whether it is below the base.
+fn is_below(base: &URIView<'_>, text: &[u8]) -> Result<bool, Failure> {
+    let uri = URIView::try_from_bytes(text)?;
+    Ok(uri.is_within(base))
+}
+
+/// Checks whether the host of the reference is within the domain, which is read first, and fails with
+/// `Failure::Outside` if it is not. Does not allocate.
+pub fn host_within(domain: &str, text: &[u8]) -> Result<(), Failure> {
+    let domain = Held(read_domain(domain)?);
+    only_within(is_under(&domain.0, text)?)
+}
+
+/// Reads the reference, and returns whether its host is within the domain.
+fn is_under(domain: &Host<'_>, text: &[u8]) -> Result<bool, Failure> {
+    let reference = ReferenceView::try_from_bytes(text)?;
+    match Held(reference.host()).0.as_ref() {
+        Some(host) => Ok(host.is_within(domain)),
+        None => Ok(false),
+    }
+}
+
+/// Prints the line if its URI is below the base.
+pub fn print_within<O: Write>(base: &URIView<'_>, line: &[u8], out: &mut O) -> Result<(), Failure> {
+    print_if(is_below(base, line)?, line, out)
+}
+
+/// Prints the line if its reference has a host within the domain.
+pub fn print_host_within<O: Write>(
+    domain: &Host<'_>,
+    line: &[u8],
+    out: &mut O,
+) -> Result<(), Failure> {
+    print_if(is_under(domain, line)?, line, out)
+}
+
+/// Prints the line if it is within.
+fn print_if<O: Write>(is_within: bool, line: &[u8], out: &mut O) -> Result<(), Failure> {
+    if !is_within {
+        return Ok(());
+    }
+    print_bytes(line, out).map_err(Failure::Output)
+}
