@@ -34,14 +34,8 @@ pub fn see(
 /// assert_eq!(uri.to_string(alloc)?.as_str(), "http://h/a?b=c");
 /// ```
 pub fn strip_tracking(alloc: Global, uri: &mut URI<'_>) -> Result<(), URIError> {
-    for name in ["utm_source", "utm_medium", "utm_campaign", "gclid"] {
-        let Some(query) = uri.query() else {
-            return Ok(());
-        };
-        let kept = query.without_name(alloc, name.as_bytes())?;
-        uri.set_query(kept)?;
-    }
-    Ok(())
+    let names = Query::try_from_str("utm_*&gclid")?;
+    Ok(uri.remove_pairs_named(alloc, &names)?)
 }
 
 /// Sets a URI's query to one pair, and removes its fragment. The words are data: all that a query can't
@@ -56,22 +50,6 @@ pub fn search(alloc: Global, uri: &mut URI<'_>, words: &str) -> Result<(), URIEr
     let query = Query::from_pairs(alloc, &[(b"q", Some(words.as_bytes()))])?;
     uri.set_query(Some(query))?;
     uri.set_fragment(None)
-}
-
-/// Removes the user name and the password of a URI.
-///
-/// ```
-/// let mut uri = URI::try_from_str(alloc, "http://me:secret@h/a")?;
-/// remove_credentials(alloc, &mut uri)?;
-/// assert_eq!(uri.to_string(alloc)?.as_str(), "http://h/a");
-/// ```
-pub fn remove_credentials(alloc: Global, uri: &mut URI<'_>) -> Result<(), URIError> {
-    let Some(authority) = uri.authority() else {
-        return Ok(());
-    };
-    let mut authority = authority.to_owned(alloc)?;
-    authority.set_username(None)?;
-    uri.set_authority(Some(authority))
 }
 
 /// The value of the first pair of this name, both decoded as a form's. A pair without `=` has no value.
