@@ -293,6 +293,8 @@ def test_replace() -> None:
     assert uriparse.replace(b"a:b/c", host=b"h", port=80) == b"a://h:80/b/c"
     assert uriparse.replace(bytearray(b"//h"), host=None, path=memoryview(b"x")) == b"x"
     assert uriparse.replace("a?q", path="", query=None) == "" and uriparse.replace("a?q") == "a?q"
+    every = {"scheme": "s", "username": "u", "password": "p", "host": "h", "port": "", "path": "a", "query": "", "fragment": ""}
+    assert uriparse.replace("", **every) == "s://u:p@h:/a?#"  # type: ignore[call-overload]
     assert uriparse.replace("s:" + "a" * 9000, fragment="f" * 9000) == "s:" + "a" * 9000 + "#" + "f" * 9000
     rows: List[Any] = [
         ("http://h/a b", {"host": "x"}, "text", "path", uriparse.Code.PATH_BYTE, 10),

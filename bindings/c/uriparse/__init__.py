@@ -515,7 +515,8 @@ def replace(text: Text, *, scheme: Any = _KEEP, username: Any = _KEEP, password:
             data += utf8(found) if isinstance(found, str) else bytes(found)
             change.end = len(data)
     try:
-        room, needed = len(text) + len(data) + 8, ctypes.c_size_t()
+        # the text, the values, eight bytes of delimiters and a slash
+        room, needed = len(text) + len(data) + 9, ctypes.c_size_t()
     except TypeError:
         raise wrong_type(text) from None
     out = ctypes.create_string_buffer(room)
