@@ -7,11 +7,11 @@
 //! it.
 #![tactic(auto)]
 
-ghost use Rattle.std.specs.Prelude.{◌≡◌, ◌↔◌, Bool, IfOk, IsTrue, OnOk, Some, bytes_eq, fold, map, not};
+ghost use Rattle.std.specs.Prelude.{◌≡◌, ◌↔◌, [], Bool, IfOk, IsTrue, OnOk, Some, bytes_eq, fold, map, not, unwrap_or};
 ghost use Rattle.std.specs.Cmp.Lexicographic.{slice_cmp};
 ghost use Rattle.std.specs.Fmt.{DisplaysOnOk};
-ghost use Rattle.std.specs.List.{filter};
-ghost use Rattle.std.specs.Option.{option_copied};
+ghost use Rattle.std.specs.List.{filter, find, list_any};
+ghost use Rattle.std.specs.Option.{option_copied, option_map};
 ghost use Rattle.std.specs.Ordering.{nat_cmp};
 ghost use Rattle.uriparse_text.specs.declared.internal.case.Case.TheVariants as case;
 ghost use Rattle.uriparse_text.specs.Address.{ipv4_reading, ipv6_text};
@@ -155,6 +155,43 @@ pub fn with_pair(
     ensures { IfOk result (λ q. pairs.pairs q ≡ pairs.with_pair name.now (pairs.encoded_pair (name.now, option_copied value.entry)) (pairs.pairs query.now)) }
 {
     query.with_pair(alloc, name, value)
+}
+
+/// The value of the first pair of this name.
+pub fn pair<'q>(query: &'q Query<'_>, name: &[u8]) -> Option<Query<'q>>
+    ensures { result ≡ option_map (λ p. unwrap_or p.1 []) (find (pairs.is_named name.now) (pairs.pairs query.now)) }
+{
+    query.pair(name)
+}
+
+/// Whether there is a pair of this name.
+pub fn has_pair(query: &Query<'_>, name: &[u8]) -> bool
+    ensures { result ≡ list_any (pairs.is_named name.now) (pairs.pairs query.now) }
+{
+    query.has_pair(name)
+}
+
+/// The query with this pair after all others.
+pub fn with_appended_pair(
+    alloc: Global,
+    query: &Query<'_>,
+    name: &[u8],
+    value: Option<&[u8]>,
+) -> Result<Query<'static>, AllocError>
+    ensures { IfOk result (λ q. pairs.pairs q ≡ pairs.with_appended (pairs.encoded_pair (name.now, option_copied value.entry)) (pairs.pairs query.now)) }
+{
+    query.with_appended_pair(alloc, name, value)
+}
+
+/// The query without the pairs of these names.
+pub fn without_pairs_named(
+    alloc: Global,
+    query: &Query<'_>,
+    names: &Query<'_>,
+) -> Result<Option<Query<'static>>, AllocError>
+    ensures { IfOk result (λ q. pairs.pairs_left q ≡ pairs.without_names (pairs.pairs names.now) (pairs.pairs query.now)) }
+{
+    query.without_pairs_named(alloc, names)
 }
 
 /// The query without the pairs of this name.
