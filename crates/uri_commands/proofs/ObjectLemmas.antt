@@ -3,8 +3,10 @@ use Rattle.std.proofs.Common.{◌≡◌, ℕ, true, List, [], ◌∷◌, ◌++�
 use Rattle.std.specs.Prelude.{codes}
 use Rattle.std.specs.List.{join_with_byte, list_all}
 use Rattle.std.proofs.lemmas.Bool.{and_parts, false≢true}
-use Rattle.uriparse.specs.Reference.{Parts, Spells}
-use Rattle.uri_commands.specs.Json.{Member, comma, escaped, member, member_text, needs_no_json_escape, object, object_text, quote}
+use Rattle.std.specs.Option.{option_map}
+use Rattle.uriparse.specs.Reference.{Parts, Spells, host_of, password_of, port_of, username_of}
+use Rattle.uriparse.specs.Scheme as scheme
+use Rattle.uri_commands.specs.Json.{Member, back_members, comma, escaped, host_members, member, member_text, needs_no_json_escape, object, object_text, port_members, quote, segment_members, string_or_null}
 use Rattle.uri_commands.specs.Json.{String}
 use Rattle.uri_commands.proofs.JsonLemmas.{escaped_plain, plain_spelled}
 
@@ -28,10 +30,25 @@ after_opening t m ms =
     let more = comma ∷ join_with_byte comma (map member_text (m ∷ ms)) in
     append_assoc (escaped t ++ quote ∷ []) more (codes "}") ∙ append_assoc (escaped t) (quote ∷ []) (more ++ codes "}")
 
+-- what follows that string
+abbrev others : Parts → List Member
+others p =
+    member (codes "username") (string_or_null (username_of p)) ∷ member (codes "password") (string_or_null (password_of p))
+    ∷ (host_members (host_of p) ++ (port_members (port_of p) ++ (back_members p ++ segment_members p.path.segments)))
+
+abbrev scheme_member : Parts → Member
+scheme_member p = member (codes "scheme") (string_or_null (option_map scheme.text p.scheme))
+
+abbrev following : Parts → List ℕ
+following p = (comma ∷ join_with_byte comma (map member_text (scheme_member p ∷ others p))) ++ codes "}"
+
+object_is : (t : List ℕ) (p : Parts) → drop 9 (object t p) ≡ escaped t ++ quote ∷ following p
+object_is t p = after_opening t (scheme_member p) (others p)
+
 pub one_text : (t u : List ℕ) (p q : Parts) → Spells t p → Spells u q → object t p ≡ object u q → t ≡ u
 one_text t u p q s s' e =
     let plain = plain_spelled t p s in
     let other = plain_spelled u q s' in
-    let rest = sym (after_opening t _ _) ∙ ap (drop 9) e ∙ after_opening u _ _ in
-    cut_quote t u _ _ plain other
-    (ap (λ x. x ++ quote ∷ _) (sym (escaped_plain t plain)) ∙ rest ∙ ap (λ x. x ++ quote ∷ _) (escaped_plain u other))
+    let rest : escaped t ++ quote ∷ following p ≡ escaped u ++ quote ∷ following q = sym (object_is t p) ∙ ap (drop 9) e ∙ object_is u q in
+    cut_quote t u (following p) (following q) plain other
+    (ap (λ x. x ++ quote ∷ following p) (sym (escaped_plain t plain)) ∙ rest ∙ ap (λ x. x ++ quote ∷ following q) (escaped_plain u other))

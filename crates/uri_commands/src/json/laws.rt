@@ -21,7 +21,6 @@ pub fn one_string()
 {}
 
 /// References with equal objects have equal strings, so an object can be read in one way alone.
-#[tactic(auto, using(crate::proofs::ObjectLemmas::one_text))]
 pub fn one_object()
     ensures { (t u : List ℕ) (p q : Parts) → Spells t p → Spells u q → object t p ≡ object u q → t ≡ u }
 {}
