@@ -7,7 +7,7 @@ use crate::make::put_like;
 use crate::random::Random;
 use crate::requests::request_models;
 use crate::texts::Texts;
-use std::alloc::Global;
+use std::alloc::{AllocError, Global};
 use uriparse::{Change, Changes, Query, ReferenceView};
 
 /// Edits `count` URIs.
@@ -38,19 +38,34 @@ fn edit(
     digest: &mut Digest,
 ) -> Result<(), JobError> {
     let view = ReferenceView::try_from_bytes(uri)?;
-    let query = match view.query() {
-        Some(query) => query.without_pairs_named(alloc, names)?,
-        None => None,
-    };
+    let query = view.query();
+    let left = left_of(alloc, query.as_ref(), names)?;
+    let len = view.change_into(&changes_to(left.as_ref()), out)?;
+    digest.add_bytes(out.get(..len).unwrap_or(&[]));
+    Ok(())
+}
+
+/// What is left of a query without the pairs of these names.
+fn left_of<'q>(
+    alloc: Global,
+    query: Option<&Query<'q>>,
+    names: &Query<'_>,
+) -> Result<Option<Query<'q>>, AllocError> {
+    match query {
+        Some(query) => query.without_pairs_named(alloc, names),
+        None => Ok(None),
+    }
+}
+
+/// The changes that lead to this query.
+fn changes_to<'q>(query: Option<&'q Query<'_>>) -> Changes<'q> {
     let mut changes = Changes::none();
     changes.username = Change::Remove;
     changes.host = Change::Set(b"example.com");
     changes.fragment = Change::Remove;
-    changes.query = match &query {
+    changes.query = match query {
         Some(query) => Change::Set(query.as_bytes()),
         None => Change::Remove,
     };
-    let len = view.change_into(&changes, out)?;
-    digest.add_bytes(out.get(..len).unwrap_or(&[]));
-    Ok(())
+    changes
 }
