@@ -294,7 +294,7 @@ def test_replace() -> None:
     assert uriparse.replace(bytearray(b"//h"), host=None, path=memoryview(b"x")) == b"x"
     assert uriparse.replace("a?q", path="", query=None) == "" and uriparse.replace("a?q") == "a?q"
     every = {"scheme": "s", "username": "u", "password": "p", "host": "h", "port": "", "path": "a", "query": "", "fragment": ""}
-    assert uriparse.replace("", **every) == "s://u:p@h:/a?#"  # type: ignore[call-overload]
+    assert uriparse.replace("", **every) == "s://u:p@h:/a?#"
     assert uriparse.replace("s:" + "a" * 9000, fragment="f" * 9000) == "s:" + "a" * 9000 + "#" + "f" * 9000
     rows: List[Any] = [
         ("http://h/a b", {"host": "x"}, "text", "path", uriparse.Code.PATH_BYTE, 10),
@@ -373,11 +373,12 @@ def test_checks() -> None:
     assert uriparse.host_flags("//%31.2.3.4") == uriparse.HostFlag.HIDES_ADDRESS | uriparse.HostFlag.MAY_BE_NUMERIC
     assert uriparse.host_flags(b"//0x7f.1") is uriparse.HostFlag.MAY_BE_NUMERIC and not uriparse.host_flags("//example.com")
     assert uriparse.default_port("HTTPS") == 443 and uriparse.default_port(b"mailto") is None and uriparse.default_port("") is None
-    for call, arguments, argument, code, place in (
-            (uriparse.compare, ("a", "a b"), "right", 0x51, 1), (uriparse.is_within, ("/a", "%"), "uri", 3, 0),
-            (uriparse.is_within, ("s:", "%"), "base", 0x152, 0), (uriparse.is_within, ("a b", "%"), "uri", 0x51, 1),
-            (uriparse.is_within, ("s:", "a"), "base", 0x103, 0), (uriparse.host_is_within, ("//h", "a b"), "domain", 0x131, 1),
-            (uriparse.host_is_within, ("a b", "["), "text", 0x51, 1), (uriparse.host_flags, ("a b",), "text", 0x51, 1)):
+    faults: List[Any] = [
+        (uriparse.compare, ("a", "a b"), "right", 0x51, 1), (uriparse.is_within, ("/a", "%"), "uri", 3, 0),
+        (uriparse.is_within, ("s:", "%"), "base", 0x152, 0), (uriparse.is_within, ("a b", "%"), "uri", 0x51, 1),
+        (uriparse.is_within, ("s:", "a"), "base", 0x103, 0), (uriparse.host_is_within, ("//h", "a b"), "domain", 0x131, 1),
+        (uriparse.host_is_within, ("a b", "["), "text", 0x51, 1), (uriparse.host_flags, ("a b",), "text", 0x51, 1)]
+    for call, arguments, argument, code, place in faults:
         error = raised(call, *arguments)
         assert isinstance(error, uriparse.URIError) and (error.argument, error.code, error.place) == (argument, code, place), (error, arguments)
     for wrong in (lambda: uriparse.compare("a", b"a"), lambda: uriparse.is_within(b"s:", "s:"),  # type: ignore[call-overload]
@@ -399,9 +400,10 @@ def test_pairs_by_name() -> None:
     assert uriparse.without_pairs(b"http://h/?utm_a#f", b"utm_*") == b"http://h/#f"
     assert uriparse.without_pairs("?a", "b") == "?a" and uriparse.without_pairs("a", "b") == "a" and uriparse.without_pairs("?a") == "?a"
     assert uriparse.encode("pair", "a&b=c d+") == "a%26b%3Dc%20d%2B"
-    for call, arguments, argument, code, place in (
-            (uriparse.with_pair, ("a b", "n", "v"), "text", 0x51, 1), (uriparse.without_pairs, ("?a", "c", "b#"), "names", 13, 3),
-            (uriparse.pair, ("?a", "\ud800"), "name", 0x61, 0), (uriparse.encode, ("pair", "a\ud800"), "data", 0x61, 1)):
+    faults: List[Any] = [
+        (uriparse.with_pair, ("a b", "n", "v"), "text", 0x51, 1), (uriparse.without_pairs, ("?a", "c", "b#"), "names", 13, 3),
+        (uriparse.pair, ("?a", "\ud800"), "name", 0x61, 0), (uriparse.encode, ("pair", "a\ud800"), "data", 0x61, 1)]
+    for call, arguments, argument, code, place in faults:
         error = raised(call, *arguments)
         assert isinstance(error, uriparse.URIError) and (error.argument, error.code, error.place) == (argument, code, place), (error, arguments)
     for wrong in (lambda: uriparse.pair("?a", b"a"), lambda: uriparse.with_pair(b"?a", b"a", "b"),  # type: ignore[call-overload]

@@ -115,7 +115,7 @@ await test("the messages are those of the header", async () => {
   const header = await readFile(new URL("../c/uriparse.h", import.meta.url), "utf8");
   const codes = new Map([...header.matchAll(/^  URIPARSE_(\w+) = (0x\w+|\d+)/gm)].map(([, name, code]) => [name, Number(code)]));
   const texts = [...header.matchAll(/case URIPARSE_(\w+): return "(.*)";/g)].map(([, name, text]) => [codes.get(name), text]);
-  assert.equal(texts.length, 32);
+  assert.equal(texts.length, 34);
   for (const [code, text] of texts.filter(([code]) => code > 2)) {
     assert.equal(new URIParseError(code, null, "").message, text);
   }
