@@ -3,6 +3,7 @@
 ghost use Rattle.std.specs.Prelude.{◌≡◌, Err, IfOk, MatchResult, None, Ok, bytes_eq, is_some, false, string_bytes, true};
 ghost use Rattle.uriparse_reference.specs.Edits.{edited};
 ghost use Rattle.uriparse_reference.specs.OwnedText.{viewed_in};
+ghost use Rattle.uriparse_reference.specs.PairEdits.{pair_in};
 ghost use Rattle.uriparse_reference.specs.Reading.{fault};
 ghost use Rattle.uriparse_reference.specs.Reference.{print};
 ghost use Rattle.uriparse_reference.specs.Target.{ResolvesTo};
@@ -62,6 +63,13 @@ pub fn set_query(
     ensures { MatchResult result (λ _. text.new.text ≡ with_query text.old.text query.entry) (λ _. text.new ≡ text.old) }
 {
     text.set_query(alloc, query)
+}
+
+/// The value of a pair of the query that was viewed.
+pub fn pair<'t>(view: &ReferenceView<'t>, name: &[u8]) -> Option<Query<'t>>
+    ensures { result ≡ pair_in name.now view.now.parts }
+{
+    view.pair(name)
 }
 
 /// Sets the fragment, and keeps the rest of the string.

@@ -4,7 +4,11 @@ pub mod KindChangeLemmas
 pub mod ViewLemmas
 pub mod WithinLemmas
 pub mod WithinLawLemmas
+pub mod WithinTargetLemmas
 pub mod ChangeLawLemmas
+pub mod UnchangedLemmas
+pub mod ChangedPartLemmas
+pub mod CommutingLemmas
 pub mod BuilderLemmas
 pub mod ResolveLemmas
 pub mod FileLemmas

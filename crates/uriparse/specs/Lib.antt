@@ -6,6 +6,7 @@ pub mod Origin
 pub mod Within
 pub mod File
 pub mod ChangeOf
+pub mod Apart
 -- texts: RFC 3986, section 2
 pub use Rattle.uriparse_text.specs.Bytes
 pub use Rattle.uriparse_text.specs.Classes

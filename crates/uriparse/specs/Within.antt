@@ -1,5 +1,5 @@
 -- URIs below other URIs: RFC 3986, sections 3.3, 6.2.2 and 6.2.3.
-use Rattle.std.specs.Prelude.{◌≡◌, ℕ, false, List, Option}
+use Rattle.std.specs.Prelude.{◌≡◌, false, Option}
 use Rattle.std.specs.Option.{option_and_then, option_map, option_or}
 use Rattle.uriparse_scheme.specs.DefaultPort.{default_port}
 use Rattle.uriparse_scheme.specs.Scheme as scheme

@@ -1,24 +1,28 @@
 //! Laws of the definitions that contracts cite. Each function does nothing: its contract is the
 //! law. Call it where a proof needs the law.
-ghost use Rattle.std.specs.Prelude.{◌≡◌, ◌↔◌, ◌⊎◌, ◌∷◌, ◌++◌, [], ℕ, List, Err, Ok, Some, None, codes, false, is_some, true};
+ghost use Rattle.std.specs.Prelude.{◌≡◌, ◌↔◌, ◌⊎◌, ◌∷◌, ◌++◌, ◌<◌, [], ℕ, List, Err, Ok, Some, None, codes, false, is_some, length, true};
+ghost use Rattle.std.specs.List.{list_any};
 ghost use Rattle.uriparse_text.specs.Ambiguous.{is_ambiguous};
 ghost use Rattle.uriparse_text.specs.Bytes.{slash};
 ghost use Rattle.uriparse_text.specs.Coding.{are_bytes};
-ghost use Rattle.std.specs.Option.{option_map};
+ghost use Rattle.std.specs.Option.{option_and_then, option_map};
 ghost use Rattle.uriparse_reference.specs.Builder.{held};
 ghost use Rattle.uriparse_reference.specs.Change.{Strings, after_authority, authority_whole, changed, changed_strings, changing, strings};
 ghost use Rattle.uriparse_reference.specs.Cuts.{authority_text, fragment_text, path_text, query_text, scheme_text};
 ghost use Rattle.uriparse_reference.specs.View.{Viewed};
-ghost use Rattle.uriparse_reference.specs.Wanted.{Wanted};
+ghost use Rattle.uriparse_reference.specs.Wanted.{Wanted, unchanged};
 ghost use Rattle.uriparse_reference.specs.Edits.{of_parts};
 ghost use Rattle.uriparse_reference.specs.Ports.{without_default_port};
 ghost use Rattle.uriparse_reference.specs.Normal.{normal};
 ghost use Rattle.uriparse_reference.specs.Reference.{Parts, Same, Spells, Valid, host_of, print};
+ghost use Rattle.uriparse.specs.Apart.{AreApart};
 ghost use Rattle.uriparse.specs.File.{file_uri, path_named, path_of_uri, uri_of_path};
 ghost use Rattle.uriparse.specs.declared.file.error.FileError.TheVariants as errors;
 ghost use Rattle.uriparse.specs.Kinds.{IsOfKind, with_mapped_error};
 ghost use Rattle.uriparse.specs.Origin.{are_alike, fed, have_same_origin, origin, printed_origin, share_origin, text};
 ghost use Rattle.uriparse.specs.declared.uri.origin.Origin.{Origin};
+ghost use Rattle.uriparse_authority.specs.Authority as authority;
+ghost use Rattle.uriparse_authority.specs.Authority.{password_after, with_empty};
 ghost use Rattle.uriparse_authority.specs.Host as host;
 ghost use Rattle.uriparse_authority.specs.Normal.{canonical_host};
 ghost use Rattle.uriparse_authority.specs.declared.authority.host.Host.{Host};
@@ -26,9 +30,12 @@ ghost use Rattle.uriparse_scheme.specs.Scheme as scheme;
 ghost use Rattle.uriparse.specs.RelativeReference as relative;
 ghost use Rattle.uriparse.specs.Uri as uri;
 ghost use Rattle.uriparse.specs.Within.{IsWithin};
-ghost use Rattle.uriparse_path.specs.Dots.{all_but_last};
+ghost use Rattle.uriparse_path.specs.Dots.{all_but_last, is_double_dot};
 ghost use Rattle.uriparse_path.specs.Normal.{pnormal};
-ghost use Rattle.uriparse_path.specs.Within.{between_slashes};
+ghost use Rattle.uriparse_path.specs.Path as path;
+ghost use Rattle.uriparse_path.specs.Relative.{is_last};
+ghost use Rattle.uriparse_path.specs.Within.{between_slashes, has_ambiguous};
+ghost use Rattle.uriparse_reference.specs.Target.{is_empty, is_merged, target};
 
 pub use uriparse_reference::laws::{
     equal_in_equal_out, faults_of_reading, normalising_commutes, one_build, one_cut,
@@ -76,19 +83,36 @@ pub fn within_uris()
     ensures directories { (p b : Parts) → IsWithin p b → IsWithin b p → all_but_last (between_slashes (pnormal p.path false)) ≡ all_but_last (between_slashes (pnormal b.path false)) }
     ensures normal { (p b : Parts) → Valid p → IsOfKind true p → IsWithin p b ↔ IsWithin (normal p) b }
     ensures normal_base { (p b : Parts) → Valid b → IsOfKind true b → IsWithin p b ↔ IsWithin p (normal b) }
+    ensures target { (b r t : Parts) → Valid b → Valid r → is_merged r ≡ true → is_last is_double_dot b.path.segments ≡ false → 1 < length (between_slashes (pnormal b.path false)) → list_any is_double_dot (pnormal r.path true).segments ≡ false → has_ambiguous (pnormal r.path true).segments ≡ false → target b r ≡ Some t → IsWithin t b }
+    ensures own { (b r t : Parts) (front : List (List ℕ)) (last : List ℕ) → Valid b → r.scheme ≡ None → r.authority ≡ None → is_empty (path.text r.path) ≡ true → between_slashes (pnormal b.path false) ≡ front ++ last ∷ [] → is_ambiguous last ≡ false → target b r ≡ Some t → IsWithin t b }
     ensures equals { (p q b c : Parts) → Valid p → Valid q → Valid b → Valid c → IsOfKind true p → IsOfKind true q → IsOfKind true b → IsOfKind true c → Same p q → Same b c → IsWithin p b → IsWithin q c }
 {}
 
-/// A changed reference: its string spells its components. Its scheme, query and fragment are the wanted
-/// ones, or byte for byte the old ones, and so are the strings that its authority and its path are made
-/// of. A component that two changes name is what the second wants, and one that a change doesn't name
-/// is what it was.
+/// A change that keeps every component changes nothing, and making a change again changes nothing
+/// more. Two changes of different components make the same string in either order, if both orders are
+/// accepted. The user name and the password count as one component there, and so do the host and the
+/// path.
+///
+/// The string of a changed reference spells its components. Its scheme, host, query and fragment are
+/// the wanted ones or byte for byte the old ones, and so are the port, the user name and the password
+/// beside a host, except that a kept password goes with a removed user name, and that a password
+/// without a user name brings an empty one. The string is cut into the changed strings. After an
+/// authority its path starts with a slash, unless it is empty. A component that two changes name is
+/// what the second wants, and one that a change doesn't name is what it was.
 pub fn one_change()
+    ensures unchanged { (t : List ℕ) (p : Parts) → Spells t p → changing unchanged t ≡ Ok (record { text = t; parts = p }) }
     ensures spelled { (c : Wanted) (t : List ℕ) (v : Viewed) → changing c t ≡ Ok v → Spells v.text v.parts }
     ensures scheme { (c : Wanted) (t : List ℕ) (v : Viewed) → changing c t ≡ Ok v → scheme_text v.text ≡ changed c.scheme (scheme_text t) }
     ensures query { (c : Wanted) (t : List ℕ) (v : Viewed) → changing c t ≡ Ok v → query_text v.text ≡ changed c.query (query_text t) }
     ensures fragment { (c : Wanted) (t : List ℕ) (v : Viewed) → changing c t ≡ Ok v → fragment_text v.text ≡ changed c.fragment (fragment_text t) }
     ensures authority { (c : Wanted) (t : List ℕ) (v : Viewed) → changing c t ≡ Ok v → (x : Strings) × (changed_strings c (strings t) ≡ Ok x) × (authority_text v.text ≡ option_map authority_whole x.authority) × (path_text v.text ≡ after_authority (is_some x.authority) x.path) }
+    ensures components { (c : Wanted) (t : List ℕ) (v : Viewed) → changing c t ≡ Ok v → (x : Strings) × (changed_strings c (strings t) ≡ Ok x) × (strings v.text ≡ record x { path = after_authority (is_some x.authority) x.path }) }
+    ensures host { (c : Wanted) (t : List ℕ) (v : Viewed) → changing c t ≡ Ok v → option_map authority.host_text (authority_text v.text) ≡ changed c.host (option_map authority.host_text (authority_text t)) }
+    ensures port { (c : Wanted) (t : List ℕ) (v : Viewed) (a : List ℕ) → changing c t ≡ Ok v → authority_text v.text ≡ Some a → authority.port_text a ≡ changed c.port (option_and_then authority.port_text (authority_text t)) }
+    ensures username { (c : Wanted) (t : List ℕ) (v : Viewed) (a : List ℕ) → changing c t ≡ Ok v → authority_text v.text ≡ Some a → authority.username_text a ≡ with_empty (changed c.username (option_and_then authority.username_text (authority_text t))) (authority.password_text a) }
+    ensures password { (c : Wanted) (t : List ℕ) (v : Viewed) (a : List ℕ) → changing c t ≡ Ok v → authority_text v.text ≡ Some a → authority.password_text a ≡ changed c.password (password_after (changed c.username (option_and_then authority.username_text (authority_text t))) (option_and_then authority.password_text (authority_text t))) }
+    ensures again { (c : Wanted) (t : List ℕ) (v : Viewed) → changing c t ≡ Ok v → changing c v.text ≡ Ok v }
+    ensures commuting { (c d : Wanted) (t : List ℕ) (u v w x : Viewed) → AreApart c d → changing c t ≡ Ok u → changing d u.text ≡ Ok v → changing d t ≡ Ok w → changing c w.text ≡ Ok x → v ≡ x }
     ensures twice { (c d : Wanted) (t : List ℕ) (v w : Viewed) → changing c t ≡ Ok v → changing d v.text ≡ Ok w → query_text w.text ≡ changed d.query (changed c.query (query_text t)) }
 {}
 

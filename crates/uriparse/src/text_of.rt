@@ -21,6 +21,7 @@ use uriparse_path::path::PathError;
 use uriparse_reference::uri_reference::{ReferenceText, RejectedText, URIReferenceError};
 
 mod edit;
+mod pairs;
 
 /// A reference with a scheme or one without, by its kind, in a text that it owns. Users name it
 /// [`URIText`](crate::uri::URIText) or

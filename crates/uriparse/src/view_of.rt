@@ -20,6 +20,8 @@ use std::hash::{Hash, Hasher};
 use std::marker::{Model, PhantomData};
 use uriparse_reference::uri_reference::{BufferError, ReferenceView};
 
+mod pairs;
+
 /// A reference with a scheme or one without, by its kind, in its text. Users name it
 /// [`URIView`](crate::uri::URIView) or
 /// [`RelativeReferenceView`](crate::relative_reference::RelativeReferenceView). Contracts see it as

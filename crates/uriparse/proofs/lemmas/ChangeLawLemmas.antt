@@ -1,20 +1,18 @@
 -- What the strings of a changed reference are cut into.
-use Rattle.std.proofs.Common.{◌≡◌, ℕ, Bool, true, List, Option, Some, None, Ok, refl, sym, ap, ◌∙◌, subst}
+use Rattle.std.proofs.Common.{◌≡◌, ℕ, List, Ok, refl, sym, ap, ◌∙◌, subst}
 use Rattle.std.specs.Prelude.{IfSome, is_some}
 use Rattle.std.specs.Option.{option_map}
 use Rattle.uriparse_text.specs.declared.internal.class.Class.TheVariants as class
 use Rattle.uriparse_text.specs.Query as query
 use Rattle.uriparse_text.specs.Query.{IsQuery}
-use Rattle.uriparse_text.specs.Fragment as fragment
-use Rattle.uriparse_text.specs.Readings.{◌>>=◌, of_piece, if_present}
+use Rattle.uriparse_text.specs.Readings.{of_piece, if_present}
 use Rattle.uriparse_text.proofs.lemmas.readings.ReadingLemmas.{bind_ok, piece_found, present_found, texts_found}
 use Rattle.uriparse_scheme.specs.Scheme as scheme
-use Rattle.uriparse_reference.specs.Change.{AuthorityStrings, Strings, after_authority, authority_if, authority_whole, changed, changed_authority, changed_path, changed_strings, changing, path_reading, strings, strings_reading, viewed_strings, whole, with_authority}
-use Rattle.uriparse_reference.specs.Cuts.{authority_text, fragment_text, path_text, query_text, scheme_text}
+use Rattle.uriparse_reference.specs.Change.{AuthorityStrings, Strings, after_authority, authority_if, authority_whole, changed, changed_authority, changed_strings, changing, path_reading, strings, strings_reading, viewed_strings, whole, with_authority}
+use Rattle.uriparse_reference.specs.Cuts.{fragment_text, query_text, scheme_text}
 use Rattle.uriparse_reference.specs.Reference.{Parts, path_refusal}
 use Rattle.uriparse_reference.specs.View.{Viewed}
 use Rattle.uriparse_reference.specs.Wanted.{Wanted}
-use Rattle.uriparse_reference.specs.declared.uri_reference.change.ChangeError.{ChangeError}
 use Rattle.uriparse_reference.specs.declared.uri_reference.change.ChangeError.TheVariants as errors
 use Rattle.uriparse_reference.specs.declared.uri_reference.error.URIReferenceError.TheVariants as faults
 use Rattle.uriparse_reference.proofs.lemmas.edits.ChangeLemmas.{ArePaired, authority_found, changed_paired, if_there, path_found, placed_fit, placed_path, scheme_exact, still_there}
@@ -41,7 +39,7 @@ pieces_of s p pair k =
     }
 
 -- what the string that they make is cut into
-whole_cut : (s : Strings) (p : Parts) → ArePaired s.authority → strings_reading s ≡ Ok p
+pub whole_cut : (s : Strings) (p : Parts) → ArePaired s.authority → strings_reading s ≡ Ok p
     → IsCutInto (whole s) s.scheme (option_map authority_whole s.authority) (after_authority (is_some s.authority) s.path) s.query s.fragment
 whole_cut s p pair k = cut_again (whole s) s.scheme (option_map authority_whole s.authority) (after_authority (is_some s.authority) s.path) s.query s.fragment
     (pieces_of s p pair k) refl

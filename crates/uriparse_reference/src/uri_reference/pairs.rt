@@ -20,7 +20,7 @@ fn query_of_pair(
 }
 
 /// The query with this pair in place of those of its name, or of it alone.
-fn query_with(
+pub(super) fn query_with(
     query: &Option<Query<'_>>,
     alloc: Global,
     name: &[u8],
@@ -35,7 +35,7 @@ fn query_with(
 }
 
 /// The query with this pair after all others, or of it alone.
-fn query_with_appended(
+pub(super) fn query_with_appended(
     query: &Option<Query<'_>>,
     alloc: Global,
     name: &[u8],
@@ -46,6 +46,20 @@ fn query_with_appended(
     match query {
         Some(query) => query.with_appended_pair(alloc, name, value),
         None => query_of_pair(alloc, name, value),
+    }
+}
+
+/// The query without the pairs of these names, or `None` if no pair is left.
+pub(super) fn query_without(
+    query: &Option<Query<'_>>,
+    alloc: Global,
+    names: &Query<'_>,
+) -> Result<Option<Query<'static>>, AllocError>
+    ensures { IfOk result (λ o. pairs_left o ≡ without_names (pairs names.now) (pairs_left query.now)) }
+{
+    match query {
+        Some(query) => query.without_pairs_named(alloc, names),
+        None => Ok(None),
     }
 }
 
@@ -143,10 +157,7 @@ impl<'r> URIReference<'r> {
     pub fn remove_pairs_named(&mut self, alloc: Global, names: &Query<'_>) -> Result<(), AllocError>
         ensures { MatchResult result (λ _. self.new ≡ spec.with_pairs self.old (without_names (pairs names.now) (spec.pairs_of self.old))) (λ _. self.new ≡ self.old) }
     {
-        let Some(query) = &self.query else {
-            return Ok(());
-        };
-        let left = query.without_pairs_named(alloc, names)?;
+        let left = query_without(&self.query, alloc, names)?;
         self.put_query(left);
         Ok(())
     }

@@ -25,6 +25,7 @@ mod change;
 mod edit;
 mod key;
 mod make;
+mod pairs;
 
 pub use key::ReferenceKey;
 

@@ -30,6 +30,7 @@ pub(crate) mod into;
 mod kind;
 mod normal;
 mod order;
+mod pairs;
 mod printed;
 mod put;
 mod string;

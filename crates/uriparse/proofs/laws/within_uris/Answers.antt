@@ -1,6 +1,7 @@
 use Rattle.uriparse_path.specs.Normal.{pnormal}
 use Rattle.uriparse_path.specs.Within.{between_slashes}
 use Rattle.uriparse.proofs.lemmas.WithinLawLemmas.{again_place, are_within_again, are_within_itself, one_directory, within_equals, within_normal, within_normal_base}
+use Rattle.uriparse.proofs.lemmas.WithinTargetLemmas.{own_below, target_below}
 use Rattle.std.proofs.Common.{false, refl}
 use Rattle.uriparse.proofs.laws.within_uris.Goals as goal
 
@@ -17,5 +18,7 @@ returns c = record {
   directories = λ p b w x. one_directory (between_slashes (pnormal p.path false)) (between_slashes (pnormal b.path false)) w.path x.path;
   normal = within_normal;
   normal_base = within_normal_base;
+  target = target_below;
+  own = own_below;
   equals = within_equals;
 }

@@ -1,16 +1,16 @@
 -- The text of a reference with another query or another fragment.
-use Rattle.std.proofs.Common.{◌≡◌, ◌-◌, ◌+◌, ◌<◌, ◌≤◌, ℕ, List, ◌++◌, Option, None, length, take, refl, sym, ap, subst, ◌∙◌, append-nil, append_assoc, arith}
+use Rattle.std.proofs.Common.{◌≡◌, ◌-◌, ◌+◌, ◌<◌, ◌≤◌, ℕ, List, ◌++◌, Option, None, Some, length, drop, take, refl, sym, ap, subst, ◌∙◌, append-nil, append_assoc, arith}
 use Rattle.std.specs.Prelude.{IfSome, min}
 use Rattle.std.specs.Option.{option_map}
 use Rattle.std.specs.String.Boundary.{IsSplitPoint}
-use Rattle.std.proofs.Math.Seq.{take-append_seam}
+use Rattle.std.proofs.Math.Seq.{drop-append_seam, take-append_seam}
 use Rattle.std.proofs.lemmas.List.{length-append}
 use Rattle.uriparse_text.specs.declared.internal.case.Case.TheVariants.{Kept}
 use Rattle.uriparse_text.specs.declared.internal.backward_buffer.Form.TheVariants.{AsIs}
 use Rattle.uriparse_text.specs.Ends.{EndsWith, formed}
 use Rattle.uriparse_text.specs.Starts.{most}
 use Rattle.uriparse_text.specs.Bytes.{colon, question_mark, number_sign}
-use Rattle.uriparse_text.specs.Cuts.{ahead, following}
+use Rattle.uriparse_text.specs.Cuts.{ahead, following, part}
 use Rattle.uriparse_text.specs.Query.{IsQuery}
 use Rattle.uriparse_text.specs.Fragment.{IsFragment}
 use Rattle.uriparse_reference.specs.Cuts.{scheme_text, authority_text, path_text}
@@ -101,6 +101,19 @@ before_fragment t p s n e =
     let cut = own_cut t p s in
     cut_after (with_end t p.query None) (following number_sign p.fragment) t n (then_fragment t p.query p.fragment ∙ own_end t p s) e
     ∙ ap (λ q. with_end t q None) (sym cut.query)
+
+-- the query follows what precedes it and its delimiter
+pub query_part : (t x y : List ℕ) (p : Parts) → Spells t p → x ≡ with_end t None None → y ≡ with_fragment t None → part (drop (length x) y) ≡ p.query
+query_part t x y p s i j =
+    let cut = own_cut t p s in
+    ap (λ u. part (drop (length u) y)) i
+    ∙ ap (λ u. part (drop (length (with_end t None None)) u)) (j ∙ ap (λ q. with_end t q None) cut.query ∙ sym (then_end t p.query None))
+    ∙ ap part (drop-append_seam (with_end t None None) (tail p.query None))
+    ∙ ap part (append-nil (following question_mark p.query)) ∙ part_following p.query
+  where
+    part_following : (o : Option (List ℕ)) → part (following question_mark o) ≡ o
+    part_following None = refl
+    part_following (Some q) = refl
 
 -- ---- what is put at the end of a buffer
 

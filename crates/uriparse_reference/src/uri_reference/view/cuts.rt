@@ -43,9 +43,9 @@ fn narrow(number: usize) -> Option<u32>
     u32::try_from(number).ok()
 }
 
-/// What follows the first bytes of a text, so many.
+/// What follows the first `len` bytes of a text.
 #[inline(always)]
-fn skip(len: usize, text: &[u8]) -> &[u8]
+pub(super) fn skip(len: usize, text: &[u8]) -> &[u8]
     ensures { result.now ≡ drop len text.now }
 {
     text.get(len..).unwrap_or(b"")

@@ -37,7 +37,7 @@ impl<'v, 't> PutText for TextWithEnd<'v, 't> {
 
 impl<'t> ReferenceView<'t> {
     /// What precedes the query and the fragment.
-    fn without_end(&self) -> &'t [u8]
+    pub(super) fn without_end(&self) -> &'t [u8]
         ensures { result.now ≡ with_end self.now.text None None }
     {
         let text = self.as_str().as_bytes();

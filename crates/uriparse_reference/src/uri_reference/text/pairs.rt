@@ -1,0 +1,93 @@
+//! The pairs of the query of a reference in a text that it owns: RFC 3986, section 3.4.
+ghost use Rattle.std.specs.Prelude.{◌≡◌, IfOk, MatchResult};
+ghost use Rattle.std.specs.Option.{option_copied};
+ghost use Rattle.uriparse_text.specs.Pairs.{encoded_pair, pairs, with_appended, with_pair, without_names};
+ghost use Rattle.uriparse_reference.specs.PairEdits as spec;
+ghost use Rattle.uriparse_reference.specs.TextEdits.{with_query};
+
+use super::super::pairs::{query_with, query_with_appended, query_without};
+use super::ReferenceText;
+use std::alloc::{AllocError, Global};
+use uriparse_text::internal::Held;
+use uriparse_text::query::Query;
+
+impl ReferenceText {
+    /// The value of the query's first pair of this name, as [`Query::pair`] finds it: empty if the
+    /// pair has no `=`, and `None` without such a pair or without a query. It borrows the string, to
+    /// be decoded. Does not allocate.
+    pub fn pair(&self, name: &[u8]) -> Option<Query<'_>>
+        ensures { result ≡ spec.pair_in name.now self.now.parts }
+    {
+        self.as_view().pair(name)
+    }
+
+    /// Whether the query has a pair of this name, as [`Query::has_pair`] finds it. Does not allocate.
+    pub fn has_pair(&self, name: &[u8]) -> bool
+        ensures { result ≡ spec.has_pair_in name.now self.now.parts }
+    {
+        self.as_view().has_pair(name)
+    }
+
+    /// Sets the query's pair of this name, as [`Query::with_pair`] does: the first pair of the name
+    /// becomes this one and the others of the name go, or else it follows all others. A reference
+    /// without a query gets one of this pair. The rest of the string keeps its bytes. Allocates the
+    /// query and the new string. If memory runs out, the string is unchanged.
+    ///
+    /// ```
+    /// let mut text = ReferenceText::try_from_str(alloc, "HTTP://h/%7Ea?q=a&page=2#end")?;
+    /// text.set_pair(alloc, b"page", Some(b"3"))?;
+    /// assert!(text.as_str() == "HTTP://h/%7Ea?q=a&page=3#end");
+    /// ```
+    pub fn set_pair(
+        &mut self,
+        alloc: Global,
+        name: &[u8],
+        value: Option<&[u8]>,
+    ) -> Result<(), AllocError>
+        ensures text { MatchResult result (λ _. self.new.text ≡ with_query self.old.text (spec.query_of (with_pair name.now (encoded_pair (name.now, option_copied value.entry)) (spec.pairs_of self.old.parts)))) (λ _. self.new ≡ self.old) }
+        ensures parts { IfOk result (λ _. self.new.parts ≡ spec.with_pairs self.old.parts (with_pair name.now (encoded_pair (name.now, option_copied value.entry)) (spec.pairs_of self.old.parts))) }
+    {
+        let query = query_with(&Held(self.as_view().query()).0, alloc, name, value)?;
+        self.set_query(alloc, Some(query))
+    }
+
+    /// Appends a pair to the query, as [`Query::with_appended_pair`] does, whatever pairs of this
+    /// name it has. A reference without a query gets one of this pair. The rest of the string keeps
+    /// its bytes. Allocates the query and the new string. If memory runs out, the string is
+    /// unchanged.
+    ///
+    /// ```
+    /// let mut text = ReferenceText::try_from_str(alloc, "/search?tag=a#f")?;
+    /// text.append_pair(alloc, b"tag", Some(b"b&c"))?;
+    /// assert!(text.as_str() == "/search?tag=a&tag=b%26c#f");
+    /// ```
+    pub fn append_pair(
+        &mut self,
+        alloc: Global,
+        name: &[u8],
+        value: Option<&[u8]>,
+    ) -> Result<(), AllocError>
+        ensures text { MatchResult result (λ _. self.new.text ≡ with_query self.old.text (spec.query_of (with_appended (encoded_pair (name.now, option_copied value.entry)) (spec.pairs_of self.old.parts)))) (λ _. self.new ≡ self.old) }
+        ensures parts { IfOk result (λ _. self.new.parts ≡ spec.with_pairs self.old.parts (with_appended (encoded_pair (name.now, option_copied value.entry)) (spec.pairs_of self.old.parts))) }
+    {
+        let query = query_with_appended(&Held(self.as_view().query()).0, alloc, name, value)?;
+        self.set_query(alloc, Some(query))
+    }
+
+    /// Removes the query's pairs of these names, as [`Query::without_pairs_named`] does, and the
+    /// query itself if no pair is left. The rest of the string keeps its bytes. Allocates the query
+    /// and the new string, or nothing without a query. If memory runs out, the string is unchanged.
+    ///
+    /// ```
+    /// let mut text = ReferenceText::try_from_str(alloc, "/a?utm_id=1&q=2&gclid=3#f")?;
+    /// text.remove_pairs_named(alloc, &Query::try_from_str("utm_*&gclid")?)?;
+    /// assert!(text.as_str() == "/a?q=2#f");
+    /// ```
+    pub fn remove_pairs_named(&mut self, alloc: Global, names: &Query<'_>) -> Result<(), AllocError>
+        ensures text { MatchResult result (λ _. self.new.text ≡ with_query self.old.text (spec.query_of (without_names (pairs names.now) (spec.pairs_of self.old.parts)))) (λ _. self.new ≡ self.old) }
+        ensures parts { IfOk result (λ _. self.new.parts ≡ spec.with_pairs self.old.parts (without_names (pairs names.now) (spec.pairs_of self.old.parts))) }
+    {
+        let query = query_without(&Held(self.as_view().query()).0, alloc, names)?;
+        self.set_query(alloc, query)
+    }
+}
