@@ -1,4 +1,4 @@
-//! The target of a request to a proxy: a web URI with a host.
+//! The target of a request to a proxy: a web URI with a host. And whether the request may be forwarded.
 //!
 //! ```
 //! let target = proxy_target(alloc, "HTTP://example.com/a?b")?;
@@ -6,13 +6,15 @@
 //! let refused = proxy_target(alloc, "ftp://example.com/a");
 //! assert!(matches!(refused, Err(ProxyError::Scheme)));
 //! ```
-ghost use Rattle.std.specs.Prelude.{◌≡◌, ◌↔◌, IsTrue, IfOk, IfErr, MatchOption, MatchResult, Ok};
+ghost use Rattle.std.specs.Prelude.{◌≡◌, ◌↔◌, IsTrue, IfOk, IfErr, MatchOption, MatchResult, Ok, false};
+ghost use Rattle.std.specs.Option.{IsSomeAnd};
+ghost use Rattle.uriparse.specs.HostWithin.{may_be_numeric};
 ghost use Rattle.uriparse.specs.Readings.{IsUnless};
 ghost use Rattle.uriparse.specs.PathError.TheVariants.{OutOfMemory};
-ghost use Rattle.uriparse.specs.Reference.{Parts, Spells};
+ghost use Rattle.uriparse.specs.Reference.{Parts, Spells, host_of};
 ghost use Rattle.uriparse.specs.declared.uri.error.URIError.TheVariants as uris;
 ghost use Rattle.examples.specs.declared.proxy.ProxyError.TheVariants as errors;
-ghost use Rattle.examples.specs.Proxy.{HasHost, IsProxyTarget, IsReason, IsWebScheme, Refuses};
+ghost use Rattle.examples.specs.Proxy.{HasHost, IsProxyTarget, IsReason, IsWebScheme, MayBeForwarded, Refuses};
 
 use std::alloc::Global;
 use thiserror::Error;
@@ -91,4 +93,31 @@ fn has_host(uri: &URI<'_>) -> bool
         Some(host) => !host.is_empty(),
         None => false,
     }
+}
+
+/// Whether the URI has a host, and no resolver takes it for an address.
+fn has_name(uri: &URI<'_>) -> bool
+    ensures { IsTrue result ↔ IsSomeAnd (host_of uri.now) (λ h. may_be_numeric h ≡ false) }
+{
+    match uri.host() {
+        Some(host) => !host.may_be_numeric(),
+        None => false,
+    }
+}
+
+/// Whether a proxy may forward a request for this target: it is below the URI that the proxy serves, also where servers
+/// disagree on what `..;` and `%2f` mean; it has no user information, and its host doesn't look like an address. Does
+/// not allocate.
+///
+/// ```
+/// let served = URI::try_from_str(alloc, "http://example.com/app/")?;
+/// let target = URI::try_from_str(alloc, "http://example.com/app/a?b")?;
+/// assert!(may_be_forwarded(&target, &served));
+/// let target = URI::try_from_str(alloc, "http://example.com/app/..;/admin")?;
+/// assert!(!may_be_forwarded(&target, &served));
+/// ```
+pub fn may_be_forwarded(target: &URI<'_>, served: &URI<'_>) -> bool
+    ensures { IsTrue result ↔ MayBeForwarded served.now target.now }
+{
+    target.is_within(served) && !target.has_username() && has_name(target)
 }
