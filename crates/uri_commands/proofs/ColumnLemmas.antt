@@ -6,6 +6,7 @@ use Rattle.std.proofs.lemmas.List.Sums.{sum_by-append, sum_by-cons}
 use Rattle.uriparse_text.specs.Cuts.{lacks, before, after, following, from_first}
 use Rattle.uriparse_text.proofs.lemmas.readings.CutLemmas.{before_after, before-lacks, cut-whole, lacks-append, lacks-left, lacks-right}
 use Rattle.uri_commands.specs.Columns.{AreFields, IsCut, IsRead, IsRest, IsRow, done, short, row, is_tab, tab, tabs}
+use Rattle.uri_commands.specs.declared.lines.Outcome.{Outcome}
 
 pub tabs-append : (t u : List ℕ) → tabs (t ++ u) ≡ tabs t + tabs u
 tabs-append t u = sum_by-append (λ b. cond (is_tab b) 1 0) t u
@@ -132,9 +133,9 @@ row_parts end true front text back result other f t b r =
 row_parts end false front text back result other f t b r = lacks-append end front (result ++ back) f (lacks-append end result back r b)
 
 -- what goes out for a line without the byte that ends lines has none either
-pub row_lacks : (end : ℕ) (first : Option ℕ) (width : ℕ) (appends : Bool) (line out : List ℕ) → (tab == end) ≡ false
-    → IsRow end first width appends line out → lacks end line ≡ true → lacks end out ≡ true
-row_lacks end first width appends line out other (done front text back result read none is) h =
+pub row_lacks : {Gives : List ℕ → List ℕ → Outcome → Type 0} (end : ℕ) (first : Option ℕ) (width : ℕ) (appends : Bool) (line out : List ℕ) (outcome : Outcome) → (tab == end) ≡ false
+    → IsRow Gives end first width appends line out outcome → lacks end line ≡ true → lacks end out ≡ true
+row_lacks end first width appends line out outcome other (done front text back result read gives none is) h =
     let parts = parts_lack end first width line front text back read h in
     ap (lacks end) is ∙ row_parts end appends front text back result other parts.0 parts.1 parts.2 none
-row_lacks end first width appends line out other (short few is) h = ap (lacks end) is ∙ h
+row_lacks end first width appends line out outcome other (short few is rejected) h = ap (lacks end) is ∙ h

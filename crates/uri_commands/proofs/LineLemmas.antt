@@ -5,8 +5,9 @@ use Rattle.std.specs.Prelude.{◌==◌, ◌&&◌, nat_lt, not, slice_index}
 use Rattle.std.specs.declared.option.Option.{Option}
 use Rattle.std.specs.List.{position_or_len}
 use Rattle.std.specs.Io.BufRead.{take_through, drop_through, first_piece, strip_last, ends_with_byte, DropsConsumable, DropsThrough}
-use Rattle.std.specs.Io.KnownBytes.{Consumes, IsAtEnd, prepend_known}
+use Rattle.std.specs.Io.KnownBytes.{Consumes, IsAtEnd, Keeps, prepend_known}
 use lib.Seq.{take-append_seam}
+use Rattle.std.proofs.KnownBytes.{Keeps-refl}
 use Rattle.std.proofs.BufReadLemmas.{take_through-append, drop_through-append}
 use Rattle.std.proofs.lemmas.List.{take_more, get_or_push}
 use Rattle.std.proofs.lemmas.List.Sums.{prefix_len-le-length, fails_before_first, passes_at_first}
@@ -83,10 +84,14 @@ taken_line end (Some x) (Some y) line p lacks =
     let dropped : drop_through end x ≡ y = ap (drop_through end) whole ∙ drop_through-append end line (end ∷ y) lacks ∙ left in
     (sym (ap (strip_last end) taken ∙ stripped end line), ap Some (sym dropped))
 
+-- what is not written to stays as it is
+pub keeps_same : (a c : Option (List ℕ)) → c ≡ a → Keeps a c
+keeps_same a c same = subst (Keeps a) (sym same) (Keeps-refl a)
+
 -- ---- the end
 
 -- where the last byte of a list is
-is_last : (end : ℕ) (x : ℕ) (t : List ℕ) (n : ℕ) → n ≡ length t → ends_with_byte end (x ∷ t) ≡ (slice_index (x ∷ t) n == end)
+pub is_last : (end : ℕ) (x : ℕ) (t : List ℕ) (n : ℕ) → n ≡ length t → ends_with_byte end (x ∷ t) ≡ (slice_index (x ∷ t) n == end)
 is_last end x t n e =
     let some : nat_lt 0 (length (x ∷ t)) ≡ true = lt-ltb _ _ (omega arith) in
     let at : length (x ∷ t) - 1 ≡ n = omega (arith, e) in

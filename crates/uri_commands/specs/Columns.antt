@@ -2,6 +2,8 @@
 use Rattle.std.specs.Prelude.{◌≡◌, ◌⊎◌, ℕ, ◌+◌, ◌<◌, ◌==◌, Bool, true, List, [], ◌∷◌, ◌++◌, if◌then◌else◌, Option, Some, None}
 use Rattle.std.specs.List.{count_by}
 use Rattle.uriparse_text.specs.Cuts.{lacks}
+use Rattle.uri_commands.specs.declared.lines.Outcome.{Outcome}
+use Rattle.uri_commands.specs.declared.lines.Outcome.TheVariants.{Rejected}
 
 -- the byte that stands between fields
 abbrev pub tab : ℕ
@@ -46,9 +48,9 @@ abbrev pub LacksFields : Option ℕ → ℕ → List ℕ → Type 0
 LacksFields None width line = ⊥
 LacksFields (Some first) width line = tabs line + 1 < first + width
 
--- What goes out for a line, without the byte that ends lines: the line with a result in place, which has no such byte,
--- and with all its other fields as they are; or the line itself, if it has too few.
-pub data IsRow (end : ℕ) (first : Option ℕ) (width : ℕ) (appends : Bool) (line out : List ℕ) : Type 0 where
-  done : (front text back result : List ℕ) → IsRead first width line front text back → lacks end result ≡ true
-      → out ≡ row appends front text back result → IsRow end first width appends line out
-  short : LacksFields first width line → out ≡ line → IsRow end first width appends line out
+-- What goes out for a line, without the byte that ends lines: the line with a result in place, which has no such byte and
+-- which the text gives, and with all its other fields as they are; or the line itself, if it has too few, which is rejected.
+pub data IsRow (Gives : List ℕ → List ℕ → Outcome → Type 0) (end : ℕ) (first : Option ℕ) (width : ℕ) (appends : Bool) (line out : List ℕ) (outcome : Outcome) : Type 0 where
+  done : (front text back result : List ℕ) → IsRead first width line front text back → Gives text result outcome → lacks end result ≡ true
+      → out ≡ row appends front text back result → IsRow Gives end first width appends line out outcome
+  short : LacksFields first width line → out ≡ line → outcome ≡ Rejected → IsRow Gives end first width appends line out outcome

@@ -2,6 +2,7 @@
 //! runs on the texts among its words and on each line of an input.
 
 ghost use Rattle.std.specs.Prelude.{◌<◌};
+ghost use Rattle.uri_commands.specs.Output as spec;
 
 use crate::decode::{self, decode};
 use crate::edit::{self, Step, edit, edit_line, read_edits};
@@ -241,13 +242,16 @@ impl<'w> Task<'w> {
     }
 
     /// Does the task for a line. Normal forms and targets are put together in the buffer.
+    #[tactic(auto, using(crate::proofs::OutputLemmas::run_parse, crate::proofs::OutputLemmas::run_check, crate::proofs::OutputLemmas::run_get, crate::proofs::OutputLemmas::run_normalize, crate::proofs::OutputLemmas::run_normalize_port, crate::proofs::OutputLemmas::run_equal, crate::proofs::OutputLemmas::run_check_equal, crate::proofs::OutputLemmas::run_resolve, crate::proofs::OutputLemmas::run_relativize, crate::proofs::OutputLemmas::run_edit, crate::proofs::OutputLemmas::run_get_parts, crate::proofs::OutputLemmas::run_pair, crate::proofs::OutputLemmas::run_within, crate::proofs::OutputLemmas::run_host_within, crate::proofs::OutputLemmas::run_escape, crate::proofs::OutputLemmas::run_escape_link))]
     pub fn run<O: Write>(
         &self,
         alloc: Global,
         buffer: &mut Vec<u8>,
         line: &[u8],
         out: &mut O,
-    ) -> Result<(), Failure> {
+    ) -> Result<(), Failure>
+        ensures { spec.Does (λ a. spec.AnswersLine self.now line.now a) (O.contents out.old) (O.contents out.new) result }
+    {
         match self {
             Task::Parse => parse_json(line, out),
             Task::Check => check(line),

@@ -1,5 +1,7 @@
 //! `uri decode TEXT`: the bytes that a component stands for.
 
+ghost use Rattle.uri_commands.specs.Output as spec;
+
 use crate::failure::Failure;
 use crate::print::print_bytes;
 use crate::topic::Topic;
@@ -31,8 +33,11 @@ prints
 
 /// Decodes the text of a query, and prints the bytes unchanged and then a newline. Each text that
 /// `uri encode` prints can be decoded in this way, since it is the text of a query too.
-pub fn decode<O: Write>(alloc: Global, text: &[u8], out: &mut O) -> Result<(), Failure> {
+#[tactic(auto, using(crate::proofs::OutputLemmas::decoded_out, crate::proofs::OutputLemmas::not_decoded, crate::proofs::OutputLemmas::ended))]
+pub fn decode<O: Write>(alloc: Global, text: &[u8], out: &mut O) -> Result<(), Failure>
+    ensures { spec.Does (spec.Decodes text.now) (O.contents out.old) (O.contents out.new) result }
+{
     let query = Held(Query::try_from_bytes(text)?);
     let bytes = Held(query.0.decode(alloc)?);
-    print_bytes(&bytes.0, out).map_err(Failure::Output)
+    print_bytes(&bytes.0, out)
 }

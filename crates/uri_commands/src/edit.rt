@@ -1,5 +1,11 @@
 //! `uri edit TEXT EDIT..`: a reference with components or pairs set or removed.
 
+ghost use Rattle.std.specs.Prelude.{◌≡◌, IfErr, MatchResult};
+ghost use Rattle.uriparse.specs.Host.{reading};
+ghost use Rattle.uriparse.specs.HostError.{HostError};
+ghost use Rattle.uri_commands.specs.Output as spec;
+ghost use Rattle.uri_commands.specs.Output.{Rejected};
+
 use crate::failure::{EditError, Failure};
 use crate::print::print_line;
 use crate::topic::Topic;
@@ -250,7 +256,9 @@ fn read_password(text: &str) -> Result<Password<'_>, AuthorityError> {
 }
 
 /// Reads a host.
-pub fn read_host(text: &str) -> Result<Host<'_>, AuthorityError> {
+pub fn read_host(text: &str) -> Result<Host<'_>, AuthorityError>
+    ensures { MatchResult result (λ h. reading text.now ≡ Ok h) (λ _. (x : HostError) × (reading text.now ≡ Err x)) }
+{
     Ok(Host::try_from_str(text)?)
 }
 
@@ -393,7 +401,9 @@ fn make_steps<'r>(
     alloc: Global,
     reference: &mut URIReference<'r>,
     steps: &'r [Step<'_>],
-) -> Result<(), Failure> {
+) -> Result<(), Failure>
+    ensures { IfErr result (λ f. spec.answer_of f ≡ Rejected) }
+{
     for step in steps {
         if let Err(refusal) = make_step(alloc, reference, &step.act) {
             let index = step.index;
@@ -428,24 +438,30 @@ fn edit_text<O: Write>(
 }
 
 /// Prints a line's reference with all edits made.
+#[tactic(auto, using(crate::proofs::OutputLemmas::edited_line, crate::proofs::OutputLemmas::rejected_unless))]
 pub fn edit_line<O: Write>(
     alloc: Global,
     steps: &[Step<'_>],
     line: &[u8],
     out: &mut O,
-) -> Result<(), Failure> {
+) -> Result<(), Failure>
+    ensures { spec.Does (spec.EditsLine line.now) (O.contents out.old) (O.contents out.new) result }
+{
     let reference = URIReference::try_from_bytes(alloc, line)?;
     print_edited(alloc, reference, steps, out)
 }
 
 /// Makes the edits, and prints the result.
+#[tactic(auto, using(crate::proofs::OutputLemmas::edited, crate::proofs::OutputLemmas::not_edited))]
 fn print_edited<'r, O: Write>(
     alloc: Global,
     reference: URIReference<'r>,
     steps: &'r [Step<'_>],
     out: &mut O,
-) -> Result<(), Failure> {
+) -> Result<(), Failure>
+    ensures { spec.Does spec.Edited (O.contents out.old) (O.contents out.new) result }
+{
     let mut reference = Held(reference);
     make_steps(alloc, &mut reference.0, steps)?;
-    print_line(&reference.0, out).map_err(Failure::Output)
+    print_line(&reference.0, out)
 }

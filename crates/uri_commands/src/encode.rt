@@ -1,5 +1,8 @@
 //! `uri encode KIND TEXT`: a text as a component with escapes.
 
+ghost use Rattle.std.specs.Prelude.{IfSome, MatchResult};
+ghost use Rattle.uri_commands.specs.Output as spec;
+
 use crate::failure::Failure;
 use crate::print::print_line;
 use crate::topic::Topic;
@@ -32,12 +35,10 @@ prints
 };
 
 /// Encodes the bytes as a component of this kind, and prints it.
-pub fn encode<O: Write>(
-    alloc: Global,
-    kind: &str,
-    bytes: &[u8],
-    out: &mut O,
-) -> Result<(), Failure> {
+#[tactic(auto, using(crate::proofs::OutputLemmas::encoded_out, crate::proofs::OutputLemmas::no_kind))]
+pub fn encode<O: Write>(alloc: Global, kind: &str, bytes: &[u8], out: &mut O) -> Result<(), Failure>
+    ensures { spec.Does (spec.Encodes kind.now bytes.now) (O.contents out.old) (O.contents out.new) result }
+{
     match kind {
         "segment" => print_encoded(Segment::encode(alloc, bytes), out),
         "query" => print_encoded(Query::encode(alloc, bytes), out),
@@ -52,7 +53,9 @@ pub fn encode<O: Write>(
 fn print_encoded<T: Display + Drop, O: Write>(
     encoded: Result<T, AllocError>,
     out: &mut O,
-) -> Result<(), Failure> {
+) -> Result<(), Failure>
+    ensures { MatchResult encoded (λ c. IfSome (T.output c) (λ t. spec.Writes (spec.line t) (O.contents out.old) (O.contents out.new) result)) (λ _. spec.Ended result) }
+{
     let component = encoded?;
-    print_line(&component, out).map_err(Failure::Output)
+    print_line(&component, out)
 }

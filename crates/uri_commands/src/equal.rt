@@ -1,11 +1,18 @@
 //! `uri equal A B`: whether two references are equal.
 
+ghost use Rattle.std.specs.Prelude.{◌≡◌, MatchResult, None, Some, bytes_eq};
+ghost use Rattle.uriparse.specs.Key.{key};
+ghost use Rattle.uriparse.specs.TextCuts.{after, before};
+ghost use Rattle.uri_commands.specs.Columns.{tab};
+ghost use Rattle.uri_commands.specs.Output as spec;
+ghost use Rattle.uri_commands.specs.declared.failure.Failure.TheVariants as failures;
+
 use crate::failure::Failure;
-use crate::print::print_line;
+use crate::print::print_bytes;
 use crate::topic::Topic;
-use std::io;
 use std::io::Write;
 use uriparse::{ReferenceView, URIReference};
+use uriparse_text::internal::{split_at_mark, without_mark};
 
 pub static ABOUT: Topic = Topic {
     name: "equal",
@@ -35,15 +42,28 @@ prints
 };
 
 /// Prints whether the references are equal. Does not allocate.
-pub fn equal<O: Write>(left: &[u8], right: &[u8], out: &mut O) -> Result<(), Failure> {
+#[tactic(auto, using(crate::proofs::OutputLemmas::compared_first, crate::proofs::OutputLemmas::rejected_reference))]
+pub fn equal<O: Write>(left: &[u8], right: &[u8], out: &mut O) -> Result<(), Failure>
+    ensures { spec.Does (spec.Compares left.now right.now) (O.contents out.old) (O.contents out.new) result }
+{
     let left = ReferenceView::try_from_bytes(left)?;
     compare(&left, right, out)
 }
 
 /// Reads the right reference, and prints whether it equals the left one.
-fn compare<O: Write>(left: &ReferenceView<'_>, right: &[u8], out: &mut O) -> Result<(), Failure> {
+#[tactic(auto, using(crate::proofs::OutputLemmas::compared, crate::proofs::OutputLemmas::rejected_reference))]
+fn compare<O: Write>(left: &ReferenceView<'_>, right: &[u8], out: &mut O) -> Result<(), Failure>
+    ensures { spec.Does (spec.ComparesWith left.now.parts right.now) (O.contents out.old) (O.contents out.new) result }
+{
     let right = ReferenceView::try_from_bytes(right)?;
-    print_answer(left, &right, out).map_err(Failure::Output)
+    print_answer(left, &right, out)
+}
+
+/// What is printed of two references.
+fn equal_or_different(is_equal: bool) -> &'static str
+    ensures { result.now ≡ spec.equal_or_different is_equal }
+{
+    if is_equal { "equal" } else { "different" }
 }
 
 /// Prints whether the references are equal.
@@ -51,15 +71,19 @@ fn print_answer<O: Write>(
     left: &ReferenceView<'_>,
     right: &ReferenceView<'_>,
     out: &mut O,
-) -> io::Result<()> {
-    let answer = if left == right { "equal" } else { "different" };
-    print_line(&answer, out)
+) -> Result<(), Failure>
+    ensures { spec.Writes (spec.line (spec.equal_or_different (bytes_eq (key left.now.parts) (key right.now.parts)))) (O.contents out.old) (O.contents out.new) result }
+{
+    print_bytes(equal_or_different(left == right).as_bytes(), out)
 }
 
 /// The two texts that the line's first tab separates.
-pub fn split_pair(line: &[u8]) -> Result<(&[u8], &[u8]), Failure> {
-    match line.iter().position(|b| *b == b'\t') {
-        Some(at) => Ok((&line[..at], &line[at + 1..])),
+pub fn split_pair(line: &[u8]) -> Result<(&[u8], &[u8]), Failure>
+    ensures { MatchResult result (λ pair. (pair.0.now ≡ before tab line.now) × (after tab line.now ≡ Some pair.1.now)) (λ f. (f ≡ failures.NoTab) × (after tab line.now ≡ None)) }
+{
+    let (left, following) = split_at_mark(line, b'\t');
+    match without_mark(following) {
+        Some(right) => Ok((left, right)),
         None => Err(Failure::NoTab),
     }
 }
@@ -80,7 +104,10 @@ pub fn pair_fault_offset(line: &[u8]) -> usize {
 }
 
 /// Compares the line's two references, and prints the result.
-pub fn equal_pair<O: Write>(line: &[u8], out: &mut O) -> Result<(), Failure> {
+#[tactic(auto, using(crate::proofs::OutputLemmas::of_pair, crate::proofs::OutputLemmas::no_pair))]
+pub fn equal_pair<O: Write>(line: &[u8], out: &mut O) -> Result<(), Failure>
+    ensures { spec.Does (spec.OfPair line.now spec.Compares) (O.contents out.old) (O.contents out.new) result }
+{
     let (left, right) = split_pair(line)?;
     equal(left, right, out)
 }

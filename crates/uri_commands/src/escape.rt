@@ -1,5 +1,7 @@
 //! `uri escape TEXT` and `uri --trim escape TEXT`: the text of a reference, made of any text.
 
+ghost use Rattle.uri_commands.specs.Output as spec;
+
 use crate::failure::Failure;
 use crate::print::print_line;
 use crate::topic::Topic;
@@ -62,13 +64,18 @@ prints
 };
 
 /// Prints the text with escapes for the bytes that a reference can't have where they stand.
-pub fn escape<O: Write>(alloc: Global, text: &[u8], out: &mut O) -> Result<(), Failure> {
+#[tactic(auto, using(crate::proofs::OutputLemmas::escaped_out, crate::proofs::OutputLemmas::ended))]
+pub fn escape<O: Write>(alloc: Global, text: &[u8], out: &mut O) -> Result<(), Failure>
+    ensures { spec.Does (spec.Escapes text.now) (O.contents out.old) (O.contents out.new) result }
+{
     let escaped = escape_invalid(alloc, text)?;
-    print_line(&escaped, out).map_err(Failure::Output)
+    print_line(&escaped, out)
 }
 
 /// Prints the text without what is round a link, with escapes for the bytes that a reference can't
 /// have where they stand.
-pub fn escape_link<O: Write>(alloc: Global, text: &[u8], out: &mut O) -> Result<(), Failure> {
+pub fn escape_link<O: Write>(alloc: Global, text: &[u8], out: &mut O) -> Result<(), Failure>
+    ensures { spec.Does (spec.EscapesLink text.now) (O.contents out.old) (O.contents out.new) result }
+{
     escape(alloc, trim_link(text), out)
 }

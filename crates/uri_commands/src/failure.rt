@@ -1,6 +1,8 @@
 //! How a command fails.
 
-ghost use Rattle.std.specs.Prelude.{◌≤◌};
+ghost use Rattle.std.specs.Prelude.{◌≡◌, ◌≤◌, ◌↔◌, IsTrue, false};
+ghost use Rattle.uri_commands.specs.Output as spec;
+ghost use Rattle.uri_commands.specs.declared.failure.Failure.TheVariants as failures;
 
 use std::alloc::{AllocError, AllocFailed};
 use std::io;
@@ -23,7 +25,9 @@ pub enum EditError {
 
 impl EditError {
     /// Whether memory ran out.
-    pub fn is_out_of_memory(&self) -> bool {
+    pub fn is_out_of_memory(&self) -> bool
+        ensures { IsTrue result ↔ spec.RunsOut self.now }
+    {
         match self {
             EditError::Reference(error) => error.is_out_of_memory(),
             EditError::Change(error) => matches!(error, ChangeError::OutOfMemory),
@@ -40,19 +44,19 @@ pub enum Failure {
     Usage,
     /// A text that is no reference, or no part of one.
     #[error(transparent)]
-    Reference(#[from] URIReferenceError),
+    Reference(URIReferenceError),
     /// A text that is no URI, or a reference that has no target against its base.
     #[error(transparent)]
-    Uri(#[from] URIError),
+    Uri(URIError),
     /// A rejected edit, by its index.
     #[error("edit {index}: {refusal}")]
     Edit { index: usize, refusal: EditError },
     /// A text that is no query.
     #[error(transparent)]
-    Query(#[from] QueryError),
+    Query(QueryError),
     /// A path that has no file URI, or a URI that names no file's path.
     #[error(transparent)]
-    File(#[from] FileError),
+    File(FileError),
     /// A line that should hold two texts.
     #[error("no tab between two texts")]
     NoTab,
@@ -69,7 +73,7 @@ pub enum Failure {
     #[error("not within")]
     Outside,
     #[error("out of memory")]
-    Memory(#[from] AllocError),
+    Memory(AllocError),
     /// Memory ran out for this line of the input.
     #[error("line {0}: out of memory")]
     MemoryAtLine(u64),
@@ -78,10 +82,60 @@ pub enum Failure {
     Input(io::Error),
     /// A write that failed.
     #[error("standard output: {0}")]
-    Output(#[from] io::Error),
+    Output(io::Error),
+}
+
+impl From<URIReferenceError> for Failure {
+    ghost from_gives = { λ x f. f ≡ failures.Reference x };
+
+    fn from(error: URIReferenceError) -> Failure {
+        Failure::Reference(error)
+    }
+}
+
+impl From<URIError> for Failure {
+    ghost from_gives = { λ x f. f ≡ failures.Uri x };
+
+    fn from(error: URIError) -> Failure {
+        Failure::Uri(error)
+    }
+}
+
+impl From<QueryError> for Failure {
+    ghost from_gives = { λ x f. f ≡ failures.Query x };
+
+    fn from(error: QueryError) -> Failure {
+        Failure::Query(error)
+    }
+}
+
+impl From<FileError> for Failure {
+    ghost from_gives = { λ x f. f ≡ failures.File x };
+
+    fn from(error: FileError) -> Failure {
+        Failure::File(error)
+    }
+}
+
+impl From<AllocError> for Failure {
+    ghost from_gives = { λ x f. spec.EndsWork f };
+
+    fn from(error: AllocError) -> Failure {
+        Failure::Memory(error)
+    }
+}
+
+impl From<io::Error> for Failure {
+    ghost from_gives = { λ x f. spec.EndsWork f };
+
+    fn from(error: io::Error) -> Failure {
+        Failure::Output(error)
+    }
 }
 
 impl<T: Drop> From<AllocFailed<T>> for Failure {
+    ghost from_gives = { λ x f. spec.EndsWork f };
+
     fn from(_error: AllocFailed<T>) -> Failure {
         Failure::Memory(AllocError)
     }
@@ -90,6 +144,8 @@ impl<T: Drop> From<AllocFailed<T>> for Failure {
 /// A buffer that is too small has to grow, and merged paths that are too long are reported as
 /// [`URI::resolve`](uriparse::URI) reports them.
 impl From<BufferError> for Failure {
+    ghost from_gives = { λ x f. spec.IsOfBuffer x f };
+
     fn from(error: BufferError) -> Failure {
         match error {
             BufferError::TooSmall(_) => Failure::Memory(AllocError),
@@ -123,7 +179,10 @@ impl Failure {
     }
 
     /// Whether memory ran out, also for a buffer in memory that is written to.
-    pub fn is_out_of_memory(&self) -> bool {
+    pub fn is_out_of_memory(&self) -> bool
+        ensures ends { IsTrue result → spec.EndsWork self.now }
+        ensures stream { result ≡ false → spec.EndsWork self.now → spec.IsOfStream self.now }
+    {
         match self {
             Failure::Output(error) => error.kind() == io::ErrorKind::OutOfMemory,
             Failure::Memory(_) | Failure::MemoryAtLine(_) => true,
@@ -136,8 +195,13 @@ impl Failure {
     }
 
     /// Whether it ends the work on many lines: memory ran out, or a read or a write failed.
-    pub fn ends_work(&self) -> bool {
-        self.is_out_of_memory() || matches!(self, Failure::Input(_) | Failure::Output(_))
+    pub fn ends_work(&self) -> bool
+        ensures { IsTrue result ↔ spec.EndsWork self.now }
+    {
+        match self {
+            Failure::Input(_) | Failure::Output(_) => true,
+            _ => self.is_out_of_memory(),
+        }
     }
 
     /// Whether a path has more segments than [`Path::MAX_SEGMENTS`](uriparse::Path::MAX_SEGMENTS).

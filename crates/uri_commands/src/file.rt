@@ -1,5 +1,7 @@
 //! `uri file PATH` and `uri get file URI`: between the paths of files and their URIs.
 
+ghost use Rattle.uri_commands.specs.Output as spec;
+
 use crate::failure::Failure;
 use crate::print::{print_bytes, print_line};
 use crate::topic::Topic;
@@ -36,14 +38,20 @@ prints
 };
 
 /// Prints the URI of the path.
-pub fn file<O: Write>(alloc: Global, path: &[u8], out: &mut O) -> Result<(), Failure> {
+#[tactic(auto, using(crate::proofs::OutputLemmas::filed, crate::proofs::OutputLemmas::not_filed, crate::proofs::OutputLemmas::ended))]
+pub fn file<O: Write>(alloc: Global, path: &[u8], out: &mut O) -> Result<(), Failure>
+    ensures { spec.Does (spec.Files path.now) (O.contents out.old) (O.contents out.new) result }
+{
     let uri = from_path(alloc, path)?;
-    print_line(&uri, out).map_err(Failure::Output)
+    print_line(&uri, out)
 }
 
 /// Prints the bytes of the path that the URI names, and then a newline.
-pub fn get_file<O: Write>(alloc: Global, text: &[u8], out: &mut O) -> Result<(), Failure> {
+#[tactic(auto, using(crate::proofs::OutputLemmas::file_path, crate::proofs::OutputLemmas::no_file_path, crate::proofs::OutputLemmas::rejected_uri_unless))]
+pub fn get_file<O: Write>(alloc: Global, text: &[u8], out: &mut O) -> Result<(), Failure>
+    ensures { spec.Does (spec.GetsFile text.now) (O.contents out.old) (O.contents out.new) result }
+{
     let uri = URI::try_from_bytes(alloc, text)?;
     let path = to_path(alloc, &uri)?;
-    print_bytes(&path, out).map_err(Failure::Output)
+    print_bytes(&path, out)
 }

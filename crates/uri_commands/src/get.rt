@@ -1,6 +1,14 @@
 //! `uri get PART TEXT`: one component of a reference, alone.
 
+ghost use Rattle.std.specs.Prelude.{IfSome, MatchOption, None, OnOk, Some, string_bytes};
+ghost use Rattle.std.specs.Io.KnownBytes.{Appends};
+ghost use Rattle.std.specs.Option.{option_map};
+ghost use Rattle.uriparse.specs.Origin.{text};
+ghost use Rattle.uriparse.specs.Origin as origin;
+ghost use Rattle.uri_commands.specs.Output as spec;
+
 use crate::failure::Failure;
+use crate::print::print_bytes;
 use crate::topic::Topic;
 use std::alloc::Global;
 use std::fmt::Display;
@@ -86,25 +94,31 @@ pub fn get<O: Write>(alloc: Global, names: &str, text: &[u8], out: &mut O) -> Re
 }
 
 /// Reads the text, and prints the component, or fails with `Failure::Absent`.
-fn get_part<O: Write>(alloc: Global, part: Part, text: &[u8], out: &mut O) -> Result<(), Failure> {
+#[tactic(auto, using(crate::proofs::OutputLemmas::got, crate::proofs::OutputLemmas::not_got, crate::proofs::OutputLemmas::nothing_got, crate::proofs::OutputLemmas::not_written, crate::proofs::OutputLemmas::rejected_reference))]
+fn get_part<O: Write>(alloc: Global, part: Part, text: &[u8], out: &mut O) -> Result<(), Failure>
+    ensures { spec.Does (spec.Gets part text.now) (O.contents out.old) (O.contents out.new) result }
+{
     let reference = ReferenceView::try_from_bytes(text)?;
-    if !write_part(alloc, &reference, part, out)? {
-        return Err(Failure::Absent);
+    if write_part(alloc, &reference, part, out)? {
+        print_bytes(b"", out)
+    } else {
+        Err(Failure::Absent)
     }
-    out.write_all(b"\n").map_err(Failure::Output)
 }
 
 /// Prints the component of a line's reference, or an empty line if it is absent.
+#[tactic(auto, using(crate::proofs::OutputLemmas::got_or_empty, crate::proofs::OutputLemmas::not_written, crate::proofs::OutputLemmas::rejected_reference))]
 pub fn get_or_empty<O: Write>(
     alloc: Global,
     part: Part,
     line: &[u8],
     out: &mut O,
-) -> Result<(), Failure> {
-    match get_part(alloc, part, line, out) {
-        Err(Failure::Absent) => out.write_all(b"\n").map_err(Failure::Output),
-        result => result,
-    }
+) -> Result<(), Failure>
+    ensures { spec.Does (spec.GetsOrEmpty part line.now) (O.contents out.old) (O.contents out.new) result }
+{
+    let reference = ReferenceView::try_from_bytes(line)?;
+    write_part(alloc, &reference, part, out)?;
+    print_bytes(b"", out)
 }
 
 /// The components of these names, which commas separate.
@@ -117,12 +131,15 @@ pub fn read_parts(alloc: Global, names: &str) -> Result<Vec<Part>, Failure> {
 }
 
 /// Prints the components of a line's reference, with tabs between them. One that is absent is empty.
+#[tactic(auto, using(crate::proofs::OutputLemmas::parts_start, crate::proofs::OutputLemmas::not_written, crate::proofs::OutputLemmas::rejected_reference))]
 pub fn get_parts<O: Write>(
     alloc: Global,
     parts: &[Part],
     line: &[u8],
     out: &mut O,
-) -> Result<(), Failure> {
+) -> Result<(), Failure>
+    ensures { spec.Does (spec.GetsParts parts.now line.now) (O.contents out.old) (O.contents out.new) result }
+{
     let reference = ReferenceView::try_from_bytes(line)?;
     let mut separator: &[u8] = b"";
     for part in parts {
@@ -130,7 +147,7 @@ pub fn get_parts<O: Write>(
         write_part(alloc, &reference, *part, out)?;
         separator = b"\t";
     }
-    out.write_all(b"\n").map_err(Failure::Output)
+    print_bytes(b"", out)
 }
 
 /// Writes the component, and returns whether it is present.
@@ -139,7 +156,9 @@ fn write_part<O: Write>(
     reference: &ReferenceView<'_>,
     part: Part,
     out: &mut O,
-) -> Result<bool, Failure> {
+) -> Result<bool, Failure>
+    ensures { spec.WritesIfPresent (spec.part_text part reference.now.parts) (O.contents out.old) (O.contents out.new) result }
+{
     match part {
         Part::Scheme => write_present(reference.scheme(), out),
         Part::Authority => write_present(reference.authority(), out),
@@ -158,7 +177,9 @@ fn write_part<O: Write>(
 fn write_present<T: Display + Drop, O: Write>(
     value: Option<T>,
     out: &mut O,
-) -> Result<bool, Failure> {
+) -> Result<bool, Failure>
+    ensures { MatchOption value (spec.WritesIfPresent None (O.contents out.old) (O.contents out.new) result) (λ v. IfSome (T.output v) (λ t. spec.WritesIfPresent (Some t) (O.contents out.old) (O.contents out.new) result)) }
+{
     match value {
         Some(value) => {
             write!(out, "{value}")?;
@@ -169,11 +190,17 @@ fn write_present<T: Display + Drop, O: Write>(
 }
 
 /// Writes the origin if the reference is a URI that has one, and returns whether it is.
+#[tactic(auto, using(crate::proofs::OutputLemmas::no_origin))]
 fn write_origin<O: Write>(
     alloc: Global,
     reference: &ReferenceView<'_>,
     out: &mut O,
-) -> Result<bool, Failure> {
+) -> Result<bool, Failure>
+    ensures { spec.WritesIfPresent (option_map origin.text (origin.origin reference.now.parts)) (O.contents out.old) (O.contents out.new) result }
+{
+    if !reference.is_uri() {
+        return Ok(false);
+    }
     match URIView::try_from_str(reference.as_str()) {
         Ok(uri) => write_present_origin(alloc, uri.origin(), out),
         Err(_) => Ok(false),
@@ -181,11 +208,14 @@ fn write_origin<O: Write>(
 }
 
 /// Writes the origin if it is present, and returns whether it is.
+#[tactic(auto, using(crate::proofs::OutputLemmas::present_origin, crate::proofs::OutputLemmas::absent_origin))]
 fn write_present_origin<O: Write>(
     alloc: Global,
     origin: Option<Origin<'_>>,
     out: &mut O,
-) -> Result<bool, Failure> {
+) -> Result<bool, Failure>
+    ensures { spec.WritesIfPresent (option_map text origin.entry) (O.contents out.old) (O.contents out.new) result }
+{
     match Held(origin).0.as_ref() {
         Some(origin) => {
             write_bytes(origin.to_string(alloc)?, out)?;
@@ -196,6 +226,8 @@ fn write_present_origin<O: Write>(
 }
 
 /// Writes the text.
-fn write_bytes<O: Write>(text: String, out: &mut O) -> io::Result<()> {
+fn write_bytes<O: Write>(text: String, out: &mut O) -> io::Result<()>
+    ensures { OnOk result (Appends (O.contents out.old) (O.contents out.new) (string_bytes text)) }
+{
     out.write_all(text.as_bytes())
 }

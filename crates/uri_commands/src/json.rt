@@ -17,6 +17,7 @@ ghost use Rattle.uriparse.specs.Scheme as scheme;
 ghost use Rattle.uriparse.specs.URIReferenceError.{URIReferenceError};
 ghost use Rattle.uri_commands.specs.Json.{back_members, escaped, followers, scheme_and_userinfo_members, host_members, needs_no_json_escape, kind_name, member, member_text, name_of, object, opening, port_members, segment_members, string_or_null};
 ghost use Rattle.uri_commands.specs.Json as json;
+ghost use Rattle.uri_commands.specs.Output as output;
 ghost use Rattle.uri_commands.specs.Lines.{newline};
 ghost use Rattle.uri_commands.specs.declared.failure.Failure.TheVariants as failures;
 
@@ -280,6 +281,7 @@ fn write_object<O: Write>(reference: &ReferenceView<'_>, out: &mut O) -> io::Res
 
 /// Prints the reference that the text spells as a JSON object, with the text as it was given. Does
 /// not allocate.
+#[tactic(auto, using(crate::proofs::OutputLemmas::object_printed, crate::proofs::OutputLemmas::rejected_reference))]
 pub fn parse_json<O: Write>(text: &[u8], out: &mut O) -> Result<(), Failure>
     // What is printed is the object of the text and of the components that it spells.
     ensures object { OnOk result ((p : Parts) × Spells text.now p × Appends (O.contents out.old) (O.contents out.new) (object text.now p ++ newline ∷ [])) }
@@ -289,6 +291,7 @@ pub fn parse_json<O: Write>(text: &[u8], out: &mut O) -> Result<(), Failure>
 
     // Any other text is rejected with its fault, and nothing is printed.
     ensures fault { (e : URIReferenceError) → fault text.now ≡ Some e → (result ≡ Err (failures.Reference e)) × (out.new ≡ out.old) }
+    ensures answer { output.Does (output.ParsesJson text.now) (O.contents out.old) (O.contents out.new) result }
 {
     match ReferenceView::try_from_bytes(text) {
         Ok(reference) => write_object(&reference, out).map_err(Failure::Output),

@@ -2,12 +2,15 @@
 
 ghost use Rattle.std.specs.Prelude.{◌≡◌, ◌≢◌, ◌==◌, ℕ, List, [], ◌∷◌, ◌++◌, ◌<◌, ◌≤◌, All, Contains, IsErr, IsOk, Ok, false, length, take, true, IfOk, IfSome, OnErr, OnOk};
 ghost use Rattle.std.specs.Io.BufRead.{DropsThrough, ends_with_byte, first_piece, strip_last};
-ghost use Rattle.std.specs.Io.Buffered.{reader_buffer, reader_inner, reader_remaining};
+ghost use Rattle.std.specs.Io.Buffered.{reader_buffer, reader_inner, reader_remaining, writer_contents};
 ghost use Rattle.std.specs.Io.KnownBytes.{Consumes, IsAtEnd};
-ghost use Rattle.std.specs.Io.KnownBytes.{Appends};
+ghost use Rattle.std.specs.Io.KnownBytes.{Appends, Keeps};
 ghost use Rattle.uriparse_text.specs.Cuts.{lacks};
 ghost use Rattle.uri_commands.specs.Columns as spec;
 ghost use Rattle.uri_commands.specs.Columns.{tab};
+ghost use Rattle.uri_commands.specs.Lines.{lines_of};
+ghost use Rattle.uri_commands.specs.Output.{Answer, AnswersLine, answer_of};
+ghost use Rattle.uri_commands.specs.Outputs.{Gives, Outputs, Runs, Writes, ended, fields, outcome_of, printed, status_of, worse};
 ghost use Rattle.uri_commands.specs.declared.lines.Next.TheVariants.{End, LastLine};
 
 use crate::columns::{Columns, first_line, write_line, write_row};
@@ -86,7 +89,7 @@ prints
 const CAPACITY: usize = 65_536;
 
 /// The outcome of a line, the worst last.
-#[derive(Clone, Copy, PartialEq, Eq, PartialOrd, Ord)]
+#[derive(Clone, Copy)]
 enum Outcome {
     Done,
     /// Two references differ, which the status alone reports.
@@ -95,9 +98,32 @@ enum Outcome {
 }
 
 impl Outcome {
+    /// The outcome of a line for which the task fails so.
+    fn of(failure: &Failure) -> Outcome
+        ensures { result ≡ outcome_of (answer_of failure.now) }
+    {
+        match failure {
+            Failure::Absent | Failure::Different | Failure::Outside => Outcome::Different,
+            _ => Outcome::Rejected,
+        }
+    }
+
+    /// The worse of two outcomes.
+    fn or(self, other: Outcome) -> Outcome
+        ensures { result ≡ worse self other }
+    {
+        match (self, other) {
+            (Outcome::Done, other) => other,
+            (Outcome::Different, Outcome::Rejected) => Outcome::Rejected,
+            (Outcome::Different, _) => Outcome::Different,
+            (Outcome::Rejected, _) => Outcome::Rejected,
+        }
+    }
+
     /// The status of work whose worst outcome this is.
     fn status(self) -> u8
-        ensures { result ≤ 3 }
+        ensures bound { result ≤ 3 }
+        ensures status { result ≡ status_of self }
     {
         match self {
             Outcome::Done => 0,
@@ -172,6 +198,8 @@ struct Work<'w> {
     columns: Option<Columns>,
     /// How many fields the task reads.
     width: usize,
+    /// How many fields the task prints.
+    fields: usize,
     /// The byte that ends lines.
     end: u8,
 }
@@ -208,6 +236,7 @@ fn report<E: Write>(
 
 /// Does the task for a line, and reports a rejection unless the task is quiet. Fails if memory runs
 /// out or a write fails.
+#[tactic(auto, using(crate::proofs::OutputsLemmas::did_print, crate::proofs::OutputsLemmas::did_fail))]
 fn do_line<O: Write, E: Write>(
     work: &Work<'_>,
     buffer: &mut Vec<u8>,
@@ -215,18 +244,20 @@ fn do_line<O: Write, E: Write>(
     line: &[u8],
     out: &mut O,
     err: &mut E,
-) -> Result<Outcome, Failure> {
+) -> Result<Outcome, Failure>
+    ensures { IfOk result (λ outcome. (a : Answer) × AnswersLine work.now.task line.now a × (outcome ≡ outcome_of a) × Appends (O.contents out.old) (O.contents out.new) (printed a)) }
+{
     match work.task.run(work.alloc, buffer, line, out) {
         Ok(()) => Ok(Outcome::Done),
-        Err(Failure::Different) => Ok(Outcome::Different),
         Err(failure) if failure.ends_work() => Err(failure.at_line(number)),
         Err(failure) => {
-            if !work.task.is_quiet() {
+            let outcome = Outcome::of(&failure);
+            if matches!(outcome, Outcome::Rejected) && !work.task.is_quiet() {
                 let offset = work.task.fault_offset(line);
                 // The status reports a rejection that can't be written either.
                 let _ = report(work.explains, number, &failure, line, offset, err);
             }
-            Ok(Outcome::Rejected)
+            Ok(outcome)
         }
     }
 }
@@ -238,13 +269,15 @@ fn print_result<E: Write>(
     number: u64,
     text: &[u8],
     err: &mut E,
-) -> Result<Outcome, Failure> {
+) -> Result<Outcome, Failure>
+    ensures { IfOk result (λ outcome. (a : Answer) × AnswersLine work.now.task text.now a × (outcome ≡ outcome_of a) × (buffers.new.printed.items ≡ fields work.now.fields a)) }
+{
     let Buffers { form, printed } = buffers;
     printed.clear();
     let outcome = do_line(work, form, number, text, printed, err)?;
-    if outcome == Outcome::Rejected {
+    if let Outcome::Rejected = outcome {
         printed.clear();
-        let tabs = work.task.printed_fields().saturating_sub(1);
+        let tabs = work.fields.saturating_sub(1);
         if let Err(AllocError) = printed.resize(tabs, b'\t') {
             return Err(Failure::MemoryAtLine(number));
         }
@@ -265,7 +298,7 @@ fn do_row<O: Write, E: Write>(
     err: &mut E,
 ) -> Result<Outcome, Failure>
     requires { 0 < work.now.width }
-    ensures row { OnOk result ((row : List ℕ) × spec.IsRow work.now.end columns.first work.now.width columns.appends line.now row × Appends (O.contents out.old) (O.contents out.new) (row ++ work.now.end ∷ [])) }
+    ensures row { IfOk result (λ outcome. (row : List ℕ) × spec.IsRow (Gives work.now) work.now.end columns.first work.now.width columns.appends line.now row outcome × Appends (O.contents out.old) (O.contents out.new) (row ++ work.now.end ∷ [])) }
     ensures one { (tab == work.now.end) ≡ false → lacks work.now.end line.now ≡ true → OnOk result ((row : List ℕ) × (lacks work.now.end row ≡ true) × Appends (O.contents out.old) (O.contents out.new) (row ++ work.now.end ∷ [])) }
 {
     let Some(cut) = columns.cut(line, work.width) else {
@@ -279,6 +312,17 @@ fn do_row<O: Write, E: Write>(
     Ok(outcome)
 }
 
+/// Writes the first line of the output and the byte that ends lines, unless the output is empty.
+#[tactic(auto, using(crate::proofs::OutputsLemmas::ended_none, crate::proofs::OutputsLemmas::ended_some))]
+fn write_ended<O: Write>(output: &[u8], end: u8, out: &mut O) -> io::Result<()>
+    ensures { OnOk result (Appends (O.contents out.old) (O.contents out.new) (ended end output.now)) }
+{
+    if output.is_empty() {
+        return Ok(());
+    }
+    write_line(first_line(output, end), end, out)
+}
+
 /// Does the task for a line, and writes the result, if there is one, with the byte that ends lines.
 fn do_ended<O: Write, E: Write>(
     work: &Work<'_>,
@@ -287,12 +331,39 @@ fn do_ended<O: Write, E: Write>(
     line: &[u8],
     out: &mut O,
     err: &mut E,
-) -> Result<Outcome, Failure> {
-    let outcome = print_result(work, buffers, number, line, err)?;
-    if outcome != Outcome::Rejected && !buffers.printed.is_empty() {
-        write_line(first_line(&buffers.printed, work.end), work.end, out)?;
-    }
+) -> Result<Outcome, Failure>
+    ensures { IfOk result (λ outcome. (a : Answer) × AnswersLine work.now.task line.now a × (outcome ≡ outcome_of a) × Appends (O.contents out.old) (O.contents out.new) (ended work.now.end (printed a))) }
+{
+    buffers.printed.clear();
+    let outcome = do_line(
+        work,
+        &mut buffers.form,
+        number,
+        line,
+        &mut buffers.printed,
+        err,
+    )?;
+    write_ended(&buffers.printed, work.end, out)?;
     Ok(outcome)
+}
+
+/// Does the work on a line, and writes what goes out for it.
+fn do_work<O: Write, E: Write>(
+    work: &Work<'_>,
+    buffers: &mut Buffers,
+    number: u64,
+    line: &[u8],
+    out: &mut O,
+    err: &mut E,
+) -> Result<Outcome, Failure>
+    requires { 0 < work.now.width }
+    ensures { IfOk result (λ outcome. (bytes : List ℕ) × Writes work.now.columns work.now line.now bytes outcome × Appends (O.contents out.old) (O.contents out.new) bytes) }
+{
+    match work.columns {
+        Some(columns) => do_row(work, columns, buffers, number, line, out, err),
+        None if work.end != b'\n' => do_ended(work, buffers, number, line, out, err),
+        None => do_line(work, &mut buffers.form, number, line, out, err),
+    }
 }
 
 /// Takes the next line, with the byte that ends it, from a reader that holds it whole, and copies it to
@@ -332,7 +403,7 @@ fn keep_first(written: &mut io::Result<()>, next: io::Result<()>)
 /// copied in one piece. If it holds no whole line, more input may be waited for, and what is due is
 /// written first. An error of that is kept, and the work goes on: the writer keeps what it could not
 /// write, and tries again when it is full, or at the end.
-#[tactic(auto, using(crate::proofs::LineLemmas::taken_line))]
+#[tactic(auto, using(crate::proofs::LineLemmas::taken_line, crate::proofs::LineLemmas::keeps_same))]
 pub fn next_line<I: Read, O: Write>(
     input: &mut BufReader<I>,
     line: &mut Vec<u8>,
@@ -346,6 +417,7 @@ pub fn next_line<I: Read, O: Write>(
     ensures some { IfOk result (λ next. next ≢ End → IfSome (reader_remaining I.remaining input.old) (λ bytes. 0 < length bytes)) }
     ensures last { result ≡ Ok LastLine → IfSome (reader_remaining I.remaining input.old) (λ _. IsAtEnd (reader_remaining I.remaining input.new)) }
     ensures unasked { Contains (reader_buffer input.old) end → (reader_inner input.new ≡ reader_inner input.old) × (out.new ≡ out.old) }
+    ensures contents { Keeps (O.contents out.old) (O.contents out.new) }
     ensures kept { IsErr written.old → written.new ≡ written.old }
 {
     line.clear();
@@ -357,7 +429,7 @@ pub fn next_line<I: Read, O: Write>(
 }
 
 /// Does the work on each line, and returns the worst outcome. `written` gets the first error of a
-/// write before a wait.
+/// write before a wait. An input of 2⁶⁴ - 2 lines is too large.
 fn do_lines<I: Read, O: Write, E: Write>(
     work: &Work<'_>,
     input: &mut BufReader<I>,
@@ -366,7 +438,8 @@ fn do_lines<I: Read, O: Write, E: Write>(
     err: &mut E,
 ) -> Result<Outcome, Failure>
     requires { 0 < work.now.width }
-    ensures { IsErr written.old → written.new ≡ written.old }
+    ensures kept { IsErr written.old → written.new ≡ written.old }
+    ensures output { IfOk result (λ worst. IfSome (reader_remaining I.remaining input.old) (λ bytes. (printed : List ℕ) × Outputs work.now (lines_of work.now.end bytes) printed worst × Appends (O.contents out.old) (O.contents out.new) printed)) }
 {
     let mut worst = Outcome::Done;
     let mut line = Vec::new(work.alloc);
@@ -376,52 +449,88 @@ fn do_lines<I: Read, O: Write, E: Write>(
     };
     'lines: for number in 1..u64::MAX {
         let next = match next_line(input, &mut line, work.end, out, written) {
-            Ok(Next::End) => break,
             Ok(next) => next,
             Err(error) => return Err(Failure::of_read(error, number)),
         };
-        let outcome = match work.columns {
-            Some(columns) => do_row(work, columns, &mut buffers, number, &line, out, err)?,
-            None if work.end != b'\n' => do_ended(work, &mut buffers, number, &line, out, err)?,
-            None => do_line(work, &mut buffers.form, number, &line, out, err)?,
-        };
-        worst = worst.max(outcome);
-        if next == Next::LastLine {
-            break;
+        if let Next::End = next {
+            return Ok(worst);
+        }
+        let outcome = do_work(work, &mut buffers, number, &line, out, err)?;
+        worst = worst.or(outcome);
+        if let Next::LastLine = next {
+            return Ok(worst);
         }
     }
-    Ok(worst)
+    Err(Failure::Input(io::Error::from(io::ErrorKind::FileTooLarge)))
 }
 
 /// What was made, unless memory ran out for its buffer.
-fn made<T>(buffered: io::Result<T>) -> Result<T, Failure> {
+fn made<T>(buffered: io::Result<T>) -> Result<T, Failure>
+    ensures { IfOk result (λ made. buffered ≡ Ok made) }
+{
     match buffered {
         Ok(made) => Ok(made),
         Err(_) => Err(Failure::Memory(AllocError)),
     }
 }
 
-/// Does the task for each line with buffered output, which is written even if the work ends early.
-/// Of several errors the first is returned.
-fn do_buffered<I: Read, O: Write, E: Write>(
+/// Writes what is buffered, flushes the writer, and returns it.
+fn finish<O: Write + Drop>(out: BufWriter<O>) -> io::Result<O>
+    ensures { IfOk result (λ inner. Keeps (writer_contents O.contents out) (O.contents inner)) }
+{
+    let mut inner = out.into_inner()?;
+    inner.flush()?;
+    Ok(inner)
+}
+
+/// Does the task for each line with buffered output, which is written even if the work ends early, and
+/// returns the worst outcome and the writer. Of several errors the first is returned.
+fn do_buffered<I: Read, O: Write + Drop, E: Write + Drop>(
     work: &Work<'_>,
     input: &mut BufReader<I>,
-    out: &mut O,
-    err: &mut E,
-) -> Result<Outcome, Failure>
+    out: O,
+    err: E,
+) -> Result<(Outcome, O), Failure>
     requires { 0 < work.now.width }
+    ensures { IfOk result (λ r. IfSome (reader_remaining I.remaining input.old) (λ bytes. (printed : List ℕ) × Outputs work.now (lines_of work.now.end bytes) printed r.0 × Appends (O.contents out) (O.contents r.1) printed)) }
 {
     let mut out = made(BufWriter::with_capacity(work.alloc, CAPACITY, out))?;
     let mut err = made(BufWriter::with_capacity(work.alloc, CAPACITY, err))?;
     let mut written = Ok(());
     let worst = do_lines(work, input, &mut out, &mut written, &mut err);
-    let flushed = out.flush();
+    let finished = finish(out);
     // The status reports rejections that can't be written either.
     let _ = err.flush();
     written?;
     let worst = worst?;
-    flushed?;
-    Ok(worst)
+    Ok((worst, finished?))
+}
+
+/// Does the task for each line of the input, and returns the status and the writer.
+#[tactic(auto, using(crate::proofs::OutputsLemmas::fresh_reader, crate::proofs::OutputsLemmas::ran))]
+fn write_lines<I: Read, O: Write + Drop, E: Write + Drop>(
+    alloc: Global,
+    options: Options,
+    task: Task<'_>,
+    input: &mut I,
+    out: O,
+    err: E,
+) -> Result<(u8, O), Failure>
+    ensures bound { IfOk result (λ r. r.0 ≤ 3) }
+    ensures runs { IfOk result (λ r. IfSome (I.remaining input.old) (λ bytes. Runs task.entry options.columns options.end bytes (O.contents out) (O.contents r.1) r.0)) }
+{
+    let work = Work {
+        alloc,
+        explains: options.explains,
+        columns: options.columns,
+        width: task.width(),
+        fields: task.printed_fields(),
+        end: options.end,
+        task,
+    };
+    let mut input = made(BufReader::with_capacity(alloc, CAPACITY, input))?;
+    let (worst, out) = do_buffered(&work, &mut input, out, err)?;
+    Ok((worst.status(), out))
 }
 
 /// Runs the command of these words for each line of the input, and returns the status: 0, 1 if a
@@ -441,15 +550,6 @@ pub fn lines<I: Read, O: Write, E: Write>(
     ensures { IfOk result (λ status. status ≤ 3) }
 {
     let task = Task::read(alloc, options, words)?;
-    let work = Work {
-        alloc,
-        explains: options.explains,
-        columns: options.columns,
-        width: task.width(),
-        end: options.end,
-        task,
-    };
-    let mut input = made(BufReader::with_capacity(alloc, CAPACITY, input))?;
-    let worst = do_buffered(&work, &mut input, out, err)?;
-    Ok(worst.status())
+    let (status, _) = write_lines(alloc, options, task, input, out, err)?;
+    Ok(status)
 }

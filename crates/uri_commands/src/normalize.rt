@@ -1,6 +1,9 @@
 //! `uri normalize TEXT`: a reference in its normal form.
 
-ghost use Rattle.std.specs.Prelude.{◌≤◌, IfOk, length};
+ghost use Rattle.std.specs.Prelude.{◌≡◌, ◌≤◌, IfErr, IfOk, length, take};
+ghost use Rattle.uriparse.specs.Normal.{normal};
+ghost use Rattle.uriparse.specs.Reference.{print};
+ghost use Rattle.uri_commands.specs.Output as spec;
 
 use crate::failure::Failure;
 use crate::print::{print_bytes, print_line};
@@ -58,32 +61,43 @@ prints
 };
 
 /// Prints the reference's normal form.
-pub fn normalize<O: Write>(alloc: Global, text: &[u8], out: &mut O) -> Result<(), Failure> {
+pub fn normalize<O: Write>(alloc: Global, text: &[u8], out: &mut O) -> Result<(), Failure>
+    ensures { spec.Does (spec.Normalizes text.now) (O.contents out.old) (O.contents out.new) result }
+{
     normalize_with(&mut Vec::new(alloc), text, out)
 }
 
 /// Prints the reference's normal form, which is put together in a buffer that grows to its length.
+#[tactic(auto, using(crate::proofs::OutputLemmas::normalized, crate::proofs::OutputLemmas::rejected_reference, crate::proofs::OutputLemmas::ended))]
 pub fn normalize_with<O: Write>(
     buffer: &mut Vec<u8>,
     text: &[u8],
     out: &mut O,
-) -> Result<(), Failure> {
+) -> Result<(), Failure>
+    ensures { spec.Does (spec.Normalizes text.now) (O.contents out.old) (O.contents out.new) result }
+{
     let reference = ReferenceView::try_from_bytes(text)?;
     let len = put_normal(&reference, buffer)?;
-    print_bytes(&buffer[..len], out).map_err(Failure::Output)
+    print_bytes(&buffer[..len], out)
 }
 
 /// Prints the reference's normal form without a port that is its scheme's default one.
-pub fn normalize_port<O: Write>(alloc: Global, text: &[u8], out: &mut O) -> Result<(), Failure> {
+#[tactic(auto, using(crate::proofs::OutputLemmas::normalized_port, crate::proofs::OutputLemmas::rejected_unless, crate::proofs::OutputLemmas::ended))]
+pub fn normalize_port<O: Write>(alloc: Global, text: &[u8], out: &mut O) -> Result<(), Failure>
+    ensures { spec.Does (spec.NormalizesPort text.now) (O.contents out.old) (O.contents out.new) result }
+{
     let mut reference = URIReference::try_from_bytes(alloc, text)?;
     reference.normalize(alloc)?;
     reference.normalize_port();
-    print_line(&reference, out).map_err(Failure::Output)
+    print_line(&reference, out)
 }
 
 /// Puts the text of the normal form at the start of the buffer, and returns its length.
+#[tactic(auto, using(crate::proofs::OutputLemmas::front_written, crate::proofs::OutputLemmas::too_small))]
 fn put_normal(reference: &ReferenceView<'_>, buffer: &mut Vec<u8>) -> Result<usize, Failure>
-    ensures { IfOk result (λ len. len ≤ length buffer.new.items) }
+    ensures fits { IfOk result (λ len. len ≤ length buffer.new.items) }
+    ensures text { IfOk result (λ len. take len buffer.new.items ≡ print (normal reference.now.parts)) }
+    ensures ends { IfErr result spec.EndsWork }
 {
     match reference.normalize_into(buffer) {
         Err(BufferError::TooSmall(len)) => {

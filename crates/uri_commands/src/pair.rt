@@ -1,5 +1,10 @@
 //! `uri pair NAME TEXT`: the value of one pair of a reference's query.
 
+ghost use Rattle.std.specs.Prelude.{[], unwrap_or};
+ghost use Rattle.std.specs.Option.{option_map};
+ghost use Rattle.uriparse.specs.Coding.{decoded};
+ghost use Rattle.uri_commands.specs.Output as spec;
+
 use crate::failure::Failure;
 use crate::print::{print_bytes, print_line};
 use crate::topic::Topic;
@@ -37,7 +42,10 @@ prints
 };
 
 /// Prints the decoded value of the query's first pair of this name, or fails with `Failure::Absent`.
-pub fn pair<O: Write>(alloc: Global, name: &str, text: &[u8], out: &mut O) -> Result<(), Failure> {
+#[tactic(auto, using(crate::proofs::OutputLemmas::pair_of, crate::proofs::OutputLemmas::pair_without_query, crate::proofs::OutputLemmas::rejected_reference))]
+pub fn pair<O: Write>(alloc: Global, name: &str, text: &[u8], out: &mut O) -> Result<(), Failure>
+    ensures { spec.Does (spec.GetsPair name.now text.now) (O.contents out.old) (O.contents out.new) result }
+{
     let reference = ReferenceView::try_from_bytes(text)?;
     match Held(reference.query()).0.as_ref() {
         Some(query) => print_value(alloc, query.pair(name.as_bytes()), out),
@@ -46,33 +54,42 @@ pub fn pair<O: Write>(alloc: Global, name: &str, text: &[u8], out: &mut O) -> Re
 }
 
 /// Prints the decoded value, or fails with `Failure::Absent`.
+#[tactic(auto, using(crate::proofs::OutputLemmas::value_printed, crate::proofs::OutputLemmas::value_absent, crate::proofs::OutputLemmas::ended))]
 fn print_value<O: Write>(
     alloc: Global,
     value: Option<Query<'_>>,
     out: &mut O,
-) -> Result<(), Failure> {
+) -> Result<(), Failure>
+    ensures { spec.Does (spec.PrintsIfPresent (option_map decoded value.entry)) (O.contents out.old) (O.contents out.new) result }
+{
     match Held(value).0.as_ref() {
         Some(value) => {
             let bytes = Held(value.decode(alloc)?);
-            print_bytes(&bytes.0, out).map_err(Failure::Output)
+            print_bytes(&bytes.0, out)
         }
         None => Err(Failure::Absent),
     }
 }
 
 /// Prints the value of a line's first pair of this name as it stands, or an empty line if it is absent.
-pub fn pair_or_empty<O: Write>(name: &str, line: &[u8], out: &mut O) -> Result<(), Failure> {
+#[tactic(auto, using(crate::proofs::OutputLemmas::pair_or_empty_of, crate::proofs::OutputLemmas::pair_or_empty_without_query, crate::proofs::OutputLemmas::rejected_reference))]
+pub fn pair_or_empty<O: Write>(name: &str, line: &[u8], out: &mut O) -> Result<(), Failure>
+    ensures { spec.Does (spec.GetsPairOrEmpty name.now line.now) (O.contents out.old) (O.contents out.new) result }
+{
     let reference = ReferenceView::try_from_bytes(line)?;
     match Held(reference.query()).0.as_ref() {
         Some(query) => print_text(query.pair(name.as_bytes()), out),
-        None => out.write_all(b"\n").map_err(Failure::Output),
+        None => print_bytes(b"", out),
     }
 }
 
 /// Prints the value as it stands, or an empty line.
-fn print_text<O: Write>(value: Option<Query<'_>>, out: &mut O) -> Result<(), Failure> {
+#[tactic(auto, using(crate::proofs::OutputLemmas::text_written, crate::proofs::OutputLemmas::empty_written))]
+fn print_text<O: Write>(value: Option<Query<'_>>, out: &mut O) -> Result<(), Failure>
+    ensures { spec.Writes (spec.line (unwrap_or value.entry [])) (O.contents out.old) (O.contents out.new) result }
+{
     match Held(value).0.as_ref() {
-        Some(value) => print_line(value, out).map_err(Failure::Output),
-        None => out.write_all(b"\n").map_err(Failure::Output),
+        Some(value) => print_line(value, out),
+        None => print_bytes(b"", out),
     }
 }

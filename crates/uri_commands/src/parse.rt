@@ -1,10 +1,13 @@
 //! `uri parse TEXT`: the components of a reference.
 
+ghost use Rattle.std.specs.Prelude.{◌≡◌, Some};
+ghost use Rattle.std.specs.Option.{option_copied};
+ghost use Rattle.uri_commands.specs.Output as spec;
+
 use crate::failure::Failure;
 use crate::print::{print_line, print_part};
 use crate::topic::Topic;
 use std::alloc::Global;
-use std::io;
 use std::io::Write;
 use uriparse::{Authority, Host, URIReference};
 
@@ -45,25 +48,41 @@ prints
 };
 
 /// Prints the reference, its path, and its other components if present, a line each.
-pub fn parse<O: Write>(alloc: Global, text: &str, out: &mut O) -> Result<(), Failure> {
+#[tactic(auto, using(crate::proofs::ComponentLemmas::parsed, crate::proofs::OutputLemmas::rejected_unless))]
+pub fn parse<O: Write>(alloc: Global, text: &str, out: &mut O) -> Result<(), Failure>
+    ensures { spec.Does (spec.Parses text.now) (O.contents out.old) (O.contents out.new) result }
+{
     let reference = URIReference::try_from_str(alloc, text)?;
-    print_reference(&reference, out).map_err(Failure::Output)
+    print_reference(&reference, out)
 }
 
 /// Prints the reference and its components.
-fn print_reference<O: Write>(reference: &URIReference<'_>, out: &mut O) -> io::Result<()> {
+fn print_reference<O: Write>(reference: &URIReference<'_>, out: &mut O) -> Result<(), Failure>
+    ensures { spec.Writes (spec.reference_lines reference.now) (O.contents out.old) (O.contents out.new) result }
+{
     print_line(reference, out)?;
     print_part("scheme", reference.scheme(), out)?;
-    if let Some(authority) = reference.authority() {
-        print_authority(authority, out)?;
-    }
+    print_authority(reference.authority(), out)?;
     print_part("path", Some(reference.path()), out)?;
     print_part("query", reference.query(), out)?;
     print_part("fragment", reference.fragment(), out)
 }
 
+/// Prints the authority's components, if there is an authority.
+#[tactic(auto, using(crate::proofs::ComponentLemmas::authority_line, crate::proofs::ComponentLemmas::no_authority_line))]
+fn print_authority<O: Write>(authority: Option<&Authority<'_>>, out: &mut O) -> Result<(), Failure>
+    ensures { spec.Writes (spec.authority_components (option_copied authority.entry)) (O.contents out.old) (O.contents out.new) result }
+{
+    match authority {
+        Some(authority) => print_components(authority, out),
+        None => Ok(()),
+    }
+}
+
 /// Prints the host, and the authority's other components if present, a line each.
-fn print_authority<O: Write>(authority: &Authority<'_>, out: &mut O) -> io::Result<()> {
+fn print_components<O: Write>(authority: &Authority<'_>, out: &mut O) -> Result<(), Failure>
+    ensures { spec.Writes (spec.authority_components (Some authority.now)) (O.contents out.old) (O.contents out.new) result }
+{
     print_part("username", authority.username(), out)?;
     print_part("password", authority.password(), out)?;
     let host = authority.host();
@@ -72,7 +91,9 @@ fn print_authority<O: Write>(authority: &Authority<'_>, out: &mut O) -> io::Resu
 }
 
 /// The name of a line for a host of this kind.
-fn host_name(host: &Host<'_>) -> &'static str {
+fn host_name(host: &Host<'_>) -> &'static str
+    ensures { result.now ≡ spec.host_name host.now }
+{
     match host {
         Host::IPv4Address(_) => "host.ipv4",
         Host::IPv6Address(_) => "host.ipv6",

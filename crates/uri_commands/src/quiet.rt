@@ -1,5 +1,7 @@
 //! `uri --quiet parse TEXT` and `uri --quiet equal A B`: the status alone, for scripts.
 
+ghost use Rattle.uri_commands.specs.Output as spec;
+
 use crate::equal::split_pair;
 use crate::failure::Failure;
 use crate::topic::Topic;
@@ -31,17 +33,31 @@ prints
 };
 
 /// Checks whether the text is a reference. Does not allocate.
-pub fn check(text: &[u8]) -> Result<(), Failure> {
+#[tactic(auto, using(crate::proofs::OutputLemmas::checked, crate::proofs::OutputLemmas::not_checked))]
+pub fn check(text: &[u8]) -> Result<(), Failure>
+    ensures { spec.Finds (spec.Checks text.now) result }
+{
     URIReference::check(text)?;
     Ok(())
 }
 
 /// Checks whether two references are equal, and fails with `Failure::Different` if they differ. Does
 /// not allocate.
-pub fn check_equal(left: &[u8], right: &[u8]) -> Result<(), Failure> {
+#[tactic(auto, using(crate::proofs::OutputLemmas::found_equal_first, crate::proofs::OutputLemmas::found_rejected))]
+pub fn check_equal(left: &[u8], right: &[u8]) -> Result<(), Failure>
+    ensures { spec.Finds (spec.ChecksEqual left.now right.now) result }
+{
     let left = ReferenceView::try_from_bytes(left)?;
+    check_against(&left, right)
+}
+
+/// Reads the right reference, and checks whether it equals the left one.
+#[tactic(auto, using(crate::proofs::OutputLemmas::found_equal, crate::proofs::OutputLemmas::found_different, crate::proofs::OutputLemmas::found_rejected))]
+fn check_against(left: &ReferenceView<'_>, right: &[u8]) -> Result<(), Failure>
+    ensures { spec.Finds (spec.ChecksAgainst left.now.parts right.now) result }
+{
     let right = ReferenceView::try_from_bytes(right)?;
-    if left == right {
+    if *left == right {
         Ok(())
     } else {
         Err(Failure::Different)
@@ -49,7 +65,10 @@ pub fn check_equal(left: &[u8], right: &[u8]) -> Result<(), Failure> {
 }
 
 /// Checks whether the line's two references are equal.
-pub fn check_pair(line: &[u8]) -> Result<(), Failure> {
+#[tactic(auto, using(crate::proofs::OutputLemmas::found_in_pair, crate::proofs::OutputLemmas::found_no_pair))]
+pub fn check_pair(line: &[u8]) -> Result<(), Failure>
+    ensures { spec.Finds (spec.OfPair line.now spec.ChecksEqual) result }
+{
     let (left, right) = split_pair(line)?;
     check_equal(left, right)
 }

@@ -4,7 +4,6 @@ use crate::failure::Failure;
 use crate::print::{print_line, print_part};
 use crate::topic::Topic;
 use std::alloc::Global;
-use std::io;
 use std::io::Write;
 use uriparse::{Fragment, Path, Query, URIReferenceError};
 use uriparse_text::internal::Held;
@@ -56,11 +55,11 @@ fn read_tail(alloc: Global, text: &str) -> Result<Tail<'_>, URIReferenceError> {
 /// Prints the text, its path, and its query and its fragment if present, a line each.
 pub fn tail<O: Write>(alloc: Global, text: &str, out: &mut O) -> Result<(), Failure> {
     let tail = Held(read_tail(alloc, text)?);
-    print_tail(text, &tail.0, out).map_err(Failure::Output)
+    print_tail(text, &tail.0, out)
 }
 
 /// Prints the text and its components.
-fn print_tail<O: Write>(text: &str, tail: &Tail<'_>, out: &mut O) -> io::Result<()> {
+fn print_tail<O: Write>(text: &str, tail: &Tail<'_>, out: &mut O) -> Result<(), Failure> {
     let (path, query, fragment) = tail;
     print_line(&text, out)?;
     print_part("path", Some(path), out)?;

@@ -1,6 +1,14 @@
 //! `uri within BASE URI` and `uri host-within DOMAIN REF`: whether a URI is below another one, and whether
 //! a host is a domain or under it.
 
+ghost use Rattle.std.specs.Prelude.{◌≡◌, ◌↔◌, IsTrue, MatchResult, [], false, true};
+ghost use Rattle.uriparse.specs.Host.{reading};
+ghost use Rattle.uriparse.specs.HostError.{HostError};
+ghost use Rattle.uriparse.specs.Within.{IsWithin};
+ghost use Rattle.uri_commands.specs.Output as spec;
+ghost use Rattle.uri_commands.specs.Output.{Negative, Printed};
+ghost use Rattle.uri_commands.specs.declared.failure.Failure.TheVariants as failures;
+
 use crate::edit::read_host;
 use crate::failure::Failure;
 use crate::print::print_bytes;
@@ -72,12 +80,16 @@ prints
 };
 
 /// Reads a domain, which is a host.
-pub fn read_domain(text: &str) -> Result<Host<'_>, URIReferenceError> {
+pub fn read_domain(text: &str) -> Result<Host<'_>, URIReferenceError>
+    ensures { MatchResult result (λ h. reading text.now ≡ Ok h) (λ _. (x : HostError) × (reading text.now ≡ Err x)) }
+{
     Ok(read_host(text)?)
 }
 
 /// Fails with `Failure::Outside` if it is not within.
-fn only_within(is_within: bool) -> Result<(), Failure> {
+fn only_within(is_within: bool) -> Result<(), Failure>
+    ensures { MatchResult result (λ _. is_within ≡ true) (λ f. (f ≡ failures.Outside) × (is_within ≡ false)) }
+{
     if is_within {
         Ok(())
     } else {
@@ -87,26 +99,54 @@ fn only_within(is_within: bool) -> Result<(), Failure> {
 
 /// Checks whether the URI is below the base, which is read first, and fails with `Failure::Outside` if
 /// it is not. Does not allocate.
-pub fn within(base: &[u8], text: &[u8]) -> Result<(), Failure> {
+#[tactic(auto, using(crate::proofs::OutputLemmas::below_first, crate::proofs::OutputLemmas::found_rejected_uri))]
+pub fn within(base: &[u8], text: &[u8]) -> Result<(), Failure>
+    ensures { spec.Finds (spec.Within base.now text.now) result }
+{
     let base = URIView::try_from_bytes(base)?;
-    only_within(is_below(&base, text)?)
+    check_below(&base, text)
+}
+
+/// Checks whether the URI is below the base.
+#[tactic(auto, using(crate::proofs::OutputLemmas::found_below, crate::proofs::OutputLemmas::found_unread))]
+fn check_below(base: &URIView<'_>, text: &[u8]) -> Result<(), Failure>
+    ensures { spec.Finds (spec.IsBelow base.now.parts text.now (Printed []) Negative) result }
+{
+    only_within(is_below(base, text)?)
 }
 
 /// Reads the URI, and returns whether it is below the base.
-fn is_below(base: &URIView<'_>, text: &[u8]) -> Result<bool, Failure> {
+#[tactic(auto, using(crate::proofs::OutputLemmas::uri_of, crate::proofs::OutputLemmas::uri_rejected))]
+fn is_below(base: &URIView<'_>, text: &[u8]) -> Result<bool, Failure>
+    ensures { spec.IsOfUri text.now (λ p is. IsTrue is ↔ IsWithin p base.now.parts) result }
+{
     let uri = URIView::try_from_bytes(text)?;
     Ok(uri.is_within(base))
 }
 
 /// Checks whether the host of the reference is within the domain, which is read first, and fails with
 /// `Failure::Outside` if it is not. Does not allocate.
-pub fn host_within(domain: &str, text: &[u8]) -> Result<(), Failure> {
+#[tactic(auto, using(crate::proofs::OutputLemmas::in_domain, crate::proofs::OutputLemmas::no_domain))]
+pub fn host_within(domain: &str, text: &[u8]) -> Result<(), Failure>
+    ensures { spec.Finds (spec.HostWithin domain.now text.now) result }
+{
     let domain = Held(read_domain(domain)?);
-    only_within(is_under(&domain.0, text)?)
+    check_under(&domain.0, text)
+}
+
+/// Checks whether the host of the reference is within the domain.
+#[tactic(auto, using(crate::proofs::OutputLemmas::found_under, crate::proofs::OutputLemmas::found_no_reference))]
+fn check_under(domain: &Host<'_>, text: &[u8]) -> Result<(), Failure>
+    ensures { spec.Finds (spec.HasHostUnder domain.now text.now (Printed []) Negative) result }
+{
+    only_within(is_under(domain, text)?)
 }
 
 /// Reads the reference, and returns whether its host is within the domain.
-fn is_under(domain: &Host<'_>, text: &[u8]) -> Result<bool, Failure> {
+#[tactic(auto, using(crate::proofs::OutputLemmas::host_found, crate::proofs::OutputLemmas::no_host_found, crate::proofs::OutputLemmas::reference_rejected))]
+fn is_under(domain: &Host<'_>, text: &[u8]) -> Result<bool, Failure>
+    ensures { spec.IsOfReference text.now (λ p is. IsTrue is ↔ spec.IsUnder domain.now p) result }
+{
     let reference = ReferenceView::try_from_bytes(text)?;
     match Held(reference.host()).0.as_ref() {
         Some(host) => Ok(host.is_within(domain)),
@@ -115,23 +155,32 @@ fn is_under(domain: &Host<'_>, text: &[u8]) -> Result<bool, Failure> {
 }
 
 /// Prints the line if its URI is below the base.
-pub fn print_within<O: Write>(base: &URIView<'_>, line: &[u8], out: &mut O) -> Result<(), Failure> {
+#[tactic(auto, using(crate::proofs::OutputLemmas::printed_below, crate::proofs::OutputLemmas::unread))]
+pub fn print_within<O: Write>(base: &URIView<'_>, line: &[u8], out: &mut O) -> Result<(), Failure>
+    ensures { spec.Does (spec.PrintsWithin base.now.parts line.now) (O.contents out.old) (O.contents out.new) result }
+{
     print_if(is_below(base, line)?, line, out)
 }
 
 /// Prints the line if its reference has a host within the domain.
+#[tactic(auto, using(crate::proofs::OutputLemmas::printed_under, crate::proofs::OutputLemmas::unread_reference))]
 pub fn print_host_within<O: Write>(
     domain: &Host<'_>,
     line: &[u8],
     out: &mut O,
-) -> Result<(), Failure> {
+) -> Result<(), Failure>
+    ensures { spec.Does (spec.PrintsHostWithin domain.now line.now) (O.contents out.old) (O.contents out.new) result }
+{
     print_if(is_under(domain, line)?, line, out)
 }
 
 /// Prints the line if it is within.
-fn print_if<O: Write>(is_within: bool, line: &[u8], out: &mut O) -> Result<(), Failure> {
+#[tactic(auto, using(crate::proofs::OutputLemmas::nothing_written))]
+fn print_if<O: Write>(is_within: bool, line: &[u8], out: &mut O) -> Result<(), Failure>
+    ensures { spec.Writes (spec.line_if is_within line.now) (O.contents out.old) (O.contents out.new) result }
+{
     if !is_within {
         return Ok(());
     }
-    print_bytes(line, out).map_err(Failure::Output)
+    print_bytes(line, out)
 }

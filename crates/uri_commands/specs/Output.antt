@@ -1,0 +1,394 @@
+-- What each command prints, in the order of docs/PROGRAM.md.
+use Rattle.std.specs.Prelude.{◌≡◌, ◌⊎◌, ℕ, Bool, true, false, List, [], ◌∷◌, ◌++◌, flat_map, map, bytes_eq, codes, decimal, if◌then◌else◌, Option, Some, None, is_some, unwrap_or, Result, Ok, Err, MatchOption, MatchResult}
+use Rattle.std.specs.Io.KnownBytes.{Appends}
+use Rattle.std.specs.List.{join_with_byte}
+use Rattle.std.specs.Option.{IsSomeAnd, option_map}
+use Rattle.uriparse.specs.Bytes.{equals_sign}
+use Rattle.uriparse.specs.Authority.{AuthorityParts}
+use Rattle.uriparse.specs.ChangeError.TheVariants as changes
+use Rattle.uriparse.specs.BufferError.{BufferError}
+use Rattle.uriparse.specs.BufferError.TheVariants as buffers
+use Rattle.uriparse.specs.Class.{Class}
+use Rattle.uriparse.specs.Class.TheVariants as class
+use Rattle.uriparse.specs.Coding.{decoded, encoded}
+use Rattle.uriparse.specs.Escaped.{escaped}
+use Rattle.uriparse.specs.File.{path_of_uri, uri_of_path}
+use Rattle.uriparse.specs.declared.file.error.FileError.TheVariants as files
+use Rattle.uriparse.specs.Host as host
+use Rattle.uriparse.specs.HostValue.{Host}
+use Rattle.uriparse.specs.HostWithin as hosts
+use Rattle.uriparse.specs.Key.{key}
+use Rattle.uriparse.specs.Kinds.{fault_of}
+use Rattle.uriparse.specs.Link.{link}
+use Rattle.uriparse.specs.Normal.{normal}
+use Rattle.uriparse.specs.Origin as origin
+use Rattle.uriparse.specs.PairEdits.{pair_in}
+use Rattle.uriparse.specs.Pairs.{Pair, pairs, piece_of}
+use Rattle.uriparse.specs.Path as path
+use Rattle.uriparse.specs.PathError.TheVariants.{ExceededMaximumLength, OutOfMemory}
+use Rattle.uriparse.specs.Ports.{without_default_port}
+use Rattle.uriparse.specs.Query as query
+use Rattle.uriparse.specs.Reading.{fault}
+use Rattle.uriparse.specs.Reference.{Parts, Spells, authority_part, host_of, password_of, port_of, print, scheme_part, username_of}
+use Rattle.uriparse.specs.Relate.{LeavesOut}
+use Rattle.uriparse.specs.Target.{target}
+use Rattle.uriparse.specs.TextCuts.{after, before}
+use Rattle.uriparse.specs.URIReferenceError.{URIReferenceError}
+use Rattle.uriparse.specs.URIReferenceError.TheVariants as references
+use Rattle.uriparse.specs.Uri.{map_error}
+use Rattle.uriparse.specs.Within.{IsWithin}
+use Rattle.uriparse.specs.declared.uri.error.URIError.{URIError}
+use Rattle.uriparse.specs.declared.uri.error.URIError.TheVariants as uris
+use Rattle.uri_commands.specs.Columns.{tab}
+use Rattle.uri_commands.specs.Json.{kind_name, object}
+use Rattle.uri_commands.specs.Lines.{newline}
+use Rattle.uri_commands.specs.declared.commands.Task.{Task}
+use Rattle.uri_commands.specs.declared.commands.Task.TheVariants as tasks
+use Rattle.uri_commands.specs.declared.failure.Failure.{Failure}
+use Rattle.uri_commands.specs.declared.failure.Failure.TheVariants as failures
+use Rattle.uri_commands.specs.declared.failure.EditError.{EditError}
+use Rattle.uri_commands.specs.declared.failure.EditError.TheVariants as edits
+use Rattle.uri_commands.specs.declared.get.Part.{Part}
+use Rattle.uri_commands.specs.declared.get.Part.TheVariants as part
+
+-- ---- answers
+
+-- what a command answers to its input
+pub data Answer : Type 0 where
+  Printed : List ℕ → Answer  -- these bytes, and status 0
+  Rejected : Answer  -- nothing, and status 1
+  Negative : Answer  -- nothing, and status 3: absent, different or not within
+  Unknown : Answer  -- nothing, and status 2: no command has these words
+
+-- the bytes, on a line of their own
+abbrev pub line : List ℕ → List ℕ
+line bytes = bytes ++ newline ∷ []
+
+-- the answer prints a line of these bytes
+abbrev pub Prints : List ℕ → Answer → Type 0
+Prints bytes a = a ≡ Printed (line bytes)
+
+-- the same of bytes that are present, and else the answer is negative
+abbrev pub PrintsIfPresent : Option (List ℕ) → Answer → Type 0
+PrintsIfPresent None a = a ≡ Negative
+PrintsIfPresent (Some bytes) a = Prints bytes a
+
+-- the one answer if this is so, and else the other
+abbrev pub IfSo : Type 0 → Answer → Answer → Answer → Type 0
+IfSo Is inside outside a = (Is × (a ≡ inside)) ⊎ ((Is → ⊥) × (a ≡ outside))
+
+-- ---- input
+
+-- the answer to a text that is to be a reference
+abbrev pub OfReference : List ℕ → (Parts → Answer → Type 0) → Answer → Type 0
+OfReference t Is a = ((p : Parts) × Spells t p × Is p a) ⊎ ((e : URIReferenceError) × (fault t ≡ Some e) × (a ≡ Rejected))
+
+-- the answer to a text that is to be a URI
+abbrev pub OfUri : List ℕ → (Parts → Answer → Type 0) → Answer → Type 0
+OfUri t Is a =
+    ((p : Parts) × Spells t p × (is_some p.scheme ≡ true) × Is p a)
+    ⊎ ((e : URIError) × (fault_of true map_error uris.NotURI t ≡ Some e) × (a ≡ Rejected))
+
+-- the answer to a line of two texts, with the first tab between them
+abbrev pub OfPair : List ℕ → (List ℕ → List ℕ → Answer → Type 0) → Answer → Type 0
+OfPair t Is a = MatchOption (after tab t) (a ≡ Rejected) (λ second. Is (before tab t) second a)
+
+-- ---- commands
+
+-- a line NAME=VALUE, if the component is present
+abbrev pub component : List ℕ → Option (List ℕ) → List ℕ
+component name None = []
+component name (Some value) = line (name ++ equals_sign ∷ value)
+
+-- the host, whose name says of which kind it is
+abbrev pub host_name : Host → List ℕ
+host_name h = codes "host." ++ kind_name (host.kind h)
+
+abbrev pub authority_components : Option AuthorityParts → List ℕ
+authority_components None = []
+authority_components (Some a) =
+    component (codes "username") a.username
+    ++ (component (codes "password") a.password
+    ++ (component (host_name a.host) (Some (host.text a.host))
+    ++ component (codes "port") (option_map decimal a.port)))
+
+-- parse: the reference, then each component
+abbrev pub reference_lines : Parts → List ℕ
+reference_lines p =
+    line (print p)
+    ++ (component (codes "scheme") (scheme_part p)
+    ++ (authority_components p.authority
+    ++ (component (codes "path") (Some (path.text p.path))
+    ++ (component (codes "query") p.query
+    ++ component (codes "fragment") p.fragment))))
+
+abbrev pub Parses : List ℕ → Answer → Type 0
+Parses t = OfReference t (λ p a. a ≡ Printed (reference_lines p))
+
+-- get: the text of a part, if it is present
+abbrev pub part_text : Part → Parts → Option (List ℕ)
+part_text part.Scheme p = scheme_part p
+part_text part.Authority p = authority_part p
+part_text part.Username p = username_of p
+part_text part.Password p = password_of p
+part_text part.Host p = option_map host.text (host_of p)
+part_text part.Port p = option_map decimal (port_of p)
+part_text part.Path p = Some (path.text p.path)
+part_text part.Query p = p.query
+part_text part.Fragment p = p.fragment
+part_text part.Origin p = option_map origin.text (origin.origin p)
+
+abbrev pub Gets : Part → List ℕ → Answer → Type 0
+Gets part t = OfReference t (λ p. PrintsIfPresent (part_text part p))
+
+-- with --lines an absent part is empty, and so it is among several, which tabs separate
+abbrev pub GetsOrEmpty : Part → List ℕ → Answer → Type 0
+GetsOrEmpty part t = OfReference t (λ p. Prints (unwrap_or (part_text part p) []))
+
+abbrev pub GetsParts : List Part → List ℕ → Answer → Type 0
+GetsParts parts t = OfReference t (λ p. Prints (join_with_byte tab (map (λ part. unwrap_or (part_text part p) []) parts)))
+
+-- normalize: the normal form
+abbrev pub Normalizes : List ℕ → Answer → Type 0
+Normalizes t = OfReference t (λ p. Prints (print (normal p)))
+
+-- equal: whether two references are equal
+abbrev pub equal_or_different : Bool → List ℕ
+equal_or_different true = codes "equal"
+equal_or_different false = codes "different"
+
+abbrev pub ComparesWith : Parts → List ℕ → Answer → Type 0
+ComparesWith p t = OfReference t (λ q. Prints (equal_or_different (bytes_eq (key p) (key q))))
+
+abbrev pub Compares : List ℕ → List ℕ → Answer → Type 0
+Compares t u = OfReference t (λ p. ComparesWith p u)
+
+-- resolve: the target against a base, if there is one
+abbrev pub ResolvesAgainst : Parts → List ℕ → Answer → Type 0
+ResolvesAgainst base t = OfReference t (λ p a. MatchOption (target base p) (a ≡ Rejected) (λ q. Prints (print q) a))
+
+abbrev pub Resolves : List ℕ → List ℕ → Answer → Type 0
+Resolves base t = OfUri base (λ b. ResolvesAgainst b t)
+
+-- relativize: a reference that has the target that the URI itself has
+abbrev pub LeadsTo : Parts → Parts → Answer → Type 0
+LeadsTo base p a = (r : Parts) × (target base r ≡ target base p) × LeavesOut base p r × Prints (print r) a
+
+abbrev pub RelativizesAgainst : Parts → List ℕ → Answer → Type 0
+RelativizesAgainst base t = OfUri t (LeadsTo base)
+
+abbrev pub Relativizes : List ℕ → List ℕ → Answer → Type 0
+Relativizes base t = OfUri base (λ b. RelativizesAgainst b t)
+
+-- decode: the bytes that a query stands for
+abbrev pub Decodes : List ℕ → Answer → Type 0
+Decodes t a = MatchResult (query.reading t) (λ q. Prints (decoded q) a) (λ e. a ≡ Rejected)
+
+-- encode: the text as a component of this kind
+abbrev pub class_of : List ℕ → Option Class
+class_of kind =
+    if bytes_eq kind (codes "segment") then Some class.Segment
+    else if bytes_eq kind (codes "query") then Some class.Query
+    else if bytes_eq kind (codes "fragment") then Some class.Query
+    else if bytes_eq kind (codes "username") then Some class.Name
+    else if bytes_eq kind (codes "password") then Some class.UserInfo
+    else None
+
+abbrev pub Encodes : List ℕ → List ℕ → Answer → Type 0
+Encodes kind t a = MatchOption (class_of kind) (a ≡ Unknown) (λ c. Prints (encoded c t) a)
+
+-- escape: the text as a reference
+abbrev pub Escapes : List ℕ → Answer → Type 0
+Escapes t = Prints (escaped t)
+
+-- pairs: the pieces of the query, each on a line
+abbrev pub pair_lines : List Pair → List ℕ
+pair_lines ps = flat_map (λ p. line (piece_of p)) ps
+
+abbrev pub PrintsPairs : Option (List ℕ) → Answer → Type 0
+PrintsPairs None a = a ≡ Negative
+PrintsPairs (Some q) a = a ≡ Printed (pair_lines (pairs q))
+
+abbrev pub Pairs : List ℕ → Answer → Type 0
+Pairs t = OfReference t (λ p. PrintsPairs p.query)
+
+-- pair: the bytes that the value of the first pair of a name stands for; with --lines the value as it stands, or an empty line
+abbrev pub GetsPair : List ℕ → List ℕ → Answer → Type 0
+GetsPair name t = OfReference t (λ p. PrintsIfPresent (option_map decoded (pair_in name p)))
+
+abbrev pub GetsPairOrEmpty : List ℕ → List ℕ → Answer → Type 0
+GetsPairOrEmpty name t = OfReference t (λ p. Prints (unwrap_or (pair_in name p) []))
+
+-- within: nothing if the URI is below the base; with --lines the line itself
+abbrev pub IsBelow : Parts → List ℕ → Answer → Answer → Answer → Type 0
+IsBelow base t inside outside = OfUri t (λ p. IfSo (IsWithin p base) inside outside)
+
+abbrev pub Within : List ℕ → List ℕ → Answer → Type 0
+Within base t = OfUri base (λ b. IsBelow b t (Printed []) Negative)
+
+abbrev pub PrintsWithin : Parts → List ℕ → Answer → Type 0
+PrintsWithin base t = IsBelow base t (Printed (line t)) (Printed [])
+
+-- host-within: the same of a host and a domain; a reference without a host is under no domain
+abbrev pub IsUnder : Host → Parts → Type 0
+IsUnder domain p = IsSomeAnd (host_of p) (λ h. hosts.IsWithin h domain)
+
+abbrev pub HasHostUnder : Host → List ℕ → Answer → Answer → Answer → Type 0
+HasHostUnder domain t inside outside = OfReference t (λ p. IfSo (IsUnder domain p) inside outside)
+
+abbrev pub HostWithin : List ℕ → List ℕ → Answer → Type 0
+HostWithin domain t a = MatchResult (host.reading domain) (λ d. HasHostUnder d t (Printed []) Negative a) (λ e. a ≡ Rejected)
+
+abbrev pub PrintsHostWithin : Host → List ℕ → Answer → Type 0
+PrintsHostWithin domain t = HasHostUnder domain t (Printed (line t)) (Printed [])
+
+-- file: the URI of a path
+abbrev pub Files : List ℕ → Answer → Type 0
+Files t a = MatchResult (uri_of_path t) (λ u. Prints (print u) a) (λ e. a ≡ Rejected)
+
+-- get file: the path that a URI names
+abbrev pub GetsFile : List ℕ → Answer → Type 0
+GetsFile t = OfUri t (λ p a. MatchResult (path_of_uri p) (λ path. Prints path a) (λ e. a ≡ Rejected))
+
+-- edit with --lines: a reference, or the edits are rejected; which reference the edits make is not said here
+abbrev pub Edited : Answer → Type 0
+Edited a = ((p : Parts) × Prints (print p) a) ⊎ (a ≡ Rejected)
+
+abbrev pub EditsLine : List ℕ → Answer → Type 0
+EditsLine t = OfReference t (λ p. Edited)
+
+-- ---- options
+
+-- --json parse: the object
+abbrev pub ParsesJson : List ℕ → Answer → Type 0
+ParsesJson t = OfReference t (λ p. Prints (object t p))
+
+-- --quiet parse and --quiet equal: nothing
+abbrev pub Checks : List ℕ → Answer → Type 0
+Checks t a = MatchOption (fault t) (a ≡ Printed []) (λ e. a ≡ Rejected)
+
+abbrev pub nothing_if : Bool → Answer
+nothing_if true = Printed []
+nothing_if false = Negative
+
+abbrev pub ChecksAgainst : Parts → List ℕ → Answer → Type 0
+ChecksAgainst p t = OfReference t (λ q a. a ≡ nothing_if (bytes_eq (key p) (key q)))
+
+abbrev pub ChecksEqual : List ℕ → List ℕ → Answer → Type 0
+ChecksEqual t u = OfReference t (λ p. ChecksAgainst p u)
+
+-- --drop-default-port normalize: the normal form without a default port
+abbrev pub NormalizesPort : List ℕ → Answer → Type 0
+NormalizesPort t = OfReference t (λ p. Prints (print (without_default_port (normal p))))
+
+-- --trim escape: the same without what surrounds a link
+abbrev pub EscapesLink : List ℕ → Answer → Type 0
+EscapesLink t = Escapes (link t)
+
+-- --lines: the answer to each line
+abbrev pub AnswersLine : Task → List ℕ → Answer → Type 0
+AnswersLine tasks.Parse t = ParsesJson t
+AnswersLine tasks.Check t = Checks t
+AnswersLine (tasks.Get part) t = GetsOrEmpty part t
+AnswersLine (tasks.GetParts parts) t = GetsParts parts.items t
+AnswersLine tasks.Normalize t = Normalizes t
+AnswersLine tasks.NormalizePort t = NormalizesPort t
+AnswersLine tasks.Equal t = OfPair t Compares
+AnswersLine tasks.CheckEqual t = OfPair t ChecksEqual
+AnswersLine (tasks.Resolve base) t = ResolvesAgainst base.parts t
+AnswersLine (tasks.Relativize base) t = RelativizesAgainst base t
+AnswersLine (tasks.Edit steps) t = EditsLine t
+AnswersLine (tasks.Pair name) t = GetsPairOrEmpty name.now t
+AnswersLine (tasks.Within base) t = PrintsWithin base.parts t
+AnswersLine (tasks.HostWithin domain) t = PrintsHostWithin domain t
+AnswersLine tasks.Escape t = Escapes t
+AnswersLine tasks.EscapeLink t = EscapesLink t
+
+-- ---- what was done
+
+-- memory ran out in an edit
+abbrev pub RunsOut : EditError → Type 0
+RunsOut (edits.Reference e) = e ≡ references.Path OutOfMemory
+RunsOut (edits.Change e) = e ≡ changes.OutOfMemory
+RunsOut (edits.Memory e) = Unit {0}
+
+-- Memory ran out, or a read or a write failed. This ends the work on many lines.
+abbrev pub EndsWork : Failure → Type 0
+EndsWork (failures.Reference e) = e ≡ references.Path OutOfMemory
+EndsWork (failures.Uri e) = e ≡ uris.Path OutOfMemory
+EndsWork (failures.File e) = e ≡ files.Path OutOfMemory
+EndsWork (failures.Edit i e) = RunsOut e
+EndsWork (failures.Memory e) = Unit {0}
+EndsWork (failures.MemoryAtLine n) = Unit {0}
+EndsWork (failures.Input e) = Unit {0}
+EndsWork (failures.Output e) = Unit {0}
+EndsWork f = ⊥
+
+-- any other failure is an answer
+abbrev pub answer_of : Failure → Answer
+answer_of failures.Usage = Unknown
+answer_of failures.Absent = Negative
+answer_of failures.Different = Negative
+answer_of failures.Outside = Negative
+answer_of f = Rejected
+
+-- The command gave such an answer: it printed these bytes, or it failed so and printed nothing. If its work ended early, nothing is known of
+-- what it printed.
+abbrev pub Does : (Answer → Type 0) → Option (List ℕ) → Option (List ℕ) → Result (Unit {0}) Failure → Type 0
+Does Is old new (Ok _) = (bytes : List ℕ) × Is (Printed bytes) × Appends old new bytes
+Does Is old new (Err f) = EndsWork f ⊎ (Is (answer_of f) × (new ≡ old))
+
+-- the same of a command that never prints
+abbrev pub Finds : (Answer → Type 0) → Result (Unit {0}) Failure → Type 0
+Finds Is (Ok _) = Is (Printed [])
+Finds Is (Err f) = EndsWork f ⊎ Is (answer_of f)
+
+-- ---- words of private functions' clauses alone
+
+-- the bytes are written, or a write failed
+abbrev pub Writes : List ℕ → Option (List ℕ) → Option (List ℕ) → Result (Unit {0}) Failure → Type 0
+Writes bytes old new (Ok _) = Appends old new bytes
+Writes bytes old new (Err f) = EndsWork f
+
+-- the work ended
+abbrev pub Ended : Result (Unit {0}) Failure → Type 0
+Ended (Ok _) = ⊥
+Ended (Err f) = EndsWork f
+
+-- the line if it is within
+abbrev pub line_if : Bool → List ℕ → List ℕ
+line_if true t = line t
+line_if false t = []
+
+-- The bytes are written if they are present, and the result is whether they are; or a write failed.
+abbrev pub WritesIfPresent : Option (List ℕ) → Option (List ℕ) → Option (List ℕ) → Result Bool Failure → Type 0
+WritesIfPresent None old new (Ok is) = (is ≡ false) × (new ≡ old)
+WritesIfPresent (Some bytes) old new (Ok is) = (is ≡ true) × Appends old new bytes
+WritesIfPresent None old new (Err f) = EndsWork f
+WritesIfPresent (Some bytes) old new (Err f) = EndsWork f
+
+-- what was found of a text that is to be a URI, or why it is rejected
+abbrev pub IsOfUri : {A : Type 0} → List ℕ → (Parts → A → Type 0) → Result A Failure → Type 0
+IsOfUri t Is (Ok x) = (p : Parts) × Spells t p × (is_some p.scheme ≡ true) × Is p x
+IsOfUri t Is (Err f) = (e : URIError) × (fault_of true map_error uris.NotURI t ≡ Some e) × (f ≡ failures.Uri e)
+
+-- the same of a reference
+abbrev pub IsOfReference : {A : Type 0} → List ℕ → (Parts → A → Type 0) → Result A Failure → Type 0
+IsOfReference t Is (Ok x) = (p : Parts) × Spells t p × Is p x
+IsOfReference t Is (Err f) = (e : URIReferenceError) × (fault t ≡ Some e) × (f ≡ failures.Reference e)
+
+-- there is no target, or memory ran out
+abbrev pub LacksTarget : Parts → Parts → Failure → Type 0
+LacksTarget base p f = EndsWork f ⊎ ((target base p ≡ None) × (answer_of f ≡ Rejected))
+
+-- a read or a write failed
+abbrev pub IsOfStream : Failure → Type 0
+IsOfStream (failures.Input e) = Unit {0}
+IsOfStream (failures.Output e) = Unit {0}
+IsOfStream f = ⊥
+
+-- the failure that an error of a buffer becomes
+abbrev pub IsOfBuffer : BufferError → Failure → Type 0
+IsOfBuffer (buffers.TooSmall n) f = EndsWork f
+IsOfBuffer buffers.RelativeBase f = f ≡ failures.Uri uris.NotURI
+IsOfBuffer buffers.TooManySegments f = f ≡ failures.Uri (uris.Path ExceededMaximumLength)
