@@ -5,7 +5,9 @@ ghost use Rattle.std.specs.Prelude.{◌≡◌, ◌↔◌, Err, IfOk, IsOk, IsTru
 ghost use Rattle.uriparse_text.specs.Readings.{IsUnless};
 ghost use Rattle.uriparse_text.specs.declared.segment.error.PathError.TheVariants as paths;
 ghost use Rattle.uriparse_reference.specs.Normal.{canonical_texts, normal};
-ghost use Rattle.uriparse_reference.specs.Reference.{Parts, Spells};
+ghost use Rattle.uriparse_reference.specs.Into.{Writes};
+ghost use Rattle.uriparse_reference.specs.Reference.{Parts, Spells, print};
+ghost use Rattle.uriparse_reference.specs.Relate.{relative};
 ghost use Rattle.uriparse_reference.specs.Target.{target};
 ghost use Rattle.uriparse.specs.File as files;
 ghost use Rattle.uriparse.specs.Kinds.{fault_of, of_kind};
@@ -18,7 +20,7 @@ ghost use Rattle.uriparse.specs.declared.uri.error.URIError.TheVariants as error
 
 use std::alloc::{AllocError, Global};
 use uriparse::file::{FileError, from_path, to_path};
-use uriparse::{Origin, Query, URI, URIBuilder, URIError, URIReference, URIView};
+use uriparse::{BufferError, Origin, Query, URI, URIBuilder, URIError, URIReference, URIView};
 
 /// Reads a URI. A fault, or that there is no scheme, is returned whatever memory there is, and a path
 /// of one segment takes none.
@@ -57,7 +59,8 @@ pub fn resolve<'a>(
     base: &'a URI<'_>,
     reference: &'a URIReference<'_>,
 ) -> Result<URI<'a>, URIError>
-    ensures { MatchOption (target base.now reference.now) (result ≡ Err (errors.Path paths.ExceededMaximumLength)) (λ t. IsUnless (errors.Path paths.OutOfMemory) result (Ok t)) }
+    ensures answer { MatchOption (target base.now reference.now) (result ≡ Err (errors.Path paths.ExceededMaximumLength)) (λ t. IsUnless (errors.Path paths.OutOfMemory) result (Ok t)) }
+    ensures takes_no_memory { length base.now.path.segments ≡ 1 → length reference.now.path.segments ≡ 1 → IsOk result }
 {
     base.resolve(alloc, reference)
 }
@@ -71,6 +74,17 @@ pub fn relativize<'a>(
     ensures { IfOk result (λ r. target base.now r ≡ target base.now uri.now) }
 {
     base.relativize(alloc, uri)
+}
+
+/// The text of the reference that leads from a base to a URI.
+pub fn relativize_into(
+    base: &URIView<'_>,
+    uri: &URIView<'_>,
+    out: &mut [u8],
+) -> Result<usize, BufferError>
+    ensures { Writes (print (relative base.now.parts uri.now.parts)) result out.old out.new }
+{
+    base.relativize_into(uri, out)
 }
 
 /// The URI without its fragment.

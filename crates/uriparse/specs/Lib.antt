@@ -24,7 +24,7 @@ pub use Rattle.uriparse_text.specs.Link
 pub use Rattle.uriparse_text.specs.Ambiguous
 pub use Rattle.uriparse_text.specs.Fragment
 pub use Rattle.uriparse_text.specs.declared.internal.class.Class
-pub use Rattle.uriparse_text.specs.declared.internal.case.Case
+pub use Rattle.uriparse_text.specs.declared.internal.token.Case
 pub use Rattle.uriparse_text.specs.declared.internal.forward_buffer.TooSmall
 pub use Rattle.uriparse_text.specs.declared.query.QueryError
 pub use Rattle.uriparse_text.specs.declared.fragment.FragmentError

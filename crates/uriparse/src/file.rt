@@ -13,7 +13,7 @@ use std::alloc::{AllocError, Global};
 use uriparse_authority::authority::{Authority, Host, RegisteredName};
 use uriparse_path::path::{Path, Segment};
 use uriparse_scheme::scheme::Scheme;
-use uriparse_text::internal::{Held, split_at_mark, without_mark};
+use uriparse_text::internal::{Held, split_at_delimiter, without_delimiter};
 
 mod error;
 
@@ -27,8 +27,8 @@ fn segments_text(alloc: Global, path: &[u8]) -> Result<Vec<u8>, AllocError>
     let mut text = Vec::new(alloc);
     let mut rest = Some(path);
     while let Some(left) = rest {
-        let (name, following) = split_at_mark(left, b'/');
-        rest = without_mark(following);
+        let (name, following) = split_at_delimiter(left, b'/');
+        rest = without_delimiter(following);
         let segment = Held(Segment::encode(alloc, name)?);
         text.push(b'/')?;
         text.extend_from_slice(segment.0.as_bytes())?;

@@ -40,8 +40,8 @@ ghost use Rattle.uriparse_reference.specs.Target.{is_empty, is_merged, target};
 pub use uriparse_reference::laws::{
     equal_in_equal_out, faults_of_reading, normalising_commutes, one_build, one_cut,
     one_default_port, one_edit, one_escaping, one_key, one_merge, one_normal_form,
-    one_offset_of_fault, one_reading, one_run, one_target, order_of_references, reading_back,
-    reading_what_is_written,
+    one_offset_of_fault, one_reading, one_relative, one_run, one_target, order_of_references,
+    reading_back, reading_what_is_written,
 };
 
 /// The components of a URI build it again, passed to `from_parts` or held by a builder.

@@ -17,7 +17,6 @@ mod error;
 pub(crate) mod found;
 mod future;
 mod host;
-mod into;
 mod name;
 pub(crate) mod normal;
 pub(crate) mod offset;
@@ -30,6 +29,7 @@ mod printed;
 pub(crate) mod read;
 mod username;
 mod within;
+mod write;
 
 pub use error::{
     AuthorityError, HostError, PasswordError, PortError, RegisteredNameError, UsernameError,

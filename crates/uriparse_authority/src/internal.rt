@@ -5,7 +5,7 @@ ghost use Rattle.uriparse_authority.specs.Authority.{print};
 ghost use Rattle.uriparse_authority.specs.Ends.{formed_authority};
 
 use crate::authority::Authority;
-pub use crate::authority::found::{FoundAuthority, found_named};
+pub use crate::authority::found::{ScannedAuthority, found_named};
 pub use crate::authority::normal::{CanonicalCopies, canonical_copies, put_copies};
 pub use crate::authority::offset::offset_in_authority;
 pub use crate::authority::pieces::check_pieces;

@@ -49,8 +49,7 @@ use uriparse_ffi::origins::write_origin;
 use uriparse_ffi::pair_edits::{write_appended, write_with_pair, write_without};
 use uriparse_ffi::pairs::{UriPair, named_pair, pair_at};
 use uriparse_ffi::places::{UriParts, places};
-use uriparse_ffi::relatives::write_relative;
-use uriparse_ffi::texts::{equal_texts, hashed, write_normal, write_target};
+use uriparse_ffi::texts::{equal_texts, hashed, write_normal, write_relative, write_target};
 use uriparse_reference::internal::find_pieces;
 use uriparse_reference::uri_reference::URIReference;
 

@@ -7,5 +7,4 @@ pub mod Put
 pub mod Changes
 pub mod Checks
 pub mod Places
-pub mod Relatives
 pub mod Spans

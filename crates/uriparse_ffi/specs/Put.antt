@@ -3,7 +3,7 @@ use Rattle.std.specs.Prelude.{◌≡◌, ◌≤◌, ◌<◌, ℕ, List, ◌++◌
 use Rattle.uriparse_reference.specs.declared.uri_reference.error.BufferError.{BufferError}
 use Rattle.uriparse_reference.specs.declared.uri_reference.error.BufferError.TheVariants as errors
 use Rattle.uriparse_reference.specs.Reference.{Parts, print}
-use Rattle.uriparse_reference.specs.Relate.{Relates}
+use Rattle.uriparse_reference.specs.Relate.{relative}
 use Rattle.uriparse_text.specs.Starts.{most}
 use Rattle.uriparse_ffi.specs.Code.{accepted, in_base, no_room, no_scheme, too_many_segments}
 
@@ -13,9 +13,9 @@ pub record IsPut (text old new : List ℕ) (needed code : ℕ) : Type 0 where
   pub fits : length text ≤ length old → (code ≡ accepted) × (needed ≡ length text) × (new ≡ text ++ drop (length text) old)
   pub too_long : length old < length text → (code ≡ no_room) × (needed ≡ min (length text) most) × (new ≡ old)
 
--- the same of the text of a reference that leads from the base b to t
+-- the same of the text of the reference that leads from the base b to t
 abbrev pub IsRelativePut : Parts → Parts → List ℕ → List ℕ → ℕ → ℕ → Type 0
-IsRelativePut b t old new needed code = (r : Parts) × Relates b t r × IsPut (print r) old new needed code
+IsRelativePut b t old new needed code = IsPut (print (relative b t)) old new needed code
 
 -- the call returns this code, and the buffer is kept
 pub record IsRefused (why : ℕ) (old new : List ℕ) (needed code : ℕ) : Type 0 where

@@ -14,6 +14,5 @@ pub mod pair_edits;
 pub mod pairs;
 pub mod places;
 pub mod put;
-pub mod relatives;
 pub mod span;
 pub mod texts;

@@ -6,7 +6,7 @@ ghost use Rattle.uriparse_text.specs.Starts.{most};
 ghost use Rattle.uriparse_ffi.specs.Pairs.{IsFirstNamedAt, IsPairAt, left_from};
 
 use crate::span::{UriSpan, offset_after, place};
-use uriparse_text::internal::{Named, find_pair, split_at_mark, without_mark};
+use uriparse_text::internal::{Named, find_pair, split_at_delimiter, without_delimiter};
 
 /// Where a pair of a query is, and where the next one begins.
 #[repr(C)]
@@ -25,11 +25,11 @@ fn place_pair(at: usize, piece: &[u8]) -> UriPair
     requires { at + length piece.now < 2 ^ 64 }
     ensures { IsPairAt at (pair_of piece.now) result }
 {
-    let (name, rest) = split_at_mark(piece, b'=');
+    let (name, rest) = split_at_delimiter(piece, b'=');
     let name = place(at, Some(name));
     UriPair {
         name,
-        value: offset_after(name.end, without_mark(rest)),
+        value: offset_after(name.end, without_delimiter(rest)),
         next: (at + piece.len()).saturating_add(1),
     }
 }
@@ -46,7 +46,7 @@ pub fn pair_at(query: &[u8], at: usize) -> Option<UriPair>
     if at > query.len() {
         return None;
     }
-    let (piece, _) = split_at_mark(&query[at..], b'&');
+    let (piece, _) = split_at_delimiter(&query[at..], b'&');
     Some(place_pair(at, piece))
 }
 

@@ -9,9 +9,9 @@ ghost use Rattle.uriparse_ffi.specs.Spans.{span};
 
 use crate::span::{UriSpan, delimited_len, offset_after, place};
 use uriparse::{Text, TextKind};
-use uriparse_authority::internal::{FoundAuthority, split_port, split_userinfo};
+use uriparse_authority::internal::{ScannedAuthority, split_port, split_userinfo};
 use uriparse_reference::internal::Pieces;
-use uriparse_text::internal::{split_at_mark, without_mark};
+use uriparse_text::internal::{split_at_delimiter, without_delimiter};
 
 /// Where the components of an authority begin and end.
 #[derive(Clone, Copy)]
@@ -60,9 +60,12 @@ fn user_places(at: usize, text: Option<&[u8]>) -> (UriSpan, UriSpan)
     let Some(text) = text else {
         return (place(0, None), place(0, None));
     };
-    let (username, rest) = split_at_mark(text, b':');
+    let (username, rest) = split_at_delimiter(text, b':');
     let username = place(at, Some(username));
-    (username, offset_after(username.end, without_mark(rest)))
+    (
+        username,
+        offset_after(username.end, without_delimiter(rest)),
+    )
 }
 
 /// The spans of the components of an authority that begins there.
@@ -132,7 +135,7 @@ fn bytes_of<'c, K: TextKind>(component: &'c Option<Text<'_, K>>) -> Option<&'c [
 }
 
 /// A number for the kind of the host, or 0 if there is no authority.
-fn host_kind_of(authority: &Option<FoundAuthority<'_>>) -> u32
+fn host_kind_of(authority: &Option<ScannedAuthority<'_>>) -> u32
     ensures { result ≡ host_number authority.now }
 {
     match authority {
@@ -151,7 +154,7 @@ fn number_of(port: Option<u16>) -> u32
 }
 
 /// The number of the port, or 0 if there is none.
-fn port_of(authority: &Option<FoundAuthority<'_>>) -> u32
+fn port_of(authority: &Option<ScannedAuthority<'_>>) -> u32
     ensures { result ≡ port_number authority.now }
 {
     match authority {

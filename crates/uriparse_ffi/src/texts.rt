@@ -10,12 +10,13 @@ ghost use Rattle.uriparse.specs.declared.uri.error.URIError.TheVariants as error
 ghost use Rattle.uriparse.specs.Uri.{map_error};
 ghost use Rattle.uriparse_ffi.specs.Code as spec;
 ghost use Rattle.uriparse_ffi.specs.Hash.{hash_of};
-ghost use Rattle.uriparse_ffi.specs.Put.{IsPut, IsRefused};
+ghost use Rattle.uriparse_ffi.specs.Put.{IsPut, IsRefused, IsRelativePut};
 
-use crate::code::{base_code, code_of};
+use crate::code::{base_code, code_of, uri_code};
 use crate::put::{answer, refuse};
 use std::hash::{DefaultHasher, Hash, Hasher};
 use uriparse::{ReferenceView, URIError};
+use uriparse_reference::internal::relativize_into;
 
 /// Views a reference in its text, or returns the code of its error.
 pub(crate) fn view(text: &[u8]) -> Result<ReferenceView<'_>, u32>
@@ -89,6 +90,39 @@ pub fn write_target(base: &[u8], reference: &[u8], out: &mut [u8], needed: &mut 
 {
     match view_uri(base) {
         Ok(base) => write_target_of(&base, reference, out, needed),
+        Err(error) => refuse(base_code(error), needed),
+    }
+}
+
+/// Writes the text of the reference that leads from a base to the URI that a text spells, or returns
+/// the code of the text's error.
+fn write_relative_to(
+    base: &ReferenceView<'_>,
+    uri: &[u8],
+    out: &mut [u8],
+    needed: &mut usize,
+) -> u32
+    ensures written { (t : Parts) → Spells uri.now t → is_some t.scheme ≡ true → IsRelativePut base.now.parts t out.old out.new needed.new result }
+    ensures relative { (t : Parts) → Spells uri.now t → is_some t.scheme ≡ false → IsRefused spec.no_scheme out.old out.new needed.new result }
+    ensures refused { (e : URIReferenceError) → fault uri.now ≡ Some e → IsRefused (spec.fault_code e) out.old out.new needed.new result }
+{
+    match view_uri(uri) {
+        Ok(target) => answer(relativize_into(base, &target, out), needed),
+        Err(error) => refuse(uri_code(error), needed),
+    }
+}
+
+/// Writes the text of the reference that leads from a base to a URI, both read from texts, or returns
+/// the code of a text's error. Of two faulty texts the base is rejected.
+pub fn write_relative(base: &[u8], uri: &[u8], out: &mut [u8], needed: &mut usize) -> u32
+    ensures written { (b t : Parts) → Spells base.now b → is_some b.scheme ≡ true → Spells uri.now t → is_some t.scheme ≡ true → IsRelativePut b t out.old out.new needed.new result }
+    ensures relative_base { (b : Parts) → Spells base.now b → is_some b.scheme ≡ false → IsRefused (spec.base_code spec.no_scheme) out.old out.new needed.new result }
+    ensures base { (e : URIReferenceError) → fault base.now ≡ Some e → IsRefused (spec.base_code (spec.fault_code e)) out.old out.new needed.new result }
+    ensures relative { (b t : Parts) → Spells base.now b → is_some b.scheme ≡ true → Spells uri.now t → is_some t.scheme ≡ false → IsRefused spec.no_scheme out.old out.new needed.new result }
+    ensures refused { (b : Parts) (e : URIReferenceError) → Spells base.now b → is_some b.scheme ≡ true → fault uri.now ≡ Some e → IsRefused (spec.fault_code e) out.old out.new needed.new result }
+{
+    match view_uri(base) {
+        Ok(base) => write_relative_to(&base, uri, out, needed),
         Err(error) => refuse(base_code(error), needed),
     }
 }

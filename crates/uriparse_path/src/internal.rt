@@ -10,8 +10,8 @@ pub use crate::path::rules::{SegmentSequence, has_dot_segment};
 pub use crate::path::start::{
     has_two_slashes, into_absolute, lacks_colon_segment, most_path_bytes, respell,
 };
-pub use crate::path::text::into::{put_merged, put_normal_path, put_parent_steps, put_undotted};
 pub use crate::path::text::normal::is_normal_path_text;
 pub use crate::path::text::order::compare_path_texts;
+pub use crate::path::text::write::{put_merged, put_normal_path, put_parent_steps, put_undotted};
 pub use crate::path::text::{are_path_texts_alike, feed_path_text, segments_of};
 pub use crate::path::within::is_path_within;

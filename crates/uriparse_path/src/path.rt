@@ -5,7 +5,7 @@ ghost use Rattle.std.specs.Ordering.{on};
 ghost use Rattle.std.specs.Cmp.Rules.{comparing, hashing};
 ghost use Rattle.std.specs.Fmt.{WritesOnOk, WritesStyledOnOk};
 ghost use Rattle.std.specs.List.{flat_map, list_all};
-ghost use Rattle.uriparse_text.specs.declared.internal.case.Case.TheVariants as case;
+ghost use Rattle.uriparse_text.specs.declared.internal.token.Case.TheVariants as case;
 ghost use Rattle.uriparse_text.specs.Bytes.{slash};
 ghost use Rattle.uriparse_text.specs.Cuts.{from_first, up_to};
 ghost use Rattle.uriparse_text.specs.Canonical.{canonical, SpellsAlike};
@@ -21,7 +21,7 @@ use std::fmt;
 use std::fmt::Write;
 use std::hash::{Hash, Hasher};
 use std::marker::Model;
-use uriparse_text::internal::{Case, feed_spelling, same_spelling, split_at_mark};
+use uriparse_text::internal::{Case, feed_spelling, same_spelling, split_at_delimiter};
 pub use uriparse_text::segment::{PathError, Segment};
 
 mod copy;
@@ -292,7 +292,7 @@ fn strip_piece<'t>(text: &'t [u8], segment: &[u8]) -> Option<&'t [u8]>
             return Some(rest);
         }
     }
-    let (piece, rest) = split_at_mark(text, b'/');
+    let (piece, rest) = split_at_delimiter(text, b'/');
     if same_spelling(Case::Kept, piece, segment) {
         Some(rest)
     } else {

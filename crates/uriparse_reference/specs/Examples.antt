@@ -9,6 +9,7 @@ use Rattle.uriparse_reference.specs.Key.{key}
 use Rattle.uriparse_reference.specs.Order.{reference_cmp}
 use Rattle.uriparse_reference.specs.Normal.{normal, is_normal}
 use Rattle.uriparse_reference.specs.Target.{target}
+use Rattle.uriparse_reference.specs.Relate.{relative}
 use Rattle.uriparse_reference.specs.Edits.{segment_pushed}
 use Rattle.uriparse_reference.specs.Ports.{port_or_default, without_default_port}
 use Rattle.uriparse_reference.specs.Masked.{masked}
@@ -45,6 +46,10 @@ compared t u = on_both (λ p q. Some (reference_cmp p q)) t u
 -- the target of the reference against the base
 abbrev pub resolved : List ℕ → List ℕ → Option (List ℕ)
 resolved base reference = on_both (λ b r. option_map print (target b r)) base reference
+
+-- the reference that leads from the base to the URI
+abbrev pub related : List ℕ → List ℕ → Option (List ℕ)
+related base uri = on_both (λ b t. Some (print (relative b t))) base uri
 
 -- the normal form of that target
 abbrev pub resolved_first : List ℕ → List ℕ → Option (List ℕ)

@@ -21,5 +21,6 @@ pub mod Target
 pub mod Relate
 pub mod Examples
 pub mod Into
+pub mod RelativeText
 pub mod Ports
 pub mod Masked

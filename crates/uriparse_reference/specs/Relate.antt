@@ -1,10 +1,11 @@
 -- The reference that leads from a base to a target: the reverse of section 5.2.
-use Rattle.std.specs.Prelude.{◌≡◌, ◌⊎◌, ℕ, Bool, true, false, not, ◌&&◌, if◌then◌else◌, List, Option, Some, None, IsSome, is_some}
-use Rattle.std.specs.Option.{option_or}
+use Rattle.std.specs.Prelude.{◌≡◌, ◌⊎◌, ℕ, Bool, true, false, not, ◌&&◌, ◌||◌, ◌==◌, if◌then◌else◌, List, Option, Some, None, IsSome, bytes_eq, is_none, is_some, unwrap_or}
+use Rattle.std.specs.Option.{option_eq, option_map, option_or}
 use Rattle.uriparse_path.specs.Path.{PathParts, has_two_slashes, text}
 use Rattle.uriparse_path.specs.Dots.{has_dot_segment}
 use Rattle.uriparse_path.specs.Relate.{leading, no_path}
-use Rattle.uriparse_reference.specs.Reference.{Parts}
+use Rattle.uriparse_reference.specs.Key.{kind_code}
+use Rattle.uriparse_reference.specs.Reference.{Parts, authority_part, kind, scheme_part}
 use Rattle.uriparse_reference.specs.Target.{target}
 
 -- the same reference without its scheme
@@ -26,6 +27,41 @@ stands_alone p = p.absolute && not (has_two_slashes (text p))
 -- the path that leads from one path to another, if schemes and authorities are equal: a relative one, or else the absolute one
 abbrev pub inner : PathParts → PathParts → Option PathParts
 inner b t = option_or (leading b t) (if stands_alone t then Some t else None)
+
+-- the target, without its scheme if it has an authority
+abbrev pub as_network_path : Parts → Parts
+as_network_path t = if is_some t.authority then without_scheme t else t
+
+-- the target's query, or none if the base has the same
+abbrev pub query_left : Parts → Parts → Option (List ℕ)
+query_left b t = if option_eq bytes_eq b.query t.query then None else t.query
+
+-- that query and the target's fragment alone
+abbrev pub in_place : Parts → Parts → Parts
+in_place b t = record { scheme = None; authority = None; path = no_path; query = query_left b t; fragment = t.fragment }
+
+-- Whether the schemes have the same text, or both are absent.
+abbrev pub has_same_scheme : Parts → Parts → Bool
+has_same_scheme b t = option_eq bytes_eq (scheme_part b) (scheme_part t)
+
+-- Whether the authorities have the same text and hosts of the same kind, or both are absent.
+abbrev pub has_same_authority : Parts → Parts → Bool
+has_same_authority b t = option_eq bytes_eq (authority_part b) (authority_part t) && kind_code (kind b) == kind_code (kind t)
+
+-- Whether the paths have the same text and no dot segments, and the target has a query or the base has none.
+abbrev pub is_in_place : Parts → Parts → Bool
+is_in_place b t =
+    bytes_eq (text b.path) (text t.path) && (not (has_dot_segment t.path.segments) && (is_some t.query || is_none b.query))
+
+-- The reference that leads from a base to a target: the target itself if the schemes differ; else without its scheme, if it has an authority and
+-- the authorities differ; else what it has after the base's path, if that is its own path too; else the path that leads there; and if none does,
+-- the target without its scheme, if it has an authority.
+unfoldable pub relative : Parts → Parts → Parts
+relative b t =
+    if not (has_same_scheme b t) then t
+    else if not (has_same_authority b t) then as_network_path t
+    else if is_in_place b t then in_place b t
+    else unwrap_or (option_map (following_path t) (inner b.path t.path)) (as_network_path t)
 
 -- Base and target have equal schemes and authorities, component by component and in the same spelling.
 pub record AreInOne (b t : Parts) : Type 0 where
@@ -55,16 +91,12 @@ pub record LeavesOut (b t r : Parts) : Type 0 where
   -- nothing or the scheme alone, if no path leads there
   pub whole : (AreInOne b t → (IsInPlace b t → ⊥) × (inner b.path t.path ≡ None)) → (r ≡ t) ⊎ (r ≡ without_scheme t)
 
--- ---- words of private functions' clauses
+-- Against the base b, r has the same target as t, and leaves out what LeavesOut says.
+abbrev pub Relates : Parts → Parts → Parts → Type 0
+Relates b t r = LeadsTo b t r × LeavesOut b t r
 
--- the target, without its scheme if it has an authority
-abbrev pub network : Parts → Parts
-network t = if is_some t.authority then without_scheme t else t
+-- ---- words of private functions' clauses
 
 -- what is left of the target's query after the base's path
 abbrev pub IsQueryLeft : Parts → Parts → Option (List ℕ) → Type 0
 IsQueryLeft b t q = ((b.query ≡ t.query) × (q ≡ None)) ⊎ ((b.query ≡ t.query → ⊥) × (q ≡ t.query))
-
--- Against the base b, r has the same target as t, and leaves out what it can.
-abbrev pub Relates : Parts → Parts → Parts → Type 0
-Relates b t r = LeadsTo b t r × LeavesOut b t r

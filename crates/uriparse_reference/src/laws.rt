@@ -8,7 +8,7 @@ ghost use Rattle.uriparse_text.specs.Cuts.{lacks, none_pass};
 ghost use Rattle.uriparse_text.specs.Tokens.{is_well_formed};
 ghost use Rattle.uriparse_path.specs.Path.{max_segments, pieces, spelled, text};
 ghost use Rattle.uriparse_path.specs.Merge.{merged};
-ghost use Rattle.uriparse_path.specs.Dots.{LacksSlash};
+ghost use Rattle.uriparse_path.specs.Dots.{LacksSlash, has_dot_segment};
 ghost use Rattle.uriparse_authority.specs.Authority.{ends_authority};
 ghost use Rattle.uriparse_authority.specs.declared.authority.error.AuthorityError.TheVariants as authority_errors;
 ghost use Rattle.uriparse_authority.specs.declared.authority.error.HostError.TheVariants.{AddressMechanismNotSupported};
@@ -27,7 +27,7 @@ ghost use Rattle.uriparse_reference.specs.Escaped.{escaped, escaped_authority, e
 ghost use Rattle.uriparse_reference.specs.Edits.{IsOutOfMemory, Run, edited, of_parts, replaced};
 ghost use Rattle.uriparse_reference.specs.Ports.{port_or_default, without_default_port};
 ghost use Rattle.uriparse_reference.specs.Builder.{built, held};
-ghost use Rattle.uriparse_reference.specs.Examples.{are_equal, compared, hold, is_normalised, lengthened, normal_form_rows, normalised, normalised_first, normal_rows, portless, relative_form_rows, abnormal_rows, resolved, resolved_first, rfc_base, shown, used_port};
+ghost use Rattle.uriparse_reference.specs.Examples.{are_equal, compared, hold, is_normalised, lengthened, normal_form_rows, normalised, normalised_first, normal_rows, portless, related, relative_form_rows, abnormal_rows, resolved, resolved_first, rfc_base, shown, used_port};
 ghost use Rattle.uriparse_reference.specs.Key.{fed, fed_key, key};
 ghost use Rattle.uriparse_reference.specs.Order.{reference_cmp};
 ghost use Rattle.uriparse_reference.specs.declared.uri_reference.edit.Edit.{Edit};
@@ -44,6 +44,7 @@ ghost use Rattle.uriparse_authority.specs.declared.authority.error.PasswordError
 ghost use Rattle.uriparse_authority.specs.declared.authority.error.PortError.TheVariants as port_errors;
 ghost use Rattle.uriparse_authority.specs.declared.authority.error.UsernameError.TheVariants as username_errors;
 ghost use Rattle.uriparse_reference.specs.Normal.{normal, is_normal};
+ghost use Rattle.uriparse_reference.specs.Relate.{Relates, relative};
 ghost use Rattle.uriparse_reference.specs.Target.{through_last_slash, merge, target, is_merged, MergesAlike, NormalizesAlike, AreSame};
 
 /// A text spells at most one reference. Reading returns that reference if there is one, and a fault
@@ -213,6 +214,17 @@ pub fn one_merge()
     ensures row { through_last_slash (codes "/b/c//d;p") ++ codes "../g" ≡ text (merged (spelled (codes "/b/c//d;p")) (spelled (codes "../g"))) }
 {}
 
+/// The reference that leads from a valid base to a valid target is valid, and its text spells it if
+/// the target's does. If the target has a scheme, the reference resolves to what the target itself
+/// resolves to, and leaves out what `LeavesOut` says. That is the target again, if its path has no
+/// dot segments.
+pub fn one_relative()
+    ensures valid { (b t : Parts) → Valid b → Valid t → Valid (relative b t) }
+    ensures spelled { (b t : Parts) → Valid b → Valid t → ReadsBack t → Spells (print (relative b t)) (relative b t) }
+    ensures relates { (b t : Parts) → Valid b → Valid t → is_some t.scheme ≡ true → Relates b t (relative b t) }
+    ensures back { (b t : Parts) → Valid b → Valid t → is_some t.scheme ≡ true → has_dot_segment t.path.segments ≡ false → target b (relative b t) ≡ Some t }
+{}
+
 /// Equal references have equal targets against equal bases, or both have none. Their normal forms
 /// have the same printed text and hosts of one kind: they have one normal form.
 pub fn equal_in_equal_out()
@@ -287,6 +299,28 @@ pub fn target_examples()
     ensures colon { resolved (codes "s:a") (codes "./c:d") ≡ Some (codes "s:c:d") }
     ensures relative_base { resolved (codes "s:a/b") (codes "c") ≡ Some (codes "s:a/c") }
     ensures above_relative_base { resolved (codes "s:a/b") (codes "..") ≡ Some (codes "s:/") }
+{}
+
+/// Examples of references that lead from a base to a URI.
+pub fn relative_examples()
+    ensures directories { related (codes "http://a/b/c/d;p?q") (codes "http://a/b/g#s") ≡ Some (codes "../g#s") }
+    ensures below { related (codes "http://a/b/c") (codes "http://a/b/d/e?y") ≡ Some (codes "d/e?y") }
+    // The same path: a query, unless it is the base's. A query that has to go needs a path.
+    ensures fragment { related (codes "http://a/b?q") (codes "http://a/b?q#s") ≡ Some (codes "#s") }
+    ensures query { related (codes "http://a/b?q") (codes "http://a/b?y") ≡ Some (codes "?y") }
+    ensures no_query { related (codes "http://a/b?q") (codes "http://a/b") ≡ Some (codes "b") }
+    // A leading `.` precedes a first segment that is empty or has a colon.
+    ensures empty { related (codes "http://a/b") (codes "http://a/") ≡ Some (codes "./") }
+    ensures colon { related (codes "http://a/b") (codes "http://a/c:d") ≡ Some (codes "./c:d") }
+    // The whole path, if one of them has dot segments.
+    ensures dots { related (codes "http://a/b") (codes "http://a/x/../c") ≡ Some (codes "/x/../c") }
+    ensures authority { related (codes "http://a/b") (codes "http://c/b") ≡ Some (codes "//c/b") }
+    ensures scheme { related (codes "http://a/b") (codes "ftp://a/b") ≡ Some (codes "ftp://a/b") }
+    // Spellings count: an authority in upper case is another one.
+    ensures spelling { related (codes "http://a/b") (codes "http://A/b") ≡ Some (codes "//A/b") }
+    // The scheme stays, if no path leads there and there is no authority.
+    ensures no_slash { related (codes "s:x") (codes "s:y/../z") ≡ Some (codes "s:y/../z") }
+    ensures two_slashes { related (codes "s:/a/../b") (codes "s:/.//c") ≡ Some (codes "/.//c") }
 {}
 
 /// Examples of normal forms and of equality. Dot segments count for equality. A name does not equal

@@ -43,9 +43,9 @@ mod print;
 pub(crate) mod read;
 pub(crate) mod relate;
 pub(crate) mod resolve;
-pub(crate) mod same;
+mod same;
 mod segment;
-mod text;
+pub(crate) mod text;
 pub(crate) mod view;
 
 pub use builder::URIReferenceBuilder;

@@ -6,8 +6,8 @@ use Rattle.std.specs.Hash as fed
 use Rattle.std.specs.Simd.{first_chunks}
 use Rattle.uriparse_text.specs.declared.internal.token.Token.{Token}
 use Rattle.uriparse_text.specs.declared.internal.token.Token.TheVariants.{Byte, Escape}
-use Rattle.uriparse_text.specs.declared.internal.case.Case.{Case}
-use Rattle.uriparse_text.specs.declared.internal.case.Case.TheVariants.{Kept, Lowered}
+use Rattle.uriparse_text.specs.declared.internal.token.Case.{Case}
+use Rattle.uriparse_text.specs.declared.internal.token.Case.TheVariants.{Kept, Lowered}
 use Rattle.uriparse_text.specs.Bytes.{is_unreserved, percent}
 use Rattle.uriparse_text.specs.Tokens.{tokens, spell, is_well_formed}
 

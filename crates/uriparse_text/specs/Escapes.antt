@@ -2,7 +2,7 @@
 use Rattle.std.specs.Prelude.{◌≡◌, ℕ, ◌+◌, ◌-◌, ◌<◌, ◌≤◌, Bool, true, false, not, ◌&&◌, ◌==◌, List, [], ◌∷◌, length, drop, slice_index, if◌then◌else◌}
 use Rattle.std.specs.Int.{bit_at}
 use Rattle.std.specs.Char.{to_ascii_uppercase}
-use Rattle.uriparse_text.specs.declared.internal.case.Case.TheVariants.{Kept}
+use Rattle.uriparse_text.specs.declared.internal.token.Case.TheVariants.{Kept}
 use Rattle.uriparse_text.specs.Bytes.{is_unreserved}
 use Rattle.uriparse_text.specs.Canonical.{canonical_in, escaped_byte}
 use Rattle.uriparse_text.specs.Tokens.{is_escape}

@@ -1,7 +1,7 @@
 -- What a reader found.
 use Rattle.std.specs.Prelude.{◌≡◌, ℕ, ◌==◌, List, [], Option, Some, None, if◌then◌else◌, length, unwrap_or}
 use Rattle.uriparse_text.specs.declared.internal.class.Class.{Class}
-use Rattle.uriparse_text.specs.declared.internal.case.Case.{Case}
+use Rattle.uriparse_text.specs.declared.internal.token.Case.{Case}
 use Rattle.uriparse_text.specs.Spelling.{IsValidText}
 
 -- the text, if its word isn't 0

@@ -3,7 +3,7 @@ use Rattle.std.specs.Prelude.{◌≡◌, ℕ, Bool, true, false, ◌&&◌, ◌==
 use Rattle.uriparse_text.specs.declared.internal.spelling.Spelling.{Spelling}
 use Rattle.uriparse_text.specs.declared.internal.spelling.Spelling.TheVariants.{Borrowed, Owned, OwnedCanonical}
 use Rattle.uriparse_text.specs.declared.internal.class.Class.{Class}
-use Rattle.uriparse_text.specs.declared.internal.case.Case.{Case}
+use Rattle.uriparse_text.specs.declared.internal.token.Case.{Case}
 use Rattle.uriparse_text.specs.Faults.{IsIn}
 use Rattle.uriparse_text.specs.Classes.{is_plain}
 use Rattle.uriparse_text.specs.Canonical.{canonical_in, in_case}

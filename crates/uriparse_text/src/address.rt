@@ -5,6 +5,7 @@
 
 mod ipv4;
 mod ipv6;
+pub(crate) mod printed;
 
 pub use ipv4::Ipv4Addr;
 pub use ipv6::Ipv6Addr;

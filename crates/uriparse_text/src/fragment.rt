@@ -1,6 +1,6 @@
 //! The fragment of a URI or reference: RFC 3986, section 3.5.
 ghost use Rattle.uriparse_text.specs.declared.internal.class.Class.TheVariants as class;
-ghost use Rattle.uriparse_text.specs.declared.internal.case.Case.TheVariants as case;
+ghost use Rattle.uriparse_text.specs.declared.internal.token.Case.TheVariants as case;
 ghost use Rattle.uriparse_text.specs.Fragment as spec;
 
 use crate::internal::{Case, Class, Text, TextKind};

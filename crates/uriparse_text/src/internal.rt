@@ -1,62 +1,50 @@
 //! What the crates above build on. Users do not need it.
 
-mod alike;
 mod ambiguous;
 mod backward_buffer;
 mod bits;
 mod canonical;
 mod canonical_prefix;
-mod case;
 mod class;
-mod clear;
 mod coding;
 mod copy;
 mod cut;
-mod digit;
+mod equivalence;
 mod forward_buffer;
 mod found;
 mod held;
-mod length;
-mod offset;
-mod order;
 mod pairs;
 mod print;
-mod printed;
-mod raise;
 mod rewrite;
-mod run;
 mod scan;
-mod shrunk;
 mod spelling;
 mod text;
 mod token;
 
+pub use crate::address::printed::{put_decimal, put_ipv4, put_ipv6};
 pub use crate::query::find::{Among, Named, PairTest, find_pair};
 pub use crate::query::put::{Appended, Appending, InPair, WithPair, Without, write_text};
-pub use alike::same_spelling;
 pub use ambiguous::has_ambiguous_escape;
 pub use backward_buffer::{Form, put, put_after, put_formed};
 pub use bits::{bits_below, count_below, has_adjacent, highest, lowest, without, without_lowest};
 pub use canonical::{canonical_bytes, feed_spelling, feed_text, is_canonical};
 pub use canonical_prefix::{check_bytes, split_canonical_prefix};
-pub use case::Case;
-pub use class::{Class, Outside};
-pub use clear::{has_byte, has_pair, marks_of_pairs};
+pub use class::{Class, Outside, offset_of_fault};
 pub use coding::{
     compare_represented, form_decoded_bytes, most_escaped_bytes, push_encoded, push_escaped,
     represents, represents_prefix,
 };
 pub use copy::{borrowed_text, canonical_copy, is_canonical_part, owned_text, put_copy};
-pub use cut::{split_at_mark, without_mark};
+pub use cut::{split_at_delimiter, without_delimiter};
+pub use equivalence::{compare_spelling, same_spelling};
 pub use forward_buffer::{TooSmall, append, append_encoded, append_escaped, encode_into};
 pub use found::{Found, find_text_before, find_text_if, found_again, no_text};
 pub use held::Held;
-pub use offset::offset_of_fault;
-pub use order::compare_spelling;
 pub use print::write_plain;
-pub use printed::{put_decimal, put_ipv4, put_ipv6};
-pub use scan::{ByteTest, Is, IsAny, first, next_marks, next_marks_by_two};
+pub use scan::{
+    ByteTest, Is, IsAny, first, has_byte, has_pair, marks_of_pairs, next_mask, next_mask_by_two,
+};
 pub use text::{
     Text, TextKind, checked_text, len_of, normalized_text, text_from_checked, text_from_checked_vec,
 };
-pub use token::is_escape;
+pub use token::{Case, is_escape};

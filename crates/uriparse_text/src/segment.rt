@@ -1,7 +1,7 @@
 //! One segment of a path: RFC 3986, section 3.3.
 ghost use Rattle.std.specs.Prelude.{◌≡◌, [], IsTrue, true};
 ghost use Rattle.uriparse_text.specs.declared.internal.class.Class.TheVariants as class;
-ghost use Rattle.uriparse_text.specs.declared.internal.case.Case.TheVariants as case;
+ghost use Rattle.uriparse_text.specs.declared.internal.token.Case.TheVariants as case;
 ghost use Rattle.uriparse_text.specs.Segment as spec;
 
 mod ambiguous;

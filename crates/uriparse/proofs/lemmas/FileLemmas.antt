@@ -20,7 +20,7 @@ use Rattle.uriparse_text.proofs.lemmas.readings.WithoutLemmas.{left_of}
 use Rattle.uriparse_text.specs.Coding.{are_bytes, decoded, encoded}
 use Rattle.uriparse_text.proofs.lemmas.tokens.CodingLemmas.{decoded-encoded}
 use Rattle.uriparse_text.proofs.lemmas.tokens.BackLemmas.{are_bytes-decoded}
-use Rattle.uriparse_text.specs.declared.internal.case.Case.TheVariants as case
+use Rattle.uriparse_text.specs.declared.internal.token.Case.TheVariants as case
 use Rattle.uriparse_text.specs.Canonical.{SpellsAlike, canonical_in, canonical_lowered}
 use Rattle.uriparse_text.specs.Tokens.{is_well_formed, tokens}
 use Rattle.uriparse_text.specs.Readings.{IsUnless, unless_fault}

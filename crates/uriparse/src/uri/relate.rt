@@ -1,7 +1,7 @@
 //! The reference that leads from a base to a URI: the inverse of RFC 3986, section 5.2.
-ghost use Rattle.std.specs.Prelude.{◌≡◌, IfOk, Some, false};
+ghost use Rattle.std.specs.Prelude.{◌≡◌, IfOk, IsOk, Some, false};
 ghost use Rattle.uriparse_path.specs.Dots.{has_dot_segment};
-ghost use Rattle.uriparse_reference.specs.Relate.{LeavesOut};
+ghost use Rattle.uriparse_reference.specs.Relate.{AreInOne, IsInPlace, LeavesOut, relative};
 ghost use Rattle.uriparse_reference.specs.Target.{target};
 
 use super::URI;
@@ -24,7 +24,8 @@ impl<'u> URI<'u> {
     /// too long. Then the reference has the whole path; and if that cannot stand alone, or the
     /// authorities differ, the authority or the scheme too.
     ///
-    /// Allocates the list of segments once; running out of memory is the only error.
+    /// Allocates the list of segments once, and nothing if no path is needed; running out of memory is
+    /// the only error.
     ///
     /// ```
     /// let base = URI::try_from_str(alloc, "http://a/b/c/d;p?q")?;
@@ -36,6 +37,9 @@ impl<'u> URI<'u> {
         alloc: Global,
         uri: &'a URI<'_>,
     ) -> Result<URIReference<'a>, AllocError>
+        // It is exactly this one.
+        ensures exact { IfOk result (λ r. r ≡ relative self.now uri.now) }
+
         // It has the target that the URI itself has.
         ensures law { IfOk result (λ r. target self.now r ≡ target self.now uri.now) }
 
@@ -44,6 +48,9 @@ impl<'u> URI<'u> {
 
         // What it leaves out.
         ensures short { IfOk result (λ r. LeavesOut self.now uri.now r) }
+
+        // Without a path it takes no memory.
+        ensures takes_no_memory { AreInOne self.now uri.now → IsInPlace self.now uri.now → IsOk result }
     {
         relativize(alloc, &self.reference, &uri.reference)
     }

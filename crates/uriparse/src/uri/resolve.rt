@@ -1,5 +1,5 @@
 //! The target of a reference against a base: RFC 3986, section 5.2.
-ghost use Rattle.std.specs.Prelude.{◌≡◌, Err, IfOk, MatchOption, Ok, Some, true};
+ghost use Rattle.std.specs.Prelude.{◌≡◌, Err, IfOk, IsOk, MatchOption, Ok, Some, length, true};
 ghost use Rattle.uriparse_text.specs.Readings.{IsUnless};
 ghost use Rattle.uriparse_text.specs.declared.segment.error.PathError.TheVariants as paths;
 ghost use Rattle.uriparse_reference.specs.Normal.{normal};
@@ -24,8 +24,8 @@ impl<'u> URI<'u> {
     /// [`ExceededMaximumLength`](uriparse_path::path::PathError::ExceededMaximumLength) if the
     /// merged path, that is the base's without its last segment and then the reference's, has more
     /// segments than a path may have, even if memory has run out. Else allocates the list of
-    /// segments once; if memory runs out, the error is [`Path`](URIError::Path) of
-    /// [`OutOfMemory`](uriparse_path::path::PathError::OutOfMemory).
+    /// segments once, and not if both paths have one segment; if memory runs out, the error is
+    /// [`Path`](URIError::Path) of [`OutOfMemory`](uriparse_path::path::PathError::OutOfMemory).
     ///
     /// ```
     /// let base = URI::try_from_str(alloc, "http://a/b/c/d;p?q")?;
@@ -41,6 +41,8 @@ impl<'u> URI<'u> {
         ensures answer { MatchOption (target self.now reference.now) (result ≡ Err (errors.Path paths.ExceededMaximumLength)) (λ t. IsUnless (errors.Path paths.OutOfMemory) result (Ok t)) }
 
         ensures found { IfOk result (λ t. target self.now reference.now ≡ Some t) }
+
+        ensures takes_no_memory { length self.now.path.segments ≡ 1 → length reference.now.path.segments ≡ 1 → IsOk result }
 
         // Equal references have equal targets against equal bases, or both have none.
         ensures equal { (c q : Parts) → Valid c → Valid q → Same self.now c → Same reference.now q → AreSame (target self.now reference.now) (target c q) }

@@ -1,13 +1,15 @@
 //! A URI in a text that it owns: RFC 3986, sections 3 and 5.2.
-ghost use Rattle.std.specs.Prelude.{◌≡◌};
+ghost use Rattle.std.specs.Prelude.{◌≡◌, IfOk};
+ghost use Rattle.uriparse_reference.specs.Relate.{relative};
 ghost use Rattle.uriparse_reference.specs.Target.{ResolvesTo};
 ghost use Rattle.uriparse_reference.specs.View.{printed};
 
 use super::WithScheme;
 use super::view::URIView;
 use crate::text_of::TextOf;
-use std::alloc::Global;
-use uriparse_reference::uri_reference::{ReferenceView, TargetError};
+use std::alloc::{AllocError, Global};
+use uriparse_reference::internal::relativize_to_text;
+use uriparse_reference::uri_reference::{ReferenceText, ReferenceView, TargetError};
 
 /// A URI in a text that it owns, with numbers that say where its components lie: a
 /// [`ReferenceText`](crate::ReferenceText) with a scheme. The calls that it shares with texts of
@@ -39,5 +41,18 @@ impl<'u> URIView<'u> {
             Ok(text) => Ok(TextOf::of_checked(text)),
             Err(error) => Err(error),
         }
+    }
+
+    /// The reference that leads from this URI to `uri`, in a text of its own: the one that
+    /// [`URI::relativize`](crate::URI::relativize) makes. Allocates once, exactly its length; fails
+    /// only if memory runs out.
+    pub fn relativize_to_text(
+        &self,
+        alloc: Global,
+        uri: &URIView<'_>,
+    ) -> Result<ReferenceText, AllocError>
+        ensures { IfOk result (λ v. v ≡ printed (relative self.now.parts uri.now.parts)) }
+    {
+        relativize_to_text(alloc, self.as_reference_view(), uri.as_reference_view())
     }
 }

@@ -1,12 +1,14 @@
 //! A URI in its text, read without memory: RFC 3986, sections 3 and 5.2.
 ghost use Rattle.std.specs.Prelude.{◌≡◌, IfOk, IsOk, Some, length, string_bytes};
-ghost use Rattle.uriparse_reference.specs.Into.{WritesTarget};
+ghost use Rattle.uriparse_reference.specs.Into.{Writes, WritesTarget};
 ghost use Rattle.uriparse_reference.specs.Reference.{print};
+ghost use Rattle.uriparse_reference.specs.Relate.{relative};
 ghost use Rattle.uriparse_reference.specs.Target.{ResolvesTo};
 
 use super::{URI, WithScheme};
 use crate::view_of::ViewOf;
 use std::alloc::{AllocError, Global};
+use uriparse_reference::internal::{relativize_into, relativize_to_string};
 use uriparse_reference::uri_reference::{BufferError, ReferenceView, TargetError};
 use uriparse_scheme::scheme::Scheme;
 
@@ -73,5 +75,39 @@ impl<'u> URIView<'u> {
         ensures { ResolvesTo (λ t s. string_bytes s ≡ print t) self.now.parts reference.now.parts result }
     {
         self.view.resolve_to_string(alloc, reference)
+    }
+
+    /// Writes the text of the reference that leads from this URI to `uri` to the start of the
+    /// buffer and returns its length in bytes; what follows it in the buffer is unchanged. The text
+    /// is the one that [`URI::relativize`] makes. Does not allocate.
+    ///
+    /// If the buffer is too small, it is unchanged, and the error is
+    /// [`TooSmall`](BufferError::TooSmall) with the length needed; so a call with an empty buffer
+    /// returns the length. No other error is returned.
+    ///
+    /// ```
+    /// let base = URIView::try_from_str("http://a/b/c/d;p?q")?;
+    /// let uri = URIView::try_from_str("http://a/b/g#s")?;
+    /// let mut buffer = [0; 64];
+    /// let len = base.relativize_into(&uri, &mut buffer)?;
+    /// assert!(&buffer[..len] == b"../g#s".as_slice());
+    /// ```
+    pub fn relativize_into(&self, uri: &URIView<'_>, out: &mut [u8]) -> Result<usize, BufferError>
+        ensures { Writes (print (relative self.now.parts uri.now.parts)) result out.old out.new }
+    {
+        relativize_into(&self.view, &uri.view, out)
+    }
+
+    /// The text of the reference that leads from this URI to `uri`, as
+    /// [`relativize_into`](URIView::relativize_into) writes it. Allocates once, exactly its length;
+    /// fails only if memory runs out.
+    pub fn relativize_to_string(
+        &self,
+        alloc: Global,
+        uri: &URIView<'_>,
+    ) -> Result<String, AllocError>
+        ensures { IfOk result (λ s. string_bytes s ≡ print (relative self.now.parts uri.now.parts)) }
+    {
+        relativize_to_string(alloc, &self.view, &uri.view)
     }
 }

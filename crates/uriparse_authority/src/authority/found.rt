@@ -8,9 +8,9 @@ ghost use Rattle.uriparse_authority.specs.declared.authority.host.Host.TheVarian
 ghost use Rattle.uriparse_text.specs.Found.{if_there};
 ghost use Rattle.uriparse_text.specs.Spelling.{IsValidText};
 ghost use Rattle.uriparse_text.specs.declared.internal.class.Class.TheVariants as class;
-ghost use Rattle.uriparse_text.specs.declared.internal.case.Case.TheVariants as case;
+ghost use Rattle.uriparse_text.specs.declared.internal.token.Case.TheVariants as case;
 
-use super::host::found::{FoundHost, found_name};
+use super::host::found::{ScannedHost, found_name};
 use super::password::PasswordKind;
 use super::username::UsernameKind;
 use super::{Authority, Host, Password, Username};
@@ -19,16 +19,16 @@ use uriparse_text::internal::{Found, Held, no_text};
 
 /// The components of an authority, borrowed from its bytes. Contracts see it as the authority.
 #[derive(Drop)]
-pub struct FoundAuthority<'a> {
+pub struct ScannedAuthority<'a> {
     username: Found<'a, UsernameKind>,
     password: Found<'a, PasswordKind>,
-    host: FoundHost<'a>,
+    host: ScannedHost<'a>,
     // 0 if there is no port.
     has_port: usize,
     port: usize,
 }
 
-impl<'a> Model for FoundAuthority<'a> {
+impl<'a> Model for ScannedAuthority<'a> {
     ghost use Rattle.uriparse_text.specs.Found.{if_there};
     ghost use Rattle.uriparse_authority.specs.Authority.{AuthorityParts, Valid};
 
@@ -40,9 +40,9 @@ impl<'a> Model for FoundAuthority<'a> {
 }
 
 /// The authority that is a name with these bytes, canonical if so marked, and at most a port: what
-/// [`name_words`](FoundAuthority::name_words) told of it.
+/// [`name_words`](ScannedAuthority::name_words) told of it.
 #[inline(always)]
-pub fn found_named(bytes: &[u8], canonical: bool, port: Option<u16>) -> FoundAuthority<'_>
+pub fn found_named(bytes: &[u8], canonical: bool, port: Option<u16>) -> ScannedAuthority<'_>
     requires { IsValidText class.Name case.Lowered canonical bytes.now }
     ensures { result ≡ record { username = None; password = None; host = hosts.RegisteredName bytes.now; port = port } }
 {
@@ -65,14 +65,14 @@ fn port_words(port: Option<u16>) -> (usize, usize)
 pub(super) fn found_authority<'a>(
     username: Found<'a, UsernameKind>,
     password: Found<'a, PasswordKind>,
-    host: FoundHost<'a>,
+    host: ScannedHost<'a>,
     port: Option<u16>,
-) -> FoundAuthority<'a>
+) -> ScannedAuthority<'a>
     requires { username ≡ spec.with_empty username password }
     ensures { result ≡ spec.of_parts username.entry password.entry host.entry port }
 {
     let (has_port, port) = port_words(port);
-    FoundAuthority {
+    ScannedAuthority {
         username,
         password,
         host,
@@ -81,7 +81,7 @@ pub(super) fn found_authority<'a>(
     }
 }
 
-impl<'a> FoundAuthority<'a> {
+impl<'a> ScannedAuthority<'a> {
     /// The user name, if there is one.
     #[inline(always)]
     pub fn username(&self) -> Option<Username<'a>>

@@ -11,7 +11,7 @@ ghost use Rattle.std.specs.Cmp.Rules.{comparing, hashing};
 ghost use Rattle.uriparse_text.specs.Bytes.{dot, is_hex};
 ghost use Rattle.uriparse_text.specs.Cuts.{before, after};
 ghost use Rattle.uriparse_text.specs.declared.internal.class.Class.TheVariants as class;
-ghost use Rattle.uriparse_text.specs.declared.internal.case.Case.TheVariants as case;
+ghost use Rattle.uriparse_text.specs.declared.internal.token.Case.TheVariants as case;
 ghost use Rattle.uriparse_text.specs.Canonical.{canonical_lowered, fed_text};
 ghost use Rattle.uriparse_authority.specs.declared.authority.error.HostError.TheVariants as errors;
 ghost use Rattle.uriparse_authority.specs.Future as spec;
@@ -23,7 +23,8 @@ use std::fmt;
 use std::hash::{Hash, Hasher};
 use std::marker::Model;
 use uriparse_text::internal::{
-    Case, Class, Text, TextKind, checked_text, normalized_text, split_at_mark, without_mark,
+    Case, Class, Text, TextKind, checked_text, normalized_text, split_at_delimiter,
+    without_delimiter,
 };
 
 /// The kind of text that such an address is. It has no escapes.
@@ -105,8 +106,8 @@ fn has_address(text: Option<&[u8]>) -> bool
 fn has_version(text: &[u8]) -> bool
     ensures { result ≡ spec.is_some_of is_hex (before dot text.now) && spec.has_address (after dot text.now) }
 {
-    let (version, rest) = split_at_mark(text, b'.');
-    is_version(version) && has_address(without_mark(rest))
+    let (version, rest) = split_at_delimiter(text, b'.');
+    is_version(version) && has_address(without_delimiter(rest))
 }
 
 /// Whether the text begins with `v`, a version and a dot, and goes on.

@@ -14,7 +14,7 @@ use super::host::read::in_brackets;
 use super::read::{split_port, split_userinfo};
 use super::{AuthorityError, HostError, PortError};
 use uriparse_text::internal::{
-    Class, Outside, first, offset_of_fault, split_at_mark, without_mark,
+    Class, Outside, first, offset_of_fault, split_at_delimiter, without_delimiter,
 };
 
 /// Where the first byte is that no IPv6 address has.
@@ -92,7 +92,7 @@ fn username_offset(text: &[u8]) -> usize
     ensures offset { result ≡ offset_after 0 (text_offset.fault_offset class.Name) (username_in (Some text.now)) }
     ensures within { result ≤ length text.now }
 {
-    let (username, _) = split_at_mark(text, b':');
+    let (username, _) = split_at_delimiter(text, b':');
     offset_of_fault(Class::Name, username)
 }
 
@@ -101,8 +101,8 @@ fn password_offset(text: &[u8]) -> usize
     ensures offset { result ≡ length (unwrap_or (username_in (Some text.now)) []) + offset_after 1 (text_offset.fault_offset class.UserInfo) (password_in (Some text.now)) }
     ensures within { result ≤ length text.now }
 {
-    let (username, rest) = split_at_mark(text, b':');
-    match without_mark(rest) {
+    let (username, rest) = split_at_delimiter(text, b':');
+    match without_delimiter(rest) {
         Some(password) => username.len() + 1 + offset_of_fault(Class::UserInfo, password),
         None => username.len(),
     }

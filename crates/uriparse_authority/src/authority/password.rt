@@ -1,6 +1,6 @@
 //! The password of an authority: RFC 3986, section 3.2.1.
 ghost use Rattle.uriparse_text.specs.declared.internal.class.Class.TheVariants as class;
-ghost use Rattle.uriparse_text.specs.declared.internal.case.Case.TheVariants as case;
+ghost use Rattle.uriparse_text.specs.declared.internal.token.Case.TheVariants as case;
 ghost use Rattle.uriparse_authority.specs.Password as spec;
 
 use super::error::PasswordError;

@@ -7,8 +7,8 @@ ghost use Rattle.uriparse_authority.specs.Host as hosts;
 ghost use Rattle.uriparse_authority.specs.Normal.{canonical_authority};
 ghost use Rattle.uriparse_authority.specs.Port as ports;
 
-use super::into::put_host;
 use super::read::{split_port, split_userinfo};
+use super::write::put_host;
 use super::{Authority, Host};
 use uriparse_text::internal::{Form, put_decimal};
 

@@ -2,19 +2,19 @@
 ghost use Rattle.std.specs.Prelude.{◌≡◌, MatchResult, Err, Ok, IsTrue, [], position, true};
 ghost use Rattle.std.specs.Option.{option_copied};
 ghost use Rattle.uriparse_text.specs.declared.internal.class.Class.TheVariants as class;
-ghost use Rattle.uriparse_text.specs.declared.internal.case.Case.TheVariants as case;
+ghost use Rattle.uriparse_text.specs.declared.internal.token.Case.TheVariants as case;
 ghost use Rattle.uriparse_text.specs.Cuts.{up_to, from_first};
 ghost use Rattle.uriparse_text.specs.Spelling.{IsValidText};
 ghost use Rattle.uriparse_authority.specs.Authority as authority;
 
-use super::found::{FoundAuthority, found_authority};
+use super::found::{ScannedAuthority, found_authority};
 use super::host::read::{find_host, find_name_host};
 use super::password::PasswordKind;
 use super::username::UsernameKind;
 use super::{Authority, AuthorityError, Host, HostError, PortError, parse_port};
 use uriparse_text::internal::{
     ByteTest, Case, Class, Found, Held, IsAny, find_text_before, find_text_if, first, no_text,
-    split_at_mark, split_canonical_prefix, without_mark,
+    split_at_delimiter, split_canonical_prefix, without_delimiter,
 };
 
 /// The user information, which is the text before the first `@`, and what follows the `@`; without
@@ -23,8 +23,8 @@ pub fn split_userinfo(text: &[u8]) -> (Option<&[u8]>, &[u8])
     ensures userinfo { option_copied result.0 ≡ authority.userinfo_text text.now }
     ensures host_and_port { result.1.now ≡ authority.host_and_port_text text.now }
 {
-    let (userinfo, rest) = split_at_mark(text, b'@');
-    match without_mark(rest) {
+    let (userinfo, rest) = split_at_delimiter(text, b'@');
+    match without_delimiter(rest) {
         Some(host_and_port) => (Some(userinfo), host_and_port),
         None => (None, text),
     }
@@ -67,7 +67,7 @@ pub fn split_port(text: &[u8]) -> (&[u8], Option<&[u8]>)
 
 /// Finds the authority of a text of the class of names, canonical if so marked: its host alone.
 #[inline(always)]
-fn find_host_alone(bytes: &[u8], canonical: bool) -> FoundAuthority<'_>
+fn find_host_alone(bytes: &[u8], canonical: bool) -> ScannedAuthority<'_>
     requires { IsValidText class.Name case.Lowered canonical bytes.now }
     ensures { authority.reading bytes.now ≡ Ok result }
 {
@@ -77,7 +77,7 @@ fn find_host_alone(bytes: &[u8], canonical: bool) -> FoundAuthority<'_>
 /// Finds the authority of a text of any form, by cutting it.
 #[inline(never)]
 #[tactic(auto, unfolding(crate::specs::Authority::reading))]
-fn find_any_authority(bytes: &[u8]) -> Result<FoundAuthority<'_>, AuthorityError>
+fn find_any_authority(bytes: &[u8]) -> Result<ScannedAuthority<'_>, AuthorityError>
     ensures { result ≡ authority.reading bytes.now }
 {
     let (userinfo, host_and_port) = split_userinfo(bytes);
@@ -125,7 +125,7 @@ fn ends_before(rest: &[u8]) -> bool
 /// Both borrow the text, and nothing is allocated. A canonical name, as most authorities are, is
 /// walked once.
 #[inline(always)]
-pub fn find_authority(text: &[u8]) -> Result<(FoundAuthority<'_>, &[u8]), AuthorityError>
+pub fn find_authority(text: &[u8]) -> Result<(ScannedAuthority<'_>, &[u8]), AuthorityError>
     ensures { MatchResult result (λ r. (authority.front_reading text.now ≡ Ok r.0) × (r.1.now ≡ from_first authority.ends_authority text.now)) (λ e. authority.front_reading text.now ≡ Err e) }
 {
     let (name, rest) = split_canonical_prefix(Class::Name, Case::Lowered, text);

@@ -1,7 +1,7 @@
 //! The user name of an authority: RFC 3986, section 3.2.1.
 ghost use Rattle.std.specs.Prelude.{[], ◌≡◌};
 ghost use Rattle.uriparse_text.specs.declared.internal.class.Class.TheVariants as class;
-ghost use Rattle.uriparse_text.specs.declared.internal.case.Case.TheVariants as case;
+ghost use Rattle.uriparse_text.specs.declared.internal.token.Case.TheVariants as case;
 ghost use Rattle.uriparse_authority.specs.Username as spec;
 
 use super::error::UsernameError;

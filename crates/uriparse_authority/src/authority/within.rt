@@ -2,7 +2,7 @@
 //! 1034, section 3.1, RFC 1123, section 2.1, and RFC 3986, section 7.4.
 ghost use Rattle.std.specs.Prelude.{◌≡◌, ◌↔◌, ℕ, ◌<◌, ◌≤◌, ◌++◌, [], List, IsTrue, MatchOption, IfSome, drop, length, true};
 ghost use Rattle.std.specs.List.{Any, count_by, list_any, slice_split};
-ghost use Rattle.uriparse_text.specs.declared.internal.case.Case.TheVariants as case;
+ghost use Rattle.uriparse_text.specs.declared.internal.token.Case.TheVariants as case;
 ghost use Rattle.uriparse_text.specs.Bytes.{is_hex};
 ghost use Rattle.uriparse_text.specs.Canonical.{canonical_lowered, canonical_token};
 ghost use Rattle.uriparse_text.specs.Tokens.{is_well_formed, spell};

@@ -53,8 +53,8 @@ fn merged_counts(base: &Path<'_>, reference: &Path<'_>) -> (Counts, bool)
 /// reference's. All borrow their texts. The result is absolute if the base's path is.
 ///
 /// Returns [`ExceededMaximumLength`](PathError::ExceededMaximumLength) if there would be more than
-/// [`MAX_SEGMENTS`] segments, even if memory has run out. Otherwise allocates the list once, and
-/// returns [`OutOfMemory`](PathError::OutOfMemory) if that fails.
+/// [`MAX_SEGMENTS`] segments, even if memory has run out. Otherwise allocates the list once, but not for
+/// two single segments, and returns [`OutOfMemory`](PathError::OutOfMemory) if that fails.
 pub fn merged_path<'p>(
     alloc: Global,
     base: &'p Path<'_>,
@@ -62,6 +62,7 @@ pub fn merged_path<'p>(
 ) -> Result<Path<'p>, PathError>
     ensures answer { IsUnless errors.OutOfMemory result (merging base.now reference.now) }
     ensures always { IfErr (merging base.now reference.now) (λ e. result ≡ Err e) }
+    ensures takes_no_memory { length base.now.segments ≡ 1 → length reference.now.segments ≡ 1 → IsOk result }
 {
     let front = directory(base.segments());
     let back = reference.segments();

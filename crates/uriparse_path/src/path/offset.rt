@@ -6,7 +6,7 @@ ghost use Rattle.uriparse_path.specs.Offset as spec;
 
 use super::MAX_SEGMENTS;
 use super::read::split_root;
-use uriparse_text::internal::{Class, is_escape, offset_of_fault, split_at_mark};
+use uriparse_text::internal::{Class, is_escape, offset_of_fault, split_at_delimiter};
 
 /// Whether a token of a segment begins the text, or it is empty.
 fn begins_token(text: &[u8]) -> bool
@@ -26,7 +26,7 @@ fn offset_of_byte(text: &[u8]) -> usize
     ensures within { result ≤ length text.now }
 {
     let (fine, _) = text.split_at(offset_of_fault(Class::Query, text));
-    let (front, _) = split_at_mark(fine, b'?');
+    let (front, _) = split_at_delimiter(fine, b'?');
     front.len()
 }
 

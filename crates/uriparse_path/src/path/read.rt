@@ -15,7 +15,7 @@ use super::list::SegmentList;
 use super::{MAX_SEGMENTS, Path, PathError, Segment};
 use std::alloc::{AllocError, Global};
 use uriparse_text::internal::{
-    Class, Is, Outside, TextKind, count_below, is_escape, lowest, next_marks, next_marks_by_two,
+    Class, Is, Outside, TextKind, count_below, is_escape, lowest, next_mask, next_mask_by_two,
     text_from_checked, without, without_lowest,
 };
 use uriparse_text::segment::SegmentKind;
@@ -60,12 +60,7 @@ pub(super) fn count_segments(
     let mut escaped = 0;
     let mut at = 0;
     'runs: while at < text.len() {
-        let (marks, slashes, len) = next_marks_by_two(
-            &Outside(Class::Segment),
-            &Is(b'/'),
-            text,
-            at,
-        );
+        let (marks, slashes, len) = next_mask_by_two(&Outside(Class::Segment), &Is(b'/'), text, at);
         let more = slashes.count_ones() as usize;
         if more > limit - count {
             return count_by_one(limit, ends, text);
@@ -101,7 +96,7 @@ fn count_by_one(limit: usize, ends: bool, text: &[u8]) -> Result<(usize, usize, 
     let mut count = 1;
     let mut at = 0;
     'runs: while at < text.len() {
-        let (marks, len) = next_marks(&Outside(Class::Segment), text, at);
+        let (marks, len) = next_mask(&Outside(Class::Segment), text, at);
         let mut left = marks;
         'marks: while left != 0 {
             let k = lowest(left);
@@ -151,7 +146,7 @@ fn split_segments<'p>(
     let mut start = 0;
     let mut at = 0;
     'runs: while at < text.len() {
-        let (marks, len) = next_marks(&Is(b'/'), text, at);
+        let (marks, len) = next_mask(&Is(b'/'), text, at);
         let mut left = marks;
         'marks: while left != 0 {
             let end = at + lowest(left);

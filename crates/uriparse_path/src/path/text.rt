@@ -11,15 +11,15 @@ use backward::split_last;
 use std::hash::Hasher;
 use std::marker::Model;
 use uriparse_text::internal::{
-    Case, same_spelling, split_at_mark, text_from_checked, without_mark,
+    Case, same_spelling, split_at_delimiter, text_from_checked, without_delimiter,
 };
 
 mod backward;
 mod dot_scan;
-pub(crate) mod into;
 mod last;
 pub(crate) mod normal;
 pub(crate) mod order;
+pub(crate) mod write;
 
 /// The segments of a path's text, in order; each borrows the text. Does not allocate.
 ///
@@ -53,8 +53,8 @@ impl<'p> Iterator for Segments<'p> {
 
     fn next(&mut self) -> Option<Segment<'p>> {
         let rest = self.rest?;
-        let (piece, following) = split_at_mark(rest, b'/');
-        self.rest = without_mark(following);
+        let (piece, following) = split_at_delimiter(rest, b'/');
+        self.rest = without_delimiter(following);
         Some(text_from_checked(piece, false))
     }
 }
@@ -104,9 +104,9 @@ pub fn feed_path_text<H: Hasher>(text: &[u8], state: &mut H)
 {
     let mut left = Some(text);
     'pieces: while let Some(rest) = left {
-        let (piece, following) = split_at_mark(rest, b'/');
+        let (piece, following) = split_at_delimiter(rest, b'/');
         feed_piece(piece, state);
-        left = without_mark(following);
+        left = without_delimiter(following);
     }
     state.write_u8(0xff);
 }

@@ -1,4 +1,6 @@
 pub mod EndLemmas
+pub mod RelativePathLemmas
+pub mod RelativeTextLemmas
 pub mod TargetLemmas
 pub mod SameTextLemmas
 pub mod BackLemmas

@@ -45,7 +45,7 @@ pub enum Edit<'e> {
 }
 
 /// Why the path is not allowed, given whether there is a scheme and an authority.
-pub(super) fn fit_refusal(
+pub(super) fn path_conflict(
     has_scheme: bool,
     has_authority: bool,
     path: &Path<'_>,
@@ -78,7 +78,7 @@ pub(super) fn fit_path(has_authority: bool, path: &mut Path<'_>)
 }
 
 /// The path as a reference holds it, with or without an authority.
-fn fitted_path(has_authority: bool, path: Path<'_>) -> Path<'_>
+fn adjusted_path(has_authority: bool, path: Path<'_>) -> Path<'_>
     ensures { result ≡ placed has_authority path.entry }
 {
     let mut path = path;
@@ -119,12 +119,12 @@ impl<'r> URIReference<'r> {
     {
         let has_scheme = scheme.is_some();
         let has_authority = authority.is_some();
-        match fit_refusal(has_scheme, has_authority, &path) {
+        match path_conflict(has_scheme, has_authority, &path) {
             Some(error) => Err(error),
             None => Ok(URIReference {
                 scheme,
                 authority,
-                path: fitted_path(has_authority, path),
+                path: adjusted_path(has_authority, path),
                 query,
                 fragment,
             }),
@@ -165,7 +165,7 @@ impl<'r> URIReference<'r> {
     pub fn set_scheme(&mut self, scheme: Option<Scheme<'r>>) -> Result<(), URIReferenceError>
         ensures { Settles self.old self.new result (edited self.old (edits.Scheme scheme.entry)) }
     {
-        match fit_refusal(scheme.is_some(), self.authority.is_some(), &self.path) {
+        match path_conflict(scheme.is_some(), self.authority.is_some(), &self.path) {
             Some(error) => Err(error),
             None => {
                 self.scheme = scheme;
@@ -186,7 +186,7 @@ impl<'r> URIReference<'r> {
     fn remove_authority(&mut self) -> Result<(), URIReferenceError>
         ensures { Settles self.old self.new result (edited self.old (edits.Authority None)) }
     {
-        match fit_refusal(self.scheme.is_some(), false, &self.path) {
+        match path_conflict(self.scheme.is_some(), false, &self.path) {
             Some(error) => Err(error),
             None => {
                 self.authority = None;
@@ -220,10 +220,10 @@ impl<'r> URIReference<'r> {
         ensures { Settles self.old self.new result (edited self.old (edits.Path path.entry)) }
     {
         let has_authority = self.authority.is_some();
-        match fit_refusal(self.scheme.is_some(), has_authority, &path) {
+        match path_conflict(self.scheme.is_some(), has_authority, &path) {
             Some(error) => Err(error),
             None => {
-                put_path(&mut self.path, fitted_path(has_authority, path));
+                put_path(&mut self.path, adjusted_path(has_authority, path));
                 Ok(())
             }
         }

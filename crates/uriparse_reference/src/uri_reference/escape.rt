@@ -10,16 +10,16 @@ ghost use Rattle.uriparse_reference.specs.Escaped as spec;
 ghost use Rattle.uriparse_reference.specs.Reading.{fault};
 ghost use Rattle.uriparse_reference.specs.Reference.{after_slashes};
 
-mod into;
+mod write;
 
 use super::read::split_authority;
-pub use into::escape_invalid_into;
 use std::alloc::{AllocError, Global};
 use uriparse_scheme::internal::split_scheme;
 use uriparse_text::internal::{
-    Case, Class, most_escaped_bytes, push_escaped, split_at_mark, split_canonical_prefix,
-    without_mark,
+    Case, Class, most_escaped_bytes, push_escaped, split_at_delimiter, split_canonical_prefix,
+    without_delimiter,
 };
+pub use write::escape_invalid_into;
 
 /// Appends the scheme and its colon, if it is present: its text is not empty.
 fn push_scheme(escaped: &mut Vec<u8>, scheme: &[u8]) -> Result<(), AllocError>
@@ -62,9 +62,9 @@ fn push_end(escaped: &mut Vec<u8>, end: &[u8]) -> Result<(), AllocError>
 {
     let (plain, later) = split_canonical_prefix(Class::Query, Case::Kept, end);
     escaped.extend_from_slice(plain)?;
-    let (front, fragment) = split_at_mark(later, b'#');
+    let (front, fragment) = split_at_delimiter(later, b'#');
     push_escaped(escaped, Class::Query, b"", front)?;
-    push_after(escaped, b'#', without_mark(fragment))
+    push_after(escaped, b'#', without_delimiter(fragment))
 }
 
 /// Appends the text with its components escaped.

@@ -20,7 +20,7 @@ use uriparse_path::internal::offset_of_path_fault;
 use uriparse_path::path::PathError;
 use uriparse_scheme::internal::split_scheme;
 use uriparse_text::internal::{
-    Class, TextKind, is_escape, offset_of_fault, split_at_mark, without_mark,
+    Class, TextKind, is_escape, offset_of_fault, split_at_delimiter, without_delimiter,
 };
 use uriparse_text::segment::SegmentKind;
 
@@ -62,7 +62,7 @@ fn component_offset(text: &[u8]) -> usize
     ensures offset { result ≡ offset_after 1 (text_offset.fault_offset class.Query) (part text.now) }
     ensures within { result ≤ length text.now }
 {
-    match without_mark(text) {
+    match without_delimiter(text) {
         Some(component) => 1 + offset_of_fault(Class::Query, component),
         None => 0,
     }
@@ -73,8 +73,8 @@ fn tail_offset(error: &URIReferenceError, text: &[u8]) -> usize
     ensures offset { result ≡ spec.tail_offset error.now text.now }
     ensures within { result ≤ length text.now }
 {
-    let (front, fragment) = split_at_mark(text, b'#');
-    let (path, query) = split_at_mark(front, b'?');
+    let (front, fragment) = split_at_delimiter(text, b'#');
+    let (path, query) = split_at_delimiter(front, b'?');
     match error {
         URIReferenceError::Path(_) => offset_of_path_fault(path),
         URIReferenceError::Query(_) => path.len() + component_offset(query),

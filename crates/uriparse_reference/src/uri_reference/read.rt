@@ -19,7 +19,7 @@ ghost use Rattle.uriparse_reference.specs.View.{AreFound, AreFoundInTail};
 
 use super::error::URIReferenceError;
 use std::alloc::Global;
-use uriparse_authority::internal::{FoundAuthority, find_authority, split_before_path};
+use uriparse_authority::internal::{ScannedAuthority, find_authority, split_before_path};
 use uriparse_path::internal::{counted_path, into_absolute, split_path};
 use uriparse_path::path::{Path, PathError};
 use uriparse_scheme::internal::split_scheme;
@@ -64,7 +64,9 @@ pub(super) fn split_authority(text: &[u8]) -> (Option<&[u8]>, &[u8])
 
 /// Finds the authority after two leading slashes, and what follows it; or none, and the whole text.
 #[inline(always)]
-fn find_authority_if(text: &[u8]) -> Result<(Option<FoundAuthority<'_>>, &[u8]), URIReferenceError>
+fn find_authority_if(
+    text: &[u8],
+) -> Result<(Option<ScannedAuthority<'_>>, &[u8]), URIReferenceError>
     ensures { MatchResult result (λ r. (front_reading text.now ≡ Ok r.0) × (r.1.now ≡ without_authority text.now)) (λ e. front_reading text.now ≡ Err e) }
 {
     match after_two_slashes(text) {
@@ -123,7 +125,7 @@ fn find_query_and_fragment(
 
 /// A path, a query and a fragment, as they were found in a text.
 #[derive(Drop)]
-pub struct FoundTail<'t> {
+pub struct ScannedTail<'t> {
     pub path: &'t [u8],
     /// The number of the path's segments.
     pub count: usize,
@@ -141,14 +143,14 @@ fn find_tail(
     has_authority: bool,
     has_colon_segment: bool,
     text: &[u8],
-) -> Result<FoundTail<'_>, URIReferenceError>
+) -> Result<ScannedTail<'_>, URIReferenceError>
     requires { has_scheme ≡ false → has_authority ≡ false → is_noscheme (up_to ends_path text.now) ≡ not has_colon_segment }
     ensures { MatchResult result (λ t. AreFoundInTail has_scheme has_authority text.now t.path.now t.count t.escaped t.query t.fragment) (λ e. text_tail has_scheme has_authority text.now ≡ Err e) }
 {
     let front = split_path(text)?;
     check_path(has_scheme, has_authority, has_colon_segment, front.text)?;
     let (query, fragment) = find_query_and_fragment(front.following)?;
-    Ok(FoundTail {
+    Ok(ScannedTail {
         path: front.text,
         count: front.count,
         escaped: front.escaped,
@@ -163,8 +165,8 @@ pub struct Pieces<'t> {
     pub scheme: &'t [u8],
     /// The scheme, if it was recognized by its bytes.
     pub known: Option<RegisteredScheme>,
-    pub authority: Option<FoundAuthority<'t>>,
-    pub tail: FoundTail<'t>,
+    pub authority: Option<ScannedAuthority<'t>>,
+    pub tail: ScannedTail<'t>,
 }
 
 impl<'t> Pieces<'t> {

@@ -1,5 +1,5 @@
 //! The reference that leads from a base to a target: the reverse of RFC 3986, section 5.2.
-ghost use Rattle.std.specs.Prelude.{◌≡◌, ◌↔◌, ◌⊎◌, IfOk, IsSome, IsTrue, None, Some};
+ghost use Rattle.std.specs.Prelude.{◌≡◌, ◌↔◌, ◌⊎◌, IfOk, IsOk, IsTrue, None, Some};
 ghost use Rattle.uriparse_path.specs.Dots.{has_dot_segment};
 ghost use Rattle.uriparse_path.specs.Path.{IsListed};
 ghost use Rattle.uriparse_path.specs.Relate.{no_path};
@@ -15,8 +15,11 @@ use uriparse_text::internal::borrowed_text;
 use uriparse_text::query::Query;
 
 /// The target, without its scheme if it has an authority. It borrows the target's texts.
-fn network<'r>(alloc: Global, target: &'r URIReference<'_>) -> Result<URIReference<'r>, AllocError>
-    ensures { IfOk result (λ r. r ≡ spec.network target.now) }
+fn as_network_path<'r>(
+    alloc: Global,
+    target: &'r URIReference<'_>,
+) -> Result<URIReference<'r>, AllocError>
+    ensures { IfOk result (λ r. r ≡ spec.as_network_path target.now) }
 {
     let mut copy = target.to_borrowed(alloc)?;
     if copy.authority.is_some() {
@@ -103,17 +106,17 @@ fn following_path<'r>(
     }
 }
 
-/// The reference that leads from a base to a target with a scheme: resolved against the base, it
-/// yields what the target itself yields. It borrows the target's texts. Allocates once, for the
-/// list of segments.
+/// The reference that leads from a base to a target: resolved against the base, it yields what the
+/// target itself yields, if that has a scheme. It borrows the target's texts. Allocates once, for
+/// the list of segments, and not if no path is needed.
 pub fn relativize<'r>(
     alloc: Global,
     base: &URIReference<'_>,
     target: &'r URIReference<'_>,
 ) -> Result<URIReference<'r>, AllocError>
-    requires { IsSome target.now.scheme }
-    ensures relates { IfOk result (λ r. spec.Relates base.now target.now r) }
+    ensures exact { IfOk result (λ r. r ≡ spec.relative base.now target.now) }
     ensures valid { Valid base.now × Valid target.now }
+    ensures takes_no_memory { spec.AreInOne base.now target.now → spec.IsInPlace base.now target.now → IsOk result }
 {
     let base_path = base.path();
     let target_path = target.path();
@@ -121,13 +124,13 @@ pub fn relativize<'r>(
         return target.to_borrowed(alloc);
     }
     if !has_same_authority(base.authority(), target.authority()) {
-        return network(alloc, target);
+        return as_network_path(alloc, target);
     }
     if is_in_place(base, target) {
         return Ok(in_place(base, target));
     }
     match inner_path(alloc, base_path, target_path)? {
         Some(path) => Ok(following_path(base, target, path)),
-        None => network(alloc, target),
+        None => as_network_path(alloc, target),
     }
 }

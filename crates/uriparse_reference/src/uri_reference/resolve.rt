@@ -1,5 +1,5 @@
 //! Resolving a reference against a base: RFC 3986, section 5.2.
-ghost use Rattle.std.specs.Prelude.{◌≡◌, Err, IfOk, IsSome, MatchOption, MatchResult, Ok, Some, false, if◌then◌else◌};
+ghost use Rattle.std.specs.Prelude.{◌≡◌, Err, IfOk, IsOk, IsSome, MatchOption, MatchResult, Ok, Some, false, if◌then◌else◌, length};
 ghost use Rattle.uriparse_text.specs.Readings.{IsUnless};
 ghost use Rattle.uriparse_path.specs.Dots.{without_dots};
 ghost use Rattle.uriparse_path.specs.Edits.{with_dot_prefix};
@@ -36,7 +36,8 @@ fn path_without_dots<'r>(
     has_authority: bool,
 ) -> Result<Path<'r>, PathError>
     requires { has_authority ≡ false → starts_with_empty_segment path.now.segments ≡ false }
-    ensures { MatchResult result (λ p. p ≡ (if has_authority then without_dots path.now else with_dot_prefix (without_dots path.now))) (λ e. e ≡ paths.OutOfMemory) }
+    ensures answer { MatchResult result (λ p. p ≡ (if has_authority then without_dots path.now else with_dot_prefix (without_dots path.now))) (λ e. e ≡ paths.OutOfMemory) }
+    ensures takes_no_memory { length path.now.segments ≡ 1 → IsOk result }
 {
     let mut copy = path.to_borrowed(alloc)?;
     remove_dots(&mut copy, has_authority);
@@ -51,7 +52,8 @@ fn merged_without_dots<'r>(
     has_authority: bool,
 ) -> Result<Path<'r>, PathError>
     requires { has_authority ≡ false → IfOk (merging base.now path.now) (λ m. starts_with_empty_segment m.segments ≡ false) }
-    ensures { MatchResult (merging base.now path.now) (λ m. IsUnless paths.OutOfMemory result (Ok (if has_authority then without_dots m else with_dot_prefix (without_dots m)))) (λ e. result ≡ Err e) }
+    ensures answer { MatchResult (merging base.now path.now) (λ m. IsUnless paths.OutOfMemory result (Ok (if has_authority then without_dots m else with_dot_prefix (without_dots m)))) (λ e. result ≡ Err e) }
+    ensures takes_no_memory { length base.now.segments ≡ 1 → length path.now.segments ≡ 1 → IsOk result }
 {
     let mut merged = merged_path(alloc, base, path)?;
     remove_dots(&mut merged, has_authority);
@@ -60,7 +62,8 @@ fn merged_without_dots<'r>(
 
 /// Copies the path, borrowing the texts of its segments.
 fn same_path<'r>(alloc: Global, path: &'r Path<'_>) -> Result<Path<'r>, PathError>
-    ensures { MatchResult result (λ p. p ≡ path.now) (λ e. e ≡ paths.OutOfMemory) }
+    ensures answer { MatchResult result (λ p. p ≡ path.now) (λ e. e ≡ paths.OutOfMemory) }
+    ensures takes_no_memory { length path.now.segments ≡ 1 → IsOk result }
 {
     Ok(path.to_borrowed(alloc)?)
 }
@@ -71,8 +74,8 @@ fn same_path<'r>(alloc: Global, path: &'r Path<'_>) -> Result<Path<'r>, PathErro
 ///
 /// Returns [`Path`](URIReferenceError::Path) with
 /// [`ExceededMaximumLength`](PathError::ExceededMaximumLength) if merged paths have more segments
-/// than a path may have, even if memory has run out. Allocates once, for the list of segments; if
-/// memory runs out, returns [`Path`](URIReferenceError::Path) with
+/// than a path may have, even if memory has run out. Allocates once, for the list of segments, and not
+/// if both paths have one segment; if memory runs out, returns [`Path`](URIReferenceError::Path) with
 /// [`OutOfMemory`](PathError::OutOfMemory).
 pub fn resolve<'r>(
     alloc: Global,
@@ -84,6 +87,7 @@ pub fn resolve<'r>(
     ensures valid { Valid base.now × Valid reference.now }
     ensures found { IfOk result (λ t. target base.now reference.now ≡ Some t) }
     ensures answer { MatchOption (target base.now reference.now) (result ≡ Err (errors.Path paths.ExceededMaximumLength)) (λ t. IsUnless (errors.Path paths.OutOfMemory) result (Ok t)) }
+    ensures takes_no_memory { length base.now.path.segments ≡ 1 → length reference.now.path.segments ≡ 1 → IsOk result }
 {
     let own = reference.path();
     let inherited = base.path();

@@ -8,7 +8,7 @@ ghost use Rattle.uriparse_reference.specs.declared.uri_reference.edit.Edit.TheVa
 ghost use Rattle.uriparse_reference.specs.Edits.{edited, segment_pushed};
 
 use super::URIReference;
-use super::edit::{fit_path, fit_refusal};
+use super::edit::{fit_path, path_conflict};
 use super::error::URIReferenceError;
 use std::alloc::Global;
 use uriparse_path::path::{Path, Segment};
@@ -52,7 +52,7 @@ impl<'r> URIReference<'r> {
     {
         push(&mut self.path, alloc, segment)?;
         let has_authority = self.authority.is_some();
-        match fit_refusal(self.scheme.is_some(), has_authority, &self.path) {
+        match path_conflict(self.scheme.is_some(), has_authority, &self.path) {
             Some(error) => {
                 self.path.pop();
                 Err(error)

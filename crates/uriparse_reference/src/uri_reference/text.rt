@@ -24,7 +24,7 @@ use uriparse_path::path::PathError;
 mod change;
 mod edit;
 mod key;
-mod make;
+pub(crate) mod make;
 mod pairs;
 
 pub use key::ReferenceKey;

@@ -26,15 +26,16 @@ mod change;
 mod compare;
 pub(in crate::uri_reference) mod cuts;
 mod end;
-pub(crate) mod into;
 mod kind;
 mod normal;
 mod order;
 mod pairs;
 mod printed;
 mod put;
+pub(crate) mod relativize;
 mod string;
 mod target;
+mod write;
 
 /// A URI reference in its text: a URI or a relative reference, whose components are found and
 /// checked but not copied. RFC 3986, section 4.1.

@@ -3,7 +3,7 @@ ghost use Rattle.std.specs.Prelude.{◌≡◌, true};
 ghost use Rattle.uriparse_text.specs.Ambiguous as spec;
 ghost use Rattle.uriparse_text.specs.Tokens.{has_digits};
 
-use super::cut::split_at_mark;
+use super::cut::split_at_delimiter;
 use super::token::{Token, split_token};
 
 /// Whether a token is an escape of NUL, `%`, `/` or `\`.
@@ -28,12 +28,12 @@ fn is_ambiguous_byte(b: u8) -> bool
 pub fn has_ambiguous_escape(text: &[u8]) -> bool
     ensures { result ≡ spec.has_ambiguous_escape text.now }
 {
-    let (_, mut rest) = split_at_mark(text, b'%');
+    let (_, mut rest) = split_at_delimiter(text, b'%');
     'escapes: while let Some((token, after)) = split_token(rest) {
         if is_ambiguous_token(token) {
             return true;
         }
-        let (_, later) = split_at_mark(after, b'%');
+        let (_, later) = split_at_delimiter(after, b'%');
         rest = later;
     }
     false

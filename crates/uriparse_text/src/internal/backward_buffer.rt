@@ -6,13 +6,11 @@ ghost use Rattle.uriparse_text.specs.Canonical.{canonical_in};
 ghost use Rattle.uriparse_text.specs.Cuts.{following};
 ghost use Rattle.uriparse_text.specs.Ends.{Puts, formed};
 
-use super::canonical::is_canonical;
-use super::case::Case;
+use super::canonical::{MayChange, is_canonical, only_raises, spelling_len};
 use super::forward_buffer::append_rewritten;
-use super::length::{only_raises, spelling_len};
-use super::raise::raise_digits;
-use super::run::MayChange;
+use super::pairs::raise_digits;
 use super::text::{Text, TextKind};
+use super::token::Case;
 
 /// Whether texts are put as they are or in canonical spelling.
 #[derive(Clone, Copy)]
@@ -34,8 +32,8 @@ pub fn put(bytes: &[u8], out: &mut [u8], len: usize) -> usize
     total
 }
 
-/// Writes the text's canonical spelling to a buffer of its length. A text that only has small digits
-/// is copied whole, and of others the runs that do not change.
+/// Writes the text's canonical spelling to a buffer of its length. A text that differs only in
+/// lower-case digits is copied whole, and others run by run.
 fn write_spelling(case: Case, text: &[u8], out: &mut [u8])
     requires { length out.old ≡ length (canonical_in case text.now) }
     ensures { out.new ≡ canonical_in case text.now }

@@ -1,17 +1,142 @@
-//! Canonical spelling: RFC 3986, sections 6.2.2.1 and 6.2.2.2.
-ghost use Rattle.std.specs.Prelude.{◌≡◌, ◌++◌, ◌∷◌, ◌↔◌, ◌<◌, ℕ, List, IsTrue, IfOk, true, fold, take};
-ghost use Rattle.uriparse_text.specs.Tokens.{spell};
+//! Canonical spelling, its length, and the runs of bytes that do not change in it, found sixteen bytes
+//! at a time: RFC 3986, sections 6.2.2.1 and 6.2.2.2.
+ghost use Rattle.std.specs.List.{position_or_len};
+ghost use Rattle.std.specs.Prelude.{◌≡◌, ◌≤◌, ◌++◌, length, map, ◌+◌, true, ◌∷◌, ◌↔◌, ◌<◌, ℕ, List, IsTrue, IfOk, fold, take};
 ghost use Rattle.uriparse_text.specs.Canonical as spec;
+ghost use Rattle.uriparse_text.specs.Canonical.{canonical_in, canonical_token};
+ghost use Rattle.uriparse_text.specs.Tokens.{has_digits, spell};
+ghost use Rattle.uriparse_text.specs.declared.internal.token.Case.TheVariants.{Kept};
 
-use super::case::Case;
-use super::length::{may_raise, only_raises, spelling_len};
-use super::pairs::lacks_changes;
-use super::raise::raise_digits;
-use super::rewrite::push_rewritten;
-use super::run::{MayChange, split_run};
-use super::token::{Token, split_token};
+use super::class::is_unreserved;
+use super::pairs::{lacks_changes, raise_digits, shrunk_count};
+use super::rewrite::{self, Rewriting, push_rewritten};
+use super::scan::{ByteTest, Is, by_high, by_low, first};
+use super::token::{Case, Token, first_token, split_token};
 use std::alloc::{AllocError, Global};
 use std::hash::Hasher;
+use std::simd::prelude::*;
+
+/// The byte may change in a canonical spelling.
+#[derive(Clone, Copy)]
+pub(super) struct MayChange(pub(super) Case);
+
+// The kinds of bytes, one bit each, by the low half and the high half of a byte: 1 `%`, 2 and 4
+// upper-case letters.
+const CHANGE_LOW: [u8; 16] = [4, 6, 6, 6, 6, 7, 6, 6, 6, 6, 6, 2, 2, 2, 2, 2];
+
+const CHANGE_HIGH: [u8; 16] = [0, 0, 1, 0, 2, 4, 0, 0, 0, 0, 0, 0, 0, 0, 0, 0];
+
+impl ByteTest for MayChange {
+    ghost passes = { λ s b. spec.may_change s.0 b };
+
+    #[inline(always)]
+    fn has(&self, b: u8) -> bool {
+        b == b'%' || self.0.of(b) != b
+    }
+
+    #[inline(always)]
+    fn marks(&self, lanes: u8x16) -> u64 {
+        match self.0 {
+            Case::Kept => Is(b'%').marks(lanes),
+            Case::Lowered => {
+                let found = by_low(CHANGE_LOW, lanes) & by_high(CHANGE_HIGH, lanes);
+                found.simd_ne(u8x16::splat(0)).to_bitmask()
+            }
+        }
+    }
+}
+
+impl Rewriting for MayChange {
+    ghost rewritten = { λ s text. spec.canonical_in s.0 text };
+
+    #[inline(always)]
+    fn token(&self, b: u8, after: &[u8]) -> (Token, usize) {
+        let (token, more) = first_token(b, after);
+        (token.canonical(self.0), more)
+    }
+}
+
+/// The bytes before the first `%` or letter that changes in the canonical spelling, and the rest.
+#[inline(always)]
+fn split_run(case: Case, text: &[u8]) -> (&[u8], &[u8])
+    ensures whole { text.now ≡ result.0.now ++ result.1.now }
+    ensures spelled { spec.canonical_in case text.now ≡ result.0.now ++ spec.canonical_in case result.1.now }
+{
+    // If escapes follow one another there is nothing to search for.
+    if text.first() == Some(&b'%') {
+        return (b"", text);
+    }
+    text.split_at(first(&MayChange(case), text))
+}
+
+/// How many bytes fewer the canonical form of a token has: an escape of an unreserved byte becomes
+/// that byte.
+#[inline(always)]
+fn saved(token: Token) -> usize
+    requires { has_digits token ≡ true }
+    ensures { (case : Case) → result + length (spell (canonical_token case token)) ≡ length (spell token) }
+{
+    match token {
+        Token::Byte(_) => 0,
+        Token::Escape(_, _) => { if is_unreserved(token.value()) { 2 } else { 0 } }
+    }
+}
+
+/// The length of the text's canonical spelling. The case of letters does not change it, so only
+/// escapes of unreserved bytes are counted.
+pub(super) fn spelling_len(case: Case, text: &[u8]) -> usize
+    ensures { result ≡ length (canonical_in case text.now) }
+{
+    if text.len() < 18 {
+        short_spelling_len(case, text)
+    } else {
+        text.len() - 2 * shrunk_count(text)
+    }
+}
+
+/// The length of a short text's canonical spelling, escape by escape.
+#[inline(always)]
+fn short_spelling_len(case: Case, text: &[u8]) -> usize
+    ensures { result ≡ length (canonical_in case text.now) }
+{
+    let mut len = text.len();
+    let mut rest = text;
+    'pieces: while let Some((&b, after)) = rest.split_first() {
+        if b == b'%' {
+            let (token, more) = first_token(b, after);
+            len -= saved(token);
+            rest = &after[more..];
+        } else {
+            let (_, later) = rewrite::split_run(&MayChange(Case::Kept), rest);
+            rest = later;
+        }
+    }
+    len
+}
+
+/// Whether escapes are tested and upper-cased sixteen bytes at a time: letters keep their case, and
+/// the text is not short. Short texts are walked as quickly.
+#[inline(always)]
+fn may_raise(case: Case, text: &[u8]) -> bool
+    ensures case { result ≡ true → case ≡ Kept }
+    ensures long { result ≡ true → 18 ≤ length text.now }
+{
+    match case {
+        Case::Kept => text.len() >= 18,
+        Case::Lowered => false,
+    }
+}
+
+/// Whether the text, which is not short, differs from its canonical spelling of `len` bytes only in
+/// lower-case digits: letters keep their case, and no escape becomes a byte.
+#[inline(always)]
+pub(super) fn only_raises(case: Case, text: &[u8], len: usize) -> bool
+    ensures case { result ≡ true → case ≡ Kept }
+    ensures long { result ≡ true → 18 ≤ length text.now }
+    ensures whole { result ≡ true → len ≡ length text.now }
+{
+    may_raise(case, text) && len == text.len()
+}
 
 /// How many bytes a hasher is fed at a time.
 const BLOCK: usize = 64;
@@ -130,16 +255,12 @@ fn begins_canonical(case: Case, text: &[u8]) -> bool
     is_kept_whole(case, text) || walks_canonical(case, text)
 }
 
-/// Whether a text whose letters keep their case surely has no escape that changes. Short texts are
-/// walked as quickly.
+/// Whether a text surely has no escape that changes, and its letters keep their case.
 #[inline(always)]
 fn is_kept_whole(case: Case, text: &[u8]) -> bool
     ensures { result ≡ true → spec.canonical_in case text.now ≡ text.now }
 {
-    match case {
-        Case::Kept => text.len() >= 18 && lacks_changes(text),
-        Case::Lowered => false,
-    }
+    may_raise(case, text) && lacks_changes(text)
 }
 
 /// Whether the text is its own canonical spelling, token by token up to the first that isn't.
@@ -158,8 +279,8 @@ fn walks_canonical(case: Case, text: &[u8]) -> bool
     true
 }
 
-/// The canonical spelling of a text. Reserves capacity once. A text that only has small digits is
-/// copied whole, and of others the runs that do not change.
+/// The canonical spelling of a text. Reserves capacity once. A text that differs only in lower-case
+/// digits is copied whole, and others run by run.
 pub fn canonical_bytes(alloc: Global, case: Case, text: &[u8]) -> Result<Vec<u8>, AllocError>
     ensures { IfOk result (λ v. v.items ≡ spec.canonical_in case text.now) }
 {

@@ -5,10 +5,10 @@ ghost use Rattle.std.specs.List.{position_or_len};
 ghost use Rattle.uriparse_text.specs.Faults.{fault, AllFine, IsFaultOffset};
 ghost use Rattle.uriparse_text.specs.Spelling as spec;
 
-use super::case::Case;
+use super::canonical::MayChange;
 use super::class::{Class, Outside, fault_offset};
-use super::run::MayChange;
 use super::scan::{ByteTest, first, first_by_one};
+use super::token::Case;
 use std::simd::prelude::*;
 
 /// The byte isn't of the class, or changes in a canonical spelling.

@@ -1,8 +1,10 @@
-//! The classes of bytes, by one table of flags: RFC 3986, sections 2.2, 2.3 and 3.2.1 to 3.5.
+//! The classes of bytes, by one table of flags, and where the leftmost fault of a text is: RFC 3986,
+//! sections 2.2, 2.3 and 3.2.1 to 3.5.
 ghost use Rattle.std.specs.Prelude.{◌≡◌, ◌+◌, ◌≤◌, length, not, MatchOption};
 ghost use Rattle.uriparse_text.specs.Bytes as spec;
 ghost use Rattle.uriparse_text.specs.Classes.{is_plain};
 ghost use Rattle.uriparse_text.specs.Faults.{fault, AllFine, AreInDoubt, IsFaultFrom, IsFaultOffset};
+ghost use Rattle.uriparse_text.specs.Offset as places;
 
 use super::bits::{lowest, without_lowest, without_triples};
 use super::scan::{ByteTest, Is, IsHex, by_high, by_low, marks_of_run, marks_of_short};
@@ -239,4 +241,13 @@ fn fault_at_marks(class: Class, text: &[u8], from: usize, len: usize, marks: u64
         left = without_lowest(left);
     }
     None
+}
+
+/// The place of the leftmost fault, the first byte at which no token of the class begins, or the
+/// length if there is none. The byte there is a `%` if an escape is broken.
+pub fn offset_of_fault(class: Class, text: &[u8]) -> usize
+    ensures offset { result ≡ places.fault_offset class text.now }
+    ensures within { result ≤ length text.now }
+{
+    fault_offset(class, text)
 }

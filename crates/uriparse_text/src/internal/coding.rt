@@ -10,12 +10,13 @@ ghost use Rattle.uriparse_text.specs.Coding.{are_bytes, decoded, encoded, encode
 ghost use Rattle.uriparse_text.specs.declared.internal.token.Token.TheVariants.{Escape};
 ghost use Rattle.uriparse_text.specs.Tokens.{has_digits, is_escape};
 
-use super::alike::after_common;
 use super::class::{Class, Outside};
-use super::digit::{are_hex_digits, hex_value, upper_digit};
+use super::equivalence::after_common;
 use super::rewrite::{Rewriting, push_rewritten};
-use super::scan::{ByteTest, Is, next_marks};
-use super::token::{Token, begins_escape, first_token, split_token};
+use super::scan::{ByteTest, Is, next_mask};
+use super::token::{
+    Token, are_hex_digits, first_token, is_escape, octet_of, split_token, upper_digit,
+};
 use std::alloc::{AllocError, Global};
 use std::cmp::Ordering;
 use std::simd::prelude::*;
@@ -29,7 +30,7 @@ impl Token {
     {
         match self {
             Token::Byte(b) => b,
-            Token::Escape(high, low) => 16 * hex_value(high) + hex_value(low),
+            Token::Escape(high, low) => octet_of(high, low),
         }
     }
 
@@ -60,7 +61,7 @@ fn byte_of_escape(b: u8, high: u8, low: u8) -> Option<u8>
     ensures { IfSome result (λ value. (is_escape b (high ∷ low ∷ []) ≡ true) × (value ≡ value_of (Escape high low))) }
 {
     if b == b'%' && are_hex_digits(high, low) {
-        Some(16 * hex_value(high) + hex_value(low))
+        Some(octet_of(high, low))
     } else {
         None
     }
@@ -172,33 +173,6 @@ pub fn represents_prefix(text: &[u8], prefix: &[u8]) -> bool
     true
 }
 
-/// Encoding: a byte that is not in the class becomes an escape.
-#[derive(Clone, Copy)]
-pub(super) struct Encoding(pub(super) Class);
-
-impl ByteTest for Encoding {
-    ghost passes = { λ s b. not (is_plain s.0 b) };
-
-    #[inline(always)]
-    fn has(&self, b: u8) -> bool {
-        !self.0.has(b)
-    }
-
-    #[inline(always)]
-    fn marks(&self, lanes: u8x16) -> u64 {
-        Outside(self.0).marks(lanes)
-    }
-}
-
-impl Rewriting for Encoding {
-    ghost rewritten = { λ s bytes. encoded s.0 bytes };
-
-    #[inline(always)]
-    fn token(&self, b: u8, _: &[u8]) -> (Token, usize) {
-        (Token::escaping(b), 0)
-    }
-}
-
 /// The text that represents the bytes. Walks them once and reserves capacity once: three bytes for
 /// each, as an escape needs.
 pub(super) fn encoded_bytes(
@@ -210,7 +184,7 @@ pub(super) fn encoded_bytes(
     ensures bytes { IfOk result (λ _. are_bytes bytes.now ≡ true) }
 {
     let mut text = Vec::with_capacity(alloc, bytes.len().saturating_mul(3))?;
-    push_rewritten(&mut text, &Encoding(class), bytes)?;
+    push_rewritten(&mut text, &EncodingWithout(class, b""), bytes)?;
     Ok(text)
 }
 
@@ -328,7 +302,7 @@ impl<'m> Rewriting for Escaping<'m> {
     fn token(&self, b: u8, after: &[u8]) -> (Token, usize) {
         if self.1.contains(&b) {
             (Token::Byte(b), 0)
-        } else if begins_escape(b, after) {
+        } else if is_escape(b, after) {
             (Token::Escape(after[0], after[1]), 2)
         } else {
             (Token::escaping(b), 0)
@@ -355,7 +329,7 @@ pub fn most_escaped_bytes(class: Class, text: &[u8]) -> usize {
     let mut most = text.len();
     let mut at = 0;
     'runs: while at < text.len() {
-        let (marks, len) = next_marks(&Outside(class), text, at);
+        let (marks, len) = next_mask(&Outside(class), text, at);
         most = most.saturating_add(2 * marks.count_ones() as usize);
         at += len;
     }

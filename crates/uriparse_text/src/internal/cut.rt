@@ -7,7 +7,7 @@ use super::scan::{Is, first};
 
 /// The text before the first such delimiter, and the rest, which begins with it.
 #[inline]
-pub fn split_at_mark(text: &[u8], mark: u8) -> (&[u8], &[u8])
+pub fn split_at_delimiter(text: &[u8], mark: u8) -> (&[u8], &[u8])
     ensures front { result.0.now ≡ up_to (λ b. b == mark) text.now }
     ensures rest { result.1.now ≡ from_first (λ b. b == mark) text.now }
 {
@@ -16,7 +16,7 @@ pub fn split_at_mark(text: &[u8], mark: u8) -> (&[u8], &[u8])
 
 /// What follows the delimiter that the rest begins with, or `None` if the rest is empty.
 #[inline]
-pub fn without_mark(rest: &[u8]) -> Option<&[u8]>
+pub fn without_delimiter(rest: &[u8]) -> Option<&[u8]>
     ensures { option_copied result ≡ part rest.now }
 {
     match rest {

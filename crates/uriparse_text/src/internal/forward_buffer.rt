@@ -7,7 +7,7 @@ ghost use Rattle.uriparse_text.specs.Starts.{Appends, LeavesRest, Writes};
 ghost use Rattle.uriparse_text.specs.Tokens as tokens;
 
 use super::class::Class;
-use super::coding::{Decoding, Encoding, EncodingWithout, Escaping};
+use super::coding::{Decoding, EncodingWithout, Escaping};
 use super::rewrite::{Rewriting, split_run};
 use super::token::Token;
 use thiserror::Error;
@@ -182,5 +182,5 @@ pub fn encode_into(class: Class, bytes: &[u8], out: &mut [u8]) -> Result<usize, 
     ensures { Writes (encoded class bytes.now) result out.old out.new }
 {
     let fits = bytes.len() <= out.len() / 3;
-    write_rewritten(&Encoding(class), bytes, fits, out)
+    write_rewritten(&EncodingWithout(class, b""), bytes, fits, out)
 }

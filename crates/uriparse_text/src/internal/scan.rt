@@ -1,6 +1,7 @@
-//! Searches that test sixteen bytes at a time.
-ghost use Rattle.std.specs.Prelude.{◌≡◌, ◌==◌, ◌+◌, ◌-◌, ◌<◌, ◌≤◌, ◌/◌, ◌||◌, ◌++◌, if◌then◌else◌, ℕ, Bool, map, length, slice_index, bit_and};
+//! Searches that test sixteen bytes at a time, for bytes and for pairs of neighbouring bytes.
+ghost use Rattle.std.specs.Int.{bit_at};
 ghost use Rattle.std.specs.List.{position_or_len};
+ghost use Rattle.std.specs.Prelude.{◌≡◌, ◌==◌, ◌+◌, ◌-◌, ◌<◌, ◌≤◌, ◌/◌, ◌||◌, ◌++◌, if◌then◌else◌, ℕ, Bool, map, length, slice_index, bit_and, ◌&&◌, false, true};
 ghost use Rattle.std.specs.Simd.Lanes.{mask_l, chunk};
 ghost use Rattle.uriparse_text.specs.Bytes.{is_hex};
 ghost use Rattle.uriparse_text.specs.Marks.{AreMarks};
@@ -188,7 +189,7 @@ fn first_by_runs<T: ByteTest>(test: &T, text: &[u8]) -> usize
 
 /// The marks of the next sixteen bytes, or of the remaining ones, and how many bytes those are.
 #[inline(always)]
-pub fn next_marks<T: ByteTest>(test: &T, text: &[u8], at: usize) -> (u64, usize)
+pub fn next_mask<T: ByteTest>(test: &T, text: &[u8], at: usize) -> (u64, usize)
     requires { at ≤ length text.now }
     ensures marks { AreMarks (T.passes test.now) text.now at result.1 result.0 }
     ensures room { at + result.1 ≤ length text.now }
@@ -210,7 +211,7 @@ pub fn next_marks<T: ByteTest>(test: &T, text: &[u8], at: usize) -> (u64, usize)
 /// The marks by two tests of the next sixteen bytes, or of the remaining ones, and how many bytes
 /// those are.
 #[inline(always)]
-pub fn next_marks_by_two<T: ByteTest, U: ByteTest>(
+pub fn next_mask_by_two<T: ByteTest, U: ByteTest>(
     test: &T,
     other: &U,
     text: &[u8],
@@ -319,4 +320,47 @@ fn first_in<T: ByteTest>(test: &T, text: &[u8], at: usize) -> usize
         return 16;
     }
     marks.trailing_zeros() as usize
+}
+
+/// Marks those of the sixteen bytes from `at` on that pass `later` right after a byte that passes
+/// `earlier`. Without one of these, the others are not tested.
+#[inline(always)]
+pub fn marks_of_pairs<T: ByteTest, U: ByteTest>(
+    earlier: &T,
+    later: &U,
+    text: &[u8],
+    at: usize,
+) -> u64
+    requires after { 0 < at }
+    requires room { at + 16 ≤ length text.now }
+    ensures others { (k : ℕ) → 16 ≤ k → bit_at result k ≡ 0 }
+    ensures marks { (k : ℕ) → k < 16 → bit_at result k ≡ (if T.passes earlier.now (slice_index text.now (at - 1 + k)) && U.passes later.now (slice_index text.now (at + k)) then 1 else 0) }
+{
+    let before = marks_of_run(earlier, text, at - 1, at - 1);
+    if before == 0 {
+        return 0;
+    }
+    before & marks_of_run(later, text, at, at)
+}
+
+/// Whether one of the sixteen bytes from `at` on passes `later` right after a byte that passes
+/// `earlier`.
+#[inline(always)]
+pub fn has_pair<T: ByteTest, U: ByteTest>(earlier: &T, later: &U, text: &[u8], at: usize) -> bool
+    requires after { 0 < at }
+    requires room { at + 16 ≤ length text.now }
+    ensures none { result ≡ false → (k : ℕ) → k < 16 → (T.passes earlier.now (slice_index text.now (at - 1 + k)) && U.passes later.now (slice_index text.now (at + k))) ≡ false }
+    ensures some { result ≡ true → (k : ℕ) × (k < 16) × ((T.passes earlier.now (slice_index text.now (at - 1 + k)) && U.passes later.now (slice_index text.now (at + k))) ≡ true) }
+{
+    marks_of_pairs(earlier, later, text, at) != 0
+}
+
+/// Whether one of the sixteen bytes from `at` on passes.
+#[inline(always)]
+pub fn has_byte<T: ByteTest>(test: &T, text: &[u8], at: usize) -> bool
+    requires room { at + 16 ≤ length text.now }
+    ensures none { result ≡ false → (k : ℕ) → k < 16 → T.passes test.now (slice_index text.now (at + k)) ≡ false }
+    ensures some { result ≡ true → (k : ℕ) × (k < 16) × (T.passes test.now (slice_index text.now (at + k)) ≡ true) }
+{
+    marks_of_run(test, text, at, at) != 0
 }

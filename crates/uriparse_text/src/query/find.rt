@@ -8,7 +8,7 @@ ghost use Rattle.uriparse_text.specs.Written.{IsFirstAt};
 use super::Query;
 use super::set::is_named;
 use crate::internal::{
-    checked_text, compare_represented, represents_prefix, split_at_mark, without_mark,
+    checked_text, compare_represented, represents_prefix, split_at_delimiter, without_delimiter,
 };
 
 /// A test of a pair, by its piece of a query.
@@ -40,7 +40,7 @@ impl<'n> PairTest for StandsFor<'n> {
     ghost passes = { λ s p. spec.stands_for p.0 s.0.now };
 
     fn has(&self, piece: &[u8]) -> bool {
-        let (pattern, _) = split_at_mark(piece, b'=');
+        let (pattern, _) = split_at_delimiter(piece, b'=');
         if pattern.ends_with(b"*") {
             represents_prefix(self.0, &pattern[..pattern.len() - 1])
         } else {
@@ -57,7 +57,7 @@ impl<'n> PairTest for Among<'n> {
     ghost passes = { λ s p. spec.is_among_names (spec.pairs s.0.now) p };
 
     fn has(&self, piece: &[u8]) -> bool {
-        let (name, _) = split_at_mark(piece, b'=');
+        let (name, _) = split_at_delimiter(piece, b'=');
         find_pair(&StandsFor(name), self.0).is_some()
     }
 }
@@ -69,11 +69,11 @@ pub fn find_pair<'q, T: PairTest>(test: &T, query: &'q [u8]) -> Option<&'q [u8]>
 {
     let mut rest = Some(query);
     while let Some(left) = rest {
-        let (piece, following) = split_at_mark(left, b'&');
+        let (piece, following) = split_at_delimiter(left, b'&');
         if test.has(piece) {
             return Some(left);
         }
-        rest = without_mark(following);
+        rest = without_delimiter(following);
     }
     None
 }
@@ -95,9 +95,9 @@ impl<'q> Query<'q> {
         ensures { result ≡ option_map (λ p. unwrap_or p.1 []) (find (spec.is_named name.now) (spec.pairs self.now)) }
     {
         let left = find_pair(&Named(name), self.as_bytes())?;
-        let (piece, _) = split_at_mark(left, b'&');
-        let (_, rest) = split_at_mark(piece, b'=');
-        Some(checked_text(without_mark(rest).unwrap_or(b"")))
+        let (piece, _) = split_at_delimiter(left, b'&');
+        let (_, rest) = split_at_delimiter(piece, b'=');
+        Some(checked_text(without_delimiter(rest).unwrap_or(b"")))
     }
 
     /// Whether there is a pair whose name stands for these bytes. Does not allocate.

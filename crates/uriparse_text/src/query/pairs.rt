@@ -8,8 +8,8 @@ ghost use Rattle.uriparse_text.specs.Query.{IsQuery};
 
 use super::Query;
 use crate::internal::{
-    Class, checked_text, form_decoded_bytes, push_encoded, split_at_mark, text_from_checked_vec,
-    without_mark,
+    Class, checked_text, form_decoded_bytes, push_encoded, split_at_delimiter,
+    text_from_checked_vec, without_delimiter,
 };
 use std::alloc::{AllocError, Global};
 use std::marker::Model;
@@ -39,8 +39,8 @@ pub fn pair_of(piece: &[u8]) -> (Query<'_>, Option<Query<'_>>)
     requires { IsQuery piece.now }
     ensures { result ≡ spec.pair_of piece.now }
 {
-    let (name, rest) = split_at_mark(piece, b'=');
-    let value = match without_mark(rest) {
+    let (name, rest) = split_at_delimiter(piece, b'=');
+    let value = match without_delimiter(rest) {
         Some(value) => Some(checked_text(value)),
         None => None,
     };
@@ -56,8 +56,8 @@ impl<'q> Iterator for Pairs<'q> {
 
     fn next(&mut self) -> Option<(Query<'q>, Option<Query<'q>>)> {
         let rest = self.rest?;
-        let (piece, following) = split_at_mark(rest, b'&');
-        self.rest = without_mark(following);
+        let (piece, following) = split_at_delimiter(rest, b'&');
+        self.rest = without_delimiter(following);
         Some(pair_of(piece))
     }
 }

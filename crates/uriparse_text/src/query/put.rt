@@ -10,7 +10,9 @@ ghost use Rattle.uriparse_text.specs.Written.{IsFirstAt};
 
 use super::append::mark_after;
 use super::find::{Among, Named, PairTest, find_pair};
-use crate::internal::{Class, TooSmall, append, append_encoded, split_at_mark, without_mark};
+use crate::internal::{
+    Class, TooSmall, append, append_encoded, split_at_delimiter, without_delimiter,
+};
 
 /// A text that can be appended to another one in a buffer.
 pub trait Appending {
@@ -81,8 +83,8 @@ fn append_others<T: PairTest>(test: &T, pairs: Option<&[u8]>, out: &mut [u8], le
     let mut total = len;
     let mut rest = pairs;
     while let Some(left) = rest {
-        let (piece, following) = split_at_mark(left, b'&');
-        rest = without_mark(following);
+        let (piece, following) = split_at_delimiter(left, b'&');
+        rest = without_delimiter(following);
         if !test.has(piece) {
             total = append(b"&", out, total);
             total = append(piece, out, total);
@@ -121,10 +123,10 @@ impl<'q> Appending for WithPair<'q> {
         let Some(left) = find_pair(&Named(name), query) else {
             return self.0.append_to(out, len);
         };
-        let (_, following) = split_at_mark(left, b'&');
+        let (_, following) = split_at_delimiter(left, b'&');
         let len = append(&query[..query.len() - left.len()], out, len);
         let len = append_pair(name, value, out, len);
-        append_others(&Named(name), without_mark(following), out, len)
+        append_others(&Named(name), without_delimiter(following), out, len)
     }
 }
 
@@ -159,8 +161,8 @@ impl<'q> Appending for Without<'q> {
         let Some(left) = self.from_first() else {
             return len;
         };
-        let (piece, following) = split_at_mark(left, b'&');
+        let (piece, following) = split_at_delimiter(left, b'&');
         let len = append(piece, out, len);
-        append_others(&Among(self.names), without_mark(following), out, len)
+        append_others(&Among(self.names), without_delimiter(following), out, len)
     }
 }

@@ -8,14 +8,14 @@ ghost use Rattle.uriparse_text.specs.Written.{ArePairsWritten, AreWritten, ended
 
 use super::Query;
 use super::pairs::{most_pair_bytes, pair_of, push_pair};
-use crate::internal::{represents, split_at_mark, text_from_checked_vec, without_mark};
+use crate::internal::{represents, split_at_delimiter, text_from_checked_vec, without_delimiter};
 use std::alloc::{AllocError, Global};
 
 /// Whether the name of the piece stands for these bytes.
 pub(super) fn is_named(piece: &[u8], name: &[u8]) -> bool
     ensures { result ≡ spec.is_named name.now (spec.pair_of piece.now) }
 {
-    let (own, _) = split_at_mark(piece, b'=');
+    let (own, _) = split_at_delimiter(piece, b'=');
     represents(own, name)
 }
 
@@ -69,8 +69,8 @@ fn set_pieces(
     let mut rest = Some(query);
     let mut is_set = false;
     while let Some(left) = rest {
-        let (piece, following) = split_at_mark(left, b'&');
-        rest = without_mark(following);
+        let (piece, following) = split_at_delimiter(left, b'&');
+        rest = without_delimiter(following);
         is_set = push_next(&mut text, piece, pair, is_set, rest.is_none())?;
     }
     if is_set {

@@ -12,7 +12,7 @@ ghost use Rattle.uriparse_text.specs.Written.{ArePieces, ended};
 
 use super::Query;
 use super::set::query_of_pieces;
-use crate::internal::{compare_represented, split_at_mark, without_mark};
+use crate::internal::{compare_represented, split_at_delimiter, without_delimiter};
 use std::alloc::{AllocError, Global};
 use std::cmp::Ordering;
 
@@ -24,8 +24,8 @@ fn pieces(alloc: Global, query: &[u8]) -> Result<Vec<&[u8]>, AllocError>
     let mut pieces = Vec::new(alloc);
     let mut rest = Some(query);
     while let Some(left) = rest {
-        let (piece, following) = split_at_mark(left, b'&');
-        rest = without_mark(following);
+        let (piece, following) = split_at_delimiter(left, b'&');
+        rest = without_delimiter(following);
         pieces.push(piece)?;
     }
     Ok(pieces)
@@ -35,8 +35,8 @@ fn pieces(alloc: Global, query: &[u8]) -> Result<Vec<&[u8]>, AllocError>
 fn compare_names(piece: &[u8], other: &[u8]) -> Ordering
     ensures { result ≡ slice_cmp nat_cmp (decoded (before equals_sign piece.now)) (decoded (before equals_sign other.now)) }
 {
-    let (name, _) = split_at_mark(piece, b'=');
-    let (other_name, _) = split_at_mark(other, b'=');
+    let (name, _) = split_at_delimiter(piece, b'=');
+    let (other_name, _) = split_at_delimiter(other, b'=');
     compare_represented(name, other_name)
 }
 

@@ -8,7 +8,7 @@ ghost use Rattle.uriparse_text.specs.Written.{ArePairsWritten, AreWritten};
 use super::Query;
 use super::find::{Among, Named, PairTest};
 use super::pairs::pair_of;
-use crate::internal::{split_at_mark, text_from_checked_vec, without_mark};
+use crate::internal::{split_at_delimiter, text_from_checked_vec, without_delimiter};
 use std::alloc::{AllocError, Global};
 
 /// Calls the test at the pair of a piece of a query.
@@ -35,8 +35,8 @@ where
     let mut text = Vec::with_capacity(alloc, query.len().saturating_add(1))?;
     let mut rest = Some(query);
     while let Some(left) = rest {
-        let (piece, following) = split_at_mark(left, b'&');
-        rest = without_mark(following);
+        let (piece, following) = split_at_delimiter(left, b'&');
+        rest = without_delimiter(following);
         if !passes(&mut test, piece) {
             text.extend_from_slice(piece)?;
             text.push(b'&')?;
@@ -53,8 +53,8 @@ fn other_pieces<T: PairTest>(alloc: Global, query: &[u8], test: &T) -> Result<Ve
     let mut text = Vec::with_capacity(alloc, query.len().saturating_add(1))?;
     let mut rest = Some(query);
     while let Some(left) = rest {
-        let (piece, following) = split_at_mark(left, b'&');
-        rest = without_mark(following);
+        let (piece, following) = split_at_delimiter(left, b'&');
+        rest = without_delimiter(following);
         if !test.has(piece) {
             text.extend_from_slice(piece)?;
             text.push(b'&')?;

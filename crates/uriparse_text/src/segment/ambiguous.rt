@@ -4,14 +4,14 @@ ghost use Rattle.uriparse_text.specs.Ambiguous as spec;
 ghost use Rattle.uriparse_text.specs.Segment.{is_segment};
 
 use super::Segment;
-use crate::internal::{checked_text, has_ambiguous_escape, split_at_mark};
+use crate::internal::{checked_text, has_ambiguous_escape, split_at_delimiter};
 
 /// Whether the segment is a dot segment up to its first `;`, if it has one.
 fn has_dots_before_semicolon(text: &[u8]) -> bool
     requires { is_segment text.now ≡ true }
     ensures { result ≡ spec.has_dots_before_semicolon text.now }
 {
-    let (name, parameters) = split_at_mark(text, b';');
+    let (name, parameters) = split_at_delimiter(text, b';');
     if parameters.is_empty() {
         return false;
     }

@@ -6,7 +6,7 @@ use Rattle.std.proofs.lemmas.List.{length-append}
 use Rattle.uriparse_text.specs.Cuts.{following}
 use Rattle.uriparse_text.specs.Bytes.{colon}
 use Rattle.uriparse_text.specs.declared.internal.class.Class.TheVariants as class
-use Rattle.uriparse_text.specs.declared.internal.case.Case.TheVariants as case
+use Rattle.uriparse_text.specs.declared.internal.token.Case.TheVariants as case
 use Rattle.uriparse_text.specs.Spelling.{IsValidText}
 use Rattle.uriparse_authority.specs.declared.authority.host.Host.{Host}
 use Rattle.uriparse_authority.specs.declared.authority.host.Host.TheVariants.{IPv4Address, IPv6Address, IPvFuture, RegisteredName}

@@ -3,7 +3,7 @@ use Rattle.std.proofs.Common.{◌≡◌, ℕ, Bool, true, false, List, arith}
 use Rattle.std.specs.Prelude.{◌==◌, codes}
 use Rattle.std.proofs.lemmas.Bool.Decides.{nat_tests}
 use Rattle.uriparse_text.specs.declared.internal.class.Class.TheVariants as class
-use Rattle.uriparse_text.specs.declared.internal.case.Case.TheVariants.{Kept}
+use Rattle.uriparse_text.specs.declared.internal.token.Case.TheVariants.{Kept}
 use Rattle.uriparse_text.specs.Bytes.{colon, percent, is_among, is_hex, is_unreserved, is_sub_delim}
 use Rattle.uriparse_text.specs.Classes.{is_plain}
 use Rattle.uriparse_text.specs.Canonical.{canonical}

@@ -12,7 +12,7 @@ use Rattle.std.proofs.lemmas.List.{map-append}
 use Rattle.std.proofs.lemmas.List.Folds.{list_all-append}
 use Rattle.uriparse_text.specs.declared.internal.token.Token.{Token}
 use Rattle.uriparse_text.specs.declared.internal.token.Token.TheVariants.{Byte, Escape}
-use Rattle.uriparse_text.specs.declared.internal.case.Case.TheVariants.{Lowered}
+use Rattle.uriparse_text.specs.declared.internal.token.Case.TheVariants.{Lowered}
 use Rattle.uriparse_text.specs.Address.{SpellsIpv4}
 use Rattle.uriparse_text.specs.Bytes.{dot, is_hex, is_unreserved}
 use Rattle.uriparse_text.specs.Canonical.{canonical_in, canonical_lowered, canonical_token, escaped_byte}

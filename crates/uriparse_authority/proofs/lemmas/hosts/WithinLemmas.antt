@@ -7,7 +7,7 @@ use Rattle.std.proofs.lemmas.Bool.{and_parts, and_from, not-true, false≢true, 
 use Rattle.std.proofs.lemmas.Bool.Decides.{nat_tests}
 use Rattle.std.proofs.lemmas.List.Splits.{slice_split-cons_yes, slice_split-cons_no, length-slice_split, join_with_byte-slice_split}
 use Rattle.uriparse_text.specs.declared.internal.token.Token.TheVariants.{Byte, Escape}
-use Rattle.uriparse_text.specs.declared.internal.case.Case.TheVariants.{Lowered}
+use Rattle.uriparse_text.specs.declared.internal.token.Case.TheVariants.{Lowered}
 use Rattle.uriparse_text.specs.Bytes.{dot, is_hex, is_unreserved, percent}
 use Rattle.uriparse_text.specs.Canonical.{canonical_lowered, canonical_token, escaped_byte}
 use Rattle.uriparse_text.specs.Tokens.{is_escape, is_token, is_well_formed, spell, tokens}

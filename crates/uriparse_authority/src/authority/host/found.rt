@@ -2,7 +2,7 @@
 ghost use Rattle.std.specs.Prelude.{◌≡◌, ◌==◌, IfSome, IsTrue, false};
 ghost use Rattle.uriparse_authority.specs.declared.authority.host.Host.TheVariants as hosts;
 ghost use Rattle.uriparse_text.specs.declared.internal.class.Class.TheVariants as class;
-ghost use Rattle.uriparse_text.specs.declared.internal.case.Case.TheVariants as case;
+ghost use Rattle.uriparse_text.specs.declared.internal.token.Case.TheVariants as case;
 ghost use Rattle.uriparse_text.specs.Spelling.{IsValidText};
 ghost use Rattle.uriparse_authority.specs.Future.{IsFuture};
 ghost use Rattle.uriparse_authority.specs.Found.{IsCanonicalName, IsNameOf, found_host};
@@ -17,7 +17,7 @@ use uriparse_text::address::{Ipv4Addr, Ipv6Addr};
 /// The bytes of a name or of an address of a later version, or an IPv4 or IPv6 address. Contracts
 /// see it as the host.
 #[derive(Drop)]
-pub(in crate::authority) struct FoundHost<'h> {
+pub(in crate::authority) struct ScannedHost<'h> {
     // 0 a name, 4, 6 and 7 an address: a word, since a narrow tag would be moved with its padding.
     kind: usize,
     text: &'h [u8],
@@ -27,9 +27,9 @@ pub(in crate::authority) struct FoundHost<'h> {
     ipv4: Ipv4Addr,
 }
 
-impl<'h> Model for FoundHost<'h> {
+impl<'h> Model for ScannedHost<'h> {
     ghost use Rattle.std.specs.Prelude.{◌≡◌, ◌==◌, true};
-    ghost use Rattle.uriparse_text.specs.declared.internal.case.Case.TheVariants as case;
+    ghost use Rattle.uriparse_text.specs.declared.internal.token.Case.TheVariants as case;
     ghost use Rattle.uriparse_text.specs.Canonical.{canonical_in};
     ghost use Rattle.uriparse_authority.specs.declared.authority.host.Host.{Host};
     ghost use Rattle.uriparse_authority.specs.Found.{found_host};
@@ -44,11 +44,11 @@ impl<'h> Model for FoundHost<'h> {
 
 /// A name with these bytes, canonical if so marked.
 #[inline(always)]
-pub(in crate::authority) fn found_name(bytes: &[u8], canonical: bool) -> FoundHost<'_>
+pub(in crate::authority) fn found_name(bytes: &[u8], canonical: bool) -> ScannedHost<'_>
     requires { IsValidText class.Name case.Lowered canonical bytes.now }
     ensures { result ≡ hosts.RegisteredName bytes.now }
 {
-    FoundHost {
+    ScannedHost {
         kind: 0,
         text: bytes,
         canonical: usize::from(canonical),
@@ -59,10 +59,10 @@ pub(in crate::authority) fn found_name(bytes: &[u8], canonical: bool) -> FoundHo
 
 /// An IPv4 address.
 #[inline(always)]
-pub(in crate::authority) fn found_ipv4(address: Ipv4Addr) -> FoundHost<'static>
+pub(in crate::authority) fn found_ipv4(address: Ipv4Addr) -> ScannedHost<'static>
     ensures { result ≡ hosts.IPv4Address address }
 {
-    FoundHost {
+    ScannedHost {
         kind: 4,
         text: b"",
         canonical: 0,
@@ -72,10 +72,10 @@ pub(in crate::authority) fn found_ipv4(address: Ipv4Addr) -> FoundHost<'static>
 }
 
 /// An IPv6 address.
-pub(super) fn found_ipv6(address: Ipv6Addr) -> FoundHost<'static>
+pub(super) fn found_ipv6(address: Ipv6Addr) -> ScannedHost<'static>
     ensures { result ≡ hosts.IPv6Address address }
 {
-    FoundHost {
+    ScannedHost {
         kind: 6,
         text: b"",
         canonical: 0,
@@ -85,11 +85,11 @@ pub(super) fn found_ipv6(address: Ipv6Addr) -> FoundHost<'static>
 }
 
 /// An address of a later version with these bytes.
-pub(super) fn found_future(bytes: &[u8]) -> FoundHost<'_>
+pub(super) fn found_future(bytes: &[u8]) -> ScannedHost<'_>
     requires { IsFuture bytes.now }
     ensures { result ≡ hosts.IPvFuture bytes.now }
 {
-    FoundHost {
+    ScannedHost {
         kind: 7,
         text: bytes,
         canonical: 0,
@@ -98,7 +98,7 @@ pub(super) fn found_future(bytes: &[u8]) -> FoundHost<'_>
     }
 }
 
-impl<'h> FoundHost<'h> {
+impl<'h> ScannedHost<'h> {
     /// Whether this is a name of this many bytes that is known to be canonical.
     #[inline(always)]
     pub(in crate::authority) fn is_canonical_name(&self, len: usize) -> bool

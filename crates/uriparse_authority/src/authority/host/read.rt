@@ -3,7 +3,7 @@ ghost use Rattle.std.specs.Prelude.{◌≡◌};
 ghost use Rattle.std.specs.Option.{option_copied};
 ghost use Rattle.std.specs.List.{list_all};
 ghost use Rattle.uriparse_text.specs.declared.internal.class.Class.TheVariants as class;
-ghost use Rattle.uriparse_text.specs.declared.internal.case.Case.TheVariants as case;
+ghost use Rattle.uriparse_text.specs.declared.internal.token.Case.TheVariants as case;
 ghost use Rattle.uriparse_text.specs.Address.{is_ipv6_byte};
 ghost use Rattle.uriparse_text.specs.Spelling.{IsValidText};
 ghost use Rattle.uriparse_authority.specs.Future as future;
@@ -11,7 +11,7 @@ ghost use Rattle.uriparse_authority.specs.Host as host;
 
 use super::super::future::{begins_future, future_fault};
 use super::HostError;
-use super::found::{FoundHost, found_future, found_ipv4, found_ipv6, found_name};
+use super::found::{ScannedHost, found_future, found_ipv4, found_ipv6, found_name};
 use uriparse_text::address::{Ipv4Addr, Ipv6Addr};
 use uriparse_text::internal::{Case, Class, check_bytes};
 
@@ -42,7 +42,7 @@ fn are_ipv6_bytes(bytes: &[u8]) -> bool
 }
 
 /// Reads an address of a later version.
-fn read_future(bytes: &[u8]) -> Result<FoundHost<'_>, HostError>
+fn read_future(bytes: &[u8]) -> Result<ScannedHost<'_>, HostError>
     ensures { result ≡ host.future_host (future.reading bytes.now) }
 {
     match future_fault(bytes) {
@@ -53,7 +53,7 @@ fn read_future(bytes: &[u8]) -> Result<FoundHost<'_>, HostError>
 
 /// Reads the text between brackets.
 #[inline(never)]
-fn read_literal(bytes: &[u8]) -> Result<FoundHost<'_>, HostError>
+fn read_literal(bytes: &[u8]) -> Result<ScannedHost<'_>, HostError>
     ensures { result ≡ host.literal_reading bytes.now }
 {
     if begins_future(bytes) {
@@ -71,7 +71,7 @@ fn read_literal(bytes: &[u8]) -> Result<FoundHost<'_>, HostError>
 /// Finds the host that a text of the class of names spells, canonical if so marked: an IPv4 address,
 /// or else a name.
 #[inline(always)]
-pub(in crate::authority) fn find_name_host(bytes: &[u8], canonical: bool) -> FoundHost<'_>
+pub(in crate::authority) fn find_name_host(bytes: &[u8], canonical: bool) -> ScannedHost<'_>
     requires { IsValidText class.Name case.Lowered canonical bytes.now }
     ensures { host.Spells bytes.now result }
 {
@@ -82,7 +82,7 @@ pub(in crate::authority) fn find_name_host(bytes: &[u8], canonical: bool) -> Fou
 }
 
 /// Reads a text without brackets, which is of the class of names.
-fn read_name(bytes: &[u8]) -> Result<FoundHost<'_>, HostError>
+fn read_name(bytes: &[u8]) -> Result<ScannedHost<'_>, HostError>
     ensures { result ≡ host.name_reading bytes.now }
 {
     match check_bytes(Class::Name, Case::Lowered, bytes) {
@@ -92,7 +92,7 @@ fn read_name(bytes: &[u8]) -> Result<FoundHost<'_>, HostError>
 }
 
 /// Finds a host, whose text borrows the bytes. Does not allocate.
-pub(in crate::authority) fn find_host(bytes: &[u8]) -> Result<FoundHost<'_>, HostError>
+pub(in crate::authority) fn find_host(bytes: &[u8]) -> Result<ScannedHost<'_>, HostError>
     ensures { result ≡ host.reading bytes.now }
 {
     match in_brackets(bytes) {

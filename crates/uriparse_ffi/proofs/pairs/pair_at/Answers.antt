@@ -15,8 +15,8 @@ pub returns-clause-found : goal.returns-clause-found
 returns-clause-found c p ps h =
     let within : c.args.at ≤ length c.args.query.now = search rules in
     let first = first_is _ _ _ p (next_left c.args.query.now c.args.at within) ps h in
-    let piece : c.split_at_mark.result.0.now ≡ before ampersand (drop c.args.at c.args.query.now) =
-    c.split_at_mark.ensures.front ∙ ap (before ampersand) (to_end c.args.query.now c.args.at) in
+    let piece : c.split_at_delimiter.result.0.now ≡ before ampersand (drop c.args.at c.args.query.now) =
+    c.split_at_delimiter.ensures.front ∙ ap (before ampersand) (to_end c.args.query.now c.args.at) in
     (refl, subst (λ r. IsPairAt c.args.at r c.place_pair.result) (ap pair_of piece ∙ first.0) c.place_pair.ensures)
 
 pub returns-clause-others : goal.returns-clause-others
@@ -26,8 +26,8 @@ returns-clause-others c p ps h short =
     let within : at ≤ length q = search rules in
     let first = first_is _ _ _ p (next_left q at within) ps h in
     let s = before ampersand (drop at q) in
-    let piece : c.split_at_mark.result.0.now ≡ s = c.split_at_mark.ensures.front ∙ ap (before ampersand) (to_end q at) in
-    let size : length (piece_of (pair_of c.split_at_mark.result.0.now)) ≡ length s = ap length (piece_back c.split_at_mark.result.0.now ∙ piece) in
+    let piece : c.split_at_delimiter.result.0.now ≡ s = c.split_at_delimiter.ensures.front ∙ ap (before ampersand) (to_end q at) in
+    let size : length (piece_of (pair_of c.split_at_delimiter.result.0.now)) ≡ length s = ap length (piece_back c.split_at_delimiter.result.0.now ∙ piece) in
     let whole = cut_size ampersand (drop at q) in
     let rest = length-drop at q in
     let fits : at + length s + 1 ≤ most = omega arith in

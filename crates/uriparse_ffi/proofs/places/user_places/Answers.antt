@@ -11,7 +11,7 @@ pub place-username-requires : goal.place-username-requires
 place-username-requires c =
     let room = c.requires in
     let there = ap (λ (o : Option (Bor (List ℕ))). length (unwrap_or (option_copied o) [])) c.in-Some.is in
-    let user = ap length c.split_at_mark.ensures.front in
+    let user = ap length c.split_at_delimiter.ensures.front in
     let whole = user_size c.in-Some.text.now in
     omega arith
 
@@ -20,7 +20,7 @@ offset_after-requires c =
     let room = c.requires in
     let there = ap (λ (o : Option (Bor (List ℕ))). length (unwrap_or (option_copied o) [])) c.in-Some.is in
     let end = ap (λ (s : UriSpan). s.end) c.place-username.ensures in
-    let user = ap length c.split_at_mark.ensures.front in
-    let password = ap (λ o. length (following colon o)) (c.without_mark.ensures ∙ ap part c.split_at_mark.ensures.rest) in
+    let user = ap length c.split_at_delimiter.ensures.front in
+    let password = ap (λ o. length (following colon o)) (c.without_delimiter.ensures ∙ ap part c.split_at_delimiter.ensures.rest) in
     let whole = user_size c.in-Some.text.now in
     omega arith

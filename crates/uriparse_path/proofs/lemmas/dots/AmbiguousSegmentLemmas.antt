@@ -10,7 +10,7 @@ use Rattle.std.proofs.lemmas.Bool.Decides.{nat_tests}
 use Rattle.uriparse_text.specs.declared.internal.token.Token.{Token}
 use Rattle.uriparse_text.specs.declared.internal.token.Token.TheVariants.{Byte, Escape}
 use Rattle.uriparse_text.specs.declared.internal.class.Class.TheVariants.{Segment}
-use Rattle.uriparse_text.specs.declared.internal.case.Case.TheVariants.{Kept}
+use Rattle.uriparse_text.specs.declared.internal.token.Case.TheVariants.{Kept}
 use Rattle.uriparse_text.specs.Ambiguous.{has_ambiguous_escape, has_dots_before_semicolon, is_ambiguous, is_ambiguous_byte, is_ambiguous_token, semicolon}
 use Rattle.uriparse_text.specs.Bytes.{is_unreserved}
 use Rattle.uriparse_text.specs.Canonical.{canonical, canonical_in, canonical_token, escaped_byte}

@@ -2,7 +2,7 @@
 use Rattle.std.proofs.Common.{◌≡◌, ℕ, ◌≤◌, Bool, true, false, not, cond, List, [], ◌∷◌, ◌++◌, length, map, refl, sym, ap, ◌∙◌, subst, ◌&&◌, ◌||◌}
 use Rattle.std.specs.List.{slice_split, join_with_byte}
 use Rattle.std.proofs.lemmas.Bool.{and_parts}
-use Rattle.uriparse_text.specs.declared.internal.case.Case.TheVariants.{Kept}
+use Rattle.uriparse_text.specs.declared.internal.token.Case.TheVariants.{Kept}
 use Rattle.uriparse_text.specs.declared.internal.backward_buffer.Form.{Form}
 use Rattle.uriparse_text.specs.declared.internal.backward_buffer.Form.TheVariants.{AsIs, Canonical}
 use Rattle.uriparse_text.specs.Bytes.{dot, slash}

@@ -7,7 +7,7 @@ use Rattle.std.proofs.lemmas.Bool.{false≢true, not-true, and_parts, or_parts, 
 use Rattle.std.proofs.lemmas.Slice.Eq.{bytes_eq-Decides}
 use Rattle.std.proofs.lemmas.List.Sums.{sum_by-cons, sum_by-append, sum_by_push, count_by-le-length, prefix_len-le-length}
 use Rattle.std.proofs.lemmas.List.Folds.{prefix_len-append, list_all_at}
-use Rattle.uriparse_text.specs.declared.internal.case.Case.TheVariants.{Kept}
+use Rattle.uriparse_text.specs.declared.internal.token.Case.TheVariants.{Kept}
 use Rattle.uriparse_text.specs.Bytes.{dot, percent}
 use Rattle.uriparse_text.specs.Cuts.{lacks}
 use Rattle.uriparse_text.specs.Canonical.{canonical}

@@ -13,7 +13,7 @@ use Rattle.uriparse_text.specs.Classes.{is_plain}
 use Rattle.uriparse_text.specs.Tokens.{tokens}
 use Rattle.uriparse_text.specs.Canonical.{canonical}
 use Rattle.uriparse_text.specs.declared.internal.class.Class.TheVariants.{Segment}
-use Rattle.uriparse_text.specs.declared.internal.case.Case.TheVariants.{Kept}
+use Rattle.uriparse_text.specs.declared.internal.token.Case.TheVariants.{Kept}
 use Rattle.uriparse_text.proofs.lemmas.canonical.CanonicalLemmas.{canonical_in-canonical_in}
 use Rattle.uriparse_text.proofs.lemmas.classes.ClassLemmas.{well_formed-in_class}
 use Rattle.uriparse_text.specs.Segment.{is_segment}

@@ -4,7 +4,7 @@
 ghost use Rattle.std.specs.Prelude.{◌≡◌, ℕ, Bool, ◌+◌, ◌<◌, ◌≤◌, ◌++◌, ◌∷◌, [], List, drop, length, true, false};
 ghost use Rattle.std.specs.List.{list_all, slice_split};
 ghost use Rattle.std.specs.Option.{option_copied};
-ghost use Rattle.uriparse_text.specs.declared.internal.case.Case.TheVariants as case;
+ghost use Rattle.uriparse_text.specs.declared.internal.token.Case.TheVariants as case;
 ghost use Rattle.uriparse_text.specs.declared.internal.backward_buffer.Form.{Form};
 ghost use Rattle.uriparse_text.specs.Ends.{EndsWith, formed};
 ghost use Rattle.uriparse_text.specs.Segment.{is_segment};
@@ -17,7 +17,7 @@ ghost use Rattle.uriparse_path.specs.Remaining as spec;
 
 use super::last::last_dots;
 use crate::path::segment::{has_colon, is_double_dots};
-use uriparse_text::internal::{Case, Form, put, put_formed, split_at_mark, without_mark};
+use uriparse_text::internal::{Case, Form, put, put_formed, split_at_delimiter, without_delimiter};
 
 /// A text at the end of a buffer, before what follows it there.
 #[derive(Clone, Copy)]
@@ -130,7 +130,7 @@ impl BackwardState {
         ensures double_dots { result.double_dots ≡ 0 }
         ensures is { spec.ProcessesAll form ended (slice_split is_slash text.now) self out.old result out.new }
     {
-        let (first, _) = split_at_mark(text, b'/');
+        let (first, _) = split_at_delimiter(text, b'/');
         let placed = self.text.put_root(self.kept || ended, out);
         BackwardState {
             double_dots: 0,
@@ -203,8 +203,8 @@ impl BackwardState {
         ensures double_dots { result.double_dots ≤ self.double_dots + 1 }
         ensures is { spec.ProcessesAll form ended (slice_split is_slash text.now) self out.old result out.new }
     {
-        let (first, following) = split_at_mark(text, b'/');
-        match without_mark(following) {
+        let (first, following) = split_at_delimiter(text, b'/');
+        match without_delimiter(following) {
             Some(later) => self.stretch(form, ended, later, out).add_double_dot(first),
             None => self.add_double_dot(first),
         }

@@ -7,7 +7,7 @@ ghost use Rattle.uriparse_path.specs.Last.{HasNoDotCandidates, begins_with_dot_c
 ghost use Rattle.uriparse_path.specs.Path.{is_slash};
 
 use uriparse_text::internal::{
-    Is, IsAny, first, has_adjacent, has_byte, has_pair, next_marks_by_two,
+    Is, IsAny, first, has_adjacent, has_byte, has_pair, next_mask_by_two,
 };
 
 /// Whether the text begins with a byte that a dot segment begins with: a dot, or the percent sign of
@@ -51,7 +51,7 @@ fn plain_len_of_short(text: &[u8]) -> usize
     let mut begins = true;
     let mut at = 0;
     'runs: while at < text.len() {
-        let (slashes, dot_candidates, len) = next_marks_by_two(
+        let (slashes, dot_candidates, len) = next_mask_by_two(
             &Is(b'/'),
             &IsAny(b'.', b'%', b'%'),
             text,

@@ -10,7 +10,7 @@ ghost use Rattle.uriparse_path.specs.Last as spec;
 
 use super::dot_scan::begins_like_dot_segment;
 use crate::path::segment::is_dots;
-use uriparse_text::internal::{Is, IsAny, bits_below, highest, marks_of_pairs, split_at_mark};
+use uriparse_text::internal::{Is, IsAny, bits_below, highest, marks_of_pairs, split_at_delimiter};
 
 /// Whether the first segment of a text, which begins like a dot segment, is one.
 #[inline(never)]
@@ -18,7 +18,7 @@ fn has_dots_first(text: &[u8]) -> bool
     requires { list_all is_segment (slice_split is_slash text.now) ≡ true }
     ensures { result ≡ is_first is_dot_segment (slice_split is_slash text.now) }
 {
-    let (segment, _) = split_at_mark(text, b'/');
+    let (segment, _) = split_at_delimiter(text, b'/');
     is_dots(segment)
 }
 
@@ -140,7 +140,7 @@ pub(super) fn ends_in_dots(last: Option<usize>, text: &[u8]) -> bool
 {
     match last {
         Some(at) => {
-            let (_, following) = split_at_mark(&text[at..], b'/');
+            let (_, following) = split_at_delimiter(&text[at..], b'/');
             following.is_empty()
         }
         None => false,

@@ -10,7 +10,7 @@ use Rattle.std.proofs.lemmas.Slice.Eq.{bytes_eq-Decides}
 use Rattle.uriparse_text.specs.declared.internal.token.Token.{Token}
 use Rattle.uriparse_text.specs.declared.internal.token.Token.TheVariants.{Byte, Escape}
 use Rattle.uriparse_text.specs.declared.internal.class.Class.TheVariants.{Query}
-use Rattle.uriparse_text.specs.declared.internal.case.Case.TheVariants.{Kept}
+use Rattle.uriparse_text.specs.declared.internal.token.Case.TheVariants.{Kept}
 use Rattle.uriparse_text.specs.Bytes.{colon, is_hex, is_unreserved}
 use Rattle.uriparse_text.specs.Cuts.{lacks, up_to}
 use Rattle.uriparse_text.specs.Tokens.{tokens, spell, has_digits}
@@ -202,7 +202,7 @@ some_code host.V6 e = cc
 some_code host.Future e = cc
 some_code host.Name e = cc
 
-same_kind : (k l : Option host.Kind) → kind_code k ≡ kind_code l → k ≡ l
+pub same_kind : (k l : Option host.Kind) → kind_code k ≡ kind_code l → k ≡ l
 same_kind None None e = refl
 same_kind None (Some l) e = absurd (some_code l e)
 same_kind (Some k) None e = absurd (some_code k (sym e))

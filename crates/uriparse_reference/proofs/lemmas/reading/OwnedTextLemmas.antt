@@ -11,8 +11,8 @@ use Rattle.uriparse_text.specs.Readings.{IfPresent, fault_in}
 use Rattle.uriparse_text.specs.Spelling.{IsValidText}
 use Rattle.uriparse_text.specs.declared.internal.class.Class.{Class}
 use Rattle.uriparse_text.specs.declared.internal.class.Class.TheVariants as class
-use Rattle.uriparse_text.specs.declared.internal.case.Case.{Case}
-use Rattle.uriparse_text.specs.declared.internal.case.Case.TheVariants as case
+use Rattle.uriparse_text.specs.declared.internal.token.Case.{Case}
+use Rattle.uriparse_text.specs.declared.internal.token.Case.TheVariants as case
 use Rattle.uriparse_text.proofs.lemmas.readings.CutLemmas.{up_to-append}
 use Rattle.uriparse_authority.specs.Authority as authority
 use Rattle.uriparse_authority.specs.Authority.{AuthorityParts, ends_authority}

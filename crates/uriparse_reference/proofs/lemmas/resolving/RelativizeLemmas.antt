@@ -21,7 +21,7 @@ use Rattle.uriparse_reference.specs.Reference.{Parts, Valid}
 use Rattle.uriparse_reference.specs.Normal.{dot_prefixed}
 use Rattle.uriparse_reference.specs.Target.{merge, dots_removed, is_empty, target_of, target}
 use Rattle.uriparse_reference.specs.Relate.{without_scheme, following_path, stands_alone, inner, LeavesOut}
-use Rattle.uriparse_reference.specs.Relate.{network, IsInPlace, IsQueryLeft, Relates}
+use Rattle.uriparse_reference.specs.Relate.{as_network_path, IsInPlace, IsQueryLeft, Relates}
 use Rattle.uriparse_reference.proofs.lemmas.edits.PathRuleLemmas.{Fits, make, fits_of, placed, valid_made, two_slashes, shielded_fits}
 use Rattle.uriparse_reference.proofs.lemmas.resolving.MergedPathLemmas.{IsFollowing, merged_spelled}
 use Rattle.uriparse_reference.proofs.lemmas.resolving.ValidTargetLemmas.{dots_removed-text, dots_removed-merged, chosen}
@@ -31,7 +31,7 @@ use Rattle.uriparse_reference.proofs.lemmas.resolving.ResolveLemmas.{target_kept
 pub same_scheme : (s r : Scheme) → scheme.Valid s → scheme.Valid r → scheme.text s ≡ scheme.text r → s ≡ r
 same_scheme s r v w h = (spells_back s v).value ∙ ap scheme.named h ∙ sym (spells_back r w).value
 
-some_is : {A : Type 0} (x y : A) → ◌≡◌ {A = Option A} (Some x) (Some y) → x ≡ y
+pub some_is : {A : Type 0} (x y : A) → ◌≡◌ {A = Option A} (Some x) (Some y) → x ≡ y
 some_is x y h = cc
 
 none_is : {A : Type 0} (o : Option A) → is_some o ≡ false → o ≡ None
@@ -83,7 +83,7 @@ no_inner : (o : Option PathParts) (p : PathParts) → o ≡ None → o ≡ Some 
 no_inner o p e f = let bad : ◌≡◌ {A = Option PathParts} (Some p) None = sym f ∙ e in cc
 
 pub network_leads : (b t : Parts) → Valid t → b.scheme ≡ t.scheme → is_some t.scheme ≡ true
-    → (b.authority ≡ t.authority → (inner b.path t.path ≡ None) × (IsInPlace b t → ⊥)) → Relates b t (network t)
+    → (b.authority ≡ t.authority → (inner b.path t.path ≡ None) × (IsInPlace b t → ⊥)) → Relates b t (as_network_path t)
 network_leads b t v s h n = by_authority (is_some t.authority) refl
   where
     out : (r : Parts) → (IsSome t.authority ⊎ ((b.authority ≡ None) × (t.path.absolute ≡ true)) → r.scheme ≡ None) → (r ≡ t) ⊎ (r ≡ without_scheme t)

@@ -3,7 +3,7 @@ use Rattle.std.proofs.Common.{◌≡◌, ℕ, not, List, [], ◌∷◌, ◌++◌
 use Rattle.std.specs.Prelude.{is_some, is_none}
 use Rattle.std.proofs.Math.ListN.{drop_of_length-le}
 use Rattle.std.specs.Option.{option_map}
-use Rattle.uriparse_text.specs.declared.internal.case.Case.TheVariants.{Kept, Lowered}
+use Rattle.uriparse_text.specs.declared.internal.token.Case.TheVariants.{Kept, Lowered}
 use Rattle.uriparse_text.specs.declared.internal.backward_buffer.Form.{Form}
 use Rattle.uriparse_text.specs.declared.internal.backward_buffer.Form.TheVariants.{AsIs, Canonical}
 use Rattle.uriparse_text.specs.Bytes.{colon, question_mark, number_sign}

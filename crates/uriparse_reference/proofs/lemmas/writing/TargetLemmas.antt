@@ -4,7 +4,7 @@ use Rattle.std.specs.Prelude.{IfSome, MatchOption, is_some, nat_le, nat_lt}
 use Rattle.std.specs.Option.{option_map, option_or}
 use Rattle.std.proofs.lemmas.Bool.{false≢true, and_parts, not-true, le-leb}
 use Rattle.std.proofs.lemmas.Bool.Decides.{nat_tests}
-use Rattle.uriparse_text.specs.declared.internal.case.Case.TheVariants.{Kept}
+use Rattle.uriparse_text.specs.declared.internal.token.Case.TheVariants.{Kept}
 use Rattle.uriparse_text.specs.declared.internal.backward_buffer.Form.TheVariants.{AsIs}
 use Rattle.uriparse_text.specs.Bytes.{colon, question_mark, number_sign}
 use Rattle.uriparse_text.specs.Cuts.{ahead, following}

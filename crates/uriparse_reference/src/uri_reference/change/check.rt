@@ -16,7 +16,7 @@ use uriparse_path::internal::split_path;
 use uriparse_path::path::PathError;
 use uriparse_scheme::scheme::{Scheme, SchemeError};
 use uriparse_text::fragment::FragmentKind;
-use uriparse_text::internal::{find_text_if, split_at_mark};
+use uriparse_text::internal::{find_text_if, split_at_delimiter};
 use uriparse_text::query::QueryKind;
 
 /// Reads the scheme, if there is one.
@@ -46,7 +46,7 @@ fn check_authority(strings: &Option<AuthorityStrings<'_>>) -> Result<(), Authori
 fn lacks_colon(path: &[u8]) -> bool
     ensures { result ≡ is_noscheme path.now }
 {
-    let (segment, _) = split_at_mark(path, b'/');
+    let (segment, _) = split_at_delimiter(path, b'/');
     segment.iter().all(|b| *b != b':')
 }
 

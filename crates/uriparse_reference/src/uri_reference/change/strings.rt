@@ -14,7 +14,7 @@ use super::{Change, ChangeError, Changes};
 use std::marker::Model;
 use uriparse_authority::internal::{split_port, split_userinfo};
 use uriparse_scheme::internal::split_scheme;
-use uriparse_text::internal::{split_at_mark, without_mark};
+use uriparse_text::internal::{split_at_delimiter, without_delimiter};
 
 /// The strings of the components of an authority.
 #[derive(Drop)]
@@ -70,8 +70,8 @@ fn split_password(userinfo: Option<&[u8]>) -> (Option<&[u8]>, Option<&[u8]>)
 {
     match userinfo {
         Some(text) => {
-            let (username, rest) = split_at_mark(text, b':');
-            (Some(username), without_mark(rest))
+            let (username, rest) = split_at_delimiter(text, b':');
+            (Some(username), without_delimiter(rest))
         }
         None => (None, None),
     }
@@ -109,9 +109,9 @@ fn split_end(text: &[u8]) -> (&[u8], Option<&[u8]>, Option<&[u8]>)
     ensures query { option_copied result.1 ≡ after question_mark (before number_sign text.now) }
     ensures fragment { option_copied result.2 ≡ after number_sign text.now }
 {
-    let (front, fragment) = split_at_mark(text, b'#');
-    let (path, query) = split_at_mark(front, b'?');
-    (path, without_mark(query), without_mark(fragment))
+    let (front, fragment) = split_at_delimiter(text, b'#');
+    let (path, query) = split_at_delimiter(front, b'?');
+    (path, without_delimiter(query), without_delimiter(fragment))
 }
 
 /// The strings of a reference's components. No byte is tested.

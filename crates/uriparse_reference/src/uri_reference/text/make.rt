@@ -1,9 +1,10 @@
-//! Normal forms, targets and printed references, each in a text of its own: RFC 3986, sections 5.2,
-//! 5.3 and 6.2.2.
+//! Normal forms, targets, the references that lead to them and printed references, each in a text of
+//! its own: RFC 3986, sections 5.2, 5.3 and 6.2.2.
 ghost use Rattle.std.specs.Prelude.{◌≡◌, Err, IfOk, IfSome, IsOk, MatchOption, MatchResult, is_some, string_bytes, true, false};
 ghost use Rattle.uriparse_reference.specs.Normal.{normal};
 ghost use Rattle.uriparse_reference.specs.OwnedText.{AreCuts, IsReference, viewed_in};
 ghost use Rattle.uriparse_reference.specs.Reference.{ReadsBack, Spells, print};
+ghost use Rattle.uriparse_reference.specs.Relate.{relative};
 ghost use Rattle.uriparse_reference.specs.Target.{ResolvesTo};
 ghost use Rattle.uriparse_reference.specs.View.{printed};
 ghost use Rattle.uriparse_reference.specs.declared.uri_reference.error.TargetError.TheVariants as targets;
@@ -12,6 +13,7 @@ use super::super::URIReference;
 use super::super::error::TargetError;
 use super::super::view::ReferenceView;
 use super::super::view::cuts::Cuts;
+use super::super::view::relativize::relativize_to_string;
 use super::{ReferenceText, find_cuts};
 use std::alloc::{AllocError, Global};
 
@@ -101,6 +103,22 @@ impl<'t> ReferenceView<'t> {
             Ok(text) => Ok(checked_text(text)),
             Err(error) => Err(error),
         }
+    }
+}
+
+/// The reference that leads from a base to a target, in a text of its own. Allocates once, exactly
+/// its length.
+pub fn relativize_to_text(
+    alloc: Global,
+    base: &ReferenceView<'_>,
+    target: &ReferenceView<'_>,
+) -> Result<ReferenceText, AllocError>
+    ensures { IfOk result (λ v. v ≡ printed (relative base.now.parts target.now.parts)) }
+{
+    let (_base, _target) = (base.as_str(), target.as_str());
+    match relativize_to_string(alloc, base, target) {
+        Ok(text) => Ok(checked_text(text)),
+        Err(error) => Err(error),
     }
 }
 

@@ -4,9 +4,9 @@ ghost use Rattle.std.specs.Prelude.{◌≡◌, ◌-◌, ◌==◌, ℕ, IfSome, L
 ghost use Rattle.uriparse_authority.specs.Authority as authority;
 ghost use Rattle.uriparse_reference.specs.OwnedText.{AreCuts, IsAuthorityOf, viewed_in};
 
-use super::super::read::{FoundTail, Pieces};
+use super::super::read::{Pieces, ScannedTail};
 use super::ReferenceView;
-use uriparse_authority::internal::{FoundAuthority, find_authority, found_named};
+use uriparse_authority::internal::{ScannedAuthority, find_authority, found_named};
 use uriparse_scheme::scheme::RegisteredScheme;
 use uriparse_text::internal::found_again;
 
@@ -61,7 +61,7 @@ fn gap(scheme: u32) -> usize
 
 /// What [`Cuts::authority`] finds the authority by.
 #[inline(always)]
-fn authority_words(found: &Option<FoundAuthority<'_>>) -> (u8, usize, Option<u16>)
+fn authority_words(found: &Option<ScannedAuthority<'_>>) -> (u8, usize, Option<u16>)
     ensures { (text : List ℕ) → IfSome found.now (λ a. authority.reading text ≡ Ok a) → IsAuthorityOf result.0 result.1 result.2 text found.now }
 {
     let Some(found) = found else {
@@ -77,7 +77,7 @@ impl Cuts {
     /// The authority with this text, if there is one. Only one with user information or an address
     /// is read.
     #[inline(always)]
-    fn authority<'t>(&self, text: &'t [u8]) -> Option<FoundAuthority<'t>>
+    fn authority<'t>(&self, text: &'t [u8]) -> Option<ScannedAuthority<'t>>
         requires { (a : Option authority.AuthorityParts) × IsAuthorityOf self.now.authority_kind self.now.name self.now.port text.now a }
         ensures { (a : Option authority.AuthorityParts) → IsAuthorityOf self.now.authority_kind self.now.name self.now.port text.now a → result ≡ a }
     {
@@ -111,7 +111,7 @@ impl Cuts {
                 scheme,
                 known: self.known,
                 authority: self.authority(skip(gap(self.scheme), following)),
-                tail: FoundTail {
+                tail: ScannedTail {
                     path,
                     count: self.count as usize,
                     escaped: usize::from(self.escaped),

@@ -6,8 +6,8 @@ ghost use Rattle.uriparse_text.specs.Query.{IsQuery};
 ghost use Rattle.uriparse_reference.specs.TextEdits.{with_end, with_fragment};
 
 use super::ReferenceView;
-use super::into::put_query_and_fragment;
 use super::put::{PutText, make_string};
+use super::write::put_query_and_fragment;
 use std::alloc::{AllocError, Global};
 use uriparse_text::fragment::Fragment;
 use uriparse_text::internal::{Form, Held, put};

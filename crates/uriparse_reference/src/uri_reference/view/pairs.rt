@@ -6,7 +6,9 @@ ghost use Rattle.uriparse_reference.specs.PairEdits as spec;
 
 use super::ReferenceView;
 use super::cuts::skip;
-use uriparse_text::internal::{Named, checked_text, find_pair, split_at_mark, without_mark};
+use uriparse_text::internal::{
+    Named, checked_text, find_pair, split_at_delimiter, without_delimiter,
+};
 use uriparse_text::query::Query;
 
 impl<'t> ReferenceView<'t> {
@@ -17,7 +19,7 @@ impl<'t> ReferenceView<'t> {
     {
         let text = self.as_str().as_bytes();
         let before_fragment = &text[..self.len_before_fragment()];
-        without_mark(skip(self.without_end().len(), before_fragment))
+        without_delimiter(skip(self.without_end().len(), before_fragment))
     }
 
     /// The value of the query's first pair of this name, as [`Query::pair`] finds it: empty if the
@@ -34,9 +36,9 @@ impl<'t> ReferenceView<'t> {
     {
         let query = self.query_bytes()?;
         let left = find_pair(&Named(name), query)?;
-        let (piece, _) = split_at_mark(left, b'&');
-        let (_, rest) = split_at_mark(piece, b'=');
-        Some(checked_text(without_mark(rest).unwrap_or(b"")))
+        let (piece, _) = split_at_delimiter(left, b'&');
+        let (_, rest) = split_at_delimiter(piece, b'=');
+        Some(checked_text(without_delimiter(rest).unwrap_or(b"")))
     }
 
     /// Whether the query has a pair of this name, as [`Query::has_pair`] finds it. Does not allocate.

@@ -8,9 +8,9 @@ ghost use Rattle.uriparse_reference.specs.Target.{ResolvesTo};
 
 use super::super::error::TargetError;
 use super::ReferenceView;
-use super::into::NormalText;
 use super::put::make_string;
 use super::target::TargetText;
+use super::write::NormalText;
 use std::alloc::{AllocError, Global};
 
 impl<'t> ReferenceView<'t> {

@@ -12,8 +12,8 @@ ghost use Rattle.uriparse_reference.specs.Into as spec;
 
 use super::super::error::BufferError;
 use super::ReferenceView;
-use super::into::{put_query_and_fragment, put_scheme_and_authority};
 use super::put::{PutText, write};
+use super::write::{put_query_and_fragment, put_scheme_and_authority};
 use uriparse_path::internal::{put_merged, put_undotted};
 use uriparse_path::path::MAX_SEGMENTS;
 use uriparse_text::internal::{Form, put};

@@ -1,7 +1,7 @@
 -- Schemes in canonical spelling.
 use Rattle.std.proofs.Common.{◌≡◌, ℕ, true, List, refl, sym, ap, ◌∙◌}
 use Rattle.std.specs.Str.{str_to_ascii_lowercase}
-use Rattle.uriparse_text.specs.declared.internal.case.Case.TheVariants.{Lowered}
+use Rattle.uriparse_text.specs.declared.internal.token.Case.TheVariants.{Lowered}
 use Rattle.uriparse_text.specs.Canonical.{canonical_lowered}
 use Rattle.uriparse_text.proofs.lemmas.canonical.CanonicalLemmas.{canonical_in-canonical_in}
 use Rattle.uriparse_scheme.specs.declared.scheme.registered.RegisteredScheme.{RegisteredScheme}

@@ -1,5 +1,5 @@
 use Rattle.std.proofs.Common.{refl}
-use Rattle.uriparse_text.specs.declared.internal.case.Case.TheVariants.{Kept}
+use Rattle.uriparse_text.specs.declared.internal.token.Case.TheVariants.{Kept}
 use Rattle.uriparse_text.proofs.lemmas.tokens.CodingLemmas.{IsIn-encoded, canonical-encoded, decoded-encoded, decoded-written}
 use Rattle.uriparse_text.proofs.laws.one_encoding.Goals as goal
 

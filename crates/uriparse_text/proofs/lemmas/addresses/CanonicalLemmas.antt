@@ -14,8 +14,8 @@ use Rattle.std.proofs.lemmas.List.Sums.{list_all-from_AllPass}
 use Rattle.std.proofs.NetLemmas.Alphabet.{IsDigitOrDot, IsHexOrColon, All-ipv4_text, All-hex_groups_text}
 use Rattle.std.proofs.NetLemmas.Texts.{AllSegments, AllSegments-drop}
 use Rattle.uriparse_text.specs.declared.internal.token.Token.TheVariants.{Byte}
-use Rattle.uriparse_text.specs.declared.internal.case.Case.{Case}
-use Rattle.uriparse_text.specs.declared.internal.case.Case.TheVariants.{Kept, Lowered}
+use Rattle.uriparse_text.specs.declared.internal.token.Case.{Case}
+use Rattle.uriparse_text.specs.declared.internal.token.Case.TheVariants.{Kept, Lowered}
 use Rattle.uriparse_text.specs.Bytes.{percent, left_bracket, right_bracket}
 use Rattle.uriparse_text.specs.Tokens.{spell}
 use Rattle.uriparse_text.specs.Canonical.{canonical_token, in_case, canonical_in}

@@ -9,8 +9,8 @@ use Rattle.std.proofs.lemmas.List.{map-append, append_cancel_left}
 use Rattle.std.proofs.lemmas.Grind.{flat_map-append}
 use Rattle.uriparse_text.specs.declared.internal.token.Token.{Token}
 use Rattle.uriparse_text.specs.declared.internal.token.Token.TheVariants.{Byte, Escape}
-use Rattle.uriparse_text.specs.declared.internal.case.Case.{Case}
-use Rattle.uriparse_text.specs.declared.internal.case.Case.TheVariants.{Kept, Lowered}
+use Rattle.uriparse_text.specs.declared.internal.token.Case.{Case}
+use Rattle.uriparse_text.specs.declared.internal.token.Case.TheVariants.{Kept, Lowered}
 use Rattle.uriparse_text.specs.Bytes.{percent, is_hex, is_unreserved}
 use Rattle.uriparse_text.specs.Tokens.{tokens, spell, is_token, has_digits, is_well_formed, IsConcatenation}
 use Rattle.uriparse_text.specs.Canonical.{canonical_token, canonical_tokens, escaped_byte, in_case, canonical_in, SpellsAlike}

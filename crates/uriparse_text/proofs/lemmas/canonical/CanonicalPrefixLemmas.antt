@@ -11,7 +11,7 @@ use Rattle.std.proofs.lemmas.Bool.{and_from, and_parts, eqb-true, false≢true}
 use Rattle.std.proofs.lemmas.List.{drop-drop, length-drop}
 use Rattle.std.proofs.lemmas.List.Sums.{fails_before_first}
 use Rattle.uriparse_text.specs.declared.internal.class.Class.{Class}
-use Rattle.uriparse_text.specs.declared.internal.case.Case.{Case}
+use Rattle.uriparse_text.specs.declared.internal.token.Case.{Case}
 use Rattle.uriparse_text.specs.Bytes.{percent}
 use Rattle.uriparse_text.specs.Classes.{is_plain}
 use Rattle.uriparse_text.specs.Faults.{begins_fine, AllFine, IsIn, IsFaultOffset}

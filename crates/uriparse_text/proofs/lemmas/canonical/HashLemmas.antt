@@ -8,7 +8,7 @@ use Rattle.std.proofs.lemmas.Grind.{fold-append}
 use Rattle.std.proofs.Math.Seq.{take-length, take-append_seam, drop-append_seam}
 use Rattle.std.proofs.lemmas.List.{drop-drop, length-append, length-set, length-take, take_more_set}
 use Rattle.uriparse_text.specs.declared.internal.token.Token.{Token}
-use Rattle.uriparse_text.specs.declared.internal.case.Case.{Case}
+use Rattle.uriparse_text.specs.declared.internal.token.Case.{Case}
 use Rattle.uriparse_text.specs.Tokens.{tokens, spell}
 use Rattle.uriparse_text.specs.Canonical.{canonical_token, canonical_in, fed_bytes}
 use Rattle.uriparse_text.proofs.lemmas.canonical.CanonicalLemmas.{canonical_in-nil, canonical_in-cons}

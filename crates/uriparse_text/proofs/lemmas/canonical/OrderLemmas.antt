@@ -15,7 +15,7 @@ use Rattle.std.proofs.lemmas.Grind.{flat_map-append}
 use Rattle.std.proofs.lemmas.List.Folds.{list_all-append}
 use Rattle.uriparse_text.specs.declared.internal.token.Token.{Token}
 use Rattle.uriparse_text.specs.declared.internal.token.Token.TheVariants.{Byte, Escape}
-use Rattle.uriparse_text.specs.declared.internal.case.Case.{Case}
+use Rattle.uriparse_text.specs.declared.internal.token.Case.{Case}
 use Rattle.uriparse_text.specs.Bytes.{percent}
 use Rattle.uriparse_text.specs.Tokens.{spell, is_token, is_well_formed}
 use Rattle.uriparse_text.specs.Canonical.{canonical_in, canonical_tokens, in_case}

@@ -9,9 +9,9 @@ use Rattle.std.proofs.lemmas.Bool.{agree_below, agree_below_at, and_parts, eqb-t
 use Rattle.std.proofs.lemmas.Bool.Decides.{nat_tests}
 use Rattle.std.proofs.lemmas.List.{drop_more, get_or_past}
 use Rattle.uriparse_text.specs.declared.internal.token.Token.TheVariants.{Byte, Escape}
-use Rattle.uriparse_text.specs.declared.internal.case.Case.{Case}
-use Rattle.uriparse_text.specs.declared.internal.case.Case.TheVariants.{Kept}
-use Rattle.uriparse_text.specs.declared.internal.shrunk.TheConstants.{FIRST_LOW, FIRST_HIGH, SECOND_LOW, SECOND_HIGH}
+use Rattle.uriparse_text.specs.declared.internal.token.Case.{Case}
+use Rattle.uriparse_text.specs.declared.internal.token.Case.TheVariants.{Kept}
+use Rattle.uriparse_text.specs.declared.internal.pairs.TheConstants.{FIRST_LOW, SHRUNK_FIRST_HIGH, SECOND_LOW, SHRUNK_SECOND_HIGH}
 use Rattle.uriparse_text.specs.Bytes.{percent, is_hex, is_unreserved}
 use Rattle.uriparse_text.specs.Tokens.{is_escape, spell}
 use Rattle.uriparse_text.specs.Canonical.{canonical_in, canonical_token, escaped_byte}
@@ -105,10 +105,10 @@ shrunk_few t = omega (arith, shorter t)
 -- ---- the kinds of two digits
 
 abbrev first_kinds : ℕ → ℕ
-first_kinds b = bit_and (get_or FIRST_LOW (bit_and b 15) 0) (get_or FIRST_HIGH (b / 16) 0)
+first_kinds b = bit_and (get_or FIRST_LOW (bit_and b 15) 0) (get_or SHRUNK_FIRST_HIGH (b / 16) 0)
 
 abbrev second_kinds : ℕ → ℕ
-second_kinds b = bit_and (get_or SECOND_LOW (bit_and b 15) 0) (get_or SECOND_HIGH (b / 16) 0)
+second_kinds b = bit_and (get_or SECOND_LOW (bit_and b 15) 0) (get_or SHRUNK_SECOND_HIGH (b / 16) 0)
 
 abbrev shares : ℕ → ℕ → Bool
 shares high low = not (eqb (bit_and (first_kinds high) (second_kinds low)) 0)
@@ -121,10 +121,10 @@ abbrev tell : ℕ → Bool
 tell high = cond (is_hex high) (agree_below (shares high) (is_shrunk high) 256) (eqb (first_kinds high) 0)
 
 first_past : (b : ℕ) → 256 ≤ b → first_kinds b ≡ 0
-first_past b h = ap (bit_and (get_or FIRST_LOW (bit_and b 15) 0)) (get_or_past FIRST_HIGH (b / 16) 0 (omega arith)) ∙ and_zero_r (get_or FIRST_LOW (bit_and b 15) 0)
+first_past b h = ap (bit_and (get_or FIRST_LOW (bit_and b 15) 0)) (get_or_past SHRUNK_FIRST_HIGH (b / 16) 0 (omega arith)) ∙ and_zero_r (get_or FIRST_LOW (bit_and b 15) 0)
 
 second_past : (b : ℕ) → 256 ≤ b → second_kinds b ≡ 0
-second_past b h = ap (bit_and (get_or SECOND_LOW (bit_and b 15) 0)) (get_or_past SECOND_HIGH (b / 16) 0 (omega arith)) ∙ and_zero_r (get_or SECOND_LOW (bit_and b 15) 0)
+second_past b h = ap (bit_and (get_or SECOND_LOW (bit_and b 15) 0)) (get_or_past SHRUNK_SECOND_HIGH (b / 16) 0 (omega arith)) ∙ and_zero_r (get_or SECOND_LOW (bit_and b 15) 0)
 
 no_digit : (b : ℕ) → 256 ≤ b → is_hex b ≡ false
 no_digit b h = by_value (is_hex b) refl

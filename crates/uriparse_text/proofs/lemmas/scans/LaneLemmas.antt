@@ -10,8 +10,8 @@ use Rattle.std.proofs.lemmas.Simd.{Each1-all, Each1-weaker, Each1-zip2, Each2-sp
 use Rattle.std.proofs.lemmas.Simd.{tops_compared, map-map, bitmask_splat, swz_l, SwzOk, SwzOk-from_below, length-swz_l, get_or-swz_l_below}
 use Rattle.uriparse_text.specs.declared.internal.class.Class.{Class}
 use Rattle.uriparse_text.specs.declared.internal.class.Class.TheVariants.{Name, UserInfo, Segment, Query}
-use Rattle.uriparse_text.specs.declared.internal.case.Case.TheVariants.{Kept, Lowered}
-use Rattle.uriparse_text.specs.declared.internal.run.TheConstants.{CHANGE_LOW, CHANGE_HIGH}
+use Rattle.uriparse_text.specs.declared.internal.token.Case.TheVariants.{Kept, Lowered}
+use Rattle.uriparse_text.specs.declared.internal.canonical.TheConstants.{CHANGE_LOW, CHANGE_HIGH}
 use Rattle.uriparse_text.specs.declared.internal.class.TheConstants.{LOW, HIGH}
 use Rattle.uriparse_text.specs.declared.internal.scan.TheConstants.{HEX_LOW, HEX_HIGH}
 use Rattle.uriparse_text.specs.Bytes.{is_hex, is_unreserved, is_sub_delim}

@@ -1,5 +1,5 @@
 -- Bytes that are written as a text, and the bytes that a text stands for.
-use Rattle.std.proofs.Common.{◌≡◌, ℕ, ◌<◌, ◌≤◌, Bool, true, false, List, [], ◌∷◌, ◌++◌, map, refl, sym, ap, ◌∙◌, arith, append_assoc, append-nil, ◌+◌, length, take, drop, get_or, Ok, zero, suc}
+use Rattle.std.proofs.Common.{◌≡◌, ℕ, ◌<◌, ◌≤◌, Bool, true, false, List, [], ◌∷◌, map, refl, sym, ap, ◌∙◌, arith, length, take, drop, Ok, zero, suc}
 use Rattle.std.specs.Prelude.{◌==◌, ◌&&◌, ◌/◌, ◌%◌, bytes_eq}
 use Rattle.std.specs.Cmp.Lexicographic.{slice_cmp}
 use Rattle.std.specs.Cmp.{nat_cmp_is}
@@ -11,22 +11,19 @@ use Rattle.std.specs.Int.{is_in_range}
 use Rattle.std.specs.Char.{to_ascii_uppercase}
 use Rattle.std.proofs.lemmas.Bool.{agree_below_at, and_from, and_parts, cond_both, cond-false, eq-eqb, eqb-true}
 use Rattle.std.proofs.lemmas.Bool.Decides.{nat_tests}
-use Rattle.std.proofs.lemmas.List.{map-append}
-use Rattle.std.proofs.lemmas.Grind.{flat_map-append}
-use Rattle.std.proofs.lemmas.List.Folds.{list_all_more}
-use Rattle.std.proofs.Math.Seq.{take-append_seam, take-suc}
+use Rattle.std.proofs.Math.Seq.{take-append_seam}
 use Rattle.uriparse_text.specs.declared.internal.token.Token.{Token}
 use Rattle.uriparse_text.specs.declared.internal.token.Token.TheVariants.{Byte, Escape}
 use Rattle.uriparse_text.specs.declared.internal.class.Class.{Class}
-use Rattle.uriparse_text.specs.declared.internal.case.Case.{Case}
-use Rattle.uriparse_text.specs.declared.internal.case.Case.TheVariants.{Kept}
+use Rattle.uriparse_text.specs.declared.internal.token.Case.{Case}
+use Rattle.uriparse_text.specs.declared.internal.token.Case.TheVariants.{Kept}
 use Rattle.uriparse_text.specs.Bytes.{is_hex, is_unreserved, percent}
 use Rattle.uriparse_text.specs.Classes.{is_plain}
 use Rattle.uriparse_text.specs.Tokens.{tokens, spell, is_token, has_digits, is_well_formed}
 use Rattle.uriparse_text.specs.Faults.{allows, IsIn}
 use Rattle.uriparse_text.specs.Canonical.{canonical_token, canonical_in, escaped_byte}
 use Rattle.uriparse_text.specs.Alike.{AreCommon, upper_digit_of}
-use Rattle.uriparse_text.specs.Coding.{value_of, decoded, token_for, encoded, are_bytes, form_value_of, form_decoded, token_without, encoded_without}
+use Rattle.uriparse_text.specs.Coding.{value_of, decoded, token_for, encoded, are_bytes, form_value_of, form_decoded}
 use Rattle.uriparse_text.specs.Starts.{Writes}
 use Rattle.uriparse_text.proofs.lemmas.canonical.RunLemmas.{no_escape}
 use Rattle.uriparse_text.proofs.lemmas.tokens.TokenLemmas.{tokens-byte, tokens-nil, tokens_of_concatenation, digits-tokens}
@@ -178,56 +175,13 @@ pub encoded-nil : (class : Class) → encoded class [] ≡ []
 unfolding encoded
 encoded-nil class = refl
 
--- a byte more
-pub encoded_push : (class : Class) (bytes : List ℕ) (b : ℕ) → encoded class (bytes ++ b ∷ []) ≡ encoded class bytes ++ spell (token_for class b)
-unfolding encoded
-encoded_push class bytes b =
-    ap (flat_map spell) (map-append (token_for class) bytes (b ∷ []))
-    ∙ flat_map-append spell (map (token_for class) bytes) (token_for class b ∷ [])
-    ∙ ap (λ u. flat_map spell (map (token_for class) bytes) ++ u) (append-nil (spell (token_for class b)))
-
 pub range_byte : (b : ℕ) → b < 256 → is_in_range 0 255 b ≡ true
 range_byte b h = grind (arith, nat_tests)
-
--- the byte at a place more
-pub written_more : (class : Class) (bytes done new : List ℕ) (i b : ℕ) → i < length bytes → b ≡ get_or bytes i 0 → b < 256
-    → (done ≡ encoded class (take i bytes)) × (are_bytes (take i bytes) ≡ true) → new ≡ done ++ spell (token_for class b)
-    → (new ≡ encoded class (take (i + 1) bytes)) × (are_bytes (take (i + 1) bytes) ≡ true)
-written_more class bytes done new i b h e small is f = (
-  f ∙ ap (λ u. u ++ spell (token_for class b)) is.0 ∙ sym (encoded_push class (take i bytes) b)
-      ∙ ap (encoded class) (ap (λ x. take i bytes ++ x ∷ []) e ∙ sym (take-suc bytes i 0 h) ∙ ap (λ n. take n bytes) next),
-  list_all_more (is_in_range 0 255) bytes i 0 h ∙ and_from _ _ is.1 (ap (is_in_range 0 255) (sym e) ∙ range_byte b small),
-)
-  where
-    next : suc i ≡ i + 1
-    next = omega arith
 
 -- ---- the same for texts of forms, and for bytes of which some more are escaped
 
 pub form_decoded-nil : (text : List ℕ) → text ≡ [] → form_decoded text ≡ []
 form_decoded-nil text e = ap (λ t. map form_value_of (tokens t)) e ∙ ap (map form_value_of) tokens-nil
-
-encoded_without_push : (class : Class) (without bytes : List ℕ) (b : ℕ)
-    → encoded_without class without (bytes ++ b ∷ []) ≡ encoded_without class without bytes ++ spell (token_without class without b)
-encoded_without_push class without bytes b =
-    ap (flat_map spell) (map-append (token_without class without) bytes (b ∷ []))
-    ∙ flat_map-append spell (map (token_without class without) bytes) (token_without class without b ∷ [])
-    ∙ ap (λ u. flat_map spell (map (token_without class without) bytes) ++ u) (append-nil (spell (token_without class without b)))
-
--- the byte at a place more, after a first text
-pub written_without : (class : Class) (without first bytes done new : List ℕ) (i b : ℕ) → i < length bytes → b ≡ get_or bytes i 0 → b < 256
-    → (done ≡ first ++ encoded_without class without (take i bytes)) × (are_bytes (take i bytes) ≡ true) → new ≡ done ++ spell (token_without class without b)
-    → (new ≡ first ++ encoded_without class without (take (i + 1) bytes)) × (are_bytes (take (i + 1) bytes) ≡ true)
-written_without class without first bytes done new i b h e small is f = (
-  f ∙ ap (λ u. u ++ spell (token_without class without b)) is.0
-      ∙ append_assoc first (encoded_without class without (take i bytes)) (spell (token_without class without b))
-      ∙ ap (λ u. first ++ u) (sym (encoded_without_push class without (take i bytes) b)
-      ∙ ap (encoded_without class without) (ap (λ x. take i bytes ++ x ∷ []) e ∙ sym (take-suc bytes i 0 h) ∙ ap (λ n. take n bytes) next)),
-  list_all_more (is_in_range 0 255) bytes i 0 h ∙ and_from _ _ is.1 (ap (is_in_range 0 255) (sym e) ∙ range_byte b small),
-)
-  where
-    next : suc i ≡ i + 1
-    next = omega arith
 
 -- ---- a text and bytes, walked together
 

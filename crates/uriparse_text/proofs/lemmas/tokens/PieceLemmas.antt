@@ -1,8 +1,9 @@
 -- Texts that are rewritten piece by piece.
 use Rattle.std.proofs.Common.{◌≡◌, ℕ, suc, ◌+◌, ◌*◌, ◌<◌, ◌≤◌, Bool, true, false, cond, List, [], ◌∷◌, ◌++◌, map, length, length-append, get_or, take, drop, refl, sym, ap, ◌∙◌, arith}
 use Rattle.std.specs.Prelude.{◌==◌, ◌||◌, ◌&&◌, ◌/◌, ◌%◌, not, Option, Some, None, IfSome}
-use Rattle.std.proofs.lemmas.Bool.{and_from, false≢true, not-false, not-true, or_parts}
+use Rattle.std.proofs.lemmas.Bool.{and_from, and_parts, false≢true, not-false, not-true, or_parts}
 use Rattle.std.specs.List.{flat_map}
+use Rattle.std.specs.Int.{is_in_range}
 use Rattle.std.specs.Int.Bits.{bit_or}
 use Rattle.std.specs.Simd.Lanes.{mask_l}
 use Rattle.std.proofs.lemmas.List.{length-map}
@@ -19,7 +20,7 @@ use Rattle.uriparse_text.specs.Tokens.{is_escape, spell, tokens}
 use Rattle.uriparse_text.specs.Cuts.{up_to, from_first}
 use Rattle.uriparse_text.specs.Pieces.{Keeps}
 use Rattle.uriparse_text.proofs.lemmas.canonical.RunLemmas.{no_escape}
-use Rattle.uriparse_text.proofs.lemmas.tokens.CodingLemmas.{decoded-cons, decoded-nil, decoded-byte, encoded-nil, form_decoded-nil, range_byte}
+use Rattle.uriparse_text.proofs.lemmas.tokens.CodingLemmas.{decoded-cons, decoded-nil, decoded-byte, encoded-nil, form_decoded-nil, range_byte, small_byte}
 use Rattle.uriparse_text.proofs.lemmas.canonical.CanonicalPrefixLemmas.{masks_of_either}
 use Rattle.uriparse_text.proofs.lemmas.tokens.EscapingLemmas.{becomes, escape_digits, or_true, stay_digits, stays, stays_allowed, stays_escape, stays_plain}
 use Rattle.uriparse_text.proofs.lemmas.tokens.TokenLemmas.{escape_at, spell-tokens, tokens-byte, tokens-escape}
@@ -91,10 +92,7 @@ module _ (class : Class) where
       ap (λ v. spell (cond v (Byte b) (Escape (upper_digit_of (b / 16)) (upper_digit_of (b % 16)))) ++ flat_map spell (map (token_for class) t))
       (not-false (is_plain class b) h)
 
-  pub encoding_keeps : Keeps outside (encoded class)
-  encoding_keeps = record { nothing = encoded-nil class; stays = encoded-byte }
-
-  pub encoded-escape : (b : ℕ) (t : List ℕ) → b < 256 → outside b ≡ true → encoded class (b ∷ t) ≡ spell (escape_of b) ++ encoded class t
+  encoded-escape : (b : ℕ) (t : List ℕ) → b < 256 → outside b ≡ true → encoded class (b ∷ t) ≡ spell (escape_of b) ++ encoded class t
   unfolding encoded
   encoded-escape b t small h =
       let half : (b / 16) % 16 ≡ b / 16 = omega arith in
@@ -162,6 +160,21 @@ module _ (class : Class) where
             or_assoc (not (is_plain class b)) (is_among (take i without) b) (b == get_or without i 0)
             ∙ ap (λ v. not (is_plain class b) || v) (ap (λ v. is_among (take i without) b || v) (sym (same_test b (get_or without i 0)))
             ∙ sym (list_any_more (λ x. x == b) without i 0 l))
+
+  -- with no byte excepted
+  pub encoded_without_none : (bytes : List ℕ) → are_bytes bytes ≡ true → encoded_without class [] bytes ≡ encoded class bytes
+  encoded_without_none [] h = sym (encoded-nil class)
+  encoded_without_none (b ∷ t) h =
+      let parts = and_parts (is_in_range 0 255 b) (are_bytes t) h in
+      by_plain (is_plain class b) refl (encoded_without_none t parts.1)
+    where
+      by_plain : (v : Bool) → is_plain class b ≡ v → encoded_without class [] t ≡ encoded class t
+          → encoded_without class [] (b ∷ t) ≡ encoded class (b ∷ t)
+      by_plain true e rest =
+          without-byte [] b t (rw e refl) ∙ ap (λ u. b ∷ u) rest ∙ sym (encoded-byte b t (rw e refl))
+      by_plain false e rest =
+          without-escape [] b t (rw e refl) ∙ ap (λ u. spell (escape_of b) ++ u) rest
+          ∙ sym (encoded-escape b t (small_byte b (and_parts (is_in_range 0 255 b) (are_bytes t) h).0) (rw e refl))
 
 -- the items of a slice are bytes
 pub each_byte : (bytes : List ℕ) → ((k : ℕ) → k < length bytes → get_or bytes k 0 < 256) → are_bytes bytes ≡ true

@@ -1,13 +1,8 @@
 -- Texts that are written to the start of a buffer, piece by piece.
-use Rattle.std.proofs.Common.{◌≡◌, ℕ, ◌+◌, ◌-◌, ◌^◌, ◌<◌, ◌≤◌, List, [], ◌∷◌, ◌++◌, length, take, drop, get_or, Result, Ok, Err, refl, sym, ap, subst, ◌∙◌, append-nil, append_assoc, arith, suc}
-use Rattle.std.proofs.Math.Seq.{take-suc}
+use Rattle.std.proofs.Common.{◌≡◌, ℕ, ◌+◌, ◌-◌, ◌^◌, ◌<◌, ◌≤◌, List, [], ◌++◌, length, drop, Result, Ok, Err, refl, sym, ap, subst, ◌∙◌, append-nil, append_assoc, arith}
 use Rattle.std.proofs.lemmas.List.{drop-drop, length-append, take-append-drop}
 use Rattle.uriparse_text.specs.declared.internal.forward_buffer.TooSmall.{TooSmall}
-use Rattle.uriparse_text.specs.declared.internal.class.Class.{Class}
-use Rattle.uriparse_text.specs.Coding.{encoded, token_for}
 use Rattle.uriparse_text.specs.Starts.{Appends, LeavesRest, StartsWith, Writes}
-use Rattle.uriparse_text.specs.Tokens.{spell}
-use Rattle.uriparse_text.proofs.lemmas.tokens.CodingLemmas.{encoded_push}
 
 pub appends_none : (out : List ℕ) (len : ℕ) → Appends [] out len out len
 appends_none out len = λ t h. subst (StartsWith out len) (sym (append-nil t)) h
@@ -70,16 +65,6 @@ pub writing_last : (whole left first out : List ℕ) (begin len : ℕ) → Writi
     → Appends whole first begin out len
 writing_last whole left first out begin len w none =
     subst (λ t. Appends t first begin out len) (sym (append-nil w.written) ∙ ap (λ l. w.written ++ l) (sym none) ∙ w.later) w.appended
-
--- the text of a byte more
-pub encoded_next : (class : Class) (bytes : List ℕ) (i b : ℕ) → i < length bytes → b ≡ get_or bytes i 0
-    → encoded class (take i bytes) ++ spell (token_for class b) ≡ encoded class (take (i + 1) bytes)
-encoded_next class bytes i b h e =
-    sym (encoded_push class (take i bytes) b)
-    ∙ ap (encoded class) (ap (λ x. take i bytes ++ x ∷ []) e ∙ sym (take-suc bytes i 0 h) ∙ ap (λ n. take n bytes) next)
-  where
-    next : suc i ≡ i + 1
-    next = omega arith
 
 -- ---- what a call leaves in a buffer
 

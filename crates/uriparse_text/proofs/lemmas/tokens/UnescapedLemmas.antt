@@ -8,7 +8,7 @@ use Rattle.std.proofs.lemmas.Bool.{and_from, and_parts}
 use Rattle.std.proofs.lemmas.Bool.Decides.{same_from_decides}
 use Rattle.std.proofs.lemmas.Slice.Eq.{bytes_eq-Decides}
 use Rattle.uriparse_text.specs.declared.internal.token.Token.TheVariants.{Byte}
-use Rattle.uriparse_text.specs.declared.internal.case.Case.TheVariants.{Lowered}
+use Rattle.uriparse_text.specs.declared.internal.token.Case.TheVariants.{Lowered}
 use Rattle.uriparse_text.specs.Bytes.{percent}
 use Rattle.uriparse_text.specs.Tokens.{tokens, spell, is_token, is_well_formed}
 use Rattle.uriparse_text.specs.Canonical.{canonical_token, canonical_lowered, canonical_in}

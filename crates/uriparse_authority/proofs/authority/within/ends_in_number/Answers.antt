@@ -1,5 +1,5 @@
 use Rattle.std.proofs.Common.{ap, sym, ◌∙◌}
-use Rattle.uriparse_text.specs.declared.internal.case.Case.TheVariants.{Lowered}
+use Rattle.uriparse_text.specs.declared.internal.token.Case.TheVariants.{Lowered}
 use Rattle.uriparse_text.specs.Canonical.{canonical_lowered}
 use Rattle.uriparse_text.proofs.lemmas.canonical.CanonicalLemmas.{canonical_in-nil}
 use Rattle.uriparse_authority.specs.Within.{begins_with_digit, last_label}

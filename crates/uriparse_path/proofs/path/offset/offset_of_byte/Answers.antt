@@ -8,14 +8,14 @@ use Rattle.uriparse_path.proofs.path.offset.offset_of_byte.Goals as goal
 
 pub returns-clause-offset : goal.returns-clause-offset
 returns-clause-offset c = λ n h.
-    let front : length c.split_at_mark.result.0.now ≡ offset_within n c.args.text.now =
-    offset_of_front n c.offset_of_fault.result c.args.text.now c.split_at.result.0.now c.split_at_mark.result.0.now
-    c.split_at_mark.ensures.front c.split_at.ensures.front c.offset_of_fault.ensures.offset h in
+    let front : length c.split_at_delimiter.result.0.now ≡ offset_within n c.args.text.now =
+    offset_of_front n c.offset_of_fault.result c.args.text.now c.split_at.result.0.now c.split_at_delimiter.result.0.now
+    c.split_at_delimiter.ensures.front c.split_at.ensures.front c.offset_of_fault.ensures.offset h in
     search rules
 
 pub returns-clause-within : goal.returns-clause-within
 returns-clause-within c =
-    let front : length c.split_at_mark.result.0.now ≡ length (up_to (λ b. b == question_mark) c.split_at.result.0.now) = ap length c.split_at_mark.ensures.front in
+    let front : length c.split_at_delimiter.result.0.now ≡ length (up_to (λ b. b == question_mark) c.split_at.result.0.now) = ap length c.split_at_delimiter.ensures.front in
     let shorter = up_to-shorter (λ b. b == question_mark) c.split_at.result.0.now in
     let fine : length c.split_at.result.0.now ≡ length (take c.offset_of_fault.result c.args.text.now) = ap length c.split_at.ensures.front in
     let cut = length-take-le c.offset_of_fault.result c.args.text.now c.offset_of_fault.ensures.within in

@@ -15,15 +15,15 @@ runs-init c = (omega arith, reached_start c.args.limit c.args.ends c.args.text.n
 
 pub marks-init : goal.marks-init
 marks-init c =
-    run_begins c.args.limit c.args.ends c.args.text.now c.runs.at c.next_marks-marks.result.1 c.runs.count c.next_marks-marks.result.0
-    c.next_marks-marks.ensures.room c.runs.invariant.1 c.next_marks-marks.ensures.marks
+    run_begins c.args.limit c.args.ends c.args.text.now c.runs.at c.next_mask-marks.result.1 c.runs.count c.next_mask-marks.result.0
+    c.next_mask-marks.ensures.room c.runs.invariant.1 c.next_mask-marks.ensures.marks
 
 pub returns-then-count-limit-clause-count : goal.returns-then-count-limit-clause-count
 returns-then-count-limit-clause-count c =
     let text = c.args.text.now in
     let limit = c.args.limit in
     let ends = c.args.ends in
-    let n = c.next_marks-marks.result.1 in
+    let n = c.next_mask-marks.result.1 in
     let k = c.lowest-k.result in
     let i = c.runs.at + k in
     let low = c.lowest-k.ensures in
@@ -38,7 +38,7 @@ returns-then-is_end-clause-count c =
     let text = c.args.text.now in
     let limit = c.args.limit in
     let ends = c.args.ends in
-    let n = c.next_marks-marks.result.1 in
+    let n = c.next_mask-marks.result.1 in
     let k = c.lowest-k.result in
     let low = c.lowest-k.ensures in
     let within = run_within limit ends text c.runs.at n c.marks.count c.marks.left k c.marks.invariant low.set in
@@ -51,7 +51,7 @@ returns-then-not-is_escape-clause-count c =
     let text = c.args.text.now in
     let limit = c.args.limit in
     let ends = c.args.ends in
-    let n = c.next_marks-marks.result.1 in
+    let n = c.next_mask-marks.result.1 in
     let k = c.lowest-k.result in
     let i = c.runs.at + k in
     let low = c.lowest-k.ensures in
@@ -69,7 +69,7 @@ marks-preserved c =
     let text = c.args.text.now in
     let limit = c.args.limit in
     let ends = c.args.ends in
-    let n = c.next_marks-marks.result.1 in
+    let n = c.next_mask-marks.result.1 in
     let k = c.lowest-k.result in
     let i = c.runs.at + k in
     let low = c.lowest-k.ensures in
@@ -100,8 +100,8 @@ marks-preserved c =
 
 pub runs-preserved : goal.runs-preserved
 runs-preserved c = (
-  c.next_marks-marks.ensures.room,
-  run_ends c.args.limit c.args.ends c.args.text.now c.runs.at c.next_marks-marks.result.1 c.marks.count c.marks.left c.marks.invariant c.marks-test.false,
+  c.next_mask-marks.ensures.room,
+  run_ends c.args.limit c.args.ends c.args.text.now c.runs.at c.next_mask-marks.result.1 c.marks.count c.marks.left c.marks.invariant c.marks-test.false,
 )
 
 pub returns-clause-count : goal.returns-clause-count

@@ -18,24 +18,24 @@ runs-init c = (omega arith, reached_start c.args.limit c.args.ends c.args.text.n
 
 pub marks-init : goal.marks-init
 marks-init c =
-    let step = c.next_marks_by_two-marks.ensures in
+    let step = c.next_mask_by_two-marks.ensures in
     let short = c.runs.invariant.1.counted.short in (
-      sweep_begins c.args.limit c.args.ends c.args.text.now c.runs.at c.next_marks_by_two-marks.result.2 c.next_marks_by_two-marks.result.1 c.runs.count
-          c.next_marks_by_two-marks.result.0 c.without-left.result
+      sweep_begins c.args.limit c.args.ends c.args.text.now c.runs.at c.next_mask_by_two-marks.result.2 c.next_mask_by_two-marks.result.1 c.runs.count
+          c.next_mask_by_two-marks.result.0 c.without-left.result
           (record { room = step.room; marks = step.others; fits = omega (arith, c.if-more-limit.false, short) })
           (omega (arith, step.few)) c.runs.invariant.1 step.marks c.without-left.ensures.no_more c.without-left.ensures.gone,
-      λ h. free_begins c.args.text.now c.runs.at c.next_marks_by_two-marks.result.2 c.next_marks_by_two-marks.result.0 c.next_marks_by_two-marks.result.1
+      λ h. free_begins c.args.text.now c.runs.at c.next_mask_by_two-marks.result.2 c.next_mask_by_two-marks.result.0 c.next_mask_by_two-marks.result.1
           c.without-left.result step.marks step.others (omega (arith, step.few)) c.without-left.ensures.gone (c.runs.invariant.2 h),
     )
 
 pub bounds-text-at : goal.bounds-text-at
 bounds-text-at c =
-    sweep_within c.args.limit c.args.ends c.args.text.now c.runs.at c.next_marks_by_two-marks.result.2 c.next_marks_by_two-marks.result.1 c.runs.count
+    sweep_within c.args.limit c.args.ends c.args.text.now c.runs.at c.next_mask_by_two-marks.result.2 c.next_mask_by_two-marks.result.1 c.runs.count
     c.marks.left c.lowest-k.result c.marks.invariant.0 c.lowest-k.ensures.set
 
 pub overflow_add-result : goal.overflow_add-result
 overflow_add-result c =
-    let below = ones_below c.next_marks_by_two-marks.result.1 c.lowest-k.result in
+    let below = ones_below c.next_mask_by_two-marks.result.1 c.lowest-k.result in
     omega (arith, below, c.count_below.ensures, c.marks.invariant.0.are.fits, c.ranges.limit.fits)
 
 pub returns-then-is_end-clause-count : goal.returns-then-is_end-clause-count
@@ -43,8 +43,8 @@ returns-then-is_end-clause-count c =
     let text = c.args.text.now in
     let limit = c.args.limit in
     let ends = c.args.ends in
-    let n = c.next_marks_by_two-marks.result.2 in
-    let slashes = c.next_marks_by_two-marks.result.1 in
+    let n = c.next_mask_by_two-marks.result.2 in
+    let slashes = c.next_mask_by_two-marks.result.1 in
     let count = c.runs.count in
     let k = c.lowest-k.result in
     let low = c.lowest-k.ensures in
@@ -59,7 +59,7 @@ returns-then-is_end-clause-escaped c h =
     let low = c.lowest-k.ensures in
     let short = (c.marks.invariant.0.waiting c.lowest-k.result low.set).1 in
     free_lacks c.args.text.now (c.runs.at + c.lowest-k.result)
-    (free_to c.args.text.now c.runs.at c.next_marks_by_two-marks.result.2 c.marks.left c.lowest-k.result (c.marks.invariant.1 h) (omega (arith, short)) low.below)
+    (free_to c.args.text.now c.runs.at c.next_mask_by_two-marks.result.2 c.marks.left c.lowest-k.result (c.marks.invariant.1 h) (omega (arith, short)) low.below)
 
 pub returns-clause-escaped : goal.returns-clause-escaped
 returns-clause-escaped c h = free_lacks c.args.text.now c.runs.at (c.runs.invariant.2 h)
@@ -69,8 +69,8 @@ returns-then-not-is_escape-clause-count c =
     let text = c.args.text.now in
     let limit = c.args.limit in
     let ends = c.args.ends in
-    let n = c.next_marks_by_two-marks.result.2 in
-    let slashes = c.next_marks_by_two-marks.result.1 in
+    let n = c.next_mask_by_two-marks.result.2 in
+    let slashes = c.next_mask_by_two-marks.result.1 in
     let count = c.runs.count in
     let k = c.lowest-k.result in
     let i = c.runs.at + k in
@@ -90,8 +90,8 @@ marks-preserved c =
     let text = c.args.text.now in
     let limit = c.args.limit in
     let ends = c.args.ends in
-    let n = c.next_marks_by_two-marks.result.2 in
-    let slashes = c.next_marks_by_two-marks.result.1 in
+    let n = c.next_mask_by_two-marks.result.2 in
+    let slashes = c.next_mask_by_two-marks.result.1 in
     let count = c.runs.count in
     let k = c.lowest-k.result in
     let i = c.runs.at + k in
@@ -113,10 +113,10 @@ marks-preserved c =
 
 pub runs-preserved : goal.runs-preserved
 runs-preserved c = (
-  c.next_marks_by_two-marks.ensures.room,
-  sweep_ends c.args.limit c.args.ends c.args.text.now c.runs.at c.next_marks_by_two-marks.result.2 c.next_marks_by_two-marks.result.1 c.runs.count
+  c.next_mask_by_two-marks.ensures.room,
+  sweep_ends c.args.limit c.args.ends c.args.text.now c.runs.at c.next_mask_by_two-marks.result.2 c.next_mask_by_two-marks.result.1 c.runs.count
       c.marks.left c.marks.invariant.0 c.marks-test.false,
-  λ h. free_to c.args.text.now c.runs.at c.next_marks_by_two-marks.result.2 c.marks.left c.next_marks_by_two-marks.result.2 (c.marks.invariant.1 h)
+  λ h. free_to c.args.text.now c.runs.at c.next_mask_by_two-marks.result.2 c.marks.left c.next_mask_by_two-marks.result.2 (c.marks.invariant.1 h)
       (omega arith) (λ j _. ap (λ m. bit_at m j) c.marks-test.false ∙ bit_at-zero j),
 )
 

@@ -12,14 +12,14 @@ use Rattle.uriparse_path.proofs.path.read.split_segments.Goals as goal
 pub text_from_checked-requires : goal.text_from_checked-requires
 text_from_checked-requires c = record {
   inside =
-      piece_is_segment c.args.text.now c.marks.segments.items c.marks.start c.runs.at c.next_marks-marks.result.1 c.marks.left c.marks.invariant.0
+      piece_is_segment c.args.text.now c.marks.segments.items c.marks.start c.runs.at c.next_mask-marks.result.1 c.marks.left c.marks.invariant.0
       c.lowest.result c.lowest.ensures.set c.lowest.ensures.below c.requires.segments;
   canonical = λ e. unescaped_stays _ (lacks_piece c.args.text.now c.marks.start _ (c.requires.escaped (eqb-true c.args.escaped 0 e)));
 }
 
 pub push_reserved-requires : goal.push_reserved-requires
 push_reserved-requires c =
-    let fewer = fewer_cut c.args.text.now c.marks.segments.items c.marks.start c.runs.at c.next_marks-marks.result.1 c.marks.left c.marks.invariant.0
+    let fewer = fewer_cut c.args.text.now c.marks.segments.items c.marks.start c.runs.at c.next_mask-marks.result.1 c.marks.left c.marks.invariant.0
     c.lowest.result c.lowest.ensures.set c.lowest.ensures.below in
     let len = c.marks.invariant.2 in let room = c.marks.invariant.3 in let all = c.requires.count in omega (arith, fewer, len, room, all)
 
@@ -30,8 +30,8 @@ push_reserved-requires-2 c =
 
 pub marks-init : goal.marks-init
 marks-init c = (
-  run_begins c.args.text.now c.runs.segments.items c.runs.start c.runs.at c.next_marks-marks.result.1 c.next_marks-marks.result.0
-      c.runs.invariant.0 c.next_marks-marks.ensures.room c.next_marks-marks.ensures.marks,
+  run_begins c.args.text.now c.runs.segments.items c.runs.start c.runs.at c.next_mask-marks.result.1 c.next_mask-marks.result.0
+      c.runs.invariant.0 c.next_mask-marks.ensures.room c.next_mask-marks.ensures.marks,
   c.runs.invariant.1,
   c.runs.invariant.2,
   c.runs.invariant.3,
@@ -43,7 +43,7 @@ marks-preserved c =
     let next = c.without_lowest-left.ensures in
     let k = c.lowest.result in (
       rw (c.push_reserved.ensures.items, c.text_from_checked.ensures)
-          (run_on c.args.text.now c.marks.segments.items c.marks.start c.runs.at c.next_marks-marks.result.1 c.marks.left c.marks.invariant.0
+          (run_on c.args.text.now c.marks.segments.items c.marks.start c.runs.at c.next_mask-marks.result.1 c.marks.left c.marks.invariant.0
           k low.set low.below c.without_lowest-left.result (λ j. next.kept k j (low.set, low.below)) next.no_more (next.cleared k (low.set, low.below))),
       c.is_dotted-dotted.ensures
           ∙ any_push begins_with_dot c.marks.segments.items _ c.marks.dotted c.marks.invariant.1
@@ -56,7 +56,7 @@ marks-preserved c =
 
 pub runs-preserved : goal.runs-preserved
 runs-preserved c = (
-  run_ends c.args.text.now c.marks.segments.items c.marks.start c.runs.at c.next_marks-marks.result.1 c.marks.left c.marks.invariant.0 c.marks-test.false,
+  run_ends c.args.text.now c.marks.segments.items c.marks.start c.runs.at c.next_mask-marks.result.1 c.marks.left c.marks.invariant.0 c.marks-test.false,
   c.marks.invariant.1,
   c.marks.invariant.2,
   c.marks.invariant.3,

@@ -9,15 +9,15 @@ use Rattle.uriparse_path.proofs.path.text.feed_path_text.Goals as goal
 
 pub pieces-smaller : goal.pieces-smaller
 pieces-smaller g c =
-    let following = c.without_mark-left.ensures ∙ ap part c.split_at_mark.ensures.rest in
-    subst (λ o. length (pieces_left (option_copied c.without_mark-left.result)) < length (pieces_left (option_copied o))) (sym c.in-Some.is)
-    (fewer_left c.in-Some.rest.now (option_copied c.without_mark-left.result) following)
+    let following = c.without_delimiter-left.ensures ∙ ap part c.split_at_delimiter.ensures.rest in
+    subst (λ o. length (pieces_left (option_copied c.without_delimiter-left.result)) < length (pieces_left (option_copied o))) (sym c.in-Some.is)
+    (fewer_left c.in-Some.rest.now (option_copied c.without_delimiter-left.result) following)
 
 pub pieces-preserved : goal.pieces-preserved
 pieces-preserved g c =
-    let following = c.without_mark-left.ensures ∙ ap part c.split_at_mark.ensures.rest in
-    fed_more g.H.Hasher.write c.pieces.state c.feed_piece.new.state c.in-Some.rest.now c.split_at_mark.result.0.now
-    (option_copied c.without_mark-left.result) c.split_at_mark.ensures.front following c.feed_piece.ensures
+    let following = c.without_delimiter-left.ensures ∙ ap part c.split_at_delimiter.ensures.rest in
+    fed_more g.H.Hasher.write c.pieces.state c.feed_piece.new.state c.in-Some.rest.now c.split_at_delimiter.result.0.now
+    (option_copied c.without_delimiter-left.result) c.split_at_delimiter.ensures.front following c.feed_piece.ensures
     ∙ ap (λ o. fold g.H.Hasher.write c.pieces.state (fed_each (pieces_left (option_copied o)))) (sym c.in-Some.is)
     ∙ c.pieces.invariant
 

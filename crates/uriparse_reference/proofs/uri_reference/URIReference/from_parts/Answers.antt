@@ -13,6 +13,6 @@ invariant_of-result c =
     let is_authority : IfSome c.args.authority authority.Valid = search rules in
     let is_query : IfSome c.args.query IsQuery = search rules in
     let is_fragment : IfSome c.args.fragment IsFragment = search rules in
-    tested_parts given c.fitted_path.result c.is_some-has_scheme.result c.is_some-has_authority.result c.fit_refusal.result
-    (search rules) is_authority c.fit_refusal.ensures.listed is_query is_fragment c.is_some-has_scheme.ensures
-    c.is_some-has_authority.ensures c.fit_refusal.ensures.refusal c.in-None.is c.fitted_path.ensures
+    tested_parts given c.adjusted_path.result c.is_some-has_scheme.result c.is_some-has_authority.result c.path_conflict.result
+    (search rules) is_authority c.path_conflict.ensures.listed is_query is_fragment c.is_some-has_scheme.ensures
+    c.is_some-has_authority.ensures c.path_conflict.ensures.refusal c.in-None.is c.adjusted_path.ensures

@@ -11,8 +11,8 @@ use Rattle.uriparse_reference.proofs.uri_reference.URIReference.remove_authority
 -- the path may be without an authority
 fits : (c : In-None) → path_refusal (is_some c.self.inside.scheme) false (text c.self.inside.path) ≡ None
 fits c =
-    no_refusal (is_some c.self.inside.scheme) false c.is_some.result false (text c.self.inside.path) c.fit_refusal.result c.is_some.ensures refl
-    c.fit_refusal.ensures.refusal c.in-None.is
+    no_refusal (is_some c.self.inside.scheme) false c.is_some.result false (text c.self.inside.path) c.path_conflict.result c.is_some.ensures refl
+    c.path_conflict.ensures.refusal c.in-None.is
 
 pub invariant_of-self : goal.invariant_of-self
 invariant_of-self c =

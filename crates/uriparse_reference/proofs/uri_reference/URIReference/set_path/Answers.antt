@@ -4,6 +4,6 @@ use Rattle.uriparse_reference.proofs.uri_reference.URIReference.set_path.Goals a
 
 pub invariant_of-self : goal.invariant_of-self
 invariant_of-self c =
-    tested_path _ c.args.path c.put_path.new.held c.is_some.result c.is_some-has_authority.result c.fit_refusal.result c.self.invariant
-    c.fit_refusal.ensures.listed c.is_some.ensures c.is_some-has_authority.ensures c.fit_refusal.ensures.refusal c.in-None.is
-    (c.put_path.ensures ∙ c.fitted_path.ensures)
+    tested_path _ c.args.path c.put_path.new.held c.is_some.result c.is_some-has_authority.result c.path_conflict.result c.self.invariant
+    c.path_conflict.ensures.listed c.is_some.ensures c.is_some-has_authority.ensures c.path_conflict.ensures.refusal c.in-None.is
+    (c.put_path.ensures ∙ c.adjusted_path.ensures)

@@ -13,7 +13,7 @@ use Rattle.uriparse_reference.proofs.uri_reference.URIReference.set_scheme.Goals
 fits : (c : In-None) → path_refusal (is_some c.args.scheme) (is_some c.self.inside.authority) (text c.self.inside.path) ≡ None
 fits c =
     no_refusal (is_some c.args.scheme) (is_some c.self.inside.authority) c.is_some.result c.is_some-2.result (text c.self.inside.path)
-    c.fit_refusal.result c.is_some.ensures c.is_some-2.ensures c.fit_refusal.ensures.refusal c.in-None.is
+    c.path_conflict.result c.is_some.ensures c.is_some-2.ensures c.path_conflict.ensures.refusal c.in-None.is
 
 pub invariant_of-self : goal.invariant_of-self
 invariant_of-self c =

@@ -1,5 +1,6 @@
 use Rattle.std.proofs.Common.{◌≡◌, false, Result, Ok, Err, IfOk, ap, subst}
 use Rattle.std.specs.Result.{IsErrAnd}
+use Rattle.std.proofs.lemmas.Bool.{false≢true}
 use Rattle.uriparse_path.specs.Path.{starts_with_empty_segment}
 use Rattle.uriparse_path.specs.Dots.{without_dots}
 use Rattle.uriparse_path.specs.Edits.{with_dot_prefix}
@@ -19,15 +20,18 @@ remove_dots-requires c h =
     (made_of c.merged_path.result (merging c.args.base.now c.args.path.now) c.in_ok-merged.merged c.in_ok-merged.was c.merged_path.ensures.answer)
     (c.requires h)
 
-pub returns-in_err-merged : goal.returns-in_err-merged
-returns-in_err-merged c =
+pub returns-in_err-merged-clause-answer : goal.returns-in_err-merged-clause-answer
+returns-in_err-merged-clause-answer c =
     let error = c.in_err-merged.field-0.0 in
     not_made (merging c.args.base.now c.args.path.now) c.merged_path.result error c.from_residual.result
     (λ p. if c.args.has_authority then without_dots p else with_dot_prefix (without_dots p)) c.merged_path.ensures.answer c.merged_path.ensures.always
     c.in_err-merged.was (error_is c.from_residual.result error c.from_residual.ensures.1)
 
-pub returns : goal.returns
-returns c =
+pub returns-in_err-merged-clause-takes_no_memory : goal.returns-in_err-merged-clause-takes_no_memory
+returns-in_err-merged-clause-takes_no_memory c base own = absurd (false≢true (c.in_err-merged.ensures.takes_no_memory base own))
+
+pub returns-clause-answer : goal.returns-clause-answer
+returns-clause-answer c =
     let path = c.in_ok-merged.merged in
     merged_made c.merged_path.result (merging c.args.base.now c.args.path.now) path c.args.has_authority c.remove_dots.new.path c.in_ok-merged.was
     c.merged_path.ensures.answer c.remove_dots.ensures

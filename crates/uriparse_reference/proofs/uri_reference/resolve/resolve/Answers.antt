@@ -1,5 +1,6 @@
 use Rattle.std.proofs.Common.{◌≡◌, ℕ, List, Bool, Bor, None, Option, Some, Ok, Err, ap, ◌∙◌, sym, subst, refl, rules, true, false, ◌||◌}
-use Rattle.std.specs.Prelude.{is_some}
+use Rattle.std.proofs.lemmas.Bool.{false≢true}
+use Rattle.std.specs.Prelude.{IsOk, is_some, length}
 use Rattle.std.specs.Option.{option_copied, option_or}
 use Rattle.uriparse_path.specs.Path.{PathParts, text}
 use Rattle.uriparse_scheme.specs.declared.scheme.Scheme.{Scheme}
@@ -58,7 +59,7 @@ found c =
       | then-is_some w ↦
           subst (λ p. IsTarget (target b r) (option_copied p.0) (option_copied p.1) (option_copied p.3) r.fragment p.2) (sym w.path-is)
           (scheme_target b r (option_copied w.scheme-then-is_some.result) (option_copied w.authority-authority.result) (option_copied c.query-query.result)
-          w.path_without_dots-path.result w.is_some-then-is_some.result own c.path-own.ensures.path valid w.path_without_dots-path.ensures
+          w.path_without_dots-path.result w.is_some-then-is_some.result own c.path-own.ensures.path valid w.path_without_dots-path.ensures.answer
           (sym has_scheme ∙ w.if-is_some.true)
           (there w.authority-authority.result r.authority w.is_some-then-is_some.result w.is_some-then-is_some.ensures w.authority-authority.ensures)
           w.scheme-then-is_some.ensures w.authority-authority.ensures c.query-query.ensures)
@@ -66,7 +67,7 @@ found c =
           subst (λ p. IsTarget (target b r) (option_copied p.0) (option_copied p.1) (option_copied p.3) r.fragment p.2) (sym w.path-is)
           (authority_target b r (option_copied w.scheme-then-is_some-2.result) (option_copied w.authority-then-is_some-2.result)
           (option_copied c.query-query.result) w.path_without_dots-path-then-is_some-2.result true own c.path-own.ensures.path valid
-          w.path_without_dots-path-then-is_some-2.ensures (sym has_scheme ∙ w.if-is_some.false)
+          w.path_without_dots-path-then-is_some-2.ensures.answer (sym has_scheme ∙ w.if-is_some.false)
           (sym (there w.authority.result r.authority w.is_some-else-is_some.result w.is_some-else-is_some.ensures w.authority.ensures) ∙ w.if-is_some-2.true)
           refl w.scheme-then-is_some-2.ensures w.authority-then-is_some-2.ensures c.query-query.ensures)
       | else-is_some+else-is_some-2+then-is_empty w ↦
@@ -76,13 +77,13 @@ found c =
           (ap (λ v. v || is_some r.authority) (sym has_scheme ∙ w.if-is_some.false)
           ∙ sym (there w.authority.result r.authority w.is_some-else-is_some.result w.is_some-else-is_some.ensures w.authority.ensures) ∙ w.if-is_some-2.false)
           (emptiness own r.path w.is_empty.result true c.path-own.ensures.path w.is_empty.ensures w.if-is_empty.true)
-          w.same_path-path.ensures w.scheme-then-is_empty.ensures w.authority-then-is_empty.ensures
+          w.same_path-path.ensures.answer w.scheme-then-is_empty.ensures w.authority-then-is_empty.ensures
           (either c.query-query.result w.query.result w.or-query.result r.query b.query w.or-query.ensures c.query-query.ensures w.query.ensures))
       | else-is_some+else-is_some-2+else-is_empty+then-is_absolute w ↦
           subst (λ p. IsTarget (target b r) (option_copied p.0) (option_copied p.1) (option_copied p.3) r.fragment p.2) (sym w.path-is)
           (rooted_target b r (option_copied w.scheme-then-is_absolute.result) (option_copied w.authority-then-is_absolute-2.result)
           (option_copied c.query-query.result) w.path_without_dots-path-then-is_absolute.result w.is_some-then-is_absolute.result own
-          c.path-own.ensures.path valid w.path_without_dots-path-then-is_absolute.ensures
+          c.path-own.ensures.path valid w.path_without_dots-path-then-is_absolute.ensures.answer
           (ap (λ v. v || is_some r.authority) (sym has_scheme ∙ w.if-is_some.false)
           ∙ sym (there w.authority.result r.authority w.is_some-else-is_some.result w.is_some-else-is_some.ensures w.authority.ensures) ∙ w.if-is_some-2.false)
           (emptiness own r.path w.is_empty.result false c.path-own.ensures.path w.is_empty.ensures w.if-is_empty.false)
@@ -98,11 +99,32 @@ found c =
           (emptiness own r.path w.is_empty.result false c.path-own.ensures.path w.is_empty.ensures w.if-is_empty.false)
           (sym w.is_absolute.ensures ∙ w.if-is_absolute.false)
           (option_copied w.scheme-else-is_absolute.result) (option_copied w.authority-else-is_absolute-2.result) (option_copied c.query-query.result)
-          w.merged_without_dots-path.result w.is_some-else-is_absolute.result w.merged_without_dots-path.ensures
+          w.merged_without_dots-path.result w.is_some-else-is_absolute.result w.merged_without_dots-path.ensures.answer
           (there w.authority-else-is_absolute.result b.authority w.is_some-else-is_absolute.result w.is_some-else-is_absolute.ensures
           w.authority-else-is_absolute.ensures)
           w.scheme-else-is_absolute.ensures w.authority-else-is_absolute-2.ensures c.query-query.ensures)
     ]
+
+-- the path takes no memory if both paths are one segment
+made : (c : After-branch-path) → length c.args.base.now.path.segments ≡ 1 → length c.args.reference.now.path.segments ≡ 1
+    → IsOk c.if-is_some.path.2
+made c base own =
+    let alone : length c.path-own.result.now.segments ≡ 1 = ap (λ p. length p.segments) c.path-own.ensures.path ∙ own in
+    let first : length c.path-inherited.result.now.segments ≡ 1 = ap (λ p. length p.segments) c.path-inherited.ensures.path ∙ base in
+    elim c.if-is_some.branch [
+      | then-is_some w ↦ subst (λ p. IsOk p.2) (sym w.path-is) (w.path_without_dots-path.ensures.takes_no_memory alone)
+      | else-is_some+then-is_some-2 w ↦
+          subst (λ p. IsOk p.2) (sym w.path-is) (w.path_without_dots-path-then-is_some-2.ensures.takes_no_memory alone)
+      | else-is_some+else-is_some-2+then-is_empty w ↦ subst (λ p. IsOk p.2) (sym w.path-is) (w.same_path-path.ensures.takes_no_memory first)
+      | else-is_some+else-is_some-2+else-is_empty+then-is_absolute w ↦
+          subst (λ p. IsOk p.2) (sym w.path-is) (w.path_without_dots-path-then-is_absolute.ensures.takes_no_memory alone)
+      | else-is_some+else-is_some-2+else-is_empty+else-is_absolute w ↦
+          subst (λ p. IsOk p.2) (sym w.path-is) (w.merged_without_dots-path.ensures.takes_no_memory first alone)
+    ]
+
+pub returns-in_err-path-clause-takes_no_memory : goal.returns-in_err-path-clause-takes_no_memory
+returns-in_err-path-clause-takes_no_memory c base own =
+    absurd (false≢true (subst IsOk c.in_err-path.was (made c.before.before base own)))
 
 pub returns-in_err-path-clause-answer : goal.returns-in_err-path-clause-answer
 returns-in_err-path-clause-answer c =

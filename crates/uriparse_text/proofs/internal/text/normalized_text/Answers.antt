@@ -1,6 +1,6 @@
 use Rattle.std.proofs.Common.{◌≡◌, ℕ, List, sym, ap, subst, ◌∙◌}
 use Rattle.uriparse_text.specs.declared.internal.class.Class.{Class}
-use Rattle.uriparse_text.specs.declared.internal.case.Case.{Case}
+use Rattle.uriparse_text.specs.declared.internal.token.Case.{Case}
 use Rattle.uriparse_text.specs.Faults.{IsIn}
 use Rattle.uriparse_text.specs.Canonical.{canonical_in}
 use Rattle.uriparse_text.specs.Spelling.{spelled}

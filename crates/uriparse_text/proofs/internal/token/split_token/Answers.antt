@@ -4,12 +4,12 @@ use Rattle.uriparse_text.specs.Tokens.{tokens}
 use Rattle.uriparse_text.proofs.lemmas.tokens.TokenLemmas.{tokens-escape, tokens-byte}
 use Rattle.uriparse_text.proofs.internal.token.split_token.Goals as goal
 
-pub returns-then-begins_escape-clause-cut : goal.returns-then-begins_escape-clause-cut
-returns-then-begins_escape-clause-cut c =
+pub returns-then-is_escape-clause-cut : goal.returns-then-is_escape-clause-cut
+returns-then-is_escape-clause-cut c =
     let front : c.args.text.now ≡ c.in_ok-b.field-0-0.now ∷ c.in_ok-b.after.now = search rules in
     rw (take_rest c.in_ok-b.after.now 2) (ap tokens front ∙ tokens-escape _ _ (cc))
 
-pub returns-else-begins_escape-clause-cut : goal.returns-else-begins_escape-clause-cut
-returns-else-begins_escape-clause-cut c =
+pub returns-else-is_escape-clause-cut : goal.returns-else-is_escape-clause-cut
+returns-else-is_escape-clause-cut c =
     let front : c.args.text.now ≡ c.in_ok-b.field-0-0.now ∷ c.in_ok-b.after.now = search rules in
     ap tokens front ∙ tokens-byte _ _ (cc)

@@ -11,26 +11,26 @@ loop-rest-init g c = seeking_first (g.T.PairTest.passes c.args.test.now) c.args.
 pub loop-rest-smaller : goal.loop-rest-smaller
 loop-rest-smaller g c =
     let some : option_copied c.loop-rest.rest ≡ Some c.in-Some.left.now = search rules in
-    next_smaller _ c.in-Some.left.now _ some (c.without_mark-rest.ensures ∙ ap part c.split_at_mark.ensures.rest)
+    next_smaller _ c.in-Some.left.now _ some (c.without_delimiter-rest.ensures ∙ ap part c.split_at_delimiter.ensures.rest)
 
 pub loop-rest-preserved : goal.loop-rest-preserved
 loop-rest-preserved g c =
     let some : option_copied c.loop-rest.rest ≡ Some c.in-Some.left.now = search rules in
     let no : c.has.result ≡ false = search rules in
-    seeking_next _ _ _ c.in-Some.left.now _ _ _ c.loop-rest.invariant some c.split_at_mark.ensures.front c.has.ensures no
-    (c.without_mark-rest.ensures ∙ ap part c.split_at_mark.ensures.rest)
+    seeking_next _ _ _ c.in-Some.left.now _ _ _ c.loop-rest.invariant some c.split_at_delimiter.ensures.front c.has.ensures no
+    (c.without_delimiter-rest.ensures ∙ ap part c.split_at_delimiter.ensures.rest)
 
 pub returns-then-has-clause-some : goal.returns-then-has-clause-some
 returns-then-has-clause-some g c =
     let some : option_copied c.loop-rest.rest ≡ Some c.in-Some.left.now = search rules in
     let yes : c.has.result ≡ true = search rules in
-    sym (any_at _ _ c.in-Some.left.now (seeking_found _ _ _ c.in-Some.left.now _ _ c.loop-rest.invariant some c.split_at_mark.ensures.front c.has.ensures yes))
+    sym (any_at _ _ c.in-Some.left.now (seeking_found _ _ _ c.in-Some.left.now _ _ c.loop-rest.invariant some c.split_at_delimiter.ensures.front c.has.ensures yes))
 
 pub returns-then-has-clause-place : goal.returns-then-has-clause-place
 returns-then-has-clause-place g c =
     let some : option_copied c.loop-rest.rest ≡ Some c.in-Some.left.now = search rules in
     let yes : c.has.result ≡ true = search rules in
-    seeking_found _ _ _ c.in-Some.left.now _ _ c.loop-rest.invariant some c.split_at_mark.ensures.front c.has.ensures yes
+    seeking_found _ _ _ c.in-Some.left.now _ _ c.loop-rest.invariant some c.split_at_delimiter.ensures.front c.has.ensures yes
 
 pub returns-clause-some : goal.returns-clause-some
 returns-clause-some g c =

@@ -13,25 +13,25 @@ use Rattle.uriparse_text.proofs.query.put.append_others.Goals as goal
 pub loop-rest-smaller-then-not-has : goal.loop-rest-smaller-then-not-has
 loop-rest-smaller-then-not-has g c =
     let some : option_copied c.loop-rest.rest ≡ Some c.in-Some.left.now = search rules in
-    next_smaller _ c.in-Some.left.now _ some (c.without_mark-rest.ensures ∙ ap part c.split_at_mark.ensures.rest)
+    next_smaller _ c.in-Some.left.now _ some (c.without_delimiter-rest.ensures ∙ ap part c.split_at_delimiter.ensures.rest)
 
 pub loop-rest-smaller : goal.loop-rest-smaller
 loop-rest-smaller g c =
     let some : option_copied c.loop-rest.rest ≡ Some c.in-Some.left.now = search rules in
-    next_smaller _ c.in-Some.left.now _ some (c.without_mark-rest.ensures ∙ ap part c.split_at_mark.ensures.rest)
+    next_smaller _ c.in-Some.left.now _ some (c.without_delimiter-rest.ensures ∙ ap part c.split_at_delimiter.ensures.rest)
 
 pub loop-rest-preserved-then-not-has : goal.loop-rest-preserved-then-not-has
 loop-rest-preserved-then-not-has g c =
     let passes = g.T.PairTest.passes c.args.test.now in
     let some : option_copied c.loop-rest.rest ≡ Some c.in-Some.left.now = search rules in
     let fails : c.has.result ≡ false = search rules in
-    let cutting = c.without_mark-rest.ensures ∙ ap part c.split_at_mark.ensures.rest in
-    let piece = c.split_at_mark.result.0.now in
-    let more = led (filter (λ p. not (passes p)) (pairs_left (option_copied c.without_mark-rest.result))) in
+    let cutting = c.without_delimiter-rest.ensures ∙ ap part c.split_at_delimiter.ensures.rest in
+    let piece = c.split_at_delimiter.result.0.now in
+    let more = led (filter (λ p. not (passes p)) (pairs_left (option_copied c.without_delimiter-rest.result))) in
     writing_next _ _ more piece _ _ _ _ _ _
     (writing_next _ _ (piece ++ more) (ampersand ∷ []) _ _ _ _ _ _ c.loop-rest.invariant
-    (led_on passes (option_copied c.loop-rest.rest) c.in-Some.left.now piece (option_copied c.without_mark-rest.result) c.has.result some
-    c.split_at_mark.ensures.front cutting c.has.ensures fails)
+    (led_on passes (option_copied c.loop-rest.rest) c.in-Some.left.now piece (option_copied c.without_delimiter-rest.result) c.has.result some
+    c.split_at_delimiter.ensures.front cutting c.has.ensures fails)
     c.append-total.ensures.appends c.append-total.ensures.room c.append-total.ensures.rest)
     refl c.append-total-then-not-has.ensures.appends c.append-total-then-not-has.ensures.room c.append-total-then-not-has.ensures.rest
 
@@ -40,9 +40,9 @@ loop-rest-preserved g c =
     let passes = g.T.PairTest.passes c.args.test.now in
     let some : option_copied c.loop-rest.rest ≡ Some c.in-Some.left.now = search rules in
     let passing : c.has.result ≡ true = search rules in
-    let cutting = c.without_mark-rest.ensures ∙ ap part c.split_at_mark.ensures.rest in
+    let cutting = c.without_delimiter-rest.ensures ∙ ap part c.split_at_delimiter.ensures.rest in
     subst
     (λ t. Writing (led (filter (λ p. not (passes p)) (pairs_left (option_copied c.args.pairs)))) t c.args.out.now c.args.len c.loop-rest.out c.loop-rest.total)
-    (led_past passes (option_copied c.loop-rest.rest) c.in-Some.left.now c.split_at_mark.result.0.now (option_copied c.without_mark-rest.result) c.has.result some
-    c.split_at_mark.ensures.front cutting c.has.ensures passing)
+    (led_past passes (option_copied c.loop-rest.rest) c.in-Some.left.now c.split_at_delimiter.result.0.now (option_copied c.without_delimiter-rest.result) c.has.result some
+    c.split_at_delimiter.ensures.front cutting c.has.ensures passing)
     c.loop-rest.invariant

@@ -8,27 +8,27 @@ use Rattle.uriparse_text.proofs.query.without.other_pieces.Goals as goal
 pub loop-rest-smaller-in-Continue-branch-3 : goal.loop-rest-smaller-in-Continue-branch-3
 loop-rest-smaller-in-Continue-branch-3 g c =
     let some : option_copied c.loop-rest.rest ≡ Some c.in-Some.left.now = search rules in
-    next_smaller _ c.in-Some.left.now _ some (c.without_mark-rest.ensures ∙ ap part c.split_at_mark.ensures.rest)
+    next_smaller _ c.in-Some.left.now _ some (c.without_delimiter-rest.ensures ∙ ap part c.split_at_delimiter.ensures.rest)
 
 pub loop-rest-smaller : goal.loop-rest-smaller
 loop-rest-smaller g c =
     let some : option_copied c.loop-rest.rest ≡ Some c.in-Some.left.now = search rules in
-    next_smaller _ c.in-Some.left.now _ some (c.without_mark-rest.ensures ∙ ap part c.split_at_mark.ensures.rest)
+    next_smaller _ c.in-Some.left.now _ some (c.without_delimiter-rest.ensures ∙ ap part c.split_at_delimiter.ensures.rest)
 
 pub loop-rest-preserved-in-Continue-branch-3 : goal.loop-rest-preserved-in-Continue-branch-3
 loop-rest-preserved-in-Continue-branch-3 g c =
     let some : option_copied c.loop-rest.rest ≡ Some c.in-Some.left.now = search rules in
     let no : c.has.result ≡ false = search rules in
-    let more : c.push.new.self.items ≡ (c.loop-rest.text.items ++ c.split_at_mark.result.0.now) ++ ampersand ∷ [] = search rules in
-    next_on (TestStep (g.T.PairTest.passes c.args.test.now)) _ _ _ _ _ c.in-Some.left.now _ _ _ c.has.result _ c.loop-rest.invariant some c.split_at_mark.ensures.front c.has.ensures no
-    (c.without_mark-rest.ensures ∙ ap part c.split_at_mark.ensures.rest) more
+    let more : c.push.new.self.items ≡ (c.loop-rest.text.items ++ c.split_at_delimiter.result.0.now) ++ ampersand ∷ [] = search rules in
+    next_on (TestStep (g.T.PairTest.passes c.args.test.now)) _ _ _ _ _ c.in-Some.left.now _ _ _ c.has.result _ c.loop-rest.invariant some c.split_at_delimiter.ensures.front c.has.ensures no
+    (c.without_delimiter-rest.ensures ∙ ap part c.split_at_delimiter.ensures.rest) more
 
 pub loop-rest-preserved : goal.loop-rest-preserved
 loop-rest-preserved g c =
     let some : option_copied c.loop-rest.rest ≡ Some c.in-Some.left.now = search rules in
     let yes : c.has.result ≡ true = search rules in
-    next_past (TestStep (g.T.PairTest.passes c.args.test.now)) _ _ _ _ _ c.in-Some.left.now _ _ c.has.result _ c.loop-rest.invariant some c.split_at_mark.ensures.front c.has.ensures yes
-    (c.without_mark-rest.ensures ∙ ap part c.split_at_mark.ensures.rest)
+    next_past (TestStep (g.T.PairTest.passes c.args.test.now)) _ _ _ _ _ c.in-Some.left.now _ _ c.has.result _ c.loop-rest.invariant some c.split_at_delimiter.ensures.front c.has.ensures yes
+    (c.without_delimiter-rest.ensures ∙ ap part c.split_at_delimiter.ensures.rest)
 
 pub returns : goal.returns
 returns g c =

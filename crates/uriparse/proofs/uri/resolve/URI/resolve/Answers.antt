@@ -1,5 +1,6 @@
-use Rattle.std.proofs.Common.{◌≡◌, true, Ok, Err, ap, subst, ◌∙◌}
-use Rattle.std.specs.Prelude.{is_some}
+use Rattle.std.proofs.Common.{◌≡◌, true, Ok, Err, ap, subst, sym, ◌∙◌}
+use Rattle.std.proofs.lemmas.Bool.{false≢true}
+use Rattle.std.specs.Prelude.{is_some, length}
 use Rattle.uriparse_text.specs.declared.segment.error.PathError.TheVariants as paths
 use Rattle.uriparse_reference.specs.declared.uri_reference.error.URIReferenceError.TheVariants as references
 use Rattle.uriparse_reference.specs.Reference.{Parts, Valid}
@@ -14,6 +15,10 @@ returns-in-Err-clause-answer c =
     refusal_told (target c.args.self.now c.args.reference.now) c.in-Err.error c.map_error.result c.map_error.ensures
     (subst (λ p. Answers (references.Path paths.ExceededMaximumLength) (references.Path paths.OutOfMemory) (target p c.args.reference.now)
     (Err c.in-Err.error)) c.self.view_is c.in-Err.ensures.answer)
+
+pub returns-in-Err-clause-takes_no_memory : goal.returns-in-Err-clause-takes_no_memory
+returns-in-Err-clause-takes_no_memory c base own =
+    absurd (false≢true (c.in-Err.ensures.takes_no_memory (subst (λ p. length p.path.segments ≡ 1) (sym c.self.view_is) base) own))
 
 pub returns-in-Err-clause-equal : goal.returns-in-Err-clause-equal
 returns-in-Err-clause-equal c b q v w e f =

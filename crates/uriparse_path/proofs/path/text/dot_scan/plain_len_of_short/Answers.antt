@@ -10,8 +10,8 @@ pub runs-preserved : goal.runs-preserved
 runs-preserved c =
     let t = c.args.text.now in
     let at = c.runs.at in
-    let len = c.next_marks_by_two-slashes.result.2 in
-    let marks = c.next_marks_by_two-slashes.ensures in
+    let len = c.next_mask_by_two-slashes.result.2 in
+    let marks = c.next_mask_by_two-slashes.ensures in
     let first : (c.runs.begins && may_begin_dot_segment (slice_index_or t at 0)) ≡ false = sym c.may_begin_dot_segment.ensures ∙ c.if-may_begin_dot_segment.false in
     let long : at + len - at ≡ len = omega arith in
     let free : lacks percent (take len (drop at t)) ≡ true =
@@ -21,7 +21,7 @@ runs-preserved c =
       begins = sym (begins_after t (at + len) (omega (arith, marks.some c.runs-test.true)));
       none = more_heads t at len c.runs.invariant.none
           (ap (λ v. v && may_begin_dot_segment (slice_index_or t at 0)) (sym c.runs.invariant.begins) ∙ first)
-          (marked_apart t at len c.next_marks_by_two-slashes.result.0 c.next_marks_by_two-slashes.result.1 marks.marks marks.others
+          (marked_apart t at len c.next_mask_by_two-slashes.result.0 c.next_mask_by_two-slashes.result.1 marks.marks marks.others
           (c.has_adjacent.ensures c.if-has_adjacent.false));
       escapes = lacks_more t at len c.runs.invariant.escapes free;
     }

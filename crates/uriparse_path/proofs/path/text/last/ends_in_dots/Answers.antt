@@ -12,8 +12,8 @@ returns-in-Some c =
     let t = c.args.text.now in
     let at = c.in-Some.at in
     let is : IsLastDots at t = subst (λ o. IsLast o t) c.in-Some.is c.requires in
-    let following : c.split_at_mark.result.1.now ≡ from_first is_slash (drop at t) =
-    c.split_at_mark.ensures.rest ∙ ap (from_first is_slash) (take_rest t at) in
+    let following : c.split_at_delimiter.result.1.now ≡ from_first is_slash (drop at t) =
+    c.split_at_delimiter.ensures.rest ∙ ap (from_first is_slash) (take_rest t at) in
     c.is_empty.ensures ∙ ap (λ u. nat_eq (length u) 0) following ∙ ends_at t at is
 
 pub returns-in-None : goal.returns-in-None

@@ -9,9 +9,9 @@ use Rattle.uriparse_path.proofs.path.text.last.has_dots_first.Goals as goal
 
 pub is_dots-requires : goal.is_dots-requires
 is_dots-requires c =
-    subst (λ s. is_segment s ≡ true) (sym c.split_at_mark.ensures.front)
+    subst (λ s. is_segment s ≡ true) (sym c.split_at_delimiter.ensures.front)
     (and_parts _ _ (sym (ap (list_all is_segment) (pieces_cut c.args.text.now)) ∙ c.requires)).0
 
 pub returns : goal.returns
 returns c =
-    c.is_dots.ensures ∙ ap is_dot_segment c.split_at_mark.ensures.front ∙ sym (ap (is_first is_dot_segment) (pieces_cut c.args.text.now))
+    c.is_dots.ensures ∙ ap is_dot_segment c.split_at_delimiter.ensures.front ∙ sym (ap (is_first is_dot_segment) (pieces_cut c.args.text.now))

@@ -22,17 +22,17 @@ pub checked_text-requires : goal.checked_text-requires
 checked_text-requires c =
     let left = c.in_ok-left.left.now in
     let query : IsQuery c.as_bytes.result.now = search rules in
-    let value : option_copied c.without_mark.result ≡ after equals_sign (before ampersand left) =
-    c.without_mark.ensures ∙ ap part c.split_at_mark-2.ensures.rest ∙ ap (after equals_sign) c.split_at_mark.ensures.front in
-    subst IsQuery (sym (or_empty c.without_mark.result _ _ c.unwrap_or.ensures refl ∙ ap (λ o. unwrap_or o []) value))
+    let value : option_copied c.without_delimiter.result ≡ after equals_sign (before ampersand left) =
+    c.without_delimiter.ensures ∙ ap part c.split_at_delimiter-2.ensures.rest ∙ ap (after equals_sign) c.split_at_delimiter.ensures.front in
+    subst IsQuery (sym (or_empty c.without_delimiter.result _ _ c.unwrap_or.ensures refl ∙ ap (λ o. unwrap_or o []) value))
     (query_or_empty (after equals_sign (before ampersand left)) (value_query (is_named c.args.name.now) c.as_bytes.result.now left c.in_ok-left.ensures.place query))
 
 pub returns : goal.returns
 returns c =
     let left = c.in_ok-left.left.now in
-    let value : option_copied c.without_mark.result ≡ after equals_sign (before ampersand left) =
-    c.without_mark.ensures ∙ ap part c.split_at_mark-2.ensures.rest ∙ ap (after equals_sign) c.split_at_mark.ensures.front in
-    ap Some (c.checked_text.ensures ∙ or_empty c.without_mark.result _ _ c.unwrap_or.ensures refl ∙ ap (λ o. unwrap_or o []) value)
+    let value : option_copied c.without_delimiter.result ≡ after equals_sign (before ampersand left) =
+    c.without_delimiter.ensures ∙ ap part c.split_at_delimiter-2.ensures.rest ∙ ap (after equals_sign) c.split_at_delimiter.ensures.front in
+    ap Some (c.checked_text.ensures ∙ or_empty c.without_delimiter.result _ _ c.unwrap_or.ensures refl ∙ ap (λ o. unwrap_or o []) value)
     ∙ sym (ap (option_map (λ (p : Pair). unwrap_or p.1 []))
     (ap (λ q. find (is_named c.args.name.now) (pairs q)) (sym c.as_bytes.ensures.value)
     ∙ find_at (is_named c.args.name.now) c.as_bytes.result.now left c.in_ok-left.ensures.place))

@@ -25,10 +25,10 @@ returns-clause-appends c =
     let new : Pair = (c.args.self.now.0.name.now, option_copied c.args.self.now.0.value) in
     let left = c.in-Some.left.now in
     let at = c.in-Some.ensures.place in
-    let cutting : option_copied c.without_mark.result ≡ after ampersand left = c.without_mark.ensures ∙ ap part c.split_at_mark.ensures.rest in
+    let cutting : option_copied c.without_delimiter.result ≡ after ampersand left = c.without_delimiter.ensures ∙ ap part c.split_at_delimiter.ensures.rest in
     let front = take (length q - length left) q in
     let piece = piece_of (encoded_pair new) in
-    let others = led (without_name name (pairs_left (option_copied c.without_mark.result))) in
+    let others = led (without_name name (pairs_left (option_copied c.without_delimiter.result))) in
     subst (λ t. Appends t c.args.out.now c.args.len c.append_others.new.out c.append_others.result)
     (ap (λ t. t ++ (piece ++ others)) (front_at (is_named name) q left at)
     ∙ ap (λ o. ended_pairs at.others ++ (piece ++ led (without_name name (pairs_left o)))) cutting ∙ sym (set_at name (encoded_pair new) q left at))

@@ -20,13 +20,13 @@ returns-in_default-clause-appends c =
 pub returns-clause-appends : goal.returns-clause-appends
 returns-clause-appends c =
     let left = c.in-Some.left.now in
-    let cutting : option_copied c.without_mark.result ≡ after ampersand left = c.without_mark.ensures ∙ ap part c.split_at_mark.ensures.rest in
+    let cutting : option_copied c.without_delimiter.result ≡ after ampersand left = c.without_delimiter.ensures ∙ ap part c.split_at_delimiter.ensures.rest in
     let kept = λ (ps : List Pair). filter (λ p. not (is_among_names (pairs c.args.self.now.names.now) p)) ps in
-    let others = led (kept (pairs_left (option_copied c.without_mark.result))) in
+    let others = led (kept (pairs_left (option_copied c.without_delimiter.result))) in
     subst (λ t. Appends t c.args.out.now c.args.len c.append_others.new.out c.append_others.result)
-    (ap (λ t. t ++ others) c.split_at_mark.ensures.front ∙ ap (λ o. before ampersand left ++ led (kept (pairs_left o))) cutting
+    (ap (λ t. t ++ others) c.split_at_delimiter.ensures.front ∙ ap (λ o. before ampersand left ++ led (kept (pairs_left o))) cutting
     ∙ sym (joined_at (λ p. not (is_among_names (pairs c.args.self.now.names.now) p)) c.args.self.now.query.now left c.in-Some.ensures.place))
-    (appends_both c.split_at_mark.result.0.now others c.args.out.now c.append-len.new.out c.append_others.new.out c.args.len c.append-len.result
+    (appends_both c.split_at_delimiter.result.0.now others c.args.out.now c.append-len.new.out c.append_others.new.out c.args.len c.append-len.result
     c.append_others.result c.append-len.ensures.appends c.append_others.ensures.appends)
 
 pub returns-clause-rest : goal.returns-clause-rest

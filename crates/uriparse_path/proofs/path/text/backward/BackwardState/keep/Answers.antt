@@ -1,6 +1,6 @@
 use Rattle.std.proofs.Common.{◌≡◌, ◌++◌, ◌||◌, ◌∙◌, refl, sym, ap, subst, rules}
 use Rattle.std.specs.List.{slice_split}
-use Rattle.uriparse_text.specs.declared.internal.case.Case.TheVariants.{Kept}
+use Rattle.uriparse_text.specs.declared.internal.token.Case.TheVariants.{Kept}
 use Rattle.uriparse_text.specs.Ends.{formed}
 use Rattle.uriparse_path.specs.Path.{is_slash, root}
 use Rattle.uriparse_path.specs.Relative.{has_colon, is_first}
@@ -17,7 +17,7 @@ returns-clause-is c = λ l t is.
     let more : c.if-self.put_root ≡ (is_more l.kept || c.args.ended) = slashed ∙ ap (λ v. v || c.args.ended) is.kept in
     let text = remaining_text form c.args.ended l.kept in
     let colon : c.has_colon.result ≡ is_first has_colon (slice_split is_slash whole) =
-    c.has_colon.ensures ∙ ap has_colon c.split_at_mark.ensures.front ∙ sym (first_colon-pieces whole) in
+    c.has_colon.ensures ∙ ap has_colon c.split_at_delimiter.ensures.front ∙ sym (first_colon-pieces whole) in
     kept_all form c.args.ended whole l _ c.put_text.new.out t (sym is.double_dots ∙ c.requires.none) c.requires.segments c.requires.dots refl refl refl colon
     (subst (λ v. IsPlaced c.put_text.result c.put_text.new.out (formed form Kept whole ++ (root v ++ text)) t) more
     (c.put_text.ensures.placed (root c.if-self.put_root ++ text) t (c.put_root-placed.ensures.placed text t is.placed)))

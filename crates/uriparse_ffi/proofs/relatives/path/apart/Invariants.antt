@@ -1,9 +1,0 @@
-use Rattle.std.proofs.Common.{◌≡◌, length}
-use Rattle.uriparse_ffi.specs.Relatives.{apart_of, directories}
-use Rattle.uriparse_ffi.proofs.relatives.path.apart.Given as goal
-
-abbrev pub invariant-directories : goal.invariant-directories
-invariant-directories l = apart_of l.base l.target ≡ apart_of l.left l.rest
-
-abbrev pub decreases-directories : goal.decreases-directories
-decreases-directories l = length (directories l.left)
