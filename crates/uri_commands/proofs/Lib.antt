@@ -5,3 +5,4 @@ pub mod LineLemmas
 pub mod ObjectLemmas
 pub mod OutputLemmas
 pub mod OutputsLemmas
+pub mod ReadingLemmas

@@ -26,7 +26,7 @@ use Rattle.uriparse.specs.declared.file.error.FileError.{FileError}
 use Rattle.uriparse.specs.declared.file.error.FileError.TheVariants as files
 use Rattle.uri_commands.specs.Json.{object}
 use Rattle.uriparse.specs.QueryError.{QueryError}
-use Rattle.uriparse.specs.Relate.{LeavesOut}
+use Rattle.uriparse.specs.Relate.{relative}
 use Rattle.uriparse.specs.Starts.{most}
 use Rattle.uriparse.specs.TextCuts.{after, before}
 use Rattle.uriparse.specs.Host.{reading}
@@ -220,8 +220,8 @@ resolved_first base t b x y r spelled schemed done = of_uri base b (λ p. Resolv
 -- ---- references that lead to URIs
 
 pub led : (base p q : Parts) (a b : Known) (r : Done)
-    → target base q ≡ target base p → LeavesOut base p q → Writes (line (print q)) a b r → Does (LeadsTo base p) a b r
-led base p q a b r same short written = answered (LeadsTo base p) (line (print q)) a b r (q, same, short, refl) written
+    → q ≡ relative base p → Writes (line (print q)) a b r → Does (LeadsTo base p) a b r
+led base p q a b r is written = answered (LeadsTo base p) (line (print q)) a b r (ap (λ x. Printed (line (print x))) is) written
 
 pub relativized : (base p : Parts) (t : List ℕ) (a b : Known) (r : Done)
     → Spells t p → is_some p.scheme ≡ true → Does (LeadsTo base p) a b r → Does (RelativizesAgainst base t) a b r

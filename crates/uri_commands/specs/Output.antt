@@ -30,7 +30,7 @@ use Rattle.uriparse.specs.Ports.{without_default_port}
 use Rattle.uriparse.specs.Query as query
 use Rattle.uriparse.specs.Reading.{fault}
 use Rattle.uriparse.specs.Reference.{Parts, Spells, authority_part, host_of, password_of, port_of, print, scheme_part, username_of}
-use Rattle.uriparse.specs.Relate.{LeavesOut}
+use Rattle.uriparse.specs.Relate.{relative}
 use Rattle.uriparse.specs.Target.{target}
 use Rattle.uriparse.specs.TextCuts.{after, before}
 use Rattle.uriparse.specs.URIReferenceError.{URIReferenceError}
@@ -170,9 +170,9 @@ ResolvesAgainst base t = OfReference t (λ p a. MatchOption (target base p) (a �
 abbrev pub Resolves : List ℕ → List ℕ → Answer → Type 0
 Resolves base t = OfUri base (λ b. ResolvesAgainst b t)
 
--- relativize: a reference that has the target that the URI itself has
+-- relativize: the reference that leads from the base to the URI
 abbrev pub LeadsTo : Parts → Parts → Answer → Type 0
-LeadsTo base p a = (r : Parts) × (target base r ≡ target base p) × LeavesOut base p r × Prints (print r) a
+LeadsTo base p = Prints (print (relative base p))
 
 abbrev pub RelativizesAgainst : Parts → List ℕ → Answer → Type 0
 RelativizesAgainst base t = OfUri t (LeadsTo base)

@@ -10,7 +10,7 @@ ghost use Rattle.uri_commands.specs.Lines.{newline};
 use crate::topic::Topic;
 use std::io;
 use std::io::Write;
-use uriparse_text::internal::{split_at_mark, without_mark};
+use uriparse_text::internal::{split_at_delimiter, without_delimiter};
 
 pub static ABOUT_ALIGN: Topic = Topic {
     name: "--align",
@@ -145,8 +145,8 @@ fn split_fields(line: &[u8], count: usize) -> Option<(&[u8], &[u8])>
     let mut rest = line;
     let mut left = count;
     'fields: while left > 0 {
-        let (_, following) = split_at_mark(rest, b'\t');
-        let Some(later) = without_mark(following) else {
+        let (_, following) = split_at_delimiter(rest, b'\t');
+        let Some(later) = without_delimiter(following) else {
             return None;
         };
         rest = later;
@@ -167,7 +167,7 @@ fn cut_line(line: &[u8], skipped: usize, width: usize) -> Option<Cut<'_>>
     let Some((begun, last)) = split_fields(rest, width - 1) else {
         return None;
     };
-    let (field, _) = split_at_mark(last, b'\t');
+    let (field, _) = split_at_delimiter(last, b'\t');
     let (text, back) = rest.split_at(begun.len() + field.len());
     Some(Cut { front, text, back })
 }
@@ -199,8 +199,8 @@ impl Columns {
 pub fn first_line(output: &[u8], end: u8) -> &[u8]
     ensures { result.now ≡ before end (before newline output.now) }
 {
-    let (line, _) = split_at_mark(output, b'\n');
-    let (line, _) = split_at_mark(line, end);
+    let (line, _) = split_at_delimiter(output, b'\n');
+    let (line, _) = split_at_delimiter(line, end);
     line
 }
 

@@ -15,7 +15,7 @@ use crate::get::{self, Part, get, get_or_empty, get_parts, read_part, read_parts
 use crate::help::{self, help, help_on, version};
 use crate::json::{self, parse_json};
 use crate::normalize::{self, normalize, normalize_port, normalize_with};
-use crate::options::{Manner, Options};
+use crate::options::{Mode, Options};
 use crate::pair::{self, pair, pair_or_empty};
 use crate::pairs::{self, pairs};
 use crate::parse::{self, parse};
@@ -67,10 +67,10 @@ pub fn topic(place: usize) -> Option<&'static Topic> {
 
 /// Whether `--explain` is absent, or may precede the command of these words.
 fn may_explain(options: Options, words: &[&str]) -> bool {
-    match (options.manner, words) {
+    match (options.mode, words) {
         _ if !options.explains => true,
-        (Manner::Plain | Manner::Json, ["parse", ..]) => true,
-        (Manner::Plain, ["resolve", ..]) => true,
+        (Mode::Plain | Mode::Json, ["parse", ..]) => true,
+        (Mode::Plain, ["resolve", ..]) => true,
         _ => false,
     }
 }
@@ -82,14 +82,12 @@ pub fn run_texts<O: Write>(
     words: &[&str],
     out: &mut O,
 ) -> Result<(), Failure> {
-    match (options.manner, words) {
+    match (options.mode, words) {
         _ if !may_explain(options, words) || options.is_for_lines() => Err(Failure::Usage),
-        (Manner::Plain, ["edit", text, edits @ ..]) => edit(alloc, text, edits, out),
-        (Manner::Plain, [name]) => run_one_word(name, out),
-        (manner, [name, text]) => run_two_words(alloc, manner, name, text, out),
-        (manner, [name, first, second]) => {
-            run_three_words(alloc, manner, name, first, second, out)
-        }
+        (Mode::Plain, ["edit", text, edits @ ..]) => edit(alloc, text, edits, out),
+        (Mode::Plain, [name]) => run_one_word(name, out),
+        (mode, [name, text]) => run_two_words(alloc, mode, name, text, out),
+        (mode, [name, first, second]) => { run_three_words(alloc, mode, name, first, second, out) }
         _ => Err(Failure::Usage),
     }
 }
@@ -106,22 +104,22 @@ fn run_one_word<O: Write>(name: &str, out: &mut O) -> Result<(), Failure> {
 /// Runs the command of this name on the word that follows it.
 fn run_two_words<O: Write>(
     alloc: Global,
-    manner: Manner,
+    mode: Mode,
     name: &str,
     text: &str,
     out: &mut O,
 ) -> Result<(), Failure> {
-    match (manner, name) {
-        (Manner::Plain, _) => run_plain(alloc, name, text, out),
-        (Manner::Json, "parse") => parse_json(text.as_bytes(), out),
-        (Manner::Quiet, "parse") => check(text.as_bytes()),
-        (Manner::DropDefaultPort, "normalize") => normalize_port(alloc, text.as_bytes(), out),
-        (Manner::Trim, "escape") => escape_link(alloc, text.as_bytes(), out),
+    match (mode, name) {
+        (Mode::Plain, _) => run_plain(alloc, name, text, out),
+        (Mode::Json, "parse") => parse_json(text.as_bytes(), out),
+        (Mode::Quiet, "parse") => check(text.as_bytes()),
+        (Mode::DropDefaultPort, "normalize") => normalize_port(alloc, text.as_bytes(), out),
+        (Mode::Trim, "escape") => escape_link(alloc, text.as_bytes(), out),
         _ => Err(Failure::Usage),
     }
 }
 
-/// Runs the command of this name on the word that follows it, with `Manner::Plain`.
+/// Runs the command of this name on the word that follows it, with `Mode::Plain`.
 fn run_plain<O: Write>(alloc: Global, name: &str, text: &str, out: &mut O) -> Result<(), Failure> {
     match name {
         "parse" => parse(alloc, text, out),
@@ -139,25 +137,25 @@ fn run_plain<O: Write>(alloc: Global, name: &str, text: &str, out: &mut O) -> Re
 /// Runs the command of this name on the two words that follow it.
 fn run_three_words<O: Write>(
     alloc: Global,
-    manner: Manner,
+    mode: Mode,
     name: &str,
     first: &str,
     second: &str,
     out: &mut O,
 ) -> Result<(), Failure> {
-    match (manner, name) {
-        (Manner::Plain, "get") if first == "file" => get_file(alloc, second.as_bytes(), out),
-        (Manner::Plain, "get") => get(alloc, first, second.as_bytes(), out),
-        (Manner::Plain, "equal") => equal(first.as_bytes(), second.as_bytes(), out),
-        (Manner::Quiet, "equal") => check_equal(first.as_bytes(), second.as_bytes()),
-        (Manner::Plain, "resolve") => resolve(alloc, first.as_bytes(), second.as_bytes(), out),
-        (Manner::Plain, "relativize") => {
+    match (mode, name) {
+        (Mode::Plain, "get") if first == "file" => get_file(alloc, second.as_bytes(), out),
+        (Mode::Plain, "get") => get(alloc, first, second.as_bytes(), out),
+        (Mode::Plain, "equal") => equal(first.as_bytes(), second.as_bytes(), out),
+        (Mode::Quiet, "equal") => check_equal(first.as_bytes(), second.as_bytes()),
+        (Mode::Plain, "resolve") => resolve(alloc, first.as_bytes(), second.as_bytes(), out),
+        (Mode::Plain, "relativize") => {
             relativize(alloc, first.as_bytes(), second.as_bytes(), out)
         }
-        (Manner::Plain, "encode") => encode(alloc, first, second.as_bytes(), out),
-        (Manner::Plain, "pair") => pair(alloc, first, second.as_bytes(), out),
-        (Manner::Plain, "within") => within(first.as_bytes(), second.as_bytes()),
-        (Manner::Plain, "host-within") => host_within(first, second.as_bytes()),
+        (Mode::Plain, "encode") => encode(alloc, first, second.as_bytes(), out),
+        (Mode::Plain, "pair") => pair(alloc, first, second.as_bytes(), out),
+        (Mode::Plain, "within") => within(first.as_bytes(), second.as_bytes()),
+        (Mode::Plain, "host-within") => host_within(first, second.as_bytes()),
         _ => Err(Failure::Usage),
     }
 }
@@ -202,27 +200,27 @@ pub enum Task<'w> {
 impl<'w> Task<'w> {
     /// Reads a task from the words of the command. A base is read here, before any line.
     pub fn read(alloc: Global, options: Options, words: &[&'w str]) -> Result<Task<'w>, Failure> {
-        match (options.manner, words) {
+        match (options.mode, words) {
             _ if !may_explain(options, words) => Err(Failure::Usage),
-            (Manner::Quiet, _) if options.columns.is_some() => Err(Failure::Usage),
-            (Manner::Plain, ["edit", edits @ ..]) => Ok(Task::Edit(read_edits(alloc, edits)?)),
-            (manner, [name]) => Task::read_one_word(manner, name),
-            (Manner::Plain, [name, text]) => Task::read_two_words(alloc, name, text),
+            (Mode::Quiet, _) if options.columns.is_some() => Err(Failure::Usage),
+            (Mode::Plain, ["edit", edits @ ..]) => Ok(Task::Edit(read_edits(alloc, edits)?)),
+            (mode, [name]) => Task::read_one_word(mode, name),
+            (Mode::Plain, [name, text]) => Task::read_two_words(alloc, name, text),
             _ => Err(Failure::Usage),
         }
     }
 
     /// The task of the command that is this word alone.
-    fn read_one_word(manner: Manner, name: &str) -> Result<Task<'w>, Failure> {
-        match (manner, name) {
-            (Manner::Plain | Manner::Json, "parse") => Ok(Task::Parse),
-            (Manner::Quiet, "parse") => Ok(Task::Check),
-            (Manner::Plain, "normalize") => Ok(Task::Normalize),
-            (Manner::DropDefaultPort, "normalize") => Ok(Task::NormalizePort),
-            (Manner::Plain, "equal") => Ok(Task::Equal),
-            (Manner::Quiet, "equal") => Ok(Task::CheckEqual),
-            (Manner::Plain, "escape") => Ok(Task::Escape),
-            (Manner::Trim, "escape") => Ok(Task::EscapeLink),
+    fn read_one_word(mode: Mode, name: &str) -> Result<Task<'w>, Failure> {
+        match (mode, name) {
+            (Mode::Plain | Mode::Json, "parse") => Ok(Task::Parse),
+            (Mode::Quiet, "parse") => Ok(Task::Check),
+            (Mode::Plain, "normalize") => Ok(Task::Normalize),
+            (Mode::DropDefaultPort, "normalize") => Ok(Task::NormalizePort),
+            (Mode::Plain, "equal") => Ok(Task::Equal),
+            (Mode::Quiet, "equal") => Ok(Task::CheckEqual),
+            (Mode::Plain, "escape") => Ok(Task::Escape),
+            (Mode::Trim, "escape") => Ok(Task::EscapeLink),
             _ => Err(Failure::Usage),
         }
     }

@@ -12,7 +12,7 @@ use crate::print::print_bytes;
 use crate::topic::Topic;
 use std::io::Write;
 use uriparse::{ReferenceView, URIReference};
-use uriparse_text::internal::{split_at_mark, without_mark};
+use uriparse_text::internal::{split_at_delimiter, without_delimiter};
 
 pub static ABOUT: Topic = Topic {
     name: "equal",
@@ -81,8 +81,8 @@ fn print_answer<O: Write>(
 pub fn split_pair(line: &[u8]) -> Result<(&[u8], &[u8]), Failure>
     ensures { MatchResult result (λ pair. (pair.0.now ≡ before tab line.now) × (after tab line.now ≡ Some pair.1.now)) (λ f. (f ≡ failures.NoTab) × (after tab line.now ≡ None)) }
 {
-    let (left, following) = split_at_mark(line, b'\t');
-    match without_mark(following) {
+    let (left, following) = split_at_delimiter(line, b'\t');
+    match without_delimiter(following) {
         Some(right) => Ok((left, right)),
         None => Err(Failure::NoTab),
     }

@@ -20,6 +20,7 @@ mod get;
 mod help;
 pub mod internal;
 mod json;
+mod laws;
 mod lines;
 mod normalize;
 mod options;
@@ -38,7 +39,7 @@ use commands::run_texts;
 use explain::explain;
 use failure::Failure;
 use lines::lines;
-use options::{Manner, Options, split_options};
+use options::{Mode, Options, split_options};
 use std::alloc::Global;
 use std::io;
 use std::io::{Read, Write};
@@ -129,7 +130,7 @@ fn report<E: Write>(
     match failure.status() {
         2 => writeln!(err, "{failure}"),
         1 if failure.is_closed_pipe() => Ok(()),
-        1 if options.manner == Manner::Quiet && !options.reads_lines => Ok(()),
+        1 if options.mode == Mode::Quiet && !options.reads_lines => Ok(()),
         1 if options.explains => explain(words, failure, err),
         1 => writeln!(err, "{failure}"),
         _ => Ok(()),

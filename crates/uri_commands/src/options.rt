@@ -7,7 +7,7 @@ use std::alloc::{AllocError, Global};
 
 /// What a command prints, and of which text, as the options say that exclude each other.
 #[derive(Clone, Copy, PartialEq, Eq)]
-pub enum Manner {
+pub enum Mode {
     /// None of these options.
     Plain,
     /// `--json`: a reference is printed as a JSON object.
@@ -22,13 +22,13 @@ pub enum Manner {
     Mixed,
 }
 
-impl Manner {
-    /// The manner with one more option.
-    fn with(self, option: Manner) -> Manner {
-        if self == Manner::Plain || self == option {
+impl Mode {
+    /// The mode with one more option.
+    fn with(self, option: Mode) -> Mode {
+        if self == Mode::Plain || self == option {
             option
         } else {
-            Manner::Mixed
+            Mode::Mixed
         }
     }
 }
@@ -44,7 +44,7 @@ pub struct Options {
     pub columns: Option<Columns>,
     /// The byte that ends lines: a newline, or with `--null` a NUL byte.
     pub end: u8,
-    pub manner: Manner,
+    pub mode: Mode,
 }
 
 impl Options {
@@ -54,7 +54,7 @@ impl Options {
         explains: false,
         columns: None,
         end: b'\n',
-        manner: Manner::Plain,
+        mode: Mode::Plain,
     };
 
     /// Whether there is an option that only `--lines` takes.
@@ -62,10 +62,10 @@ impl Options {
         self.columns.is_some() || self.end != b'\n'
     }
 
-    /// The options with one more manner.
-    fn with_manner(self, manner: Manner) -> Options {
-        let manner = self.manner.with(manner);
-        Options { manner, ..self }
+    /// The options with one more mode.
+    fn with_mode(self, mode: Mode) -> Options {
+        let mode = self.mode.with(mode);
+        Options { mode, ..self }
     }
 
     /// The columns that the options name so far.
@@ -98,10 +98,10 @@ impl Options {
                 let end = 0;
                 Options { end, ..self }
             }
-            "--json" => self.with_manner(Manner::Json),
-            "--quiet" => self.with_manner(Manner::Quiet),
-            "--trim" => self.with_manner(Manner::Trim),
-            "--drop-default-port" => self.with_manner(Manner::DropDefaultPort),
+            "--json" => self.with_mode(Mode::Json),
+            "--quiet" => self.with_mode(Mode::Quiet),
+            "--trim" => self.with_mode(Mode::Trim),
+            "--drop-default-port" => self.with_mode(Mode::DropDefaultPort),
             "--align" => self.with_columns(columns),
             "--append" => {
                 let appends = true;

@@ -9,7 +9,7 @@ split_at-requires c =
     let begun = c.in-Some-split_fields.begun.now in
     let last = c.in-Some-split_fields.last.now in
     let cut : c.in-Some.rest.now ≡ begun ++ last = c.in-Some-split_fields.ensures.0 in
-    let field : c.split_at_mark.result.0.now ≡ before tab last = c.split_at_mark.ensures.front in
+    let field : c.split_at_delimiter.result.0.now ≡ before tab last = c.split_at_delimiter.ensures.front in
     omega (arith, text_len c.in-Some.rest.now begun last cut, ap length field)
 
 pub returns : goal.returns
@@ -20,8 +20,8 @@ returns c =
     let begun = c.in-Some-split_fields.begun.now in
     let last = c.in-Some-split_fields.last.now in
     let cut : rest ≡ begun ++ last = c.in-Some-split_fields.ensures.0 in
-    let len : length begun + length c.split_at_mark.result.0.now ≡ length (begun ++ before tab last) =
-    ap (λ u. length begun + length u) c.split_at_mark.ensures.front ∙ sym (length-append begun (before tab last)) in
+    let len : length begun + length c.split_at_delimiter.result.0.now ≡ length (begun ++ before tab last) =
+    ap (λ u. length begun + length u) c.split_at_delimiter.ensures.front ∙ sym (length-append begun (before tab last)) in
     let parts = text_parts rest begun last cut in
     let text : c.split_at.result.0.now ≡ begun ++ before tab last = c.split_at.ensures.front ∙ ap (λ n. take n rest) len ∙ parts.0 in
     let back : c.split_at.result.1.now ≡ from_first is_tab last = c.split_at.ensures.back ∙ ap (λ n. drop n rest) len ∙ parts.1 in

@@ -9,7 +9,7 @@ pub returns-in_default : goal.returns-in_default
 returns-in_default c =
     let front = c.fields.invariant.front in
     let none : after tab c.fields.rest.now ≡ None =
-    sym (c.without_mark.ensures ∙ ap part c.split_at_mark.ensures.rest) ∙ ap option_copied c.in_default.is in
+    sym (c.without_delimiter.ensures ∙ ap part c.split_at_delimiter.ensures.rest) ∙ ap option_copied c.in_default.is in
     too_few c.args.line.now front.0 c.fields.rest.now (c.args.count - c.fields.left) c.args.count front.1 front.2 none
     (omega (arith, c.fields.invariant.within, c.fields-test.true))
 
@@ -18,7 +18,7 @@ fields-preserved c =
     let front = c.fields.invariant.front in
     let rest = c.fields.rest.now in
     let some : after tab rest ≡ Some c.in-Some.later.now =
-    sym (c.without_mark.ensures ∙ ap part c.split_at_mark.ensures.rest) ∙ ap option_copied c.in-Some.is in
+    sym (c.without_delimiter.ensures ∙ ap part c.split_at_delimiter.ensures.rest) ∙ ap option_copied c.in-Some.is in
     let more : c.args.count - c.fields.left + 1 ≡ c.args.count - (c.fields.left - 1) = omega (arith, c.fields.invariant.within, c.fields-test.true) in
     record {
       within = omega (arith, c.fields.invariant.within);
