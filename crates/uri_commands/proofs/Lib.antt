@@ -1,8 +1,12 @@
 pub mod ColumnLemmas
 pub mod ComponentLemmas
+pub mod EditLemmas
 pub mod JsonLemmas
 pub mod LineLemmas
 pub mod ObjectLemmas
+pub mod OptionLemmas
 pub mod OutputLemmas
 pub mod OutputsLemmas
 pub mod ReadingLemmas
+pub mod RunLemmas
+pub mod TaskLemmas

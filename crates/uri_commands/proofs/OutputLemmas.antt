@@ -54,7 +54,8 @@ use Rattle.uriparse.specs.Uri.{map_error}
 use Rattle.uriparse.specs.declared.uri.error.URIError.{URIError}
 use Rattle.uriparse.specs.declared.uri.error.URIError.TheVariants as uris
 use Rattle.uri_commands.specs.Columns.{tab}
-use Rattle.uri_commands.specs.Output.{Answer, AnswersLine, Checks, ChecksAgainst, ChecksEqual, Compares, ComparesWith, Decodes, Does, Edited, EditsLine, Encodes, Ended, EndsWork, Escapes, Files, Finds, EscapesLink, Gets, GetsFile, GetsOrEmpty, GetsParts, GetsPair, GetsPairOrEmpty, HasHostUnder, HostWithin, IfSo, IsBelow, IsOfBuffer, IsOfReference, IsOfUri, IsUnder, LacksTarget, LeadsTo, Normalizes, NormalizesPort, OfPair, OfReference, OfUri, Pairs, ParsesJson, Prints, PrintsHostWithin, PrintsIfPresent, PrintsPairs, PrintsWithin, Relativizes, RelativizesAgainst, Resolves, ResolvesAgainst, Within, Writes, WritesIfPresent, answer_of, class_of, equal_or_different, line, line_if, nothing_if, pair_lines, part_text}
+use Rattle.uri_commands.specs.Edits.{steps_made}
+use Rattle.uri_commands.specs.Output.{Answer, AnswersLine, Checks, ChecksAgainst, ChecksEqual, Compares, ComparesWith, Decodes, Does, EditsLine, Encodes, Ended, EndsWork, Escapes, Files, Finds, EscapesLink, Gets, GetsFile, GetsOrEmpty, GetsParts, GetsPair, GetsPairOrEmpty, HasHostUnder, HostWithin, IfSo, IsBelow, IsOfBuffer, IsOfReference, IsOfUri, IsUnder, LacksTarget, LeadsTo, Normalizes, NormalizesPort, OfPair, OfReference, OfUri, Pairs, ParsesJson, Prints, PrintsHostWithin, PrintsIfPresent, PrintsPairs, PrintsWithin, Relativizes, RelativizesAgainst, Resolves, ResolvesAgainst, Within, Writes, WritesIfPresent, answer_of, class_of, equal_or_different, line, line_if, nothing_if, pair_lines, part_text}
 use Rattle.uri_commands.specs.Output.{Negative, Printed, Rejected, Unknown}
 use Rattle.uri_commands.specs.declared.commands.Task.{Task}
 use Rattle.uri_commands.specs.declared.commands.Task.TheVariants as tasks
@@ -256,16 +257,15 @@ ended Is f a b r ends is = subst (Does Is a b) (sym is) (inl ends)
 
 pub found_nothing : (Is : Answer → Type 0) (a b : Known) (r : Done) → Finds Is r → b ≡ a → Does Is a b r
 found_nothing Is a b (Ok v) found kept = ([], found, subst (λ x. Appends a x []) (sym kept) (Appends-nil a))
-found_nothing Is a b (Err f) (inl ends) kept = inl ends
-found_nothing Is a b (Err f) (inr is) kept = inr (is, kept)
+found_nothing Is a b (Err f) is kept = inr (is, kept)
 
 pub found_rejected : (t : List ℕ) (Is : Parts → Answer → Type 0) (e : URIReferenceError) (r : Done)
     → fault t ≡ Some e → r ≡ Err (failures.Reference e) → Finds (OfReference t Is) r
-found_rejected t Is e r wrong is = subst (Finds (OfReference t Is)) (sym is) (inr (inr (e, wrong, refl)))
+found_rejected t Is e r wrong is = subst (Finds (OfReference t Is)) (sym is) (inr (e, wrong, refl))
 
 pub found_rejected_uri : (t : List ℕ) (Is : Parts → Answer → Type 0) (e : URIError) (r : Done)
     → fault_of true map_error uris.NotURI t ≡ Some e → r ≡ Err (failures.Uri e) → Finds (OfUri t Is) r
-found_rejected_uri t Is e r wrong is = subst (Finds (OfUri t Is)) (sym is) (inr (inr (e, wrong, refl)))
+found_rejected_uri t Is e r wrong is = subst (Finds (OfUri t Is)) (sym is) (inr (e, wrong, refl))
 
 abbrev AnswersFault : Option URIReferenceError → Answer → Type 0
 AnswersFault o a = MatchOption o (a ≡ Printed []) (λ e. a ≡ Rejected)
@@ -282,18 +282,16 @@ pub checked : (t : List ℕ) (v : Unit {0}) (r : Done) → ◌≡◌ {A = Result
 checked t v r right is = subst (Finds (Checks t)) (sym is) (faultless (fault t) v right)
 
 pub not_checked : (t : List ℕ) (e : URIReferenceError) (r : Done) → ◌≡◌ {A = Result (Unit {0}) URIReferenceError} (Err e) (unless_fault (fault t) tt) → r ≡ Err (failures.Reference e) → Finds (Checks t) r
-not_checked t e r right is = subst (Finds (Checks t)) (sym is) (inr (faulty (fault t) e right))
+not_checked t e r right is = subst (Finds (Checks t)) (sym is) (faulty (fault t) e right)
 
 pub found_in_reference : (t : List ℕ) (p : Parts) (Is : Parts → Answer → Type 0) (r : Done) → Spells t p → Finds (Is p) r → Finds (OfReference t Is) r
 found_in_reference t p Is (Ok v) spelled found = inl (p, spelled, found)
-found_in_reference t p Is (Err f) spelled (inl ends) = inl ends
-found_in_reference t p Is (Err f) spelled (inr is) = inr (inl (p, spelled, is))
+found_in_reference t p Is (Err f) spelled is = inl (p, spelled, is)
 
 pub found_in_uri : (t : List ℕ) (p : Parts) (Is : Parts → Answer → Type 0) (r : Done) → Spells t p → is_some p.scheme ≡ true → Finds (Is p) r
     → Finds (OfUri t Is) r
 found_in_uri t p Is (Ok v) spelled schemed found = inl (p, spelled, schemed, found)
-found_in_uri t p Is (Err f) spelled schemed (inl ends) = inl ends
-found_in_uri t p Is (Err f) spelled schemed (inr is) = inr (inl (p, spelled, schemed, is))
+found_in_uri t p Is (Err f) spelled schemed is = inl (p, spelled, schemed, is)
 
 pub found_equal_first : (t u : List ℕ) (p : Parts) (r : Done) → Spells t p → Finds (ChecksAgainst p u) r → Finds (ChecksEqual t u) r
 found_equal_first t u p r spelled found = found_in_reference t p (λ x. ChecksAgainst x u) r spelled found
@@ -303,7 +301,7 @@ found_equal t p q r spelled same is = subst (Finds (ChecksAgainst p t)) (sym is)
 
 pub found_different : (t : List ℕ) (p q : Parts) (r : Done)
     → Spells t q → bytes_eq (key p) (key q) ≡ false → r ≡ Err failures.Different → Finds (ChecksAgainst p t) r
-found_different t p q r spelled other is = subst (Finds (ChecksAgainst p t)) (sym is) (inr (inl (q, spelled, ap nothing_if (sym other))))
+found_different t p q r spelled other is = subst (Finds (ChecksAgainst p t)) (sym is) (inl (q, spelled, ap nothing_if (sym other)))
 
 pub found_in_pair : (t first second : List ℕ) (Is : List ℕ → List ℕ → Answer → Type 0) (r : Done)
     → first ≡ before tab t → after tab t ≡ Some second → Finds (Is first second) r → Finds (OfPair t Is) r
@@ -314,7 +312,7 @@ pub found_no_pair : (t : List ℕ) (Is : List ℕ → List ℕ → Answer → Ty
     → after tab t ≡ None → r ≡ Err failures.NoTab → Finds (OfPair t Is) r
 found_no_pair t Is r none is =
     subst (λ x. Finds (OfPair t Is) x) (sym is)
-    (inr (subst (λ o. MatchOption o (Rejected ≡ Rejected) (λ u. Is (before tab t) u Rejected)) (sym none) refl))
+    (subst (λ o. MatchOption o (Rejected ≡ Rejected) (λ u. Is (before tab t) u Rejected)) (sym none) refl)
 
 -- ---- URIs below others
 
@@ -335,13 +333,15 @@ below : (t : List ℕ) (b : Parts) (is : Bool) (inside outside : Answer)
     → IsOfUri {A = Bool} t (λ q x. IsTrue x ↔ IsWithin q b) (Ok is) → IsBelow b t inside outside (if is then inside else outside)
 below t b is inside outside found = inl (found.0, found.1, found.2, decided (IsWithin found.0 b) is inside outside found.3)
 
+-- what a test finds is told by the status alone
+tested : (Is : Answer → Type 0) (is : Bool) (r : Done) → Is (if is then Printed [] else Negative)
+    → MatchResult r (λ _. is ≡ true) (λ f. (f ≡ failures.Outside) × (is ≡ false)) → Finds Is r
+tested Is is (Ok v) found holds = subst (λ x. Is (if x then Printed [] else Negative)) holds found
+tested Is is (Err f) found fails = subst Is (ap answer_of (sym fails.0)) (subst (λ x. Is (if x then Printed [] else Negative)) fails.1 found)
+
 pub found_below : (t : List ℕ) (b : Parts) (is : Bool) (r : Done) → IsOfUri {A = Bool} t (λ q x. IsTrue x ↔ IsWithin q b) (Ok is)
     → MatchResult r (λ _. is ≡ true) (λ f. (f ≡ failures.Outside) × (is ≡ false)) → Finds (IsBelow b t (Printed []) Negative) r
-found_below t b is (Ok v) found holds =
-    subst (λ x. IsBelow b t (Printed []) Negative (if x then Printed [] else Negative)) holds (below t b is (Printed []) Negative found)
-found_below t b is (Err f) found fails =
-    inr (subst (IsBelow b t (Printed []) Negative) (ap answer_of (sym fails.0))
-    (subst (λ x. IsBelow b t (Printed []) Negative (if x then Printed [] else Negative)) fails.1 (below t b is (Printed []) Negative found)))
+found_below t b is r found holds = tested (IsBelow b t (Printed []) Negative) is r (below t b is (Printed []) Negative found) holds
 
 pub found_unread : (t : List ℕ) (b : Parts) (inside outside : Answer) (f : Failure) (r : Done)
     → IsOfUri {A = Bool} t (λ q x. IsTrue x ↔ IsWithin q b) (Err f) → r ≡ Err f → Finds (IsBelow b t inside outside) r
@@ -483,11 +483,7 @@ reference_rejected t d e r wrong is = subst (IsOfReference {A = Bool} t (λ q x.
 
 pub found_under : (t : List ℕ) (d : Host) (is : Bool) (r : Done) → IsOfReference {A = Bool} t (λ q x. IsTrue x ↔ IsUnder d q) (Ok is)
     → MatchResult r (λ _. is ≡ true) (λ f. (f ≡ failures.Outside) × (is ≡ false)) → Finds (HasHostUnder d t (Printed []) Negative) r
-found_under t d is (Ok v) found holds =
-    subst (λ x. HasHostUnder d t (Printed []) Negative (if x then Printed [] else Negative)) holds (under t d is (Printed []) Negative found)
-found_under t d is (Err f) found fails =
-    inr (subst (HasHostUnder d t (Printed []) Negative) (ap answer_of (sym fails.0))
-    (subst (λ x. HasHostUnder d t (Printed []) Negative (if x then Printed [] else Negative)) fails.1 (under t d is (Printed []) Negative found)))
+found_under t d is r found holds = tested (HasHostUnder d t (Printed []) Negative) is r (under t d is (Printed []) Negative found) holds
 
 pub found_no_reference : (t : List ℕ) (d : Host) (inside outside : Answer) (f : Failure) (r : Done)
     → IsOfReference {A = Bool} t (λ q x. IsTrue x ↔ IsUnder d q) (Err f) → r ≡ Err f → Finds (HasHostUnder d t inside outside) r
@@ -514,7 +510,7 @@ in_domain domain t d r read found = subst (λ x. Finds (InDomain x t) r) (sym re
 
 pub no_domain : (domain t : List ℕ) (x : HostError) (e : URIReferenceError) (r : Done)
     → reading domain ≡ Err x → r ≡ Err (failures.Reference e) → Finds (HostWithin domain t) r
-no_domain domain t x e r wrong is = subst (Finds (HostWithin domain t)) (sym is) (inr (subst (λ y. InDomain y t Rejected) (sym wrong) refl))
+no_domain domain t x e r wrong is = subst (Finds (HostWithin domain t)) (sym is) (subst (λ y. InDomain y t Rejected) (sym wrong) refl)
 
 -- ---- parts
 
@@ -752,20 +748,10 @@ run_escape task t a b r is done = subst (λ w. AnswersTask w t a b r) (sym is) d
 pub run_escape_link : (task : Task) (t : List ℕ) (a b : Known) (r : Done) → task ≡ tasks.EscapeLink → Does (EscapesLink t) a b r → Does (λ x. AnswersLine task t x) a b r
 run_escape_link task t a b r is done = subst (λ w. AnswersTask w t a b r) (sym is) done
 
--- ---- edits
-
-pub edited : (q : Parts) (a b : Known) (r : Done) → Writes (line (print q)) a b r → Does Edited a b r
-edited q a b r written = answered Edited (line (print q)) a b r (inl (q, refl)) written
-
-pub not_edited : (f : Failure) (a b : Known) (r : Done) → answer_of f ≡ Rejected → r ≡ Err f → b ≡ a → Does Edited a b r
-not_edited f a b r rejected is kept = subst (Does Edited a b) (sym is) (inr (inr rejected, kept))
-
-pub edited_line : (t : List ℕ) (p : Parts) (a b : Known) (r : Done) → Spells t p → Does Edited a b r → Does (EditsLine t) a b r
-edited_line t p a b r spelled done = of_reference t p (λ x. Edited) a b r spelled done
-
-pub run_edit : (task : Task) (steps : Vec Step Global) (t : List ℕ) (a b : Known) (r : Done)
-    → task ≡ tasks.Edit steps → Does (EditsLine t) a b r → Does (λ x. AnswersLine task t x) a b r
-run_edit task steps t a b r is done = subst (λ w. AnswersTask w t a b r) (sym is) done
+pub run_edit : (task : Task) (steps : Vec Step Global) (ss : List Step) (t : List ℕ) (a b : Known) (r : Done)
+    → task ≡ tasks.Edit steps → ss ≡ steps.items → Does (EditsLine (steps_made ss) t) a b r → Does (λ x. AnswersLine task t x) a b r
+run_edit task steps ss t a b r is same done =
+    subst (λ w. AnswersTask w t a b r) (sym is) (subst (λ l. Does (EditsLine (steps_made l) t) a b r) same done)
 
 pub run_get_parts : (task : Task) (parts : Vec Part Global) (qs : List Part) (t : List ℕ) (a b : Known) (r : Done)
     → task ≡ tasks.GetParts parts → qs ≡ parts.items → Does (GetsParts qs t) a b r → Does (λ x. AnswersLine task t x) a b r

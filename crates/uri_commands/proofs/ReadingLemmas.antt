@@ -1,5 +1,5 @@
 -- What is said of the one reference that a text spells, by reading the text.
-use Rattle.std.proofs.Common.{◌≡◌, ◌↔◌, ◌⊎◌, inl, inr, ℕ, Bool, true, List, None, Option, Some, Result, Ok, Err, refl}
+use Rattle.std.proofs.Common.{◌≡◌, ◌↔◌, inl, ℕ, true, List, Result, Ok, Err, refl}
 use Rattle.std.specs.Prelude.{MatchResult, is_some}
 use Rattle.uriparse.specs.Reading.{reading}
 use Rattle.uriparse.specs.Reference.{Parts, Spells}

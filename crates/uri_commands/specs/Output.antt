@@ -1,9 +1,10 @@
 -- What each command prints, in the order of docs/PROGRAM.md.
-use Rattle.std.specs.Prelude.{◌≡◌, ◌⊎◌, ℕ, Bool, true, false, List, [], ◌∷◌, ◌++◌, flat_map, map, bytes_eq, codes, decimal, if◌then◌else◌, Option, Some, None, is_some, unwrap_or, Result, Ok, Err, MatchOption, MatchResult}
+use Rattle.std.specs.Prelude.{◌≡◌, ◌⊎◌, ℕ, ◌==◌, ◌||◌, Bool, true, false, not, List, [], ◌∷◌, ◌++◌, flat_map, map, bytes_eq, codes, decimal, if◌then◌else◌, Option, Some, None, is_some, unwrap_or, Result, Ok, Err, MatchOption, MatchResult, Vec}
+use Rattle.std.specs.declared.alloc.Global.{Global}
 use Rattle.std.specs.Io.KnownBytes.{Appends}
-use Rattle.std.specs.List.{join_with_byte}
-use Rattle.std.specs.Option.{IsSomeAnd, option_map}
-use Rattle.uriparse.specs.Bytes.{equals_sign}
+use Rattle.std.specs.List.{join_with_byte, slice_split}
+use Rattle.std.specs.Option.{IsSomeAnd, option_and_then, option_map}
+use Rattle.uriparse.specs.Bytes.{equals_sign, number_sign, question_mark}
 use Rattle.uriparse.specs.Authority.{AuthorityParts}
 use Rattle.uriparse.specs.ChangeError.TheVariants as changes
 use Rattle.uriparse.specs.BufferError.{BufferError}
@@ -14,6 +15,7 @@ use Rattle.uriparse.specs.Coding.{decoded, encoded}
 use Rattle.uriparse.specs.Escaped.{escaped}
 use Rattle.uriparse.specs.File.{path_of_uri, uri_of_path}
 use Rattle.uriparse.specs.declared.file.error.FileError.TheVariants as files
+use Rattle.uriparse.specs.Fragment as fragment
 use Rattle.uriparse.specs.Host as host
 use Rattle.uriparse.specs.HostValue.{Host}
 use Rattle.uriparse.specs.HostWithin as hosts
@@ -25,6 +27,8 @@ use Rattle.uriparse.specs.Origin as origin
 use Rattle.uriparse.specs.PairEdits.{pair_in}
 use Rattle.uriparse.specs.Pairs.{Pair, pairs, piece_of}
 use Rattle.uriparse.specs.Path as path
+use Rattle.uriparse.specs.Path.{PathParts}
+use Rattle.uriparse.specs.PathFaults as paths
 use Rattle.uriparse.specs.PathError.TheVariants.{ExceededMaximumLength, OutOfMemory}
 use Rattle.uriparse.specs.Ports.{without_default_port}
 use Rattle.uriparse.specs.Query as query
@@ -40,16 +44,21 @@ use Rattle.uriparse.specs.Within.{IsWithin}
 use Rattle.uriparse.specs.declared.uri.error.URIError.{URIError}
 use Rattle.uriparse.specs.declared.uri.error.URIError.TheVariants as uris
 use Rattle.uri_commands.specs.Columns.{tab}
+use Rattle.uri_commands.specs.Edits.{Edit, all_made, edits_of, steps_made}
 use Rattle.uri_commands.specs.Json.{kind_name, object}
 use Rattle.uri_commands.specs.Lines.{newline}
 use Rattle.uri_commands.specs.declared.commands.Task.{Task}
 use Rattle.uri_commands.specs.declared.commands.Task.TheVariants as tasks
+use Rattle.uri_commands.specs.declared.edit.Step.{Step}
 use Rattle.uri_commands.specs.declared.failure.Failure.{Failure}
 use Rattle.uri_commands.specs.declared.failure.Failure.TheVariants as failures
 use Rattle.uri_commands.specs.declared.failure.EditError.{EditError}
 use Rattle.uri_commands.specs.declared.failure.EditError.TheVariants as edits
 use Rattle.uri_commands.specs.declared.get.Part.{Part}
 use Rattle.uri_commands.specs.declared.get.Part.TheVariants as part
+use Rattle.uri_commands.specs.declared.options.Mode.{Mode}
+use Rattle.uri_commands.specs.declared.options.Mode.TheVariants as modes
+use Rattle.uri_commands.specs.declared.options.Options.{Options}
 
 -- ---- answers
 
@@ -125,6 +134,31 @@ reference_lines p =
 abbrev pub Parses : List ℕ → Answer → Type 0
 Parses t = OfReference t (λ p a. a ≡ Printed (reference_lines p))
 
+-- tail: the text, and the path, the query and the fragment that it is made of, a line each
+abbrev pub tail_lines : List ℕ → PathParts → Option (List ℕ) → Option (List ℕ) → List ℕ
+tail_lines t p q f =
+    line t
+    ++ (component (codes "path") (Some (path.text p))
+    ++ (component (codes "query") q
+    ++ component (codes "fragment") f))
+
+-- what is read of a component, if it is present
+abbrev pub if_present : {E : Type 0} → (List ℕ → Result (List ℕ) E) → Option (List ℕ) → Result (Option (List ℕ)) E
+if_present reading None = Ok None
+if_present reading (Some t) = found (reading t)
+  where
+    found : {E : Type 0} → Result (List ℕ) E → Result (Option (List ℕ)) E
+    found (Ok x) = Ok (Some x)
+    found (Err e) = Err e
+
+abbrev pub Tails : List ℕ → Answer → Type 0
+Tails t a =
+    MatchResult (paths.reading (before question_mark (before number_sign t)))
+    (λ p. MatchResult (if_present query.reading (after question_mark (before number_sign t)))
+    (λ q. MatchResult (if_present fragment.reading (after number_sign t)) (λ f. a ≡ Printed (tail_lines t p q f)) (λ e. a ≡ Rejected))
+    (λ e. a ≡ Rejected))
+    (λ e. a ≡ Rejected)
+
 -- get: the text of a part, if it is present
 abbrev pub part_text : Part → Parts → Option (List ℕ)
 part_text part.Scheme p = scheme_part p
@@ -147,6 +181,38 @@ GetsOrEmpty part t = OfReference t (λ p. Prints (unwrap_or (part_text part p) [
 
 abbrev pub GetsParts : List Part → List ℕ → Answer → Type 0
 GetsParts parts t = OfReference t (λ p. Prints (join_with_byte tab (map (λ part. unwrap_or (part_text part p) []) parts)))
+
+-- the part of this name
+abbrev pub part_of : List ℕ → Option Part
+part_of name =
+    if bytes_eq name (codes "scheme") then Some part.Scheme
+    else if bytes_eq name (codes "authority") then Some part.Authority
+    else if bytes_eq name (codes "username") then Some part.Username
+    else if bytes_eq name (codes "password") then Some part.Password
+    else if bytes_eq name (codes "host") then Some part.Host
+    else if bytes_eq name (codes "port") then Some part.Port
+    else if bytes_eq name (codes "path") then Some part.Path
+    else if bytes_eq name (codes "query") then Some part.Query
+    else if bytes_eq name (codes "fragment") then Some part.Fragment
+    else if bytes_eq name (codes "origin") then Some part.Origin
+    else None
+
+-- the parts of these names, if each is a part's
+abbrev pub parts_of : List (List ℕ) → Option (List Part)
+parts_of [] = Some []
+parts_of (name ∷ names) = option_and_then (λ p. option_map (λ ps. p ∷ ps) (parts_of names)) (part_of name)
+
+-- the parts of these names, which commas separate
+abbrev pub parts_named : List ℕ → Option (List Part)
+parts_named names = parts_of (slice_split (λ b. b == 44) names)
+
+-- get NAMES: one part as above, several with tabs between them
+abbrev pub GetsEach : List Part → List ℕ → Answer → Type 0
+GetsEach (p ∷ []) t = Gets p t
+GetsEach ps t = GetsParts ps t
+
+abbrev pub GetsNames : List ℕ → List ℕ → Answer → Type 0
+GetsNames names t a = MatchOption (parts_named names) (a ≡ Unknown) (λ ps. GetsEach ps t a)
 
 -- normalize: the normal form
 abbrev pub Normalizes : List ℕ → Answer → Type 0
@@ -250,12 +316,16 @@ Files t a = MatchResult (uri_of_path t) (λ u. Prints (print u) a) (λ e. a ≡ 
 abbrev pub GetsFile : List ℕ → Answer → Type 0
 GetsFile t = OfUri t (λ p a. MatchResult (path_of_uri p) (λ path. Prints path a) (λ e. a ≡ Rejected))
 
--- edit with --lines: a reference, or the edits are rejected; which reference the edits make is not said here
-abbrev pub Edited : Answer → Type 0
-Edited a = ((p : Parts) × Prints (print p) a) ⊎ (a ≡ Rejected)
+-- edit with --lines: the reference that the edits make, if none of them is rejected
+abbrev pub Edited : Option Parts → Answer → Type 0
+Edited made a = MatchOption made (a ≡ Rejected) (λ q. Prints (print q) a)
 
-abbrev pub EditsLine : List ℕ → Answer → Type 0
-EditsLine t = OfReference t (λ p. Edited)
+abbrev pub EditsLine : (Parts → Option Parts) → List ℕ → Answer → Type 0
+EditsLine make t = OfReference t (λ p. Edited (make p))
+
+-- edit: the words are checked before the text is read
+abbrev pub Edits : List ℕ → List (List ℕ) → Answer → Type 0
+Edits t words a = MatchOption (edits_of words) (a ≡ Unknown) (λ es. EditsLine (all_made es) t a)
 
 -- ---- options
 
@@ -297,12 +367,122 @@ AnswersLine tasks.Equal t = OfPair t Compares
 AnswersLine tasks.CheckEqual t = OfPair t ChecksEqual
 AnswersLine (tasks.Resolve base) t = ResolvesAgainst base.parts t
 AnswersLine (tasks.Relativize base) t = RelativizesAgainst base t
-AnswersLine (tasks.Edit steps) t = EditsLine t
+AnswersLine (tasks.Edit steps) t = EditsLine (steps_made steps.items) t
 AnswersLine (tasks.Pair name) t = GetsPairOrEmpty name.now t
 AnswersLine (tasks.Within base) t = PrintsWithin base.parts t
 AnswersLine (tasks.HostWithin domain) t = PrintsHostWithin domain t
 AnswersLine tasks.Escape t = Escapes t
 AnswersLine tasks.EscapeLink t = EscapesLink t
+
+-- ---- words
+
+-- the one relation if the test is true, and else the other
+infix 5 when◌answers◌else◌
+abbrev pub when◌answers◌else◌ : Bool → (Answer → Type 0) → (Answer → Type 0) → Answer → Type 0
+(when true answers Is else Other) a = Is a
+(when false answers Is else Other) a = Other a
+
+-- no command has these words
+abbrev pub IsUnknown : Answer → Type 0
+IsUnknown a = a ≡ Unknown
+
+-- get NAMES, and get file
+abbrev pub GetsNamed : List ℕ → List ℕ → Answer → Type 0
+GetsNamed names t = when bytes_eq names (codes "file") answers GetsFile t else GetsNames names t
+
+-- some bytes, of which nothing is said here
+abbrev pub PrintsSome : Answer → Type 0
+PrintsSome a = (bytes : List ℕ) × (a ≡ Printed bytes)
+
+-- help on a command or an option; what help says is not said here
+abbrev pub HelpsOn : List ℕ → Answer → Type 0
+HelpsOn name a = PrintsSome a ⊎ (a ≡ Unknown)
+
+abbrev pub Helps : List (List ℕ) → Answer → Type 0
+Helps [] = PrintsSome
+Helps (name ∷ []) = HelpsOn name
+Helps texts = IsUnknown
+
+-- a command without texts, of one or of two
+abbrev pub OnNothing : (Answer → Type 0) → List (List ℕ) → Answer → Type 0
+OnNothing Is [] = Is
+OnNothing Is texts = IsUnknown
+
+abbrev pub OnText : (List ℕ → Answer → Type 0) → List (List ℕ) → Answer → Type 0
+OnText Is (t ∷ []) = Is t
+OnText Is texts = IsUnknown
+
+abbrev pub OnTexts : (List ℕ → List ℕ → Answer → Type 0) → List (List ℕ) → Answer → Type 0
+OnTexts Is (t ∷ u ∷ []) = Is t u
+OnTexts Is texts = IsUnknown
+
+-- a command of a text and of edits
+abbrev pub OnEdits : List (List ℕ) → Answer → Type 0
+OnEdits [] = IsUnknown
+OnEdits (t ∷ edits) = Edits t edits
+
+-- the command of this name, of so many texts as it takes
+abbrev pub AnswersNamed : List ℕ → List (List ℕ) → Answer → Type 0
+AnswersNamed name texts =
+    when bytes_eq name (codes "parse") answers OnText Parses texts else
+    when bytes_eq name (codes "tail") answers OnText Tails texts else
+    when bytes_eq name (codes "get") answers OnTexts GetsNamed texts else
+    when bytes_eq name (codes "normalize") answers OnText Normalizes texts else
+    when bytes_eq name (codes "equal") answers OnTexts Compares texts else
+    when bytes_eq name (codes "resolve") answers OnTexts Resolves texts else
+    when bytes_eq name (codes "relativize") answers OnTexts Relativizes texts else
+    when bytes_eq name (codes "decode") answers OnText Decodes texts else
+    when bytes_eq name (codes "encode") answers OnTexts Encodes texts else
+    when bytes_eq name (codes "escape") answers OnText Escapes texts else
+    when bytes_eq name (codes "pairs") answers OnText Pairs texts else
+    when bytes_eq name (codes "pair") answers OnTexts GetsPair texts else
+    when bytes_eq name (codes "within") answers OnTexts Within texts else
+    when bytes_eq name (codes "host-within") answers OnTexts HostWithin texts else
+    when bytes_eq name (codes "file") answers OnText Files texts else
+    when bytes_eq name (codes "help") answers Helps texts else
+    when bytes_eq name (codes "--help") answers OnNothing PrintsSome texts else
+    when bytes_eq name (codes "--version") answers OnNothing PrintsSome texts else
+    IsUnknown
+
+-- the same with these options
+abbrev pub AnswersTo : Mode → List ℕ → List (List ℕ) → Answer → Type 0
+AnswersTo modes.Plain name texts = AnswersNamed name texts
+AnswersTo modes.Json name texts = when bytes_eq name (codes "parse") answers OnText ParsesJson texts else IsUnknown
+AnswersTo modes.Quiet name texts =
+    when bytes_eq name (codes "parse") answers OnText Checks texts else
+    when bytes_eq name (codes "equal") answers OnTexts ChecksEqual texts else
+    IsUnknown
+AnswersTo modes.Trim name texts = when bytes_eq name (codes "escape") answers OnText EscapesLink texts else IsUnknown
+AnswersTo modes.DropDefaultPort name texts = when bytes_eq name (codes "normalize") answers OnText NormalizesPort texts else IsUnknown
+AnswersTo modes.Mixed name texts = IsUnknown
+
+-- the same of each command
+abbrev pub AnswersAny : Mode → List ℕ → List (List ℕ) → Answer → Type 0
+AnswersAny modes.Plain name texts = when bytes_eq name (codes "edit") answers OnEdits texts else AnswersNamed name texts
+AnswersAny mode name texts = AnswersTo mode name texts
+
+-- whether an option is there that only --lines takes
+abbrev pub is_for_lines : Options → Bool
+is_for_lines options = is_some options.columns || not (options.end == newline)
+
+-- whether --explain may precede the command of this name
+abbrev pub explains : Mode → List ℕ → Bool
+explains modes.Plain name = bytes_eq name (codes "parse") || bytes_eq name (codes "resolve")
+explains modes.Json name = bytes_eq name (codes "parse")
+explains mode name = false
+
+abbrev pub may_explain : Options → List (List ℕ) → Bool
+may_explain options [] = not options.explains
+may_explain options (name ∷ texts) = not options.explains || explains options.mode name
+
+-- the words are a command and its texts
+abbrev pub AnswersWords : Mode → List (List ℕ) → Answer → Type 0
+AnswersWords mode [] = IsUnknown
+AnswersWords mode (name ∷ texts) = AnswersAny mode name texts
+
+-- the answer to these words that follow these options, without --lines
+abbrev pub Answers : Options → List (List ℕ) → Answer → Type 0
+Answers options words = when is_for_lines options || not (may_explain options words) answers IsUnknown else AnswersWords options.mode words
 
 -- ---- what was done
 
@@ -338,10 +518,34 @@ abbrev pub Does : (Answer → Type 0) → Option (List ℕ) → Option (List ℕ
 Does Is old new (Ok _) = (bytes : List ℕ) × Is (Printed bytes) × Appends old new bytes
 Does Is old new (Err f) = EndsWork f ⊎ (Is (answer_of f) × (new ≡ old))
 
--- the same of a command that never prints
+-- The same of a command that never prints. It allocates nothing, so its work never ends early.
 abbrev pub Finds : (Answer → Type 0) → Result (Unit {0}) Failure → Type 0
 Finds Is (Ok _) = Is (Printed [])
-Finds Is (Err f) = EndsWork f ⊎ Is (answer_of f)
+Finds Is (Err f) = Is (answer_of f)
+
+-- ---- the program
+
+-- the bytes of an answer went out, with this exit status
+abbrev pub Gave : Answer → Option (List ℕ) → Option (List ℕ) → ℕ → Type 0
+Gave (Printed bytes) old new status = Appends old new bytes × (status ≡ 0)
+Gave Rejected old new status = (new ≡ old) × (status ≡ 1)
+Gave Negative old new status = (new ≡ old) × (status ≡ 3)
+Gave Unknown old new status = (new ≡ old) × (status ≡ 2)
+
+-- the first of the bytes of such an answer went out, or nothing
+abbrev pub Starts : (Answer → Type 0) → Option (List ℕ) → Option (List ℕ) → Type 0
+Starts Is old new = (new ≡ old) ⊎ ((first rest : List ℕ) × Is (Printed (first ++ rest)) × Appends old new first)
+
+-- The program gave such an answer. If memory ran out or a write failed, the status is 1, and what went out is the beginning of an answer.
+abbrev pub Ends : (Answer → Type 0) → Option (List ℕ) → Option (List ℕ) → ℕ → Type 0
+Ends Is old new status = ((a : Answer) × Is a × Gave a old new status) ⊎ ((status ≡ 1) × Starts Is old new)
+
+-- the status of an answer
+abbrev pub status_of : Answer → ℕ
+status_of (Printed bytes) = 0
+status_of Rejected = 1
+status_of Negative = 3
+status_of Unknown = 2
 
 -- ---- words of private functions' clauses alone
 
@@ -349,6 +553,11 @@ Finds Is (Err f) = EndsWork f ⊎ Is (answer_of f)
 abbrev pub Writes : List ℕ → Option (List ℕ) → Option (List ℕ) → Result (Unit {0}) Failure → Type 0
 Writes bytes old new (Ok _) = Appends old new bytes
 Writes bytes old new (Err f) = EndsWork f
+
+-- `Does` of a command whose output is written once it is whole
+abbrev pub DoesAtOnce : (Answer → Type 0) → Option (List ℕ) → Option (List ℕ) → Result ℕ Failure → Type 0
+DoesAtOnce Is old new (Ok status) = (bytes : List ℕ) × Is (Printed bytes) × Appends old new bytes × (status ≡ 0)
+DoesAtOnce Is old new (Err f) = (EndsWork f × Starts Is old new) ⊎ (Is (answer_of f) × (new ≡ old))
 
 -- the work ended
 abbrev pub Ended : Result (Unit {0}) Failure → Type 0
@@ -392,3 +601,22 @@ abbrev pub IsOfBuffer : BufferError → Failure → Type 0
 IsOfBuffer (buffers.TooSmall n) f = EndsWork f
 IsOfBuffer buffers.RelativeBase f = f ≡ failures.Uri uris.NotURI
 IsOfBuffer buffers.TooManySegments f = f ≡ failures.Uri (uris.Path ExceededMaximumLength)
+
+-- The reference is this one, or the edit is rejected, or memory ran out.
+abbrev pub Makes : Option Parts → Parts → Result (Unit {0}) EditError → Type 0
+Makes made new (Ok _) = made ≡ Some new
+Makes made new (Err e) = RunsOut e ⊎ (made ≡ None)
+
+-- The steps make what the edits make. Or the edits are rejected whatever the reference is, or memory ran out.
+abbrev pub ReadsChanges : List Edit → Result (Vec Step Global) Failure → Type 0
+ReadsChanges es (Ok steps) = (p : Parts) → steps_made steps.items p ≡ all_made es p
+ReadsChanges es (Err f) = EndsWork f ⊎ ((answer_of f ≡ Rejected) × ((p : Parts) → all_made es p ≡ None))
+
+-- The words are no edits, which is a usage error, or memory ran out.
+abbrev pub NamesNone : Result (Vec Step Global) Failure → Type 0
+NamesNone (Ok steps) = ⊥
+NamesNone (Err f) = EndsWork f ⊎ (f ≡ failures.Usage)
+
+-- the same of the edits that the words are, if they are edits
+abbrev pub ReadsEdits : List (List ℕ) → Result (Vec Step Global) Failure → Type 0
+ReadsEdits words result = MatchOption (edits_of words) (NamesNone result) (λ es. ReadsChanges es result)

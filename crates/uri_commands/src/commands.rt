@@ -1,8 +1,10 @@
 //! The table of the commands: what `uri help` says of each, the words that it takes, and how it
 //! runs on the texts among its words and on each line of an input.
 
-ghost use Rattle.std.specs.Prelude.{◌<◌};
+ghost use Rattle.std.specs.Prelude.{◌≡◌, ◌<◌, ◌∷◌, [], IfSome, map};
 ghost use Rattle.uri_commands.specs.Output as spec;
+ghost use Rattle.uri_commands.specs.Outputs.{count_of, width_of};
+ghost use Rattle.uri_commands.specs.Tasks.{Edits, Gets, Reads, Tasks, TasksAny, TasksNamed, TasksTo};
 
 use crate::decode::{self, decode};
 use crate::edit::{self, Step, edit, edit_line, read_edits};
@@ -11,7 +13,7 @@ use crate::equal::{self, equal, equal_pair, pair_fault_offset};
 use crate::escape::{self, escape, escape_link};
 use crate::failure::Failure;
 use crate::file::{self, file, get_file};
-use crate::get::{self, Part, get, get_or_empty, get_parts, read_part, read_parts};
+use crate::get::{self, Part, get, get_or_empty, get_parts, read_parts};
 use crate::help::{self, help, help_on, version};
 use crate::json::{self, parse_json};
 use crate::normalize::{self, normalize, normalize_port, normalize_with};
@@ -32,7 +34,9 @@ use uriparse::{Host, URI, URIReference, URIView};
 
 /// The topic of `uri help` with this index, or `None` after the last. A `match`, since the prover takes quadratic time for a
 /// static table.
-pub fn topic(place: usize) -> Option<&'static Topic> {
+pub fn topic(place: usize) -> Option<&'static Topic>
+    ensures { IfSome result (λ _. place < 27) }
+{
     match place {
         0 => Some(&parse::ABOUT),
         1 => Some(&tail::ABOUT),
@@ -65,13 +69,24 @@ pub fn topic(place: usize) -> Option<&'static Topic> {
     }
 }
 
-/// Whether `--explain` is absent, or may precede the command of these words.
-fn may_explain(options: Options, words: &[&str]) -> bool {
-    match (options.mode, words) {
-        _ if !options.explains => true,
-        (Mode::Plain | Mode::Json, ["parse", ..]) => true,
-        (Mode::Plain, ["resolve", ..]) => true,
+/// Whether `--explain` may precede the command of this name.
+fn explains(mode: Mode, name: &str) -> bool
+    ensures { result ≡ spec.explains mode name.now }
+{
+    match mode {
+        Mode::Plain => matches!(name, "parse" | "resolve"),
+        Mode::Json => name == "parse",
         _ => false,
+    }
+}
+
+/// Whether `--explain` is absent, or may precede the command of these words.
+fn may_explain(options: Options, words: &[&str]) -> bool
+    ensures { result ≡ spec.may_explain options (map (λ w. w.now) words.now) }
+{
+    match words {
+        [name, ..] => !options.explains || explains(options.mode, name),
+        [] => !options.explains,
     }
 }
 
@@ -81,22 +96,70 @@ pub fn run_texts<O: Write>(
     options: Options,
     words: &[&str],
     out: &mut O,
-) -> Result<(), Failure> {
-    match (options.mode, words) {
-        _ if !may_explain(options, words) || options.is_for_lines() => Err(Failure::Usage),
-        (Mode::Plain, ["edit", text, edits @ ..]) => edit(alloc, text, edits, out),
-        (Mode::Plain, [name]) => run_one_word(name, out),
-        (mode, [name, text]) => run_two_words(alloc, mode, name, text, out),
-        (mode, [name, first, second]) => { run_three_words(alloc, mode, name, first, second, out) }
+) -> Result<(), Failure>
+    ensures { spec.Does (spec.Answers options (map (λ w. w.now) words.now)) (O.contents out.old) (O.contents out.new) result }
+{
+    if !may_explain(options, words) || options.is_for_lines() {
+        return Err(Failure::Usage);
+    }
+    match words {
+        [name, texts @ ..] => run_any(alloc, options.mode, name, texts, out),
+        [] => Err(Failure::Usage),
+    }
+}
+
+/// Runs the command of this name on the words that follow it.
+fn run_any<O: Write>(
+    alloc: Global,
+    mode: Mode,
+    name: &str,
+    texts: &[&str],
+    out: &mut O,
+) -> Result<(), Failure>
+    ensures { spec.Does (spec.AnswersAny mode name.now (map (λ w. w.now) texts.now)) (O.contents out.old) (O.contents out.new) result }
+{
+    match (mode, name) {
+        (Mode::Plain, "edit") => run_edit(alloc, texts, out),
+        _ => run_named(alloc, mode, name, texts, out),
+    }
+}
+
+/// Makes the edits that follow a text.
+fn run_edit<O: Write>(alloc: Global, texts: &[&str], out: &mut O) -> Result<(), Failure>
+    ensures { spec.Does (spec.OnEdits (map (λ w. w.now) texts.now)) (O.contents out.old) (O.contents out.new) result }
+{
+    match texts {
+        [text, edits @ ..] => edit(alloc, text, edits, out),
+        [] => Err(Failure::Usage),
+    }
+}
+
+/// Runs the command of this name, but not `edit`, on the words that follow it.
+fn run_named<O: Write>(
+    alloc: Global,
+    mode: Mode,
+    name: &str,
+    texts: &[&str],
+    out: &mut O,
+) -> Result<(), Failure>
+    ensures { spec.Does (spec.AnswersTo mode name.now (map (λ w. w.now) texts.now)) (O.contents out.old) (O.contents out.new) result }
+{
+    match texts {
+        [] => run_one_word(mode, name, out),
+        [text] => run_two_words(alloc, mode, name, text, out),
+        [first, second] => run_three_words(alloc, mode, name, first, second, out),
         _ => Err(Failure::Usage),
     }
 }
 
 /// Runs the command that is this word alone.
-fn run_one_word<O: Write>(name: &str, out: &mut O) -> Result<(), Failure> {
-    match name {
-        "help" | "--help" => help(out).map_err(Failure::Output),
-        "--version" => version(out).map_err(Failure::Output),
+fn run_one_word<O: Write>(mode: Mode, name: &str, out: &mut O) -> Result<(), Failure>
+    ensures { spec.Does (spec.AnswersTo mode name.now []) (O.contents out.old) (O.contents out.new) result }
+{
+    match (mode, name) {
+        (Mode::Plain, "help") => help(out).map_err(Failure::Output),
+        (Mode::Plain, "--help") => help(out).map_err(Failure::Output),
+        (Mode::Plain, "--version") => version(out).map_err(Failure::Output),
         _ => Err(Failure::Usage),
     }
 }
@@ -108,7 +171,9 @@ fn run_two_words<O: Write>(
     name: &str,
     text: &str,
     out: &mut O,
-) -> Result<(), Failure> {
+) -> Result<(), Failure>
+    ensures { spec.Does (spec.AnswersTo mode name.now (text.now ∷ [])) (O.contents out.old) (O.contents out.new) result }
+{
     match (mode, name) {
         (Mode::Plain, _) => run_plain(alloc, name, text, out),
         (Mode::Json, "parse") => parse_json(text.as_bytes(), out),
@@ -120,7 +185,9 @@ fn run_two_words<O: Write>(
 }
 
 /// Runs the command of this name on the word that follows it, with `Mode::Plain`.
-fn run_plain<O: Write>(alloc: Global, name: &str, text: &str, out: &mut O) -> Result<(), Failure> {
+fn run_plain<O: Write>(alloc: Global, name: &str, text: &str, out: &mut O) -> Result<(), Failure>
+    ensures { spec.Does (spec.AnswersNamed name.now (text.now ∷ [])) (O.contents out.old) (O.contents out.new) result }
+{
     match name {
         "parse" => parse(alloc, text, out),
         "tail" => tail(alloc, text, out),
@@ -142,21 +209,46 @@ fn run_three_words<O: Write>(
     first: &str,
     second: &str,
     out: &mut O,
-) -> Result<(), Failure> {
+) -> Result<(), Failure>
+    ensures { spec.Does (spec.AnswersTo mode name.now (first.now ∷ second.now ∷ [])) (O.contents out.old) (O.contents out.new) result }
+{
     match (mode, name) {
-        (Mode::Plain, "get") if first == "file" => get_file(alloc, second.as_bytes(), out),
-        (Mode::Plain, "get") => get(alloc, first, second.as_bytes(), out),
-        (Mode::Plain, "equal") => equal(first.as_bytes(), second.as_bytes(), out),
+        (Mode::Plain, _) => run_plain_on_two(alloc, name, first, second, out),
         (Mode::Quiet, "equal") => check_equal(first.as_bytes(), second.as_bytes()),
-        (Mode::Plain, "resolve") => resolve(alloc, first.as_bytes(), second.as_bytes(), out),
-        (Mode::Plain, "relativize") => {
-            relativize(alloc, first.as_bytes(), second.as_bytes(), out)
-        }
-        (Mode::Plain, "encode") => encode(alloc, first, second.as_bytes(), out),
-        (Mode::Plain, "pair") => pair(alloc, first, second.as_bytes(), out),
-        (Mode::Plain, "within") => within(first.as_bytes(), second.as_bytes()),
-        (Mode::Plain, "host-within") => host_within(first, second.as_bytes()),
         _ => Err(Failure::Usage),
+    }
+}
+
+/// Runs the command of this name on the two words that follow it, with `Mode::Plain`.
+fn run_plain_on_two<O: Write>(
+    alloc: Global,
+    name: &str,
+    first: &str,
+    second: &str,
+    out: &mut O,
+) -> Result<(), Failure>
+    ensures { spec.Does (spec.AnswersNamed name.now (first.now ∷ second.now ∷ [])) (O.contents out.old) (O.contents out.new) result }
+{
+    match name {
+        "get" => get_named(alloc, first, second, out),
+        "equal" => equal(first.as_bytes(), second.as_bytes(), out),
+        "resolve" => resolve(alloc, first.as_bytes(), second.as_bytes(), out),
+        "relativize" => relativize(alloc, first.as_bytes(), second.as_bytes(), out),
+        "encode" => encode(alloc, first, second.as_bytes(), out),
+        "pair" => pair(alloc, first, second.as_bytes(), out),
+        "within" => within(first.as_bytes(), second.as_bytes()),
+        "host-within" => host_within(first, second.as_bytes()),
+        _ => Err(Failure::Usage),
+    }
+}
+
+/// Prints the path of a file, or the components of these names.
+fn get_named<O: Write>(alloc: Global, names: &str, text: &str, out: &mut O) -> Result<(), Failure>
+    ensures { spec.Does (spec.GetsNamed names.now text.now) (O.contents out.old) (O.contents out.new) result }
+{
+    match names {
+        "file" => get_file(alloc, text.as_bytes(), out),
+        _ => get(alloc, names, text.as_bytes(), out),
     }
 }
 
@@ -199,43 +291,101 @@ pub enum Task<'w> {
 
 impl<'w> Task<'w> {
     /// Reads a task from the words of the command. A base is read here, before any line.
-    pub fn read(alloc: Global, options: Options, words: &[&'w str]) -> Result<Task<'w>, Failure> {
-        match (options.mode, words) {
-            _ if !may_explain(options, words) => Err(Failure::Usage),
-            (Mode::Quiet, _) if options.columns.is_some() => Err(Failure::Usage),
-            (Mode::Plain, ["edit", edits @ ..]) => Ok(Task::Edit(read_edits(alloc, edits)?)),
-            (mode, [name]) => Task::read_one_word(mode, name),
-            (Mode::Plain, [name, text]) => Task::read_two_words(alloc, name, text),
+    pub fn read(alloc: Global, options: Options, words: &[&'w str]) -> Result<Task<'w>, Failure>
+        ensures { Reads (Tasks options (map (λ w. w.now) words.now)) result }
+    {
+        let is_quiet = matches!(options.mode, Mode::Quiet);
+        if !may_explain(options, words) || is_quiet && options.columns.is_some() {
+            return Err(Failure::Usage);
+        }
+        match words {
+            [name, texts @ ..] => Task::read_any(alloc, options.mode, name, texts),
+            [] => Err(Failure::Usage),
+        }
+    }
+
+    /// The task of the command of this name with the words that follow it.
+    fn read_any(
+        alloc: Global,
+        mode: Mode,
+        name: &str,
+        texts: &[&'w str],
+    ) -> Result<Task<'w>, Failure>
+        ensures { Reads (TasksAny mode name.now (map (λ w. w.now) texts.now)) result }
+    {
+        match (mode, name) {
+            (Mode::Plain, "edit") => Task::read_edit(alloc, texts),
+            _ => Task::read_named(alloc, mode, name, texts),
+        }
+    }
+
+    /// The task of `edit` with these edits.
+    #[tactic(auto, using(crate::proofs::TaskLemmas::reads_steps, crate::proofs::TaskLemmas::reads_no_steps))]
+    fn read_edit(alloc: Global, words: &[&'w str]) -> Result<Task<'w>, Failure>
+        ensures { Reads (Edits (map (λ w. w.now) words.now)) result }
+    {
+        Ok(Task::Edit(read_edits(alloc, words)?))
+    }
+
+    /// The task of the command of this name, but not `edit`, with the words that follow it.
+    fn read_named(
+        alloc: Global,
+        mode: Mode,
+        name: &str,
+        texts: &[&'w str],
+    ) -> Result<Task<'w>, Failure>
+        ensures { Reads (TasksTo mode name.now (map (λ w. w.now) texts.now)) result }
+    {
+        match (mode, texts) {
+            (_, []) => Task::read_one_word(mode, name),
+            (Mode::Plain, [text]) => Task::read_two_words(alloc, name, text),
             _ => Err(Failure::Usage),
         }
     }
 
     /// The task of the command that is this word alone.
-    fn read_one_word(mode: Mode, name: &str) -> Result<Task<'w>, Failure> {
+    fn read_one_word(mode: Mode, name: &str) -> Result<Task<'w>, Failure>
+        ensures { Reads (TasksTo mode name.now []) result }
+    {
         match (mode, name) {
-            (Mode::Plain | Mode::Json, "parse") => Ok(Task::Parse),
-            (Mode::Quiet, "parse") => Ok(Task::Check),
+            (Mode::Plain, "parse") => Ok(Task::Parse),
             (Mode::Plain, "normalize") => Ok(Task::Normalize),
-            (Mode::DropDefaultPort, "normalize") => Ok(Task::NormalizePort),
             (Mode::Plain, "equal") => Ok(Task::Equal),
-            (Mode::Quiet, "equal") => Ok(Task::CheckEqual),
             (Mode::Plain, "escape") => Ok(Task::Escape),
+            (Mode::Json, "parse") => Ok(Task::Parse),
+            (Mode::Quiet, "parse") => Ok(Task::Check),
+            (Mode::Quiet, "equal") => Ok(Task::CheckEqual),
             (Mode::Trim, "escape") => Ok(Task::EscapeLink),
+            (Mode::DropDefaultPort, "normalize") => Ok(Task::NormalizePort),
             _ => Err(Failure::Usage),
         }
     }
 
     /// The task of the command of this name with the word that follows it.
-    fn read_two_words(alloc: Global, name: &str, text: &'w str) -> Result<Task<'w>, Failure> {
+    #[tactic(auto, using(crate::proofs::TaskLemmas::resolves, crate::proofs::TaskLemmas::relativizes, crate::proofs::TaskLemmas::not_relativized, crate::proofs::TaskLemmas::is_within, crate::proofs::TaskLemmas::base_rejected, crate::proofs::TaskLemmas::domain_read, crate::proofs::TaskLemmas::domain_rejected))]
+    fn read_two_words(alloc: Global, name: &str, text: &'w str) -> Result<Task<'w>, Failure>
+        ensures { Reads (TasksNamed name.now (text.now ∷ [])) result }
+    {
         match name {
-            "get" if text.contains(',') => Ok(Task::GetParts(read_parts(alloc, text)?)),
-            "get" => Ok(Task::Get(read_part(text)?)),
+            "get" => Task::read_get(alloc, text),
             "resolve" => Ok(Task::Resolve(URIView::try_from_str(text)?)),
             "relativize" => Ok(Task::Relativize(URI::try_from_str(alloc, text)?)),
             "pair" => Ok(Task::Pair(text)),
             "within" => Ok(Task::Within(URIView::try_from_str(text)?)),
             "host-within" => Ok(Task::HostWithin(read_domain(text)?)),
             _ => Err(Failure::Usage),
+        }
+    }
+
+    /// The task of `get` with these names, which commas separate.
+    #[tactic(auto, using(crate::proofs::TaskLemmas::gets_one, crate::proofs::TaskLemmas::gets_several, crate::proofs::TaskLemmas::gets_none))]
+    fn read_get(alloc: Global, names: &str) -> Result<Task<'w>, Failure>
+        ensures { Reads (Gets names.now) result }
+    {
+        let parts = read_parts(alloc, names)?;
+        match parts.as_slice() {
+            [part] => Ok(Task::Get(*part)),
+            _ => Ok(Task::GetParts(parts)),
         }
     }
 
@@ -272,7 +422,8 @@ impl<'w> Task<'w> {
 
     /// How many fields of a line the task reads.
     pub fn width(&self) -> usize
-        ensures { 0 < result }
+        ensures is { result ≡ width_of self.now }
+        ensures some { 0 < result }
     {
         match self {
             Task::Equal | Task::CheckEqual => 2,
@@ -290,7 +441,9 @@ impl<'w> Task<'w> {
     }
 
     /// How many fields the task prints.
-    pub fn printed_fields(&self) -> usize {
+    pub fn printed_fields(&self) -> usize
+        ensures { result ≡ count_of self.now }
+    {
         match self {
             Task::GetParts(parts) => parts.len(),
             _ => 1,

@@ -1,10 +1,20 @@
 //! `uri edit TEXT EDIT..`: a reference with components or pairs set or removed.
 
-ghost use Rattle.std.specs.Prelude.{◌≡◌, IfErr, MatchResult};
+ghost use Rattle.std.specs.Prelude.{◌≡◌, ◌≤◌, ◌<◌, ◌⊎◌, ◌∷◌, ◌++◌, List, None, Some, IfOk, IfSome, MatchOption, MatchResult, OnOk, drop, flat_map, length, map};
+ghost use Rattle.std.specs.Option.{option_and_then, option_map};
+ghost use Rattle.std.specs.Result.{result_ok};
 ghost use Rattle.uriparse.specs.Host.{reading};
 ghost use Rattle.uriparse.specs.HostError.{HostError};
+ghost use Rattle.uriparse.specs.Password as password;
+ghost use Rattle.uriparse.specs.Port as port;
+ghost use Rattle.uriparse.specs.Query as query;
+ghost use Rattle.uriparse.specs.Reference.{Parts};
+ghost use Rattle.uriparse.specs.Username as username;
+ghost use Rattle.uri_commands.specs.Edits as edits;
 ghost use Rattle.uri_commands.specs.Output as spec;
 ghost use Rattle.uri_commands.specs.Output.{Rejected};
+ghost use Rattle.uri_commands.specs.declared.edit.Change.{Change};
+ghost use Rattle.uri_commands.specs.declared.failure.Failure.TheVariants.{Usage};
 
 use crate::failure::{EditError, Failure};
 use crate::print::print_line;
@@ -136,7 +146,9 @@ pub struct Step<'w> {
 }
 
 /// The component of this name.
-fn component_of(name: &str) -> Option<Component> {
+fn component_of(name: &str) -> Option<Component>
+    ensures { result ≡ edits.component_of name.now }
+{
     match name {
         "scheme" => Some(Component::Scheme),
         "authority" => Some(Component::Authority),
@@ -152,7 +164,9 @@ fn component_of(name: &str) -> Option<Component> {
 }
 
 /// What the edit of this name removes.
-fn dropped_of(name: &str) -> Option<Dropped> {
+fn dropped_of(name: &str) -> Option<Dropped>
+    ensures { result ≡ edits.dropped_of name.now }
+{
     match name {
         "drop-scheme" => Some(Dropped::Scheme),
         "drop-authority" | "drop-host" => Some(Dropped::Authority),
@@ -166,7 +180,9 @@ fn dropped_of(name: &str) -> Option<Dropped> {
 }
 
 /// The edit of this name that takes no value.
-fn plain_change(name: &str) -> Option<Change<'static>> {
+fn plain_change(name: &str) -> Option<Change<'static>>
+    ensures { option_map edits.edit_of result ≡ edits.plain_edit name.now }
+{
     match name {
         "sort-pairs" => Some(Change::SortPairs),
         "normalize" => Some(Change::Normalize),
@@ -175,7 +191,9 @@ fn plain_change(name: &str) -> Option<Change<'static>> {
 }
 
 /// The edit of this name that takes one value.
-fn valued_change<'w>(name: &str, value: &'w str) -> Option<Change<'w>> {
+fn valued_change<'w>(name: &str, value: &'w str) -> Option<Change<'w>>
+    ensures { option_map edits.edit_of result ≡ edits.valued_edit name.now value.now }
+{
     match name {
         "drop-pair" => Some(Change::DropPair(value)),
         _ => Some(Change::Set(component_of(name)?, value)),
@@ -183,7 +201,9 @@ fn valued_change<'w>(name: &str, value: &'w str) -> Option<Change<'w>> {
 }
 
 /// The edit of this name that takes a name and a value.
-fn pair_change<'w>(edit: &str, name: &'w str, value: &'w str) -> Option<Change<'w>> {
+fn pair_change<'w>(edit: &str, name: &'w str, value: &'w str) -> Option<Change<'w>>
+    ensures { option_map edits.edit_of result ≡ edits.pair_edit edit.now name.now value.now }
+{
     match edit {
         "set-pair" => Some(Change::SetPair(name, value)),
         "append-pair" => Some(Change::AppendPair(name, value)),
@@ -192,7 +212,10 @@ fn pair_change<'w>(edit: &str, name: &'w str, value: &'w str) -> Option<Change<'
 }
 
 /// The first edit of these words, and how many words it takes.
-fn first_change<'w>(words: &[&'w str]) -> Option<(Change<'w>, usize)> {
+fn first_change<'w>(words: &[&'w str]) -> Option<(Change<'w>, usize)>
+    ensures bounds { IfSome result (λ x. (0 < x.1) × (x.1 ≤ length words.now)) }
+    ensures edits { MatchOption result (0 < length words.now → edits.edits_of (map (λ w. w.now) words.now) ≡ None) (λ x. edits.edits_of (map (λ w. w.now) words.now) ≡ option_map (λ es. edits.edit_of x.0 ∷ es) (edits.edits_of (map (λ w. w.now) (drop x.1 words.now)))) }
+{
     let [edit, values @ ..] = words else {
         return None;
     };
@@ -208,20 +231,24 @@ fn first_change<'w>(words: &[&'w str]) -> Option<(Change<'w>, usize)> {
     let [second, ..] = more else {
         return None;
     };
-    Some((pair_change(edit, first, second)?, 3))
+    if let Some(change) = pair_change(edit, first, second) {
+        return Some((change, 3));
+    }
+    None
 }
 
 /// The edits that the words say, from the left.
-fn changes<'w>(alloc: Global, words: &[&'w str]) -> Result<Vec<Change<'w>>, Failure> {
+fn changes<'w>(alloc: Global, words: &[&'w str]) -> Result<Vec<Change<'w>>, Failure>
+    ensures { MatchResult result (λ changes. edits.edits_of (map (λ w. w.now) words.now) ≡ Some (map edits.edit_of changes.items)) (λ f. spec.EndsWork f ⊎ ((edits.edits_of (map (λ w. w.now) words.now) ≡ None) × (f ≡ Usage))) }
+{
     let mut changes = Vec::with_capacity(alloc, words.len())?;
-    let mut next = 0usize;
-    for at in 0..words.len() {
-        if at < next {
-            continue;
-        }
-        let (change, count) = first_change(&words[at..]).ok_or(Failure::Usage)?;
+    let mut at = 0;
+    'words: while at < words.len() {
+        let Some((change, count)) = first_change(&words[at..]) else {
+            return Err(Failure::Usage);
+        };
         changes.push(change)?;
-        next = at.saturating_add(count);
+        at += count;
     }
     Ok(changes)
 }
@@ -231,7 +258,9 @@ fn read_set<'w>(
     alloc: Global,
     component: Component,
     text: &'w str,
-) -> Result<Value<'w>, URIReferenceError> {
+) -> Result<Value<'w>, URIReferenceError>
+    ensures { edits.ReadsValue (edits.value_of component text.now) result }
+{
     Ok(match component {
         Component::Scheme => Value::Scheme(Scheme::try_from_str(text)?),
         Component::Authority => Value::Authority(Authority::try_from_str(text)?),
@@ -246,12 +275,16 @@ fn read_set<'w>(
 }
 
 /// Reads a user name.
-fn read_username(text: &str) -> Result<Username<'_>, AuthorityError> {
+fn read_username(text: &str) -> Result<Username<'_>, AuthorityError>
+    ensures { result_ok result ≡ result_ok (username.reading text.now) }
+{
     Ok(Username::try_from_str(text)?)
 }
 
 /// Reads a password.
-fn read_password(text: &str) -> Result<Password<'_>, AuthorityError> {
+fn read_password(text: &str) -> Result<Password<'_>, AuthorityError>
+    ensures { result_ok result ≡ result_ok (password.reading text.now) }
+{
     Ok(Password::try_from_str(text)?)
 }
 
@@ -263,79 +296,111 @@ pub fn read_host(text: &str) -> Result<Host<'_>, AuthorityError>
 }
 
 /// Reads a port. An empty one counts as absent.
-fn read_port(text: &str) -> Result<Option<u16>, AuthorityError> {
+fn read_port(text: &str) -> Result<Option<u16>, AuthorityError>
+    ensures { result_ok result ≡ result_ok (port.reading text.now) }
+{
     Ok(parse_port(text.as_bytes())?)
 }
 
 /// Appends a name that is written as a query, so that no `&` or `=` in it ends it.
-fn push_name(names: &mut String, name: &str) -> Result<(), AllocError> {
-    for c in name.chars() {
-        match c {
-            '&' => names.push_str("%26")?,
-            '=' => names.push_str("%3D")?,
-            c => names.push(c)?,
+fn push_name(names: &mut Vec<u8>, name: &[u8]) -> Result<(), AllocError>
+    ensures { OnOk result (names.new.items ≡ names.old.items ++ edits.name_text name.now) }
+{
+    for b in name {
+        match *b {
+            b'&' => names.extend_from_slice(b"%26")?,
+            b'=' => names.extend_from_slice(b"%3D")?,
+            b => names.push(b)?,
         }
     }
     Ok(())
 }
 
-/// The names of the `drop-pair` edits that the changes begin with, with a `&` between them.
-fn dropped_names(alloc: Global, changes: &[Change<'_>]) -> Result<String, AllocError> {
-    let mut names = String::new(alloc);
-    let mut separator = "";
-    for change in changes {
-        let Change::DropPair(name) = change else {
-            break;
-        };
-        names.push_str(separator)?;
-        push_name(&mut names, name)?;
-        separator = "&";
+/// This name and those of the `drop-pair` edits that follow it at once, with a `&` between them, and how
+/// many edits these are.
+fn dropped_names(
+    alloc: Global,
+    name: &str,
+    others: &[Change<'_>],
+) -> Result<(Vec<u8>, usize), AllocError>
+    ensures { IfOk result (λ x. edits.DropsPairs name.now others.now x.0.items x.1) }
+{
+    let mut names = Vec::new(alloc);
+    push_name(&mut names, name.as_bytes())?;
+    let mut count = 0;
+    'others: while let Some(Change::DropPair(name)) = others.get(count) {
+        names.push(b'&')?;
+        push_name(&mut names, name.as_bytes())?;
+        count += 1;
     }
-    Ok(names)
+    Ok((names, count))
 }
 
-/// Reads the names of the `drop-pair` edits that the changes begin with, as one query.
-fn read_names(alloc: Global, changes: &[Change<'_>]) -> Result<Query<'static>, URIReferenceError> {
-    let names = dropped_names(alloc, changes)?;
-    Ok(Query::try_from_str(names.as_str())?.to_owned(alloc)?)
+/// Reads a query.
+fn read_query(alloc: Global, bytes: &[u8]) -> Result<Query<'static>, URIReferenceError>
+    ensures { edits.ReadsQuery bytes.now result }
+{
+    let query = Query::try_from_bytes(bytes)?;
+    Ok(query.to_owned(alloc)?)
 }
 
-/// Reads the value of the first edit, if it has one, and the names of the `drop-pair` edits after it if
-/// it is one too.
+/// Reads this name and those of the `drop-pair` edits that follow it at once, as one query, and returns
+/// how many edits these are.
+fn read_names(
+    alloc: Global,
+    name: &str,
+    others: &[Change<'_>],
+) -> Result<(Query<'static>, usize), URIReferenceError>
+    ensures { edits.ReadsNames name.now others.now result }
+{
+    let (bytes, count) = dropped_names(alloc, name, others)?;
+    let names = read_query(alloc, &bytes)?;
+    Ok((names, count))
+}
+
+/// Reads the value of the edit, if it has one, and the names of the `drop-pair` edits that follow at once
+/// if it is one too. Returns how many of the others these are.
 fn read_act<'w>(
     alloc: Global,
     change: Change<'w>,
-    changes: &[Change<'w>],
-) -> Result<Act<'w>, URIReferenceError> {
-    Ok(match change {
+    others: &[Change<'w>],
+) -> Result<(Act<'w>, usize), URIReferenceError>
+    ensures { edits.ReadsAct (edits.edit_of change.entry) others.now result }
+{
+    let act = match change {
         Change::Set(component, text) => Act::Set(read_set(alloc, component, text)?),
         Change::Drop(dropped) => Act::Drop(dropped),
         Change::SetPair(name, value) => Act::SetPair(name, value),
         Change::AppendPair(name, value) => Act::AppendPair(name, value),
-        Change::DropPair(_) => Act::DropPairs(read_names(alloc, changes)?),
+        Change::DropPair(name) => {
+            let (names, count) = read_names(alloc, name, others)?;
+            return Ok((Act::DropPairs(names), count));
+        }
         Change::SortPairs => Act::SortPairs,
         Change::Normalize => Act::Normalize,
-    })
+    };
+    Ok((act, 0))
 }
 
 /// Reads the edits' values, from the left. Several `drop-pair` edits in a row are one step.
-fn read_changes<'w>(alloc: Global, changes: &[Change<'w>]) -> Result<Vec<Step<'w>>, Failure> {
+fn read_changes<'w>(alloc: Global, changes: &[Change<'w>]) -> Result<Vec<Step<'w>>, Failure>
+    ensures { spec.ReadsChanges (map edits.edit_of changes.now) result }
+{
     let mut steps = Vec::with_capacity(alloc, changes.len())?;
-    let mut follows_drop = false;
-    for index in 0..changes.len() {
-        let change = changes[index];
-        let drops = matches!(change, Change::DropPair(_));
-        if !(drops && follows_drop) {
-            let act = read_act(alloc, change, &changes[index..])?;
-            steps.push(Step { index, act })?;
-        }
-        follows_drop = drops;
+    let mut index = 0;
+    'changes: while index < changes.len() {
+        let (act, more) = read_act(alloc, changes[index], &changes[index + 1..])?;
+        steps.push(Step { index, act })?;
+        index += 1 + more;
     }
     Ok(steps)
 }
 
 /// Reads the edits that the words say, with their values.
-pub fn read_edits<'w>(alloc: Global, words: &[&'w str]) -> Result<Vec<Step<'w>>, Failure> {
+#[tactic(auto, using(crate::proofs::EditLemmas::edits_named, crate::proofs::EditLemmas::edits_unnamed))]
+pub fn read_edits<'w>(alloc: Global, words: &[&'w str]) -> Result<Vec<Step<'w>>, Failure>
+    ensures { spec.ReadsEdits (map (λ w. w.now) words.now) result }
+{
     let changes = changes(alloc, words)?;
     read_changes(alloc, &changes)
 }
@@ -345,7 +410,9 @@ fn set_value<'r>(
     alloc: Global,
     reference: &mut URIReference<'r>,
     value: &'r Value<'_>,
-) -> Result<(), EditError> {
+) -> Result<(), EditError>
+    ensures { spec.Makes (edits.set_to value.now reference.old) reference.new result }
+{
     match value {
         Value::Scheme(scheme) => reference.set_scheme(Some(scheme.as_borrowed()))?,
         Value::Authority(authority) => reference.set_authority(Some(authority.as_borrowed()))?,
@@ -361,7 +428,9 @@ fn set_value<'r>(
 }
 
 /// Removes a component.
-fn drop_part(reference: &mut URIReference<'_>, dropped: Dropped) -> Result<(), EditError> {
+fn drop_part(reference: &mut URIReference<'_>, dropped: Dropped) -> Result<(), EditError>
+    ensures { spec.Makes (edits.without dropped reference.old) reference.new result }
+{
     match dropped {
         Dropped::Scheme => reference.set_scheme(None)?,
         Dropped::Authority => reference.set_authority(None)?,
@@ -379,7 +448,9 @@ fn make_step<'r>(
     alloc: Global,
     reference: &mut URIReference<'r>,
     act: &'r Act<'_>,
-) -> Result<(), EditError> {
+) -> Result<(), EditError>
+    ensures { spec.Makes (edits.act_made act.now reference.old) reference.new result }
+{
     match act {
         Act::Set(value) => set_value(alloc, reference, value)?,
         Act::Drop(dropped) => drop_part(reference, *dropped)?,
@@ -402,7 +473,7 @@ fn make_steps<'r>(
     reference: &mut URIReference<'r>,
     steps: &'r [Step<'_>],
 ) -> Result<(), Failure>
-    ensures { IfErr result (λ f. spec.answer_of f ≡ Rejected) }
+    ensures { MatchResult result (λ _. edits.steps_made steps.now reference.old ≡ Some reference.new) (λ f. spec.EndsWork f ⊎ ((edits.steps_made steps.now reference.old ≡ None) × (spec.answer_of f ≡ Rejected))) }
 {
     for step in steps {
         if let Err(refusal) = make_step(alloc, reference, &step.act) {
@@ -415,51 +486,52 @@ fn make_steps<'r>(
 
 /// Prints the reference with all edits made. The words are checked first, then the text is read,
 /// then the values.
-pub fn edit<O: Write>(
-    alloc: Global,
-    text: &str,
-    words: &[&str],
-    out: &mut O,
-) -> Result<(), Failure> {
+#[tactic(auto, using(crate::proofs::EditLemmas::edits_made, crate::proofs::EditLemmas::no_edits))]
+pub fn edit<O: Write>(alloc: Global, text: &str, words: &[&str], out: &mut O) -> Result<(), Failure>
+    ensures { spec.Does (spec.Edits text.now (map (λ w. w.now) words.now)) (O.contents out.old) (O.contents out.new) result }
+{
     let changes = changes(alloc, words)?;
     edit_text(alloc, text, &changes, out)
 }
 
 /// Reads the text and the values, and prints the text with the edits made.
+#[tactic(auto, using(crate::proofs::EditLemmas::edited_line, crate::proofs::OutputLemmas::rejected_unless, crate::proofs::EditLemmas::edits_unread, crate::proofs::EditLemmas::edits_read))]
 fn edit_text<O: Write>(
     alloc: Global,
     text: &str,
     changes: &[Change<'_>],
     out: &mut O,
-) -> Result<(), Failure> {
+) -> Result<(), Failure>
+    ensures { spec.Does (spec.EditsLine (edits.all_made (map edits.edit_of changes.now)) text.now) (O.contents out.old) (O.contents out.new) result }
+{
     let reference = Held(URIReference::try_from_str(alloc, text)?);
     let steps = Held(read_changes(alloc, changes)?);
     print_edited(alloc, reference.take(), &steps.0, out)
 }
 
 /// Prints a line's reference with all edits made.
-#[tactic(auto, using(crate::proofs::OutputLemmas::edited_line, crate::proofs::OutputLemmas::rejected_unless))]
+#[tactic(auto, using(crate::proofs::EditLemmas::edited_line, crate::proofs::OutputLemmas::rejected_unless))]
 pub fn edit_line<O: Write>(
     alloc: Global,
     steps: &[Step<'_>],
     line: &[u8],
     out: &mut O,
 ) -> Result<(), Failure>
-    ensures { spec.Does (spec.EditsLine line.now) (O.contents out.old) (O.contents out.new) result }
+    ensures { spec.Does (spec.EditsLine (edits.steps_made steps.now) line.now) (O.contents out.old) (O.contents out.new) result }
 {
     let reference = URIReference::try_from_bytes(alloc, line)?;
     print_edited(alloc, reference, steps, out)
 }
 
 /// Makes the edits, and prints the result.
-#[tactic(auto, using(crate::proofs::OutputLemmas::edited, crate::proofs::OutputLemmas::not_edited))]
+#[tactic(auto, using(crate::proofs::EditLemmas::edited, crate::proofs::EditLemmas::not_edited))]
 fn print_edited<'r, O: Write>(
     alloc: Global,
     reference: URIReference<'r>,
     steps: &'r [Step<'_>],
     out: &mut O,
 ) -> Result<(), Failure>
-    ensures { spec.Does spec.Edited (O.contents out.old) (O.contents out.new) result }
+    ensures { spec.Does (spec.Edited (edits.steps_made steps.now reference.entry)) (O.contents out.old) (O.contents out.new) result }
 {
     let mut reference = Held(reference);
     make_steps(alloc, &mut reference.0, steps)?;

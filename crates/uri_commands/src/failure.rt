@@ -1,7 +1,8 @@
 //! How a command fails.
 
-ghost use Rattle.std.specs.Prelude.{◌≡◌, ◌≤◌, ◌↔◌, IsTrue, false};
+ghost use Rattle.std.specs.Prelude.{◌≡◌, ◌≤◌, ◌↔◌, ◌⊎◌, IsTrue, false};
 ghost use Rattle.uri_commands.specs.Output as spec;
+ghost use Rattle.uri_commands.specs.declared.failure.EditError.TheVariants as edits;
 ghost use Rattle.uri_commands.specs.declared.failure.Failure.TheVariants as failures;
 
 use std::alloc::{AllocError, AllocFailed};
@@ -15,12 +16,36 @@ use uriparse::{BufferError, ChangeError, PathError, QueryError, URIError, URIRef
 pub enum EditError {
     /// A component that is not allowed, or memory ran out.
     #[error(transparent)]
-    Reference(#[from] URIReferenceError),
+    Reference(URIReferenceError),
     /// A part of an authority without a host.
     #[error(transparent)]
-    Change(#[from] ChangeError),
+    Change(ChangeError),
     #[error("out of memory")]
-    Memory(#[from] AllocError),
+    Memory(AllocError),
+}
+
+impl From<URIReferenceError> for EditError {
+    ghost from_gives = { λ x e. e ≡ edits.Reference x };
+
+    fn from(error: URIReferenceError) -> EditError {
+        EditError::Reference(error)
+    }
+}
+
+impl From<ChangeError> for EditError {
+    ghost from_gives = { λ x e. e ≡ edits.Change x };
+
+    fn from(error: ChangeError) -> EditError {
+        EditError::Change(error)
+    }
+}
+
+impl From<AllocError> for EditError {
+    ghost from_gives = { λ x e. e ≡ edits.Memory x };
+
+    fn from(error: AllocError) -> EditError {
+        EditError::Memory(error)
+    }
 }
 
 impl EditError {
@@ -160,6 +185,7 @@ impl From<BufferError> for Failure {
 impl Failure {
     /// The exit status of the program.
     pub fn status(&self) -> u8
+        ensures is { result ≡ spec.status_of (spec.answer_of self.now) }
         ensures fails { 1 ≤ result }
         ensures bound { result ≤ 3 }
     {
@@ -213,8 +239,20 @@ impl Failure {
         )
     }
 
+    /// The failure of a command that prints to memory, where a write fails only if memory runs out.
+    pub fn in_memory(self) -> Failure
+        ensures { (result ≡ self) ⊎ (spec.EndsWork self × spec.EndsWork result) }
+    {
+        match self {
+            Failure::Output(_) => Failure::Memory(AllocError),
+            failure => failure,
+        }
+    }
+
     /// The failure of the work on this line of the input: if memory ran out, it names the line.
-    pub fn at_line(self, number: u64) -> Failure {
+    pub fn at_line(self, number: u64) -> Failure
+        ensures { spec.EndsWork self → spec.EndsWork result }
+    {
         if self.is_out_of_memory() {
             Failure::MemoryAtLine(number)
         } else {
@@ -223,7 +261,9 @@ impl Failure {
     }
 
     /// The failure of a read of this line of the input: memory ran out, or the stream failed.
-    pub fn of_read(error: io::Error, number: u64) -> Failure {
+    pub fn of_read(error: io::Error, number: u64) -> Failure
+        ensures { spec.EndsWork result }
+    {
         match error.kind() {
             io::ErrorKind::OutOfMemory => Failure::MemoryAtLine(number),
             _ => Failure::Input(error),

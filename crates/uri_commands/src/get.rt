@@ -1,11 +1,12 @@
 //! `uri get PART TEXT`: one component of a reference, alone.
 
-ghost use Rattle.std.specs.Prelude.{IfSome, MatchOption, None, OnOk, Some, string_bytes};
+ghost use Rattle.std.specs.Prelude.{◌≡◌, ◌⊎◌, IfSome, MatchOption, MatchResult, None, OnOk, Some, string_bytes};
 ghost use Rattle.std.specs.Io.KnownBytes.{Appends};
 ghost use Rattle.std.specs.Option.{option_map};
 ghost use Rattle.uriparse.specs.Origin.{text};
 ghost use Rattle.uriparse.specs.Origin as origin;
 ghost use Rattle.uri_commands.specs.Output as spec;
+ghost use Rattle.uri_commands.specs.declared.failure.Failure.TheVariants.{Usage};
 
 use crate::failure::Failure;
 use crate::print::print_bytes;
@@ -66,7 +67,9 @@ pub enum Part {
 }
 
 /// The component of this name.
-pub fn read_part(name: &str) -> Result<Part, Failure> {
+pub fn read_part(name: &str) -> Result<Part, Failure>
+    ensures { MatchResult result (λ part. spec.part_of name.now ≡ Some part) (λ failure. (spec.part_of name.now ≡ None) × (failure ≡ Usage)) }
+{
     match name {
         "scheme" => Ok(Part::Scheme),
         "authority" => Ok(Part::Authority),
@@ -85,7 +88,10 @@ pub fn read_part(name: &str) -> Result<Part, Failure> {
 /// Prints the component of this name, or fails with `Failure::Absent` if the reference has none. Several
 /// names with commas between them are for a line with tabs, where an absent component is empty. The names
 /// are checked before the text is read. Allocates their list, and the string of an origin.
-pub fn get<O: Write>(alloc: Global, names: &str, text: &[u8], out: &mut O) -> Result<(), Failure> {
+#[tactic(auto, using(crate::proofs::RunLemmas::got_several))]
+pub fn get<O: Write>(alloc: Global, names: &str, text: &[u8], out: &mut O) -> Result<(), Failure>
+    ensures { spec.Does (spec.GetsNames names.now text.now) (O.contents out.old) (O.contents out.new) result }
+{
     let parts = read_parts(alloc, names)?;
     match parts.as_slice() {
         [part] => get_part(alloc, *part, text, out),
@@ -122,7 +128,9 @@ pub fn get_or_empty<O: Write>(
 }
 
 /// The components of these names, which commas separate.
-pub fn read_parts(alloc: Global, names: &str) -> Result<Vec<Part>, Failure> {
+pub fn read_parts(alloc: Global, names: &str) -> Result<Vec<Part>, Failure>
+    ensures { MatchResult result (λ parts. spec.parts_named names.now ≡ Some parts.items) (λ failure. spec.EndsWork failure ⊎ ((spec.parts_named names.now ≡ None) × (failure ≡ Usage))) }
+{
     let mut parts = Vec::new(alloc);
     for name in names.split(',') {
         parts.push(read_part(name)?)?;

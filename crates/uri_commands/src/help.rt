@@ -1,5 +1,9 @@
 //! `uri help` and `uri --version`: the commands, one of them, and the version.
 
+ghost use Rattle.std.specs.Prelude.{OnOk, ℕ, List};
+ghost use Rattle.std.specs.Io.KnownBytes.{Appends};
+ghost use Rattle.uri_commands.specs.Output as spec;
+
 use crate::commands::topic;
 use crate::failure::Failure;
 use crate::topic::Topic;
@@ -48,20 +52,28 @@ rattle-kit-13f logic dac8208d650f15bf
 ";
 
 /// Prints the version.
-pub fn version<O: Write>(out: &mut O) -> io::Result<()> {
+pub fn version<O: Write>(out: &mut O) -> io::Result<()>
+    ensures { OnOk result ((bytes : List ℕ) × Appends (O.contents out.old) (O.contents out.new) bytes) }
+{
     write!(out, "{VERSION}")
 }
 
 /// Prints the commands and the options.
-pub fn help<O: Write>(out: &mut O) -> io::Result<()> {
-    for topic in (0..).map_while(topic) {
+pub fn help<O: Write>(out: &mut O) -> io::Result<()>
+    ensures { OnOk result ((bytes : List ℕ) × Appends (O.contents out.old) (O.contents out.new) bytes) }
+{
+    let mut place = 0;
+    'topics: while let Some(topic) = topic(place) {
         write!(out, "{}", topic.summary)?;
+        place += 1;
     }
     write!(out, "{VERSION_SUMMARY}")
 }
 
 /// Prints the page on the command or the option of this name.
-pub fn help_on<O: Write>(name: &str, out: &mut O) -> Result<(), Failure> {
+pub fn help_on<O: Write>(name: &str, out: &mut O) -> Result<(), Failure>
+    ensures { spec.Does (spec.HelpsOn name.now) (O.contents out.old) (O.contents out.new) result }
+{
     let found = (0..).map_while(topic).find(|topic| topic.name == name);
     let topic = found.ok_or(Failure::Usage)?;
     write!(out, "{}", topic.page).map_err(Failure::Output)

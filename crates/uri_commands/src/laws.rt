@@ -1,10 +1,23 @@
-//! Examples of what the commands print. The function does nothing: its contract says them.
+//! Laws of commands: their words, and examples of what they print. Each function does nothing: its contract is the law.
 
-ghost use Rattle.std.specs.Prelude.{◌∷◌, [], codes, flat_map};
+ghost use Rattle.std.specs.Prelude.{◌≡◌, ◌∷◌, [], List, bytes_eq, codes, false, flat_map, true, ℕ};
+ghost use Rattle.uri_commands.specs.Options.{Asks, is_plain, none, starts_plain};
 ghost use Rattle.uri_commands.specs.Output as spec;
 ghost use Rattle.uri_commands.specs.declared.get.Part.TheVariants as part;
 
 use uriparse::laws::one_reading;
+
+/// A name and texts are the command of this name without options, if neither the name nor the first text
+/// begins with `-`, or a `--` precedes the texts.
+pub fn words_without_options()
+    ensures plain { (name : List ℕ) (texts : List (List ℕ)) → is_plain name ≡ true → starts_plain texts ≡ true → Asks (name ∷ texts) none name texts }
+    ensures marked { (name : List ℕ) (texts : List (List ℕ)) → is_plain name ≡ true → bytes_eq name (codes "help") ≡ false → Asks (name ∷ codes "--" ∷ texts) none name texts }
+{}
+
+/// The answer to `normalize TEXT` is the normal form of the text.
+pub fn answer_to_normalize()
+    ensures { (text : List ℕ) (answer : spec.Answer) → spec.Answers none (codes "normalize" ∷ text ∷ []) answer → spec.Normalizes text answer }
+{}
 
 /// Examples of the manual, in its order.
 pub fn examples_of_outputs()
@@ -28,6 +41,16 @@ pub fn examples_of_outputs()
     ensures file { spec.Files (codes "/tmp/100% of a b.txt") (spec.Printed (spec.line (codes "file:///tmp/100%25%20of%20a%20b.txt"))) }
     ensures get_file { spec.GetsFile (codes "file:///tmp/100%25%20of%20a%20b.txt") (spec.Printed (spec.line (codes "/tmp/100% of a b.txt"))) }
     ensures other_host { spec.GetsFile (codes "file://host.example.com/tmp/a") spec.Rejected }
+{
+    one_reading();
+}
+
+/// Examples of edits.
+pub fn examples_of_edits()
+    ensures components { spec.Edits (codes "http://h/a?q#f") (codes "scheme" ∷ codes "https" ∷ codes "port" ∷ codes "8080" ∷ codes "drop-query" ∷ codes "fragment" ∷ codes "g" ∷ []) (spec.Printed (spec.line (codes "https://h:8080/a#g"))) }
+    ensures pairs { spec.Edits (codes "http://h/?utm_id=1&q=a&%75tm_x") (codes "drop-pair" ∷ codes "utm_*" ∷ codes "set-pair" ∷ codes "p" ∷ codes "&" ∷ []) (spec.Printed (spec.line (codes "http://h/?q=a&p=%26"))) }
+    ensures rejected { spec.Edits (codes "/a") (codes "port" ∷ codes "80" ∷ []) spec.Rejected }
+    ensures unknown { spec.Edits (codes "/a") (codes "port" ∷ []) spec.Unknown }
 {
     one_reading();
 }

@@ -4,7 +4,11 @@
 //! They are a library, which the tests of the program and the jobs of the benchmark call.
 #![tactic(auto)]
 
-ghost use Rattle.std.specs.Prelude.{◌≡◌, ◌≤◌, IfOk};
+ghost use Rattle.std.specs.Prelude.{◌≡◌, ◌≤◌, ◌∷◌, IfOk, IfSome, List, MatchResult, false, map, true, ℕ};
+ghost use Rattle.uri_commands.specs.Options.{Asks};
+ghost use Rattle.uri_commands.specs.Output as spec;
+ghost use Rattle.uri_commands.specs.Tasks.{LinesEndWith};
+ghost use Rattle.uri_commands.specs.declared.options.Options.{Options};
 
 mod columns;
 mod commands;
@@ -27,6 +31,7 @@ mod options;
 mod pair;
 mod pairs;
 mod parse;
+mod pending;
 mod print;
 mod quiet;
 mod relativize;
@@ -40,6 +45,7 @@ use explain::explain;
 use failure::Failure;
 use lines::lines;
 use options::{Mode, Options, split_options};
+use pending::send;
 use std::alloc::Global;
 use std::io;
 use std::io::{Read, Write};
@@ -47,7 +53,8 @@ use std::io::{Read, Write};
 /// Runs the command in `words`, which follow the program's name, with an empty input, as
 /// [`run_with_input`] does.
 pub fn run<O: Write, E: Write>(alloc: Global, words: &[&str], out: &mut O, err: &mut E) -> u8
-    ensures { result ≤ 3 }
+    ensures bound { result ≤ 3 }
+    ensures answers { (options : Options) (name : List ℕ) (texts : List (List ℕ)) → Asks (map (λ w. w.now) words.now) options name texts → options.reads_lines ≡ false → spec.Ends (spec.Answers options (name ∷ texts)) (O.contents out.old) (O.contents out.new) result }
 {
     run_with_input(alloc, words, &mut io::empty(), out, err)
 }
@@ -65,6 +72,7 @@ pub fn run<O: Write, E: Write>(alloc: Global, words: &[&str], out: &mut O, err: 
 /// With `--quiet` nothing is written about rejected texts nor, without `--lines`, about a lack of
 /// memory. Only `--lines` reads the input. Without it nothing is written to `out` before all texts of
 /// the command are read.
+#[tactic(auto, using(crate::proofs::RunLemmas::nothing_answered, crate::proofs::RunLemmas::lines_unread))]
 pub fn run_with_input<I: Read, O: Write, E: Write>(
     alloc: Global,
     words: &[&str],
@@ -72,7 +80,9 @@ pub fn run_with_input<I: Read, O: Write, E: Write>(
     out: &mut O,
     err: &mut E,
 ) -> u8
-    ensures { result ≤ 3 }
+    ensures bound { result ≤ 3 }
+    ensures answers { (options : Options) (name : List ℕ) (texts : List (List ℕ)) → Asks (map (λ w. w.now) words.now) options name texts → options.reads_lines ≡ false → spec.Ends (spec.Answers options (name ∷ texts)) (O.contents out.old) (O.contents out.new) result }
+    ensures lines { (options : Options) (name : List ℕ) (texts : List (List ℕ)) → Asks (map (λ w. w.now) words.now) options name texts → options.reads_lines ≡ true → IfSome (I.remaining input.old) (λ bytes. LinesEndWith options (name ∷ texts) bytes (O.contents out.old) (O.contents out.new) result) }
 {
     match split_options(alloc, words) {
         Ok((options, words)) => run_command(alloc, options, words.as_slice(), input, out, err),
@@ -81,6 +91,7 @@ pub fn run_with_input<I: Read, O: Write, E: Write>(
 }
 
 /// Runs the command of these words with these options.
+#[tactic(auto, using(crate::proofs::RunLemmas::lines_ended))]
 fn run_command<I: Read, O: Write, E: Write>(
     alloc: Global,
     options: Options,
@@ -89,14 +100,34 @@ fn run_command<I: Read, O: Write, E: Write>(
     out: &mut O,
     err: &mut E,
 ) -> u8
-    ensures { result ≤ 3 }
+    ensures bound { result ≤ 3 }
+    ensures answers { options.reads_lines ≡ false → spec.Ends (spec.Answers options (map (λ w. w.now) words.now)) (O.contents out.old) (O.contents out.new) result }
+    ensures lines { options.reads_lines ≡ true → IfSome (I.remaining input.old) (λ bytes. LinesEndWith options (map (λ w. w.now) words.now) bytes (O.contents out.old) (O.contents out.new) result) }
 {
     if options.reads_lines {
         let result = lines(alloc, options, words, input, out, err);
         return status_of(options, words, result, err);
     }
-    let result = run_texts(alloc, options, words, out);
-    status_of(options, words, result.map(|()| 0), err)
+    let result = print_answer(alloc, options, words, out);
+    status_of(options, words, result, err)
+}
+
+/// Runs the command of these words on the texts among them, prints its output once it is whole, and returns the status, 0.
+#[tactic(auto, using(crate::proofs::RunLemmas::nothing_done, crate::proofs::RunLemmas::written_whole, crate::proofs::RunLemmas::written_partly))]
+fn print_answer<O: Write>(
+    alloc: Global,
+    options: Options,
+    words: &[&str],
+    out: &mut O,
+) -> Result<u8, Failure>
+    ensures { spec.DoesAtOnce (spec.Answers options (map (λ w. w.now) words.now)) (O.contents out.old) (O.contents out.new) result }
+{
+    let mut printed = Vec::new(alloc);
+    if let Err(failure) = run_texts(alloc, options, words, &mut printed) {
+        return Err(failure.in_memory());
+    }
+    send(&mut printed, out)?;
+    Ok(0)
 }
 
 /// The status of a command's result. A failure is reported on `err`.
@@ -107,7 +138,8 @@ fn status_of<E: Write>(
     err: &mut E,
 ) -> u8
     requires { IfOk answer (λ status. status ≤ 3) }
-    ensures { result ≤ 3 }
+    ensures bound { result ≤ 3 }
+    ensures is { MatchResult answer (λ status. result ≡ status) (λ failure. result ≡ spec.status_of (spec.answer_of failure)) }
 {
     match answer {
         Ok(status) => status,

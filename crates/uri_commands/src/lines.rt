@@ -1,16 +1,16 @@
 //! `uri --lines COMMAND`: a command for each line of the standard input.
 
-ghost use Rattle.std.specs.Prelude.{◌≡◌, ◌≢◌, ◌==◌, ℕ, List, [], ◌∷◌, ◌++◌, ◌<◌, ◌≤◌, All, Contains, IsErr, IsOk, Ok, false, length, take, true, IfOk, IfSome, OnErr, OnOk};
+ghost use Rattle.std.specs.Prelude.{◌≡◌, ◌≢◌, ◌==◌, ℕ, List, [], ◌∷◌, ◌++◌, ◌<◌, ◌≤◌, All, Contains, IfErr, IfOk, IfSome, IsErr, IsOk, Ok, OnErr, OnOk, false, length, map, take, true};
 ghost use Rattle.std.specs.Io.BufRead.{DropsThrough, ends_with_byte, first_piece, strip_last};
-ghost use Rattle.std.specs.Io.Buffered.{reader_buffer, reader_inner, reader_remaining, writer_contents};
+ghost use Rattle.std.specs.Io.Buffered.{reader_buffer, reader_inner, reader_remaining};
 ghost use Rattle.std.specs.Io.KnownBytes.{Consumes, IsAtEnd};
-ghost use Rattle.std.specs.Io.KnownBytes.{Appends, Keeps};
 ghost use Rattle.uriparse_text.specs.Cuts.{lacks};
 ghost use Rattle.uri_commands.specs.Columns as spec;
 ghost use Rattle.uri_commands.specs.Columns.{tab};
 ghost use Rattle.uri_commands.specs.Lines.{lines_of};
-ghost use Rattle.uri_commands.specs.Output.{Answer, AnswersLine, answer_of};
-ghost use Rattle.uri_commands.specs.Outputs.{Gives, Outputs, Runs, Writes, ended, fields, outcome_of, printed, status_of, worse};
+ghost use Rattle.uri_commands.specs.Output.{Answer, AnswersLine, EndsWork, answer_of};
+ghost use Rattle.uri_commands.specs.Outputs.{Gives, Prints, Puts, PutsOrStops, PutsSome, RunsOrStops, Sends, Writes, ended, fields, outcome_of, printed, status_of, worse};
+ghost use Rattle.uri_commands.specs.Tasks.{LinesEnd};
 ghost use Rattle.uri_commands.specs.declared.lines.Next.TheVariants.{End, LastLine};
 
 use crate::columns::{Columns, first_line, write_line, write_row};
@@ -18,6 +18,7 @@ use crate::commands::Task;
 use crate::explain::{explain_line, write_around};
 use crate::failure::Failure;
 use crate::options::Options;
+use crate::pending::{CAPACITY, flush, put};
 use crate::topic::Topic;
 use std::alloc::{AllocError, Global};
 use std::io;
@@ -84,9 +85,6 @@ prints
     b
 ",
 };
-
-/// How many bytes each of the three buffers has.
-const CAPACITY: usize = 65_536;
 
 /// The outcome of a line, the worst last.
 #[derive(Clone, Copy)]
@@ -209,7 +207,9 @@ struct Work<'w> {
 struct Buffers {
     /// Normal forms and targets are put together here.
     form: Vec<u8>,
-    /// What the task prints, before it goes out as part of a line.
+    /// What the task prints, if it goes out as part of a row.
+    result: Vec<u8>,
+    /// What goes out for the line.
     printed: Vec<u8>,
 }
 
@@ -234,136 +234,160 @@ fn report<E: Write>(
     write_around(line, offset, err)
 }
 
-/// Does the task for a line, and reports a rejection unless the task is quiet. Fails if memory runs
-/// out or a write fails.
+/// Does the task for a text: prints its answer to the buffer, and reports a rejection unless the task is
+/// quiet. Fails if memory runs out.
 #[tactic(auto, using(crate::proofs::OutputsLemmas::did_print, crate::proofs::OutputsLemmas::did_fail))]
-fn do_line<O: Write, E: Write>(
+fn print_answer<E: Write>(
     work: &Work<'_>,
-    buffer: &mut Vec<u8>,
+    form: &mut Vec<u8>,
+    output: &mut Vec<u8>,
     number: u64,
-    line: &[u8],
-    out: &mut O,
+    text: &[u8],
     err: &mut E,
 ) -> Result<Outcome, Failure>
-    ensures { IfOk result (λ outcome. (a : Answer) × AnswersLine work.now.task line.now a × (outcome ≡ outcome_of a) × Appends (O.contents out.old) (O.contents out.new) (printed a)) }
+    ensures ok { IfOk result (λ outcome. (a : Answer) × AnswersLine work.now.task text.now a × (outcome ≡ outcome_of a) × (output.new.items ≡ printed a)) }
+    ensures err { IfErr result (λ f. EndsWork f) }
 {
-    match work.task.run(work.alloc, buffer, line, out) {
+    output.clear();
+    match work.task.run(work.alloc, form, text, output) {
         Ok(()) => Ok(Outcome::Done),
-        Err(failure) if failure.ends_work() => Err(failure.at_line(number)),
+        Err(failure) if failure.ends_work() => Err(failure),
         Err(failure) => {
             let outcome = Outcome::of(&failure);
             if matches!(outcome, Outcome::Rejected) && !work.task.is_quiet() {
-                let offset = work.task.fault_offset(line);
+                let offset = work.task.fault_offset(text);
                 // The status reports a rejection that can't be written either.
-                let _ = report(work.explains, number, &failure, line, offset, err);
+                let _ = report(work.explains, number, &failure, text, offset, err);
             }
             Ok(outcome)
         }
     }
 }
 
-/// Prints the result for a line's text to the buffer. A rejected text has as many fields, all empty.
+/// Prints the result for a text of a row. A rejected text has as many fields, all empty.
 fn print_result<E: Write>(
     work: &Work<'_>,
-    buffers: &mut Buffers,
+    form: &mut Vec<u8>,
+    cells: &mut Vec<u8>,
     number: u64,
     text: &[u8],
     err: &mut E,
 ) -> Result<Outcome, Failure>
-    ensures { IfOk result (λ outcome. (a : Answer) × AnswersLine work.now.task text.now a × (outcome ≡ outcome_of a) × (buffers.new.printed.items ≡ fields work.now.fields a)) }
+    ensures ok { IfOk result (λ outcome. (a : Answer) × AnswersLine work.now.task text.now a × (outcome ≡ outcome_of a) × (cells.new.items ≡ fields work.now.fields a)) }
+    ensures err { IfErr result (λ f. EndsWork f) }
 {
-    let Buffers { form, printed } = buffers;
-    printed.clear();
-    let outcome = do_line(work, form, number, text, printed, err)?;
+    let outcome = print_answer(work, form, cells, number, text, err)?;
     if let Outcome::Rejected = outcome {
-        printed.clear();
-        let tabs = work.fields.saturating_sub(1);
-        if let Err(AllocError) = printed.resize(tabs, b'\t') {
-            return Err(Failure::MemoryAtLine(number));
-        }
+        cells.clear();
+        cells.resize(work.fields.saturating_sub(1), b'\t')?;
     }
     Ok(outcome)
 }
 
-/// Does the task for the text of a line, and writes the line with the result in place. A line with too
-/// few fields is reported, and written as it is. Exactly one line goes out.
-#[tactic(auto, using(crate::proofs::ColumnLemmas::row_lacks))]
-fn do_row<O: Write, E: Write>(
+/// Does the task for the text of a line, and prints the line with the result in place. A line with too
+/// few fields is reported, and printed as it is. Exactly one line is printed.
+#[tactic(auto, using(crate::proofs::ColumnLemmas::row_lacks, crate::proofs::OutputsLemmas::after_clear))]
+fn print_row<E: Write>(
     work: &Work<'_>,
     columns: Columns,
     buffers: &mut Buffers,
     number: u64,
     line: &[u8],
-    out: &mut O,
     err: &mut E,
 ) -> Result<Outcome, Failure>
     requires { 0 < work.now.width }
-    ensures row { IfOk result (λ outcome. (row : List ℕ) × spec.IsRow (Gives work.now) work.now.end columns.first work.now.width columns.appends line.now row outcome × Appends (O.contents out.old) (O.contents out.new) (row ++ work.now.end ∷ [])) }
-    ensures one { (tab == work.now.end) ≡ false → lacks work.now.end line.now ≡ true → OnOk result ((row : List ℕ) × (lacks work.now.end row ≡ true) × Appends (O.contents out.old) (O.contents out.new) (row ++ work.now.end ∷ [])) }
+    ensures row { IfOk result (λ outcome. (row : List ℕ) × spec.IsRow (Gives work.now) work.now.end columns.first work.now.width columns.appends line.now row outcome × (buffers.new.printed.items ≡ row ++ work.now.end ∷ [])) }
+    ensures one { (tab == work.now.end) ≡ false → lacks work.now.end line.now ≡ true → OnOk result ((row : List ℕ) × (lacks work.now.end row ≡ true) × (buffers.new.printed.items ≡ row ++ work.now.end ∷ [])) }
+    ensures err { IfErr result (λ f. EndsWork f) }
 {
+    let Buffers {
+        form,
+        result,
+        printed,
+    } = buffers;
+    printed.clear();
     let Some(cut) = columns.cut(line, work.width) else {
         // The status reports a rejection that can't be written either.
         let _ = report(false, number, &Failure::TooFewFields, line, 0, err);
-        write_line(line, work.end, out)?;
+        write_line(line, work.end, printed)?;
         return Ok(Outcome::Rejected);
     };
-    let outcome = print_result(work, buffers, number, cut.text, err)?;
-    write_row(&cut, columns.appends, &buffers.printed, work.end, out)?;
+    let outcome = print_result(work, form, result, number, cut.text, err)?;
+    write_row(&cut, columns.appends, result, work.end, printed)?;
     Ok(outcome)
 }
 
-/// Writes the first line of the output and the byte that ends lines, unless the output is empty.
-#[tactic(auto, using(crate::proofs::OutputsLemmas::ended_none, crate::proofs::OutputsLemmas::ended_some))]
-fn write_ended<O: Write>(output: &[u8], end: u8, out: &mut O) -> io::Result<()>
-    ensures { OnOk result (Appends (O.contents out.old) (O.contents out.new) (ended end output.now)) }
+/// Cuts the output after its first line, and ends that with the byte that ends lines, unless it is empty.
+#[tactic(auto, using(crate::proofs::OutputsLemmas::ended_cut, crate::proofs::OutputsLemmas::ended_none))]
+fn end_line(output: &mut Vec<u8>, end: u8) -> Result<(), Failure>
+    ensures ok { OnOk result (output.new.items ≡ ended end output.old.items) }
+    ensures err { IfErr result (λ f. EndsWork f) }
 {
     if output.is_empty() {
         return Ok(());
     }
-    write_line(first_line(output, end), end, out)
+    let count = first_line(output, end).len();
+    output.truncate(count);
+    Ok(output.push(end)?)
 }
 
-/// Does the task for a line, and writes the result, if there is one, with the byte that ends lines.
-fn do_ended<O: Write, E: Write>(
+/// Does the task for a line, and prints the answer. Lines that don't end with a newline end with their
+/// own byte in the output too.
+#[tactic(auto, using(crate::proofs::OutputsLemmas::prints_ended, crate::proofs::OutputsLemmas::prints_plain))]
+fn print_plain<E: Write>(
     work: &Work<'_>,
     buffers: &mut Buffers,
     number: u64,
     line: &[u8],
-    out: &mut O,
     err: &mut E,
 ) -> Result<Outcome, Failure>
-    ensures { IfOk result (λ outcome. (a : Answer) × AnswersLine work.now.task line.now a × (outcome ≡ outcome_of a) × Appends (O.contents out.old) (O.contents out.new) (ended work.now.end (printed a))) }
+    ensures ok { IfOk result (λ outcome. Prints work.now line.now buffers.new.printed.items outcome) }
+    ensures err { IfErr result (λ f. EndsWork f) }
 {
-    buffers.printed.clear();
-    let outcome = do_line(
-        work,
-        &mut buffers.form,
-        number,
-        line,
-        &mut buffers.printed,
-        err,
-    )?;
-    write_ended(&buffers.printed, work.end, out)?;
+    let Buffers { form, printed, .. } = buffers;
+    let outcome = print_answer(work, form, printed, number, line, err)?;
+    if work.end != b'\n' {
+        end_line(printed, work.end)?;
+    }
     Ok(outcome)
 }
 
-/// Does the work on a line, and writes what goes out for it.
-fn do_work<O: Write, E: Write>(
+/// Does the work on a line, and prints what goes out for it.
+fn print_line<E: Write>(
     work: &Work<'_>,
     buffers: &mut Buffers,
     number: u64,
     line: &[u8],
+    err: &mut E,
+) -> Result<Outcome, Failure>
+    requires { 0 < work.now.width }
+    ensures ok { IfOk result (λ outcome. Writes work.now.columns work.now line.now buffers.new.printed.items outcome) }
+    ensures err { IfErr result (λ f. EndsWork f) }
+{
+    match work.columns {
+        Some(columns) => print_row(work, columns, buffers, number, line, err),
+        None => print_plain(work, buffers, number, line, err),
+    }
+}
+
+/// Does the work on a line, and puts what goes out for it with the pending bytes, whole or not at all.
+#[tactic(auto, using(crate::proofs::OutputsLemmas::sends_none))]
+fn do_line<O: Write, E: Write>(
+    work: &Work<'_>,
+    buffers: &mut Buffers,
+    number: u64,
+    line: &[u8],
+    pending: &mut Vec<u8>,
     out: &mut O,
     err: &mut E,
 ) -> Result<Outcome, Failure>
     requires { 0 < work.now.width }
-    ensures { IfOk result (λ outcome. (bytes : List ℕ) × Writes work.now.columns work.now line.now bytes outcome × Appends (O.contents out.old) (O.contents out.new) bytes) }
+    ensures ok { IfOk result (λ outcome. (bytes : List ℕ) × Writes work.now.columns work.now line.now bytes outcome × Sends (O.contents out.old) (O.contents out.new) pending.old.items pending.new.items bytes) }
+    ensures err { IfErr result (λ f. EndsWork f × Sends (O.contents out.old) (O.contents out.new) pending.old.items pending.new.items []) }
 {
-    match work.columns {
-        Some(columns) => do_row(work, columns, buffers, number, line, out, err),
-        None if work.end != b'\n' => do_ended(work, buffers, number, line, out, err),
-        None => do_line(work, &mut buffers.form, number, line, out, err),
-    }
+    let outcome = print_line(work, buffers, number, line, err)?;
+    put(&buffers.printed, pending, out)?;
+    Ok(outcome)
 }
 
 /// Takes the next line, with the byte that ends it, from a reader that holds it whole, and copies it to
@@ -400,14 +424,15 @@ fn keep_first(written: &mut io::Result<()>, next: io::Result<()>)
 }
 
 /// Reads the next line as [`read_line`] does. A line that the reader holds whole is taken at once, and
-/// copied in one piece. If it holds no whole line, more input may be waited for, and what is due is
-/// written first. An error of that is kept, and the work goes on: the writer keeps what it could not
-/// write, and tries again when it is full, or at the end.
-#[tactic(auto, using(crate::proofs::LineLemmas::taken_line, crate::proofs::LineLemmas::keeps_same))]
+/// copied in one piece. If it holds no whole line, more input may be waited for, and what is pending is
+/// written first. An error of that is kept, and the work goes on: what could not be written stays
+/// pending, and is tried again when the buffer is full, or at the end.
+#[tactic(auto, using(crate::proofs::LineLemmas::taken_line, crate::proofs::OutputsLemmas::sends_none))]
 pub fn next_line<I: Read, O: Write>(
     input: &mut BufReader<I>,
     line: &mut Vec<u8>,
     end: u8,
+    pending: &mut Vec<u8>,
     out: &mut O,
     written: &mut io::Result<()>,
 ) -> io::Result<Next>
@@ -416,15 +441,15 @@ pub fn next_line<I: Read, O: Write>(
     ensures end { result ≡ Ok End → IsAtEnd (reader_remaining I.remaining input.old) }
     ensures some { IfOk result (λ next. next ≢ End → IfSome (reader_remaining I.remaining input.old) (λ bytes. 0 < length bytes)) }
     ensures last { result ≡ Ok LastLine → IfSome (reader_remaining I.remaining input.old) (λ _. IsAtEnd (reader_remaining I.remaining input.new)) }
-    ensures unasked { Contains (reader_buffer input.old) end → (reader_inner input.new ≡ reader_inner input.old) × (out.new ≡ out.old) }
-    ensures contents { Keeps (O.contents out.old) (O.contents out.new) }
+    ensures unasked { Contains (reader_buffer input.old) end → (reader_inner input.new ≡ reader_inner input.old) × (pending.new ≡ pending.old) × (out.new ≡ out.old) }
+    ensures contents { Sends (O.contents out.old) (O.contents out.new) pending.old.items pending.new.items [] }
     ensures kept { IsErr written.old → written.new ≡ written.old }
 {
     line.clear();
     if take_whole(input, line, end)? {
         return Ok(Next::Line);
     }
-    keep_first(written, out.flush());
+    keep_first(written, flush(pending, out));
     read_line(input, line, end)
 }
 
@@ -433,30 +458,35 @@ pub fn next_line<I: Read, O: Write>(
 fn do_lines<I: Read, O: Write, E: Write>(
     work: &Work<'_>,
     input: &mut BufReader<I>,
+    pending: &mut Vec<u8>,
     out: &mut O,
     written: &mut io::Result<()>,
     err: &mut E,
 ) -> Result<Outcome, Failure>
     requires { 0 < work.now.width }
     ensures kept { IsErr written.old → written.new ≡ written.old }
-    ensures output { IfOk result (λ worst. IfSome (reader_remaining I.remaining input.old) (λ bytes. (printed : List ℕ) × Outputs work.now (lines_of work.now.end bytes) printed worst × Appends (O.contents out.old) (O.contents out.new) printed)) }
+    ensures output { IfSome (reader_remaining I.remaining input.old) (λ bytes. PutsOrStops work.now bytes (O.contents out.old) (O.contents out.new) pending.old.items pending.new.items result) }
+    ensures err { IfErr result (λ f. EndsWork f) }
 {
     let mut worst = Outcome::Done;
     let mut line = Vec::new(work.alloc);
     let mut buffers = Buffers {
         form: Vec::new(work.alloc),
+        result: Vec::new(work.alloc),
         printed: Vec::new(work.alloc),
     };
     'lines: for number in 1..u64::MAX {
-        let next = match next_line(input, &mut line, work.end, out, written) {
+        let next = match next_line(input, &mut line, work.end, pending, out, written) {
             Ok(next) => next,
             Err(error) => return Err(Failure::of_read(error, number)),
         };
         if let Next::End = next {
             return Ok(worst);
         }
-        let outcome = do_work(work, &mut buffers, number, &line, out, err)?;
-        worst = worst.or(outcome);
+        match do_line(work, &mut buffers, number, &line, pending, out, err) {
+            Ok(outcome) => worst = worst.or(outcome),
+            Err(failure) => return Err(failure.at_line(number)),
+        }
         if let Next::LastLine = next {
             return Ok(worst);
         }
@@ -466,7 +496,8 @@ fn do_lines<I: Read, O: Write, E: Write>(
 
 /// What was made, unless memory ran out for its buffer.
 fn made<T>(buffered: io::Result<T>) -> Result<T, Failure>
-    ensures { IfOk result (λ made. buffered ≡ Ok made) }
+    ensures ok { IfOk result (λ made. buffered ≡ Ok made) }
+    ensures err { IfErr result (λ f. EndsWork f) }
 {
     match buffered {
         Ok(made) => Ok(made),
@@ -474,50 +505,44 @@ fn made<T>(buffered: io::Result<T>) -> Result<T, Failure>
     }
 }
 
-/// Writes what is buffered, flushes the writer, and returns it.
-fn finish<O: Write + Drop>(out: BufWriter<O>) -> io::Result<O>
-    ensures { IfOk result (λ inner. Keeps (writer_contents O.contents out) (O.contents inner)) }
-{
-    let mut inner = out.into_inner()?;
-    inner.flush()?;
-    Ok(inner)
-}
-
-/// Does the task for each line with buffered output, which is written even if the work ends early, and
-/// returns the worst outcome and the writer. Of several errors the first is returned.
-fn do_buffered<I: Read, O: Write + Drop, E: Write + Drop>(
+/// Does the work on each line with buffered output, which is written even if the work ends early, and
+/// returns the worst outcome. Of several errors the first is returned.
+fn do_buffered<I: Read, O: Write, E: Write + Drop>(
     work: &Work<'_>,
     input: &mut BufReader<I>,
-    out: O,
+    out: &mut O,
     err: E,
-) -> Result<(Outcome, O), Failure>
+) -> Result<Outcome, Failure>
     requires { 0 < work.now.width }
-    ensures { IfOk result (λ r. IfSome (reader_remaining I.remaining input.old) (λ bytes. (printed : List ℕ) × Outputs work.now (lines_of work.now.end bytes) printed r.0 × Appends (O.contents out) (O.contents r.1) printed)) }
+    ensures ok { IfOk result (λ worst. IfSome (reader_remaining I.remaining input.old) (λ bytes. Puts work.now (lines_of work.now.end bytes) (O.contents out.old) (O.contents out.new) [] [] worst)) }
+    ensures stops { OnErr result (IfSome (reader_remaining I.remaining input.old) (λ bytes. (unsent : List ℕ) × PutsSome work.now (lines_of work.now.end bytes) (O.contents out.old) (O.contents out.new) [] unsent)) }
+    ensures err { IfErr result (λ f. EndsWork f) }
 {
-    let mut out = made(BufWriter::with_capacity(work.alloc, CAPACITY, out))?;
+    let mut pending = Vec::with_capacity(work.alloc, CAPACITY)?;
     let mut err = made(BufWriter::with_capacity(work.alloc, CAPACITY, err))?;
     let mut written = Ok(());
-    let worst = do_lines(work, input, &mut out, &mut written, &mut err);
-    let finished = finish(out);
+    let worst = do_lines(work, input, &mut pending, out, &mut written, &mut err);
+    let finished = flush(&mut pending, out);
     // The status reports rejections that can't be written either.
     let _ = err.flush();
     written?;
     let worst = worst?;
-    Ok((worst, finished?))
+    finished?;
+    Ok(worst)
 }
 
-/// Does the task for each line of the input, and returns the status and the writer.
-#[tactic(auto, using(crate::proofs::OutputsLemmas::fresh_reader, crate::proofs::OutputsLemmas::ran))]
-fn write_lines<I: Read, O: Write + Drop, E: Write + Drop>(
+/// Does the task for each line of the input, and returns the status.
+#[tactic(auto, using(crate::proofs::OutputsLemmas::cut_off, crate::proofs::OutputsLemmas::fresh_reader, crate::proofs::OutputsLemmas::ran))]
+fn write_lines<I: Read, O: Write, E: Write + Drop>(
     alloc: Global,
     options: Options,
     task: Task<'_>,
     input: &mut I,
-    out: O,
+    out: &mut O,
     err: E,
-) -> Result<(u8, O), Failure>
-    ensures bound { IfOk result (λ r. r.0 ≤ 3) }
-    ensures runs { IfOk result (λ r. IfSome (I.remaining input.old) (λ bytes. Runs task.entry options.columns options.end bytes (O.contents out) (O.contents r.1) r.0)) }
+) -> Result<u8, Failure>
+    ensures bound { IfOk result (λ status. status ≤ 3) }
+    ensures runs { IfSome (I.remaining input.old) (λ bytes. RunsOrStops task.entry options.columns options.end bytes (O.contents out.old) (O.contents out.new) result) }
 {
     let work = Work {
         alloc,
@@ -529,8 +554,7 @@ fn write_lines<I: Read, O: Write + Drop, E: Write + Drop>(
         task,
     };
     let mut input = made(BufReader::with_capacity(alloc, CAPACITY, input))?;
-    let (worst, out) = do_buffered(&work, &mut input, out, err)?;
-    Ok((worst.status(), out))
+    Ok(do_buffered(&work, &mut input, out, err)?.status())
 }
 
 /// Runs the command of these words for each line of the input, and returns the status: 0, 1 if a
@@ -538,7 +562,9 @@ fn write_lines<I: Read, O: Write + Drop, E: Write + Drop>(
 ///
 /// Each line is one text, or two with a tab between them. Its bytes need not be UTF-8, and a `\r`
 /// is a byte like any other. A rejected line is reported on `err`, and the work goes on; it ends
-/// early only if memory runs out or a read or a write fails.
+/// early only if memory runs out or a read or a write fails. Then the output is that of some first
+/// lines, or a part from its start.
+#[tactic(auto, using(crate::proofs::TaskLemmas::lines_run, crate::proofs::TaskLemmas::lines_unread))]
 pub fn lines<I: Read, O: Write, E: Write>(
     alloc: Global,
     options: Options,
@@ -547,9 +573,9 @@ pub fn lines<I: Read, O: Write, E: Write>(
     out: &mut O,
     err: &mut E,
 ) -> Result<u8, Failure>
-    ensures { IfOk result (λ status. status ≤ 3) }
+    ensures bound { IfOk result (λ status. status ≤ 3) }
+    ensures lines { IfSome (I.remaining input.old) (λ bytes. LinesEnd options (map (λ w. w.now) words.now) bytes (O.contents out.old) (O.contents out.new) result) }
 {
     let task = Task::read(alloc, options, words)?;
-    let (status, _) = write_lines(alloc, options, task, input, out, err)?;
-    Ok(status)
+    write_lines(alloc, options, task, input, out, err)
 }

@@ -1,6 +1,9 @@
 //! The options of a command, which precede its texts.
 
-ghost use Rattle.std.specs.Prelude.{◌<◌, ◌≤◌, IfSome, length};
+ghost use Rattle.std.specs.Prelude.{◌≡◌, ◌<◌, ◌≤◌, ◌++◌, ◌∷◌, IfOk, IfSome, List, None, Some, length, map, true, ℕ};
+ghost use Rattle.uri_commands.specs.Options as spec;
+ghost use Rattle.uri_commands.specs.Options.{both};
+ghost use Rattle.uri_commands.specs.Output.{is_for_lines};
 
 use crate::columns::Columns;
 use std::alloc::{AllocError, Global};
@@ -24,7 +27,9 @@ pub enum Mode {
 
 impl Mode {
     /// The mode with one more option.
-    fn with(self, option: Mode) -> Mode {
+    fn with(self, option: Mode) -> Mode
+        ensures { result ≡ both self option }
+    {
         if self == Mode::Plain || self == option {
             option
         } else {
@@ -58,29 +63,39 @@ impl Options {
     };
 
     /// Whether there is an option that only `--lines` takes.
-    pub fn is_for_lines(self) -> bool {
+    pub fn is_for_lines(self) -> bool
+        ensures { result ≡ is_for_lines self }
+    {
         self.columns.is_some() || self.end != b'\n'
     }
 
     /// The options with one more mode.
-    fn with_mode(self, mode: Mode) -> Options {
+    fn with_mode(self, mode: Mode) -> Options
+        ensures { result ≡ spec.with_mode self mode }
+    {
         let mode = self.mode.with(mode);
         Options { mode, ..self }
     }
 
     /// The columns that the options name so far.
-    fn columns_or_whole(self) -> Columns {
+    fn columns_or_whole(self) -> Columns
+        ensures { result ≡ spec.columns_of self }
+    {
         self.columns.unwrap_or(Columns::WHOLE)
     }
 
     /// The options with these columns.
-    fn with_columns(self, columns: Columns) -> Options {
+    fn with_columns(self, columns: Columns) -> Options
+        ensures { result ≡ record self { columns = Some columns } }
+    {
         let columns = Some(columns);
         Options { columns, ..self }
     }
 
     /// The options with the one that this word is.
-    fn with_word(self, word: &str) -> Option<Options> {
+    fn with_word(self, word: &str) -> Option<Options>
+        ensures { result ≡ spec.with_option self word.now }
+    {
         let columns = self.columns_or_whole();
         let more = match word {
             "--lines" => {
@@ -114,7 +129,9 @@ impl Options {
 
     /// The options with the one that the words begin with, and how many words that is.
     fn read(self, words: &[&str]) -> Option<(Options, usize)>
-        ensures { IfSome result (λ r. (0 < r.1) × (r.1 ≤ length words.now)) }
+        ensures bounds { IfSome result (λ r. (0 < r.1) × (r.1 ≤ length words.now)) }
+        ensures option { (p : Options) → spec.first_option self (map (λ w. w.now) words.now) ≡ Some p → result ≡ Some (p, 1) }
+        ensures none { spec.StartsWithoutOption (map (λ w. w.now) words.now) → result ≡ None }
     {
         match words {
             ["--column", number, ..] => {
@@ -134,7 +151,9 @@ fn read_column(number: &str) -> Option<usize> {
 }
 
 /// Reads the options at the front of the words. Returns them, with those before, and the other words.
-fn read_options<'w, 't>(before: Options, words: &'w [&'t str]) -> (Options, &'w [&'t str]) {
+fn read_options<'w, 't>(before: Options, words: &'w [&'t str]) -> (Options, &'w [&'t str])
+    ensures { (options rest : List (List ℕ)) (after : Options) → map (λ w. w.now) words.now ≡ options ++ rest → spec.with_options options before ≡ Some after → spec.StartsWithoutOption rest → (result.0 ≡ after) × (map (λ w. w.now) result.1.now ≡ rest) }
+{
     let mut options = before;
     let mut at = 0;
     'options: while let Some((more, count)) = options.read(&words[at..]) {
@@ -144,6 +163,33 @@ fn read_options<'w, 't>(before: Options, words: &'w [&'t str]) -> (Options, &'w 
     (options, &words[at..])
 }
 
+/// Reads the options before the command and after it. Returns them, the name between them, and the other
+/// words, with the name if no option may follow it.
+fn read_command<'w, 't>(words: &'w [&'t str]) -> (Options, &'w [&'t str], &'w [&'t str])
+    ensures { (options : Options) (name : List ℕ) (texts : List (List ℕ)) → spec.Asks (map (λ w. w.now) words.now) options name texts → spec.IsRead options name texts result.0 (map (λ w. w.now) result.1.now) (map (λ w. w.now) result.2.now) }
+{
+    let (options, rest) = read_options(Options::NONE, words);
+    match rest {
+        [] => (options, rest, rest),
+        ["--", texts @ ..] => (options, &rest[..0], texts),
+        ["help", ..] => (options, &rest[..0], rest),
+        [_, more @ ..] => {
+            let (options, texts) = read_options(options, more);
+            (options, &rest[..1], texts)
+        }
+    }
+}
+
+/// The words without a first `--`, which ends the options.
+fn without_end<'w, 't>(words: &'w [&'t str]) -> &'w [&'t str]
+    ensures { map (λ w. w.now) result.now ≡ spec.unmarked (map (λ w. w.now) words.now) }
+{
+    match words {
+        [first, texts @ ..] => { if *first == "--" { texts } else { words } }
+        [] => words,
+    }
+}
+
 /// Splits the words into the options, and the command with its texts. Allocates a list of these.
 ///
 /// Options stand before the command or after it, in any order, but before its texts. `--` ends them. What
@@ -151,20 +197,12 @@ fn read_options<'w, 't>(before: Options, words: &'w [&'t str]) -> (Options, &'w 
 pub fn split_options<'t>(
     alloc: Global,
     words: &[&'t str],
-) -> Result<(Options, Vec<&'t str>), AllocError> {
+) -> Result<(Options, Vec<&'t str>), AllocError>
+    ensures { (options : Options) (name : List ℕ) (texts : List (List ℕ)) → spec.Asks (map (λ w. w.now) words.now) options name texts → IfOk result (λ r. (r.0 ≡ options) × (map (λ w. w.now) r.1.items ≡ name ∷ texts)) }
+{
+    let (options, name, texts) = read_command(words);
     let mut command = Vec::with_capacity(alloc, words.len())?;
-    let (options, rest) = read_options(Options::NONE, words);
-    let (options, texts) = match rest {
-        ["--", rest @ ..] => (options, rest),
-        ["help", ..] | [] => (options, rest),
-        [name, rest @ ..] => {
-            command.push(*name)?;
-            read_options(options, rest)
-        }
-    };
-    match texts {
-        ["--", texts @ ..] => command.extend_from_slice(texts)?,
-        texts => command.extend_from_slice(texts)?,
-    }
+    command.extend_from_slice(name)?;
+    command.extend_from_slice(without_end(texts))?;
     Ok((options, command))
 }

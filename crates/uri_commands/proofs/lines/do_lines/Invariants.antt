@@ -7,5 +7,5 @@ abbrev pub invariant-lines : goal.invariant-lines
 invariant-lines g l = record {
   kept : IsErr l.initial.written → l.written ≡ l.initial.written;
   goes : Goes l.work (reader_remaining g.I.Read.remaining l.initial.input) (reader_remaining g.I.Read.remaining l.input)
-      (g.O.Write.contents l.initial.out) (g.O.Write.contents l.out) l.worst;
+      (g.O.Write.contents l.initial.out) (g.O.Write.contents l.out) l.initial.pending.items l.pending.items l.worst;
 }

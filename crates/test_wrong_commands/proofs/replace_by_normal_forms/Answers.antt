@@ -1,0 +1,6 @@
+use Rattle.std.proofs.Common.{refl}
+use Rattle.test_wrong_commands.proofs.RunLemmas.{normalized_rows}
+use Rattle.test_wrong_commands.proofs.replace_by_normal_forms.Goals as goal
+
+pub returns : goal.returns
+returns g c = normalized_rows _ _ _ _ _ c.run_with_input.ensures.lines refl

@@ -1,0 +1,16 @@
+-- Options with `--lines`.
+use Rattle.std.specs.Prelude.{false, true, None, Some}
+use Rattle.uri_commands.specs.Options.{none}
+use Rattle.uri_commands.specs.declared.options.Options.{Options}
+
+-- --lines
+abbrev pub of_lines : Options
+of_lines = record none { reads_lines = true }
+
+-- --lines --align
+abbrev pub aligned : Options
+aligned = record none { reads_lines = true; columns = Some (record { first = None; appends = false }) }
+
+-- --lines --append
+abbrev pub appended : Options
+appended = record none { reads_lines = true; columns = Some (record { first = None; appends = true }) }

@@ -1,0 +1,136 @@
+//! Promises of the program's commands: each function runs one. `must-fail` has wrong bodies, as in
+//! `test_wrong_texts`.
+#![tactic(auto)]
+
+ghost use Rattle.std.specs.Prelude.{◌∷◌, [], IfSome, codes};
+ghost use Rattle.test_wrong_commands.specs.Lines.{aligned, appended, of_lines};
+ghost use Rattle.uri_commands.specs.Output as spec;
+ghost use Rattle.uri_commands.specs.Tasks.{LinesEndWith};
+ghost use Rattle.uri_commands.specs.declared.get.Part.TheVariants as part;
+
+use std::alloc::Global;
+use std::io::{BufRead, Write};
+use uri_commands::{run, run_with_input};
+
+/// Prints the components of a reference.
+pub fn print_components<O: Write, E: Write>(
+    alloc: Global,
+    text: &str,
+    out: &mut O,
+    err: &mut E,
+) -> u8
+    ensures { spec.Ends (spec.Parses text.now) (O.contents out.old) (O.contents out.new) result }
+{
+    run(alloc, &["parse", "--", text], out, err)
+}
+
+/// Prints a reference as a JSON object.
+pub fn print_object<O: Write, E: Write>(alloc: Global, text: &str, out: &mut O, err: &mut E) -> u8
+    ensures { spec.Ends (spec.ParsesJson text.now) (O.contents out.old) (O.contents out.new) result }
+{
+    run(alloc, &["--json", "parse", "--", text], out, err)
+}
+
+/// Prints the port of a reference.
+pub fn print_port<O: Write, E: Write>(alloc: Global, text: &str, out: &mut O, err: &mut E) -> u8
+    ensures { spec.Ends (spec.Gets part.Port text.now) (O.contents out.old) (O.contents out.new) result }
+{
+    run(alloc, &["get", "--", "port", text], out, err)
+}
+
+/// Prints the normal form of a reference.
+pub fn print_normal_form<O: Write, E: Write>(
+    alloc: Global,
+    text: &str,
+    out: &mut O,
+    err: &mut E,
+) -> u8
+    ensures { spec.Ends (spec.Normalizes text.now) (O.contents out.old) (O.contents out.new) result }
+{
+    run(alloc, &["normalize", "--", text], out, err)
+}
+
+/// Prints the normal form of a reference without a port that is the scheme's default one.
+pub fn print_without_default_port<O: Write, E: Write>(
+    alloc: Global,
+    text: &str,
+    out: &mut O,
+    err: &mut E,
+) -> u8
+    ensures { spec.Ends (spec.NormalizesPort text.now) (O.contents out.old) (O.contents out.new) result }
+{
+    run(
+        alloc,
+        &["normalize", "--drop-default-port", "--", text],
+        out,
+        err,
+    )
+}
+
+/// Prints whether two references are equal.
+pub fn print_equality<O: Write, E: Write>(
+    alloc: Global,
+    left: &str,
+    right: &str,
+    out: &mut O,
+    err: &mut E,
+) -> u8
+    ensures { spec.Ends (spec.Compares left.now right.now) (O.contents out.old) (O.contents out.new) result }
+{
+    run(alloc, &["equal", "--", left, right], out, err)
+}
+
+/// Prints the target of a reference against a base.
+pub fn print_target<O: Write, E: Write>(
+    alloc: Global,
+    base: &str,
+    text: &str,
+    out: &mut O,
+    err: &mut E,
+) -> u8
+    ensures { spec.Ends (spec.Resolves base.now text.now) (O.contents out.old) (O.contents out.new) result }
+{
+    run(alloc, &["resolve", "--", base, text], out, err)
+}
+
+/// Prints the normal form of each line of the input.
+pub fn print_normal_forms<I: BufRead, O: Write, E: Write>(
+    alloc: Global,
+    input: &mut I,
+    out: &mut O,
+    err: &mut E,
+) -> u8
+    ensures { IfSome (I.remaining input.old) (λ bytes. LinesEndWith of_lines (codes "normalize" ∷ []) bytes (O.contents out.old) (O.contents out.new) result) }
+{
+    run_with_input(alloc, &["--lines", "normalize"], input, out, err)
+}
+
+/// Prints each line of the input with the normal form in its place, also an empty one.
+pub fn replace_by_normal_forms<I: BufRead, O: Write, E: Write>(
+    alloc: Global,
+    input: &mut I,
+    out: &mut O,
+    err: &mut E,
+) -> u8
+    ensures { IfSome (I.remaining input.old) (λ bytes. LinesEndWith aligned (codes "normalize" ∷ []) bytes (O.contents out.old) (O.contents out.new) result) }
+{
+    run_with_input(alloc, &["--lines", "--align", "normalize"], input, out, err)
+}
+
+/// Prints each line of the input with the normal form after it.
+pub fn append_normal_forms<I: BufRead, O: Write, E: Write>(
+    alloc: Global,
+    input: &mut I,
+    out: &mut O,
+    err: &mut E,
+) -> u8
+    ensures { IfSome (I.remaining input.old) (λ bytes. LinesEndWith appended (codes "normalize" ∷ []) bytes (O.contents out.old) (O.contents out.new) result) }
+{
+    run_with_input(
+        alloc,
+        &["--lines", "--append", "normalize"],
+        input,
+        out,
+        err,
+    )
+}
