@@ -39,7 +39,3 @@ pub record IsLastDots (at : ℕ) (t : List ℕ) : Type 0 where
 -- this is the place of the last dot segment, if there is one
 abbrev pub IsLast : Option ℕ → List ℕ → Type 0
 IsLast last t = MatchOption last (has_dot_segment (slice_split is_slash t) ≡ false) (λ at. IsLastDots at t)
-
--- no segment that begins before this place begins like a dot segment
-abbrev pub HasNoDotCandidates : ℕ → List ℕ → Type 0
-HasNoDotCandidates n t = (at : ℕ) → at < n → (begins_segment at t && may_begin_dot_segment (slice_index t at)) ≡ false

@@ -26,7 +26,7 @@ pub use crate::query::find::{Among, Named, PairTest, find_pair};
 pub use crate::query::put::{Appended, Appending, InPair, WithPair, Without, write_text};
 pub use ambiguous::has_ambiguous_escape;
 pub use backward_buffer::{Form, put, put_after, put_formed};
-pub use bits::{bits_below, count_below, has_adjacent, highest, lowest, without, without_lowest};
+pub use bits::{bits_below, count_below, highest, lowest, without, without_lowest};
 pub use canonical::{canonical_bytes, feed_spelling, feed_text, is_canonical};
 pub use canonical_prefix::{check_bytes, split_canonical_prefix};
 pub use class::{Class, Outside, offset_of_fault};
@@ -41,9 +41,7 @@ pub use forward_buffer::{TooSmall, append, append_encoded, append_escaped, encod
 pub use found::{Found, find_text_before, find_text_if, found_again, no_text};
 pub use held::Held;
 pub use print::write_plain;
-pub use scan::{
-    ByteTest, Is, IsAny, first, has_byte, has_pair, marks_of_pairs, next_mask, next_mask_by_two,
-};
+pub use scan::{ByteTest, Is, IsAny, first, marks_of_pairs, next_mask, next_mask_by_two};
 pub use text::{
     Text, TextKind, checked_text, len_of, normalized_text, text_from_checked, text_from_checked_vec,
 };

@@ -15,7 +15,6 @@ use uriparse_text::internal::{
 };
 
 mod backward;
-mod dot_scan;
 mod last;
 pub(crate) mod normal;
 pub(crate) mod order;

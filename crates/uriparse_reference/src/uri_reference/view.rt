@@ -80,6 +80,15 @@ impl<'t> ReferenceView<'t> {
     ghost use Rattle.uriparse_reference.specs.Reference.{Parts, Spells, Valid};
     ghost use Rattle.uriparse_reference.specs.declared.uri_reference.error.URIReferenceError.{URIReferenceError};
 
+    /// Does nothing. The view is valid, which is known once a field is read.
+    #[inline(always)]
+    fn assert_valid(&self)
+        ensures spelled { Spells self.now.text self.now.parts }
+        ensures valid { Valid self.now.parts }
+    {
+        let _text = &self.text;
+    }
+
     /// Finds the components of the text, or its fault. Inlined, so that a view is found in its last
     /// place: it is large, and a call that returns it would move it.
     #[inline(always)]

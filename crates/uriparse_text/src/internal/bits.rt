@@ -1,5 +1,5 @@
 //! Masks of 64 bits, bit by bit.
-ghost use Rattle.std.specs.Prelude.{◌≡◌, ◌≢◌, ℕ, ◌+◌, ◌-◌, ◌<◌, ◌≤◌, ◌%◌, ◌^◌, count_ones, false};
+ghost use Rattle.std.specs.Prelude.{◌≡◌, ◌≢◌, ℕ, ◌+◌, ◌-◌, ◌<◌, ◌≤◌, ◌%◌, ◌^◌, count_ones};
 ghost use Rattle.std.specs.Int.{bit_at};
 ghost use Rattle.uriparse_text.specs.Marks.{IsLowest};
 
@@ -94,13 +94,4 @@ pub(super) fn without_triples(m: u64, first: u64, later: u64) -> u64
     ensures gone { (k : ℕ) → k < 64 → bit_at result k ≡ 0 → bit_at m k ≡ 1 → (bit_at first k ≡ 1) × (bit_at later (1 + k) ≡ 1) × (bit_at later (2 + k) ≡ 1) }
 {
     m & !(first & (later >> 1) & (later >> 2))
-}
-
-/// Whether `later` has a bit right above one of `first`.
-#[inline(always)]
-#[tactic(auto, using(crate::proofs::lemmas::scans::BitLemmas::none_adjacent))]
-pub fn has_adjacent(first: u64, later: u64) -> bool
-    ensures { result ≡ false → (k : ℕ) → bit_at first k ≡ 1 → bit_at later (1 + k) ≡ 0 }
-{
-    first & (later >> 1) != 0
 }

@@ -1,7 +1,7 @@
 //! Searches that test sixteen bytes at a time, for bytes and for pairs of neighbouring bytes.
 ghost use Rattle.std.specs.Int.{bit_at};
 ghost use Rattle.std.specs.List.{position_or_len};
-ghost use Rattle.std.specs.Prelude.{◌≡◌, ◌==◌, ◌+◌, ◌-◌, ◌<◌, ◌≤◌, ◌/◌, ◌||◌, ◌++◌, if◌then◌else◌, ℕ, Bool, map, length, slice_index, bit_and, ◌&&◌, false, true};
+ghost use Rattle.std.specs.Prelude.{◌≡◌, ◌==◌, ◌+◌, ◌-◌, ◌<◌, ◌≤◌, ◌/◌, ◌||◌, ◌++◌, if◌then◌else◌, ℕ, Bool, map, length, slice_index, bit_and, ◌&&◌};
 ghost use Rattle.std.specs.Simd.Lanes.{mask_l, chunk};
 ghost use Rattle.uriparse_text.specs.Bytes.{is_hex};
 ghost use Rattle.uriparse_text.specs.Marks.{AreMarks};
@@ -341,26 +341,4 @@ pub fn marks_of_pairs<T: ByteTest, U: ByteTest>(
         return 0;
     }
     before & marks_of_run(later, text, at, at)
-}
-
-/// Whether one of the sixteen bytes from `at` on passes `later` right after a byte that passes
-/// `earlier`.
-#[inline(always)]
-pub fn has_pair<T: ByteTest, U: ByteTest>(earlier: &T, later: &U, text: &[u8], at: usize) -> bool
-    requires after { 0 < at }
-    requires room { at + 16 ≤ length text.now }
-    ensures none { result ≡ false → (k : ℕ) → k < 16 → (T.passes earlier.now (slice_index text.now (at - 1 + k)) && U.passes later.now (slice_index text.now (at + k))) ≡ false }
-    ensures some { result ≡ true → (k : ℕ) × (k < 16) × ((T.passes earlier.now (slice_index text.now (at - 1 + k)) && U.passes later.now (slice_index text.now (at + k))) ≡ true) }
-{
-    marks_of_pairs(earlier, later, text, at) != 0
-}
-
-/// Whether one of the sixteen bytes from `at` on passes.
-#[inline(always)]
-pub fn has_byte<T: ByteTest>(test: &T, text: &[u8], at: usize) -> bool
-    requires room { at + 16 ≤ length text.now }
-    ensures none { result ≡ false → (k : ℕ) → k < 16 → T.passes test.now (slice_index text.now (at + k)) ≡ false }
-    ensures some { result ≡ true → (k : ℕ) × (k < 16) × (T.passes test.now (slice_index text.now (at + k)) ≡ true) }
-{
-    marks_of_run(test, text, at, at) != 0
 }

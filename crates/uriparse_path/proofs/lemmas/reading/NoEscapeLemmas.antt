@@ -1,7 +1,7 @@
 -- Texts without escapes, and the counts of their segments.
-use Rattle.std.proofs.Common.{◌≡◌, ℕ, zero, suc, ◌+◌, ◌-◌, ◌<◌, ◌≤◌, Bool, true, false, not, ◌&&◌, ◌||◌, cond, List, [], ◌∷◌, ◌++◌, length, take, drop, take_all, get_or, refl, sym, ap, subst, ◌∙◌, arith, inl, inr}
+use Rattle.std.proofs.Common.{◌≡◌, ℕ, zero, suc, ◌+◌, ◌-◌, ◌<◌, ◌≤◌, Bool, true, false, not, ◌&&◌, ◌||◌, cond, List, [], ◌∷◌, ◌++◌, length, take, take_all, get_or, refl, sym, ap, subst, ◌∙◌, arith, inl, inr}
 use Rattle.std.specs.Prelude.{◌==◌}
-use Rattle.std.specs.List.{list_all, list_any, position_or_len, slice_split}
+use Rattle.std.specs.List.{list_all, list_any, slice_split}
 use Rattle.std.specs.Int.{bit_at}
 use Rattle.std.proofs.lemmas.Bool.{cases_lt, eqb-true, not-true, and_parts, or_parts}
 use Rattle.std.proofs.lemmas.List.Folds.{list_any-append}
@@ -143,46 +143,6 @@ pub plain_counts : (t : List ℕ) → lacks percent t ≡ true → list_any begi
 plain_counts t h k =
     let are = no_dots (slice_split is_slash t) (pieces_lack t h) k in
     sym counts-nil ∙ counts_undotted (slice_split is_slash t) are.0 are.1
-
--- each segment of a text without escapes is canonical
-each_stays : (ss : List (List ℕ)) → list_all (lacks percent) ss ≡ true → list_all is_canonical ss ≡ true
-each_stays [] h = refl
-each_stays (s ∷ ss) h =
-    let free = and_parts (lacks percent s) (list_all (lacks percent) ss) h in
-    ap (λ v. v && list_all is_canonical ss) ((bytes_eq-Decides (canonical s) s).1 (unescaped_stays s free.0)) ∙ each_stays ss free.1
-
-pub each_unescaped : (t : List ℕ) → lacks percent t ≡ true → list_all is_canonical (slice_split is_slash t) ≡ true
-each_unescaped t h = each_stays (slice_split is_slash t) (pieces_lack t h)
-
--- a search that finds no percent sign
-pub none_escaped : (t : List ℕ) → position_or_len (λ b. b == percent) t ≡ length t → lacks percent t ≡ true
-none_escaped [] h = refl
-none_escaped (b ∷ t) h = by_test (b == percent) h (none_escaped t)
-  where
-    by_test : (v : Bool) → cond (not v) (1 + position_or_len (λ c. c == percent) t) 0 ≡ suc (length t)
-        → (position_or_len (λ c. c == percent) t ≡ length t → lacks percent t ≡ true) → (not v && lacks percent t) ≡ true
-    by_test true k rest = absurd (omega (arith, k))
-    by_test false k rest = rest (omega (arith, k))
-
--- a search that finds one
-pub some_escaped : (t : List ℕ) → position_or_len (λ b. b == percent) t < length t → lacks percent t ≡ false
-some_escaped [] h = absurd (omega (arith, h))
-some_escaped (b ∷ t) h = by_test (b == percent) h (some_escaped t)
-  where
-    by_test : (v : Bool) → cond (not v) (1 + position_or_len (λ c. c == percent) t) 0 < suc (length t)
-        → (position_or_len (λ c. c == percent) t < length t → lacks percent t ≡ false) → (not v && lacks percent t) ≡ false
-    by_test true k rest = refl
-    by_test false k rest = rest (omega (arith, k))
-
--- a text without percent signs up to a place, and some bytes more
-pub lacks_more : (t : List ℕ) (at n : ℕ) → lacks percent (take at t) ≡ true → lacks percent (take n (drop at t)) ≡ true → lacks percent (take (at + n) t) ≡ true
-lacks_more t zero n h k = let same : n ≡ 0 + n = omega arith in subst (λ m. lacks percent (take m t) ≡ true) same k
-lacks_more [] (suc at) n h k = ap (lacks percent) (take_all (suc at + n) [] (omega arith))
-lacks_more (b ∷ t) (suc at) n h k =
-    let parts = and_parts (not (b == percent)) (lacks percent (take at t)) h in
-    let same : suc (at + n) ≡ suc at + n = omega arith in
-    subst (λ m. lacks percent (take m (b ∷ t)) ≡ true) same
-    (ap (λ v. v && lacks percent (take (at + n) t)) parts.0 ∙ lacks_more t at n parts.1 k)
 
 pub lacks_all : (t : List ℕ) (n : ℕ) → length t ≤ n → lacks percent (take n t) ≡ true → lacks percent t ≡ true
 lacks_all t n h k = ap (lacks percent) (sym (take_all n t h)) ∙ k

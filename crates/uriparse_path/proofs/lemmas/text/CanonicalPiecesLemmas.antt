@@ -1,19 +1,15 @@
 -- A path's text is canonical exactly if each of its segments is.
-use Rattle.std.proofs.Common.{◌≡◌, ℕ, Bool, true, List, [], ◌∷◌, ◌++◌, ◌<◌, ◌↔◌, length, map, flat_map, take, drop, refl, sym, ap, ◌∙◌, arith}
+use Rattle.std.proofs.Common.{◌≡◌, ℕ, Bool, true, List, [], ◌∷◌, ◌++◌, ◌<◌, ◌↔◌, length, map, flat_map, refl, sym, ap, ◌∙◌, arith}
 use Rattle.std.specs.List.{join_with_byte, list_all, slice_split}
 use Rattle.std.proofs.lemmas.Bool.{and_parts}
 use Rattle.std.proofs.lemmas.Bool.Decides.{same_from_decides}
 use Rattle.uriparse_text.specs.declared.internal.class.Class.TheVariants.{Segment}
 use Rattle.uriparse_text.specs.declared.internal.token.Case.TheVariants.{Kept}
-use Rattle.std.proofs.lemmas.List.{append_cancel_left, take-append-drop}
-use Rattle.uriparse_text.specs.Bytes.{percent, slash}
-use Rattle.uriparse_text.specs.Cuts.{lacks}
+use Rattle.uriparse_text.specs.Bytes.{slash}
 use Rattle.uriparse_text.specs.Canonical.{canonical}
 use Rattle.uriparse_text.specs.Segment.{is_segment}
 use Rattle.uriparse_text.proofs.lemmas.canonical.CanonicalLemmas.{canonical_in-append}
 use Rattle.uriparse_text.proofs.lemmas.classes.ClassLemmas.{well_formed-in_class}
-use Rattle.uriparse_text.proofs.lemmas.tokens.UnescapedLemmas.{well_formed-plain}
-use Rattle.uriparse_path.proofs.lemmas.list.SegmentCountLemmas.{unescaped_stays}
 use Rattle.uriparse_path.specs.Path.{is_slash}
 use Rattle.uriparse_path.specs.Normal.{is_canonical}
 use Rattle.uriparse_path.proofs.lemmas.normal.RelativeFormLemmas.{all_canonical_same}
@@ -49,19 +45,3 @@ canonical_split u r each iff =
       λ all. both.1 (all_canonical_same (slice_split is_slash u) all),
       λ same. each_is_canonical (slice_split is_slash u) (both.0 same),
     ) (iff.0, iff.1))
-
--- bytes without an escape in front stay
-canonical-front : (t : List ℕ) (len : ℕ) → lacks percent (take len t) ≡ true → canonical t ≡ take len t ++ canonical (drop len t)
-canonical-front t len h =
-    ap canonical (sym (take-append-drop len t))
-    ∙ canonical_in-append Kept (take len t) (drop len t) (well_formed-plain (take len t) h)
-    ∙ ap (λ u. u ++ canonical (drop len t)) (unescaped_stays (take len t) h)
-
-pub canonical_after : (t : List ℕ) (len : ℕ) (r : Bool) → list_all is_segment (slice_split is_slash t) ≡ true → lacks percent (take len t) ≡ true
-    → ((r ≡ true) ↔ (canonical (drop len t) ≡ drop len t)) → r ≡ list_all is_canonical (slice_split is_slash t)
-canonical_after t len r each h iff =
-    let front = canonical-front t len h in
-    canonical_split t r each (
-      λ e. front ∙ ap (λ u. take len t ++ u) (iff.0 e) ∙ take-append-drop len t,
-      λ same. iff.1 (append_cancel_left (take len t) (canonical (drop len t)) (drop len t) (sym front ∙ same ∙ sym (take-append-drop len t))),
-    )

@@ -1,25 +1,19 @@
 -- Segments that begin neither with a dot nor with a percent sign are no dot segments.
-use Rattle.std.proofs.Common.{◌≡◌, ℕ, zero, suc, ◌+◌, ◌-◌, ◌<◌, ◌≤◌, Bool, true, false, not, ◌&&◌, ◌||◌, List, [], ◌∷◌, ◌++◌, length, get_or, take, drop, refl, sym, ap, subst, ◌∙◌, arith, inl, inr}
+use Rattle.std.proofs.Common.{◌≡◌, ℕ, zero, suc, ◌+◌, ◌-◌, ◌<◌, ◌≤◌, Bool, true, false, ◌&&◌, ◌||◌, List, [], ◌∷◌, ◌++◌, length, get_or, take, drop, refl, sym, ap, subst, ◌∙◌, arith, inl, inr}
 use Rattle.std.specs.Prelude.{◌==◌}
 use Rattle.std.specs.List.{list_all, slice_split}
-use Rattle.std.specs.Int.{bit_at}
-use Rattle.std.proofs.lemmas.Bool.{and_parts, or_parts, not-true, false≢true, cases_lt, eqb-true}
+use Rattle.std.proofs.lemmas.Bool.{and_parts, or_parts, false≢true, cases_lt, eqb-true}
 use Rattle.std.proofs.lemmas.List.{take-append-drop, drop_more, drop_all}
 use Rattle.std.proofs.lemmas.List.Folds.{list_all-append, list_any-append}
-use Rattle.std.proofs.lemmas.Nat.Bits.{bit_at-lt}
 use Rattle.std.proofs.Math.Bool.{or-true}
 use Rattle.uriparse_text.specs.Bytes.{dot, percent, slash}
-use Rattle.uriparse_text.specs.Cuts.{lacks}
-use Rattle.uriparse_text.specs.Marks.{AreMarks}
 use Rattle.uriparse_text.specs.Segment.{is_segment}
 use Rattle.uriparse_text.proofs.lemmas.canonical.DotLemmas.{empty_no_dot, dots_begin}
-use Rattle.uriparse_text.proofs.lemmas.scans.MarkLemmas.{marked, unmarked}
 use Rattle.uriparse_path.specs.Path.{is_slash}
 use Rattle.uriparse_path.specs.Dots.{is_dot_segment, has_dot_segment}
 use Rattle.uriparse_path.specs.Relative.{is_first}
-use Rattle.uriparse_path.specs.Last.{may_begin_dot_segment, begins_with_dot_candidate, begins_segment, LacksDotsAfter, HasNoDotCandidates, IsLastDots}
+use Rattle.uriparse_path.specs.Last.{may_begin_dot_segment, begins_with_dot_candidate, begins_segment, LacksDotsAfter, IsLastDots}
 use Rattle.uriparse_path.proofs.lemmas.reading.LengthFaultLemmas.{split-append}
-use Rattle.uriparse_path.proofs.lemmas.reading.NoEscapeLemmas.{IsFree}
 use Rattle.uriparse_path.proofs.lemmas.text.SplitLemmas.{IsCut, cut, pieces-slash, pieces-byte}
 
 head_of : (b : ℕ) → (b == dot || b == percent) ≡ true → may_begin_dot_segment b ≡ true
@@ -138,64 +132,9 @@ lacks_last (b ∷ t) =
     (λ _. ap (λ u. is_first is_dot_segment (slice_split is_slash u)) nothing ∙ empty_no_dot)
     (ap (λ u. has_dot_segment (drop 1 (slice_split is_slash u))) nothing)
 
--- ---- from the front
-
--- none of the segments begins like a dot segment up to a place, and none after it is one
-pub lacks_all_dots : (t : List ℕ) (len : ℕ) → 0 < len → len ≤ length t → HasNoDotCandidates len t → LacksDotsAfter (len - 1) t
-    → has_dot_segment (slice_split is_slash t) ≡ false
-lacks_all_dots t len some within dot_candidates later = none_dotted t (undotted_at t 0 (dot_candidates 0 some))
-    (lower_run t 0 (len - 1) (omega arith) apart (subst (λ i. LacksDotsAfter i t) top later))
-  where
-    top : len - 1 ≡ 0 + (len - 1)
-    top = omega arith
-
-    apart : (k : ℕ) → k < len - 1 → (is_slash (get_or t (0 + k) 0) && may_begin_dot_segment (get_or t (0 + k + 1) 0)) ≡ false
-    apart k h =
-        let same : 0 + k + 1 ≡ suc k = omega arith in
-        let here : 0 + k ≡ k = omega arith in
-        ap (λ i. is_slash (get_or t i 0) && may_begin_dot_segment (get_or t (0 + k + 1) 0)) here
-        ∙ ap (λ i. is_slash (get_or t k 0) && may_begin_dot_segment (get_or t i 0)) same ∙ dot_candidates (suc k) (omega arith)
-
-pub no_heads : (t : List ℕ) (len : ℕ) → len ≡ length t → HasNoDotCandidates len t → has_dot_segment (slice_split is_slash t) ≡ false
-no_heads [] len e dot_candidates = ap (λ v. v || false) empty_no_dot
-no_heads (b ∷ t) len e dot_candidates =
-    lacks_all_dots (b ∷ t) len (omega (arith, e)) (omega (arith, e)) dot_candidates
-    (subst (λ n. LacksDotsAfter (n - 1) (b ∷ t)) (sym e) (lacks_last (b ∷ t)))
-
--- ---- as far as a walk from the front has come
-
 pub begins_after : (t : List ℕ) (n : ℕ) → 0 < n → begins_segment n t ≡ is_slash (get_or t (n - 1) 0)
 begins_after t zero h = absurd (omega arith)
 begins_after t (suc n) h = let less : n ≡ suc n - 1 = omega arith in ap (λ i. is_slash (get_or t i 0)) less
-
--- some bytes more
-pub more_heads : (t : List ℕ) (at n : ℕ) → HasNoDotCandidates at t → (begins_segment at t && may_begin_dot_segment (get_or t at 0)) ≡ false
-    → ((k : ℕ) → 1 + k < n → (is_slash (get_or t (at + k) 0) && may_begin_dot_segment (get_or t (at + (1 + k)) 0)) ≡ false) → HasNoDotCandidates (at + n) t
-more_heads t at n before first inner j h = elim (cases_lt j at) [
-  | inl below ↦ before j below
-  | inr past ↦ elim (cases_lt at j) [
-    | inl inside ↦
-        let k = j - at - 1 in
-        let here : at + (1 + k) ≡ j = omega arith in
-        let prior : at + k ≡ j - 1 = omega arith in
-        ap (λ v. v && may_begin_dot_segment (get_or t j 0)) (begins_after t j (omega arith) ∙ ap (λ i. is_slash (get_or t i 0)) (sym prior))
-        ∙ ap (λ i. is_slash (get_or t (at + k) 0) && may_begin_dot_segment (get_or t i 0)) (sym here)
-        ∙ inner k (omega arith)
-    | inr not_past ↦ let same : at ≡ j = omega arith in subst (λ i. (begins_segment i t && may_begin_dot_segment (get_or t i 0)) ≡ false) same first
-  ]
-]
-
--- a run of bytes from a place on, by the marks of its slashes and of its dots and percent signs
-pub marked_apart : (t : List ℕ) (at n slashes dot_candidates : ℕ) → AreMarks is_slash t at n slashes → AreMarks may_begin_dot_segment t at n dot_candidates
-    → ((k : ℕ) → bit_at slashes k ≡ 1 → bit_at dot_candidates (1 + k) ≡ 0)
-    → (k : ℕ) → 1 + k < n → (is_slash (get_or t (at + k) 0) && may_begin_dot_segment (get_or t (at + (1 + k)) 0)) ≡ false
-marked_apart t at n slashes dot_candidates are those apart k h = elim (cases_lt (bit_at slashes k) 1) [
-  | inl none ↦ ap (λ v. v && may_begin_dot_segment (get_or t (at + (1 + k)) 0)) (unmarked is_slash t at n slashes are k (omega arith) (omega (arith, none)))
-  | inr some ↦
-      let set : bit_at slashes k ≡ 1 = omega (arith, some, bit_at-lt slashes k) in
-      ap (λ v. v && may_begin_dot_segment (get_or t (at + (1 + k)) 0)) (marked is_slash t at n slashes are k set).1
-      ∙ unmarked may_begin_dot_segment t at n dot_candidates those (1 + k) h (apart k set)
-]
 
 -- ---- where a segment begins
 
@@ -234,58 +173,3 @@ has_dots t at is =
     ap has_dot_segment (begun t at is.begins is.within)
     ∙ list_any-append is_dot_segment (before at t) (slice_split is_slash (drop at t))
     ∙ ap (λ v. has_dot_segment (before at t) || v) (some_dotted (drop at t) is.dots) ∙ or-true (has_dot_segment (before at t))
-
--- ---- runs without percent signs
-
--- bytes from a place on, of those that a walk has come to
-pub heads_run : (t : List ℕ) (at from n : ℕ) → HasNoDotCandidates at t → 0 < from → from ≤ at
-    → ((k : ℕ) → k < n → (is_slash (get_or t (from - 1 + k) 0) && may_begin_dot_segment (get_or t (from + k) 0)) ≡ false) → HasNoDotCandidates (from + n) t
-heads_run t at from n before some below apart j h = elim (cases_lt j at) [
-  | inl here ↦ before j here
-  | inr past ↦
-      let k = j - from in
-      let prior : from - 1 + k ≡ j - 1 = omega arith in
-      let there : from + k ≡ j = omega arith in
-      ap (λ v. v && may_begin_dot_segment (get_or t j 0)) (begins_after t j (omega arith) ∙ ap (λ i. is_slash (get_or t i 0)) (sym prior))
-      ∙ ap (λ i. is_slash (get_or t (from - 1 + k) 0) && may_begin_dot_segment (get_or t i 0)) (sym there) ∙ apart k (omega arith)
-]
-
-pub free_run : (t : List ℕ) (at from n : ℕ) → IsFree t at → from ≤ at → ((k : ℕ) → k < n → (get_or t (from + k) 0 == percent) ≡ false)
-    → IsFree t (from + n)
-free_run t at from n before below none j h = elim (cases_lt j at) [
-  | inl here ↦ before j here
-  | inr past ↦
-      let there : from + (j - from) ≡ j = omega arith in
-      subst (λ i. (get_or t i 0 == percent) ≡ false) there (none (j - from) (omega arith))
-]
-
-pub lacks_at : (t : List ℕ) (n k : ℕ) → lacks percent (take n t) ≡ true → k < n → (get_or t k 0 == percent) ≡ false
-lacks_at [] n k h i = refl
-lacks_at (b ∷ t) zero k h i = absurd (omega arith)
-lacks_at (b ∷ t) (suc n) zero h i = not-true (b == percent) (and_parts (not (b == percent)) (lacks percent (take n t)) h).0
-lacks_at (b ∷ t) (suc n) (suc k) h i = lacks_at t n k (and_parts (not (b == percent)) (lacks percent (take n t)) h).1 (omega arith)
-
--- a byte that is no percent sign is a head only if it is a dot
-pub plain_head : (v : Bool) (b : ℕ) → (v && (b == dot)) ≡ false → (b == percent) ≡ false → (v && may_begin_dot_segment b) ≡ false
-plain_head v b h e = by_test v (b == dot) (b == percent) h e
-  where
-    by_test : (v w x : Bool) → (v && w) ≡ false → x ≡ false → (v && (w || x || x)) ≡ false
-    by_test false w x h e = refl
-    by_test true false x h e = ap (λ y. y || y) e
-    by_test true true x h e = absurd (false≢true (sym h))
-
-pub first_head : (t : List ℕ) → begins_with_dot_candidate t ≡ false → HasNoDotCandidates 1 t × IsFree t 1
-first_head [] h = ((λ j k. by_offset j k), λ j k. refl)
-  where
-    by_offset : (j : ℕ) → j < 1 → (begins_segment j [] && may_begin_dot_segment (get_or [] j 0)) ≡ false
-    by_offset zero k = refl
-    by_offset (suc j) k = absurd (omega arith)
-first_head (b ∷ t) h = ((λ j k. by_offset j k), λ j k. no_sign j k)
-  where
-    by_offset : (j : ℕ) → j < 1 → (begins_segment j (b ∷ t) && may_begin_dot_segment (get_or (b ∷ t) j 0)) ≡ false
-    by_offset zero k = h
-    by_offset (suc j) k = absurd (omega arith)
-
-    no_sign : (j : ℕ) → j < 1 → (get_or (b ∷ t) j 0 == percent) ≡ false
-    no_sign zero k = (or_parts (b == dot || b == percent) (b == percent) h).1
-    no_sign (suc j) k = absurd (omega arith)

@@ -1,5 +1,5 @@
 -- The last dot segment of a text.
-use Rattle.std.proofs.Common.{◌≡◌, ℕ, suc, ◌+◌, ◌-◌, ◌<◌, ◌≤◌, Bool, true, false, not, ◌&&◌, List, [], ◌∷◌, ◌++◌, length, get_or, drop, refl, sym, ap, subst, ◌∙◌, arith, nat_eq, Option, Some, None, MatchOption, is_some, inl, inr}
+use Rattle.std.proofs.Common.{◌≡◌, ℕ, suc, ◌+◌, ◌-◌, ◌<◌, ◌≤◌, Bool, true, false, not, ◌&&◌, List, [], ◌∷◌, ◌++◌, length, get_or, drop, refl, sym, ap, subst, ◌∙◌, arith, nat_eq, Option, Some, None, is_some, inl, inr}
 use Rattle.std.specs.Int.{bit_at}
 use Rattle.std.specs.List.{slice_split}
 use Rattle.std.proofs.lemmas.Bool.{and_parts, cases_lt, or_parts}
@@ -12,9 +12,9 @@ use Rattle.uriparse_path.specs.Path.{is_slash}
 use Rattle.uriparse_path.specs.Dots.{is_dot_segment, is_double_dot, has_dot_segment}
 use Rattle.uriparse_path.specs.Relative.{is_first, is_last}
 use Rattle.uriparse_path.specs.Text.{pieces_left}
-use Rattle.uriparse_path.specs.Last.{AreHeadMarks, begins_segment, may_begin_dot_segment, LacksDotsAfter, HasNoDotCandidates, IsLast, IsLastDots}
+use Rattle.uriparse_path.specs.Last.{AreHeadMarks, begins_segment, may_begin_dot_segment, LacksDotsAfter, IsLast, IsLastDots}
 use Rattle.uriparse_path.proofs.lemmas.left.RemainingLemmas.{last_after}
-use Rattle.uriparse_path.proofs.lemmas.text.DotCandidateLemmas.{before, begins_after, begun, has_dots, lacks_all_dots, lower, lower_run}
+use Rattle.uriparse_path.proofs.lemmas.text.DotCandidateLemmas.{before, begins_after, begun, has_dots, lower, lower_run}
 use Rattle.uriparse_path.proofs.lemmas.text.SplitLemmas.{cut}
 use Rattle.uriparse_path.proofs.lemmas.text.TextWalkLemmas.{pieces_cut}
 
@@ -115,10 +115,3 @@ told false s d e f = ap not (sym e ∙ f)
 pub none_last : (t : List ℕ) (o : Option ℕ) (r : Bool) → IsLast o t → is_some o ≡ not r → r ≡ not (has_dot_segment (slice_split is_slash t))
 none_last t None r h e = told r false (has_dot_segment (slice_split is_slash t)) e (sym h)
 none_last t (Some at) r is e = told r true (has_dot_segment (slice_split is_slash t)) e (sym (has_dots t at is))
-
-pub none_after : (t : List ℕ) (len : ℕ) (o : Option ℕ) (r : Bool) → 0 < len → len ≤ length t → HasNoDotCandidates len t
-    → MatchOption o (LacksDotsAfter (len - 1) t) (λ at. IsLastDots at t) → is_some o ≡ not r → r ≡ not (has_dot_segment (slice_split is_slash t))
-none_after t len None r some within dot_candidates later e =
-    told r false (has_dot_segment (slice_split is_slash t)) e (sym (lacks_all_dots t len some within dot_candidates later))
-none_after t len (Some at) r some within dot_candidates is e =
-    told r true (has_dot_segment (slice_split is_slash t)) e (sym (has_dots t at is))

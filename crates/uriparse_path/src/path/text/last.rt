@@ -1,16 +1,24 @@
 //! The last dot segment of a path's text, looked for from its end, sixteen bytes at a time: RFC
 //! 3986, section 3.3.
-ghost use Rattle.std.specs.Prelude.{◌≡◌, ◌<◌, ◌≤◌, ◌+◌, ◌-◌, MatchOption, drop, length, true};
+ghost use Rattle.std.specs.Prelude.{◌≡◌, ◌<◌, ◌≤◌, ◌+◌, ◌-◌, MatchOption, length, true};
 ghost use Rattle.std.specs.List.{list_all, slice_split};
 ghost use Rattle.uriparse_text.specs.Segment.{is_segment};
 ghost use Rattle.uriparse_path.specs.Path.{is_slash};
-ghost use Rattle.uriparse_path.specs.Dots.{has_dot_segment, is_dot_segment};
+ghost use Rattle.uriparse_path.specs.Dots.{is_dot_segment};
 ghost use Rattle.uriparse_path.specs.Relative.{is_first, is_last};
 ghost use Rattle.uriparse_path.specs.Last as spec;
 
-use super::dot_scan::begins_like_dot_segment;
 use crate::path::segment::is_dots;
 use uriparse_text::internal::{Is, IsAny, bits_below, highest, marks_of_pairs, split_at_delimiter};
+
+/// Whether the text begins with a byte that a dot segment begins with: a dot, or the percent sign of
+/// an escaped one.
+#[inline(always)]
+fn begins_like_dot_segment(text: &[u8]) -> bool
+    ensures { result ≡ spec.begins_with_dot_candidate text.now }
+{
+    matches!(text, [b'.' | b'%', ..])
+}
 
 /// Whether the first segment of a text, which begins like a dot segment, is one.
 #[inline(never)]
@@ -31,16 +39,14 @@ fn begins_with_dots(text: &[u8]) -> bool
     begins_like_dot_segment(text) && has_dots_first(text)
 }
 
-/// The place of the last dot segment of a short text that follows a slash, of those from `from` on,
-/// byte by byte.
+/// The place of the last dot segment of a short text that follows a slash, byte by byte.
 #[inline(never)]
-fn last_dots_of_short(from: usize, text: &[u8]) -> Option<usize>
-    requires segments { list_all is_segment (slice_split is_slash text.now) ≡ true }
-    requires within { from ≤ length text.now }
-    ensures { MatchOption result (spec.LacksDotsAfter from text.now) (λ at. spec.IsLastDots at text.now) }
+fn last_dots_of_short(text: &[u8]) -> Option<usize>
+    requires { list_all is_segment (slice_split is_slash text.now) ≡ true }
+    ensures { MatchOption result (spec.LacksDotsAfter 0 text.now) (λ at. spec.IsLastDots at text.now) }
 {
     let mut at = text.len();
-    'bytes: while at > from {
+    'bytes: while at > 0 {
         if text[at - 1] == b'/' && begins_with_dots(&text[at..]) {
             return Some(at);
         }
@@ -85,35 +91,33 @@ fn last_dots_marked(text: &[u8], at: usize, count: usize, marks: u64) -> Option<
     None
 }
 
-/// The place of the last dot segment of a longer text that follows a slash, of those from `from` on.
-/// The first sixteen places may overlap those after them.
-fn last_dots_by_runs(from: usize, text: &[u8]) -> Option<usize>
+/// The place of the last dot segment of a longer text that follows a slash. The first sixteen places
+/// may overlap those after them.
+fn last_dots_by_runs(text: &[u8]) -> Option<usize>
     requires segments { list_all is_segment (slice_split is_slash text.now) ≡ true }
-    requires long { from + 16 < length text.now }
-    ensures { MatchOption result (spec.LacksDotsAfter from text.now) (λ at. spec.IsLastDots at text.now) }
+    requires long { 16 < length text.now }
+    ensures { MatchOption result (spec.LacksDotsAfter 0 text.now) (λ at. spec.IsLastDots at text.now) }
 {
     let mut end = text.len();
-    'runs: while end - from > 16 {
+    'runs: while end > 16 {
         end -= 16;
         let found = last_dots_marked(text, end, 16, marks_of_dot_candidates(text, end));
         if found.is_some() {
             return found;
         }
     }
-    let marks = marks_of_dot_candidates(text, from + 1);
-    last_dots_marked(text, from + 1, end - from - 1, marks)
+    last_dots_marked(text, 1, end - 1, marks_of_dot_candidates(text, 1))
 }
 
-/// The place of the last dot segment that follows a slash, of those from `from` on.
-pub(super) fn last_dots_after(from: usize, text: &[u8]) -> Option<usize>
-    requires segments { list_all is_segment (slice_split is_slash text.now) ≡ true }
-    requires within { from ≤ length text.now }
-    ensures { MatchOption result (spec.LacksDotsAfter from text.now) (λ at. spec.IsLastDots at text.now) }
+/// The place of the last dot segment of a text that follows a slash.
+fn last_dots_after_slash(text: &[u8]) -> Option<usize>
+    requires { list_all is_segment (slice_split is_slash text.now) ≡ true }
+    ensures { MatchOption result (spec.LacksDotsAfter 0 text.now) (λ at. spec.IsLastDots at text.now) }
 {
-    if text.len() - from > 16 {
-        last_dots_by_runs(from, text)
+    if text.len() > 16 {
+        last_dots_by_runs(text)
     } else {
-        last_dots_of_short(from, text)
+        last_dots_of_short(text)
     }
 }
 
@@ -122,7 +126,7 @@ pub(super) fn last_dots(text: &[u8]) -> Option<usize>
     requires { list_all is_segment (slice_split is_slash text.now) ≡ true }
     ensures { spec.IsLast result text.now }
 {
-    let found = last_dots_after(0, text);
+    let found = last_dots_after_slash(text);
     if found.is_some() {
         return found;
     }

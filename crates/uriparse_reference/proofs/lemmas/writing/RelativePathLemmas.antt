@@ -18,7 +18,7 @@ use Rattle.uriparse_path.proofs.lemmas.text.SplitLemmas.{cut, joined-pieces, pie
 use Rattle.uriparse_path.proofs.lemmas.text.PathTextLemmas.{text-spelled}
 use Rattle.uriparse_path.proofs.lemmas.text.TextWalkLemmas.{left_cut, pieces_cut}
 use Rattle.uriparse_reference.specs.Relate.{inner, stands_alone}
-use Rattle.uriparse_reference.specs.RelativeText.{AreApart, apart_of, directories}
+use Rattle.uriparse_reference.specs.RelativeText.{apart_of, directories}
 
 abbrev pub make : List (List ℕ) → PathParts
 make l = record { absolute = false; segments = l }
@@ -32,13 +32,6 @@ pub directories_more : (b d l : List ℕ) → slice_split is_slash b ≡ d ∷ s
 directories_more b d l is =
     let c = cut l in
     ap all_but_last (is ∙ ap (λ u. d ∷ u) c.pieces) ∙ sym (ap (λ u. d ∷ all_but_last u) c.pieces)
-
--- what precedes the first slash is a directory before those of what follows it
-pub directories_after : (t f : List ℕ) → Some f ≡ part (from_first is_slash t) → directories t ≡ up_to is_slash t ∷ directories f
-directories_after t f is = directories_more t (up_to is_slash t) f (pieces_cut t ∙ ap (λ u. up_to is_slash t ∷ pieces_left u) (sym is))
-
-pub directories_none : (t : List ℕ) → None ≡ part (from_first is_slash t) → directories t ≡ []
-directories_none t is = directories_only t (up_to is_slash t) (pieces_cut t ∙ ap (λ u. up_to is_slash t ∷ pieces_left u) (sym is))
 
 length_all_but_last : (s : List ℕ) (ss : List (List ℕ)) → length (all_but_last (s ∷ ss)) ≡ length ss
 length_all_but_last s [] = refl
@@ -66,29 +59,12 @@ directories_within (b ∷ t) = at_byte (is_slash b) refl (directories_within t)
 
 -- ---- one step of the walk
 
-pub in_none : (b t d : List ℕ) → slice_split is_slash b ≡ d ∷ [] → AreApart b t
-in_none b t d is =
-    ap (λ u. apart u (slice_split is_slash t)) (directories_only b d is)
-    ∙ sym (ap (λ u. double_dots u ++ slice_split is_slash t) (directories_only b d is))
-
-pub target_in_none : (b t d s l : List ℕ) → slice_split is_slash b ≡ d ∷ slice_split is_slash l → slice_split is_slash t ≡ s ∷ [] → AreApart b t
-target_in_none b t d s l is only =
-    ap (λ u. apart u (slice_split is_slash t)) (directories_more b d l is)
-    ∙ ap (apart (d ∷ directories l)) only
-    ∙ sym (ap (λ u. double_dots u ++ slice_split is_slash t) (directories_more b d l is) ∙ ap (λ u. double_dots (d ∷ directories l) ++ u) only)
-
 module _ (b t d s l r : List ℕ) (is : slice_split is_slash b ≡ d ∷ slice_split is_slash l) (js : slice_split is_slash t ≡ s ∷ slice_split is_slash r) where
   more : slice_split is_slash t ≡ s ∷ (cut r).first ∷ (cut r).others
   more = js ∙ ap (λ u. s ∷ u) (cut r).pieces
 
   stepped : apart_of b t ≡ cond (bytes_eq d s) (apart (directories l) ((cut r).first ∷ (cut r).others)) (double_dots (d ∷ directories l) ++ s ∷ (cut r).first ∷ (cut r).others)
   stepped = ap (λ u. apart u (slice_split is_slash t)) (directories_more b d l is) ∙ ap (apart (d ∷ directories l)) more
-
-  pub in_other : bytes_eq d s ≡ false → AreApart b t
-  in_other e =
-      stepped
-      ∙ ap (λ v. cond v (apart (directories l) ((cut r).first ∷ (cut r).others)) (double_dots (d ∷ directories l) ++ s ∷ (cut r).first ∷ (cut r).others)) e
-      ∙ sym (ap (λ u. double_dots u ++ slice_split is_slash t) (directories_more b d l is) ∙ ap (λ u. double_dots (d ∷ directories l) ++ u) more)
 
   pub in_shared : bytes_eq d s ≡ true → apart_of b t ≡ apart_of l r
   in_shared e =
@@ -99,28 +75,10 @@ module _ (b t d s l r : List ℕ) (is : slice_split is_slash b ≡ d ∷ slice_s
   pub below_both : stays_below (directories b) (slice_split is_slash t) ≡ bytes_eq d s
   below_both = ap (λ u. stays_below u (slice_split is_slash t)) (directories_more b d l is) ∙ ap (stays_below (d ∷ directories l)) more
 
-pub below_one : (b t d s l : List ℕ) → slice_split is_slash b ≡ d ∷ slice_split is_slash l → slice_split is_slash t ≡ s ∷ []
-    → stays_below (directories b) (slice_split is_slash t) ≡ false
-below_one b t d s l is only =
-    ap (λ u. stays_below u (slice_split is_slash t)) (directories_more b d l is) ∙ ap (stays_below (d ∷ directories l)) only
-
-pub below_none : (b t : List ℕ) → directories b ≡ [] → stays_below (directories b) (slice_split is_slash t) ≡ true
-below_none b t is = ap (λ u. stays_below u (slice_split is_slash t)) is
-
--- a first piece, and those that are left
-pub cut_some : (t d l : List ℕ) → d ≡ up_to is_slash t → Some l ≡ part (from_first is_slash t) → slice_split is_slash t ≡ d ∷ slice_split is_slash l
-cut_some t d l e f = left_cut t d (Some l) e f
-
-pub cut_none : (t d : List ℕ) → d ≡ up_to is_slash t → None ≡ part (from_first is_slash t) → slice_split is_slash t ≡ d ∷ []
-cut_none t d e f = left_cut t d None e f
-
--- what follows a mark, as the code has it
-pub some_part : (o : Option (Bor (List ℕ))) (x : Bor (List ℕ)) (rest whole : List ℕ) → o ≡ Some x → option_copied o ≡ part rest → rest ≡ whole
-    → Some x.now ≡ part whole
-some_part o x rest whole is copied e = sym (ap (λ (p : Option (Bor (List ℕ))). option_copied p) is) ∙ copied ∙ ap part e
-
-pub none_part : (o : Option (Bor (List ℕ))) (rest whole : List ℕ) → o ≡ None → option_copied o ≡ part rest → rest ≡ whole → None ≡ part whole
-none_part o rest whole is copied e = sym (ap (λ (p : Option (Bor (List ℕ))). option_copied p) is) ∙ copied ∙ ap part e
+-- a first piece, and those that are left, as the code cuts them
+pub first_cut : (t d rest : List ℕ) (o : Option (Bor (List ℕ))) → d ≡ up_to is_slash t → rest ≡ from_first is_slash t → option_copied o ≡ part rest
+    → slice_split is_slash t ≡ d ∷ pieces_left (option_copied o)
+first_cut t d rest o e f k = left_cut t d (option_copied o) e (k ∙ ap part f)
 
 -- ---- dot segments before the last segment
 

@@ -1,5 +1,5 @@
 //! Comparing and hashing references in their texts: RFC 3986, section 6.2.2.
-ghost use Rattle.std.specs.Prelude.{◌≡◌, ◌↔◌, IsTrue, bytes_eq, fold, true};
+ghost use Rattle.std.specs.Prelude.{◌≡◌, ◌↔◌, IsTrue, bytes_eq, fold};
 ghost use Rattle.std.proofs.Common.{rules};
 ghost use Rattle.std.specs.Option.{option_eq};
 ghost use Rattle.std.specs.Ordering.{on};
@@ -87,8 +87,7 @@ impl<'t> ReferenceView<'t> {
         ensures key { result ≡ bytes_eq (key self.now.parts) (key reference.now) }
         ensures same { IsTrue result ↔ Same self.now.parts reference.now }
     {
-        // The view is valid, which is known once a field is read.
-        let _text = &self.text;
+        self.assert_valid();
         let _path = &reference.path;
         self.has_each_of(reference)
     }

@@ -28,8 +28,7 @@ impl<'v, 't> PutText for TextWithEnd<'v, 't> {
 
     fn put(&self, out: &mut [u8]) -> usize {
         let view = self.view;
-        // The view is valid, which is known once a field is read.
-        let _text = &view.text;
+        view.assert_valid();
         let len = put_query_and_fragment(Form::AsIs, self.query, self.fragment, out);
         put(view.without_end(), out, len)
     }

@@ -93,8 +93,7 @@ impl<'t> ReferenceView<'t> {
         ensures text { IsTrue result ↔ (print (normal self.now.parts) ≡ print self.now.parts) }
         ensures form { IsTrue result → normal self.now.parts ≡ self.now.parts }
     {
-        // The view is valid, which is known once a field is read.
-        let _text = &self.text;
+        self.assert_valid();
         self.is_normal(self.context())
     }
 }

@@ -33,8 +33,7 @@ impl<'t> ReferenceView<'t> {
     fn has_normal_authority_text(&self) -> bool
         ensures { IsTrue result ↔ (authority_part (normal self.now.parts) ≡ authority_text self.now.text) }
     {
-        // The view is valid, which is known once a field is read.
-        let _text = &self.text;
+        self.assert_valid();
         match &self.pieces.authority {
             Some(found) => found.is_normal_text(self.authority_bytes()),
             None => true,
@@ -45,7 +44,7 @@ impl<'t> ReferenceView<'t> {
     fn has_own_path_text(&self) -> bool
         ensures { IsTrue result ↔ (text self.now.parts.path ≡ path_text self.now.text) }
     {
-        // The view is valid, which is known once a field is read.
+        // The contract of `assert_valid` does not say how the path was found.
         let _text = &self.text;
         !self.has_implied_root()
     }
@@ -72,8 +71,7 @@ impl<'t> ReferenceView<'t> {
     pub fn is_normalized_text(&self) -> bool
         ensures { IsTrue result ↔ (print (normal self.now.parts) ≡ self.now.text) }
     {
-        // The view is valid, which is known once a field is read.
-        let _text = &self.text;
+        self.assert_valid();
         self.has_own_texts() && self.is_normal_outside(self.context())
     }
 }

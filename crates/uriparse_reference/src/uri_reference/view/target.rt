@@ -33,8 +33,8 @@ impl<'v, 't> PutText for TargetText<'v, 't> {
     #[inline(always)]
     fn put(&self, out: &mut [u8]) -> usize {
         let (base, reference) = (self.base, self.reference);
-        // The views are valid, which is known once a field of each is read.
-        let (_base, _reference) = (&base.text, &reference.text);
+        base.assert_valid();
+        reference.assert_valid();
         base.put_target(reference, out)
     }
 }

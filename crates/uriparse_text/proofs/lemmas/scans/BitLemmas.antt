@@ -1,8 +1,8 @@
 -- The bits of a mask.
-use Rattle.std.proofs.Common.{◌≡◌, ℕ, zero, suc, ◌+◌, ◌-◌, ◌*◌, ◌/◌, ◌%◌, ◌^◌, ◌<◌, ◌≤◌, refl, sym, ap, ◌∙◌, arith, bit_and, count_ones}
+use Rattle.std.proofs.Common.{◌≡◌, ℕ, zero, suc, ◌+◌, ◌-◌, ◌*◌, ◌/◌, ◌%◌, ◌^◌, ◌<◌, ◌≤◌, refl, sym, ap, ◌∙◌, arith, count_ones}
 use Rattle.std.specs.Int.{bit_at}
 use Rattle.std.proofs.lemmas.Nat.{shr-shr, shr_split, mod-pow-add, ones_cat}
-use Rattle.std.proofs.lemmas.Nat.Bits.{bit_at_lowest, bit_at-suc, bit_at_above, bit_at_cat_low, bit_at_cat_high, bit_at_and, bit_at-lt, bit_at-zero}
+use Rattle.std.proofs.lemmas.Nat.Bits.{bit_at_lowest, bit_at-suc, bit_at_above, bit_at_cat_low, bit_at_cat_high, bit_at-lt}
 use Rattle.std.proofs.Math.Nat.{mod-lt, mod-eq_of_lt, two-pow-succ, pow-le-pow_right}
 use Rattle.std.proofs.Common.{pow_pos}
 
@@ -27,12 +27,6 @@ less_one-above m (suc k) (suc j) set below past =
 
 pub bit_at_shr : (m s k : ℕ) → bit_at (m / 2 ^ s) k ≡ bit_at m (s + k)
 bit_at_shr m s k = ap (λ x. x % 2) (shr-shr m s k)
-
--- two masks of which no bit of the first has one of the other right above it
-pub none_adjacent : (first later : ℕ) → bit_and first (later / 2 ^ 1) ≡ 0 → (k : ℕ) → bit_at first k ≡ 1 → bit_at later (1 + k) ≡ 0
-none_adjacent first later none k set =
-    let unset : bit_at (bit_and first (later / 2 ^ 1)) k ≡ 0 = ap (λ m. bit_at m k) none ∙ bit_at-zero k in
-    omega (arith, bit_at_and first (later / 2 ^ 1) k, bit_at-lt (later / 2 ^ 1) k, bit_at_shr later 1 k, set, unset)
 
 -- the bits of m below a place
 pub below-kept : (m p k : ℕ) → k < p → bit_at (m % 2 ^ p) k ≡ bit_at m k

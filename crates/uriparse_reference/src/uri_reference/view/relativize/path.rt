@@ -1,9 +1,7 @@
 //! The path that leads from a base's path to another one, by a walk over their texts: RFC 3986,
 //! sections 4.2 and 5.2.
-ghost use Rattle.std.specs.Prelude.{◌≡◌, ◌==◌, ◌&&◌, ◌+◌, ◌<◌, ◌++◌, IfSome, MatchOption, is_some, length, nat_lt};
+ghost use Rattle.std.specs.Prelude.{◌≡◌, ◌==◌, ◌&&◌, ◌+◌, ◌<◌, ◌++◌, ◌∷◌, [], IfSome, MatchOption, is_some, length, nat_lt};
 ghost use Rattle.std.specs.List.{slice_split};
-ghost use Rattle.std.specs.Option.{option_copied};
-ghost use Rattle.uriparse_text.specs.Cuts.{from_first, part};
 ghost use Rattle.uriparse_text.specs.Ends.{Puts};
 ghost use Rattle.uriparse_path.specs.Dots as dots;
 ghost use Rattle.uriparse_path.specs.Path.{IsPath, is_slash, max_segments, spelled};
@@ -49,12 +47,12 @@ fn has_dots_before_last(segments: Segments<'_>) -> bool
     false
 }
 
-/// What follows the first directory of a text, if it has one.
-fn after_directory(text: &[u8]) -> Option<&[u8]>
-    ensures { option_copied result ≡ part (from_first is_slash text.now) }
+/// The first directory of a text and what follows its slash, or `None` if the text is one segment.
+fn split_directory(text: &[u8]) -> Option<(&[u8], &[u8])>
+    ensures { MatchOption result (slice_split is_slash text.now ≡ text.now ∷ []) (λ r. slice_split is_slash text.now ≡ r.0.now ∷ slice_split is_slash r.1.now) }
 {
-    let (_, following) = split_at_delimiter(text, b'/');
-    without_delimiter(following)
+    let (directory, following) = split_at_delimiter(text, b'/');
+    Some((directory, without_delimiter(following)?))
 }
 
 /// How many directories the text has: one for each slash.
@@ -63,7 +61,7 @@ fn count_directories(text: &[u8]) -> usize
 {
     let mut count = 0;
     let mut left = text;
-    'directories: while let Some(following) = after_directory(left) {
+    'directories: while let Some((_, following)) = split_directory(left) {
         count += 1;
         left = following;
     }
@@ -76,14 +74,8 @@ fn after_shared<'b, 't>(base: &'b [u8], target: &'t [u8]) -> Option<(&'b [u8], &
     ensures fewer { IfSome result (λ r. length (spec.directories r.0.now) < length (spec.directories base.now)) }
     ensures below { 0 < length (spec.directories base.now) → relate.stays_below (spec.directories base.now) (slice_split is_slash target.now) ≡ is_some result }
 {
-    let (directory, following) = split_at_delimiter(base, b'/');
-    let (own, own_following) = split_at_delimiter(target, b'/');
-    let Some(left) = without_delimiter(following) else {
-        return None;
-    };
-    let Some(rest) = without_delimiter(own_following) else {
-        return None;
-    };
+    let (directory, left) = split_directory(base)?;
+    let (own, rest) = split_directory(target)?;
     if directory == own {
         Some((left, rest))
     } else {
@@ -108,7 +100,7 @@ fn apart<'b, 't>(base: &'b [u8], target: &'t [u8]) -> (&'b [u8], &'t [u8])
 fn stays_below(base: &[u8], target: &[u8]) -> bool
     ensures { result ≡ relate.stays_below (spec.directories base.now) (slice_split is_slash target.now) }
 {
-    match after_directory(base) {
+    match split_directory(base) {
         Some(_) => after_shared(base, target).is_some(),
         None => true,
     }

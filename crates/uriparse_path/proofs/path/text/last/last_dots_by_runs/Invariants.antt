@@ -4,10 +4,10 @@ use Rattle.uriparse_path.proofs.path.text.last.last_dots_by_runs.Given as goal
 
 abbrev pub invariant-runs : goal.invariant-runs
 invariant-runs l = record {
-  some : l.from < l.end;
+  some : 0 < l.end;
   within : l.end ≤ length l.text;
   later : LacksDotsAfter (l.end - 1) l.text;
 }
 
 abbrev pub decreases-runs : goal.decreases-runs
-decreases-runs l = l.end - l.from
+decreases-runs l = l.end

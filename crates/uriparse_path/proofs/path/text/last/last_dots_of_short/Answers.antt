@@ -9,11 +9,11 @@ use Rattle.uriparse_path.proofs.path.text.last.last_dots_of_short.Goals as goal
 pub bytes-init : goal.bytes-init
 bytes-init c =
     let t = c.args.text.now in
-    record { order = c.requires.within; within = omega arith; later = raised t (length t) (omega arith) (lacks_last t) }
+    record { within = omega arith; later = raised t (length t) (omega arith) (lacks_last t) }
 
 pub begins_with_dots-requires : goal.begins_with_dots-requires
 begins_with_dots-requires c =
     let t = c.args.text.now in
     let at = c.bytes.at in
     subst (λ u. list_all is_segment (slice_split is_slash u) ≡ true) (sym (take_rest t at))
-    (segments_from t at (begins_after t at (omega arith) ∙ ap is_slash c.if-text-at-eq47.true) (omega arith) c.requires.segments).1
+    (segments_from t at (begins_after t at (omega arith) ∙ ap is_slash c.if-text-at-eq47.true) (omega arith) c.requires).1

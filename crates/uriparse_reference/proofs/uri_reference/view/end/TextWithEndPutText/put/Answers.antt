@@ -1,9 +1,7 @@
 use Rattle.std.proofs.Common.{subst}
 use Rattle.uriparse_text.specs.Ends.{EndsWith}
-use Rattle.uriparse_reference.specs.Reference.{Spells}
 use Rattle.uriparse_reference.proofs.lemmas.reading.AsciiLemmas.{IsUtf8-spelled}
 use Rattle.uriparse_reference.proofs.lemmas.reading.TextEditLemmas.{end_set, put_whole}
-use Rattle.uriparse_reference.proofs.lemmas.reading.ViewLemmas.{found_spelled}
 use Rattle.uriparse_reference.proofs.uri_reference.view.end.TextWithEndPutText.put.Goals as goal
 
 pub returns-clause-ends : goal.returns-clause-ends
@@ -16,5 +14,5 @@ returns-clause-ends c =
 pub returns-clause-utf8 : goal.returns-clause-utf8
 returns-clause-utf8 c =
     let a = c.args.self.now in
-    let spells = subst (λ v. Spells v.text v.parts) c.view.view_is (found_spelled _ _ _ _ _ _ _ _ _ c.view.invariant) in
+    let spells = c.assert_valid.ensures.spelled in
     IsUtf8-spelled _ _ (end_set a.view.now.text a.view.now.parts spells a.query.now a.fragment.now c.requires.0 c.requires.1)
