@@ -14,3 +14,7 @@ aligned = record none { reads_lines = true; columns = Some (record { first = Non
 -- --lines --append
 abbrev pub appended : Options
 appended = record none { reads_lines = true; columns = Some (record { first = None; appends = true }) }
+
+-- --lines --column 2
+abbrev pub of_second_fields : Options
+of_second_fields = record none { reads_lines = true; columns = Some (record { first = Some 1; appends = false }) }

@@ -3,7 +3,8 @@
 #![tactic(auto)]
 
 ghost use Rattle.std.specs.Prelude.{◌∷◌, [], IfSome, codes};
-ghost use Rattle.test_wrong_commands.specs.Lines.{aligned, appended, of_lines};
+ghost use Rattle.test_wrong_commands.specs.Lines.{aligned, appended, of_lines, of_second_fields};
+ghost use Rattle.uri_commands.specs.Help.{version};
 ghost use Rattle.uri_commands.specs.Output as spec;
 ghost use Rattle.uri_commands.specs.Tasks.{LinesEndWith};
 ghost use Rattle.uri_commands.specs.declared.get.Part.TheVariants as part;
@@ -133,4 +134,50 @@ pub fn append_normal_forms<I: BufRead, O: Write, E: Write>(
         out,
         err,
     )
+}
+
+/// Prints each line of the input with the normal form in the place of its second field.
+pub fn replace_second_fields<I: BufRead, O: Write, E: Write>(
+    alloc: Global,
+    input: &mut I,
+    out: &mut O,
+    err: &mut E,
+) -> u8
+    ensures { IfSome (I.remaining input.old) (λ bytes. LinesEndWith of_second_fields (codes "normalize" ∷ []) bytes (O.contents out.old) (O.contents out.new) result) }
+{
+    run_with_input(
+        alloc,
+        &["--lines", "--column", "2", "normalize"],
+        input,
+        out,
+        err,
+    )
+}
+
+/// Prints the normal form of no line, since `run` has an empty input.
+pub fn print_no_normal_forms<O: Write, E: Write>(alloc: Global, out: &mut O, err: &mut E) -> u8
+    ensures { LinesEndWith of_lines (codes "normalize" ∷ []) [] (O.contents out.old) (O.contents out.new) result }
+{
+    run(alloc, &["--lines", "normalize"], out, err)
+}
+
+/// Prints the page on `parse`.
+pub fn print_page<O: Write, E: Write>(alloc: Global, out: &mut O, err: &mut E) -> u8
+    ensures { spec.Ends (spec.HelpsOn (codes "parse")) (O.contents out.old) (O.contents out.new) result }
+{
+    run(alloc, &["help", "parse"], out, err)
+}
+
+/// Prints the version.
+pub fn print_version<O: Write, E: Write>(alloc: Global, out: &mut O, err: &mut E) -> u8
+    ensures { spec.Ends (spec.PrintsBytes version) (O.contents out.old) (O.contents out.new) result }
+{
+    run(alloc, &["--version"], out, err)
+}
+
+/// Runs no command, which is a usage error.
+pub fn refuse_no_command<O: Write, E: Write>(alloc: Global, out: &mut O, err: &mut E) -> u8
+    ensures { spec.Ends spec.IsUnknown (O.contents out.old) (O.contents out.new) result }
+{
+    run(alloc, &[], out, err)
 }

@@ -69,15 +69,19 @@ rest-of (b ∷ t) = by_tab (is_tab b) refl (rest-of t)
 -- ---- a line that is cut
 
 -- a line has too few fields, if what follows the first ones has none
-pub too_few : (line front rest : List ℕ) (n count : ℕ) → line ≡ front ++ rest → AreFields n front → after tab rest ≡ None → n < count → tabs line < count
+pub too_few : (line front rest : List ℕ) (n count : ℕ) → line ≡ front ++ rest → AreFields n front → after tab rest ≡ None → n < count
+    → tabs line < count
 too_few line front rest n count e are none h =
     omega (arith, ap tabs e ∙ tabs-append front rest, are.count, tabs-last rest none, h)
 
 -- what is left of a line behind its front
-pub following_front : (line front rest : List ℕ) → line ≡ front ++ rest → (take (length line - length rest) line ≡ front) × (drop (length line - length rest) line ≡ rest)
+pub following_front : (line front rest : List ℕ) → line ≡ front ++ rest
+    → (take (length line - length rest) line ≡ front) × (drop (length line - length rest) line ≡ rest)
 following_front line front rest e =
-    let long : length line - length rest ≡ length front = omega (arith, ap length e ∙ length-append front rest) in
-    (ap (λ n. take n line) long ∙ ap (take (length front)) e ∙ take-append_seam front rest, ap (λ n. drop n line) long ∙ ap (drop (length front)) e ∙ drop-append_seam front rest)
+    let long : length line - length rest ≡ length front = omega (arith, ap length e ∙ length-append front rest) in (
+      ap (λ n. take n line) long ∙ ap (take (length front)) e ∙ take-append_seam front rest,
+      ap (λ n. drop n line) long ∙ ap (drop (length front)) e ∙ drop-append_seam front rest,
+    )
 
 -- the text and what follows it
 cut_last : (rest begun last : List ℕ) → rest ≡ begun ++ last → rest ≡ (begun ++ before tab last) ++ from_first is_tab last
@@ -86,13 +90,21 @@ cut_last rest begun last e =
 
 pub text_len : (rest begun last : List ℕ) → rest ≡ begun ++ last → length begun + length (before tab last) ≤ length rest
 text_len rest begun last e =
-    omega (arith, ap length (cut_last rest begun last e), length-append (begun ++ before tab last) (from_first is_tab last), length-append begun (before tab last))
+    omega (
+      arith,
+      ap length (cut_last rest begun last e),
+      length-append (begun ++ before tab last) (from_first is_tab last),
+      length-append begun (before tab last),
+    )
 
 pub text_parts : (rest begun last : List ℕ) → rest ≡ begun ++ last
-    → (take (length (begun ++ before tab last)) rest ≡ begun ++ before tab last) × (drop (length (begun ++ before tab last)) rest ≡ from_first is_tab last)
+    → (take (length (begun ++ before tab last)) rest ≡ begun ++ before tab last)
+    × (drop (length (begun ++ before tab last)) rest ≡ from_first is_tab last)
 text_parts rest begun last e = (
-  ap (take (length (begun ++ before tab last))) (cut_last rest begun last e) ∙ take-append_seam (begun ++ before tab last) (from_first is_tab last),
-  ap (drop (length (begun ++ before tab last))) (cut_last rest begun last e) ∙ drop-append_seam (begun ++ before tab last) (from_first is_tab last),
+  ap (take (length (begun ++ before tab last))) (cut_last rest begun last e)
+      ∙ take-append_seam (begun ++ before tab last) (from_first is_tab last),
+  ap (drop (length (begun ++ before tab last))) (cut_last rest begun last e)
+      ∙ drop-append_seam (begun ++ before tab last) (from_first is_tab last),
 )
 
 -- a text of so many fields, of which the last one ends before a tab
@@ -108,11 +120,13 @@ cut_text first width line front rest begun last some whole ahead cut are = recor
 -- a line with too few fields behind the first ones
 pub too_few_after : (first width : ℕ) (line front rest : List ℕ) → 0 < width → line ≡ front ++ rest → AreFields first front
     → tabs rest < width - 1 → tabs line + 1 < first + width
-too_few_after first width line front rest some whole ahead few = omega (arith, ap tabs whole ∙ tabs-append front rest, ahead.count, few, some)
+too_few_after first width line front rest some whole ahead few =
+    omega (arith, ap tabs whole ∙ tabs-append front rest, ahead.count, few, some)
 
 -- ---- a line that goes out
 
-parts_lack : (end : ℕ) (first : Option ℕ) (width : ℕ) (line front text back : List ℕ) → IsRead first width line front text back → lacks end line ≡ true
+parts_lack : (end : ℕ) (first : Option ℕ) (width : ℕ) (line front text back : List ℕ) → IsRead first width line front text back
+    → lacks end line ≡ true
     → (lacks end front ≡ true) × (lacks end text ≡ true) × (lacks end back ≡ true)
 parts_lack end None width line front text back read h =
     (ap (lacks end) read.0, ap (lacks end) read.1 ∙ h, ap (lacks end) read.2)
@@ -125,7 +139,8 @@ parts_lack end (Some first) width line front text back read h =
 after_tab : (end : ℕ) (result : List ℕ) → (tab == end) ≡ false → lacks end result ≡ true → lacks end (tab ∷ result) ≡ true
 after_tab end result other none = ap (λ b. not b && lacks end result) other ∙ none
 
-row_parts : (end : ℕ) (appends : Bool) (front text back result : List ℕ) → (tab == end) ≡ false → lacks end front ≡ true → lacks end text ≡ true
+row_parts : (end : ℕ) (appends : Bool) (front text back result : List ℕ) → (tab == end) ≡ false → lacks end front ≡ true
+    → lacks end text ≡ true
     → lacks end back ≡ true → lacks end result ≡ true → lacks end (row appends front text back result) ≡ true
 row_parts end true front text back result other f t b r =
     lacks-append end front (text ++ (back ++ tab ∷ result)) f
@@ -133,7 +148,8 @@ row_parts end true front text back result other f t b r =
 row_parts end false front text back result other f t b r = lacks-append end front (result ++ back) f (lacks-append end result back r b)
 
 -- what goes out for a line without the byte that ends lines has none either
-pub row_lacks : {Gives : List ℕ → List ℕ → Outcome → Type 0} (end : ℕ) (first : Option ℕ) (width : ℕ) (appends : Bool) (line out : List ℕ) (outcome : Outcome) → (tab == end) ≡ false
+pub row_lacks : {Gives : List ℕ → List ℕ → Outcome → Type 0} (end : ℕ) (first : Option ℕ) (width : ℕ) (appends : Bool) (line out : List ℕ)
+    (outcome : Outcome) → (tab == end) ≡ false
     → IsRow Gives end first width appends line out outcome → lacks end line ≡ true → lacks end out ≡ true
 row_lacks end first width appends line out outcome other (done front text back result read gives none is) h =
     let parts = parts_lack end first width line front text back read h in

@@ -15,18 +15,21 @@ use Rattle.uri_commands.specs.Output.{Printed}
 use Rattle.uri_commands.proofs.OutputLemmas.{Done, Known, answered, of_reference}
 
 pub named : (o : Option (List ℕ)) (name : List ℕ) (a b c d : Known) (r : Done)
-    → Appends a b name → Appends b c (codes "=") → IfSome o (λ t. Writes (line t) c d r) → IfSome o (λ t. Writes (component name (Some t)) a d r)
+    → Appends a b name → Appends b c (codes "=") → IfSome o (λ t. Writes (line t) c d r)
+    → IfSome o (λ t. Writes (component name (Some t)) a d r)
 named None name a b c d r first second third = third
 named (Some t) name a b c d (Err f) first second third = third
 named (Some t) name a b c d (Ok v) first second third =
-    subst (Appends a d) (sym (append_assoc name (61 ∷ t) (10 ∷ []))) (Appends-trans a b d name (codes "=" ++ line t) first (Appends-trans b c d (codes "=") (line t) second third))
+    subst (Appends a d) (sym (append_assoc name (61 ∷ t) (10 ∷ [])))
+    (Appends-trans a b d name (codes "=" ++ line t) first (Appends-trans b c d (codes "=") (line t) second third))
 
 pub nothing : (a : Known) → Appends a a []
 nothing a = Appends-nil a
 
 -- what a line of a component is, by what was printed
 pub text_line : (name : List ℕ) (o : Option (Bor (List ℕ))) (v : Option (List ℕ)) (a b : Known) (r : Done)
-    → MatchOption o (Writes [] a b r) (λ x. Writes (component name (Some x.now)) a b r) → option_copied o ≡ v → Writes (component name v) a b r
+    → MatchOption o (Writes [] a b r) (λ x. Writes (component name (Some x.now)) a b r) → option_copied o ≡ v
+    → Writes (component name v) a b r
 text_line name None v a b r written is = subst (λ x. Writes (component name x) a b r) is written
 text_line name (Some x) v a b r written is = subst (λ y. Writes (component name y) a b r) is written
 
@@ -37,15 +40,18 @@ value_line text name None v a b r written is = subst (λ x. Writes (component na
 value_line text name (Some x) v a b r written is = subst (λ y. Writes (component name (option_map text y)) a b r) is written
 
 pub host_line : (name : List ℕ) (g h : Host) (a b : Known)
-    → name ≡ host_name g → g ≡ h → Appends a b (component name (Some (host.text g))) → Appends a b (component (host_name h) (Some (host.text h)))
+    → name ≡ host_name g → g ≡ h → Appends a b (component name (Some (host.text g)))
+    → Appends a b (component (host_name h) (Some (host.text h)))
 host_line name g h a b is same written =
-    subst (λ x. Appends a b (component (host_name x) (Some (host.text x)))) same (subst (λ n. Appends a b (component n (Some (host.text g)))) is written)
+    subst (λ x. Appends a b (component (host_name x) (Some (host.text x)))) same
+    (subst (λ n. Appends a b (component n (Some (host.text g)))) is written)
 
 pub path_line : (x y : PathParts) (a b : Known)
     → x ≡ y → Appends a b (component (codes "path") (Some (text x))) → Appends a b (component (codes "path") (Some (text y)))
 path_line x y a b same written = subst (λ z. Appends a b (component (codes "path") (Some (text z)))) same written
 
-pub authority_written : (o v : Option AuthorityParts) (a b : Known) → o ≡ v → Appends a b (authority_components o) → Appends a b (authority_components v)
+pub authority_written : (o v : Option AuthorityParts) (a b : Known) → o ≡ v → Appends a b (authority_components o)
+    → Appends a b (authority_components v)
 authority_written o v a b same written = subst (λ z. Appends a b (authority_components z)) same written
 
 -- writes one after another
@@ -62,4 +68,5 @@ no_authority_line o a none = subst (λ x. Appends a a (authority_components x)) 
 
 pub parsed : (t : List ℕ) (p : Parts) (a b : Known) (r : Done) → Spells t p → Writes (reference_lines p) a b r → Does (Parses t) a b r
 parsed t p a b r spelled written =
-    of_reference t p (λ x y. y ≡ Printed (reference_lines x)) a b r spelled (answered (λ y. y ≡ Printed (reference_lines p)) (reference_lines p) a b r refl written)
+    of_reference t p (λ x y. y ≡ Printed (reference_lines x)) a b r spelled
+    (answered (λ y. y ≡ Printed (reference_lines p)) (reference_lines p) a b r refl written)

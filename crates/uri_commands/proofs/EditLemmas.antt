@@ -43,28 +43,34 @@ bytes words = map (λ w. w.now) words
 
 -- ---- the first edit of words
 
-pub first_of_one : (w : List ℕ) (ws : List (List ℕ)) (e : Edit) → plain_edit w ≡ Some e → edits_of (w ∷ ws) ≡ option_map (λ es. e ∷ es) (edits_of ws)
+pub first_of_one : (w : List ℕ) (ws : List (List ℕ)) (e : Edit) → plain_edit w ≡ Some e
+    → edits_of (w ∷ ws) ≡ option_map (λ es. e ∷ es) (edits_of ws)
 first_of_one w [] e is = ap (λ o. then_or o (Some []) None) is
 first_of_one w (u ∷ []) e is = ap (λ o. then_or o (edits_of (u ∷ [])) (then_or (valued_edit w u) (Some []) None)) is
 first_of_one w (u ∷ v ∷ ws) e is =
-    ap (λ o. then_or o (edits_of (u ∷ v ∷ ws)) (then_or (valued_edit w u) (edits_of (v ∷ ws)) (then_or (pair_edit w u v) (edits_of ws) None))) is
+    ap (λ o. then_or o (edits_of (u ∷ v ∷ ws))
+    (then_or (valued_edit w u) (edits_of (v ∷ ws)) (then_or (pair_edit w u v) (edits_of ws) None))) is
 
 -- nor is it an edit of one word
 not_one : (w u v : List ℕ) (ws : List (List ℕ)) → plain_edit w ≡ None
     → edits_of (w ∷ u ∷ v ∷ ws) ≡ then_or (valued_edit w u) (edits_of (v ∷ ws)) (then_or (pair_edit w u v) (edits_of ws) None)
 not_one w u v ws none =
-    ap (λ o. then_or o (edits_of (u ∷ v ∷ ws)) (then_or (valued_edit w u) (edits_of (v ∷ ws)) (then_or (pair_edit w u v) (edits_of ws) None))) none
+    ap (λ o. then_or o (edits_of (u ∷ v ∷ ws))
+    (then_or (valued_edit w u) (edits_of (v ∷ ws)) (then_or (pair_edit w u v) (edits_of ws) None))) none
 
 pub first_of_two : (w u : List ℕ) (ws : List (List ℕ)) (e : Edit) → plain_edit w ≡ None → valued_edit w u ≡ Some e
     → edits_of (w ∷ u ∷ ws) ≡ option_map (λ es. e ∷ es) (edits_of ws)
 first_of_two w u [] e none is =
     ap (λ o. then_or o (edits_of (u ∷ [])) (then_or (valued_edit w u) (Some []) None)) none ∙ ap (λ o. then_or o (Some []) None) is
-first_of_two w u (v ∷ ws) e none is = not_one w u v ws none ∙ ap (λ o. then_or o (edits_of (v ∷ ws)) (then_or (pair_edit w u v) (edits_of ws) None)) is
+first_of_two w u (v ∷ ws) e none is =
+    not_one w u v ws none ∙ ap (λ o. then_or o (edits_of (v ∷ ws)) (then_or (pair_edit w u v) (edits_of ws) None)) is
 
-pub first_of_three : (w u v : List ℕ) (ws : List (List ℕ)) (e : Edit) → plain_edit w ≡ None → valued_edit w u ≡ None → pair_edit w u v ≡ Some e
+pub first_of_three : (w u v : List ℕ) (ws : List (List ℕ)) (e : Edit) → plain_edit w ≡ None → valued_edit w u ≡ None
+    → pair_edit w u v ≡ Some e
     → edits_of (w ∷ u ∷ v ∷ ws) ≡ option_map (λ es. e ∷ es) (edits_of ws)
 first_of_three w u v ws e none nor is =
-    not_one w u v ws none ∙ ap (λ o. then_or o (edits_of (v ∷ ws)) (then_or (pair_edit w u v) (edits_of ws) None)) nor ∙ ap (λ o. then_or o (edits_of ws) None) is
+    not_one w u v ws none ∙ ap (λ o. then_or o (edits_of (v ∷ ws)) (then_or (pair_edit w u v) (edits_of ws) None)) nor
+    ∙ ap (λ o. then_or o (edits_of ws) None) is
 
 pub none_of_one : (w : List ℕ) → plain_edit w ≡ None → edits_of (w ∷ []) ≡ None
 none_of_one w none = ap (λ o. then_or o (Some []) None) none
@@ -76,7 +82,8 @@ none_of_two w u none nor =
 pub none_of_three : (w u v : List ℕ) (ws : List (List ℕ)) → plain_edit w ≡ None → valued_edit w u ≡ None → pair_edit w u v ≡ None
     → edits_of (w ∷ u ∷ v ∷ ws) ≡ None
 none_of_three w u v ws none nor never =
-    not_one w u v ws none ∙ ap (λ o. then_or o (edits_of (v ∷ ws)) (then_or (pair_edit w u v) (edits_of ws) None)) nor ∙ ap (λ o. then_or o (edits_of ws) None) never
+    not_one w u v ws none ∙ ap (λ o. then_or o (edits_of (v ∷ ws)) (then_or (pair_edit w u v) (edits_of ws) None)) nor
+    ∙ ap (λ o. then_or o (edits_of ws) None) never
 
 -- the words from a place on, as a slice has them
 abbrev from : {A : Type 0} → ℕ → List A → List A
@@ -118,32 +125,40 @@ put_together : (o : Option (List Edit)) (done more : List Change) (c : Change) �
 put_together None done more c is = refl
 put_together (Some es) done more c is =
     ap (λ l. Some l)
-    (sym (append_assoc (map edit_of done) (edit_of c ∷ []) es) ∙ ap (λ l. l ++ es) (sym (map-append edit_of done (c ∷ [])) ∙ ap (map edit_of) (sym is)))
+    (sym (append_assoc (map edit_of done) (edit_of c ∷ []) es)
+    ∙ ap (λ l. l ++ es) (sym (map-append edit_of done (c ∷ [])) ∙ ap (map edit_of) (sym is)))
 
-pub changes_next : (all rest left : List (List ℕ)) (done more : List Change) (c : Change) → edits_of all ≡ option_map (λ es. map edit_of done ++ es) (edits_of rest)
+pub changes_next : (all rest left : List (List ℕ)) (done more : List Change) (c : Change)
+    → edits_of all ≡ option_map (λ es. map edit_of done ++ es) (edits_of rest)
     → edits_of rest ≡ option_map (λ es. edit_of c ∷ es) (edits_of left) → more ≡ done ++ c ∷ []
     → edits_of all ≡ option_map (λ es. map edit_of more ++ es) (edits_of left)
-changes_next all rest left done more c before now is = before ∙ ap (option_map (λ es. map edit_of done ++ es)) now ∙ put_together (edits_of left) done more c is
+changes_next all rest left done more c before now is =
+    before ∙ ap (option_map (λ es. map edit_of done ++ es)) now ∙ put_together (edits_of left) done more c is
 
-pub changes_end : (all rest : List (List ℕ)) (done : List Change) → edits_of all ≡ option_map (λ es. map edit_of done ++ es) (edits_of rest) → rest ≡ []
+pub changes_end : (all rest : List (List ℕ)) (done : List Change) → edits_of all ≡ option_map (λ es. map edit_of done ++ es) (edits_of rest)
+    → rest ≡ []
     → edits_of all ≡ Some (map edit_of done)
 changes_end all rest done before none =
     before ∙ ap (λ l. option_map (λ es. map edit_of done ++ es) (edits_of l)) none ∙ ap (λ l. Some l) (append-nil (map edit_of done))
 
-pub changes_none : (all rest : List (List ℕ)) (done : List Change) → edits_of all ≡ option_map (λ es. map edit_of done ++ es) (edits_of rest) → edits_of rest ≡ None
+pub changes_none : (all rest : List (List ℕ)) (done : List Change)
+    → edits_of all ≡ option_map (λ es. map edit_of done ++ es) (edits_of rest) → edits_of rest ≡ None
     → edits_of all ≡ None
 changes_none all rest done before none = before ∙ ap (option_map (λ es. map edit_of done ++ es)) none
 
 pub words_next : (words : List (Bor (List ℕ))) (at count : ℕ) (done more : List Change) (c : Change)
     → edits_of (bytes words) ≡ option_map (λ es. map edit_of done ++ es) (edits_of (bytes (drop at words)))
-    → edits_of (bytes (from at words)) ≡ option_map (λ es. edit_of c ∷ es) (edits_of (bytes (drop count (from at words)))) → more ≡ done ++ c ∷ []
+    → edits_of (bytes (from at words)) ≡ option_map (λ es. edit_of c ∷ es) (edits_of (bytes (drop count (from at words))))
+    → more ≡ done ++ c ∷ []
     → edits_of (bytes words) ≡ option_map (λ es. map edit_of more ++ es) (edits_of (bytes (drop (at + count) words)))
 words_next words at count done more c before now is =
     let e = from_is at words in
     changes_next (bytes words) (bytes (drop at words)) (bytes (drop (at + count) words)) done more c before
-    (ap (λ l. edits_of (bytes l)) (sym e) ∙ now ∙ ap (λ l. option_map (λ es. edit_of c ∷ es) (edits_of (bytes l))) (ap (drop count) e ∙ drop-drop count at words)) is
+    (ap (λ l. edits_of (bytes l)) (sym e) ∙ now
+    ∙ ap (λ l. option_map (λ es. edit_of c ∷ es) (edits_of (bytes l))) (ap (drop count) e ∙ drop-drop count at words)) is
 
-pub words_within : (words : List (Bor (List ℕ))) (at count : ℕ) → at ≤ length words → count ≤ length (from at words) → at + count ≤ length words
+pub words_within : (words : List (Bor (List ℕ))) (at count : ℕ) → at ≤ length words → count ≤ length (from at words)
+    → at + count ≤ length words
 words_within words at count low fits = omega (arith, ap length (from_is at words), length-drop at words)
 
 pub words_none : (words : List (Bor (List ℕ))) (at : ℕ) (done : List Change)
@@ -156,7 +171,8 @@ words_none words at done before low none =
 
 -- ---- pairs that are left out
 
-onto_first_lacks : (b : ℕ) (ss : List (List ℕ)) → not (b == ampersand) ≡ true → list_all (lacks ampersand) ss ≡ true → list_all (lacks ampersand) (onto_first b ss) ≡ true
+onto_first_lacks : (b : ℕ) (ss : List (List ℕ)) → not (b == ampersand) ≡ true → list_all (lacks ampersand) ss ≡ true
+    → list_all (lacks ampersand) (onto_first b ss) ≡ true
 onto_first_lacks b [] other each = and_from _ _ (and_from _ _ other refl) refl
 onto_first_lacks b (s ∷ ss) other each =
     let both = and_parts (lacks ampersand s) (list_all (lacks ampersand) ss) each in
@@ -170,9 +186,11 @@ pieces_lack (b ∷ q) = by_test (is_ampersand b) refl (pieces_lack q)
         → list_all (lacks ampersand) (slice_split is_ampersand (b ∷ q)) ≡ true
     by_test true e h = ap (list_all (lacks ampersand)) (slice_split-cons_yes is_ampersand b q e) ∙ h
     by_test false e h =
-        ap (list_all (lacks ampersand)) (slice_split-cons_no is_ampersand b q e) ∙ onto_first_lacks b (slice_split is_ampersand q) (ap not e) h
+        ap (list_all (lacks ampersand)) (slice_split-cons_no is_ampersand b q e)
+        ∙ onto_first_lacks b (slice_split is_ampersand q) (ap not e) h
 
-filter_pieces : (keeps : Pair → Bool) (ss : List (List ℕ)) → filter keeps (map pair_of ss) ≡ map pair_of (filter (λ s. keeps (pair_of s)) ss)
+filter_pieces : (keeps : Pair → Bool) (ss : List (List ℕ))
+    → filter keeps (map pair_of ss) ≡ map pair_of (filter (λ s. keeps (pair_of s)) ss)
 filter_pieces keeps [] = refl
 filter_pieces keeps (s ∷ ss) = by_test (keeps (pair_of s)) refl (filter_pieces keeps ss)
   where
@@ -181,10 +199,12 @@ filter_pieces keeps (s ∷ ss) = by_test (keeps (pair_of s)) refl (filter_pieces
     by_test true e h = rw e (ap (λ l. pair_of s ∷ l) h)
     by_test false e h = rw e h
 
-filter_lacks : (keeps : List ℕ → Bool) (ss : List (List ℕ)) → list_all (lacks ampersand) ss ≡ true → list_all (lacks ampersand) (filter keeps ss) ≡ true
+filter_lacks : (keeps : List ℕ → Bool) (ss : List (List ℕ)) → list_all (lacks ampersand) ss ≡ true
+    → list_all (lacks ampersand) (filter keeps ss) ≡ true
 filter_lacks keeps [] each = refl
 filter_lacks keeps (s ∷ ss) each =
-    let both = and_parts (lacks ampersand s) (list_all (lacks ampersand) ss) each in by_test (keeps s) refl both.0 (filter_lacks keeps ss both.1)
+    let both = and_parts (lacks ampersand s) (list_all (lacks ampersand) ss) each in
+    by_test (keeps s) refl both.0 (filter_lacks keeps ss both.1)
   where
     by_test : (v : Bool) → keeps s ≡ v → lacks ampersand s ≡ true → list_all (lacks ampersand) (filter keeps ss) ≡ true
         → list_all (lacks ampersand) (filter keeps (s ∷ ss)) ≡ true
@@ -205,7 +225,8 @@ pieces_kept : (keeps : Pair → Bool) (q : List ℕ) → pairs_left (query_of (f
 pieces_kept keeps q =
     let kept = filter (λ s. keeps (pair_of s)) (slice_split is_ampersand q) in
     let is : filter keeps (pairs q) ≡ map pair_of kept = filter_pieces keeps (slice_split is_ampersand q) in
-    ap (λ ps. pairs_left (query_of ps)) is ∙ joined_back kept (filter_lacks (λ s. keeps (pair_of s)) (slice_split is_ampersand q) (pieces_lack q)) ∙ sym is
+    ap (λ ps. pairs_left (query_of ps)) is
+    ∙ joined_back kept (filter_lacks (λ s. keeps (pair_of s)) (slice_split is_ampersand q) (pieces_lack q)) ∙ sym is
 
 kept : (keeps : Pair → Bool) (o : Option (List ℕ)) → pairs_left (query_of (filter keeps (pairs_left o))) ≡ filter keeps (pairs_left o)
 kept keeps None = refl
@@ -216,7 +237,8 @@ filter_both a b [] = refl
 filter_both a b (p ∷ ps) =
     by_test (is_among_names a p) refl (is_among_names b p) refl (list_any-append (λ n. stands_for n.0 p.0) a b) (filter_both a b ps)
   where
-    by_test : (v : Bool) → is_among_names a p ≡ v → (w : Bool) → is_among_names b p ≡ w → is_among_names (a ++ b) p ≡ (is_among_names a p || is_among_names b p)
+    by_test : (v : Bool) → is_among_names a p ≡ v → (w : Bool) → is_among_names b p ≡ w
+        → is_among_names (a ++ b) p ≡ (is_among_names a p || is_among_names b p)
         → without_names b (without_names a ps) ≡ without_names (a ++ b) ps
         → without_names b (without_names a (p ∷ ps)) ≡ without_names (a ++ b) (p ∷ ps)
     by_test true e w g or h = rw (or, e) h
@@ -259,13 +281,15 @@ both_read t u o r (inr first) second (inr none) = inr (none.1, inl first.1)
 abbrev made_of : List Edit → Parts → Option (List ℕ) → Option Parts
 made_of es p names = option_and_then (λ q. all_made es (without_pairs q p)) names
 
-one_name : (es : List Edit) (p : Parts) (o : Option (List ℕ)) → option_and_then (all_made es) (option_map (λ q. without_pairs q p) o) ≡ made_of es p o
+one_name : (es : List Edit) (p : Parts) (o : Option (List ℕ))
+    → option_and_then (all_made es) (option_map (λ q. without_pairs q p) o) ≡ made_of es p o
 one_name es p None = refl
 one_name es p (Some q) = refl
 
 -- Edits drop-pair one after another leave out what the names leave out together.
 pub dropped_made : (name : List ℕ) (names : List (List ℕ)) (es : List Edit) (p : Parts)
-    → all_made (DropPair name ∷ (map DropPair names ++ es)) p ≡ made_of es p (read (join_with_byte ampersand (map name_text (name ∷ names))))
+    → all_made (DropPair name ∷ (map DropPair names ++ es)) p
+    ≡ made_of es p (read (join_with_byte ampersand (map name_text (name ∷ names))))
 dropped_made name [] es p = one_name es p (read (name_text name))
 dropped_made name (n ∷ ns) es p =
     by_reading (both_read t u None None (readable t) (readable u) (readable (t ++ ampersand ∷ u))) (dropped_made n ns es)
@@ -299,27 +323,35 @@ dropped_of name changes text count d p =
     ap (λ es. all_made (DropPair name ∷ es) p) d.begin ∙ dropped_made name d.names (map edit_of (drop count changes)) p
     ∙ ap (λ t. made_of (map edit_of (drop count changes)) p (read t)) (sym d.text_is)
 
-pub names_read : (name : List ℕ) (changes : List Change) (text now q : List ℕ) (count : ℕ) → DropsPairs name changes text count → now ≡ text → read now ≡ Some q
+pub names_read : (name : List ℕ) (changes : List Change) (text now q : List ℕ) (count : ℕ) → DropsPairs name changes text count → now ≡ text
+    → read now ≡ Some q
     → Reads (DropPair name) changes (λ p. Some (without_pairs q p)) count
 names_read name changes text now q count d same is = record {
   within = d.within;
-  makes = λ p. dropped_of name changes text count d p ∙ ap (λ t. made_of (map edit_of (drop count changes)) p (read t)) (sym same) ∙ ap (made_of (map edit_of (drop count changes)) p) is;
+  makes =
+      λ p. dropped_of name changes text count d p ∙ ap (λ t. made_of (map edit_of (drop count changes)) p (read t)) (sym same)
+      ∙ ap (made_of (map edit_of (drop count changes)) p) is;
 }
 
-pub names_unread : (name : List ℕ) (changes : List Change) (text now : List ℕ) (count : ℕ) (x : URIReferenceError) → DropsPairs name changes text count → now ≡ text
+pub names_unread : (name : List ℕ) (changes : List Change) (text now : List ℕ) (count : ℕ) (x : URIReferenceError)
+    → DropsPairs name changes text count → now ≡ text
     → (x ≡ references.Path OutOfMemory) ⊎ (read now ≡ None) → ReadsNone (DropPair name) changes x
 names_unread name changes text now count x d same (inl memory) = inl memory
 names_unread name changes text now count x d same (inr none) =
-    inr (λ p. dropped_of name changes text count d p ∙ ap (λ t. made_of (map edit_of (drop count changes)) p (read t)) (sym same) ∙ ap (made_of (map edit_of (drop count changes)) p) none)
+    inr (λ p. dropped_of name changes text count d p ∙ ap (λ t. made_of (map edit_of (drop count changes)) p (read t)) (sym same)
+    ∙ ap (made_of (map edit_of (drop count changes)) p) none)
 
-pub names_failed : (name : List ℕ) (changes : List Change) (text now : List ℕ) (count : ℕ) (x : URIReferenceError) (r : Result (List ℕ × ℕ) URIReferenceError)
-    → DropsPairs name changes text count → now ≡ text → (x ≡ references.Path OutOfMemory) ⊎ (read now ≡ None) → r ≡ Err x → ReadsNames name changes r
+pub names_failed : (name : List ℕ) (changes : List Change) (text now : List ℕ) (count : ℕ) (x : URIReferenceError)
+    (r : Result (List ℕ × ℕ) URIReferenceError)
+    → DropsPairs name changes text count → now ≡ text → (x ≡ references.Path OutOfMemory) ⊎ (read now ≡ None) → r ≡ Err x
+    → ReadsNames name changes r
 names_failed name changes text now count x r d same wrong is =
     subst (ReadsNames name changes) (sym is) (names_unread name changes text now count x d same wrong)
 
 -- ---- one more name
 
-joined_more : (t u : List ℕ) (ts : List (List ℕ)) → join_with_byte ampersand ((t ∷ ts) ++ u ∷ []) ≡ join_with_byte ampersand (t ∷ ts) ++ ampersand ∷ u
+joined_more : (t u : List ℕ) (ts : List (List ℕ))
+    → join_with_byte ampersand ((t ∷ ts) ++ u ∷ []) ≡ join_with_byte ampersand (t ∷ ts) ++ ampersand ∷ u
 joined_more t u [] = refl
 joined_more t u (s ∷ ts) =
     ap (λ l. t ++ ampersand ∷ l) (joined_more s u ts) ∙ sym (append_assoc t (ampersand ∷ join_with_byte ampersand (s ∷ ts)) (ampersand ∷ u))
@@ -330,13 +362,16 @@ left_from xs i x is = drop_more xs i x (slice_get_within xs i x is) ∙ ap (λ y
 taken_more : {A : Type 0} (xs : List A) (i : ℕ) (x : A) → slice_get xs i ≡ Some x → take (i + 1) xs ≡ take i xs ++ x ∷ []
 taken_more xs i x is =
     let next : i + 1 ≡ suc i = omega arith in
-    ap (λ n. take n xs) next ∙ take-suc xs i x (slice_get_within xs i x is) ∙ ap (λ y. take i xs ++ y ∷ []) (get_or_from_slice_get xs i x x is)
+    ap (λ n. take n xs) next ∙ take-suc xs i x (slice_get_within xs i x is)
+    ∙ ap (λ y. take i xs ++ y ∷ []) (get_or_from_slice_get xs i x x is)
 
 pub drops_start : (name : List ℕ) (changes : List Change) (text : List ℕ) → text ≡ name_text name → DropsPairs name changes text 0
 drops_start name changes text is = record { names = []; within = omega arith; begin = refl; text_is = is }
 
-pub drops_next : (name : List ℕ) (changes : List Change) (text more : List ℕ) (next : Bor (List ℕ)) (count : ℕ) → DropsPairs name changes text count
-    → slice_get changes count ≡ Some (kinds.DropPair next) → more ≡ (text ++ ampersand ∷ []) ++ name_text next.now → DropsPairs name changes more (count + 1)
+pub drops_next : (name : List ℕ) (changes : List Change) (text more : List ℕ) (next : Bor (List ℕ)) (count : ℕ)
+    → DropsPairs name changes text count
+    → slice_get changes count ≡ Some (kinds.DropPair next) → more ≡ (text ++ ampersand ∷ []) ++ name_text next.now
+    → DropsPairs name changes more (count + 1)
 drops_next name changes text more next count d is put =
     let bound : count < length changes = slice_get_within changes count (kinds.DropPair next) is in
     let left = map edit_of (drop (count + 1) changes) in
@@ -358,7 +393,8 @@ pub name_next : (old now more : List ℕ) (name : List ℕ) (i : ℕ) (b : ℕ) 
 name_next old now more name i b before is put =
     put ∙ ap (λ l. l ++ byte_in_name b) before ∙ append_assoc old (name_text (take i name)) (byte_in_name b)
     ∙ ap (λ l. old ++ (name_text (take i name) ++ l)) (sym (append-nil (byte_in_name b)))
-    ∙ ap (λ l. old ++ l) (sym (flat_map-append byte_in_name (take i name) (b ∷ []))) ∙ ap (λ l. old ++ name_text l) (sym (taken_more name i b is))
+    ∙ ap (λ l. old ++ l) (sym (flat_map-append byte_in_name (take i name) (b ∷ [])))
+    ∙ ap (λ l. old ++ name_text l) (sym (taken_more name i b is))
 
 -- ---- steps
 
@@ -389,12 +425,14 @@ steps_both (x ∷ ss) ts p = by_act (act_made x.act p) (steps_both ss ts)
     by_act (Some q) h = h q
 
 -- So many steps are made.
-pub steps_next : (front more : List Step) (s : Step) (p q r : Parts) → steps_made front p ≡ Some q → more ≡ front ++ s ∷ [] → act_made s.act q ≡ Some r
+pub steps_next : (front more : List Step) (s : Step) (p q r : Parts) → steps_made front p ≡ Some q → more ≡ front ++ s ∷ []
+    → act_made s.act q ≡ Some r
     → steps_made more p ≡ Some r
 steps_next front more s p q r before is now =
     ap (λ l. steps_made l p) is ∙ steps_more front s p ∙ ap (option_and_then (act_made s.act)) before ∙ now
 
-pub steps_stop : (A : Type 0) (ss : List Step) (i : ℕ) (s : Step) (p q : Parts) → steps_made (take i ss) p ≡ Some q → take (i + 1) ss ≡ take i ss ++ s ∷ []
+pub steps_stop : (A : Type 0) (ss : List Step) (i : ℕ) (s : Step) (p q : Parts) → steps_made (take i ss) p ≡ Some q
+    → take (i + 1) ss ≡ take i ss ++ s ∷ []
     → A ⊎ (act_made s.act q ≡ None) → A ⊎ ((steps_made ss p ≡ None) × (Rejected ≡ Rejected))
 steps_stop A ss i s p q before is (inl ends) = inl ends
 steps_stop A ss i s p q before is (inr none) =
@@ -413,8 +451,10 @@ StepsMake all steps left = (p : Parts) → all_made all p ≡ option_and_then (a
 pub steps_start : (all : List Edit) (steps : List Step) → steps ≡ [] → StepsMake all steps all
 steps_start all steps none = λ p. ap (λ l. option_and_then (all_made all) (steps_made l p)) (sym none)
 
-pub steps_read : (all now : List Edit) (e : Edit) (others : List Change) (count : ℕ) (steps more : List Step) (s : Step) → StepsMake all steps now
-    → now ≡ e ∷ map edit_of others → Reads e others (act_made s.act) count → more ≡ steps ++ s ∷ [] → StepsMake all more (map edit_of (drop count others))
+pub steps_read : (all now : List Edit) (e : Edit) (others : List Change) (count : ℕ) (steps more : List Step) (s : Step)
+    → StepsMake all steps now
+    → now ≡ e ∷ map edit_of others → Reads e others (act_made s.act) count → more ≡ steps ++ s ∷ []
+    → StepsMake all more (map edit_of (drop count others))
 steps_read all now e others count steps more s before is reads put = λ p.
     before p ∙ ap (λ es. option_and_then (all_made es) (steps_made steps p)) is ∙ by_made p (steps_made steps p) reads.makes
     ∙ ap (option_and_then (all_made left)) (sym (ap (λ l. steps_made l p) put ∙ steps_more steps s p))
@@ -422,15 +462,19 @@ steps_read all now e others count steps more s before is reads put = λ p.
     left : List Edit
     left = map edit_of (drop count others)
 
-    by_made : (p : Parts) (o : Option Parts) → ((q : Parts) → all_made (e ∷ map edit_of others) q ≡ option_and_then (all_made left) (act_made s.act q))
+    by_made : (p : Parts) (o : Option Parts)
+        → ((q : Parts) → all_made (e ∷ map edit_of others) q ≡ option_and_then (all_made left) (act_made s.act q))
         → option_and_then (all_made (e ∷ map edit_of others)) o ≡ option_and_then (all_made left) (option_and_then (act_made s.act) o)
     by_made p None h = refl
     by_made p (Some q) h = h q
 
-pub steps_end : (all left : List Edit) (steps : List Step) → StepsMake all steps left → left ≡ [] → (p : Parts) → steps_made steps p ≡ all_made all p
-steps_end all left steps makes none p = sym (makes p ∙ ap (λ es. option_and_then (all_made es) (steps_made steps p)) none ∙ then_itself (steps_made steps p))
+pub steps_end : (all left : List Edit) (steps : List Step) → StepsMake all steps left → left ≡ [] → (p : Parts)
+    → steps_made steps p ≡ all_made all p
+steps_end all left steps makes none p =
+    sym (makes p ∙ ap (λ es. option_and_then (all_made es) (steps_made steps p)) none ∙ then_itself (steps_made steps p))
 
-pub steps_none : (all now : List Edit) (steps : List Step) → StepsMake all steps now → ((p : Parts) → all_made now p ≡ None) → (p : Parts) → all_made all p ≡ None
+pub steps_none : (all now : List Edit) (steps : List Step) → StepsMake all steps now → ((p : Parts) → all_made now p ≡ None) → (p : Parts)
+    → all_made all p ≡ None
 steps_none all now steps makes none p = makes p ∙ by_made (steps_made steps p)
   where
     by_made : (o : Option Parts) → option_and_then (all_made now) o ≡ None
@@ -438,62 +482,81 @@ steps_none all now steps makes none p = makes p ∙ by_made (steps_made steps p)
     by_made (Some q) = none q
 
 pub changes_next_read : (changes : List Change) (at more : ℕ) (c d : Change) (steps longer : List Step) (s : Step) → at < length changes
-    → StepsMake (map edit_of changes) steps (map edit_of (drop at changes)) → c ≡ get_or changes at d → Reads (edit_of c) (from (at + 1) changes) (act_made s.act) more
+    → StepsMake (map edit_of changes) steps (map edit_of (drop at changes)) → c ≡ get_or changes at d
+    → Reads (edit_of c) (from (at + 1) changes) (act_made s.act) more
     → longer ≡ steps ++ s ∷ [] → StepsMake (map edit_of changes) longer (map edit_of (drop (at + (1 + more)) changes))
 changes_next_read changes at more c d steps longer s low before is reads put =
     let left = from_is (at + 1) changes in
     let now : map edit_of (drop at changes) ≡ edit_of c ∷ map edit_of (from (at + 1) changes) =
-    ap (map edit_of) (drop_more changes at d low ∙ ap (λ x. x ∷ drop (at + 1) changes) (sym is)) ∙ ap (λ l. edit_of c ∷ map edit_of l) (sym left) in
+    ap (map edit_of) (drop_more changes at d low ∙ ap (λ x. x ∷ drop (at + 1) changes) (sym is))
+    ∙ ap (λ l. edit_of c ∷ map edit_of l) (sym left) in
     let next : at + 1 + more ≡ at + (1 + more) = omega arith in
-    subst (λ l. StepsMake (map edit_of changes) longer (map edit_of l)) (ap (drop more) left ∙ drop-drop more (at + 1) changes ∙ ap (λ n. drop n changes) next)
-    (steps_read (map edit_of changes) (map edit_of (drop at changes)) (edit_of c) (from (at + 1) changes) more steps longer s before now reads put)
+    subst (λ l. StepsMake (map edit_of changes) longer (map edit_of l))
+    (ap (drop more) left ∙ drop-drop more (at + 1) changes ∙ ap (λ n. drop n changes) next)
+    (steps_read (map edit_of changes) (map edit_of (drop at changes)) (edit_of c)
+    (from (at + 1) changes) more steps longer s before now reads put)
 
-pub changes_within : (changes : List Change) (at more : ℕ) → at < length changes → more ≤ length (from (at + 1) changes) → at + (1 + more) ≤ length changes
+pub changes_within : (changes : List Change) (at more : ℕ) → at < length changes → more ≤ length (from (at + 1) changes)
+    → at + (1 + more) ≤ length changes
 changes_within changes at more low fits = omega (arith, ap length (from_is (at + 1) changes), length-drop (at + 1) changes)
 
-pub changes_unread : (changes : List Change) (at : ℕ) (c d : Change) (steps : List Step) (x : URIReferenceError) (r : Result (Vec Step Global) Failure) → at < length changes
-    → StepsMake (map edit_of changes) steps (map edit_of (drop at changes)) → c ≡ get_or changes at d → ReadsNone (edit_of c) (from (at + 1) changes) x
+pub changes_unread : (changes : List Change) (at : ℕ) (c d : Change) (steps : List Step) (x : URIReferenceError)
+    (r : Result (Vec Step Global) Failure) → at < length changes
+    → StepsMake (map edit_of changes) steps (map edit_of (drop at changes)) → c ≡ get_or changes at d
+    → ReadsNone (edit_of c) (from (at + 1) changes) x
     → IsErrAnd r (λ f. f ≡ failures.Reference x) → ReadsChanges (map edit_of changes) r
 changes_unread changes at c d steps x (Ok ss) low before is none wrong = absurd wrong
 changes_unread changes at c d steps x (Err f) low before is (inl memory) wrong = inl (subst EndsWork (sym wrong) memory)
 changes_unread changes at c d steps x (Err f) low before is (inr none) wrong =
     let left = from_is (at + 1) changes in
     let now : map edit_of (drop at changes) ≡ edit_of c ∷ map edit_of (from (at + 1) changes) =
-    ap (map edit_of) (drop_more changes at d low ∙ ap (λ x. x ∷ drop (at + 1) changes) (sym is)) ∙ ap (λ l. edit_of c ∷ map edit_of l) (sym left) in
-    inr (ap answer_of wrong, steps_none (map edit_of changes) (map edit_of (drop at changes)) steps before (λ p. ap (λ es. all_made es p) now ∙ none p))
+    ap (map edit_of) (drop_more changes at d low ∙ ap (λ x. x ∷ drop (at + 1) changes) (sym is))
+    ∙ ap (λ l. edit_of c ∷ map edit_of l) (sym left) in
+    inr (
+      ap answer_of wrong,
+      steps_none (map edit_of changes) (map edit_of (drop at changes)) steps before
+          (λ p. ap (λ es. all_made es p) now ∙ none p),
+    )
 
-pub changes_read : (changes : List Change) (at : ℕ) (steps : List Step) → StepsMake (map edit_of changes) steps (map edit_of (drop at changes)) → length changes ≤ at
+pub changes_read : (changes : List Change) (at : ℕ) (steps : List Step)
+    → StepsMake (map edit_of changes) steps (map edit_of (drop at changes)) → length changes ≤ at
     → (p : Parts) → steps_made steps p ≡ all_made (map edit_of changes) p
-changes_read changes at steps makes over = steps_end (map edit_of changes) (map edit_of (drop at changes)) steps makes (ap (map edit_of) (drop_all at changes over))
+changes_read changes at steps makes over =
+    steps_end (map edit_of changes) (map edit_of (drop at changes)) steps makes (ap (map edit_of) (drop_all at changes over))
 
 -- ---- answers
 
 pub edited : (o : Option Parts) (q : Parts) (a b : Known) (r : Done) → o ≡ Some q → Writes (line (print q)) a b r → Does (Edited o) a b r
 edited o q a b r is written = subst (λ x. Does (Edited x) a b r) (sym is) (answered (Edited (Some q)) (line (print q)) a b r refl written)
 
-pub not_edited : (o : Option Parts) (f : Failure) (a b : Known) (r : Done) → EndsWork f ⊎ ((o ≡ None) × (answer_of f ≡ Rejected)) → r ≡ Err f → b ≡ a
+pub not_edited : (o : Option Parts) (f : Failure) (a b : Known) (r : Done) → EndsWork f ⊎ ((o ≡ None) × (answer_of f ≡ Rejected))
+    → r ≡ Err f → b ≡ a
     → Does (Edited o) a b r
 not_edited o f a b r (inl ends) is kept = subst (Does (Edited o) a b) (sym is) (inl ends)
 not_edited o f a b r (inr rejected) is kept =
     subst (Does (Edited o) a b) (sym is) (inr (subst (λ x. Edited x (answer_of f)) (sym rejected.0) rejected.1, kept))
 
-pub edited_line : (t : List ℕ) (p : Parts) (make : Parts → Option Parts) (a b : Known) (r : Done) → Spells t p → Does (Edited (make p)) a b r
+pub edited_line : (t : List ℕ) (p : Parts) (make : Parts → Option Parts) (a b : Known) (r : Done) → Spells t p
+    → Does (Edited (make p)) a b r
     → Does (EditsLine make t) a b r
 edited_line t p make a b r spelled done = of_reference t p (λ x. Edited (make x)) a b r spelled done
 
 pub edits_read : (t : List ℕ) (p q : Parts) (es : List Edit) (steps now : List Step) (a b : Known) (r : Done) → Spells t p
-    → ((x : Parts) → steps_made steps x ≡ all_made es x) → now ≡ steps → q ≡ p → Does (Edited (steps_made now q)) a b r → Does (EditsLine (all_made es) t) a b r
+    → ((x : Parts) → steps_made steps x ≡ all_made es x) → now ≡ steps → q ≡ p → Does (Edited (steps_made now q)) a b r
+    → Does (EditsLine (all_made es) t) a b r
 edits_read t p q es steps now a b r spelled same is one done =
     edited_line t p (all_made es) a b r spelled
     (subst (λ o. Does (Edited o) a b r) (ap (λ l. steps_made l q) is ∙ ap (steps_made steps) one ∙ same p) done)
 
 pub edits_unread : (t : List ℕ) (p : Parts) (es : List Edit) (f : Failure) (a b : Known) (r : Done) → Spells t p
-    → EndsWork f ⊎ ((answer_of f ≡ Rejected) × ((q : Parts) → all_made es q ≡ None)) → r ≡ Err f → b ≡ a → Does (EditsLine (all_made es) t) a b r
+    → EndsWork f ⊎ ((answer_of f ≡ Rejected) × ((q : Parts) → all_made es q ≡ None)) → r ≡ Err f → b ≡ a
+    → Does (EditsLine (all_made es) t) a b r
 edits_unread t p es f a b r spelled (inl ends) is kept = subst (Does (EditsLine (all_made es) t) a b) (sym is) (inl ends)
 edits_unread t p es f a b r spelled (inr rejected) is kept =
     edited_line t p (all_made es) a b r spelled (not_edited (all_made es p) f a b r (inr (rejected.1 p, rejected.0)) is kept)
 
-pub edits_made : (t : List ℕ) (words : List (List ℕ)) (changes now : List Change) (a b : Known) (r : Done) → edits_of words ≡ Some (map edit_of changes) → now ≡ changes
+pub edits_made : (t : List ℕ) (words : List (List ℕ)) (changes now : List Change) (a b : Known) (r : Done)
+    → edits_of words ≡ Some (map edit_of changes) → now ≡ changes
     → Does (EditsLine (all_made (map edit_of now)) t) a b r → Does (Edits t words) a b r
 edits_made t words changes now a b r are same done =
     subst (λ o. Does (λ x. MatchOption o (x ≡ Unknown) (λ l. EditsLine (all_made l) t x)) a b r) (sym are)
@@ -504,14 +567,20 @@ pub no_edits : (t : List ℕ) (words : List (List ℕ)) (f : Failure) (a b : Kno
 no_edits t words f a b r (inl ends) is kept = subst (Does (Edits t words) a b) (sym is) (inl ends)
 no_edits t words f a b r (inr none) is kept =
     subst (Does (Edits t words) a b) (sym is)
-    (inr (subst (λ o. MatchOption o (answer_of f ≡ Unknown) (λ l. EditsLine (all_made l) t (answer_of f))) (sym none.0) (ap answer_of none.1), kept))
+    (inr (
+      subst (λ o. MatchOption o (answer_of f ≡ Unknown) (λ l. EditsLine (all_made l) t (answer_of f))) (sym none.0)
+          (ap answer_of none.1),
+      kept,
+    ))
 
-pub edits_named : (words : List (List ℕ)) (changes now : List Change) (r : Result (Vec Step Global) Failure) → edits_of words ≡ Some (map edit_of changes) → now ≡ changes
+pub edits_named : (words : List (List ℕ)) (changes now : List Change) (r : Result (Vec Step Global) Failure)
+    → edits_of words ≡ Some (map edit_of changes) → now ≡ changes
     → ReadsChanges (map edit_of now) r → ReadsEdits words r
 edits_named words changes now r are same reads =
     subst (λ o. MatchOption o (NamesNone r) (λ es. ReadsChanges es r)) (sym are) (subst (λ cs. ReadsChanges (map edit_of cs) r) same reads)
 
-pub edits_unnamed : (words : List (List ℕ)) (f : Failure) (r : Result (Vec Step Global) Failure) → EndsWork f ⊎ ((edits_of words ≡ None) × (f ≡ failures.Usage))
+pub edits_unnamed : (words : List (List ℕ)) (f : Failure) (r : Result (Vec Step Global) Failure)
+    → EndsWork f ⊎ ((edits_of words ≡ None) × (f ≡ failures.Usage))
     → r ≡ Err f → ReadsEdits words r
 edits_unnamed words f r (inl ends) is = subst (ReadsEdits words) (sym is) (by_words (edits_of words))
   where
@@ -519,7 +588,8 @@ edits_unnamed words f r (inl ends) is = subst (ReadsEdits words) (sym is) (by_wo
     by_words None = inl ends
     by_words (Some es) = inl ends
 edits_unnamed words f r (inr none) is =
-    subst (ReadsEdits words) (sym is) (subst (λ o. MatchOption o (NamesNone (Err f)) (λ es. ReadsChanges es (Err f))) (sym none.0) (inr none.1))
+    subst (ReadsEdits words) (sym is)
+    (subst (λ o. MatchOption o (NamesNone (Err f)) (λ es. ReadsChanges es (Err f))) (sym none.0) (inr none.1))
 
 pub on_edits : (texts : List (Bor (List ℕ))) (d : Bor (List ℕ)) (a b : Known) (r : Done) → 1 ≤ length texts
     → Does (Edits (slice_index_or texts 0 d).now (bytes (from 1 texts))) a b r → Does (OnEdits (bytes texts)) a b r

@@ -50,7 +50,8 @@ plain_byte : (b : ℕ) → is_uri_byte b ≡ true → needs_no_json_escape b ≡
 unfolding is_unreserved is_sub_delim
 plain_byte b h = grind (arith, nat_tests)
 
-plain_by : (p : ℕ → Bool) → ((b : ℕ) → p b ≡ true → needs_no_json_escape b ≡ true) → (text : List ℕ) → list_all p text ≡ true → list_all needs_no_json_escape text ≡ true
+plain_by : (p : ℕ → Bool) → ((b : ℕ) → p b ≡ true → needs_no_json_escape b ≡ true) → (text : List ℕ) → list_all p text ≡ true
+    → list_all needs_no_json_escape text ≡ true
 plain_by p each [] h = refl
 plain_by p each (b ∷ text) h = let both = and_parts _ _ h in and_from _ _ (each b both.0) (plain_by p each text both.1)
 
@@ -146,7 +147,8 @@ plain_future_byte : (b : ℕ) → is_future_byte b ≡ true → needs_no_json_es
 unfolding is_unreserved is_sub_delim
 plain_future_byte b h = grind (arith, nat_tests)
 
-plain_some : (p : ℕ → Bool) → ((b : ℕ) → p b ≡ true → needs_no_json_escape b ≡ true) → (text : List ℕ) → is_some_of p text ≡ true → Plain text
+plain_some : (p : ℕ → Bool) → ((b : ℕ) → p b ≡ true → needs_no_json_escape b ≡ true) → (text : List ℕ) → is_some_of p text ≡ true
+    → Plain text
 plain_some p each [] h = absurd (false≢true h)
 plain_some p each (b ∷ text) h = record { each = plain_by p each (b ∷ text) h }
 
@@ -181,13 +183,16 @@ escaped_host (RegisteredName n) v = escaped_plain n (plain_in_class class.Name n
 
 pub ipv4_written : (h : Host) (octets : List ℕ) (r : Result (Unit {0}) Error) (a b : Option (List ℕ)) → h ≡ IPv4Address octets
     → OnOk r (Appends a b (ipv4_text octets)) → OnOk r (Appends a b (escaped (host_text h)))
-ipv4_written h octets r a b is p = subst (λ x. OnOk r (Appends a b (escaped (host_text x)))) (sym is) (subst (λ l. OnOk r (Appends a b l)) (sym (escaped_ipv4 octets)) p)
+ipv4_written h octets r a b is p =
+    subst (λ x. OnOk r (Appends a b (escaped (host_text x)))) (sym is) (subst (λ l. OnOk r (Appends a b l)) (sym (escaped_ipv4 octets)) p)
 
 pub ipv6_written : (h : Host) (groups : List ℕ) (r : Result (Unit {0}) Error) (a b : Option (List ℕ)) → h ≡ IPv6Address groups
     → OnOk r (Appends a b (bracketed (ipv6_text groups))) → OnOk r (Appends a b (escaped (host_text h)))
-ipv6_written h groups r a b is p = subst (λ x. OnOk r (Appends a b (escaped (host_text x)))) (sym is) (subst (λ l. OnOk r (Appends a b l)) (sym (escaped_ipv6 groups)) p)
+ipv6_written h groups r a b is p =
+    subst (λ x. OnOk r (Appends a b (escaped (host_text x)))) (sym is) (subst (λ l. OnOk r (Appends a b l)) (sym (escaped_ipv6 groups)) p)
 
-pub future_written : (h : Host) (text : List ℕ) (r : Result (Unit {0}) Error) (a b c d : Option (List ℕ)) → h ≡ IPvFuture text → Appends a b (codes "[")
+pub future_written : (h : Host) (text : List ℕ) (r : Result (Unit {0}) Error) (a b c d : Option (List ℕ)) → h ≡ IPvFuture text
+    → Appends a b (codes "[")
     → Appends b c (escaped text) → OnOk r (Appends c d (codes "]")) → OnOk r (Appends a d (escaped (host_text h)))
 future_written h text (Err e) a b c d is p q o = tt
 future_written h text (Ok v) a b c d is p q o =
@@ -201,14 +206,20 @@ joined_followers t [] = sym (append-nil t)
 joined_followers t (m ∷ ms) = ap (λ l. t ++ comma ∷ l) (joined_followers (member_text m) ms)
 
 append_both : (ms ns : List Member) (t : List ℕ) → followers ms ++ (followers ns ++ t) ≡ followers (ms ++ ns) ++ t
-append_both ms ns t = sym (append_assoc (followers ms) (followers ns) t) ∙ ap (λ l. l ++ t) (sym (flat_map-append (λ m. comma ∷ member_text m) ms ns))
+append_both ms ns t =
+    sym (append_assoc (followers ms) (followers ns) t) ∙ ap (λ l. l ++ t) (sym (flat_map-append (λ m. comma ∷ member_text m) ms ns))
 
-next : (a b c : Option (List ℕ)) (m : Member) (ms : List Member) → Appends a b (followers (m ∷ [])) → Appends b c (followers ms) → Appends a c (followers (m ∷ ms))
-next a b c m ms p q = subst (λ l. Appends a c (comma ∷ l ++ followers ms)) (append-nil (member_text m)) (Appends-trans a b c (followers (m ∷ [])) (followers ms) p q)
+next : (a b c : Option (List ℕ)) (m : Member) (ms : List Member) → Appends a b (followers (m ∷ [])) → Appends b c (followers ms)
+    → Appends a c (followers (m ∷ ms))
+next a b c m ms p q =
+    subst (λ l. Appends a c (comma ∷ l ++ followers ms)) (append-nil (member_text m))
+    (Appends-trans a b c (followers (m ∷ [])) (followers ms) p q)
 
 -- of members that are a string or absent, one after another
-pub members_written : (l m n : List ℕ) (s t u : Option (List ℕ)) (r : Result (Unit {0}) Error) (a b c d : Option (List ℕ)) (s' t' u' : Option (List ℕ))
-    → Appends a b (followers (member l (string_or_null s') ∷ [])) → s' ≡ s → Appends b c (followers (member m (string_or_null t') ∷ [])) → t' ≡ t
+pub members_written : (l m n : List ℕ) (s t u : Option (List ℕ)) (r : Result (Unit {0}) Error) (a b c d : Option (List ℕ))
+    (s' t' u' : Option (List ℕ))
+    → Appends a b (followers (member l (string_or_null s') ∷ [])) → s' ≡ s → Appends b c (followers (member m (string_or_null t') ∷ []))
+    → t' ≡ t
     → OnOk r (Appends c d (followers (member n (string_or_null u') ∷ []))) → u' ≡ u
     → OnOk r (Appends a d (followers (member l (string_or_null s) ∷ member m (string_or_null t) ∷ member n (string_or_null u) ∷ [])))
 members_written l m n s t u (Err e) a b c d s' t' u' p i q j o k = tt
@@ -232,7 +243,8 @@ whole_host text kind =
     (sym (append_assoc (escaped text) (quote ∷ []) last) ∙ ap (λ l. (escaped text ++ quote ∷ []) ++ l) (sym (append-nil last)))
 
 pub host_written : (h : Option Host) (g : Host) (kind : List ℕ) (r : Result (Unit {0}) Error) (a b c d e f : Option (List ℕ)) → h ≡ Some g
-    → Appends a b (codes ",\"host\":\"") → Appends b c (escaped (host_text g)) → Appends c d (codes "\",\"host_kind\":\"") → Appends d e (escaped kind)
+    → Appends a b (codes ",\"host\":\"") → Appends b c (escaped (host_text g)) → Appends c d (codes "\",\"host_kind\":\"")
+    → Appends d e (escaped kind)
     → kind ≡ kind_name (kind_of g) → OnOk r (Appends e f (codes "\"")) → OnOk r (Appends a f (followers (host_members h)))
 host_written h g kind (Err x) a b c d e f is p q o k i m = tt
 host_written h g kind (Ok v) a b c d e f is p q o k i m =
@@ -240,7 +252,8 @@ host_written h g kind (Ok v) a b c d e f is p q o k i m =
     let end = Appends-trans d e f (escaped kind) (codes "\"") k m in
     let later = Appends-trans b c f text _ q (Appends-trans c d f (codes "\",\"host_kind\":\"") _ o end) in
     let whole = subst (Appends a f) (whole_host (host_text g) kind) (Appends-trans a b f (codes ",\"host\":\"") _ p later) in
-    let named = subst (λ x. Appends a f (followers (member (codes "host") (String (host_text g)) ∷ member (codes "host_kind") (String x) ∷ []))) i whole in
+    let named =
+    subst (λ x. Appends a f (followers (member (codes "host") (String (host_text g)) ∷ member (codes "host_kind") (String x) ∷ []))) i whole in
     subst (λ x. Appends a f (followers (host_members x))) (sym is) named
 
 whole_object : (m : Member) (a b c d e : List Member)
@@ -253,12 +266,15 @@ whole_object m a b c d e =
     let later = ap (λ l. followers a ++ (followers b ++ l)) (append_both c (d ++ e) end) in
     let others = ap (λ l. followers a ++ l) (append_both b (c ++ (d ++ e)) end) ∙ append_both a (b ++ (c ++ (d ++ e))) end in
     let text = member_text m in
-    let joined = ap (λ l. l ++ end) (sym (joined_followers text all)) ∙ sym (append_assoc (join_with_byte comma (map member_text (m ∷ all))) (codes "}") (newline ∷ [])) in
+    let joined = ap (λ l. l ++ end) (sym (joined_followers text all))
+    ∙ sym (append_assoc (join_with_byte comma (map member_text (m ∷ all))) (codes "}") (newline ∷ [])) in
     ap (λ l. 123 ∷ l) (ap (λ l. text ++ l) (last ∙ later ∙ others) ∙ sym (append_assoc text (followers all) end) ∙ joined)
 
-pub object_written : (text : List ℕ) (p : Parts) (r : Result (Unit {0}) Error) (a b c d e f g h : Option (List ℕ)) (text' : List ℕ) (own : Option Host)
+pub object_written : (text : List ℕ) (p : Parts) (r : Result (Unit {0}) Error) (a b c d e f g h : Option (List ℕ)) (text' : List ℕ)
+    (own : Option Host)
     (port : Option ℕ) (segments : List (List ℕ))
-    → Appends a b (codes "{" ++ member_text (member (codes "text") (String text'))) → text' ≡ text → Appends b c (followers (scheme_and_userinfo_members p))
+    → Appends a b (codes "{" ++ member_text (member (codes "text") (String text'))) → text' ≡ text
+    → Appends b c (followers (scheme_and_userinfo_members p))
     → Appends c d (followers (host_members own)) → own ≡ host_of p → Appends d e (followers (port_members port)) → port ≡ port_of p
     → Appends e f (followers (back_members p)) → Appends f g (followers (segment_members segments)) → segments ≡ p.path.segments
     → OnOk r (Appends g h (codes "}\n")) → OnOk r (Appends a h (object text p ++ newline ∷ []))
@@ -271,7 +287,8 @@ object_written text p (Ok v) a b c d e f g h text' own port segments i j k l m n
     let end = Appends-trans e f h _ _ q (Appends-trans f g h _ _ sixth u) in
     let later = Appends-trans b c h _ _ k (Appends-trans c d h _ _ third (Appends-trans d e h _ _ fourth end)) in
     subst (Appends a h)
-    (whole_object (member (codes "text") (String text)) (scheme_and_userinfo_members p) (host_members (host_of p)) (port_members (port_of p)) (back_members p)
+    (whole_object (member (codes "text") (String text)) (scheme_and_userinfo_members p) (host_members (host_of p))
+    (port_members (port_of p)) (back_members p)
     (segment_members p.path.segments)) (Appends-trans a b h _ _ first later)
 
 -- ---- the array
@@ -281,7 +298,8 @@ pub left_to_write : List ℕ → List (List ℕ) → List ℕ
 left_to_write separator [] = codes "\"]"
 left_to_write separator (t ∷ ts) = separator ++ (escaped t ++ left_to_write (codes "\",\"") ts)
 
-array : (t : List ℕ) (ts : List (List ℕ)) → quote ∷ (escaped t ++ left_to_write (codes "\",\"") ts) ≡ join_with_byte comma (map string (t ∷ ts)) ++ codes "]"
+array : (t : List ℕ) (ts : List (List ℕ))
+    → quote ∷ (escaped t ++ left_to_write (codes "\",\"") ts) ≡ join_with_byte comma (map string (t ∷ ts)) ++ codes "]"
 unfolding left_to_write
 array t [] = ap (λ l. quote ∷ l) (sym (append_assoc (escaped t) (quote ∷ []) (codes "]")))
 array t (u ∷ ts) =
@@ -291,7 +309,8 @@ array t (u ∷ ts) =
     ∙ sym (append_assoc (string t) (comma ∷ rest) (codes "]"))
 
 -- of a list that is not empty this is the whole member
-segments_left : (segments : List (List ℕ)) → 0 < length segments → left_to_write (codes ",\"segments\":[\"") segments ≡ followers (segment_members segments)
+segments_left : (segments : List (List ℕ)) → 0 < length segments
+    → left_to_write (codes ",\"segments\":[\"") segments ≡ followers (segment_members segments)
 unfolding left_to_write
 segments_left [] h = absurd (omega (arith, h))
 segments_left (t ∷ ts) h = ap (λ l. codes ",\"segments\":[" ++ l) (array t ts) ∙ sym (append-nil _)
@@ -304,9 +323,12 @@ pub record Writing (old new : Option (List ℕ)) (separator : List ℕ) (left : 
 
 pub writing_start : (a : Option (List ℕ)) (segments left : List (List ℕ)) → left ≡ segments → 0 < length segments
     → Writing a a (codes ",\"segments\":[\"") left (followers (segment_members segments))
-writing_start a segments left is h = subst (λ x. Writing a a (codes ",\"segments\":[\"") x (followers (segment_members segments))) (sym is) (record { done = []; written = Appends-nil a; rest = segments_left segments h })
+writing_start a segments left is h =
+    subst (λ x. Writing a a (codes ",\"segments\":[\"") x (followers (segment_members segments))) (sym is)
+    (record { done = []; written = Appends-nil a; rest = segments_left segments h })
 
-pub writing_next : (a b c d : Option (List ℕ)) (separator whole segment text : List ℕ) (now left : List (List ℕ)) → now ≡ segment ∷ left → text ≡ segment
+pub writing_next : (a b c d : Option (List ℕ)) (separator whole segment text : List ℕ) (now left : List (List ℕ)) → now ≡ segment ∷ left
+    → text ≡ segment
     → Writing a b separator now whole → Appends b c separator → Appends c d (escaped text) → Writing a d (codes "\",\"") left whole
 unfolding left_to_write
 writing_next a b c d separator whole segment text now left first same w p q =
@@ -327,4 +349,5 @@ pub writing_end : (r : Result (Unit {0}) Error) (a b c : Option (List ℕ)) (sep
 unfolding left_to_write
 writing_end (Err e) a b c separator segments left ended w p = tt
 writing_end (Ok v) a b c separator segments left ended w p =
-    subst (Appends a c) (ap (λ l. w.done ++ left_to_write separator l) (sym ended) ∙ w.rest) (Appends-trans a b c w.done (codes "\"]") w.written p)
+    subst (Appends a c) (ap (λ l. w.done ++ left_to_write separator l) (sym ended) ∙ w.rest)
+    (Appends-trans a b c w.done (codes "\"]") w.written p)

@@ -1,6 +1,7 @@
 pub mod ColumnLemmas
 pub mod ComponentLemmas
 pub mod EditLemmas
+pub mod HelpLemmas
 pub mod JsonLemmas
 pub mod LineLemmas
 pub mod ObjectLemmas

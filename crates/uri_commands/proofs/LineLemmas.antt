@@ -23,14 +23,16 @@ none_before end text offset is = λ k d h e.
     false≢true (sym fails ∙ eq-eqb _ _ same)
 
 -- no byte of a copy of what precedes it is one
-pub none_taken : (end : ℕ) (text old line : List ℕ) (offset : ℕ) → offset ≡ position_or_len (λ b. b == end) text → old ≡ [] → line ≡ old ++ take offset text
+pub none_taken : (end : ℕ) (text old line : List ℕ) (offset : ℕ) → offset ≡ position_or_len (λ b. b == end) text → old ≡ []
+    → line ≡ old ++ take offset text
     → All (λ b. b ≢ end) line
 none_taken end text old line offset is empty taken =
     let whole : line ≡ take offset text = taken ∙ ap (λ t. t ++ take offset text) empty in
     subst (λ t. All (λ b. b ≢ end) t) (sym whole) (none_before end text offset is)
 
 -- where no line ends, no byte ends one
-pub none_held : (end : ℕ) (text : List ℕ) (offset : ℕ) → offset ≡ position_or_len (λ b. b == end) text → offset ≡ length text → All (λ b. b ≢ end) text
+pub none_held : (end : ℕ) (text : List ℕ) (offset : ℕ) → offset ≡ position_or_len (λ b. b == end) text → offset ≡ length text
+    → All (λ b. b ≢ end) text
 none_held end text offset is at_end = λ k d h e.
     let fails = fails_before_first (λ b. b == end) text k d (omega (arith, is, at_end, h)) in
     false≢true (sym fails ∙ eq-eqb _ _ e)
@@ -43,21 +45,26 @@ through_end end text offset is found =
     take_more text offset 0 found ∙ ap (λ b. take offset text ++ b ∷ []) (ap (λ k. get_or text k 0) is ∙ eqb-true _ _ hit)
 
 -- what a reader shows begins with a line, and it loses the line with the byte that ends it
-pub line_and_rest : (end : ℕ) (bytes held : List ℕ) (offset : ℕ) → StartsWith bytes held → offset ≡ position_or_len (λ b. b == end) held → offset < length held
+pub line_and_rest : (end : ℕ) (bytes held : List ℕ) (offset : ℕ) → StartsWith bytes held → offset ≡ position_or_len (λ b. b == end) held
+    → offset < length held
     → (take offset held ++ end ∷ []) ++ drop (offset + 1) bytes ≡ bytes
 line_and_rest end bytes held offset front is found =
-    ap (λ l. l ++ drop (offset + 1) bytes) (sym (through_end end held offset is found) ∙ ap (take (offset + 1)) (sym front) ∙ take-take (offset + 1) (length held) bytes (omega arith))
+    ap (λ l. l ++ drop (offset + 1) bytes)
+    (sym (through_end end held offset is found) ∙ ap (take (offset + 1)) (sym front)
+    ∙ take-take (offset + 1) (length held) bytes (omega arith))
     ∙ take-append-drop (offset + 1) bytes
 
 -- a reader loses a line that it holds whole, with the byte that ends it
-pub held_line : (end : ℕ) (v : Bool) (rest c : Option (List ℕ)) (held line : List ℕ) (offset : ℕ) → offset ≡ position_or_len (λ b. b == end) held → offset < length held
+pub held_line : (end : ℕ) (v : Bool) (rest c : Option (List ℕ)) (held line : List ℕ) (offset : ℕ)
+    → offset ≡ position_or_len (λ b. b == end) held → offset < length held
     → line ≡ take offset held → DropsConsumable (cond v None (prepend_known held rest)) c (Some (length held)) (offset + 1)
     → Consumes (cond v None (prepend_known held rest)) c (line ++ end ∷ [])
 held_line end true rest c held line offset is found same drops = tt
 held_line end false None c held line offset is found same drops = tt
 held_line end false (Some y) c held line offset is found same drops =
     subst (λ o. Consumes (Some (held ++ y)) o (line ++ end ∷ [])) (sym (drops (omega (arith, found))))
-    (sym (line_and_rest end (held ++ y) held offset (take-append_seam held y) is found) ∙ ap (λ l. (l ++ end ∷ []) ++ drop (offset + 1) (held ++ y)) (sym same))
+    (sym (line_and_rest end (held ++ y) held offset (take-append_seam held y) is found)
+    ∙ ap (λ l. (l ++ end ∷ []) ++ drop (offset + 1) (held ++ y)) (sym same))
 
 -- a whole line without the byte that ends it
 pub stripped : (end : ℕ) (line : List ℕ) → strip_last end (line ++ end ∷ []) ≡ line
@@ -103,7 +110,8 @@ rest_ends end x [] h = refl
 rest_ends end x (y ∷ t) h = is_last end y t (length t) refl ∙ sym (is_last end x (y ∷ t) (length (y ∷ t)) refl) ∙ h
 
 -- where what is read through such a byte doesn't end with one, nothing is left
-dropped_one : (end : ℕ) (x : ℕ) (xs : List ℕ) (b : Bool) → b ≡ (x == end) → ends_with_byte end (cond b (x ∷ []) (x ∷ take_through end xs)) ≡ false
+dropped_one : (end : ℕ) (x : ℕ) (xs : List ℕ) (b : Bool) → b ≡ (x == end)
+    → ends_with_byte end (cond b (x ∷ []) (x ∷ take_through end xs)) ≡ false
     → (ends_with_byte end (take_through end xs) ≡ false → drop_through end xs ≡ []) → cond b xs (drop_through end xs) ≡ []
 dropped_one end x xs true is h more = absurd (false≢true (sym h ∙ is_last end x [] 0 refl ∙ sym is))
 dropped_one end x xs false is h more = more (rest_ends end x (take_through end xs) h)
@@ -112,7 +120,8 @@ dropped : (end : ℕ) (xs : List ℕ) → ends_with_byte end (take_through end x
 dropped end [] ends = refl
 dropped end (x ∷ xs) ends = dropped_one end x xs (x == end) refl ends (dropped end xs)
 
-pub nothing_left : (end : ℕ) (o n : Option (List ℕ)) (before line : List ℕ) → before ≡ [] → IfSome o (λ xs. line ≡ before ++ take_through end xs)
+pub nothing_left : (end : ℕ) (o n : Option (List ℕ)) (before line : List ℕ) → before ≡ []
+    → IfSome o (λ xs. line ≡ before ++ take_through end xs)
     → DropsThrough o n end → ends_with_byte end line ≡ false → IfSome o (λ _. IsAtEnd n)
 nothing_left end None n before line none is drops ends = tt
 nothing_left end (Some xs) n before line none is drops ends =

@@ -11,7 +11,8 @@ use Rattle.uri_commands.specs.Json.{String}
 use Rattle.uri_commands.proofs.JsonLemmas.{escaped_plain, plain_spelled}
 
 -- a string ends at the first quote
-cut_quote : (t u r s : List ℕ) → list_all needs_no_json_escape t ≡ true → list_all needs_no_json_escape u ≡ true → t ++ quote ∷ r ≡ u ++ quote ∷ s → t ≡ u
+cut_quote : (t u r s : List ℕ) → list_all needs_no_json_escape t ≡ true → list_all needs_no_json_escape u ≡ true
+    → t ++ quote ∷ r ≡ u ++ quote ∷ s → t ≡ u
 cut_quote [] [] r s h k e = refl
 cut_quote [] (b ∷ u) r s h k e =
     let same : quote ≡ b = cc in absurd (false≢true (subst (λ x. needs_no_json_escape x ≡ true) (sym same) (and_parts _ _ k).0))

@@ -1,6 +1,6 @@
 -- What is written for lines.
 use Rattle.std.proofs.Common.{◌≡◌, ◌==◌, ℕ, ◌-◌, ◌<◌, Bool, true, false, List, [], ◌∷◌, ◌++◌, Option, Some, None, Result, Ok, Err, IfSome, IfOk, cond, length, take, drop, refl, sym, ap, subst, ◌∙◌, arith, append_assoc, append-nil, eq-eqb, ne_eqb, take_all, take-append-drop, replicate, inl, inr, suc, ◌≢◌, ◌⊎◌}
-use Rattle.std.specs.Prelude.{IsErrAnd, OnErr, OnOk}
+use Rattle.std.specs.Prelude.{IsErrAnd, OnErr}
 use Rattle.std.specs.Io.KnownBytes.{Appends, IsAtEnd, Keeps, prepend_known}
 use Rattle.std.specs.Io.Buffered.{reader_buffer, reader_capacity, reader_inner, reader_remaining}
 use Rattle.std.specs.declared.io.buffered.BufReader.{BufReader}
@@ -31,7 +31,8 @@ use Rattle.uri_commands.proofs.OutputLemmas.{Known}
 abbrev pub Did : (Answer → Type 0) → List ℕ → Outcome → Type 0
 Did Is new outcome = (a : Answer) × Is a × (outcome ≡ outcome_of a) × (new ≡ printed a)
 
-pub did_print : (Is : Answer → Type 0) (old new : List ℕ) (r : Result (Unit {0}) Failure) (u : Unit {0}) → r ≡ Ok u → old ≡ [] → Does Is (Some old) (Some new) r
+pub did_print : (Is : Answer → Type 0) (old new : List ℕ) (r : Result (Unit {0}) Failure) (u : Unit {0}) → r ≡ Ok u → old ≡ []
+    → Does Is (Some old) (Some new) r
     → Did Is new outcomes.Done
 did_print Is old new r u e none h =
     let d = subst (Does Is (Some old) (Some new)) e h in
@@ -54,7 +55,8 @@ prints_nothing (failures.MemoryAtLine n) = refl
 prints_nothing (failures.Input e) = refl
 prints_nothing (failures.Output e) = refl
 
-did_answer : (Is : Answer → Type 0) (old new : List ℕ) (f : Failure) (o : Outcome) → (EndsWork f → ⊥) → o ≡ outcome_of (answer_of f) → old ≡ []
+did_answer : (Is : Answer → Type 0) (old new : List ℕ) (f : Failure) (o : Outcome) → (EndsWork f → ⊥) → o ≡ outcome_of (answer_of f)
+    → old ≡ []
     → EndsWork f ⊎ (Is (answer_of f) × (Some new ≡ Some old)) → Did Is new o
 did_answer Is old new f o goes_on is none (inl ends) = absurd (goes_on ends)
 did_answer Is old new f o goes_on is none (inr given) =
@@ -86,7 +88,8 @@ first_taken end t =
     ∙ append_assoc line (from_first (λ b. b == end) (before newline t)) (from_first (λ b. b == newline) t) in
     ap (take (length line)) whole ∙ take-append_seam line rest
 
-pub ended_cut : (end count : ℕ) (t line : List ℕ) → 0 < length t → line ≡ first_line end t → count ≡ length line → take count t ++ end ∷ [] ≡ ended end t
+pub ended_cut : (end count : ℕ) (t line : List ℕ) → 0 < length t → line ≡ first_line end t → count ≡ length line
+    → take count t ++ end ∷ [] ≡ ended end t
 ended_cut end count t line some is long =
     ap (λ u. u ++ end ∷ []) (ap (λ n. take n t) (long ∙ ap length is) ∙ first_taken end t) ∙ ended_some end t some
 
@@ -99,14 +102,16 @@ longer end b c t =
     is_last end b (c ∷ t) (length (c ∷ t)) refl ∙ sym (is_last end c t (length t) refl) in
     ap (λ v. cond v (take (length (b ∷ c ∷ t) - 1) (b ∷ c ∷ t)) (b ∷ c ∷ t)) same ∙ at (ends_with_byte end (c ∷ t))
   where
-    at : (v : Bool) → cond v (take (length (b ∷ c ∷ t) - 1) (b ∷ c ∷ t)) (b ∷ c ∷ t) ≡ b ∷ cond v (take (length (c ∷ t) - 1) (c ∷ t)) (c ∷ t)
+    at : (v : Bool)
+        → cond v (take (length (b ∷ c ∷ t) - 1) (b ∷ c ∷ t)) (b ∷ c ∷ t) ≡ b ∷ cond v (take (length (c ∷ t) - 1) (c ∷ t)) (c ∷ t)
     at true =
         let more : length (b ∷ c ∷ t) - 1 ≡ suc (length t) = omega arith in
         let less : length (c ∷ t) - 1 ≡ length t = omega arith in
         ap (λ n. take n (b ∷ c ∷ t)) more ∙ sym (ap (λ n. b ∷ take n (c ∷ t)) less)
     at false = refl
 
-longer_through : (end b c : ℕ) (t : List ℕ) (v : Bool) → strip_last end (b ∷ cond v (c ∷ []) (c ∷ t)) ≡ b ∷ strip_last end (cond v (c ∷ []) (c ∷ t))
+longer_through : (end b c : ℕ) (t : List ℕ) (v : Bool)
+    → strip_last end (b ∷ cond v (c ∷ []) (c ∷ t)) ≡ b ∷ strip_last end (cond v (c ∷ []) (c ∷ t))
 longer_through end b c t true = longer end b c []
 longer_through end b c t false = longer end b c t
 
@@ -125,10 +130,12 @@ first_of_more : (end b c : ℕ) (t : List ℕ) (v : Bool) → v ≡ (b == end)
     ≡ strip_last end (cond v (b ∷ []) (b ∷ take_through end (c ∷ t))) ∷ lines_of end (cond v (c ∷ t) (drop_through end (c ∷ t)))
 first_of_more end b c t true is later = ap (λ l. l ∷ lines_of end (c ∷ t)) (one_byte end b true is)
 first_of_more end b c t false is later =
-    ap (onto_first b) later ∙ ap (λ l. l ∷ lines_of end (drop_through end (c ∷ t))) (sym (longer_through end b c (take_through end t) (c == end)))
+    ap (onto_first b) later
+    ∙ ap (λ l. l ∷ lines_of end (drop_through end (c ∷ t))) (sym (longer_through end b c (take_through end t) (c == end)))
 
 -- the lines are the first piece, and the lines of what follows it
-pub first_of : (end : ℕ) (bytes : List ℕ) → 0 < length bytes → lines_of end bytes ≡ first_piece end bytes ∷ lines_of end (drop_through end bytes)
+pub first_of : (end : ℕ) (bytes : List ℕ) → 0 < length bytes
+    → lines_of end bytes ≡ first_piece end bytes ∷ lines_of end (drop_through end bytes)
 first_of end [] some = absurd (omega (arith, some))
 first_of end (b ∷ []) some = first_of_one end b (b == end) refl
 first_of end (b ∷ c ∷ t) some = first_of_more end b c t (b == end) refl (first_of end (c ∷ t) (omega arith))
@@ -165,22 +172,27 @@ prints_plain work line out outcome is did = record {
 }
 
 pub prints_ended : (work : Work) (line old out : List ℕ) (outcome : Outcome) → work.end ≢ newline
-    → ((a : Answer) × AnswersLine work.task line a × (outcome ≡ outcome_of a) × (old ≡ printed a)) → out ≡ ended work.end old → Prints work line out outcome
+    → ((a : Answer) × AnswersLine work.task line a × (outcome ≡ outcome_of a) × (old ≡ printed a)) → out ≡ ended work.end old
+    → Prints work line out outcome
 prints_ended work line old out outcome other did is = record {
   answer = did.0;
   is = did.1;
   outcome_is = did.2;
-  out_is = is ∙ ap (ended work.end) did.3 ∙ sym (ap (λ v. cond v (printed did.0) (ended work.end (printed did.0))) (ne_eqb work.end newline other));
+  out_is =
+      is ∙ ap (ended work.end) did.3
+      ∙ sym (ap (λ v. cond v (printed did.0) (ended work.end (printed did.0))) (ne_eqb work.end newline other));
 }
 
 -- the same of a result
-pub wrote_plain : (work : Work) (line out : List ℕ) (r : Result Outcome Failure) → work.columns ≡ None → IfOk r (λ o. Prints work line out o)
+pub wrote_plain : (work : Work) (line out : List ℕ) (r : Result Outcome Failure) → work.columns ≡ None
+    → IfOk r (λ o. Prints work line out o)
     → IfOk r (λ o. Writes work.columns work line out o)
 wrote_plain work line out (Ok o) none did = subst (λ c. Writes c work line out o) (sym none) did
 wrote_plain work line out (Err f) none did = tt
 
 pub wrote_row : (work : Work) (columns : Columns) (line out : List ℕ) (r : Result Outcome Failure) → work.columns ≡ Some columns
-    → IfOk r (λ o. (row : List ℕ) × IsRow (Gives work) work.end columns.first work.width columns.appends line row o × (out ≡ row ++ work.end ∷ []))
+    → IfOk r (λ o. (row : List ℕ) × IsRow (Gives work) work.end columns.first work.width columns.appends line row o
+    × (out ≡ row ++ work.end ∷ []))
     → IfOk r (λ o. Writes work.columns work line out o)
 wrote_row work columns line out (Ok o) some did =
     subst (λ c. Writes c work line out o) (sym some) (record { row = did.0; is = did.1; out_is = did.2 })
@@ -252,16 +264,20 @@ kept_none a b bytes n none took = by_known a b (subst (λ k. Appends a b (take k
 pub sends_none : (a : Known) (p : List ℕ) → Sends a a p p []
 sends_none a p = record { sent = []; written = Appends-nil a; whole = append-nil p }
 
-pub sends_front : (a b : Known) (p t q : List ℕ) (n : ℕ) → t ≡ p → Appends a b (take n t) → q ≡ drop n p → Sends a b p q []
-sends_front a b p t q n same written left = record {
-  sent = take n p;
-  written = subst (λ l. Appends a b (take n l)) same written;
-  whole = append-nil p ∙ sym (take-append-drop n p) ∙ ap (λ l. take n p ++ l) (sym left);
+pub sends_front : (a b c : Known) (p q t r : List ℕ) (n : ℕ) → Sends a b p q [] → t ≡ q → Appends b c (take n t) → r ≡ drop n q
+    → Sends a c p r []
+sends_front a b c p q t r n s same written left = record {
+  sent = s.sent ++ take n q;
+  written = Appends-trans a b c s.sent (take n q) s.written (subst (λ l. Appends b c (take n l)) same written);
+  whole =
+      s.whole ∙ ap (λ l. s.sent ++ l) (sym (take-append-drop n q) ∙ ap (λ l. take n q ++ l) (sym left))
+      ∙ sym (append_assoc s.sent (take n q) r);
 }
 
-pub sent_all : {E : Type 0} (r : Result (Unit {0}) E) (p t q : List ℕ) (n : ℕ) → t ≡ p → OnOk r (n ≡ length t) → q ≡ drop n p → OnOk r (q ≡ [])
-sent_all (Ok u) p t q n same all left = left ∙ ap (λ k. drop k p) (all ∙ ap length same) ∙ drop_all (length p) p (omega arith)
-sent_all (Err e) p t q n same all left = tt
+pub sends_whole : (a b c : Known) (p q t r : List ℕ) (n : ℕ) → Sends a b p q [] → t ≡ q → Appends b c (take n t) → n ≡ length q → r ≡ []
+    → Sends a c p r []
+sends_whole a b c p q t r n s same written all none =
+    sends_front a b c p q t r n s same written (none ∙ sym (ap (λ k. drop k q) all ∙ drop_all (length q) q (omega arith)))
 
 pub sends_kept : (a b c : Known) (p q x : List ℕ) → Sends a b p q x → Keeps b c → Sends a c p q x
 sends_kept a b c p q x s keeps = record { sent = s.sent; written = Appends-kept a b c s.sent s.written keeps; whole = s.whole }
@@ -306,19 +322,23 @@ pub record Progress (work : Work) (bytes left : List ℕ) (old new : Known) (bef
 -- the same where the input's bytes are known
 abbrev pub Goes : Work → Known → Known → Known → Known → List ℕ → List ℕ → Outcome → Type 0
 Goes work None now old new before after worst = Unit {0}
-Goes work (Some bytes) now old new before after worst = (left : List ℕ) × (now ≡ Some left) × Progress work bytes left old new before after worst
+Goes work (Some bytes) now old new before after worst =
+    (left : List ℕ) × (now ≡ Some left) × Progress work bytes left old new before after worst
 
 pub starts : (work : Work) (bytes old : Known) (before : List ℕ) → Goes work bytes bytes old old before before outcomes.Done
 starts work None old before = tt
 starts work (Some bytes) old before =
     (bytes, refl, record { lines = []; split = refl; puts = record { out = []; outputs = (refl, refl); sends = sends_none old before } })
 
-puts_on : (work : Work) (lines : List (List ℕ)) (a b c : Known) (p q r : List ℕ) (worst : Outcome) → Puts work lines a b p q worst → Sends b c q r []
+puts_on : (work : Work) (lines : List (List ℕ)) (a b c : Known) (p q r : List ℕ) (worst : Outcome) → Puts work lines a b p q worst
+    → Sends b c q r []
     → Puts work lines a c p r worst
-puts_on work lines a b c p q r worst puts s = record { out = puts.out; outputs = puts.outputs; sends = sends_on a b c p q r puts.out puts.sends s }
+puts_on work lines a b c p q r worst puts s =
+    record { out = puts.out; outputs = puts.outputs; sends = sends_on a b c p q r puts.out puts.sends s }
 
 -- more of what is pending goes out
-pub goes_out : (work : Work) (bytes now a b c : Known) (p q r : List ℕ) (worst : Outcome) → Goes work bytes now a b p q worst → Sends b c q r []
+pub goes_out : (work : Work) (bytes now a b c : Known) (p q r : List ℕ) (worst : Outcome) → Goes work bytes now a b p q worst
+    → Sends b c q r []
     → Goes work bytes now a c p r worst
 goes_out work None now a b c p q r worst goes s = tt
 goes_out work (Some bytes) now a b c p q r worst goes s =
@@ -327,9 +347,11 @@ goes_out work (Some bytes) now a b c p q r worst goes s =
 
 -- the output of a line is put
 abbrev pub PutLine : Work → List ℕ → Known → Known → List ℕ → List ℕ → Outcome → Type 0
-PutLine work line old new before after outcome = (bytes : List ℕ) × Writes work.columns work line bytes outcome × Sends old new before after bytes
+PutLine work line old new before after outcome =
+    (bytes : List ℕ) × Writes work.columns work line bytes outcome × Sends old new before after bytes
 
-puts_more : (work : Work) (lines : List (List ℕ)) (line : List ℕ) (a b c : Known) (p q r : List ℕ) (worst here : Outcome) → Puts work lines a b p q worst
+puts_more : (work : Work) (lines : List (List ℕ)) (line : List ℕ) (a b c : Known) (p q r : List ℕ) (worst here : Outcome)
+    → Puts work lines a b p q worst
     → PutLine work line b c q r here → Puts work (lines ++ line ∷ []) a c p r (worse worst here)
 puts_more work lines line a b c p q r worst here puts more = record {
   out = puts.out ++ more.0;
@@ -338,7 +360,8 @@ puts_more work lines line a b c p q r worst here puts more = record {
 }
 
 -- a line is read, and its output is put
-pub goes_on : (work : Work) (bytes now next a b c : Known) (p q r : List ℕ) (worst here : Outcome) (line : List ℕ) → Goes work bytes now a b p q worst
+pub goes_on : (work : Work) (bytes now next a b c : Known) (p q r : List ℕ) (worst here : Outcome) (line : List ℕ)
+    → Goes work bytes now a b p q worst
     → IfSome now (λ xs. line ≡ first_piece work.end xs) → DropsThrough now next work.end → IfSome now (λ xs. 0 < length xs)
     → PutLine work line b c q r here → Goes work bytes next a c p r (worse worst here)
 goes_on work None now next a b c p q r worst here line goes is drops some more = tt
@@ -362,7 +385,8 @@ goes_on work (Some bytes) now next a b c p q r worst here line goes is drops som
 -- the same of what the loop has at hand
 pub goes_further : (work : Work) (bytes now next a b c d : Known) (o p q r : List ℕ) (worst here total : Outcome) (line items : List ℕ)
     → Goes work bytes now a b o p worst → line ≡ items → IfSome now (λ xs. items ≡ first_piece work.end xs) → DropsThrough now next work.end
-    → IfSome now (λ xs. 0 < length xs) → Sends b c p q [] → PutLine work line c d q r here → total ≡ worse worst here → Goes work bytes next a d o r total
+    → IfSome now (λ xs. 0 < length xs) → Sends b c p q [] → PutLine work line c d q r here → total ≡ worse worst here
+    → Goes work bytes next a d o r total
 goes_further work bytes now next a b c d o p q r worst here total line items goes same is drops some s more sum =
     let is_first = subst (λ l. IfSome now (λ xs. l ≡ first_piece work.end xs)) (sym same) is in
     subst (Goes work bytes next a d o r) (sym sum)
@@ -372,7 +396,8 @@ goes_further work bytes now next a b c d o p q r worst here total line items goe
 abbrev pub PutsAll : Work → Known → Known → Known → List ℕ → List ℕ → Outcome → Type 0
 PutsAll work bytes old new before after worst = IfSome bytes (λ xs. Puts work (lines_of work.end xs) old new before after worst)
 
-pub ends : (work : Work) (bytes now a b c : Known) (p q r : List ℕ) (worst : Outcome) → Goes work bytes now a b p q worst → IsAtEnd now → Sends b c q r []
+pub ends : (work : Work) (bytes now a b c : Known) (p q r : List ℕ) (worst : Outcome) → Goes work bytes now a b p q worst → IsAtEnd now
+    → Sends b c q r []
     → PutsAll work bytes a c p r worst
 ends work None now a b c p q r worst goes none s = tt
 ends work (Some bytes) now a b c p q r worst goes none s =
@@ -392,7 +417,8 @@ finishes work (Some bytes) now next a b d o p r worst total before goes none =
 abbrev pub PutsFirst : Work → Known → Known → Known → List ℕ → List ℕ → Type 0
 PutsFirst work bytes old new before after = IfSome bytes (λ xs. PutsSome work (lines_of work.end xs) old new before after)
 
-pub stops : (work : Work) (bytes now a b c : Known) (p q r : List ℕ) (worst : Outcome) → Goes work bytes now a b p q worst → Sends b c q r []
+pub stops : (work : Work) (bytes now a b c : Known) (p q r : List ℕ) (worst : Outcome) → Goes work bytes now a b p q worst
+    → Sends b c q r []
     → PutsFirst work bytes a c p r
 stops work None now a b c p q r worst goes s = tt
 stops work (Some bytes) now a b c p q r worst goes s =
@@ -437,8 +463,14 @@ pub stopped : (work : Work) (bytes a b c : Known) (o p q : List ℕ) (r : Result
     → IfSome bytes (λ xs. (unsent : List ℕ) × PutsSome work (lines_of work.end xs) a c [] unsent)
 stopped work None a b c o p q r none puts s = tt
 stopped work (Some bytes) a b c o p q r none puts s =
-    let some = some_put work bytes a b [] p r (subst (λ t. PutsOrStops work bytes a b t p r) none puts) in
-    (q, record { count = some.count; worst = some.worst; puts = puts_on work (take some.count (lines_of work.end bytes)) a b c [] p q some.worst some.puts s })
+    let some = some_put work bytes a b [] p r (subst (λ t. PutsOrStops work bytes a b t p r) none puts) in (
+      q,
+      record {
+        count = some.count;
+        worst = some.worst;
+        puts = puts_on work (take some.count (lines_of work.end bytes)) a b c [] p q some.worst some.puts s;
+      },
+    )
 
 pub all_put : (work : Work) (bytes a b c : Known) (o p q : List ℕ) (r : Result Outcome Failure) (worst : Outcome) → r ≡ Ok worst → o ≡ []
     → IfSome bytes (λ xs. PutsOrStops work xs a b o p r) → Sends b c p q [] → q ≡ [] → PutsAll work bytes a c [] [] worst
@@ -455,16 +487,19 @@ on_err (Err e) x = x
 -- ---- buffers
 
 -- a reader that has read nothing yet has all that its inner reader has
-pub fresh_reader : {T A : Type 0} (remaining : T → Option (List ℕ)) (made : BufReader T A) (inner : T) → reader_inner made ≡ inner → reader_buffer made ≡ []
+pub fresh_reader : {T A : Type 0} (remaining : T → Option (List ℕ)) (made : BufReader T A) (inner : T) → reader_inner made ≡ inner
+    → reader_buffer made ≡ []
     → reader_capacity made ≡ 65536 → reader_remaining remaining made ≡ remaining inner
 fresh_reader remaining made inner is empty capacity =
     ap (λ n. cond (n == 0) None (prepend_known (reader_buffer made) (remaining (reader_inner made)))) capacity
-    ∙ ap (λ bs. prepend_known bs (remaining (reader_inner made))) empty ∙ prepend_known-nil (remaining (reader_inner made)) ∙ ap remaining is
+    ∙ ap (λ bs. prepend_known bs (remaining (reader_inner made))) empty ∙ prepend_known-nil (remaining (reader_inner made))
+    ∙ ap remaining is
 
 -- ---- a run
 
 ran_so : (task : Task) (columns : Option Columns) (end : ℕ) (work : Work) (bytes : List ℕ) (a b : Known) (worst : Outcome) (status : ℕ)
-    → IsWork task columns end work → status ≡ status_of worst → Puts work (lines_of work.end bytes) a b [] [] worst → Runs task columns end bytes a b status
+    → IsWork task columns end work → status ≡ status_of worst → Puts work (lines_of work.end bytes) a b [] [] worst
+    → Runs task columns end bytes a b status
 ran_so task columns end work bytes a b worst status is status_is puts = record {
   work = work;
   is = is;
@@ -475,7 +510,8 @@ ran_so task columns end work bytes a b worst status is status_is puts = record {
   status_is = status_is;
 }
 
-stopped_so : (task : Task) (columns : Option Columns) (end : ℕ) (work : Work) (bytes rest : List ℕ) (a b : Known) → IsWork task columns end work
+stopped_so : (task : Task) (columns : Option Columns) (end : ℕ) (work : Work) (bytes rest : List ℕ) (a b : Known)
+    → IsWork task columns end work
     → PutsSome work (lines_of work.end bytes) a b [] rest → Stops task columns end bytes a b
 stopped_so task columns end work bytes rest a b is some =
     let s = some.puts.sends in
@@ -501,7 +537,8 @@ ran task columns end work (Some bytes) known a b worst status is same status_is 
     ran_so task columns end work bytes a b worst status is status_is (subst (λ o. PutsAll work o a b [] [] worst) same puts)
 
 pub cut_off : (task : Task) (columns : Option Columns) (end : ℕ) (work : Work) (now known a b : Known) (f : Failure)
-    → IsWork task columns end work → known ≡ now → EndsWork f → IfSome known (λ xs. (unsent : List ℕ) × PutsSome work (lines_of work.end xs) a b [] unsent)
+    → IsWork task columns end work → known ≡ now → EndsWork f
+    → IfSome known (λ xs. (unsent : List ℕ) × PutsSome work (lines_of work.end xs) a b [] unsent)
     → IfSome now (λ bytes. EndsWork f × Stops task columns end bytes a b)
 cut_off task columns end work None known a b f is same ends puts = tt
 cut_off task columns end work (Some bytes) known a b f is same ends puts =
@@ -509,7 +546,8 @@ cut_off task columns end work (Some bytes) known a b f is same ends puts =
     (ends, stopped_so task columns end work bytes some.0 a b is some.1)
 
 -- no line was read
-not_started : (task : Task) (columns : Option Columns) (end : ℕ) (work : Work) (now a : Known) (f : Failure) → IsWork task columns end work → EndsWork f
+not_started : (task : Task) (columns : Option Columns) (end : ℕ) (work : Work) (now a : Known) (f : Failure) → IsWork task columns end work
+    → EndsWork f
     → IfSome now (λ bytes. EndsWork f × Stops task columns end bytes a a)
 not_started task columns end work now a f is ends = cut_off task columns end work now now a a f is refl ends (unput work now a)
 
@@ -517,4 +555,5 @@ pub never_started : (task : Task) (columns : Option Columns) (end : ℕ) (work :
     → IsErrAnd r (λ g. g ≡ f) → EndsWork f → IsWork task columns end work → IfSome now (λ bytes. RunsOrStops task columns end bytes a a r)
 never_started task columns end work None a f r is ends of = tt
 never_started task columns end work (Some bytes) a f (Ok v) is ends of = absurd is
-never_started task columns end work (Some bytes) a f (Err g) is ends of = not_started task columns end work (Some bytes) a g of (subst EndsWork (sym is) ends)
+never_started task columns end work (Some bytes) a f (Err g) is ends of =
+    not_started task columns end work (Some bytes) a g of (subst EndsWork (sym is) ends)

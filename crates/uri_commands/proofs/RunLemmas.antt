@@ -1,17 +1,19 @@
 -- The words of commands.
 use Rattle.std.proofs.Common.{◌⊎◌, ℕ, ◌<◌, ◌≤◌, ◌≡◌, zero, suc, Bool, true, false, List, [], ◌∷◌, ◌++◌, map, length, get_or, Option, Some, None, Result, Ok, Err, inl, inr, refl, sym, ap, subst, ◌∙◌, arith}
+use Rattle.std.specs.Bool.{MatchBool}
 use Rattle.std.specs.Borrow.{Bor}
 use Rattle.std.specs.Option.{option_and_then, option_map}
-use Rattle.std.specs.Prelude.{IfSome, MatchOption, MatchResult, OnOk, bytes_eq, codes}
+use Rattle.std.specs.Prelude.{IfSome, MatchOption, MatchResult, bytes_eq, codes}
 use Rattle.std.specs.Io.KnownBytes.{Appends}
-use Rattle.std.proofs.KnownBytes.{Appends-trans}
+use Rattle.std.proofs.lemmas.Bool.{false≢true}
 use Rattle.std.proofs.lemmas.List.{append-nil}
 use Rattle.uriparse.specs.PathError.TheVariants.{OutOfMemory}
 use Rattle.uriparse.specs.URIReferenceError.{URIReferenceError}
 use Rattle.uriparse.specs.URIReferenceError.TheVariants as references
-use Rattle.uri_commands.specs.Output.{Answer, AnswersNamed, AnswersTo, ChecksEqual, Does, DoesAtOnce, Ends, EndsWork, Finds, Gave, Tails, Writes, Negative, Printed, Rejected, Unknown, answer_of, status_of, Answers, when◌answers◌else◌, part_of, parts_of, GetsEach, GetsNames, GetsParts, parts_named}
+use Rattle.uri_commands.specs.Options.{Request, asked}
+use Rattle.uri_commands.specs.Output.{Answer, AnswersNamed, AnswersTo, ChecksEqual, Does, DoesAtOnce, Ends, EndsWork, Finds, Gave, Tails, Writes, Negative, Printed, Rejected, Unknown, answer_of, exit_status, Answers, when◌then◌else◌, part_of, parts_of, GetsEach, GetsNames, GetsParts, parts_named}
 use Rattle.uri_commands.specs.Outputs.{Sends}
-use Rattle.uri_commands.specs.Tasks.{LinesEnd, LinesEndWith}
+use Rattle.uri_commands.specs.Tasks.{CommandEnds, LinesEnd, LinesEndWith, ProgramEnds}
 use Rattle.uri_commands.specs.declared.failure.Failure.{Failure}
 use Rattle.uri_commands.specs.declared.failure.Failure.TheVariants as failures
 use Rattle.uri_commands.specs.declared.get.Part.{Part}
@@ -19,16 +21,6 @@ use Rattle.uri_commands.specs.declared.options.Options.{Options}
 use Rattle.uri_commands.specs.declared.options.Mode.{Mode}
 use Rattle.uri_commands.specs.declared.options.Mode.TheVariants as modes
 use Rattle.uri_commands.proofs.OutputLemmas.{Done, Known, answered, ended, found_nothing}
-
--- ---- writes, one after another
-
-pub more_written : (a b c : Known) (t : List ℕ) → ((x : List ℕ) × Appends a b x) → Appends b c t → (x : List ℕ) × Appends a c x
-more_written a b c t before now = (before.0 ++ t, Appends-trans a b c before.0 t before.1 now)
-
-pub last_written : {E : Type 0} (r : Result (Unit {0}) E) (a b c : Known) (t : List ℕ) → ((x : List ℕ) × Appends a b x) → OnOk r (Appends b c t)
-    → OnOk r ((x : List ℕ) × Appends a c x)
-last_written (Ok v) a b c t before now = more_written a b c t before now
-last_written (Err e) a b c t before now = tt
 
 -- ---- names of parts
 
@@ -79,7 +71,7 @@ quietly_equal mode name first second x y a b r quiet named one two found kept =
 
 -- ---- too many texts
 
-either : (is : Bool) (Is Other : Answer → Type 0) (a : Answer) → Is a → Other a → (when is answers Is else Other) a
+pub either : {A : Type 0} (is : Bool) (Is Other : A → Type 0) (a : A) → Is a → Other a → (when is then Is else Other) a
 either true Is Other a first second = first
 either false Is Other a first second = second
 
@@ -121,7 +113,7 @@ too_many mode name (x ∷ y ∷ z ∷ more) long = many mode name x.now y.now z.
 
 -- ---- the program
 
-ended_rejected : (f : Failure) → EndsWork f → status_of (answer_of f) ≡ 1
+ended_rejected : (f : Failure) → EndsWork f → exit_status (answer_of f) ≡ 1
 ended_rejected failures.Usage ends = absurd ends
 ended_rejected (failures.Reference e) ends = refl
 ended_rejected (failures.Uri e) ends = refl
@@ -155,24 +147,18 @@ nothing_printed bytes (failures.MemoryAtLine n) same = cc
 nothing_printed bytes (failures.Input e) same = cc
 nothing_printed bytes (failures.Output e) same = cc
 
-gave : (answer : Answer) (a : Known) (status : ℕ) (f : Failure) → answer ≡ answer_of f → status ≡ status_of answer → Gave answer a a status
+gave : (answer : Answer) (a : Known) (status : ℕ) (f : Failure) → answer ≡ answer_of f → status ≡ exit_status answer → Gave answer a a status
 gave (Printed bytes) a status f of is = absurd (nothing_printed bytes f of)
 gave Rejected a status f of is = (refl, is)
 gave Negative a status f of is = (refl, is)
 gave Unknown a status f of is = (refl, is)
 
 pub ended_so : (Is : Answer → Type 0) (a b : Known) (r : Result ℕ Failure) (status : ℕ) → DoesAtOnce Is a b r
-    → MatchResult r (λ s. status ≡ s) (λ f. status ≡ status_of (answer_of f)) → Ends Is a b status
+    → MatchResult r (λ s. status ≡ s) (λ f. status ≡ exit_status (answer_of f)) → Ends Is a b status
 ended_so Is a b (Ok s) status done is = inl (Printed done.0, done.1, (done.2, is ∙ done.3))
 ended_so Is a b (Err f) status (inl ends) is = inr (is ∙ ended_rejected f ends.0, ends.1)
 ended_so Is a b (Err f) status (inr answer) is =
     inl (answer_of f, answer.0, subst (λ x. Gave (answer_of f) a x status) (sym answer.1) (gave (answer_of f) a status f refl is))
-
-pub ended_for : (read options : Options) (words : List (List ℕ)) (name : List ℕ) (texts : List (List ℕ)) (a b : Known) (status : ℕ) → read ≡ options
-    → words ≡ name ∷ texts → (read.reads_lines ≡ false → Ends (Answers read words) a b status) → options.reads_lines ≡ false
-    → Ends (Answers options (name ∷ texts)) a b status
-ended_for read options words name texts a b status same are ends none =
-    subst (λ ws. Ends (Answers options ws) a b status) are (subst (λ o. o.reads_lines ≡ false → Ends (Answers o words) a b status) same ends none)
 
 pub nothing_done : (Is : Answer → Type 0) (x y : Known) (f g : Failure) (a b : Known) (r : Result ℕ Failure) → Does Is x y (Err f)
     → (g ≡ f) ⊎ (EndsWork f × EndsWork g) → r ≡ Err g → b ≡ a → DoesAtOnce Is a b r
@@ -193,28 +179,51 @@ written_partly Is all after f a b r done sends ends is =
     let whole : all ≡ sends.sent ++ after = sym (append-nil all) ∙ sends.whole in
     subst (DoesAtOnce Is a b) (sym is) (inl (ends, inr (sends.sent, after, subst (λ x. Is (Printed x)) (sym done.2 ∙ whole) done.1, sends.written)))
 
-pub nothing_answered : (Is : Answer → Type 0) (f : Failure) (a b : Known) (status : ℕ) → EndsWork f → status ≡ status_of (answer_of f) → b ≡ a → Ends Is a b status
-nothing_answered Is f a b status ends is kept = inr (is ∙ ended_rejected f ends, inl kept)
+-- ---- the program's end
 
--- ---- lines
-
-pub lines_ended : (known : Known) (options : Options) (words : List (List ℕ)) (a b : Known) (r : Result ℕ Failure) (status : ℕ)
-    → IfSome known (λ bytes. LinesEnd options words bytes a b r) → MatchResult r (λ done. status ≡ done) (λ f. status ≡ status_of (answer_of f))
+lines_ended_in : (known : Known) (options : Options) (words : List (List ℕ)) (a b : Known) (r : Result ℕ Failure) (status : ℕ)
+    → IfSome known (λ bytes. LinesEnd options words bytes a b r) → MatchResult r (λ done. status ≡ done) (λ f. status ≡ exit_status (answer_of f))
     → IfSome known (λ bytes. LinesEndWith options words bytes a b status)
-lines_ended None options words a b r status ends is = tt
-lines_ended (Some bytes) options words a b r status ends is = (r, ends, is)
+lines_ended_in None options words a b r status ends is = tt
+lines_ended_in (Some bytes) options words a b r status ends is = (r, ends, is)
 
-pub lines_unread : (known : Known) (options : Options) (words : List (List ℕ)) (f : Failure) (a b : Known) (status : ℕ) → EndsWork f
-    → status ≡ status_of (answer_of f) → b ≡ a → IfSome known (λ bytes. LinesEndWith options words bytes a b status)
-lines_unread None options words f a b status ends is kept = tt
-lines_unread (Some bytes) options words f a b status ends is kept = (Err f, inr (inl ends, kept), is)
+-- what holds with --lines, and what does without
+by_lines : (is : Bool) {P Q : Type 0} → (is ≡ true → P) → (is ≡ false → Q) → MatchBool is P Q
+by_lines true p q = p refl
+by_lines false p q = q refl
 
-pub lines_ended_for : (known : Known) (read options : Options) (words : List (List ℕ)) (name : List ℕ) (texts : List (List ℕ)) (a b : Known) (status : ℕ)
-    → read ≡ options → words ≡ name ∷ texts → (read.reads_lines ≡ true → IfSome known (λ bytes. LinesEndWith read words bytes a b status))
-    → options.reads_lines ≡ true → IfSome known (λ bytes. LinesEndWith options (name ∷ texts) bytes a b status)
-lines_ended_for known read options words name texts a b status same are ends reads =
-    subst (λ ws. IfSome known (λ bytes. LinesEndWith options ws bytes a b status)) are
-    (subst (λ o. o.reads_lines ≡ true → IfSome known (λ bytes. LinesEndWith o words bytes a b status)) same ends reads)
+pub lines_ended : (known : Known) (options : Options) (words : List (List ℕ)) (a b : Known) (r : Result ℕ Failure) (status : ℕ) → options.reads_lines ≡ true
+    → IfSome known (λ bytes. LinesEnd options words bytes a b r) → MatchResult r (λ done. status ≡ done) (λ f. status ≡ exit_status (answer_of f))
+    → CommandEnds options words known a b status
+lines_ended known options words a b r status reads ends is =
+    by_lines options.reads_lines (λ _. lines_ended_in known options words a b r status ends is) (λ none. absurd (false≢true (sym none ∙ reads)))
+
+pub answer_ended : (known : Known) (options : Options) (words : List (List ℕ)) (a b : Known) (r : Result ℕ Failure) (status : ℕ) → options.reads_lines ≡ false
+    → DoesAtOnce (Answers options words) a b r → MatchResult r (λ done. status ≡ done) (λ f. status ≡ exit_status (answer_of f))
+    → CommandEnds options words known a b status
+answer_ended known options words a b r status none done is =
+    by_lines options.reads_lines (λ reads. absurd (false≢true (sym none ∙ reads))) (λ _. ended_so (Answers options words) a b r status done is)
+
+-- the words asked for these options and this command
+pub asked_for : (words command : List (List ℕ)) (options : Options) (known a b : Known) (status : ℕ) → asked words ≡ record { options = options; command = command }
+    → CommandEnds options command known a b status → ProgramEnds words known a b status
+asked_for words command options known a b status is ends =
+    subst (λ (r : Request). CommandEnds r.options r.command known a b status) (sym is) ends
+
+nothing_answered : (Is : Answer → Type 0) (f : Failure) (a : Known) (status : ℕ) → EndsWork f → status ≡ exit_status (answer_of f) → Ends Is a a status
+nothing_answered Is f a status ends is = inr (is ∙ ended_rejected f ends, inl refl)
+
+lines_unread : (known : Known) (options : Options) (words : List (List ℕ)) (f : Failure) (a : Known) (status : ℕ) → EndsWork f
+    → status ≡ exit_status (answer_of f) → IfSome known (λ bytes. LinesEndWith options words bytes a a status)
+lines_unread None options words f a status ends is = tt
+lines_unread (Some bytes) options words f a status ends is = (Err f, inr (inl ends, refl), is)
+
+-- the words were not read, since the work ended
+pub nothing_read : (words : List (List ℕ)) (f : Failure) (known a : Known) (status : ℕ) → EndsWork f → status ≡ exit_status (answer_of f)
+    → ProgramEnds words known a a status
+nothing_read words f known a status ends is = by_lines (asked words).options.reads_lines
+    (λ _. lines_unread known (asked words).options (asked words).command f a status ends is)
+    (λ _. nothing_answered (Answers (asked words).options (asked words).command) f a status ends is)
 
 -- ---- tails
 

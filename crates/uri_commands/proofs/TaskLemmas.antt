@@ -1,5 +1,5 @@
 -- Which task the words of --lines name.
-use Rattle.std.proofs.Common.{◌⊎◌, ℕ, ◌≡◌, Bool, true, false, List, [], ◌∷◌, length, Option, Some, None, IfSome, Result, Ok, Err, inl, inr, refl, sym, ap, subst, ◌∙◌}
+use Rattle.std.proofs.Common.{◌⊎◌, ℕ, ◌≡◌, true, List, [], ◌∷◌, length, Option, Some, None, IfSome, Result, Ok, Err, inl, inr, refl, sym, ap, subst, ◌∙◌}
 use Rattle.std.specs.declared.alloc.Global.{Global}
 use Rattle.std.specs.Prelude.{MatchOption, MatchResult, Vec, bytes_eq, codes, is_some}
 use Rattle.uriparse.specs.Host as host
@@ -15,7 +15,7 @@ use Rattle.uriparse.specs.declared.uri.error.URIError.TheVariants as uris
 use Rattle.uri_commands.specs.Edits.{Edit, edits_of}
 use Rattle.uri_commands.specs.Output.{EndsWork, NamesNone, ReadsChanges, ReadsEdits, Rejected, Unknown, answer_of, parts_named}
 use Rattle.uri_commands.specs.Outputs.{RunsOrStops}
-use Rattle.uri_commands.specs.Tasks.{Edits, EditsEach, Gets, GetsEach, HasHostWithin, IsWithin, LinesEnd, Named, OfUri, Reads, Relativizes, Resolves, Tasks, TasksNamed, TasksTo, when◌names◌else◌}
+use Rattle.uri_commands.specs.Tasks.{LinesEnd, Named, NamesEdit, NamesEdits, NamesFor, NamesGet, NamesHostWithin, NamesParts, NamesRelativize, NamesResolve, NamesWithin, Reads, Tasks, TasksNamed, TasksTo}
 use Rattle.uri_commands.specs.declared.commands.Task.{Task}
 use Rattle.uri_commands.specs.declared.commands.Task.TheVariants as tasks
 use Rattle.uri_commands.specs.declared.edit.Step.{Step}
@@ -26,6 +26,7 @@ use Rattle.uri_commands.specs.declared.options.Mode.{Mode}
 use Rattle.uri_commands.specs.declared.options.Mode.TheVariants as modes
 use Rattle.uri_commands.specs.declared.options.Options.{Options}
 use Rattle.uri_commands.proofs.OutputLemmas.{Known}
+use Rattle.uri_commands.proofs.RunLemmas.{either}
 
 abbrev pub Read : Type 0
 Read = Result Task Failure
@@ -33,88 +34,84 @@ Read = Result Task Failure
 -- ---- a base
 
 pub base_rejected : (t : List ℕ) (task : Parts → Task) (e : URIError) (r : Read) → fault_of true map_error uris.NotURI t ≡ Some e → r ≡ Err (failures.Uri e)
-    → Reads (OfUri t task) r
-base_rejected t task e r wrong is = subst (Reads (OfUri t task)) (sym is) (inr (inr (e, wrong, refl)))
+    → Reads (NamesFor t task) r
+base_rejected t task e r wrong is = subst (Reads (NamesFor t task)) (sym is) (inr (inr (e, wrong, refl)))
 
 pub resolves : (t : List ℕ) (base : Viewed) (r : Read) → base.text ≡ t → Spells t base.parts → is_some base.parts.scheme ≡ true → r ≡ Ok (tasks.Resolve base)
-    → Reads (Resolves t) r
+    → Reads (NamesResolve t) r
 resolves t base r text spelled schemed is =
-    subst (Reads (Resolves t)) (sym is) (inl (base.parts, spelled, schemed, ap (λ x. Ok (tasks.Resolve (record { text = x; parts = base.parts }))) text))
+    subst (Reads (NamesResolve t)) (sym is) (inl (base.parts, spelled, schemed, ap (λ x. Ok (tasks.Resolve (record { text = x; parts = base.parts }))) text))
 
 pub is_within : (t : List ℕ) (base : Viewed) (r : Read) → base.text ≡ t → Spells t base.parts → is_some base.parts.scheme ≡ true → r ≡ Ok (tasks.Within base)
-    → Reads (IsWithin t) r
+    → Reads (NamesWithin t) r
 is_within t base r text spelled schemed is =
-    subst (Reads (IsWithin t)) (sym is) (inl (base.parts, spelled, schemed, ap (λ x. Ok (tasks.Within (record { text = x; parts = base.parts }))) text))
+    subst (Reads (NamesWithin t)) (sym is) (inl (base.parts, spelled, schemed, ap (λ x. Ok (tasks.Within (record { text = x; parts = base.parts }))) text))
 
-pub relativizes : (t : List ℕ) (base : Parts) (r : Read) → Spells t base → is_some base.scheme ≡ true → r ≡ Ok (tasks.Relativize base) → Reads (Relativizes t) r
-relativizes t base r spelled schemed is = subst (Reads (Relativizes t)) (sym is) (inl (base, spelled, schemed, refl))
+pub relativizes : (t : List ℕ) (base : Parts) (r : Read) → Spells t base → is_some base.scheme ≡ true → r ≡ Ok (tasks.Relativize base) → Reads (NamesRelativize t) r
+relativizes t base r spelled schemed is = subst (Reads (NamesRelativize t)) (sym is) (inl (base, spelled, schemed, refl))
 
 pub not_relativized : (t : List ℕ) (e : URIError) (r : Read) → (fault_of true map_error uris.NotURI t ≡ Some e) ⊎ (e ≡ uris.Path OutOfMemory)
-    → r ≡ Err (failures.Uri e) → Reads (Relativizes t) r
+    → r ≡ Err (failures.Uri e) → Reads (NamesRelativize t) r
 not_relativized t e r (inl wrong) is = base_rejected t (λ p. tasks.Relativize p) e r wrong is
-not_relativized t e r (inr memory) is = subst (Reads (Relativizes t)) (sym is) (inl memory)
+not_relativized t e r (inr memory) is = subst (Reads (NamesRelativize t)) (sym is) (inl memory)
 
 -- ---- a domain
 
-pub domain_read : (t : List ℕ) (d : Host) (r : Read) → host.reading t ≡ Ok d → r ≡ Ok (tasks.HostWithin d) → Reads (HasHostWithin t) r
+pub domain_read : (t : List ℕ) (d : Host) (r : Read) → host.reading t ≡ Ok d → r ≡ Ok (tasks.HostWithin d) → Reads (NamesHostWithin t) r
 domain_read t d r read is =
-    subst (Reads (HasHostWithin t)) (sym is)
+    subst (Reads (NamesHostWithin t)) (sym is)
     (subst (λ x. MatchResult x (λ h. ◌≡◌ {A = Named} (Ok (tasks.HostWithin d)) (Ok (tasks.HostWithin h))) (λ e. ◌≡◌ {A = Named} (Ok (tasks.HostWithin d)) (Err Rejected))) (sym read) refl)
 
-pub domain_rejected : (t : List ℕ) (x : HostError) (f : Failure) (r : Read) → host.reading t ≡ Err x → answer_of f ≡ Rejected → r ≡ Err f → Reads (HasHostWithin t) r
+pub domain_rejected : (t : List ℕ) (x : HostError) (f : Failure) (r : Read) → host.reading t ≡ Err x → answer_of f ≡ Rejected → r ≡ Err f → Reads (NamesHostWithin t) r
 domain_rejected t x f r read rejected is =
-    subst (Reads (HasHostWithin t)) (sym is)
+    subst (Reads (NamesHostWithin t)) (sym is)
     (inr (subst (λ y. MatchResult y (λ h. ◌≡◌ {A = Named} (Err (answer_of f)) (Ok (tasks.HostWithin h))) (λ e. ◌≡◌ {A = Named} (Err (answer_of f)) (Err Rejected))) (sym read) (ap Err rejected)))
 
 -- ---- get
 
-pub gets_one : (words : List ℕ) (ps : List Part) (p : Part) (r : Read) → parts_named words ≡ Some ps → ps ≡ p ∷ [] → r ≡ Ok (tasks.Get p) → Reads (Gets words) r
+pub gets_one : (words : List ℕ) (ps : List Part) (p : Part) (r : Read) → parts_named words ≡ Some ps → ps ≡ p ∷ [] → r ≡ Ok (tasks.Get p) → Reads (NamesGet words) r
 gets_one words ps p r named one is =
-    subst (Reads (Gets words)) (sym is)
-    (subst (λ o. MatchOption o (◌≡◌ {A = Named} (Ok (tasks.Get p)) (Err Unknown)) (λ l. GetsEach l (Ok (tasks.Get p)))) (sym (named ∙ ap Some one)) refl)
+    subst (Reads (NamesGet words)) (sym is)
+    (subst (λ o. MatchOption o (◌≡◌ {A = Named} (Ok (tasks.Get p)) (Err Unknown)) (λ l. NamesParts l (Ok (tasks.Get p)))) (sym (named ∙ ap Some one)) refl)
 
 pub gets_several : (words : List ℕ) (parts : Vec Part Global) → parts_named words ≡ Some parts.items → (length parts.items ≡ 1 → ⊥)
-    → Gets words (Ok (tasks.GetParts parts))
+    → NamesGet words (Ok (tasks.GetParts parts))
 gets_several words parts named several =
-    subst (λ o. MatchOption o (◌≡◌ {A = Named} (Ok (tasks.GetParts parts)) (Err Unknown)) (λ l. GetsEach l (Ok (tasks.GetParts parts)))) (sym named)
+    subst (λ o. MatchOption o (◌≡◌ {A = Named} (Ok (tasks.GetParts parts)) (Err Unknown)) (λ l. NamesParts l (Ok (tasks.GetParts parts)))) (sym named)
     (by_parts parts.items refl several)
   where
-    by_parts : (l : List Part) → parts.items ≡ l → (length l ≡ 1 → ⊥) → GetsEach l (Ok (tasks.GetParts parts))
+    by_parts : (l : List Part) → parts.items ≡ l → (length l ≡ 1 → ⊥) → NamesParts l (Ok (tasks.GetParts parts))
     by_parts [] e s = (parts, e, refl)
     by_parts (p ∷ []) e s = absurd (s refl)
     by_parts (p ∷ q ∷ l) e s = (parts, e, refl)
 
-pub gets_none : (words : List ℕ) (f : Failure) (r : Read) → EndsWork f ⊎ ((parts_named words ≡ None) × (f ≡ failures.Usage)) → r ≡ Err f → Reads (Gets words) r
-gets_none words f r (inl ends) is = subst (Reads (Gets words)) (sym is) (inl ends)
+pub gets_none : (words : List ℕ) (f : Failure) (r : Read) → EndsWork f ⊎ ((parts_named words ≡ None) × (f ≡ failures.Usage)) → r ≡ Err f → Reads (NamesGet words) r
+gets_none words f r (inl ends) is = subst (Reads (NamesGet words)) (sym is) (inl ends)
 gets_none words f r (inr none) is =
-    subst (Reads (Gets words)) (sym is)
-    (inr (subst (λ o. MatchOption o (◌≡◌ {A = Named} (Err (answer_of f)) (Err Unknown)) (λ l. GetsEach l (Err (answer_of f)))) (sym none.0) (ap (λ g. Err (answer_of g)) none.1)))
+    subst (Reads (NamesGet words)) (sym is)
+    (inr (subst (λ o. MatchOption o (◌≡◌ {A = Named} (Err (answer_of f)) (Err Unknown)) (λ l. NamesParts l (Err (answer_of f)))) (sym none.0) (ap (λ g. Err (answer_of g)) none.1)))
 
 -- ---- edit
 
-pub reads_steps : (words : List (List ℕ)) (steps : Vec Step Global) (r : Read) → ReadsEdits words (Ok steps) → r ≡ Ok (tasks.Edit steps) → Reads (Edits words) r
-reads_steps words steps r reads is = subst (Reads (Edits words)) (sym is) (found (edits_of words) reads)
+pub reads_steps : (words : List (List ℕ)) (steps : Vec Step Global) (r : Read) → ReadsEdits words (Ok steps) → r ≡ Ok (tasks.Edit steps) → Reads (NamesEdit words) r
+reads_steps words steps r reads is = subst (Reads (NamesEdit words)) (sym is) (found (edits_of words) reads)
   where
     found : (o : Option (List Edit)) → MatchOption o (NamesNone (Ok steps)) (λ es. ReadsChanges es (Ok steps))
-        → MatchOption o (◌≡◌ {A = Named} (Ok (tasks.Edit steps)) (Err Unknown)) (λ es. EditsEach es (Ok (tasks.Edit steps)))
+        → MatchOption o (◌≡◌ {A = Named} (Ok (tasks.Edit steps)) (Err Unknown)) (λ es. NamesEdits es (Ok (tasks.Edit steps)))
     found None none = absurd none
     found (Some es) makes = inl (steps, makes, refl)
 
-pub reads_no_steps : (words : List (List ℕ)) (f : Failure) (r : Read) → ReadsEdits words (Err f) → r ≡ Err f → Reads (Edits words) r
-reads_no_steps words f r reads is = subst (Reads (Edits words)) (sym is) (found (edits_of words) reads)
+pub reads_no_steps : (words : List (List ℕ)) (f : Failure) (r : Read) → ReadsEdits words (Err f) → r ≡ Err f → Reads (NamesEdit words) r
+reads_no_steps words f r reads is = subst (Reads (NamesEdit words)) (sym is) (found (edits_of words) reads)
   where
     found : (o : Option (List Edit)) → MatchOption o (NamesNone (Err f)) (λ es. ReadsChanges es (Err f))
-        → EndsWork f ⊎ MatchOption o (◌≡◌ {A = Named} (Err (answer_of f)) (Err Unknown)) (λ es. EditsEach es (Err (answer_of f)))
+        → EndsWork f ⊎ MatchOption o (◌≡◌ {A = Named} (Err (answer_of f)) (Err Unknown)) (λ es. NamesEdits es (Err (answer_of f)))
     found None (inl ends) = inl ends
     found None (inr usage) = inr (ap (λ g. Err (answer_of g)) usage)
     found (Some es) (inl ends) = inl ends
     found (Some es) (inr rejected) = inr (inr (rejected.1, ap Err rejected.0))
 
 -- ---- no task
-
-either : (is : Bool) (Is Other : Named → Type 0) (n : Named) → Is n → Other n → (when is names Is else Other) n
-either true Is Other n first second = first
-either false Is Other n first second = second
 
 -- with such options no command takes a word
 other_mode : (mode : Mode) (name t : List ℕ) (more : List (List ℕ)) → (mode ≡ modes.Plain → ⊥) → TasksTo mode name (t ∷ more) (Err Unknown)
@@ -126,8 +123,8 @@ other_mode modes.DropDefaultPort name t more other = either (bytes_eq name (code
 other_mode modes.Mixed name t more other = refl
 
 -- no command takes two words
-plain_many : (name t u : List ℕ) (more : List (List ℕ)) → TasksNamed name (t ∷ u ∷ more) (Err Unknown)
-plain_many name t u more =
+named_many : (name t u : List ℕ) (more : List (List ℕ)) → TasksNamed name (t ∷ u ∷ more) (Err Unknown)
+named_many name t u more =
     (either (bytes_eq name (codes "parse")) _ _ _ refl
     (either (bytes_eq name (codes "get")) _ _ _ refl
     (either (bytes_eq name (codes "normalize")) _ _ _ refl
@@ -141,7 +138,7 @@ plain_many name t u more =
     refl))))))))))
 
 pub many : (mode : Mode) (name t u : List ℕ) (more : List (List ℕ)) → TasksTo mode name (t ∷ u ∷ more) (Err Unknown)
-many modes.Plain name t u more = plain_many name t u more
+many modes.Plain name t u more = named_many name t u more
 many modes.Json name t u more = other_mode modes.Json name t (u ∷ more) (λ e. let no : ⊥ = cc in no)
 many modes.Quiet name t u more = other_mode modes.Quiet name t (u ∷ more) (λ e. let no : ⊥ = cc in no)
 many modes.Trim name t u more = other_mode modes.Trim name t (u ∷ more) (λ e. let no : ⊥ = cc in no)

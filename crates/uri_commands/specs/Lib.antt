@@ -1,5 +1,6 @@
 pub mod Columns
 pub mod Edits
+pub mod Help
 pub mod Json
 pub mod Lines
 pub mod Options

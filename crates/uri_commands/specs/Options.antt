@@ -1,6 +1,9 @@
 -- The options among the words of a command.
-use Rattle.std.specs.Prelude.{◌≡◌, ℕ, Bool, true, false, ◌==◌, ◌⊎◌, not, List, [], ◌∷◌, ◌++◌, bytes_eq, codes, if◌then◌else◌, Option, Some, None, unwrap_or}
-use Rattle.std.specs.Option.{option_and_then}
+use Rattle.std.specs.Prelude.{ℕ, zero, suc, ◌^◌, nat_lt, Bool, true, false, ◌==◌, ◌&&◌, not, List, [], ◌∷◌, bytes_eq, codes, if◌then◌else◌, Option, Some, None, unwrap_or}
+use Rattle.std.specs.Char.{is_ascii_digit}
+use Rattle.std.specs.List.{list_all}
+use Rattle.std.specs.Option.{option_and_then, option_map}
+use Rattle.std.specs.Str.Parse.{digits_value, without_leading_plus}
 use Rattle.uri_commands.specs.Lines.{newline}
 use Rattle.uri_commands.specs.declared.columns.Columns.{Columns}
 use Rattle.uri_commands.specs.declared.options.Mode.{Mode}
@@ -42,15 +45,66 @@ with_option o word =
     else if bytes_eq word (codes "--append") then Some (record o { columns = Some (record (columns_of o) { appends = true }) })
     else None
 
--- the same of the first of the words
-abbrev pub first_option : Options → List (List ℕ) → Option Options
-first_option o [] = None
-first_option o (word ∷ words) = with_option o word
+-- ---- --column K
 
--- the options with all of these, if each word is one
-abbrev pub with_options : List (List ℕ) → Options → Option Options
-with_options [] o = Some o
-with_options (word ∷ words) o = option_and_then (with_options words) (with_option o word)
+-- the number that decimal digits write, if it is below 2^64
+abbrev pub number_of : List ℕ → Option ℕ
+number_of [] = None
+number_of (digit ∷ digits) =
+    if list_all is_ascii_digit (digit ∷ digits) && nat_lt (digits_value 10 (digit ∷ digits)) (2 ^ 64)
+    then Some (digits_value 10 (digit ∷ digits))
+    else None
+
+-- how many fields precede the column of this number, which counts from 1
+abbrev pub fields_before : ℕ → Option ℕ
+fields_before zero = None
+fields_before (suc k) = Some k
+
+-- the same of a word, in which a `+` may precede the digits
+abbrev pub column_of : List ℕ → Option ℕ
+column_of word = option_and_then fields_before (number_of (without_leading_plus word))
+
+-- the options with the column of the number that this word is
+abbrev pub with_column : Options → List ℕ → Option Options
+with_column o word = option_map (λ k. record o { columns = Some (record (columns_of o) { first = Some k }) }) (column_of word)
+
+-- ---- options, and a command
+
+-- the options with those at the front of these words, and the words that follow them
+abbrev pub read : Options → List (List ℕ) → Options × List (List ℕ)
+read o [] = (o, [])
+read o (word ∷ []) = unwrap_or (option_map (λ p. (p, [])) (with_option o word)) (o, word ∷ [])
+read o (word ∷ next ∷ words) =
+    unwrap_or
+    (if bytes_eq word (codes "--column")
+    then option_map (λ p. read p words) (with_column o next)
+    else option_map (λ p. read p (next ∷ words)) (with_option o word))
+    (o, word ∷ next ∷ words)
+
+-- what words ask for: options, and a command, which is a name and texts
+pub record Request : Type 0 where
+  pub options : Options
+  pub command : List (List ℕ)
+
+-- the words without a first `--`
+abbrev pub unmarked : List (List ℕ) → List (List ℕ)
+unmarked [] = []
+unmarked (word ∷ words) = if bytes_eq word (codes "--") then words else word ∷ words
+
+-- What words ask for that follow these options: a name, options and texts, perhaps with a `--` before the texts. After a `--` before the name no
+-- word is an option, nor is one after `help`.
+abbrev pub request : Options → List (List ℕ) → Request
+request o [] = record { options = o; command = [] }
+request o (name ∷ words) =
+    if bytes_eq name (codes "--") then record { options = o; command = words }
+    else if bytes_eq name (codes "help") then record { options = o; command = name ∷ words }
+    else record { options = (read o words).0; command = name ∷ unmarked (read o words).1 }
+
+-- what the words that follow the program's name ask for: any words ask for something
+abbrev pub asked : List (List ℕ) → Request
+asked words = request (read none words).0 (read none words).1
+
+-- ---- words without options
 
 -- the word doesn't begin with a `-`
 abbrev pub is_plain : List ℕ → Bool
@@ -62,38 +116,17 @@ abbrev pub starts_plain : List (List ℕ) → Bool
 starts_plain [] = true
 starts_plain (word ∷ words) = is_plain word
 
--- no option begins these words: the first doesn't begin with a `-`, or it is `--`, which ends the options
-abbrev pub StartsWithoutOption : List (List ℕ) → Type 0
-StartsWithoutOption [] = Unit {0}
-StartsWithoutOption (word ∷ words) = (is_plain word ≡ true) ⊎ (word ≡ codes "--")
-
--- what precedes the texts: a `--`, or nothing if the first text doesn't begin with a `-`
-abbrev pub IsDelimiter : List (List ℕ) → List (List ℕ) → Type 0
-IsDelimiter [] texts = starts_plain texts ≡ true
-IsDelimiter (word ∷ []) texts = word ≡ codes "--"
-IsDelimiter words texts = ⊥
-
--- The words are options, the name of a command, more options, and texts. What follows `help` is no option.
-pub record Asks (words : List (List ℕ)) (options : Options) (name : List ℕ) (texts : List (List ℕ)) : Type 0 where
-  pub before : List (List ℕ)
-  pub after : List (List ℕ)
-  pub delimiter : List (List ℕ)
-  pub whole : words ≡ before ++ name ∷ (after ++ (delimiter ++ texts))
-  pub first : Options
-  pub before_is : with_options before none ≡ Some first
-  pub after_is : with_options after first ≡ Some options
-  pub is_name : is_plain name ≡ true
-  pub are_texts : IsDelimiter delimiter texts
-  pub of_help : bytes_eq name (codes "help") ≡ true → (after ≡ []) × (delimiter ≡ [])
-
 -- ---- words of private functions' clauses alone
 
--- the words without a first `--`
-abbrev pub unmarked : List (List ℕ) → List (List ℕ)
-unmarked [] = []
-unmarked (word ∷ words) = if bytes_eq word (codes "--") then words else word ∷ words
+-- the options with the column of the first of these words
+abbrev pub with_column_in : Options → List (List ℕ) → Option Options
+with_column_in o [] = None
+with_column_in o (word ∷ words) = with_column o word
 
--- what is read of words: the options, and in two parts the name and the texts
-pub record IsRead (options : Options) (name : List ℕ) (texts : List (List ℕ)) (read : Options) (front back : List (List ℕ)) : Type 0 where
-  pub options_are : read ≡ options
-  pub words_are : front ++ unmarked back ≡ name ∷ texts
+-- the options with the one that these words begin with, if one does, and how many words it takes
+abbrev pub first_option : Options → List (List ℕ) → Option (Options × ℕ)
+first_option o [] = None
+first_option o (word ∷ words) =
+    if bytes_eq word (codes "--column")
+    then option_map (λ p. (p, 2)) (with_column_in o words)
+    else option_map (λ p. (p, 1)) (with_option o word)

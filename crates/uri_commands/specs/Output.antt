@@ -45,6 +45,7 @@ use Rattle.uriparse.specs.declared.uri.error.URIError.{URIError}
 use Rattle.uriparse.specs.declared.uri.error.URIError.TheVariants as uris
 use Rattle.uri_commands.specs.Columns.{tab}
 use Rattle.uri_commands.specs.Edits.{Edit, all_made, edits_of, steps_made}
+use Rattle.uri_commands.specs.Help.{page_on, summaries, version}
 use Rattle.uri_commands.specs.Json.{kind_name, object}
 use Rattle.uri_commands.specs.Lines.{newline}
 use Rattle.uri_commands.specs.declared.commands.Task.{Task}
@@ -92,11 +93,15 @@ IfSo Is inside outside a = (Is × (a ≡ inside)) ⊎ ((Is → ⊥) × (a ≡ ou
 abbrev pub OfReference : List ℕ → (Parts → Answer → Type 0) → Answer → Type 0
 OfReference t Is a = ((p : Parts) × Spells t p × Is p a) ⊎ ((e : URIReferenceError) × (fault t ≡ Some e) × (a ≡ Rejected))
 
--- the answer to a text that is to be a URI
-abbrev pub OfUri : List ℕ → (Parts → Answer → Type 0) → Answer → Type 0
-OfUri t Is a =
+-- what comes of a text that is to be a URI, or else this
+abbrev pub OfUriOr : {A : Type 0} → A → List ℕ → (Parts → A → Type 0) → A → Type 0
+OfUriOr rejected t Is a =
     ((p : Parts) × Spells t p × (is_some p.scheme ≡ true) × Is p a)
-    ⊎ ((e : URIError) × (fault_of true map_error uris.NotURI t ≡ Some e) × (a ≡ Rejected))
+    ⊎ ((e : URIError) × (fault_of true map_error uris.NotURI t ≡ Some e) × (a ≡ rejected))
+
+-- the answer to such a text
+abbrev pub OfUri : List ℕ → (Parts → Answer → Type 0) → Answer → Type 0
+OfUri t Is a = OfUriOr Rejected t Is a
 
 -- the answer to a line of two texts, with the first tab between them
 abbrev pub OfPair : List ℕ → (List ℕ → List ℕ → Answer → Type 0) → Answer → Type 0
@@ -377,10 +382,10 @@ AnswersLine tasks.EscapeLink t = EscapesLink t
 -- ---- words
 
 -- the one relation if the test is true, and else the other
-infix 5 when◌answers◌else◌
-abbrev pub when◌answers◌else◌ : Bool → (Answer → Type 0) → (Answer → Type 0) → Answer → Type 0
-(when true answers Is else Other) a = Is a
-(when false answers Is else Other) a = Other a
+infix 5 when◌then◌else◌
+abbrev pub when◌then◌else◌ : {A : Type 0} → Bool → (A → Type 0) → (A → Type 0) → A → Type 0
+(when true then Is else Other) a = Is a
+(when false then Is else Other) a = Other a
 
 -- no command has these words
 abbrev pub IsUnknown : Answer → Type 0
@@ -388,18 +393,18 @@ IsUnknown a = a ≡ Unknown
 
 -- get NAMES, and get file
 abbrev pub GetsNamed : List ℕ → List ℕ → Answer → Type 0
-GetsNamed names t = when bytes_eq names (codes "file") answers GetsFile t else GetsNames names t
+GetsNamed names t = when bytes_eq names (codes "file") then GetsFile t else GetsNames names t
 
--- some bytes, of which nothing is said here
-abbrev pub PrintsSome : Answer → Type 0
-PrintsSome a = (bytes : List ℕ) × (a ≡ Printed bytes)
+-- exactly these bytes
+abbrev pub PrintsBytes : List ℕ → Answer → Type 0
+PrintsBytes bytes a = a ≡ Printed bytes
 
--- help on a command or an option; what help says is not said here
+-- help: what there is, or the page on a command or an option
 abbrev pub HelpsOn : List ℕ → Answer → Type 0
-HelpsOn name a = PrintsSome a ⊎ (a ≡ Unknown)
+HelpsOn name a = MatchOption (page_on name) (a ≡ Unknown) (λ page. a ≡ Printed page)
 
 abbrev pub Helps : List (List ℕ) → Answer → Type 0
-Helps [] = PrintsSome
+Helps [] = PrintsBytes summaries
 Helps (name ∷ []) = HelpsOn name
 Helps texts = IsUnknown
 
@@ -424,41 +429,41 @@ OnEdits (t ∷ edits) = Edits t edits
 -- the command of this name, of so many texts as it takes
 abbrev pub AnswersNamed : List ℕ → List (List ℕ) → Answer → Type 0
 AnswersNamed name texts =
-    when bytes_eq name (codes "parse") answers OnText Parses texts else
-    when bytes_eq name (codes "tail") answers OnText Tails texts else
-    when bytes_eq name (codes "get") answers OnTexts GetsNamed texts else
-    when bytes_eq name (codes "normalize") answers OnText Normalizes texts else
-    when bytes_eq name (codes "equal") answers OnTexts Compares texts else
-    when bytes_eq name (codes "resolve") answers OnTexts Resolves texts else
-    when bytes_eq name (codes "relativize") answers OnTexts Relativizes texts else
-    when bytes_eq name (codes "decode") answers OnText Decodes texts else
-    when bytes_eq name (codes "encode") answers OnTexts Encodes texts else
-    when bytes_eq name (codes "escape") answers OnText Escapes texts else
-    when bytes_eq name (codes "pairs") answers OnText Pairs texts else
-    when bytes_eq name (codes "pair") answers OnTexts GetsPair texts else
-    when bytes_eq name (codes "within") answers OnTexts Within texts else
-    when bytes_eq name (codes "host-within") answers OnTexts HostWithin texts else
-    when bytes_eq name (codes "file") answers OnText Files texts else
-    when bytes_eq name (codes "help") answers Helps texts else
-    when bytes_eq name (codes "--help") answers OnNothing PrintsSome texts else
-    when bytes_eq name (codes "--version") answers OnNothing PrintsSome texts else
+    when bytes_eq name (codes "parse") then OnText Parses texts else
+    when bytes_eq name (codes "tail") then OnText Tails texts else
+    when bytes_eq name (codes "get") then OnTexts GetsNamed texts else
+    when bytes_eq name (codes "normalize") then OnText Normalizes texts else
+    when bytes_eq name (codes "equal") then OnTexts Compares texts else
+    when bytes_eq name (codes "resolve") then OnTexts Resolves texts else
+    when bytes_eq name (codes "relativize") then OnTexts Relativizes texts else
+    when bytes_eq name (codes "decode") then OnText Decodes texts else
+    when bytes_eq name (codes "encode") then OnTexts Encodes texts else
+    when bytes_eq name (codes "escape") then OnText Escapes texts else
+    when bytes_eq name (codes "pairs") then OnText Pairs texts else
+    when bytes_eq name (codes "pair") then OnTexts GetsPair texts else
+    when bytes_eq name (codes "within") then OnTexts Within texts else
+    when bytes_eq name (codes "host-within") then OnTexts HostWithin texts else
+    when bytes_eq name (codes "file") then OnText Files texts else
+    when bytes_eq name (codes "help") then Helps texts else
+    when bytes_eq name (codes "--help") then OnNothing (PrintsBytes summaries) texts else
+    when bytes_eq name (codes "--version") then OnNothing (PrintsBytes version) texts else
     IsUnknown
 
 -- the same with these options
 abbrev pub AnswersTo : Mode → List ℕ → List (List ℕ) → Answer → Type 0
 AnswersTo modes.Plain name texts = AnswersNamed name texts
-AnswersTo modes.Json name texts = when bytes_eq name (codes "parse") answers OnText ParsesJson texts else IsUnknown
+AnswersTo modes.Json name texts = when bytes_eq name (codes "parse") then OnText ParsesJson texts else IsUnknown
 AnswersTo modes.Quiet name texts =
-    when bytes_eq name (codes "parse") answers OnText Checks texts else
-    when bytes_eq name (codes "equal") answers OnTexts ChecksEqual texts else
+    when bytes_eq name (codes "parse") then OnText Checks texts else
+    when bytes_eq name (codes "equal") then OnTexts ChecksEqual texts else
     IsUnknown
-AnswersTo modes.Trim name texts = when bytes_eq name (codes "escape") answers OnText EscapesLink texts else IsUnknown
-AnswersTo modes.DropDefaultPort name texts = when bytes_eq name (codes "normalize") answers OnText NormalizesPort texts else IsUnknown
+AnswersTo modes.Trim name texts = when bytes_eq name (codes "escape") then OnText EscapesLink texts else IsUnknown
+AnswersTo modes.DropDefaultPort name texts = when bytes_eq name (codes "normalize") then OnText NormalizesPort texts else IsUnknown
 AnswersTo modes.Mixed name texts = IsUnknown
 
 -- the same of each command
 abbrev pub AnswersAny : Mode → List ℕ → List (List ℕ) → Answer → Type 0
-AnswersAny modes.Plain name texts = when bytes_eq name (codes "edit") answers OnEdits texts else AnswersNamed name texts
+AnswersAny modes.Plain name texts = when bytes_eq name (codes "edit") then OnEdits texts else AnswersNamed name texts
 AnswersAny mode name texts = AnswersTo mode name texts
 
 -- whether an option is there that only --lines takes
@@ -482,7 +487,7 @@ AnswersWords mode (name ∷ texts) = AnswersAny mode name texts
 
 -- the answer to these words that follow these options, without --lines
 abbrev pub Answers : Options → List (List ℕ) → Answer → Type 0
-Answers options words = when is_for_lines options || not (may_explain options words) answers IsUnknown else AnswersWords options.mode words
+Answers options words = when is_for_lines options || not (may_explain options words) then IsUnknown else AnswersWords options.mode words
 
 -- ---- what was done
 
@@ -541,11 +546,11 @@ abbrev pub Ends : (Answer → Type 0) → Option (List ℕ) → Option (List ℕ
 Ends Is old new status = ((a : Answer) × Is a × Gave a old new status) ⊎ ((status ≡ 1) × Starts Is old new)
 
 -- the status of an answer
-abbrev pub status_of : Answer → ℕ
-status_of (Printed bytes) = 0
-status_of Rejected = 1
-status_of Negative = 3
-status_of Unknown = 2
+abbrev pub exit_status : Answer → ℕ
+exit_status (Printed bytes) = 0
+exit_status Rejected = 1
+exit_status Negative = 3
+exit_status Unknown = 2
 
 -- ---- words of private functions' clauses alone
 

@@ -1,15 +1,13 @@
 -- Which task the words of --lines name, in the order of docs/PROGRAM.md.
-use Rattle.std.specs.Prelude.{◌≡◌, ◌⊎◌, ℕ, ◌&&◌, ◌||◌, Bool, true, false, not, List, [], ◌∷◌, bytes_eq, codes, Option, Some, None, is_some, Result, Ok, Err, MatchOption, MatchResult, Vec}
+use Rattle.std.specs.Prelude.{◌≡◌, ◌⊎◌, ℕ, ◌&&◌, ◌||◌, Bool, true, false, not, List, [], ◌∷◌, bytes_eq, codes, Option, Some, None, is_some, IfSome, Result, Ok, Err, MatchOption, MatchResult, Vec}
+use Rattle.std.specs.Bool.{MatchBool}
 use Rattle.std.specs.Borrow.{Bor}
 use Rattle.std.specs.declared.alloc.Global.{Global}
 use Rattle.uriparse.specs.Host as host
-use Rattle.uriparse.specs.Kinds.{fault_of}
-use Rattle.uriparse.specs.Reference.{Parts, Spells}
-use Rattle.uriparse.specs.Uri.{map_error}
-use Rattle.uriparse.specs.declared.uri.error.URIError.{URIError}
-use Rattle.uriparse.specs.declared.uri.error.URIError.TheVariants as uris
+use Rattle.uriparse.specs.Reference.{Parts}
 use Rattle.uri_commands.specs.Edits.{Edit, all_made, edits_of, steps_made}
-use Rattle.uri_commands.specs.Output.{Answer, EndsWork, Rejected, Unknown, answer_of, may_explain, parts_named, status_of}
+use Rattle.uri_commands.specs.Options.{asked}
+use Rattle.uri_commands.specs.Output.{Answer, Answers, Ends, EndsWork, OfUriOr, Rejected, Unknown, answer_of, exit_status, may_explain, parts_named, when◌then◌else◌}
 use Rattle.uri_commands.specs.Outputs.{RunsOrStops}
 use Rattle.uri_commands.specs.declared.commands.Task.{Task}
 use Rattle.uri_commands.specs.declared.commands.Task.TheVariants as tasks
@@ -24,102 +22,94 @@ use Rattle.uri_commands.specs.declared.options.Options.{Options}
 abbrev pub Named : Type 0
 Named = Result Task Answer
 
--- the one relation if the test is true, and else the other
-infix 5 when◌names◌else◌
-abbrev pub when◌names◌else◌ : Bool → (Named → Type 0) → (Named → Type 0) → Named → Type 0
-(when true names Is else Other) n = Is n
-(when false names Is else Other) n = Other n
-
 -- no command has these words
-abbrev pub IsUnknown : Named → Type 0
-IsUnknown n = n ≡ Err Unknown
+abbrev pub NamesNothing : Named → Type 0
+NamesNothing n = n ≡ Err Unknown
 
 -- this task
-abbrev pub Does : Task → Named → Type 0
-Does task n = n ≡ Ok task
+abbrev pub Names : Task → Named → Type 0
+Names task n = n ≡ Ok task
 
 -- the task for a text that is to be a URI
-abbrev pub OfUri : List ℕ → (Parts → Task) → Named → Type 0
-OfUri t task n =
-    ((p : Parts) × Spells t p × (is_some p.scheme ≡ true) × Does (task p) n)
-    ⊎ ((e : URIError) × (fault_of true map_error uris.NotURI t ≡ Some e) × (n ≡ Err Rejected))
+abbrev pub NamesFor : List ℕ → (Parts → Task) → Named → Type 0
+NamesFor t task n = OfUriOr (Err Rejected) t (λ p. Names (task p)) n
 
 -- get NAMES: one part, or several
-abbrev pub GetsEach : List Part → Named → Type 0
-GetsEach (p ∷ []) n = Does (tasks.Get p) n
-GetsEach ps n = (parts : Vec Part Global) × (parts.items ≡ ps) × Does (tasks.GetParts parts) n
+abbrev pub NamesParts : List Part → Named → Type 0
+NamesParts (p ∷ []) n = Names (tasks.Get p) n
+NamesParts ps n = (parts : Vec Part Global) × (parts.items ≡ ps) × Names (tasks.GetParts parts) n
 
-abbrev pub Gets : List ℕ → Named → Type 0
-Gets words n = MatchOption (parts_named words) (IsUnknown n) (λ ps. GetsEach ps n)
+abbrev pub NamesGet : List ℕ → Named → Type 0
+NamesGet words n = MatchOption (parts_named words) (NamesNothing n) (λ ps. NamesParts ps n)
 
 -- resolve BASE
-abbrev pub Resolves : List ℕ → Named → Type 0
-Resolves base = OfUri base (λ p. tasks.Resolve (record { text = base; parts = p }))
+abbrev pub NamesResolve : List ℕ → Named → Type 0
+NamesResolve base = NamesFor base (λ p. tasks.Resolve (record { text = base; parts = p }))
 
 -- relativize BASE
-abbrev pub Relativizes : List ℕ → Named → Type 0
-Relativizes base = OfUri base (λ p. tasks.Relativize p)
+abbrev pub NamesRelativize : List ℕ → Named → Type 0
+NamesRelativize base = NamesFor base (λ p. tasks.Relativize p)
 
 -- pair NAME
-abbrev pub GetsPair : List ℕ → Named → Type 0
-GetsPair t n = (name : Bor (List ℕ)) × (name.now ≡ t) × Does (tasks.Pair name) n
+abbrev pub NamesPair : List ℕ → Named → Type 0
+NamesPair t n = (name : Bor (List ℕ)) × (name.now ≡ t) × Names (tasks.Pair name) n
 
 -- within BASE
-abbrev pub IsWithin : List ℕ → Named → Type 0
-IsWithin base = OfUri base (λ p. tasks.Within (record { text = base; parts = p }))
+abbrev pub NamesWithin : List ℕ → Named → Type 0
+NamesWithin base = NamesFor base (λ p. tasks.Within (record { text = base; parts = p }))
 
 -- host-within DOMAIN
-abbrev pub HasHostWithin : List ℕ → Named → Type 0
-HasHostWithin domain n = MatchResult (host.reading domain) (λ d. Does (tasks.HostWithin d) n) (λ e. n ≡ Err Rejected)
+abbrev pub NamesHostWithin : List ℕ → Named → Type 0
+NamesHostWithin domain n = MatchResult (host.reading domain) (λ d. Names (tasks.HostWithin d) n) (λ e. n ≡ Err Rejected)
 
 -- edit EDIT..: steps that make what the edits make, unless these are rejected whatever the reference is
-abbrev pub EditsEach : List Edit → Named → Type 0
-EditsEach es n =
-    ((steps : Vec Step Global) × ((p : Parts) → steps_made steps.items p ≡ all_made es p) × Does (tasks.Edit steps) n)
+abbrev pub NamesEdits : List Edit → Named → Type 0
+NamesEdits es n =
+    ((steps : Vec Step Global) × ((p : Parts) → steps_made steps.items p ≡ all_made es p) × Names (tasks.Edit steps) n)
     ⊎ (((p : Parts) → all_made es p ≡ None) × (n ≡ Err Rejected))
 
-abbrev pub Edits : List (List ℕ) → Named → Type 0
-Edits words n = MatchOption (edits_of words) (IsUnknown n) (λ es. EditsEach es n)
+abbrev pub NamesEdit : List (List ℕ) → Named → Type 0
+NamesEdit words n = MatchOption (edits_of words) (NamesNothing n) (λ es. NamesEdits es n)
 
 -- a command with no word, or with one
 abbrev pub Alone : (Named → Type 0) → List (List ℕ) → Named → Type 0
 Alone Is [] = Is
-Alone Is texts = IsUnknown
+Alone Is texts = NamesNothing
 
 abbrev pub OnWord : (List ℕ → Named → Type 0) → List (List ℕ) → Named → Type 0
 OnWord Is (t ∷ []) = Is t
-OnWord Is texts = IsUnknown
+OnWord Is texts = NamesNothing
 
 -- the command of this name, but not `edit`, with so many words as it takes
 abbrev pub TasksNamed : List ℕ → List (List ℕ) → Named → Type 0
 TasksNamed name texts =
-    when bytes_eq name (codes "parse") names Alone (Does tasks.Parse) texts else
-    when bytes_eq name (codes "get") names OnWord Gets texts else
-    when bytes_eq name (codes "normalize") names Alone (Does tasks.Normalize) texts else
-    when bytes_eq name (codes "equal") names Alone (Does tasks.Equal) texts else
-    when bytes_eq name (codes "resolve") names OnWord Resolves texts else
-    when bytes_eq name (codes "relativize") names OnWord Relativizes texts else
-    when bytes_eq name (codes "escape") names Alone (Does tasks.Escape) texts else
-    when bytes_eq name (codes "pair") names OnWord GetsPair texts else
-    when bytes_eq name (codes "within") names OnWord IsWithin texts else
-    when bytes_eq name (codes "host-within") names OnWord HasHostWithin texts else
-    IsUnknown
+    when bytes_eq name (codes "parse") then Alone (Names tasks.Parse) texts else
+    when bytes_eq name (codes "get") then OnWord NamesGet texts else
+    when bytes_eq name (codes "normalize") then Alone (Names tasks.Normalize) texts else
+    when bytes_eq name (codes "equal") then Alone (Names tasks.Equal) texts else
+    when bytes_eq name (codes "resolve") then OnWord NamesResolve texts else
+    when bytes_eq name (codes "relativize") then OnWord NamesRelativize texts else
+    when bytes_eq name (codes "escape") then Alone (Names tasks.Escape) texts else
+    when bytes_eq name (codes "pair") then OnWord NamesPair texts else
+    when bytes_eq name (codes "within") then OnWord NamesWithin texts else
+    when bytes_eq name (codes "host-within") then OnWord NamesHostWithin texts else
+    NamesNothing
 
 -- the same with these options
 abbrev pub TasksTo : Mode → List ℕ → List (List ℕ) → Named → Type 0
 TasksTo modes.Plain name texts = TasksNamed name texts
-TasksTo modes.Json name texts = when bytes_eq name (codes "parse") names Alone (Does tasks.Parse) texts else IsUnknown
+TasksTo modes.Json name texts = when bytes_eq name (codes "parse") then Alone (Names tasks.Parse) texts else NamesNothing
 TasksTo modes.Quiet name texts =
-    when bytes_eq name (codes "parse") names Alone (Does tasks.Check) texts else
-    when bytes_eq name (codes "equal") names Alone (Does tasks.CheckEqual) texts else
-    IsUnknown
-TasksTo modes.Trim name texts = when bytes_eq name (codes "escape") names Alone (Does tasks.EscapeLink) texts else IsUnknown
-TasksTo modes.DropDefaultPort name texts = when bytes_eq name (codes "normalize") names Alone (Does tasks.NormalizePort) texts else IsUnknown
-TasksTo modes.Mixed name texts = IsUnknown
+    when bytes_eq name (codes "parse") then Alone (Names tasks.Check) texts else
+    when bytes_eq name (codes "equal") then Alone (Names tasks.CheckEqual) texts else
+    NamesNothing
+TasksTo modes.Trim name texts = when bytes_eq name (codes "escape") then Alone (Names tasks.EscapeLink) texts else NamesNothing
+TasksTo modes.DropDefaultPort name texts = when bytes_eq name (codes "normalize") then Alone (Names tasks.NormalizePort) texts else NamesNothing
+TasksTo modes.Mixed name texts = NamesNothing
 
 -- the same of each command
 abbrev pub TasksAny : Mode → List ℕ → List (List ℕ) → Named → Type 0
-TasksAny modes.Plain name texts = when bytes_eq name (codes "edit") names Edits texts else TasksNamed name texts
+TasksAny modes.Plain name texts = when bytes_eq name (codes "edit") then NamesEdit texts else TasksNamed name texts
 TasksAny mode name texts = TasksTo mode name texts
 
 -- --quiet takes no columns
@@ -128,13 +118,13 @@ is_quiet modes.Quiet = true
 is_quiet mode = false
 
 abbrev pub TasksOf : Mode → List (List ℕ) → Named → Type 0
-TasksOf mode [] = IsUnknown
+TasksOf mode [] = NamesNothing
 TasksOf mode (name ∷ texts) = TasksAny mode name texts
 
 -- what these words that follow these options come to, with --lines
 abbrev pub Tasks : Options → List (List ℕ) → Named → Type 0
 Tasks options words =
-    when not (may_explain options words) || (is_quiet options.mode && is_some options.columns) names IsUnknown else TasksOf options.mode words
+    when not (may_explain options words) || (is_quiet options.mode && is_some options.columns) then NamesNothing else TasksOf options.mode words
 
 -- what was read of words, unless memory ran out
 abbrev pub Reads : (Named → Type 0) → Result Task Failure → Type 0
@@ -158,4 +148,17 @@ LinesEnd options words bytes old new result =
 abbrev pub LinesEndWith : Options → List (List ℕ) → List ℕ → Option (List ℕ) → Option (List ℕ) → ℕ → Type 0
 LinesEndWith options words bytes old new status =
     (result : Result ℕ Failure) × LinesEnd options words bytes old new result
-    × MatchResult result (λ done. status ≡ done) (λ f. status ≡ status_of (answer_of f))
+    × MatchResult result (λ done. status ≡ done) (λ f. status ≡ exit_status (answer_of f))
+
+-- ---- the program
+
+-- How the program ends with these options and this command, on an input of these bytes, if they are known. Only --lines reads the input.
+abbrev pub CommandEnds : Options → List (List ℕ) → Option (List ℕ) → Option (List ℕ) → Option (List ℕ) → ℕ → Type 0
+CommandEnds options command input old new status =
+    MatchBool options.reads_lines
+    (IfSome input (λ bytes. LinesEndWith options command bytes old new status))
+    (Ends (Answers options command) old new status)
+
+-- the same with any words that follow the program's name
+abbrev pub ProgramEnds : List (List ℕ) → Option (List ℕ) → Option (List ℕ) → Option (List ℕ) → ℕ → Type 0
+ProgramEnds words = CommandEnds (asked words).options (asked words).command

@@ -12,13 +12,13 @@ use std::io;
 use std::io::Write;
 use uriparse_text::internal::{split_at_delimiter, without_delimiter};
 
-pub static ABOUT_ALIGN: Topic = Topic {
-    name: "--align",
-    summary: "\
+pub static ABOUT_ALIGN: Topic = (
+    "--align",
+    "\
 uri --align --lines COMMAND
                       one line for each line, an empty one if it is rejected
 ",
-    page: "\
+    "\
 uri --lines --align COMMAND
 
 Prints exactly one line for each line of the standard input, so that the output
@@ -36,16 +36,16 @@ prints
 
     //d/
 ",
-};
+);
 
-pub static ABOUT_COLUMN: Topic = Topic {
-    name: "--column",
-    summary: "\
+pub static ABOUT_COLUMN: Topic = (
+    "--column",
+    "\
 uri --column K --lines COMMAND
                       each line has fields with tabs between them: reads the
                       K-th, and prints the line with the result in its place
 ",
-    page: "\
+    "\
 uri --lines --column K COMMAND
 uri --lines --column K --append COMMAND
 uri --lines --append COMMAND
@@ -68,15 +68,15 @@ Example:
 prints
     a\thttp://h:8/x\th\t8
 ",
-};
+);
 
-pub static ABOUT_APPEND: Topic = Topic {
-    name: "--append",
-    summary: "\
+pub static ABOUT_APPEND: Topic = (
+    "--append",
+    "\
 uri --append --lines COMMAND
                       each line with the result as one more field
 ",
-    page: "\
+    "\
 uri --lines --append COMMAND
 uri --lines --column K --append COMMAND
 
@@ -92,15 +92,15 @@ Example:
 prints
     HTTP://a\thttp://a/
 ",
-};
+);
 
-pub static ABOUT_NULL: Topic = Topic {
-    name: "--null",
-    summary: "\
+pub static ABOUT_NULL: Topic = (
+    "--null",
+    "\
 uri --null --lines COMMAND, uri -0 --lines COMMAND
                       lines end with a NUL byte, in and out
 ",
-    page: "\
+    "\
 uri --lines --null COMMAND
 uri --lines -0 COMMAND
 
@@ -118,7 +118,7 @@ prints
     http://a/
     http://b/
 ",
-};
+);
 
 /// Which fields of a line are read, and where the result stands.
 #[derive(Clone, Copy)]
@@ -129,9 +129,9 @@ pub struct Columns {
     pub appends: bool,
 }
 
-/// A line, cut before and after the text that is read.
+/// The fields of a line: those before the text that is read, the text, and those after it.
 #[derive(Clone, Copy)]
-pub struct Cut<'l> {
+pub struct Fields<'l> {
     pub front: &'l [u8],
     pub text: &'l [u8],
     pub back: &'l [u8],
@@ -157,7 +157,7 @@ fn split_fields(line: &[u8], count: usize) -> Option<(&[u8], &[u8])>
 
 /// Cuts a line around the text of so many fields that follows the first ones, or returns `None` if the
 /// line has too few.
-fn cut_line(line: &[u8], skipped: usize, width: usize) -> Option<Cut<'_>>
+fn cut_line(line: &[u8], skipped: usize, width: usize) -> Option<Fields<'_>>
     requires { 0 < width }
     ensures { MatchOption result (spec.tabs line.now + 1 < skipped + width) (λ cut. spec.IsCut skipped width line.now cut.front.now cut.text.now cut.back.now) }
 {
@@ -169,7 +169,7 @@ fn cut_line(line: &[u8], skipped: usize, width: usize) -> Option<Cut<'_>>
     };
     let (field, _) = split_at_delimiter(last, b'\t');
     let (text, back) = rest.split_at(begun.len() + field.len());
-    Some(Cut { front, text, back })
+    Some(Fields { front, text, back })
 }
 
 impl Columns {
@@ -180,13 +180,13 @@ impl Columns {
     };
 
     /// Cuts a line around its text of so many fields, or returns `None` if the line has too few.
-    pub fn cut(self, line: &[u8], width: usize) -> Option<Cut<'_>>
+    pub fn cut(self, line: &[u8], width: usize) -> Option<Fields<'_>>
         requires { 0 < width }
         ensures { MatchOption result (spec.LacksFields self.first width line.now) (λ cut. spec.IsRead self.first width line.now cut.front.now cut.text.now cut.back.now) }
     {
         match self.first {
             Some(first) => cut_line(line, first, width),
-            None => Some(Cut {
+            None => Some(Fields {
                 front: b"",
                 text: line,
                 back: b"",
@@ -215,7 +215,7 @@ pub fn write_line<O: Write>(line: &[u8], end: u8, out: &mut O) -> io::Result<()>
 /// Writes the line that goes out: the line that was read with the first line of the output in the place
 /// of its text, or after its last field.
 pub fn write_row<O: Write>(
-    cut: &Cut<'_>,
+    cut: &Fields<'_>,
     appends: bool,
     output: &[u8],
     end: u8,

@@ -1,10 +1,12 @@
 //! The table of the commands: what `uri help` says of each, the words that it takes, and how it
 //! runs on the texts among its words and on each line of an input.
 
-ghost use Rattle.std.specs.Prelude.{◌≡◌, ◌<◌, ◌∷◌, [], IfSome, map};
+ghost use Rattle.std.specs.Prelude.{◌≡◌, ◌<◌, ◌∷◌, [], IfSome, map, slice_get};
+ghost use Rattle.std.specs.Option.{option_map};
+ghost use Rattle.uri_commands.specs.Help.{topics};
 ghost use Rattle.uri_commands.specs.Output as spec;
 ghost use Rattle.uri_commands.specs.Outputs.{count_of, width_of};
-ghost use Rattle.uri_commands.specs.Tasks.{Edits, Gets, Reads, Tasks, TasksAny, TasksNamed, TasksTo};
+ghost use Rattle.uri_commands.specs.Tasks.{NamesEdit, NamesGet, Reads, Tasks, TasksAny, TasksNamed, TasksTo};
 
 use crate::decode::{self, decode};
 use crate::edit::{self, Step, edit, edit_line, read_edits};
@@ -34,8 +36,10 @@ use uriparse::{Host, URI, URIReference, URIView};
 
 /// The topic of `uri help` with this index, or `None` after the last. A `match`, since the prover takes quadratic time for a
 /// static table.
+#[tactic(auto, unfolding(crate::specs::Help::topics))]
 pub fn topic(place: usize) -> Option<&'static Topic>
-    ensures { IfSome result (λ _. place < 27) }
+    ensures bound { IfSome result (λ _. place < 27) }
+    ensures topic { option_map (λ t. record { name = t.now.0.now; summary = t.now.1.now; page = t.now.2.now }) result ≡ slice_get topics place }
 {
     match place {
         0 => Some(&parse::ABOUT),
@@ -322,7 +326,7 @@ impl<'w> Task<'w> {
     /// The task of `edit` with these edits.
     #[tactic(auto, using(crate::proofs::TaskLemmas::reads_steps, crate::proofs::TaskLemmas::reads_no_steps))]
     fn read_edit(alloc: Global, words: &[&'w str]) -> Result<Task<'w>, Failure>
-        ensures { Reads (Edits (map (λ w. w.now) words.now)) result }
+        ensures { Reads (NamesEdit (map (λ w. w.now) words.now)) result }
     {
         Ok(Task::Edit(read_edits(alloc, words)?))
     }
@@ -380,7 +384,7 @@ impl<'w> Task<'w> {
     /// The task of `get` with these names, which commas separate.
     #[tactic(auto, using(crate::proofs::TaskLemmas::gets_one, crate::proofs::TaskLemmas::gets_several, crate::proofs::TaskLemmas::gets_none))]
     fn read_get(alloc: Global, names: &str) -> Result<Task<'w>, Failure>
-        ensures { Reads (Gets names.now) result }
+        ensures { Reads (NamesGet names.now) result }
     {
         let parts = read_parts(alloc, names)?;
         match parts.as_slice() {

@@ -10,12 +10,12 @@ use std::io::Write;
 use uriparse::Query;
 use uriparse_text::internal::Held;
 
-pub static ABOUT: Topic = Topic {
-    name: "decode",
-    summary: "\
+pub static ABOUT: Topic = (
+    "decode",
+    "\
 uri decode TEXT       the bytes that a query or a segment stands for
 ",
-    page: "\
+    "\
 uri decode TEXT
 
 Prints the bytes that a query stands for, or a segment or another component that
@@ -29,7 +29,7 @@ Example:
 prints
     caf\u{e9}/a?b
 ",
-};
+);
 
 /// Decodes the text of a query, and prints the bytes unchanged and then a newline. Each text that
 /// `uri encode` prints can be decoded in this way, since it is the text of a query too.

@@ -28,9 +28,9 @@ use uriparse::{
 };
 use uriparse_text::internal::Held;
 
-pub static ABOUT: Topic = Topic {
-    name: "edit",
-    summary: "\
+pub static ABOUT: Topic = (
+    "edit",
+    "\
 uri edit TEXT EDIT..  the reference with all edits made, from the left;
                       an edit is scheme V, authority V, username V, password V,
                       host V, port V, path V, query V, fragment V, drop-scheme,
@@ -39,7 +39,7 @@ uri edit TEXT EDIT..  the reference with all edits made, from the left;
                       set-pair NAME VALUE, append-pair NAME VALUE,
                       drop-pair NAME, sort-pairs or normalize
 ",
-    page: "\
+    "\
 uri edit TEXT EDIT..
 uri --lines edit EDIT..
 
@@ -71,7 +71,7 @@ prints
     https://h:8080/a#g
     http://h/?q=a&p=%26
 ",
-};
+);
 
 /// A component that an edit sets.
 #[derive(Clone, Copy)]

@@ -11,13 +11,13 @@ use std::fmt::Display;
 use std::io::Write;
 use uriparse::{Fragment, Password, Query, Segment, Username};
 
-pub static ABOUT: Topic = Topic {
-    name: "encode",
-    summary: "\
+pub static ABOUT: Topic = (
+    "encode",
+    "\
 uri encode KIND TEXT  the text as a segment, query, fragment, username or
                       password
 ",
-    page: "\
+    "\
 uri encode KIND TEXT
 
 Prints a component that stands for the bytes of the text. KIND is segment,
@@ -32,7 +32,7 @@ Example:
 prints
     a%2Fb%20c
 ",
-};
+);
 
 /// Encodes the bytes as a component of this kind, and prints it.
 #[tactic(auto, using(crate::proofs::OutputLemmas::encoded_out, crate::proofs::OutputLemmas::no_kind))]

@@ -14,12 +14,12 @@ use std::io::Write;
 use uriparse::{ReferenceView, URIReference};
 use uriparse_text::internal::{split_at_delimiter, without_delimiter};
 
-pub static ABOUT: Topic = Topic {
-    name: "equal",
-    summary: "\
+pub static ABOUT: Topic = (
+    "equal",
+    "\
 uri equal A B         `equal` or `different`
 ",
-    page: "\
+    "\
 uri equal A B
 uri --quiet equal A B
 uri --lines equal
@@ -39,7 +39,7 @@ Example:
 prints
     equal
 ",
-};
+);
 
 /// Prints whether the references are equal. Does not allocate.
 #[tactic(auto, using(crate::proofs::OutputLemmas::compared_first, crate::proofs::OutputLemmas::rejected_reference))]

@@ -9,13 +9,13 @@ use std::alloc::Global;
 use std::io::Write;
 use uriparse::{escape_invalid, trim_link};
 
-pub static ABOUT: Topic = Topic {
-    name: "escape",
-    summary: "\
+pub static ABOUT: Topic = (
+    "escape",
+    "\
 uri escape TEXT       any text as a reference, with escapes for what it
                       can't have
 ",
-    page: "\
+    "\
 uri escape TEXT
 uri --trim escape TEXT
 uri --lines escape
@@ -37,15 +37,15 @@ Example:
 prints
     http://h/a%20b?q=100%25#%5Bx%5D
 ",
-};
+);
 
-pub static ABOUT_TRIM: Topic = Topic {
-    name: "--trim",
-    summary: "\
+pub static ABOUT_TRIM: Topic = (
+    "--trim",
+    "\
 uri --trim escape TEXT
                       the text without white space and <> round it, escaped
 ",
-    page: "\
+    "\
 uri --trim escape TEXT
 uri --lines --trim escape
 
@@ -61,7 +61,7 @@ Example:
 prints
     http://h/a%20b
 ",
-};
+);
 
 /// Prints the text with escapes for the bytes that a reference can't have where they stand.
 #[tactic(auto, using(crate::proofs::OutputLemmas::escaped_out, crate::proofs::OutputLemmas::ended))]

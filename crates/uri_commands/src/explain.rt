@@ -7,14 +7,14 @@ use std::io;
 use std::io::Write;
 use uriparse::{AuthorityError, URI, URIError, URIReference, URIReferenceError};
 
-pub static ABOUT: Topic = Topic {
-    name: "--explain",
-    summary: "\
+pub static ABOUT: Topic = (
+    "--explain",
+    "\
 uri --explain parse TEXT, uri --explain resolve BASE REF
                       the same, but a rejected text is shown with a caret
                       under the byte that its error is about
 ",
-    page: "\
+    "\
 uri --explain parse TEXT
 uri --explain --json parse TEXT
 uri --explain resolve BASE REF
@@ -39,7 +39,7 @@ prints
               ^
     path at byte 10: invalid path character
 ",
-};
+);
 
 /// How many bytes of a text are shown at most.
 const WIDTH: usize = 72;

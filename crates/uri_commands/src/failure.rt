@@ -185,7 +185,7 @@ impl From<BufferError> for Failure {
 impl Failure {
     /// The exit status of the program.
     pub fn status(&self) -> u8
-        ensures is { result ≡ spec.status_of (spec.answer_of self.now) }
+        ensures is { result ≡ spec.exit_status (spec.answer_of self.now) }
         ensures fails { 1 ≤ result }
         ensures bound { result ≤ 3 }
     {

@@ -10,13 +10,13 @@ use std::io::Write;
 use uriparse::URI;
 use uriparse::file::{from_path, to_path};
 
-pub static ABOUT: Topic = Topic {
-    name: "file",
-    summary: "\
+pub static ABOUT: Topic = (
+    "file",
+    "\
 uri file PATH         the URI of a file's absolute path
 uri get file URI      the path of the file that the URI names
 ",
-    page: "\
+    "\
 uri file PATH
 uri get file URI
 
@@ -35,7 +35,7 @@ Example:
 prints
     file:///tmp/a%20b%25.txt
 ",
-};
+);
 
 /// Prints the URI of the path.
 #[tactic(auto, using(crate::proofs::OutputLemmas::filed, crate::proofs::OutputLemmas::not_filed, crate::proofs::OutputLemmas::ended))]

@@ -18,13 +18,13 @@ use std::io::Write;
 use uriparse::{Origin, ReferenceView, URIView};
 use uriparse_text::internal::Held;
 
-pub static ABOUT: Topic = Topic {
-    name: "get",
-    summary: "\
+pub static ABOUT: Topic = (
+    "get",
+    "\
 uri get PART TEXT     that part alone: scheme, authority, username, password,
                       host, port, path, query, fragment or origin
 ",
-    page: "\
+    "\
 uri get PART[,PART..] TEXT
 uri --lines get PART[,PART..]
 
@@ -49,7 +49,7 @@ prints
     example.com
     example.com\t8080
 ",
-};
+);
 
 /// A component of a reference that can be printed alone.
 #[derive(Clone, Copy)]

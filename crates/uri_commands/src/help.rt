@@ -1,7 +1,8 @@
 //! `uri help` and `uri --version`: the commands, one of them, and the version.
 
-ghost use Rattle.std.specs.Prelude.{OnOk, ℕ, List};
+ghost use Rattle.std.specs.Prelude.{OnOk};
 ghost use Rattle.std.specs.Io.KnownBytes.{Appends};
+ghost use Rattle.uri_commands.specs.Help as help;
 ghost use Rattle.uri_commands.specs.Output as spec;
 
 use crate::commands::topic;
@@ -10,13 +11,13 @@ use crate::topic::Topic;
 use std::io;
 use std::io::Write;
 
-pub static ABOUT: Topic = Topic {
-    name: "help",
-    summary: "\
+pub static ABOUT: Topic = (
+    "help",
+    "\
 uri help              these lines
 uri help COMMAND      more on a command or on an option, with an example
 ",
-    page: "\
+    "\
 uri help
 uri help COMMAND
 uri --help
@@ -40,7 +41,7 @@ prints
     --lines
     path=--lines
 ",
-};
+);
 
 /// The last line of `uri help`: `--version` has no page.
 const VERSION_SUMMARY: &str = "uri --version         the version\n";
@@ -53,28 +54,33 @@ rattle-kit-13f logic dac8208d650f15bf
 
 /// Prints the version.
 pub fn version<O: Write>(out: &mut O) -> io::Result<()>
-    ensures { OnOk result ((bytes : List ℕ) × Appends (O.contents out.old) (O.contents out.new) bytes) }
+    ensures { OnOk result (Appends (O.contents out.old) (O.contents out.new) help.version) }
 {
-    write!(out, "{VERSION}")
+    out.write_all(VERSION.as_bytes())
 }
 
 /// Prints the commands and the options.
 pub fn help<O: Write>(out: &mut O) -> io::Result<()>
-    ensures { OnOk result ((bytes : List ℕ) × Appends (O.contents out.old) (O.contents out.new) bytes) }
+    ensures { OnOk result (Appends (O.contents out.old) (O.contents out.new) help.summaries) }
 {
     let mut place = 0;
-    'topics: while let Some(topic) = topic(place) {
-        write!(out, "{}", topic.summary)?;
+    'topics: while let Some((_, summary, _)) = topic(place) {
+        out.write_all(summary.as_bytes())?;
         place += 1;
     }
-    write!(out, "{VERSION_SUMMARY}")
+    out.write_all(VERSION_SUMMARY.as_bytes())
 }
 
 /// Prints the page on the command or the option of this name.
 pub fn help_on<O: Write>(name: &str, out: &mut O) -> Result<(), Failure>
     ensures { spec.Does (spec.HelpsOn name.now) (O.contents out.old) (O.contents out.new) result }
 {
-    let found = (0..).map_while(topic).find(|topic| topic.name == name);
-    let topic = found.ok_or(Failure::Usage)?;
-    write!(out, "{}", topic.page).map_err(Failure::Output)
+    let mut place = 0;
+    'topics: while let Some((topic, _, page)) = topic(place) {
+        if *topic == name {
+            return Ok(out.write_all(page.as_bytes())?);
+        }
+        place += 1;
+    }
+    Err(Failure::Usage)
 }

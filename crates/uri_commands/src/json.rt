@@ -30,12 +30,12 @@ use std::io::Write;
 use uriparse::{Host, ReferenceView, Scheme, Segments, Text, TextKind};
 use uriparse_text::internal::Held;
 
-pub static ABOUT: Topic = Topic {
-    name: "--json",
-    summary: "\
+pub static ABOUT: Topic = (
+    "--json",
+    "\
 uri --json parse TEXT the reference as a JSON object
 ",
-    page: "\
+    "\
 uri --json parse TEXT
 uri --lines --json parse
 
@@ -63,7 +63,7 @@ prints
     \"fragment\":null
     \"segments\":[\"a\"]}
 ",
-};
+);
 
 /// Writes a text that a JSON string holds unchanged, as each text of a reference and each address:
 /// none has a quote, a `\` or a control character (RFC 3986, section 2). So no byte is tested.

@@ -1,22 +1,50 @@
 //! Laws of commands: their words, and examples of what they print. Each function does nothing: its contract is the law.
 
-ghost use Rattle.std.specs.Prelude.{◌≡◌, ◌∷◌, [], List, bytes_eq, codes, false, flat_map, true, ℕ};
-ghost use Rattle.uri_commands.specs.Options.{Asks, is_plain, none, starts_plain};
+ghost use Rattle.std.specs.Prelude.{◌≡◌, ◌<◌, ◌^◌, ◌∷◌, [], List, Some, bytes_eq, codes, decimal, false, flat_map, map, suc, true, ℕ};
+ghost use Rattle.uri_commands.specs.Help.{topics};
+ghost use Rattle.uri_commands.specs.Options.{asked, column_of, is_plain, none, starts_plain};
 ghost use Rattle.uri_commands.specs.Output as spec;
 ghost use Rattle.uri_commands.specs.declared.get.Part.TheVariants as part;
 
 use uriparse::laws::one_reading;
 
-/// A name and texts are the command of this name without options, if neither the name nor the first text
-/// begins with `-`, or a `--` precedes the texts.
+/// A name and texts ask for the command of this name without options, if neither the name nor the first text
+/// begins with `-`, or if a `--` precedes the texts.
 pub fn words_without_options()
-    ensures plain { (name : List ℕ) (texts : List (List ℕ)) → is_plain name ≡ true → starts_plain texts ≡ true → Asks (name ∷ texts) none name texts }
-    ensures marked { (name : List ℕ) (texts : List (List ℕ)) → is_plain name ≡ true → bytes_eq name (codes "help") ≡ false → Asks (name ∷ codes "--" ∷ texts) none name texts }
+    ensures plain { (name : List ℕ) (texts : List (List ℕ)) → is_plain name ≡ true → starts_plain texts ≡ true → asked (name ∷ texts) ≡ record { options = none; command = name ∷ texts } }
+    ensures marked { (name : List ℕ) (texts : List (List ℕ)) → is_plain name ≡ true → bytes_eq name (codes "help") ≡ false → asked (name ∷ codes "--" ∷ texts) ≡ record { options = none; command = name ∷ texts } }
+{}
+
+/// The `K` of `--column K` counts from 1, and is any number that a field can have.
+pub fn column_counts_from_one()
+    ensures { (fields : ℕ) → suc fields < 2 ^ 64 → column_of (decimal (suc fields)) ≡ Some fields }
+{}
+
+/// Examples of words.
+pub fn examples_of_words()
+    ensures no_word { asked [] ≡ record { options = none; command = [] } }
+    ensures version { asked (codes "--version" ∷ []) ≡ record { options = none; command = codes "--version" ∷ [] } }
+    ensures help_on_an_option { asked (codes "help" ∷ codes "--lines" ∷ []) ≡ record { options = none; command = codes "help" ∷ codes "--lines" ∷ [] } }
+    ensures no_option { asked (codes "--unknown" ∷ codes "parse" ∷ []) ≡ record { options = none; command = codes "--unknown" ∷ codes "parse" ∷ [] } }
+    ensures options { asked (codes "--lines" ∷ codes "get" ∷ codes "--column" ∷ codes "2" ∷ codes "host" ∷ [])
+        ≡ record { options = record none { reads_lines = true; columns = Some (record { first = Some 1; appends = false }) }; command = codes "get" ∷ codes "host" ∷ [] } }
+    ensures no_column { asked (codes "--column" ∷ codes "0" ∷ []) ≡ record { options = none; command = codes "--column" ∷ codes "0" ∷ [] } }
+    ensures ended_options { asked (codes "--lines" ∷ codes "--" ∷ codes "parse" ∷ codes "--json" ∷ [])
+        ≡ record { options = record none { reads_lines = true }; command = codes "parse" ∷ codes "--json" ∷ [] } }
 {}
 
 /// The answer to `normalize TEXT` is the normal form of the text.
 pub fn answer_to_normalize()
     ensures { (text : List ℕ) (answer : spec.Answer) → spec.Answers none (codes "normalize" ∷ text ∷ []) answer → spec.Normalizes text answer }
+{}
+
+/// The names that `uri help` has a page on, in its order.
+#[tactic(auto, unfolding(crate::specs::Help::topics))]
+pub fn pages_of_help()
+    ensures { map (λ t. t.name) topics ≡ codes "parse" ∷ codes "tail" ∷ codes "get" ∷ codes "normalize" ∷ codes "equal" ∷ codes "resolve" ∷ codes "relativize"
+        ∷ codes "decode" ∷ codes "encode" ∷ codes "escape" ∷ codes "pairs" ∷ codes "pair" ∷ codes "within" ∷ codes "host-within" ∷ codes "file" ∷ codes "edit"
+        ∷ codes "help" ∷ codes "--json" ∷ codes "--quiet" ∷ codes "--explain" ∷ codes "--drop-default-port" ∷ codes "--trim" ∷ codes "--lines"
+        ∷ codes "--align" ∷ codes "--column" ∷ codes "--append" ∷ codes "--null" ∷ [] }
 {}
 
 /// Examples of the manual, in its order.

@@ -4,11 +4,9 @@
 //! They are a library, which the tests of the program and the jobs of the benchmark call.
 #![tactic(auto)]
 
-ghost use Rattle.std.specs.Prelude.{◌≡◌, ◌≤◌, ◌∷◌, IfOk, IfSome, List, MatchResult, false, map, true, ℕ};
-ghost use Rattle.uri_commands.specs.Options.{Asks};
+ghost use Rattle.std.specs.Prelude.{◌≡◌, ◌≤◌, [], IfOk, MatchResult, Some, map};
 ghost use Rattle.uri_commands.specs.Output as spec;
-ghost use Rattle.uri_commands.specs.Tasks.{LinesEndWith};
-ghost use Rattle.uri_commands.specs.declared.options.Options.{Options};
+ghost use Rattle.uri_commands.specs.Tasks.{CommandEnds, ProgramEnds};
 
 mod columns;
 mod commands;
@@ -54,7 +52,7 @@ use std::io::{Read, Write};
 /// [`run_with_input`] does.
 pub fn run<O: Write, E: Write>(alloc: Global, words: &[&str], out: &mut O, err: &mut E) -> u8
     ensures bound { result ≤ 3 }
-    ensures answers { (options : Options) (name : List ℕ) (texts : List (List ℕ)) → Asks (map (λ w. w.now) words.now) options name texts → options.reads_lines ≡ false → spec.Ends (spec.Answers options (name ∷ texts)) (O.contents out.old) (O.contents out.new) result }
+    ensures ends { ProgramEnds (map (λ w. w.now) words.now) (Some []) (O.contents out.old) (O.contents out.new) result }
 {
     run_with_input(alloc, words, &mut io::empty(), out, err)
 }
@@ -70,9 +68,9 @@ pub fn run<O: Write, E: Write>(alloc: Global, words: &[&str], out: &mut O, err: 
 ///   that differ, or `within` or `host-within` an input that is not within. Nothing is written.
 ///
 /// With `--quiet` nothing is written about rejected texts nor, without `--lines`, about a lack of
-/// memory. Only `--lines` reads the input. Without it nothing is written to `out` before all texts of
-/// the command are read.
-#[tactic(auto, using(crate::proofs::RunLemmas::nothing_answered, crate::proofs::RunLemmas::lines_unread))]
+/// memory. Only `--lines` reads the input. Without it the output is put together in memory, and written
+/// to `out` once it is whole.
+#[tactic(auto, using(crate::proofs::RunLemmas::asked_for))]
 pub fn run_with_input<I: Read, O: Write, E: Write>(
     alloc: Global,
     words: &[&str],
@@ -81,8 +79,7 @@ pub fn run_with_input<I: Read, O: Write, E: Write>(
     err: &mut E,
 ) -> u8
     ensures bound { result ≤ 3 }
-    ensures answers { (options : Options) (name : List ℕ) (texts : List (List ℕ)) → Asks (map (λ w. w.now) words.now) options name texts → options.reads_lines ≡ false → spec.Ends (spec.Answers options (name ∷ texts)) (O.contents out.old) (O.contents out.new) result }
-    ensures lines { (options : Options) (name : List ℕ) (texts : List (List ℕ)) → Asks (map (λ w. w.now) words.now) options name texts → options.reads_lines ≡ true → IfSome (I.remaining input.old) (λ bytes. LinesEndWith options (name ∷ texts) bytes (O.contents out.old) (O.contents out.new) result) }
+    ensures ends { ProgramEnds (map (λ w. w.now) words.now) (I.remaining input.old) (O.contents out.old) (O.contents out.new) result }
 {
     match split_options(alloc, words) {
         Ok((options, words)) => run_command(alloc, options, words.as_slice(), input, out, err),
@@ -91,7 +88,7 @@ pub fn run_with_input<I: Read, O: Write, E: Write>(
 }
 
 /// Runs the command of these words with these options.
-#[tactic(auto, using(crate::proofs::RunLemmas::lines_ended))]
+#[tactic(auto, using(crate::proofs::RunLemmas::lines_ended, crate::proofs::RunLemmas::answer_ended))]
 fn run_command<I: Read, O: Write, E: Write>(
     alloc: Global,
     options: Options,
@@ -101,8 +98,7 @@ fn run_command<I: Read, O: Write, E: Write>(
     err: &mut E,
 ) -> u8
     ensures bound { result ≤ 3 }
-    ensures answers { options.reads_lines ≡ false → spec.Ends (spec.Answers options (map (λ w. w.now) words.now)) (O.contents out.old) (O.contents out.new) result }
-    ensures lines { options.reads_lines ≡ true → IfSome (I.remaining input.old) (λ bytes. LinesEndWith options (map (λ w. w.now) words.now) bytes (O.contents out.old) (O.contents out.new) result) }
+    ensures ends { CommandEnds options (map (λ w. w.now) words.now) (I.remaining input.old) (O.contents out.old) (O.contents out.new) result }
 {
     if options.reads_lines {
         let result = lines(alloc, options, words, input, out, err);
@@ -139,7 +135,7 @@ fn status_of<E: Write>(
 ) -> u8
     requires { IfOk answer (λ status. status ≤ 3) }
     ensures bound { result ≤ 3 }
-    ensures is { MatchResult answer (λ status. result ≡ status) (λ failure. result ≡ spec.status_of (spec.answer_of failure)) }
+    ensures is { MatchResult answer (λ status. result ≡ status) (λ failure. result ≡ spec.exit_status (spec.answer_of failure)) }
 {
     match answer {
         Ok(status) => status,

@@ -18,7 +18,7 @@ use crate::commands::Task;
 use crate::explain::{explain_line, write_around};
 use crate::failure::Failure;
 use crate::options::Options;
-use crate::pending::{CAPACITY, flush, put};
+use crate::pending::{Buffer, CAPACITY, flush, put};
 use crate::topic::Topic;
 use std::alloc::{AllocError, Global};
 use std::io;
@@ -26,9 +26,9 @@ use std::io::{BufRead, BufReader, BufWriter, Read, Write};
 use uriparse::path::MAX_SEGMENTS;
 use uriparse_text::internal::{Is, first};
 
-pub static ABOUT: Topic = Topic {
-    name: "--lines",
-    summary: "\
+pub static ABOUT: Topic = (
+    "--lines",
+    "\
 uri --lines parse, uri --lines normalize, uri --lines resolve BASE,
 uri --lines relativize BASE, uri --lines get PART[,PART..],
 uri --lines pair NAME, uri --lines edit EDIT.., uri --lines equal,
@@ -38,7 +38,7 @@ uri --lines --drop-default-port normalize
                       the same for each line of the standard input; parse
                       prints JSON objects, within the lines that are within
 ",
-    page: "\
+    "\
 uri --lines parse
 uri --lines normalize
 uri --lines resolve BASE
@@ -84,7 +84,7 @@ prints
 
     b
 ",
-};
+);
 
 /// The outcome of a line, the worst last.
 #[derive(Clone, Copy)]
@@ -208,9 +208,9 @@ struct Buffers {
     /// Normal forms and targets are put together here.
     form: Vec<u8>,
     /// What the task prints, if it goes out as part of a row.
-    result: Vec<u8>,
+    result: Buffer,
     /// What goes out for the line.
-    printed: Vec<u8>,
+    printed: Buffer,
 }
 
 /// Reports a rejected line: its number, the error, and the line around this place. If `explains` is
@@ -237,18 +237,18 @@ fn report<E: Write>(
 /// Does the task for a text: prints its answer to the buffer, and reports a rejection unless the task is
 /// quiet. Fails if memory runs out.
 #[tactic(auto, using(crate::proofs::OutputsLemmas::did_print, crate::proofs::OutputsLemmas::did_fail))]
-fn print_answer<E: Write>(
+fn answer_text<E: Write>(
     work: &Work<'_>,
     form: &mut Vec<u8>,
-    output: &mut Vec<u8>,
+    output: &mut Buffer,
     number: u64,
     text: &[u8],
     err: &mut E,
 ) -> Result<Outcome, Failure>
-    ensures ok { IfOk result (λ outcome. (a : Answer) × AnswersLine work.now.task text.now a × (outcome ≡ outcome_of a) × (output.new.items ≡ printed a)) }
+    ensures ok { IfOk result (λ outcome. (a : Answer) × AnswersLine work.now.task text.now a × (outcome ≡ outcome_of a) × (output.new.bytes.items ≡ printed a)) }
     ensures err { IfErr result (λ f. EndsWork f) }
 {
-    output.clear();
+    output.bytes.clear();
     match work.task.run(work.alloc, form, text, output) {
         Ok(()) => Ok(Outcome::Done),
         Err(failure) if failure.ends_work() => Err(failure),
@@ -268,18 +268,18 @@ fn print_answer<E: Write>(
 fn print_result<E: Write>(
     work: &Work<'_>,
     form: &mut Vec<u8>,
-    cells: &mut Vec<u8>,
+    cells: &mut Buffer,
     number: u64,
     text: &[u8],
     err: &mut E,
 ) -> Result<Outcome, Failure>
-    ensures ok { IfOk result (λ outcome. (a : Answer) × AnswersLine work.now.task text.now a × (outcome ≡ outcome_of a) × (cells.new.items ≡ fields work.now.fields a)) }
+    ensures ok { IfOk result (λ outcome. (a : Answer) × AnswersLine work.now.task text.now a × (outcome ≡ outcome_of a) × (cells.new.bytes.items ≡ fields work.now.fields a)) }
     ensures err { IfErr result (λ f. EndsWork f) }
 {
-    let outcome = print_answer(work, form, cells, number, text, err)?;
+    let outcome = answer_text(work, form, cells, number, text, err)?;
     if let Outcome::Rejected = outcome {
-        cells.clear();
-        cells.resize(work.fields.saturating_sub(1), b'\t')?;
+        cells.bytes.clear();
+        cells.bytes.resize(work.fields.saturating_sub(1), b'\t')?;
     }
     Ok(outcome)
 }
@@ -296,8 +296,8 @@ fn print_row<E: Write>(
     err: &mut E,
 ) -> Result<Outcome, Failure>
     requires { 0 < work.now.width }
-    ensures row { IfOk result (λ outcome. (row : List ℕ) × spec.IsRow (Gives work.now) work.now.end columns.first work.now.width columns.appends line.now row outcome × (buffers.new.printed.items ≡ row ++ work.now.end ∷ [])) }
-    ensures one { (tab == work.now.end) ≡ false → lacks work.now.end line.now ≡ true → OnOk result ((row : List ℕ) × (lacks work.now.end row ≡ true) × (buffers.new.printed.items ≡ row ++ work.now.end ∷ [])) }
+    ensures row { IfOk result (λ outcome. (row : List ℕ) × spec.IsRow (Gives work.now) work.now.end columns.first work.now.width columns.appends line.now row outcome × (buffers.new.printed.bytes.items ≡ row ++ work.now.end ∷ [])) }
+    ensures one { (tab == work.now.end) ≡ false → lacks work.now.end line.now ≡ true → OnOk result ((row : List ℕ) × (lacks work.now.end row ≡ true) × (buffers.new.printed.bytes.items ≡ row ++ work.now.end ∷ [])) }
     ensures err { IfErr result (λ f. EndsWork f) }
 {
     let Buffers {
@@ -305,7 +305,7 @@ fn print_row<E: Write>(
         result,
         printed,
     } = buffers;
-    printed.clear();
+    printed.bytes.clear();
     let Some(cut) = columns.cut(line, work.width) else {
         // The status reports a rejection that can't be written either.
         let _ = report(false, number, &Failure::TooFewFields, line, 0, err);
@@ -313,7 +313,7 @@ fn print_row<E: Write>(
         return Ok(Outcome::Rejected);
     };
     let outcome = print_result(work, form, result, number, cut.text, err)?;
-    write_row(&cut, columns.appends, result, work.end, printed)?;
+    write_row(&cut, columns.appends, &result.bytes, work.end, printed)?;
     Ok(outcome)
 }
 
@@ -341,13 +341,13 @@ fn print_plain<E: Write>(
     line: &[u8],
     err: &mut E,
 ) -> Result<Outcome, Failure>
-    ensures ok { IfOk result (λ outcome. Prints work.now line.now buffers.new.printed.items outcome) }
+    ensures ok { IfOk result (λ outcome. Prints work.now line.now buffers.new.printed.bytes.items outcome) }
     ensures err { IfErr result (λ f. EndsWork f) }
 {
     let Buffers { form, printed, .. } = buffers;
-    let outcome = print_answer(work, form, printed, number, line, err)?;
+    let outcome = answer_text(work, form, printed, number, line, err)?;
     if work.end != b'\n' {
-        end_line(printed, work.end)?;
+        end_line(&mut printed.bytes, work.end)?;
     }
     Ok(outcome)
 }
@@ -361,7 +361,7 @@ fn print_line<E: Write>(
     err: &mut E,
 ) -> Result<Outcome, Failure>
     requires { 0 < work.now.width }
-    ensures ok { IfOk result (λ outcome. Writes work.now.columns work.now line.now buffers.new.printed.items outcome) }
+    ensures ok { IfOk result (λ outcome. Writes work.now.columns work.now line.now buffers.new.printed.bytes.items outcome) }
     ensures err { IfErr result (λ f. EndsWork f) }
 {
     match work.columns {
@@ -386,7 +386,7 @@ fn do_line<O: Write, E: Write>(
     ensures err { IfErr result (λ f. EndsWork f × Sends (O.contents out.old) (O.contents out.new) pending.old.items pending.new.items []) }
 {
     let outcome = print_line(work, buffers, number, line, err)?;
-    put(&buffers.printed, pending, out)?;
+    put(&buffers.printed.bytes, pending, out)?;
     Ok(outcome)
 }
 
@@ -472,8 +472,8 @@ fn do_lines<I: Read, O: Write, E: Write>(
     let mut line = Vec::new(work.alloc);
     let mut buffers = Buffers {
         form: Vec::new(work.alloc),
-        result: Vec::new(work.alloc),
-        printed: Vec::new(work.alloc),
+        result: Buffer::new(work.alloc),
+        printed: Buffer::new(work.alloc),
     };
     'lines: for number in 1..u64::MAX {
         let next = match next_line(input, &mut line, work.end, pending, out, written) {

@@ -12,12 +12,12 @@ use std::alloc::Global;
 use std::io::Write;
 use uriparse::{BufferError, ReferenceView, URIReference};
 
-pub static ABOUT: Topic = Topic {
-    name: "normalize",
-    summary: "\
+pub static ABOUT: Topic = (
+    "normalize",
+    "\
 uri normalize TEXT    the reference's normal form
 ",
-    page: "\
+    "\
 uri normalize TEXT
 uri --drop-default-port normalize TEXT
 uri --lines normalize
@@ -34,16 +34,16 @@ Example:
 prints
     http://example.com/~b
 ",
-};
+);
 
-pub static ABOUT_DROP_DEFAULT_PORT: Topic = Topic {
-    name: "--drop-default-port",
-    summary: "\
+pub static ABOUT_DROP_DEFAULT_PORT: Topic = (
+    "--drop-default-port",
+    "\
 uri --drop-default-port normalize TEXT
                       the normal form without a port that is the scheme's
                       default one
 ",
-    page: "\
+    "\
 uri --drop-default-port normalize TEXT
 uri --lines --drop-default-port normalize
 
@@ -58,7 +58,7 @@ Example:
 prints
     https://h/~a
 ",
-};
+);
 
 /// Prints the reference's normal form.
 pub fn normalize<O: Write>(alloc: Global, text: &[u8], out: &mut O) -> Result<(), Failure>

@@ -1,6 +1,6 @@
 //! The options of a command, which precede its texts.
 
-ghost use Rattle.std.specs.Prelude.{◌≡◌, ◌<◌, ◌≤◌, ◌++◌, ◌∷◌, IfOk, IfSome, List, None, Some, length, map, true, ℕ};
+ghost use Rattle.std.specs.Prelude.{◌≡◌, ◌<◌, ◌≤◌, ◌++◌, IfOk, IfSome, Some, length, map};
 ghost use Rattle.uri_commands.specs.Options as spec;
 ghost use Rattle.uri_commands.specs.Options.{both};
 ghost use Rattle.uri_commands.specs.Output.{is_for_lines};
@@ -127,32 +127,40 @@ impl Options {
         Some(more)
     }
 
+    /// The options with the column of this number.
+    fn with_column(self, number: &str) -> Option<Options>
+        ensures { result ≡ spec.with_column self number.now }
+    {
+        let first = Some(read_column(number)?);
+        let columns = self.columns_or_whole();
+        Some(self.with_columns(Columns { first, ..columns }))
+    }
+
     /// The options with the one that the words begin with, and how many words that is.
     fn read(self, words: &[&str]) -> Option<(Options, usize)>
+        ensures option { result ≡ spec.first_option self (map (λ w. w.now) words.now) }
         ensures bounds { IfSome result (λ r. (0 < r.1) × (r.1 ≤ length words.now)) }
-        ensures option { (p : Options) → spec.first_option self (map (λ w. w.now) words.now) ≡ Some p → result ≡ Some (p, 1) }
-        ensures none { spec.StartsWithoutOption (map (λ w. w.now) words.now) → result ≡ None }
     {
-        match words {
-            ["--column", number, ..] => {
-                let first = Some(read_column(number)?);
-                let columns = self.columns_or_whole();
-                Some((self.with_columns(Columns { first, ..columns }), 2))
-            }
-            [word, ..] => Some((self.with_word(word)?, 1)),
-            [] => None,
+        let (word, rest) = words.split_first()?;
+        if *word == "--column" {
+            let number = rest.first()?;
+            Some((self.with_column(number)?, 2))
+        } else {
+            Some((self.with_word(word)?, 1))
         }
     }
 }
 
 /// How many fields precede the column of this number, which counts from 1.
-fn read_column(number: &str) -> Option<usize> {
+fn read_column(number: &str) -> Option<usize>
+    ensures { result ≡ spec.column_of number.now }
+{
     number.parse::<usize>().ok()?.checked_sub(1)
 }
 
 /// Reads the options at the front of the words. Returns them, with those before, and the other words.
 fn read_options<'w, 't>(before: Options, words: &'w [&'t str]) -> (Options, &'w [&'t str])
-    ensures { (options rest : List (List ℕ)) (after : Options) → map (λ w. w.now) words.now ≡ options ++ rest → spec.with_options options before ≡ Some after → spec.StartsWithoutOption rest → (result.0 ≡ after) × (map (λ w. w.now) result.1.now ≡ rest) }
+    ensures { (result.0, map (λ w. w.now) result.1.now) ≡ spec.read before (map (λ w. w.now) words.now) }
 {
     let mut options = before;
     let mut at = 0;
@@ -163,19 +171,21 @@ fn read_options<'w, 't>(before: Options, words: &'w [&'t str]) -> (Options, &'w 
     (options, &words[at..])
 }
 
-/// Reads the options before the command and after it. Returns them, the name between them, and the other
-/// words, with the name if no option may follow it.
+/// Reads the options before the command and after it. Returns them, the name between them if options may
+/// follow it, and the other words of the command.
 fn read_command<'w, 't>(words: &'w [&'t str]) -> (Options, &'w [&'t str], &'w [&'t str])
-    ensures { (options : Options) (name : List ℕ) (texts : List (List ℕ)) → spec.Asks (map (λ w. w.now) words.now) options name texts → spec.IsRead options name texts result.0 (map (λ w. w.now) result.1.now) (map (λ w. w.now) result.2.now) }
+    ensures { spec.asked (map (λ w. w.now) words.now) ≡ record { options = result.0; command = map (λ w. w.now) result.1.now ++ map (λ w. w.now) result.2.now } }
 {
     let (options, rest) = read_options(Options::NONE, words);
-    match rest {
-        [] => (options, rest, rest),
-        ["--", texts @ ..] => (options, &rest[..0], texts),
-        ["help", ..] => (options, &rest[..0], rest),
-        [_, more @ ..] => {
+    let Some((name, more)) = rest.split_first() else {
+        return (options, rest, rest);
+    };
+    match *name {
+        "--" => (options, &rest[..0], more),
+        "help" => (options, &rest[..1], more),
+        _ => {
             let (options, texts) = read_options(options, more);
-            (options, &rest[..1], texts)
+            (options, &rest[..1], without_end(texts))
         }
     }
 }
@@ -198,11 +208,11 @@ pub fn split_options<'t>(
     alloc: Global,
     words: &[&'t str],
 ) -> Result<(Options, Vec<&'t str>), AllocError>
-    ensures { (options : Options) (name : List ℕ) (texts : List (List ℕ)) → spec.Asks (map (λ w. w.now) words.now) options name texts → IfOk result (λ r. (r.0 ≡ options) × (map (λ w. w.now) r.1.items ≡ name ∷ texts)) }
+    ensures { IfOk result (λ r. spec.asked (map (λ w. w.now) words.now) ≡ record { options = r.0; command = map (λ w. w.now) r.1.items }) }
 {
     let (options, name, texts) = read_command(words);
     let mut command = Vec::with_capacity(alloc, words.len())?;
     command.extend_from_slice(name)?;
-    command.extend_from_slice(without_end(texts))?;
+    command.extend_from_slice(texts)?;
     Ok((options, command))
 }

@@ -13,13 +13,13 @@ use std::io::Write;
 use uriparse::{Query, ReferenceView};
 use uriparse_text::internal::Held;
 
-pub static ABOUT: Topic = Topic {
-    name: "pair",
-    summary: "\
+pub static ABOUT: Topic = (
+    "pair",
+    "\
 uri pair NAME TEXT    the bytes of the value of the query's first pair of this
                       name
 ",
-    page: "\
+    "\
 uri pair NAME TEXT
 uri --lines pair NAME
 
@@ -39,7 +39,7 @@ Example:
 prints
     a b
 ",
-};
+);
 
 /// Prints the decoded value of the query's first pair of this name, or fails with `Failure::Absent`.
 #[tactic(auto, using(crate::proofs::OutputLemmas::pair_of, crate::proofs::OutputLemmas::pair_without_query, crate::proofs::OutputLemmas::rejected_reference))]

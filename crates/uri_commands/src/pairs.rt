@@ -12,12 +12,12 @@ use std::io::Write;
 use uriparse::{Query, URIReference};
 use uriparse_text::internal::Held;
 
-pub static ABOUT: Topic = Topic {
-    name: "pairs",
-    summary: "\
+pub static ABOUT: Topic = (
+    "pairs",
+    "\
 uri pairs TEXT        the pairs of the reference's query, a line each
 ",
-    page: "\
+    "\
 uri pairs TEXT
 
 Prints the pairs of the reference's query, the pieces between its `&`, on a line
@@ -35,7 +35,7 @@ prints
     b=x%26y
     c
 ",
-};
+);
 
 /// Prints the pairs of the reference's query, or fails with `Failure::Absent` if it has no query.
 #[tactic(auto, using(crate::proofs::OutputLemmas::pairs_printed, crate::proofs::OutputLemmas::no_pairs, crate::proofs::OutputLemmas::rejected_unless))]

@@ -11,12 +11,12 @@ use std::alloc::Global;
 use std::io::Write;
 use uriparse::{Authority, Host, URIReference};
 
-pub static ABOUT: Topic = Topic {
-    name: "parse",
-    summary: "\
+pub static ABOUT: Topic = (
+    "parse",
+    "\
 uri parse TEXT        the reference, and then each of its parts
 ",
-    page: "\
+    "\
 uri parse TEXT
 uri --json parse TEXT
 uri --quiet parse TEXT
@@ -45,7 +45,7 @@ prints
     query=q
     fragment=f
 ",
-};
+);
 
 /// Prints the reference, its path, and its other components if present, a line each.
 #[tactic(auto, using(crate::proofs::ComponentLemmas::parsed, crate::proofs::OutputLemmas::rejected_unless))]

@@ -1,17 +1,53 @@
 //! Output that is kept in a buffer before it is written.
 
-ghost use Rattle.std.specs.Prelude.{◌≡◌, ◌≤◌, [], IfErr, IfOk, OnOk, drop, length, take};
-ghost use Rattle.std.specs.Io.KnownBytes.{Appends, WriteAppends};
+ghost use Rattle.std.specs.Prelude.{◌≡◌, ◌≤◌, [], IfErr, IfOk, OnOk, Some, length};
+ghost use Rattle.std.specs.Io.KnownBytes.{WriteAppends};
 ghost use Rattle.uri_commands.specs.Output.{EndsWork};
 ghost use Rattle.uri_commands.specs.Outputs.{Sends};
 
 use crate::failure::Failure;
+use std::alloc::Global;
 use std::io;
 use std::io::Write;
 
 /// How many bytes each buffer of `--lines` has: of the input, the output and the reports. Only the output
 /// of a longer line makes one grow.
 pub const CAPACITY: usize = 65_536;
+
+/// Output that is put together in memory. A write is one copy here; `Vec` has the loop that any other
+/// writer needs.
+#[derive(Drop)]
+pub struct Buffer {
+    pub bytes: Vec<u8>,
+}
+
+impl Buffer {
+    pub fn new(alloc: Global) -> Buffer
+        ensures { result.bytes.items ≡ [] }
+    {
+        Buffer {
+            bytes: Vec::new(alloc),
+        }
+    }
+}
+
+impl Write for Buffer {
+    ghost contents = { λ b. Some b.bytes.items };
+
+    fn write(&mut self, bytes: &[u8]) -> io::Result<usize> {
+        self.bytes.extend_from_slice(bytes)?;
+        Ok(bytes.len())
+    }
+
+    #[inline(always)]
+    fn write_all(&mut self, bytes: &[u8]) -> io::Result<()> {
+        Ok(self.bytes.extend_from_slice(bytes)?)
+    }
+
+    fn flush(&mut self) -> io::Result<()> {
+        Ok(())
+    }
+}
 
 /// Writes some of the bytes, and returns how many were taken: none if the write was interrupted.
 #[tactic(auto, using(crate::proofs::OutputsLemmas::took_none, crate::proofs::OutputsLemmas::kept_none))]
@@ -21,7 +57,7 @@ fn write_some<O: Write>(bytes: &[u8], out: &mut O) -> io::Result<usize>
 {
     match out.write(bytes) {
         Ok(0) => {
-            let message = "failed to write the buffered data";
+            let message = "the output takes no more bytes";
             Err(io::Error::new(io::ErrorKind::WriteZero, message))
         }
         Err(error) if error.kind() == io::ErrorKind::Interrupted => Ok(0),
@@ -29,43 +65,24 @@ fn write_some<O: Write>(bytes: &[u8], out: &mut O) -> io::Result<usize>
     }
 }
 
-/// Writes the bytes until all are taken or a write fails, and returns how many were taken.
-fn write_front<O: Write>(bytes: &[u8], out: &mut O) -> (usize, io::Result<()>)
-    ensures bound { result.0 ≤ length bytes.now }
-    ensures all { OnOk result.1 (result.0 ≡ length bytes.now) }
-    ensures bytes { Appends (O.contents out.old) (O.contents out.new) (take result.0 bytes.now) }
-{
-    let mut taken = 0;
-    'writes: for _ in 0..u64::MAX {
-        if taken == bytes.len() {
-            return (taken, Ok(()));
-        }
-        match write_some(&bytes[taken..], out) {
-            Ok(count) => taken += count,
-            Err(error) => return (taken, Err(error)),
-        }
-    }
-    (taken, Err(io::Error::from(io::ErrorKind::Interrupted)))
-}
-
-/// Removes the first bytes.
-fn remove_front(bytes: &mut Vec<u8>, count: usize)
-    requires { count ≤ length bytes.old.items }
-    ensures { bytes.new.items ≡ drop count bytes.old.items }
-{
-    let len = bytes.len();
-    bytes.as_mut_slice().copy_within(count..len, 0);
-    bytes.truncate(len - count);
-}
-
-/// Writes the pending bytes. If a write fails, those that were not taken stay.
+/// Writes the pending bytes, and removes those that are taken. If a write fails, the others stay.
+#[tactic(auto, using(crate::proofs::OutputsLemmas::sends_none, crate::proofs::OutputsLemmas::sends_front, crate::proofs::OutputsLemmas::sends_whole, crate::proofs::OutputsLemmas::sends_kept))]
 pub fn send<O: Write>(pending: &mut Vec<u8>, out: &mut O) -> io::Result<()>
     ensures sends { Sends (O.contents out.old) (O.contents out.new) pending.old.items pending.new.items [] }
     ensures all { OnOk result (pending.new.items ≡ []) }
 {
-    let (count, written) = write_front(pending, out);
-    remove_front(pending, count);
-    written
+    'writes: for _ in 0..u64::MAX {
+        if pending.is_empty() {
+            return Ok(());
+        }
+        let count = write_some(pending, out)?;
+        if count == pending.len() {
+            pending.clear();
+        } else {
+            pending.drain(..count);
+        }
+    }
+    Err(io::Error::from(io::ErrorKind::Interrupted))
 }
 
 /// Writes the pending bytes, and flushes the output.

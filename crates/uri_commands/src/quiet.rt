@@ -7,13 +7,13 @@ use crate::failure::Failure;
 use crate::topic::Topic;
 use uriparse::{ReferenceView, URIReference};
 
-pub static ABOUT: Topic = Topic {
-    name: "--quiet",
-    summary: "\
+pub static ABOUT: Topic = (
+    "--quiet",
+    "\
 uri --quiet parse TEXT, uri --quiet equal A B
                       nothing but the status
 ",
-    page: "\
+    "\
 uri --quiet parse TEXT
 uri --quiet equal A B
 uri --lines --quiet parse
@@ -30,7 +30,7 @@ Example:
 prints
     rejected
 ",
-};
+);
 
 /// Checks whether the text is a reference. Does not allocate.
 #[tactic(auto, using(crate::proofs::OutputLemmas::checked, crate::proofs::OutputLemmas::not_checked))]

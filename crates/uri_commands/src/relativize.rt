@@ -9,13 +9,13 @@ use std::alloc::Global;
 use std::io::Write;
 use uriparse::URI;
 
-pub static ABOUT: Topic = Topic {
-    name: "relativize",
-    summary: "\
+pub static ABOUT: Topic = (
+    "relativize",
+    "\
 uri relativize BASE URI
                       the reference that leads from the base to the URI
 ",
-    page: "\
+    "\
 uri relativize BASE URI
 uri --lines relativize BASE
 
@@ -29,7 +29,7 @@ Example:
 prints
     ../g#s
 ",
-};
+);
 
 /// Prints the reference that leads from the base to the target. The base is read first.
 #[tactic(auto, using(crate::proofs::OutputLemmas::relativized_first, crate::proofs::OutputLemmas::rejected_uri_unless))]

@@ -12,12 +12,12 @@ use std::alloc::Global;
 use std::io::Write;
 use uriparse::{BufferError, ReferenceView, URIView};
 
-pub static ABOUT: Topic = Topic {
-    name: "resolve",
-    summary: "\
+pub static ABOUT: Topic = (
+    "resolve",
+    "\
 uri resolve BASE REF  the target of the reference against the base, a URI
 ",
-    page: "\
+    "\
 uri resolve BASE REF
 uri --explain resolve BASE REF
 uri --lines resolve BASE
@@ -34,7 +34,7 @@ Example:
 prints
     http://a/b/g#s
 ",
-};
+);
 
 /// Prints the target of the reference against the base, which is read first.
 #[tactic(auto, using(crate::proofs::OutputLemmas::resolved_first, crate::proofs::OutputLemmas::rejected_uri))]

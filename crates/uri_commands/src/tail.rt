@@ -18,12 +18,12 @@ use std::io::Write;
 use uriparse::{Fragment, FragmentError, Path, Query, QueryError, URIReferenceError};
 use uriparse_text::internal::{Held, split_at_delimiter, without_delimiter};
 
-pub static ABOUT: Topic = Topic {
-    name: "tail",
-    summary: "\
+pub static ABOUT: Topic = (
+    "tail",
+    "\
 uri tail TEXT         path, query and fragment of a text, and each of them
 ",
-    page: "\
+    "\
 uri tail TEXT
 
 Reads what follows an authority: a path, a query and a fragment. Prints the
@@ -39,7 +39,7 @@ prints
     query=q
     fragment=f
 ",
-};
+);
 
 /// A path, a query and a fragment.
 type Tail<'t> = (Path<'t>, Option<Query<'t>>, Option<Fragment<'t>>);

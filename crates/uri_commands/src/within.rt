@@ -17,13 +17,13 @@ use std::io::Write;
 use uriparse::{Host, ReferenceView, URIReferenceError, URIView};
 use uriparse_text::internal::Held;
 
-pub static ABOUT: Topic = Topic {
-    name: "within",
-    summary: "\
+pub static ABOUT: Topic = (
+    "within",
+    "\
 uri within BASE URI   nothing; the status says whether the URI is below the
                       base, by scheme, host, port and directory
 ",
-    page: "\
+    "\
 uri within BASE URI
 uri --lines within BASE
 
@@ -46,16 +46,16 @@ prints
     below
     elsewhere
 ",
-};
+);
 
-pub static ABOUT_HOST: Topic = Topic {
-    name: "host-within",
-    summary: "\
+pub static ABOUT_HOST: Topic = (
+    "host-within",
+    "\
 uri host-within DOMAIN REF
                       nothing; the status says whether the reference's host
                       is the domain or under it
 ",
-    page: "\
+    "\
 uri host-within DOMAIN REF
 uri --lines host-within DOMAIN
 
@@ -77,7 +77,7 @@ prints
     under
     other
 ",
-};
+);
 
 /// Reads a domain, which is a host.
 pub fn read_domain(text: &str) -> Result<Host<'_>, URIReferenceError>

@@ -27,4 +27,5 @@ returns c =
     let back : c.split_at.result.1.now ≡ from_first is_tab last = c.split_at.ensures.back ∙ ap (λ n. drop n rest) len ∙ parts.1 in
     subst (λ u. IsCut c.args.skipped c.args.width line front u c.split_at.result.1.now) (sym text)
     (subst (λ u. IsCut c.args.skipped c.args.width line front (begun ++ before tab last) u) (sym back)
-    (cut_text c.args.skipped c.args.width line front rest begun last c.requires c.in-Some.ensures.0 c.in-Some.ensures.1 cut c.in-Some-split_fields.ensures.1))
+    (cut_text c.args.skipped c.args.width line front rest begun last c.requires c.in-Some.ensures.0 c.in-Some.ensures.1 cut
+    c.in-Some-split_fields.ensures.1))

@@ -19,7 +19,8 @@ fields-preserved c =
     let rest = c.fields.rest.now in
     let some : after tab rest ≡ Some c.in-Some.later.now =
     sym (c.without_delimiter.ensures ∙ ap part c.split_at_delimiter.ensures.rest) ∙ ap option_copied c.in-Some.is in
-    let more : c.args.count - c.fields.left + 1 ≡ c.args.count - (c.fields.left - 1) = omega (arith, c.fields.invariant.within, c.fields-test.true) in
+    let more : c.args.count - c.fields.left + 1 ≡ c.args.count - (c.fields.left - 1) = omega
+    (arith, c.fields.invariant.within, c.fields-test.true) in
     record {
       within = omega (arith, c.fields.invariant.within);
       front = (

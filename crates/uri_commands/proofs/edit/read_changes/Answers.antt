@@ -4,12 +4,15 @@ use Rattle.uri_commands.proofs.edit.read_changes.Goals as goal
 
 pub returns-in_err-act : goal.returns-in_err-act
 returns-in_err-act c =
-    changes_unread c.args.changes.now c.changes.index _ _ c.changes.steps.items _ _ c.changes-test.true c.changes.invariant.makes refl c.in_err-act.ensures c.from_residual-in_err-act.ensures.1
+    changes_unread c.args.changes.now c.changes.index _ _ c.changes.steps.items _ _ c.changes-test.true c.changes.invariant.makes refl
+    c.in_err-act.ensures c.from_residual-in_err-act.ensures.1
 
 pub changes-preserved : goal.changes-preserved
 changes-preserved c = record {
   within = changes_within c.args.changes.now c.changes.index c.in_ok-act.more c.changes-test.true c.in_ok-act.ensures.within;
-  makes = changes_next_read c.args.changes.now c.changes.index c.in_ok-act.more _ _ c.changes.steps.items _ _ c.changes-test.true c.changes.invariant.makes refl c.in_ok-act.ensures c.in_ok-push.ensures.items;
+  makes =
+      changes_next_read c.args.changes.now c.changes.index c.in_ok-act.more _ _ c.changes.steps.items _ _ c.changes-test.true
+      c.changes.invariant.makes refl c.in_ok-act.ensures c.in_ok-push.ensures.items;
 }
 
 pub returns : goal.returns

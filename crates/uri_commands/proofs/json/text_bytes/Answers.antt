@@ -5,4 +5,5 @@ use Rattle.uri_commands.proofs.JsonLemmas.{plain_in_class}
 use Rattle.uri_commands.proofs.json.text_bytes.Goals as goal
 
 pub returns-in-Some-clause-plain : goal.returns-in-Some-clause-plain
-returns-in-Some-clause-plain g c = ap (list_all needs_no_json_escape) c.as_bytes.ensures.value ∙ plain_in_class g.K.TextKind.class _ c.as_bytes.ensures.class
+returns-in-Some-clause-plain g c =
+    ap (list_all needs_no_json_escape) c.as_bytes.ensures.value ∙ plain_in_class g.K.TextKind.class _ c.as_bytes.ensures.class

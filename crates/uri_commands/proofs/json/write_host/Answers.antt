@@ -9,7 +9,16 @@ pub returns-in_ok-write_plain-in-Some : goal.returns-in_ok-write_plain-in-Some
 returns-in_ok-write_plain-in-Some g c =
     let host : option_copied c.args.host ≡ Some c.in-Some.host.now = search rules in
     let name : c.as_bytes.result.now ≡ kind_name (kind c.in-Some.host.now) = search rules in
-    search (host_written, host, name, c.in_ok-write_all-in-Some.ensures.bytes, c.in_ok-write_host_text-in-Some.ensures, c.in_ok-write_all-in-Some-2.ensures.bytes, c.in_ok-write_plain-in-Some.ensures, c.write_all-in-Some-2.ensures.bytes)
+    search (
+      host_written,
+      host,
+      name,
+      c.in_ok-write_all-in-Some.ensures.bytes,
+      c.in_ok-write_host_text-in-Some.ensures,
+      c.in_ok-write_all-in-Some-2.ensures.bytes,
+      c.in_ok-write_plain-in-Some.ensures,
+      c.write_all-in-Some-2.ensures.bytes,
+    )
 
 pub returns-in-None : goal.returns-in-None
 returns-in-None g c =

@@ -9,7 +9,9 @@ pub write_plain-requires : goal.write_plain-requires
 write_plain-requires g c = ap (list_all needs_no_json_escape) c.as_bytes.ensures.value ∙ plain_in_future _ c.as_bytes.ensures.valid
 
 pub write_plain-requires-in-RegisteredName : goal.write_plain-requires-in-RegisteredName
-write_plain-requires-in-RegisteredName g c = ap (list_all needs_no_json_escape) c.as_bytes-in-RegisteredName.ensures.value ∙ plain_in_class Name _ c.as_bytes-in-RegisteredName.ensures.class
+write_plain-requires-in-RegisteredName g c =
+    ap (list_all needs_no_json_escape) c.as_bytes-in-RegisteredName.ensures.value
+    ∙ plain_in_class Name _ c.as_bytes-in-RegisteredName.ensures.class
 
 pub returns-in_ok-write_plain-in-IPvFuture : goal.returns-in_ok-write_plain-in-IPvFuture
 returns-in_ok-write_plain-in-IPvFuture g c = search (rules, future_written)

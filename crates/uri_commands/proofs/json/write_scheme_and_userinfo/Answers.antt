@@ -12,5 +12,6 @@ returns g c =
     let named : option_copied c.scheme_bytes-scheme.result ≡ option_map scheme.text parts.scheme = search rules in
     let username : option_copied c.text_bytes-username.result ≡ username_of parts = search rules in
     let password : option_copied c.text_bytes-password.result ≡ password_of parts = search rules in
-    let written = members_written (codes "scheme") (codes "username") (codes "password") (option_map scheme.text parts.scheme) (username_of parts) (password_of parts) in
+    let written = members_written (codes "scheme") (codes "username") (codes "password") (option_map scheme.text parts.scheme)
+    (username_of parts) (password_of parts) in
     search (written, named, username, password, c.in_ok-write_member.ensures, c.in_ok-write_member-2.ensures, c.write_member-3.ensures)

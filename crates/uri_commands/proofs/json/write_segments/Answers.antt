@@ -13,7 +13,15 @@ loop-segment-init g c = search (rules, writing_start)
 
 pub loop-segment-preserved : goal.loop-segment-preserved
 loop-segment-preserved g c =
-    search (rules, writing_next, c.loop-segment.invariant, c.in-Some.ensures.steps, c.as_bytes.ensures.value, c.in_ok-write_all.ensures.bytes, c.in_ok-write_plain.ensures)
+    search (
+      rules,
+      writing_next,
+      c.loop-segment.invariant,
+      c.in-Some.ensures.steps,
+      c.as_bytes.ensures.value,
+      c.in_ok-write_all.ensures.bytes,
+      c.in_ok-write_plain.ensures,
+    )
 
 pub returns : goal.returns
 returns g c = search (rules, writing_end, c.loop-segment.invariant, c.in-None.ensures.steps, c.write_all-2.ensures.bytes)

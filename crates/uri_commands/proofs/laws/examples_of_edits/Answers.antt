@@ -35,7 +35,8 @@ returns c =
     let reads : Reads = c.one_reading.ensures.reads in
     record {
       components = of_reference reads (codes "http://h/a?q#f")
-          (Makes (codes "scheme" ∷ codes "https" ∷ codes "port" ∷ codes "8080" ∷ codes "drop-query" ∷ codes "fragment" ∷ codes "g" ∷ [])) _ refl;
+          (Makes (codes "scheme" ∷ codes "https" ∷ codes "port" ∷ codes "8080" ∷ codes "drop-query" ∷ codes "fragment" ∷ codes "g" ∷ [])) _
+          refl;
       pairs = of_reference reads (codes "http://h/?utm_id=1&q=a&%75tm_x")
           (Makes (codes "drop-pair" ∷ codes "utm_*" ∷ codes "set-pair" ∷ codes "p" ∷ codes "&" ∷ [])) _ refl;
       rejected = of_reference reads (codes "/a") (Makes (codes "port" ∷ codes "80" ∷ [])) _ refl;

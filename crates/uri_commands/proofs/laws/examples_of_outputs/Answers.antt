@@ -47,7 +47,8 @@ returns c =
           (λ p. Prints (join_with_byte tab (map (λ part. unwrap_or (part_text part p) []) (part.Host ∷ part.Query ∷ [])))) _ refl;
       normalize = of_reference reads (codes "HTTP://%61:80/b/../%7Ec") (λ p. Prints (print (normal p))) _ refl;
       drop_default_port = of_reference reads (codes "HTTP://a:80/%7E") (λ p. Prints (print (without_default_port (normal p)))) _ refl;
-      equal = of_two reads (codes "http://h/%7ea") (codes "HTTP://H/~a") (λ p q. Prints (equal_or_different (bytes_eq (key p) (key q)))) _ refl;
+      equal =
+          of_two reads (codes "http://h/%7ea") (codes "HTTP://H/~a") (λ p q. Prints (equal_or_different (bytes_eq (key p) (key q)))) _ refl;
       different = of_two reads (codes "http://h/a") (codes "http://h/b") (λ p q a. a ≡ nothing_if (bytes_eq (key p) (key q))) _ refl;
       resolve = of_base reads (codes "http://a/b/c/d;p?q") (codes "../g#s")
           (λ b p a. MatchOption (target b p) (a ≡ Rejected) (λ q. Prints (print q) a)) _ (refl, refl);
@@ -56,7 +57,9 @@ returns c =
       escape = refl;
       trim = refl;
       pairs = of_reference reads (codes "http://h/a%20b?q=100%25&r=%5Bx%5D") (λ p. PrintsPairs p.query) _ refl;
-      pair = of_reference reads (codes "http://h/?q=100%25&r=%5Bx%5D") (λ p. PrintsIfPresent (option_map decoded (pair_in (codes "r") p))) _ refl;
+      pair =
+          of_reference reads (codes "http://h/?q=100%25&r=%5Bx%5D")
+          (λ p. PrintsIfPresent (option_map decoded (pair_in (codes "r") p))) _ refl;
       file = refl;
       get_file = of_uri reads (codes "file:///tmp/100%25%20of%20a%20b.txt") Found _ (refl, refl);
       other_host = of_uri reads (codes "file://host.example.com/tmp/a") Found _ (refl, refl);

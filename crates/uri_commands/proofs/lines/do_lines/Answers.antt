@@ -10,7 +10,8 @@ returns-in-Err-clause-output g c = stops c.args.work.now _ _ _ _ _ _ _ _ c.lines
 
 pub returns-in-End-clause-output : goal.returns-in-End-clause-output
 returns-in-End-clause-output g c =
-    ends c.args.work.now _ _ _ _ _ _ _ _ c.lines.worst c.lines.invariant.goes (c.in-Ok.ensures.end (ap Ok c.in-End.is)) c.in-Ok.ensures.contents
+    ends c.args.work.now _ _ _ _ _ _ _ _ c.lines.worst c.lines.invariant.goes
+    (c.in-Ok.ensures.end (ap Ok c.in-End.is)) c.in-Ok.ensures.contents
 
 pub returns-in-Err-do_line : goal.returns-in-Err-do_line
 returns-in-Err-do_line g c = record {
@@ -24,12 +25,15 @@ returns-in-Err-do_line g c = record {
 
 pub returns-in-LastLine : goal.returns-in-LastLine
 returns-in-LastLine g c =
-    let goes = goes_further c.args.work.now _ _ _ _ _ _ _ _ _ _ _ _ _ _ _ _ c.lines.invariant.goes c.deref.ensures.value c.in-Ok.ensures.line c.in-Ok.ensures.rest
+    let goes = goes_further c.args.work.now _ _ _ _ _ _ _ _ _ _ _ _ _ _ _ _ c.lines.invariant.goes c.deref.ensures.value
+    c.in-Ok.ensures.line c.in-Ok.ensures.rest
     (c.in-Ok.ensures.some c.in_default.not-End) c.in-Ok.ensures.contents c.in-Ok-do_line.ensures.ok c.or-worst.ensures in record {
       kept = λ failed.
           let same = c.lines.invariant.kept failed in
           c.next_line.ensures.kept (subst IsErr (sym same) failed) ∙ same;
-      output = finishes c.args.work.now _ _ _ _ _ _ _ _ _ c.lines.worst c.or-worst.result c.lines.invariant.goes goes (c.in-Ok.ensures.last (ap Ok c.in-LastLine.is));
+      output =
+          finishes c.args.work.now _ _ _ _ _ _ _ _ _ c.lines.worst c.or-worst.result c.lines.invariant.goes goes
+          (c.in-Ok.ensures.last (ap Ok c.in-LastLine.is));
       err = tt;
     }
 
@@ -38,7 +42,9 @@ lines-preserved g c = record {
   kept = λ failed.
       let same = c.lines.invariant.kept failed in
       c.next_line.ensures.kept (subst IsErr (sym same) failed) ∙ same;
-  goes = goes_further c.args.work.now _ _ _ _ _ _ _ _ _ _ _ _ _ _ _ _ c.lines.invariant.goes c.deref.ensures.value c.in-Ok.ensures.line c.in-Ok.ensures.rest
+  goes =
+      goes_further c.args.work.now _ _ _ _ _ _ _ _ _ _ _ _ _ _ _ _ c.lines.invariant.goes c.deref.ensures.value c.in-Ok.ensures.line
+      c.in-Ok.ensures.rest
       (c.in-Ok.ensures.some c.in_default.not-End) c.in-Ok.ensures.contents c.in-Ok-do_line.ensures.ok c.or-worst.ensures;
 }
 
