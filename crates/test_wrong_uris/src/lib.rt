@@ -108,6 +108,13 @@ pub fn is_within(uri: &URIView<'_>, base: &URIView<'_>) -> bool
     uri.is_within(base)
 }
 
+/// The text of an origin, in a buffer.
+pub fn write_origin_into(origin: &Origin<'_>, out: &mut [u8]) -> Result<usize, BufferError>
+    ensures { Writes (origins.text origin.now) result out.old out.new }
+{
+    origin.write_into(out)
+}
+
 /// The text of an origin.
 pub fn write_origin(alloc: Global, origin: &Origin<'_>) -> Result<String, AllocError>
     ensures { IfOk result (λ s. string_bytes s ≡ origins.text origin.now) }

@@ -8,8 +8,8 @@ ghost use Rattle.uri_commands.specs.declared.get.Part.TheVariants as part;
 
 use uriparse::laws::one_reading;
 
-/// A name and texts ask for the command of this name without options, if neither the name nor the first text
-/// begins with `-`, or if a `--` precedes the texts.
+/// A name and texts ask for the command of this name without options, if the name doesn't begin with `-`, and
+/// either the first text doesn't, or a `--` stands between them and the name isn't `help`.
 pub fn words_without_options()
     ensures plain { (name : List ℕ) (texts : List (List ℕ)) → is_plain name ≡ true → starts_plain texts ≡ true → asked (name ∷ texts) ≡ record { options = none; command = name ∷ texts } }
     ensures marked { (name : List ℕ) (texts : List (List ℕ)) → is_plain name ≡ true → bytes_eq name (codes "help") ≡ false → asked (name ∷ codes "--" ∷ texts) ≡ record { options = none; command = name ∷ texts } }

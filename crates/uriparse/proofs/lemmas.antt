@@ -12,4 +12,5 @@ pub mod CommutingLemmas
 pub mod BuilderLemmas
 pub mod ResolveLemmas
 pub mod FileLemmas
+pub mod OriginLemmas
 pub use Rattle.uriparse_reference.proofs.lemmas.reading.CharacterLemmas

@@ -14,7 +14,6 @@ use std::marker::Model;
 
 mod edit;
 mod error;
-pub(crate) mod found;
 mod future;
 mod host;
 mod name;
@@ -27,9 +26,10 @@ mod port;
 mod print;
 mod printed;
 pub(crate) mod read;
+pub(crate) mod scanned;
 mod username;
 mod within;
-mod write;
+pub(crate) mod write;
 
 pub use error::{
     AuthorityError, HostError, PasswordError, PortError, RegisteredNameError, UsernameError,

@@ -1,7 +1,6 @@
 pub mod ChangeLemmas
 pub mod CheckLemmas
 pub mod CodeLemmas
-pub mod OriginLemmas
 pub mod PairLemmas
 pub mod ParseLemmas
 pub mod PlaceLemmas

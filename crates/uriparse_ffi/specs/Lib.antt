@@ -1,7 +1,6 @@
 pub mod Code
 pub mod Components
 pub mod Hash
-pub mod Origins
 pub mod Pairs
 pub mod Put
 pub mod Changes

@@ -60,7 +60,7 @@ pub struct PathOf<S: Dotted> {
     segments: SegmentList<S>,
     // 0 or 1 each: words, since a `bool` would be moved with its padding.
     absolute: u32,
-    known: u32,
+    counts_known: u32,
     // The counts of the segments, if they are known.
     counts: Counts,
 }
@@ -95,27 +95,27 @@ impl<S: Dotted> Model for PathOf<S> {
 
     ghost view = { λ p. record { absolute = flag p.absolute; segments = p.segments } };
 
-    ghost invariant = { λ p. CountsAreRight S.counts p.segments (flag p.known) p.counts };
+    ghost invariant = { λ p. CountsAreRight S.counts p.segments (flag p.counts_known) p.counts };
 }
 
 impl<'p> Path<'p> {
-    /// The path with this flag and these segments. `counts` are the segments' counts if `known` is
-    /// set.
+    /// The path with this flag and these segments. `counts` are the segments' counts if
+    /// `counts_known` is set.
     #[inline(always)]
     pub(crate) fn of(
         absolute: bool,
         segments: SegmentList<Segment<'p>>,
         counts: Counts,
-        known: bool,
+        counts_known: bool,
     ) -> Path<'p>
         requires listed { IsListed segments }
-        requires counted { known ≡ true → counts ≡ spec.counts segments }
+        requires counted { counts_known ≡ true → counts ≡ spec.counts segments }
         ensures { result ≡ record { absolute = absolute; segments = segments.entry } }
     {
         Path {
             segments,
             absolute: word_of(absolute),
-            known: word_of(known),
+            counts_known: word_of(counts_known),
             counts,
         }
     }
@@ -124,7 +124,7 @@ impl<'p> Path<'p> {
     fn known_counts(&self) -> Option<Counts>
         ensures { IfSome result (λ c. c ≡ spec.counts self.now.segments) }
     {
-        if self.known != 0 {
+        if self.counts_known != 0 {
             Some(self.counts)
         } else {
             None

@@ -7,7 +7,7 @@ use Rattle.uriparse_text.specs.declared.internal.token.Case.TheVariants as case
 use Rattle.uriparse_authority.specs.Authority as authority
 use Rattle.uriparse_authority.specs.Found.{IsNamed}
 use Rattle.uriparse_reference.specs.declared.uri_reference.error.URIReferenceError.{URIReferenceError}
-use Rattle.uriparse_reference.specs.declared.uri_reference.view.cuts.Cuts.{Cuts}
+use Rattle.uriparse_reference.specs.declared.uri_reference.view.offsets.Offsets.{Offsets}
 use Rattle.uriparse_reference.specs.Reading.{reading}
 use Rattle.uriparse_reference.specs.Reference.{Parts, path_of}
 use Rattle.uriparse_reference.specs.View.{AreFound, Viewed}
@@ -41,21 +41,21 @@ abbrev pub gap : ℕ → ℕ
 gap scheme = if scheme == 0 then 2 else 3
 
 -- the text up to a place, and from it on
-abbrev pub tail_at : Cuts → List ℕ → List ℕ
+abbrev pub tail_at : Offsets → List ℕ → List ℕ
 tail_at c t = drop c.fragment t
 
-abbrev pub query_at : Cuts → List ℕ → List ℕ
+abbrev pub query_at : Offsets → List ℕ → List ℕ
 query_at c t = drop c.query (take c.fragment t)
 
-abbrev pub path_at : Cuts → List ℕ → List ℕ
+abbrev pub path_at : Offsets → List ℕ → List ℕ
 path_at c t = drop c.path (take c.query (take c.fragment t))
 
-abbrev pub front_at : Cuts → List ℕ → List ℕ
+abbrev pub front_at : Offsets → List ℕ → List ℕ
 front_at c t = take c.path (take c.query (take c.fragment t))
 
 -- The components of the text lie where these numbers say: what precedes the path ends with it, the path with the query, and the query with the
 -- fragment.
-pub record AreCuts (t : List ℕ) (c : Cuts) : Type 0 where
+pub record AreOffsets (t : List ℕ) (c : Offsets) : Type 0 where
   pub authority : Option authority.AuthorityParts
   pub is_found : AreFound t (take c.scheme (front_at c t)) c.known authority (path_at c t) c.count c.escaped (if_there c.has_query (drop 1 (query_at c t)))
       (if_there c.has_fragment (drop 1 (tail_at c t)))

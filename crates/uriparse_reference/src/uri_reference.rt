@@ -29,22 +29,23 @@ use uriparse_text::query::Query;
 
 mod builder;
 mod change;
+mod classify;
 mod copy;
 mod edit;
 mod error;
 mod escape;
-mod kind;
+mod last_segment;
 mod masked;
 mod normal;
 mod offset;
 mod pairs;
+mod parts;
 mod port;
 mod print;
 pub(crate) mod read;
 pub(crate) mod relate;
 pub(crate) mod resolve;
 mod same;
-mod segment;
 pub(crate) mod text;
 pub(crate) mod view;
 

@@ -4,7 +4,7 @@ ghost use Rattle.std.specs.Option.{option_map, option_or};
 ghost use Rattle.uriparse_scheme.specs.Normal.{canonical_scheme};
 
 use crate::scheme::Scheme;
-pub use crate::scheme::cut::{SchemeCut, scheme_if, split_scheme};
+pub use crate::scheme::split::{SchemeSplit, scheme_if, split_scheme};
 use std::alloc::{AllocError, Global};
 
 /// A copy of the scheme in canonical spelling, if it is present and not canonical. Allocates only

@@ -14,7 +14,6 @@ use std::fmt;
 use std::hash::{Hash, Hasher};
 
 mod constants;
-pub(crate) mod cut;
 mod equality;
 mod error;
 mod find;
@@ -25,6 +24,7 @@ pub(crate) mod read;
 mod registered;
 mod rows;
 mod spelling;
+pub(crate) mod split;
 mod status;
 mod table;
 mod unregistered;

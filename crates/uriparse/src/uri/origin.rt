@@ -1,21 +1,24 @@
 //! The origin of a URI, and its port: RFC 3986, sections 3.2.3 and 6.2.3; RFC 6454, sections 4 to 6.
-ghost use Rattle.std.specs.Prelude.{◌≡◌, ◌++◌, IfOk, OnOk, fold, string_bytes};
-ghost use Rattle.std.specs.Option.{option_map};
+ghost use Rattle.std.specs.Prelude.{◌≡◌, ⊤, IfOk, fold, string_bytes};
 ghost use Rattle.std.proofs.Common.{rules};
 ghost use Rattle.std.specs.Cmp.Rules.{comparing, hashing};
-ghost use Rattle.uriparse_text.specs.Bytes.{colon};
-ghost use Rattle.uriparse_text.specs.Cuts.{following};
-ghost use Rattle.uriparse_authority.specs.Port as ports;
+ghost use Rattle.uriparse_reference.specs.Into.{Writes};
 ghost use Rattle.uriparse_reference.specs.Ports.{port_or_default, without_default_port};
 ghost use Rattle.uriparse.specs.Origin as spec;
 
+use super::within::is_port;
 use super::{URI, URIView};
 use std::alloc::{AllocError, Global};
-use std::fmt::Write;
 use std::hash::{Hash, Hasher};
 use uriparse_authority::authority::Host;
+use uriparse_authority::internal::prepend_host_and_port;
+use uriparse_reference::internal::{PutText, make_string, write};
+use uriparse_reference::uri_reference::BufferError;
 use uriparse_scheme::scheme::Scheme;
-use uriparse_text::internal::Held;
+use uriparse_text::internal::{Case, Form, Held, prepend, prepend_formed};
+
+/// The length in bytes of a usual origin's text.
+const USUAL_LEN: usize = 64;
 
 /// The origin of a URI: its scheme, its host, and its port or the scheme's default port. RFC 6454,
 /// section 4. It borrows the texts of the URI.
@@ -63,8 +66,7 @@ impl<'o> Origin<'o> {
 
     /// The text of the origin, the same for equal origins: `scheme://host` in canonical spelling, and
     /// `:port` unless that is the scheme's default port. RFC 6454, section 6.2. The name of a host is
-    /// printed as it is, without IDNA. Allocates the text, and each of its parts that is spelled
-    /// otherwise.
+    /// printed as it is, without IDNA. Allocates once, exactly the text's length.
     ///
     /// ```
     /// let uri = URI::try_from_str(alloc, "HTTPS://EXAMPLE.com:443/b?c")?;
@@ -74,14 +76,28 @@ impl<'o> Origin<'o> {
     pub fn to_string(&self, alloc: Global) -> Result<String, AllocError>
         ensures { IfOk result (λ s. string_bytes s ≡ spec.text self.now) }
     {
-        let mut scheme = Held(self.scheme.as_borrowed());
-        scheme.0.normalize(alloc)?;
-        let mut host = Held(self.host.as_borrowed());
-        host.0.normalize(alloc)?;
-        let mut text = String::new(alloc);
-        write!(text, "{}://{}", scheme.0, host.0)?;
-        push_port(&mut text, self.named_port())?;
-        Ok(text)
+        make_string(alloc, self)
+    }
+
+    /// Writes the text that [`to_string`](Origin::to_string) returns to the start of the buffer and
+    /// returns its length in bytes; what follows it in the buffer is unchanged.
+    ///
+    /// If the buffer is too small, it is unchanged, and the error is
+    /// [`TooSmall`](BufferError::TooSmall) with the length needed; so a call with an empty buffer
+    /// returns the length. Does not allocate.
+    ///
+    /// ```
+    /// let view = URIView::try_from_str("HTTPS://EXAMPLE.com:443/b?c")?;
+    /// let origin = view.origin().unwrap();
+    /// let mut buffer = [0; 64];
+    /// let len = origin.write_into(&mut buffer)?;
+    /// assert!(&buffer[..len] == b"https://example.com".as_slice());
+    /// assert!(origin.write_into(&mut buffer[..4]) == Err(BufferError::TooSmall(19)));
+    /// ```
+    pub fn write_into(&self, out: &mut [u8]) -> Result<usize, BufferError>
+        ensures { Writes (spec.text self.now) result out.old out.new }
+    {
+        write(self, USUAL_LEN, out)
     }
 
     /// The port, unless it is the scheme's default port.
@@ -94,6 +110,21 @@ impl<'o> Origin<'o> {
         } else {
             port
         }
+    }
+}
+
+impl<'o> PutText for Origin<'o> {
+    ghost can_be_put = { λ _. ⊤ };
+
+    ghost text = { spec.text };
+
+    fn put(&self, out: &mut [u8]) -> usize {
+        let port = self.named_port();
+        is_port(port);
+        let len = prepend_host_and_port(&self.host, port, Form::Canonical, out, 0);
+        let len = prepend(b"://", out, len);
+        let scheme = self.scheme.as_str().as_bytes();
+        prepend_formed(Form::Canonical, Case::Lowered, scheme, out, len)
     }
 }
 
@@ -123,16 +154,6 @@ impl<'o> Hash for Origin<'o> {
         self.host.hash(state);
         self.port.hash(state);
     }
-}
-
-/// Appends a colon and the port, if there is one.
-fn push_port(text: &mut String, port: Option<u16>) -> Result<(), AllocError>
-    ensures { OnOk result (string_bytes text.new ≡ string_bytes text.old ++ following colon (option_map ports.text port)) }
-{
-    if let Some(port) = port {
-        write!(text, ":{port}")?;
-    }
-    Ok(())
 }
 
 /// Whether both are there, and are equal.

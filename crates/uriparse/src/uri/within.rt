@@ -44,7 +44,7 @@ fn has_each_alike(
 }
 
 /// Does nothing. Its contract states that the number, if there is one, is a port.
-fn is_port(port: Option<u16>)
+pub(super) fn is_port(port: Option<u16>)
     ensures { IfSome port IsPort }
 {
     match port {

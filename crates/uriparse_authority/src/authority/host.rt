@@ -15,8 +15,8 @@ use std::fmt::Write;
 use std::hash::{Hash, Hasher};
 use uriparse_text::address::{IpAddr, Ipv4Addr, Ipv6Addr};
 
-pub(in crate::authority) mod found;
 pub(in crate::authority) mod read;
+pub(in crate::authority) mod scanned;
 
 use read::find_host;
 
@@ -191,6 +191,26 @@ impl<'h> Host<'h> {
             Host::IPv4Address(_) | Host::IPv6Address(_) => Ok(()),
             Host::IPvFuture(address) => address.normalize(alloc),
             Host::RegisteredName(name) => name.normalize(alloc),
+        }
+    }
+
+    /// Does nothing. The host is valid, which is known once its address or its text is read.
+    pub(crate) fn assert_valid(&self)
+        ensures { spec.Valid self.now }
+    {
+        match self {
+            Host::IPv4Address(address) => {
+                address.octets();
+            }
+            Host::IPv6Address(address) => {
+                address.segments();
+            }
+            Host::IPvFuture(address) => {
+                address.as_str();
+            }
+            Host::RegisteredName(name) => {
+                name.as_str();
+            }
         }
     }
 

@@ -8,16 +8,16 @@ ghost use Rattle.uriparse_authority.specs.Normal.{canonical_authority};
 ghost use Rattle.uriparse_authority.specs.Port as ports;
 
 use super::read::{split_port, split_userinfo};
-use super::write::put_host;
+use super::write::prepend_host;
 use super::{Authority, Host};
-use uriparse_text::internal::{Form, put_decimal};
+use uriparse_text::internal::{Form, prepend_decimal};
 
 /// Whether the text is the port's.
 fn is_decimal(port: u16, text: &[u8]) -> bool
     ensures { IsTrue result ↔ (ports.text port ≡ text.now) }
 {
     let mut buffer = [0; 5];
-    let len = put_decimal(port, &mut buffer, 0);
+    let len = prepend_decimal(port, &mut buffer, 0);
     &buffer[5 - len..] == text
 }
 
@@ -38,7 +38,7 @@ fn is_short_host(host: &Host<'_>, text: &[u8]) -> bool
     ensures { IsTrue result ↔ (hosts.text host.now ≡ text.now) }
 {
     let mut buffer = [0; 41];
-    let len = put_host(Form::AsIs, host, &mut buffer, 0);
+    let len = prepend_host(Form::AsIs, host, &mut buffer, 0);
     &buffer[41 - len..] == text
 }
 

@@ -7,14 +7,14 @@ ghost use Rattle.uriparse_text.specs.Cuts.{up_to, from_first};
 ghost use Rattle.uriparse_text.specs.Spelling.{IsValidText};
 ghost use Rattle.uriparse_authority.specs.Authority as authority;
 
-use super::found::{ScannedAuthority, found_authority};
 use super::host::read::{find_host, find_name_host};
 use super::password::PasswordKind;
+use super::scanned::{ScannedAuthority, found_authority};
 use super::username::UsernameKind;
 use super::{Authority, AuthorityError, Host, HostError, PortError, parse_port};
 use uriparse_text::internal::{
-    ByteTest, Case, Class, Found, Held, IsAny, find_text_before, find_text_if, first, no_text,
-    split_at_delimiter, split_canonical_prefix, without_delimiter,
+    ByteTest, Case, Class, Held, IsAny, ScannedText, find_text_before, find_text_if, first,
+    no_text, split_at_delimiter, split_canonical_prefix, without_delimiter,
 };
 
 /// The user information, which is the text before the first `@`, and what follows the `@`; without
@@ -34,7 +34,7 @@ pub fn split_userinfo(text: &[u8]) -> (Option<&[u8]>, &[u8])
 /// password after it.
 fn read_userinfo(
     text: Option<&[u8]>,
-) -> Result<(Found<'_, UsernameKind>, Found<'_, PasswordKind>), AuthorityError>
+) -> Result<(ScannedText<'_, UsernameKind>, ScannedText<'_, PasswordKind>), AuthorityError>
     ensures { result ≡ authority.userinfo_reading (option_copied text.entry) }
 {
     let Some(text) = text else {

@@ -11,7 +11,7 @@ ghost use Rattle.uriparse_authority.specs.Within as spec;
 
 use super::Host;
 use uriparse_text::address::Ipv4Addr;
-use uriparse_text::internal::{Case, Form, is_escape, put_formed, same_spelling};
+use uriparse_text::internal::{Case, Form, is_escape, prepend_formed, same_spelling};
 
 /// Whether an escape with these digits is a dot.
 fn is_escaped_dot(high: u8, low: u8) -> bool
@@ -134,7 +134,7 @@ fn spells_address(text: &[u8]) -> bool
     ensures { result ≡ spec.is_address (canonical_lowered text.now) }
 {
     let mut buffer = [0; 15];
-    let len = put_formed(Form::Canonical, Case::Lowered, text, &mut buffer, 0);
+    let len = prepend_formed(Form::Canonical, Case::Lowered, text, &mut buffer, 0);
     len <= 15 && Ipv4Addr::parse_bytes(&buffer[15 - len..]).is_some()
 }
 

@@ -1,6 +1,6 @@
 //! The text of an authority, put together from its end in the last bytes of a buffer: RFC 3986,
 //! sections 3.2 and 6.2.2.
-ghost use Rattle.std.specs.Prelude.{◌≡◌, length};
+ghost use Rattle.std.specs.Prelude.{◌≡◌, ◌++◌, length};
 ghost use Rattle.std.specs.Option.{option_map};
 ghost use Rattle.uriparse_text.specs.declared.internal.token.Case.TheVariants as case;
 ghost use Rattle.uriparse_text.specs.Bytes.{at_sign, colon};
@@ -13,48 +13,64 @@ ghost use Rattle.uriparse_authority.specs.Ends.{formed_authority, formed_host};
 
 use super::{Authority, Host, Password, Username};
 use uriparse_text::internal::{
-    Case, Form, put, put_after, put_decimal, put_formed, put_ipv4, put_ipv6,
+    Case, Form, prepend, prepend_decimal, prepend_following, prepend_formed, prepend_ipv4,
+    prepend_ipv6,
 };
 
 /// Puts a colon and the port, if there is one.
-fn put_port(port: Option<u16>, out: &mut [u8], len: usize) -> usize
+fn prepend_port(port: Option<u16>, out: &mut [u8], len: usize) -> usize
     ensures room { length out.new ≡ length out.old }
     ensures puts { Puts (following colon (option_map ports.text port)) out.old len out.new result }
 {
     match port {
         Some(port) => {
-            let len = put_decimal(port, out, len);
-            put(b":", out, len)
+            let len = prepend_decimal(port, out, len);
+            prepend(b":", out, len)
         }
         None => len,
     }
 }
 
 /// Puts a host.
-pub(super) fn put_host(form: Form, host: &Host<'_>, out: &mut [u8], len: usize) -> usize
+pub(super) fn prepend_host(form: Form, host: &Host<'_>, out: &mut [u8], len: usize) -> usize
     ensures room { length out.new ≡ length out.old }
     ensures puts { Puts (hosts.text (formed_host form host.now)) out.old len out.new result }
 {
     match host {
-        Host::IPv4Address(address) => put_ipv4(*address, out, len),
+        Host::IPv4Address(address) => prepend_ipv4(*address, out, len),
         Host::IPv6Address(address) => {
-            let len = put(b"]", out, len);
-            let len = put_ipv6(*address, out, len);
-            put(b"[", out, len)
+            let len = prepend(b"]", out, len);
+            let len = prepend_ipv6(*address, out, len);
+            prepend(b"[", out, len)
         }
         Host::IPvFuture(address) => {
-            let len = put(b"]", out, len);
-            let len = put_formed(form, Case::Lowered, address.as_str().as_bytes(), out, len);
-            put(b"[", out, len)
+            let len = prepend(b"]", out, len);
+            let len = prepend_formed(form, Case::Lowered, address.as_str().as_bytes(), out, len);
+            prepend(b"[", out, len)
         }
         Host::RegisteredName(name) => {
-            put_formed(form, Case::Lowered, name.as_str().as_bytes(), out, len)
+            prepend_formed(form, Case::Lowered, name.as_str().as_bytes(), out, len)
         }
     }
 }
 
+/// Puts a host and, if there is one, a colon and the port.
+pub(crate) fn prepend_host_and_port(
+    form: Form,
+    host: &Host<'_>,
+    port: Option<u16>,
+    out: &mut [u8],
+    len: usize,
+) -> usize
+    ensures room { length out.new ≡ length out.old }
+    ensures puts { Puts (hosts.text (formed_host form host.now) ++ following colon (option_map ports.text port)) out.old len out.new result }
+{
+    let len = prepend_port(port, out, len);
+    prepend_host(form, host, out, len)
+}
+
 /// Puts the user name, the password and an `@`, if there is a user name.
-fn put_user(
+fn prepend_user(
     form: Form,
     username: &Option<Username<'_>>,
     password: &Option<Password<'_>>,
@@ -66,9 +82,9 @@ fn put_user(
 {
     match username {
         Some(username) => {
-            let len = put(b"@", out, len);
-            let len = put_after(form, b':', password, out, len);
-            put_formed(form, Case::Kept, username.as_bytes(), out, len)
+            let len = prepend(b"@", out, len);
+            let len = prepend_following(form, b':', password, out, len);
+            prepend_formed(form, Case::Kept, username.as_bytes(), out, len)
         }
         None => len,
     }
@@ -76,12 +92,11 @@ fn put_user(
 
 impl<'a> Authority<'a> {
     /// Puts the authority, without its `//`.
-    pub(crate) fn put(&self, form: Form, out: &mut [u8], len: usize) -> usize
+    pub(crate) fn prepend(&self, form: Form, out: &mut [u8], len: usize) -> usize
         ensures room { length out.new ≡ length out.old }
         ensures puts { Puts (print (formed_authority form self.now)) out.old len out.new result }
     {
-        let len = put_port(self.port, out, len);
-        let len = put_host(form, &self.host, out, len);
-        put_user(form, &self.username, &self.password, out, len)
+        let len = prepend_host_and_port(form, &self.host, self.port, out, len);
+        prepend_user(form, &self.username, &self.password, out, len)
     }
 }

@@ -71,7 +71,7 @@ impl<'p> Path<'p> {
         Ok(Path {
             segments: borrowed_list(alloc, &self.segments)?,
             absolute: self.absolute,
-            known: self.known,
+            counts_known: self.counts_known,
             counts: self.counts,
         })
     }
@@ -84,7 +84,7 @@ impl<'p> Path<'p> {
         Ok(Path {
             segments: owned_list(alloc, self.segments)?,
             absolute: self.absolute,
-            known: self.known,
+            counts_known: self.counts_known,
             counts: self.counts,
         })
     }

@@ -156,7 +156,7 @@ impl<'p> Path<'p> {
         );
         truncate_with_leading_dot(&mut self.segments, dot_prefixed, kept);
         self.counts = Counts::without_dots(dot_prefixed);
-        self.known = word_of(all_canonical);
+        self.counts_known = word_of(all_canonical);
         self.absolute = word_of(absolute);
     }
 }

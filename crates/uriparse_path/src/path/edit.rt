@@ -48,16 +48,16 @@ fn take_last(segments: &mut SegmentList<Segment<'_>>)
 
 /// The counts after a push, if they were known.
 fn pushed_counts(
-    known: bool,
+    counts_known: bool,
     counts: Counts,
     segments: &[Segment<'_>],
     segment: &Segment<'_>,
 ) -> Counts
-    requires counted { known ≡ true → counts ≡ counting.counts segments.now }
+    requires counted { counts_known ≡ true → counts ≡ counting.counts segments.now }
     requires room { length segments.now < u32.MAX }
-    ensures { known ≡ true → result ≡ counting.counts (spec.with_last segments.now segment.now) }
+    ensures { counts_known ≡ true → result ≡ counting.counts (spec.with_last segments.now segment.now) }
 {
-    if known {
+    if counts_known {
         counts.pushed(segments, segment)
     } else {
         counts
@@ -65,11 +65,11 @@ fn pushed_counts(
 }
 
 /// The counts without the last segment, if they were known.
-fn popped_counts(known: bool, counts: Counts, segments: &[Segment<'_>]) -> Counts
-    requires { known ≡ true → counts ≡ counting.counts segments.now }
-    ensures { known ≡ true → result ≡ counting.counts (filled (all_but_last segments.now)) }
+fn popped_counts(counts_known: bool, counts: Counts, segments: &[Segment<'_>]) -> Counts
+    requires { counts_known ≡ true → counts ≡ counting.counts segments.now }
+    ensures { counts_known ≡ true → result ≡ counting.counts (filled (all_but_last segments.now)) }
 {
-    if known {
+    if counts_known {
         counts.without_last(segments)
     } else {
         counts
@@ -98,7 +98,7 @@ impl<'p> Path<'p> {
             return Err(PathError::ExceededMaximumLength);
         }
         let counts = pushed_counts(
-            self.known != 0,
+            self.counts_known != 0,
             self.counts,
             self.segments.as_slice(),
             &segment,
@@ -129,7 +129,11 @@ impl<'p> Path<'p> {
     pub fn pop(&mut self)
         ensures { self.new ≡ spec.popped self.old }
     {
-        let counts = popped_counts(self.known != 0, self.counts, self.segments.as_slice());
+        let counts = popped_counts(
+            self.counts_known != 0,
+            self.counts,
+            self.segments.as_slice(),
+        );
         take_last(&mut self.segments);
         self.counts = counts;
     }
@@ -142,7 +146,7 @@ impl<'p> Path<'p> {
         self.segments.truncate(1);
         self.segments.put(0, Segment::empty());
         self.counts = Counts::none();
-        self.known = 1;
+        self.counts_known = 1;
     }
 
     /// Makes the path absolute or relative, and keeps the segments. Does not allocate.
@@ -162,7 +166,7 @@ impl<S: Dotted> PathOf<S> {
         ensures* lends { sem 𝓛 (lends_segments S.row S.Dotted self.entry result) }
         ensures value { result.now ≡ self.old.segments }
     {
-        self.known = 0;
+        self.counts_known = 0;
         self.segments.as_mut_slice()
     }
 }

@@ -172,11 +172,11 @@ impl<'p> Path<'p> {
         requires { list_all spec.is_canonical self.old.segments ≡ true }
         ensures { self.new ≡ self.old }
     {
-        if self.known != 0 {
+        if self.counts_known != 0 {
             return;
         }
         self.counts = Counts::of(self.segments.as_slice());
-        self.known = 1;
+        self.counts_known = 1;
     }
 
     /// Replaces the segments that are not canonical by canonical copies.
@@ -217,7 +217,7 @@ impl<'p> Path<'p> {
     {
         make_relative(&mut self.segments);
         self.counts = Counts::of(self.segments.as_slice());
-        self.known = 1;
+        self.counts_known = 1;
     }
 
     /// Brings the path into its normal form: RFC 3986, sections 4.2 and 6.2.2. Each segment gets

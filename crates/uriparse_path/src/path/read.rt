@@ -189,7 +189,7 @@ fn read_segments<'p>(
 
 /// The path that a text begins with, which has no fault, and what follows it.
 #[derive(Clone, Copy)]
-pub struct PathCut<'t> {
+pub struct PathSplit<'t> {
     /// The text of the path.
     pub text: &'t [u8],
     /// The number of segments of the path.
@@ -214,13 +214,13 @@ fn ends_at_once(text: &[u8]) -> bool
 /// The path that a text begins with, up to the first `?` or `#`, or its leftmost fault. Reads it
 /// once. Does not allocate.
 #[inline(always)]
-pub fn split_path(text: &[u8]) -> Result<PathCut<'_>, PathError>
+pub fn split_path(text: &[u8]) -> Result<PathSplit<'_>, PathError>
     ensures { MatchResult result (λ r. BeginsWithPath text.now r.text.now r.following.now r.count r.escaped) (λ e. fault (up_to ends_path text.now) ≡ Some e) }
 {
     let (_, rest) = split_root(text);
     if ends_at_once(rest) {
         let (text, _) = text.split_at(text.len() - rest.len());
-        return Ok(PathCut {
+        return Ok(PathSplit {
             text,
             count: 1,
             escaped: 0,
@@ -230,7 +230,7 @@ pub fn split_path(text: &[u8]) -> Result<PathCut<'_>, PathError>
     let (count, len, escaped) = count_segments(MAX_SEGMENTS, true, rest)?;
     let (_, following) = rest.split_at(len);
     let (text, _) = text.split_at(text.len() - following.len());
-    Ok(PathCut {
+    Ok(PathSplit {
         text,
         count,
         escaped,

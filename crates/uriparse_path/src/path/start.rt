@@ -47,7 +47,7 @@ pub fn respell(path: &mut Path<'_>)
         return;
     }
     path.segments.remove_first();
-    path.known = 0;
+    path.counts_known = 0;
     path.absolute = 1;
 }
 
@@ -58,7 +58,7 @@ pub fn into_absolute(path: Path<'_>) -> Path<'_>
     Path {
         segments: path.segments,
         absolute: 1,
-        known: path.known,
+        counts_known: path.counts_known,
         counts: path.counts,
     }
 }

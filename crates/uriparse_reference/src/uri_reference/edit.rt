@@ -1,4 +1,4 @@
-//! Building a reference from its components, and changing one: RFC 3986, section 4.1.
+//! Changing a reference: RFC 3986, section 4.1.
 ghost use Rattle.std.specs.Prelude.{◌≡◌, Ok, Some, None, is_some, length, MatchResult};
 ghost use Rattle.uriparse_path.specs.Path.{IsListed, text};
 ghost use Rattle.uriparse_reference.specs.Reference.{path_refusal};
@@ -78,7 +78,7 @@ pub(super) fn fit_path(has_authority: bool, path: &mut Path<'_>)
 }
 
 /// The path as a reference holds it, with or without an authority.
-fn adjusted_path(has_authority: bool, path: Path<'_>) -> Path<'_>
+pub(super) fn adjusted_path(has_authority: bool, path: Path<'_>) -> Path<'_>
     ensures { result ≡ placed has_authority path.entry }
 {
     let mut path = path;
@@ -94,69 +94,10 @@ fn put_path<'r>(held: &mut Path<'r>, path: Path<'r>)
 }
 
 impl<'r> URIReference<'r> {
-    ghost use Rattle.uriparse_reference.specs.Reference.{Valid};
     ghost use Rattle.uriparse_text.specs.Readings.{Settles};
-    ghost use Rattle.uriparse_reference.specs.Edits.{IsRefused, Run, WantsMemory, edited, of_parts};
+    ghost use Rattle.uriparse_reference.specs.Edits.{IsRefused, Run, WantsMemory, edited};
     ghost use Rattle.uriparse_reference.specs.Normal.{normal};
     ghost use Rattle.uriparse_reference.specs.declared.uri_reference.edit.Edit.TheVariants as edits;
-
-    /// Builds a reference from its components: RFC 3986, sections 3.3 and 4.2. With an authority
-    /// the path is made absolute, else it becomes the one that its text spells. Does not allocate.
-    ///
-    /// Without an authority, fails with
-    /// [`AbsolutePathStartsWithTwoSlashes`](URIReferenceError::AbsolutePathStartsWithTwoSlashes) if
-    /// the path's text starts with `//`; without a scheme too, with
-    /// [`SchemelessPathStartsWithColonSegment`](URIReferenceError::SchemelessPathStartsWithColonSegment)
-    /// if it has a colon before any slash.
-    pub fn from_parts(
-        scheme: Option<Scheme<'r>>,
-        authority: Option<Authority<'r>>,
-        path: Path<'r>,
-        query: Option<Query<'r>>,
-        fragment: Option<Fragment<'r>>,
-    ) -> Result<URIReference<'r>, URIReferenceError>
-        ensures { result ≡ of_parts (record { scheme = scheme.entry; authority = authority.entry; path = path.entry; query = query.entry; fragment = fragment.entry }) }
-    {
-        let has_scheme = scheme.is_some();
-        let has_authority = authority.is_some();
-        match path_conflict(has_scheme, has_authority, &path) {
-            Some(error) => Err(error),
-            None => Ok(URIReference {
-                scheme,
-                authority,
-                path: adjusted_path(has_authority, path),
-                query,
-                fragment,
-            }),
-        }
-    }
-
-    /// The scheme, the authority, the path, the query and the fragment. Does not allocate.
-    pub fn into_parts(
-        self,
-    ) -> (
-        Option<Scheme<'r>>,
-        Option<Authority<'r>>,
-        Path<'r>,
-        Option<Query<'r>>,
-        Option<Fragment<'r>>,
-    )
-        ensures scheme { result.0 ≡ self.entry.scheme }
-        ensures authority { result.1 ≡ self.entry.authority }
-        ensures path { result.2 ≡ self.entry.path }
-        ensures query { result.3 ≡ self.entry.query }
-        ensures fragment { result.4 ≡ self.entry.fragment }
-        ensures valid { Valid self.entry }
-    {
-        let URIReference {
-            scheme,
-            authority,
-            path,
-            query,
-            fragment,
-        } = self;
-        (scheme, authority, path, query, fragment)
-    }
 
     /// Sets or removes the scheme. With neither a scheme nor an authority, fails with
     /// [`SchemelessPathStartsWithColonSegment`](URIReferenceError::SchemelessPathStartsWithColonSegment)

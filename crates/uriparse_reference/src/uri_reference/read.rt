@@ -25,7 +25,7 @@ use uriparse_path::path::{Path, PathError};
 use uriparse_scheme::internal::split_scheme;
 use uriparse_scheme::scheme::RegisteredScheme;
 use uriparse_text::fragment::FragmentKind;
-use uriparse_text::internal::{Found, find_text_before, find_text_if, no_text};
+use uriparse_text::internal::{ScannedText, find_text_before, find_text_if, no_text};
 use uriparse_text::query::{QueryError, QueryKind};
 
 /// Whether there is a scheme: its text is not empty.
@@ -100,7 +100,7 @@ pub(super) fn check_path(
 
 /// The query that follows a path, if present, and the text of the fragment that follows it.
 #[inline(always)]
-fn find_query(text: &[u8]) -> Result<(Found<'_, QueryKind>, Option<&[u8]>), QueryError>
+fn find_query(text: &[u8]) -> Result<(ScannedText<'_, QueryKind>, Option<&[u8]>), QueryError>
     ensures { let read = if_present query.reading (tail_query text.now) in MatchResult result (λ r. (read ≡ Ok r.0) × (option_copied r.1 ≡ tail_fragment text.now)) (λ e. read ≡ Err e) }
 {
     match text {
@@ -114,7 +114,7 @@ fn find_query(text: &[u8]) -> Result<(Found<'_, QueryKind>, Option<&[u8]>), Quer
 #[inline(always)]
 fn find_query_and_fragment(
     text: &[u8],
-) -> Result<(Found<'_, QueryKind>, Found<'_, FragmentKind>), URIReferenceError>
+) -> Result<(ScannedText<'_, QueryKind>, ScannedText<'_, FragmentKind>), URIReferenceError>
     ensures { result ≡ after_reading (tail_query text.now) (tail_fragment text.now) }
 {
     match find_query(text) {
@@ -131,8 +131,8 @@ pub struct ScannedTail<'t> {
     pub count: usize,
     /// 0 only if the path has no escape.
     pub escaped: usize,
-    pub query: Found<'t, QueryKind>,
-    pub fragment: Found<'t, FragmentKind>,
+    pub query: ScannedText<'t, QueryKind>,
+    pub fragment: ScannedText<'t, FragmentKind>,
 }
 
 /// Finds the path, the query and the fragment in what follows the scheme and the authority, if

@@ -1,12 +1,13 @@
 //! A URI reference in a text that it owns: RFC 3986, section 4.1.
-ghost use Rattle.std.specs.Prelude.{◌≡◌, ◌⊎◌, Err, IfErr, IfOk, IfSome, IsOk, MatchResult, Ok, Some, bytes_eq, fold, length, string_bytes};
+ghost use Rattle.std.specs.Prelude.{◌≡◌, ◌⊎◌, Err, IfErr, IfOk, IfSome, IsOk, MatchResult, Ok, Some, bytes_eq, fold, length, refl, string_bytes};
 ghost use Rattle.std.proofs.Common.{rules};
-ghost use Rattle.std.specs.Ordering.{on};
+ghost use Rattle.std.specs.Ordering.{as_partial_cmp, on};
 ghost use Rattle.std.specs.Cmp.Rules.{comparing, hashing};
 ghost use Rattle.uriparse_text.specs.Readings.{IsUnless};
 ghost use Rattle.uriparse_text.specs.declared.segment.error.PathError.TheVariants.{OutOfMemory};
 ghost use Rattle.uriparse_reference.specs.Key.{fed, fed_key, key};
-ghost use Rattle.uriparse_reference.specs.OwnedText.{AreCuts, IsReference, viewed_in};
+ghost use Rattle.uriparse_reference.specs.OwnedText.{AreOffsets, IsReference, viewed_in};
+ghost use Rattle.uriparse_reference.specs.Order.{ordered_po, ordered_ties, ordered_total, reference_cmp, reference_key_cmp};
 ghost use Rattle.uriparse_reference.specs.Reading.{fault, reading};
 ghost use Rattle.uriparse_reference.specs.View.{view_key, viewed};
 ghost use Rattle.uriparse_reference.specs.declared.uri_reference.error.URIReferenceError.TheVariants as errors;
@@ -14,8 +15,9 @@ ghost use Rattle.uriparse_reference.specs.declared.uri_reference.error.URIRefere
 use super::URIReference;
 use super::error::{RejectedText, URIReferenceError};
 use super::view::ReferenceView;
-use super::view::cuts::Cuts;
+use super::view::offsets::Offsets;
 use std::alloc::{AllocError, Global};
+use std::cmp::Ordering;
 use std::fmt;
 use std::hash::{Hash, Hasher};
 use std::marker::Model;
@@ -46,27 +48,27 @@ pub use key::ReferenceKey;
 pub struct ReferenceText {
     text: String,
     // `None` if the text has 4 GiB or more: it is read again then.
-    cuts: Option<Cuts>,
+    offsets: Option<Offsets>,
 }
 
 impl Model for ReferenceText {
     ghost use Rattle.std.specs.Prelude.{IfSome, string_bytes};
-    ghost use Rattle.uriparse_reference.specs.OwnedText.{AreCuts, IsReference, viewed_in};
+    ghost use Rattle.uriparse_reference.specs.OwnedText.{AreOffsets, IsReference, viewed_in};
     ghost use Rattle.uriparse_reference.specs.View.{Viewed};
 
     ghost Value = { Viewed };
 
     ghost view = { λ v. viewed_in (string_bytes v.text) };
 
-    ghost invariant = { λ v. IsReference (string_bytes v.text) × IfSome v.cuts (λ c. AreCuts (string_bytes v.text) c) };
+    ghost invariant = { λ v. IsReference (string_bytes v.text) × IfSome v.offsets (λ c. AreOffsets (string_bytes v.text) c) };
 }
 
 /// Where the components of a text lie, or its fault.
-fn find_cuts(text: &[u8]) -> Result<Option<Cuts>, URIReferenceError>
-    ensures { MatchResult result (λ o. IsReference text.now × IfSome o (λ c. AreCuts text.now c)) (λ e. fault text.now ≡ Some e) }
+fn find_offsets(text: &[u8]) -> Result<Option<Offsets>, URIReferenceError>
+    ensures { MatchResult result (λ o. IsReference text.now × IfSome o (λ c. AreOffsets text.now c)) (λ e. fault text.now ≡ Some e) }
 {
     match ReferenceView::try_from_bytes(text) {
-        Ok(view) => Ok(view.cuts()),
+        Ok(view) => Ok(view.offsets()),
         Err(error) => Err(error),
     }
 }
@@ -133,8 +135,8 @@ impl ReferenceText {
         // Any other comes back with its fault.
         ensures fault { MatchResult result (λ v. v ≡ viewed_in (string_bytes text)) (λ r. (r.text ≡ text) × (fault (string_bytes text) ≡ Some r.error)) }
     {
-        match find_cuts(text.as_bytes()) {
-            Ok(cuts) => Ok(ReferenceText { text, cuts }),
+        match find_offsets(text.as_bytes()) {
+            Ok(offsets) => Ok(ReferenceText { text, offsets }),
             Err(error) => Err(RejectedText { text, error }),
         }
     }
@@ -149,8 +151,8 @@ impl ReferenceText {
         ensures spelled { Spells self.now.text self.now.parts }
     {
         let text = self.text.as_bytes();
-        match &self.cuts {
-            Some(cuts) => cuts.view(text),
+        match &self.offsets {
+            Some(offsets) => offsets.view(text),
             None => view_again(text),
         }
     }
@@ -170,7 +172,10 @@ impl ReferenceText {
         ensures text { string_bytes result ≡ self.text }
         ensures spelled { Spells self.text self.parts }
     {
-        let ReferenceText { text, cuts: _cuts } = self;
+        let ReferenceText {
+            text,
+            offsets: _offsets,
+        } = self;
         text
     }
 
@@ -180,7 +185,7 @@ impl ReferenceText {
     {
         Ok(ReferenceText {
             text: String::from_str(alloc, self.text.as_str())?,
-            cuts: self.cuts,
+            offsets: self.offsets,
         })
     }
 
@@ -203,7 +208,7 @@ impl<'t> ReferenceView<'t> {
     {
         Ok(ReferenceText {
             text: String::from_str(alloc, self.as_str())?,
-            cuts: self.cuts(),
+            offsets: self.offsets(),
         })
     }
 }
@@ -251,5 +256,33 @@ impl fmt::Debug for ReferenceText {
         f.debug_tuple("ReferenceText")
             .field(&self.as_view())
             .finish()
+    }
+}
+
+impl PartialOrd for ReferenceText {
+    ghost partial_cmp = { as_partial_cmp (on view_key reference_key_cmp) };
+
+    ghost laws = { ordered_po view_key };
+
+    fn partial_cmp(&self, other: &ReferenceText) -> Option<Ordering> {
+        Some(self.cmp(other))
+    }
+}
+
+/// The order of the views.
+impl Ord for ReferenceText {
+    ghost cmp = { on view_key reference_key_cmp };
+
+    ghost total = { ordered_total view_key };
+
+    ghost matches_partial_cmp = { λ v w. refl };
+
+    ghost matches_eq = { ordered_ties view_key };
+
+    fn cmp(&self, other: &ReferenceText) -> Ordering
+        ensures key { result ≡ reference_key_cmp (view_key self.now) (view_key other.now) }
+        ensures parts { result ≡ reference_cmp self.now.parts other.now.parts }
+    {
+        self.as_view().cmp(&other.as_view())
     }
 }

@@ -23,15 +23,15 @@ use uriparse_text::internal::Held;
 use uriparse_text::query::Query;
 
 mod change;
+mod classify;
 mod compare;
-pub(in crate::uri_reference) mod cuts;
 mod end;
-mod kind;
 mod normal;
+pub(in crate::uri_reference) mod offsets;
 mod order;
 mod pairs;
 mod printed;
-mod put;
+pub(crate) mod put;
 pub(crate) mod relativize;
 mod string;
 mod target;

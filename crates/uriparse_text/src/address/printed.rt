@@ -7,44 +7,44 @@ ghost use Rattle.uriparse_text.specs.Address.{ipv4_text, ipv6_text};
 ghost use Rattle.uriparse_text.specs.Ends.{Puts};
 
 use super::{Ipv4Addr, Ipv6Addr};
-use crate::internal::put;
+use crate::internal::prepend;
 use std::net;
 
 /// Puts a number in decimal digits.
-pub fn put_decimal(number: u16, out: &mut [u8], len: usize) -> usize
+pub fn prepend_decimal(number: u16, out: &mut [u8], len: usize) -> usize
     ensures room { length out.new ≡ length out.old }
     ensures puts { Puts (decimal number) out.old len out.new result }
 {
     let mut left = number;
     let mut total = len;
     'digits: while left >= 10 {
-        total = put(&[b'0' + (left % 10) as u8], out, total);
+        total = prepend(&[b'0' + (left % 10) as u8], out, total);
         left /= 10;
     }
-    put(&[b'0' + left as u8], out, total)
+    prepend(&[b'0' + left as u8], out, total)
 }
 
 /// Puts four numbers, with dots between them.
-fn put_dotted(a: u8, b: u8, c: u8, d: u8, out: &mut [u8], len: usize) -> usize
+fn prepend_dotted(a: u8, b: u8, c: u8, d: u8, out: &mut [u8], len: usize) -> usize
     ensures room { length out.new ≡ length out.old }
     ensures puts { Puts (net_text.dotted_text a b c d) out.old len out.new result }
 {
-    let len = put_decimal(u16::from(d), out, len);
-    let len = put(b".", out, len);
-    let len = put_decimal(u16::from(c), out, len);
-    let len = put(b".", out, len);
-    let len = put_decimal(u16::from(b), out, len);
-    let len = put(b".", out, len);
-    put_decimal(u16::from(a), out, len)
+    let len = prepend_decimal(u16::from(d), out, len);
+    let len = prepend(b".", out, len);
+    let len = prepend_decimal(u16::from(c), out, len);
+    let len = prepend(b".", out, len);
+    let len = prepend_decimal(u16::from(b), out, len);
+    let len = prepend(b".", out, len);
+    prepend_decimal(u16::from(a), out, len)
 }
 
 /// Puts the text of an IPv4 address.
-pub fn put_ipv4(address: Ipv4Addr, out: &mut [u8], len: usize) -> usize
+pub fn prepend_ipv4(address: Ipv4Addr, out: &mut [u8], len: usize) -> usize
     ensures room { length out.new ≡ length out.old }
     ensures puts { Puts (ipv4_text address) out.old len out.new result }
 {
     let [a, b, c, d] = address.octets();
-    put_dotted(a, b, c, d, out, len)
+    prepend_dotted(a, b, c, d, out, len)
 }
 
 /// The hexadecimal digit of a number, in lower case.
@@ -73,7 +73,7 @@ fn leading_zeros(segment: u16) -> usize
 }
 
 /// Puts a segment of an IPv6 address.
-fn put_hex(segment: u16, out: &mut [u8], len: usize) -> usize
+fn prepend_hex(segment: u16, out: &mut [u8], len: usize) -> usize
     ensures room { length out.new ≡ length out.old }
     ensures puts { Puts (net_text.hex segment) out.old len out.new result }
 {
@@ -83,31 +83,31 @@ fn put_hex(segment: u16, out: &mut [u8], len: usize) -> usize
         hex_digit(segment / 0x10 % 16),
         hex_digit(segment % 16),
     ];
-    put(&digits[leading_zeros(segment)..], out, len)
+    prepend(&digits[leading_zeros(segment)..], out, len)
 }
 
 /// Puts a colon and a segment, for each of them.
-fn put_after_colons(segments: &[u16], out: &mut [u8], len: usize) -> usize
+fn prepend_after_colons(segments: &[u16], out: &mut [u8], len: usize) -> usize
     ensures room { length out.new ≡ length out.old }
     ensures puts { Puts (flat_map (λ s. codes ":" ++ net_text.hex s) segments.now) out.old len out.new result }
 {
     let mut total = len;
     for i in (0..segments.len()).rev() {
-        total = put_hex(segments[i], out, total);
-        total = put(b":", out, total);
+        total = prepend_hex(segments[i], out, total);
+        total = prepend(b":", out, total);
     }
     total
 }
 
 /// Puts segments, with colons between them.
-fn put_groups(segments: &[u16], out: &mut [u8], len: usize) -> usize
+fn prepend_groups(segments: &[u16], out: &mut [u8], len: usize) -> usize
     ensures room { length out.new ≡ length out.old }
     ensures puts { Puts (net_text.groups_text segments.now) out.old len out.new result }
 {
     match segments {
         [first, rest @ ..] => {
-            let len = put_after_colons(rest, out, len);
-            put_hex(*first, out, len)
+            let len = prepend_after_colons(rest, out, len);
+            prepend_hex(*first, out, len)
         }
         [] => len,
     }
@@ -132,22 +132,22 @@ fn longest_zero_run(segments: &[u16]) -> (usize, usize)
 }
 
 /// Puts segments, with `::` in place of the longest run of at least two zeros.
-fn put_shortened(segments: &[u16], out: &mut [u8], len: usize) -> usize
+fn prepend_shortened(segments: &[u16], out: &mut [u8], len: usize) -> usize
     ensures room { length out.new ≡ length out.old }
     ensures puts { Puts (net_text.hex_groups_text segments.now) out.old len out.new result }
 {
     let (start, zeros) = longest_zero_run(segments);
     if zeros > 1 {
-        let len = put_groups(&segments[start + zeros..], out, len);
-        let len = put(b"::", out, len);
-        put_groups(&segments[..start], out, len)
+        let len = prepend_groups(&segments[start + zeros..], out, len);
+        let len = prepend(b"::", out, len);
+        prepend_groups(&segments[..start], out, len)
     } else {
-        put_groups(segments, out, len)
+        prepend_groups(segments, out, len)
     }
 }
 
 /// Puts the text of an IPv6 address, without brackets.
-pub fn put_ipv6(address: Ipv6Addr, out: &mut [u8], len: usize) -> usize
+pub fn prepend_ipv6(address: Ipv6Addr, out: &mut [u8], len: usize) -> usize
     ensures room { length out.new ≡ length out.old }
     ensures puts { Puts (ipv6_text address) out.old len out.new result }
 {
@@ -155,9 +155,9 @@ pub fn put_ipv6(address: Ipv6Addr, out: &mut [u8], len: usize) -> usize
     match net::Ipv6Addr::from_segments(segments).to_ipv4_mapped() {
         Some(mapped) => {
             let [a, b, c, d] = mapped.octets();
-            let len = put_dotted(a, b, c, d, out, len);
-            put(b"::ffff:", out, len)
+            let len = prepend_dotted(a, b, c, d, out, len);
+            prepend(b"::ffff:", out, len)
         }
-        None => put_shortened(&segments, out, len),
+        None => prepend_shortened(&segments, out, len),
     }
 }

@@ -3,7 +3,7 @@ ghost use Rattle.std.specs.Prelude.{◌≡◌, true};
 ghost use Rattle.uriparse_text.specs.Ambiguous as spec;
 ghost use Rattle.uriparse_text.specs.Tokens.{has_digits};
 
-use super::cut::split_at_delimiter;
+use super::split::split_at_delimiter;
 use super::token::{Token, split_token};
 
 /// Whether a token is an escape of NUL, `%`, `/` or `\`.

@@ -7,8 +7,8 @@ ghost use Rattle.uriparse_text.specs.Cuts.{following};
 ghost use Rattle.uriparse_text.specs.Ends.{Puts, formed};
 
 use super::canonical::{MayChange, is_canonical, only_raises, spelling_len};
+use super::canonical_escape::raise_digits;
 use super::forward_buffer::append_rewritten;
-use super::pairs::raise_digits;
 use super::text::{Text, TextKind};
 use super::token::Case;
 
@@ -20,7 +20,7 @@ pub enum Form {
 }
 
 /// Puts bytes in front of a text of `len` bytes. Returns the length of both.
-pub fn put(bytes: &[u8], out: &mut [u8], len: usize) -> usize
+pub fn prepend(bytes: &[u8], out: &mut [u8], len: usize) -> usize
     ensures room { length out.new ≡ length out.old }
     ensures puts { Puts bytes.now out.old len out.new result }
 {
@@ -47,18 +47,18 @@ fn write_spelling(case: Case, text: &[u8], out: &mut [u8])
 }
 
 /// Puts the text's canonical spelling. Most texts are their own, and are copied whole.
-pub fn put_spelling(case: Case, text: &[u8], out: &mut [u8], len: usize) -> usize
+pub fn prepend_spelling(case: Case, text: &[u8], out: &mut [u8], len: usize) -> usize
     ensures room { length out.new ≡ length out.old }
     ensures puts { Puts (canonical_in case text.now) out.old len out.new result }
 {
     if is_canonical(case, text) {
-        return put(text, out, len);
+        return prepend(text, out, len);
     }
-    put_respelled(case, text, out, len)
+    prepend_respelled(case, text, out, len)
 }
 
 /// Puts the canonical spelling of any text.
-fn put_respelled(case: Case, text: &[u8], out: &mut [u8], len: usize) -> usize
+fn prepend_respelled(case: Case, text: &[u8], out: &mut [u8], len: usize) -> usize
     ensures room { length out.new ≡ length out.old }
     ensures puts { Puts (canonical_in case text.now) out.old len out.new result }
 {
@@ -72,31 +72,31 @@ fn put_respelled(case: Case, text: &[u8], out: &mut [u8], len: usize) -> usize
 }
 
 /// Puts the text in this form.
-pub fn put_formed(form: Form, case: Case, text: &[u8], out: &mut [u8], len: usize) -> usize
+pub fn prepend_formed(form: Form, case: Case, text: &[u8], out: &mut [u8], len: usize) -> usize
     ensures room { length out.new ≡ length out.old }
     ensures puts { Puts (formed form case text.now) out.old len out.new result }
 {
     match form {
-        Form::AsIs => put(text, out, len),
-        Form::Canonical => put_spelling(case, text, out, len),
+        Form::AsIs => prepend(text, out, len),
+        Form::Canonical => prepend_spelling(case, text, out, len),
     }
 }
 
 /// Puts a delimiter and the text that follows it, if there is one.
-pub fn put_after<K: TextKind>(
+pub fn prepend_following<K: TextKind>(
     form: Form,
-    mark: u8,
+    delimiter: u8,
     text: &Option<Text<'_, K>>,
     out: &mut [u8],
     len: usize,
 ) -> usize
     ensures room { length out.new ≡ length out.old }
-    ensures puts { Puts (following mark (option_map (formed form K.case) text.now)) out.old len out.new result }
+    ensures puts { Puts (following delimiter (option_map (formed form K.case) text.now)) out.old len out.new result }
 {
     match text {
         Some(text) => {
-            let len = put_formed(form, K::case(), text.as_bytes(), out, len);
-            put(&[mark], out, len)
+            let len = prepend_formed(form, K::case(), text.as_bytes(), out, len);
+            prepend(&[delimiter], out, len)
         }
         None => len,
     }

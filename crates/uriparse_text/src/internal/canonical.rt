@@ -7,8 +7,8 @@ ghost use Rattle.uriparse_text.specs.Canonical.{canonical_in, canonical_token};
 ghost use Rattle.uriparse_text.specs.Tokens.{has_digits, spell};
 ghost use Rattle.uriparse_text.specs.declared.internal.token.Case.TheVariants.{Kept};
 
+use super::canonical_escape::{lacks_changes, raise_digits, shrunk_count};
 use super::class::is_unreserved;
-use super::pairs::{lacks_changes, raise_digits, shrunk_count};
 use super::rewrite::{self, Rewriting, push_rewritten};
 use super::scan::{ByteTest, Is, by_high, by_low, first};
 use super::token::{Case, Token, first_token, split_token};

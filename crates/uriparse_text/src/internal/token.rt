@@ -8,8 +8,8 @@ ghost use Rattle.uriparse_text.specs.Canonical as canonical;
 ghost use Rattle.uriparse_text.specs.Tokens as spec;
 ghost use Rattle.uriparse_text.specs.Tokens.{has_digits};
 
+use super::canonical_escape::is_canonical_escape;
 use super::class::is_unreserved;
-use super::pairs::is_canonical_escape;
 
 /// A single byte, or an escape by its two digits.
 #[derive(Clone, Copy)]

@@ -1,6 +1,5 @@
-use Rattle.std.proofs.Common.{map, sym, ◌∙◌}
-use Rattle.uri_commands.specs.Options.{read}
-use Rattle.uri_commands.proofs.OptionLemmas.{bytes, read_goes, read_left, within}
+use Rattle.std.proofs.Common.{sym, ◌∙◌}
+use Rattle.uri_commands.proofs.OptionLemmas.{read_goes, read_left, within}
 use Rattle.uri_commands.proofs.options.read_options.Goals as goal
 
 pub options-preserved : goal.options-preserved

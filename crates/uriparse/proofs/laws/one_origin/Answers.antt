@@ -1,4 +1,4 @@
-use Rattle.std.proofs.Common.{◌≡◌, ◌++◌, ◌∷◌, [], ℕ, Bool, List, true, false, cond, Option, Some, None, inl, inr, refl, sym, ap, subst, ◌∙◌, arith, append_assoc}
+use Rattle.std.proofs.Common.{◌≡◌, ◌++◌, ◌∷◌, [], ℕ, Bool, List, true, false, cond, Option, Some, None, inl, inr, refl, sym, ap, subst, ◌∙◌, arith}
 use Rattle.std.specs.Prelude.{◌==◌, ◌⊎◌, IfSome, bytes_eq, codes, if◌then◌else◌}
 use Rattle.std.specs.Hash.{u16}
 use Rattle.std.proofs.lemmas.Bool.{and_from, and_parts, eqb-true}
@@ -8,38 +8,33 @@ use Rattle.std.specs.Str.{str_to_ascii_lowercase}
 use Rattle.uriparse_text.specs.Bytes.{colon, slash}
 use Rattle.uriparse_text.specs.Canonical.{canonical_lowered, fed_text}
 use Rattle.uriparse_text.specs.Cuts.{following}
-use Rattle.uriparse_text.proofs.lemmas.canonical.DotLemmas.{empty_segment}
 use Rattle.uriparse_authority.specs.Authority as authority
 use Rattle.uriparse_authority.specs.Authority.{AuthorityParts}
 use Rattle.uriparse_authority.specs.Host as host
-use Rattle.uriparse_authority.specs.Normal.{canonical_authority, canonical_host}
+use Rattle.uriparse_authority.specs.Normal.{canonical_host}
 use Rattle.uriparse_authority.specs.Port as port
-use Rattle.uriparse_authority.proofs.lemmas.authorities.NormalLemmas.{host_kind-canonical, host_text-canonical, valid_canonical}
+use Rattle.uriparse_authority.proofs.lemmas.authorities.NormalLemmas.{host_kind-canonical, host_text-canonical}
 use Rattle.uriparse_authority.proofs.lemmas.hosts.HostLemmas.{same_host}
 use Rattle.uriparse_scheme.specs.Scheme as scheme
 use Rattle.uriparse_scheme.specs.DefaultPort.{default_port}
 use Rattle.uriparse_scheme.specs.Normal.{canonical_scheme}
 use Rattle.uriparse_scheme.proofs.lemmas.schemes.NormalLemmas.{text-canonical}
-use Rattle.uriparse_scheme.proofs.lemmas.schemes.NormalLemmas as schemes
 use Rattle.uriparse_scheme.specs.Registered.{name_of, registered_named}
 use Rattle.uriparse_scheme.proofs.lemmas.schemes.GrammarLemmas.{canonical_low_of_scheme}
 use Rattle.uriparse_scheme.proofs.lemmas.table.TableLemmas.{canonical_name, named_itself, same_name}
 use Rattle.uriparse_scheme.specs.declared.scheme.registered.RegisteredScheme.{RegisteredScheme}
-use Rattle.uriparse.specs.Origin.{are_alike, are_both, if_named, named_host, named_port, origin, text}
+use Rattle.uriparse.specs.Origin.{are_alike, are_both, if_named, named_host, named_port, origin}
 use Rattle.std.specs.Option.{option_and_then, option_eq, option_map, option_or}
 use Rattle.uriparse_scheme.specs.declared.scheme.Scheme.{Scheme}
 use Rattle.uriparse_scheme.specs.declared.scheme.Scheme.TheVariants.{Registered, Unregistered}
 use Rattle.uriparse_authority.specs.declared.authority.host.Host.{Host}
-use Rattle.uriparse_reference.specs.Reference.{OneHidesAddress, Parts, Valid, host_of, port_of, print}
+use Rattle.uriparse_reference.specs.Reference.{OneHidesAddress, Parts, Valid, host_of, port_of}
 use Rattle.uriparse_reference.proofs.lemmas.reading.PrintedLemmas.{printed_apart}
 use Rattle.uriparse_reference.specs.Ports.{port_or_default, without_default_port}
 use Rattle.uriparse_reference.proofs.lemmas.edits.PortLemmas.{scheme_without, host_without, port_without}
 use Rattle.uriparse.specs.declared.uri.origin.Origin.{Origin}
+use Rattle.uriparse.proofs.lemmas.OriginLemmas.{made, of_origin, printed_of, valid_of}
 use Rattle.uriparse.proofs.laws.one_origin.Goals as goal
-
-abbrev made : Option Scheme → Option Host → Option ℕ → Option Origin
-made scheme host port =
-    option_and_then (λ s. option_and_then (λ h. option_map (λ n. record { scheme = s; host = h; port = n }) port) host) scheme
 
 eq_from : (m n : ℕ) → m ≡ n → (m == n) ≡ true
 eq_from m n e = grind (arith, nat_tests)
@@ -129,7 +124,7 @@ returns-clause-text c = λ p q a b v w e f h.
     ∙ ap (λ n. scheme.canonical_text b.scheme ++ (codes "://" ++ (host.canonical_text b.host
     ++ following colon (option_map port.text (cond (option_eq ◌==◌ (Some n) (default_port b.scheme)) None (Some n)))))) parts.2
 
--- ---- an origin's text stands for it: with a slash behind it, it is printed of a reference
+-- ---- an origin's text stands for it
 
 made_host : (s : Option Scheme) (h : Option Host) (n : Option ℕ) (a : Origin) → made s h n ≡ Some a → h ≡ Some a.host
 made_host None h n a e = absurd (cc)
@@ -178,49 +173,14 @@ valid_port (Some a) d n v e = by_port a.port v.is_port e
         let same : m ≡ n = cc in
         named_in_range (option_eq ◌==◌ (Some n) d) n (subst port.IsPort same is)
 
-abbrev of_origin : Origin → Parts
-of_origin o = record {
-  scheme = Some (canonical_scheme o.scheme);
-  authority = Some (canonical_authority (record { username = None; password = None; host = o.host; port = named_port o }));
-  path = record { absolute = true; segments = [] ∷ [] };
-  query = None;
-  fragment = None;
-}
-
-printed_of : (o : Origin) → print (of_origin o) ≡ text o ++ slash ∷ []
-printed_of o =
-    let s = scheme.canonical_text o.scheme in
-    let h = host.canonical_text o.host ++ following colon (option_map port.text (named_port o)) in
-    ap (λ t. print_of t (host.text (canonical_host o.host) ++ following colon (option_map port.text (named_port o)))) (text-canonical o.scheme)
-    ∙ ap (λ t. print_of s (t ++ following colon (option_map port.text (named_port o)))) (host_text-canonical o.host)
-    ∙ append_assoc s (colon ∷ []) (slash ∷ slash ∷ (h ++ slash ∷ []))
-    ∙ sym (append_assoc s (colon ∷ slash ∷ slash ∷ h) (slash ∷ []))
-  where
-    print_of : List ℕ → List ℕ → List ℕ
-    print_of s h = (s ++ colon ∷ []) ++ (slash ∷ slash ∷ (h ++ slash ∷ []))
-
-valid_of : (p : Parts) (a : Origin) → Valid p → origin p ≡ Some a → Valid (of_origin a)
-valid_of p a v e =
+valid_made : (p : Parts) (a : Origin) → Valid p → origin p ≡ Some a → Valid (of_origin a)
+valid_made p a v e =
     let there = made_scheme p.scheme (named_host p) (port_or_default p) a e in
     let used : option_and_then (λ (x : AuthorityParts). option_or x.port (default_port a.scheme)) p.authority ≡ Some a.port =
     subst (λ s. option_and_then (λ (x : AuthorityParts). option_or x.port (option_and_then default_port s)) p.authority ≡ Some a.port) there
     (made_port p.scheme (named_host p) (port_or_default p) a e) in
-    record {
-      is_scheme = schemes.valid_canonical a.scheme (valid_scheme p a v e);
-      is_authority = valid_canonical (record { username = None; password = None; host = a.host; port = named_port a }) (record {
-        is_username = tt;
-        is_password = tt;
-        paired = tt;
-        is_host = valid_host p.authority a.host v.is_authority (made_host p.scheme (named_host p) (port_or_default p) a e);
-        is_port = valid_port p.authority (default_port a.scheme) a.port v.is_authority used;
-      });
-      is_path = record { some = omega arith; short = omega arith; each = and_from _ _ empty_segment refl };
-      absolute = refl;
-      plain = refl;
-      fit = refl;
-      is_query = tt;
-      is_fragment = tt;
-    }
+    valid_of a (valid_scheme p a v e) (valid_host p.authority a.host v.is_authority (made_host p.scheme (named_host p) (port_or_default p) a e))
+    (valid_port p.authority (default_port a.scheme) a.port v.is_authority used)
 
 -- ports that are left out alike are equal
 same_port : (d : Option ℕ) (m n : ℕ) → unless (option_eq ◌==◌ (Some m) d) m ≡ unless (option_eq ◌==◌ (Some n) d) n → m ≡ n
@@ -250,7 +210,7 @@ same_parts a b v w e =
 pub returns-clause-back : goal.returns-clause-back
 returns-clause-back c = λ p q a b v w e f same.
     by_case a b (valid_scheme p a v e) (valid_scheme q b w f)
-    (printed_apart (of_origin a) (of_origin b) (valid_of p a v e) (valid_of q b w f)
+    (printed_apart (of_origin a) (of_origin b) (valid_made p a v e) (valid_made q b w f)
     (printed_of a ∙ ap (λ t. t ++ slash ∷ []) same ∙ sym (printed_of b)))
   where
     by_case : (a b : Origin) → scheme.Valid a.scheme → scheme.Valid b.scheme → (of_origin a ≡ of_origin b) ⊎ OneHidesAddress (of_origin a) (of_origin b)

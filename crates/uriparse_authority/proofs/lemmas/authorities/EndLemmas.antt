@@ -22,12 +22,10 @@ as_is (Some t) = refl
 -- the text of an authority in this form, before a text
 pub formed_print : (form : Form) (p : AuthorityParts) (t : List ℕ)
     → ahead at_sign (userinfo (option_map (formed form Kept) p.username) (option_map (formed form Kept) p.password))
-    ++ (host.text (formed_host form p.host) ++ (following colon (option_map port.text p.port) ++ t))
+    ++ ((host.text (formed_host form p.host) ++ following colon (option_map port.text p.port)) ++ t)
     ≡ print (formed_authority form p) ++ t
 formed_print form p t =
-    ap (λ u. ahead at_sign (userinfo (option_map (formed form Kept) p.username) (option_map (formed form Kept) p.password)) ++ u)
-    (sym (append_assoc (host.text (formed_host form p.host)) (following colon (option_map port.text p.port)) t))
-    ∙ sym (append_assoc (ahead at_sign (userinfo (option_map (formed form Kept) p.username) (option_map (formed form Kept) p.password)))
+    sym (append_assoc (ahead at_sign (userinfo (option_map (formed form Kept) p.username) (option_map (formed form Kept) p.password)))
     (host.text (formed_host form p.host) ++ following colon (option_map port.text p.port)) t)
     ∙ ap (λ u. u ++ t) (by_form form)
   where

@@ -11,7 +11,7 @@ ghost use Rattle.uriparse_authority.specs.Host as host;
 
 use super::super::future::{begins_future, future_fault};
 use super::HostError;
-use super::found::{ScannedHost, found_future, found_ipv4, found_ipv6, found_name};
+use super::scanned::{ScannedHost, found_future, found_ipv4, found_ipv6, found_name};
 use uriparse_text::address::{Ipv4Addr, Ipv6Addr};
 use uriparse_text::internal::{Case, Class, check_bytes};
 

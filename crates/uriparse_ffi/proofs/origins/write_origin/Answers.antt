@@ -8,12 +8,12 @@ use Rattle.uriparse_ffi.proofs.origins.write_origin.Goals as goal
 pub returns-in-Ok-clause-written : goal.returns-in-Ok-clause-written
 returns-in-Ok-clause-written c p o s h =
     let same = ok_is c.in-Ok.view _ (c.in-Ok.ensures.found p s) in
-    c.write_origin_of.ensures.written o (ap (λ (v : Viewed). origin v.parts) same ∙ h)
+    c.write_if.ensures.written o (c.origin_of.ensures ∙ ap (λ (v : Viewed). origin v.parts) same ∙ h)
 
 pub returns-in-Ok-clause-without : goal.returns-in-Ok-clause-without
 returns-in-Ok-clause-without c p s h =
     let same = ok_is c.in-Ok.view _ (c.in-Ok.ensures.found p s) in
-    c.write_origin_of.ensures.without (ap (λ (v : Viewed). origin v.parts) same ∙ h)
+    c.write_if.ensures.without (c.origin_of.ensures ∙ ap (λ (v : Viewed). origin v.parts) same ∙ h)
 
 pub returns-in-Ok-clause-refused : goal.returns-in-Ok-clause-refused
 returns-in-Ok-clause-refused c e h = absurd (no_error c.in-Ok.view (spec.code_of e) (c.in-Ok.ensures.fault e h))

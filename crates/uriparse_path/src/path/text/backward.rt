@@ -17,7 +17,9 @@ ghost use Rattle.uriparse_path.specs.Remaining as spec;
 
 use super::last::last_dots;
 use crate::path::segment::{has_colon, is_double_dots};
-use uriparse_text::internal::{Case, Form, put, put_formed, split_at_delimiter, without_delimiter};
+use uriparse_text::internal::{
+    Case, Form, prepend, prepend_formed, split_at_delimiter, without_delimiter,
+};
 
 /// A text at the end of a buffer, before what follows it there.
 #[derive(Clone, Copy)]
@@ -43,7 +45,7 @@ impl Placed {
     }
 
     /// Puts a slash, if there is to be one.
-    pub(super) fn put_root(self, rooted: bool, out: &mut [u8]) -> Placed
+    pub(super) fn prepend_root(self, rooted: bool, out: &mut [u8]) -> Placed
         ensures room { length out.new ≡ length out.old }
         ensures placed { (u t : List ℕ) → spec.IsPlaced self out.old u t → spec.IsPlaced result out.new (root rooted ++ u) t }
     {
@@ -53,19 +55,19 @@ impl Placed {
         Placed {
             rooted: true,
             twice: self.rooted,
-            len: put(b"/", out, self.len),
+            len: prepend(b"/", out, self.len),
         }
     }
 
     /// Puts a text.
-    fn put_text(self, form: Form, text: &[u8], out: &mut [u8]) -> Placed
+    fn prepend_text(self, form: Form, text: &[u8], out: &mut [u8]) -> Placed
         ensures room { length out.new ≡ length out.old }
         ensures placed { (u t : List ℕ) → spec.IsPlaced self out.old u t → spec.IsPlaced result out.new (formed form case.Kept text.now ++ u) t }
     {
         Placed {
             rooted: begins_with_slash(text, self.rooted),
             twice: begins_with_two(text, self),
-            len: put_formed(form, Case::Kept, text, out, self.len),
+            len: prepend_formed(form, Case::Kept, text, out, self.len),
         }
     }
 }
@@ -131,13 +133,13 @@ impl BackwardState {
         ensures is { spec.ProcessesAll form ended (slice_split is_slash text.now) self out.old result out.new }
     {
         let (first, _) = split_at_delimiter(text, b'/');
-        let placed = self.text.put_root(self.kept || ended, out);
+        let placed = self.text.prepend_root(self.kept || ended, out);
         BackwardState {
             double_dots: 0,
             kept: true,
             removed: false,
             colon: has_colon(first),
-            text: placed.put_text(form, text, out),
+            text: placed.prepend_text(form, text, out),
         }
     }
 

@@ -22,7 +22,7 @@ use super::last::{ends_in_dots, last_dots};
 use crate::path::normal::PathContext;
 use crate::path::read::split_root;
 use crate::path::segment::has_colon;
-use uriparse_text::internal::{Case, Form, put, put_formed, split_at_delimiter};
+use uriparse_text::internal::{Case, Form, prepend, prepend_formed, split_at_delimiter};
 
 /// Whether a text needs a leading `/.`: no authority precedes it, and it begins with two slashes.
 fn needs_dot_prefix(has_authority: bool, twice: bool) -> bool
@@ -33,13 +33,18 @@ fn needs_dot_prefix(has_authority: bool, twice: bool) -> bool
 
 /// Puts what precedes the segments of a path from which dot segments are removed: its root, and `/.`
 /// if it would begin with two slashes without an authority.
-fn put_root_prefix(state: BackwardState, rooted: bool, has_authority: bool, out: &mut [u8]) -> usize
+fn prepend_root_prefix(
+    state: BackwardState,
+    rooted: bool,
+    has_authority: bool,
+    out: &mut [u8],
+) -> usize
     ensures room { length out.new ≡ length out.old }
     ensures puts { spec.PutsRootPrefix has_authority rooted state out.old result out.new }
 {
-    let text = state.text.put_root(rooted || state.removed, out);
+    let text = state.text.prepend_root(rooted || state.removed, out);
     if needs_dot_prefix(has_authority, text.twice) {
-        return put(b"/.", out, text.len);
+        return prepend(b"/.", out, text.len);
     }
     text.len
 }
@@ -59,7 +64,7 @@ fn stays_whole(has_authority: bool, last: Option<usize>, text: &[u8]) -> bool
 
 /// Puts the text without its dot segments. Without an authority, a text that would start with `//`
 /// gets a leading `/.`. Most texts have no dot segment and are put whole, since removal keeps them.
-pub fn put_undotted(
+pub fn prepend_undotted(
     form: Form,
     has_authority: bool,
     text: &[u8],
@@ -73,16 +78,16 @@ pub fn put_undotted(
     let (rooted, rest) = split_root(text);
     let last = last_dots(rest);
     if stays_whole(has_authority, last, text) {
-        return put_formed(form, Case::Kept, text, out, len);
+        return prepend_formed(form, Case::Kept, text, out, len);
     }
     let ended = ends_in_dots(last, rest);
     let state = BackwardState::none(len).process(form, ended, rest, last, out);
-    put_root_prefix(state, rooted, has_authority, out)
+    prepend_root_prefix(state, rooted, has_authority, out)
 }
 
 /// Puts the merged paths without their dot segments: the base's up to its last slash, then the
 /// reference's.
-pub fn put_merged(
+pub fn prepend_merged(
     has_authority: bool,
     base: &[u8],
     reference: &[u8],
@@ -101,51 +106,51 @@ pub fn put_merged(
     let ended = ends_in_dots(last, reference);
     let state = BackwardState::none(len).process(Form::AsIs, ended, reference, last, out);
     let state = state.process_directory(Form::AsIs, ended, rest, out);
-    put_root_prefix(state, rooted, has_authority, out)
+    prepend_root_prefix(state, rooted, has_authority, out)
 }
 
 /// Puts this many `../`.
-pub fn put_parent_steps(count: usize, out: &mut [u8], len: usize) -> usize
+pub fn prepend_parent_steps(count: usize, out: &mut [u8], len: usize) -> usize
     ensures room { length out.new ≡ length out.old }
     ensures puts { (t : List ℕ) → EndsWith out.old len t → EndsWith out.new result (spec.with_parent_steps count t) }
 {
     let mut total = len;
     for _ in 0..count {
-        total = put(b"../", out, total);
+        total = prepend(b"../", out, total);
     }
     total
 }
 
 /// Puts this many `..`, with slashes between them, and with one at the end if a text follows.
-fn put_double_dots(double_dots: usize, more: bool, out: &mut [u8], len: usize) -> usize
+fn prepend_double_dots(double_dots: usize, more: bool, out: &mut [u8], len: usize) -> usize
     requires { 0 < double_dots }
     ensures room { length out.new ≡ length out.old }
     ensures puts { (t : List ℕ) → EndsWith out.old len t → EndsWith out.new result (spec.climbed double_dots more t) }
 {
     if more {
-        return put_parent_steps(double_dots, out, len);
+        return prepend_parent_steps(double_dots, out, len);
     }
-    let len = put(b"..", out, len);
-    put_parent_steps(double_dots - 1, out, len)
+    let len = prepend(b"..", out, len);
+    prepend_parent_steps(double_dots - 1, out, len)
 }
 
 /// Puts what precedes the segments of a path that stays relative: the `..` that are left, or `./` if
 /// it is needed.
-fn put_relative_prefix(state: BackwardState, had_colon: bool, out: &mut [u8]) -> usize
+fn prepend_relative_prefix(state: BackwardState, had_colon: bool, out: &mut [u8]) -> usize
     ensures room { length out.new ≡ length out.old }
     ensures puts { (ended : Bool) (l : spec.Remaining) (t : List ℕ) → spec.IsBackwardState Canonical ended l state out.old t → EndsWith out.new result (spec.relative_text had_colon ended l ++ t) }
 {
     if state.double_dots > 0 {
-        return put_double_dots(state.double_dots, state.kept, out, state.text.len);
+        return prepend_double_dots(state.double_dots, state.kept, out, state.text.len);
     }
     if state.text.rooted || (state.colon && !had_colon) {
-        return put(b"./", out, state.text.len);
+        return prepend(b"./", out, state.text.len);
     }
     state.text.len
 }
 
 /// Puts the relative normal form of a text that begins with no slash.
-fn put_relative(text: &[u8], out: &mut [u8], len: usize) -> usize
+fn prepend_relative(text: &[u8], out: &mut [u8], len: usize) -> usize
     requires path { IsPath text.now }
     requires relative { is_rooted text.now ≡ false }
     ensures room { length out.new ≡ length out.old }
@@ -155,19 +160,19 @@ fn put_relative(text: &[u8], out: &mut [u8], len: usize) -> usize
     let last = last_dots(text);
     let ended = ends_in_dots(last, text);
     let state = BackwardState::none(len).process(Form::Canonical, ended, text, last, out);
-    put_relative_prefix(state, has_colon(first), out)
+    prepend_relative_prefix(state, has_colon(first), out)
 }
 
 /// Puts the normal form of a path's text at this place in a reference.
-pub fn put_normal_path(text: &[u8], context: PathContext, out: &mut [u8], len: usize) -> usize
+pub fn prepend_normal_path(text: &[u8], context: PathContext, out: &mut [u8], len: usize) -> usize
     requires { IsPath text.now }
     ensures room { length out.new ≡ length out.old }
     ensures puts { Puts (path.text (normal_at context (spelled text.now))) out.old len out.new result }
 {
     let (rooted, _) = split_root(text);
     if context.has_scheme || rooted {
-        put_undotted(Form::Canonical, context.has_authority, text, out, len)
+        prepend_undotted(Form::Canonical, context.has_authority, text, out, len)
     } else {
-        put_relative(text, out, len)
+        prepend_relative(text, out, len)
     }
 }

@@ -23,8 +23,8 @@ use Rattle.uriparse_scheme.specs.Cuts.{if_some}
 use Rattle.uriparse_scheme.specs.Registered.{name_of}
 use Rattle.uriparse_path.specs.Path.{IsPath, pieces}
 use Rattle.uriparse_reference.specs.declared.uri_reference.error.URIReferenceError.{URIReferenceError}
-use Rattle.uriparse_reference.specs.declared.uri_reference.view.cuts.Cuts.{Cuts}
-use Rattle.uriparse_reference.specs.OwnedText.{AreCuts, IsAuthorityOf, IsReference, front_at, gap, parts_in, parts_read, path_at, query_at, tail_at, viewed_in}
+use Rattle.uriparse_reference.specs.declared.uri_reference.view.offsets.Offsets.{Offsets}
+use Rattle.uriparse_reference.specs.OwnedText.{AreOffsets, IsAuthorityOf, IsReference, front_at, gap, parts_in, parts_read, path_at, query_at, tail_at, viewed_in}
 use Rattle.uriparse_reference.specs.Reading.{fault, parts_of}
 use Rattle.uriparse_reference.specs.Reference.{Parts, Spells, after_slashes, joined}
 use Rattle.uriparse_reference.specs.View.{AreFound}
@@ -156,16 +156,16 @@ laid_out t front h q f path query fragment whole x y z =
       from_path = ap (drop path) c ∙ dropped front h path z;
     }
 
-pub cuts_are : (t s : List ℕ) (k : Option RegisteredScheme) (a : Option AuthorityParts) (h : List ℕ) (m e : ℕ) (q f : Option (List ℕ))
+pub offsets_are : (t s : List ℕ) (k : Option RegisteredScheme) (a : Option AuthorityParts) (h : List ℕ) (m e : ℕ) (q f : Option (List ℕ))
     → AreFound t s k a h m e q f
     → (has_query query_len : ℕ) → AreWords class.Query case.Kept has_query query_len q
     → (has_fragment fragment_len : ℕ) → AreWords class.Query case.Kept has_fragment fragment_len f
     → (kind name : ℕ) (port : Option ℕ) → ((x : List ℕ) → IfSome a (λ p. authority.reading x ≡ Ok p) → IsAuthorityOf kind name port x a)
-    → (c : Cuts) → c.fragment ≡ cond (has_fragment == 0) (length t) (length t - fragment_len - 1)
+    → (c : Offsets) → c.fragment ≡ cond (has_fragment == 0) (length t) (length t - fragment_len - 1)
     → c.query ≡ cond (has_query == 0) c.fragment (c.fragment - query_len - 1) → c.path ≡ c.query - length h → c.scheme ≡ length s → c.count ≡ m
     → c.name ≡ name → c.port ≡ port → c.known ≡ k → c.authority_kind ≡ kind → c.has_query ≡ has_query → c.has_fragment ≡ has_fragment
-    → (c.escaped ≡ 0 → e ≡ 0) → AreCuts t c
-cuts_are t s k a h m e q f are has_query query_len query_words has_fragment fragment_len fragment_words kind name port at_authority c fragment_is query_is
+    → (c.escaped ≡ 0 → e ≡ 0) → AreOffsets t c
+offsets_are t s k a h m e q f are has_query query_len query_words has_fragment fragment_len fragment_words kind name port at_authority c fragment_is query_is
     path_is scheme_is count_is name_is port_is known_is kind_is has_query_is has_fragment_is escaped_is =
     let p = parts_of t a h q f in
     let spelled : Spells t p = found t p are.is_read in

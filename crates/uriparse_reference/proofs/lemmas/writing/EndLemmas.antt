@@ -85,28 +85,28 @@ put s a x q f =
     (ahead colon (option_map scheme.text s) ++ after_slashes (option_map print_authority a)) ++ (x ++ (following question_mark q ++ following number_sign f))
 
 -- as they are, or in canonical spelling
-abbrev pub put_text : Form → Option Scheme → Option AuthorityParts → List ℕ → Option (List ℕ) → Option (List ℕ) → List ℕ
-put_text form s a x q f =
+abbrev pub prepend_text : Form → Option Scheme → Option AuthorityParts → List ℕ → Option (List ℕ) → Option (List ℕ) → List ℕ
+prepend_text form s a x q f =
     put (option_map (formed_scheme form) s) (option_map (formed_authority form) a) x (option_map (formed form Kept) q) (option_map (formed form Kept) f)
 
 -- those of a reference
 pub same_text : (form : Form) (p : Parts) (s : Option Scheme) (a : Option AuthorityParts) (x y : List ℕ) (q f : Option (List ℕ)) → s ≡ p.scheme
-    → a ≡ p.authority → x ≡ y → q ≡ p.query → f ≡ p.fragment → put_text form s a x q f ≡ put_text form p.scheme p.authority y p.query p.fragment
+    → a ≡ p.authority → x ≡ y → q ≡ p.query → f ≡ p.fragment → prepend_text form s a x q f ≡ prepend_text form p.scheme p.authority y p.query p.fragment
 same_text form p s a x y q f e g h i j =
-    ap (λ u. put_text form u a x q f) e
-    ∙ ap (λ u. put_text form p.scheme u x q f) g
-    ∙ ap (λ u. put_text form p.scheme p.authority u q f) h
-    ∙ ap (λ u. put_text form p.scheme p.authority y u f) i
-    ∙ ap (λ u. put_text form p.scheme p.authority y p.query u) j
+    ap (λ u. prepend_text form u a x q f) e
+    ∙ ap (λ u. prepend_text form p.scheme u x q f) g
+    ∙ ap (λ u. prepend_text form p.scheme p.authority u q f) h
+    ∙ ap (λ u. prepend_text form p.scheme p.authority y u f) i
+    ∙ ap (λ u. prepend_text form p.scheme p.authority y p.query u) j
 
-pub normal_text : (p : Parts) → put_text Canonical p.scheme p.authority (text (normal p).path) p.query p.fragment ≡ print (normal p)
+pub normal_text : (p : Parts) → prepend_text Canonical p.scheme p.authority (text (normal p).path) p.query p.fragment ≡ print (normal p)
 normal_text p =
     append_assoc (ahead colon (option_map scheme.text (option_map canonical_scheme p.scheme)))
     (after_slashes (option_map print_authority (option_map canonical_authority p.authority)))
     (text (normal p).path ++ (following question_mark (option_map canonical p.query) ++ following number_sign (option_map canonical p.fragment)))
 
 pub joined_text : (s : Option Scheme) (a : Option AuthorityParts) (x : List ℕ) (q f : Option (List ℕ))
-    → put_text AsIs s a x q f ≡ joined (option_map scheme.text s) (option_map print_authority a) x q f
+    → prepend_text AsIs s a x q f ≡ joined (option_map scheme.text s) (option_map print_authority a) x q f
 joined_text s a x q f =
     ap (λ u. put u (option_map (formed_authority AsIs) a) x (option_map (formed AsIs Kept) q) (option_map (formed AsIs Kept) f)) (scheme_as_is s)
     ∙ ap (λ u. put s u x (option_map (formed AsIs Kept) q) (option_map (formed AsIs Kept) f)) (authority_as_is a)

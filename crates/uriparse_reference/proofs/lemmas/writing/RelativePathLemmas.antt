@@ -223,8 +223,8 @@ module _ (b t base target l r : List ℕ) (n m k : ℕ) (cut_base : base ≡ unr
 
 -- ---- in a buffer
 
-pub put_dotted : (n : ℕ) (rest t : List ℕ) (v : Bool) → v ≡ true → dot ∷ slash ∷ with_parent_steps n (rest ++ t) ≡ stepped_text v n rest ++ t
-put_dotted n rest t v e = ap (λ u. dot ∷ slash ∷ u) (sym (steps-append n rest t)) ∙ sym (ap (λ w. stepped_text w n rest ++ t) e)
+pub prepend_dotted : (n : ℕ) (rest t : List ℕ) (v : Bool) → v ≡ true → dot ∷ slash ∷ with_parent_steps n (rest ++ t) ≡ stepped_text v n rest ++ t
+prepend_dotted n rest t v e = ap (λ u. dot ∷ slash ∷ u) (sym (steps-append n rest t)) ∙ sym (ap (λ w. stepped_text w n rest ++ t) e)
 
 pub put_plain : (n : ℕ) (rest t : List ℕ) (v : Bool) → v ≡ false → with_parent_steps n (rest ++ t) ≡ stepped_text v n rest ++ t
 put_plain n rest t v e = sym (steps-append n rest t) ∙ sym (ap (λ w. stepped_text w n rest ++ t) e)

@@ -9,7 +9,7 @@ ghost use Rattle.uriparse_reference.specs.declared.uri_reference.edit.Edit.TheVa
 
 use super::super::same::has_same_text;
 use super::ReferenceText;
-use super::make::{checked_text, known_cuts};
+use super::make::{checked_text, known_offsets};
 use std::alloc::{AllocError, Global};
 use uriparse_text::fragment::Fragment;
 use uriparse_text::internal::Held;
@@ -105,7 +105,7 @@ impl ReferenceText {
     {
         let len = self.as_view().len_before_fragment();
         self.text.truncate(len);
-        self.cuts = known_cuts(self.text.as_bytes());
+        self.offsets = known_offsets(self.text.as_bytes());
     }
 
     /// The reference without its fragment, in the same memory: RFC 3986, section 4.3. Does not

@@ -2,7 +2,7 @@
 //! its own: RFC 3986, sections 5.2, 5.3 and 6.2.2.
 ghost use Rattle.std.specs.Prelude.{◌≡◌, Err, IfOk, IfSome, IsOk, MatchOption, MatchResult, is_some, string_bytes, true, false};
 ghost use Rattle.uriparse_reference.specs.Normal.{normal};
-ghost use Rattle.uriparse_reference.specs.OwnedText.{AreCuts, IsReference, viewed_in};
+ghost use Rattle.uriparse_reference.specs.OwnedText.{AreOffsets, IsReference, viewed_in};
 ghost use Rattle.uriparse_reference.specs.Reference.{ReadsBack, Spells, print};
 ghost use Rattle.uriparse_reference.specs.Relate.{relative};
 ghost use Rattle.uriparse_reference.specs.Target.{ResolvesTo};
@@ -12,18 +12,18 @@ ghost use Rattle.uriparse_reference.specs.declared.uri_reference.error.TargetErr
 use super::super::URIReference;
 use super::super::error::TargetError;
 use super::super::view::ReferenceView;
-use super::super::view::cuts::Cuts;
+use super::super::view::offsets::Offsets;
 use super::super::view::relativize::relativize_to_string;
-use super::{ReferenceText, find_cuts};
+use super::{ReferenceText, find_offsets};
 use std::alloc::{AllocError, Global};
 
 /// Where the components lie of a text that is known to be a reference. The text is walked once.
-pub(super) fn known_cuts(text: &[u8]) -> Option<Cuts>
+pub(super) fn known_offsets(text: &[u8]) -> Option<Offsets>
     requires { IsReference text.now }
-    ensures { IfSome result (λ c. AreCuts text.now c) }
+    ensures { IfSome result (λ c. AreOffsets text.now c) }
 {
-    match find_cuts(text) {
-        Ok(cuts) => cuts,
+    match find_offsets(text) {
+        Ok(offsets) => offsets,
         Err(_) => None,
     }
 }
@@ -34,8 +34,8 @@ pub(super) fn checked_text(text: String) -> ReferenceText
     requires { IsReference (string_bytes text) }
     ensures { result ≡ viewed_in (string_bytes text) }
 {
-    let cuts = known_cuts(text.as_bytes());
-    ReferenceText { text, cuts }
+    let offsets = known_offsets(text.as_bytes());
+    ReferenceText { text, offsets }
 }
 
 impl ReferenceText {

@@ -17,75 +17,80 @@ use super::super::change::{ChangeError, Changes};
 use super::ReferenceView;
 use super::put::{PutText, make_string};
 use std::alloc::{AllocError, Global};
-use uriparse_text::internal::put;
+use uriparse_text::internal::prepend;
 
 /// Puts a delimiter and the string that follows it, if it is present.
-fn put_following(mark: u8, string: Option<&[u8]>, out: &mut [u8], len: usize) -> usize
+fn prepend_following(delimiter: u8, string: Option<&[u8]>, out: &mut [u8], len: usize) -> usize
     ensures room { length out.new ≡ length out.old }
-    ensures puts { Puts (following mark (option_copied string.entry)) out.old len out.new result }
+    ensures puts { Puts (following delimiter (option_copied string.entry)) out.old len out.new result }
 {
     match string {
         Some(string) => {
-            let len = put(string, out, len);
-            put(&[mark], out, len)
+            let len = prepend(string, out, len);
+            prepend(&[delimiter], out, len)
         }
         None => len,
     }
 }
 
 /// Puts the user name, the password and an `@`, if there is a user name.
-fn put_user(username: Option<&[u8]>, password: Option<&[u8]>, out: &mut [u8], len: usize) -> usize
+fn prepend_user(
+    username: Option<&[u8]>,
+    password: Option<&[u8]>,
+    out: &mut [u8],
+    len: usize,
+) -> usize
     ensures room { length out.new ≡ length out.old }
     ensures puts { Puts (ahead at_sign (userinfo (option_copied username.entry) (option_copied password.entry))) out.old len out.new result }
 {
     match username {
         Some(username) => {
-            let len = put(b"@", out, len);
-            let len = put_following(b':', password, out, len);
-            put(username, out, len)
+            let len = prepend(b"@", out, len);
+            let len = prepend_following(b':', password, out, len);
+            prepend(username, out, len)
         }
         None => len,
     }
 }
 
 /// Puts two slashes and the authority, if there is one.
-fn put_authority(strings: &Option<AuthorityStrings<'_>>, out: &mut [u8], len: usize) -> usize
+fn prepend_authority(strings: &Option<AuthorityStrings<'_>>, out: &mut [u8], len: usize) -> usize
     ensures room { length out.new ≡ length out.old }
     ensures puts { Puts (after_slashes (option_map spec.authority_whole strings.now)) out.old len out.new result }
 {
     match strings {
         Some(strings) => {
-            let len = put_following(b':', strings.port, out, len);
-            let len = put(strings.host, out, len);
-            let len = put_user(strings.username, strings.password, out, len);
-            put(b"//", out, len)
+            let len = prepend_following(b':', strings.port, out, len);
+            let len = prepend(strings.host, out, len);
+            let len = prepend_user(strings.username, strings.password, out, len);
+            prepend(b"//", out, len)
         }
         None => len,
     }
 }
 
 /// Puts the path, with a slash before it if it needs one after an authority.
-fn put_path(has_authority: bool, path: &[u8], out: &mut [u8], len: usize) -> usize
+fn prepend_path(has_authority: bool, path: &[u8], out: &mut [u8], len: usize) -> usize
     ensures room { length out.new ≡ length out.old }
     ensures puts { Puts (spec.after_authority has_authority path.now) out.old len out.new result }
 {
-    let len = put(path, out, len);
+    let len = prepend(path, out, len);
     match path {
         [] | [b'/', ..] => len,
-        _ if has_authority => put(b"/", out, len),
+        _ if has_authority => prepend(b"/", out, len),
         _ => len,
     }
 }
 
 /// Puts the scheme and a colon, if there is one.
-fn put_scheme(scheme: Option<&[u8]>, out: &mut [u8], len: usize) -> usize
+fn prepend_scheme(scheme: Option<&[u8]>, out: &mut [u8], len: usize) -> usize
     ensures room { length out.new ≡ length out.old }
     ensures puts { Puts (ahead colon (option_copied scheme.entry)) out.old len out.new result }
 {
     match scheme {
         Some(scheme) => {
-            let len = put(b":", out, len);
-            put(scheme, out, len)
+            let len = prepend(b":", out, len);
+            prepend(scheme, out, len)
         }
         None => len,
     }
@@ -102,11 +107,11 @@ impl<'s> PutText for ChangedText<'s> {
 
     fn put(&self, out: &mut [u8]) -> usize {
         let strings = &self.0;
-        let len = put_following(b'#', strings.fragment, out, 0);
-        let len = put_following(b'?', strings.query, out, len);
-        let len = put_path(strings.authority.is_some(), strings.path, out, len);
-        let len = put_authority(&strings.authority, out, len);
-        put_scheme(strings.scheme, out, len)
+        let len = prepend_following(b'#', strings.fragment, out, 0);
+        let len = prepend_following(b'?', strings.query, out, len);
+        let len = prepend_path(strings.authority.is_some(), strings.path, out, len);
+        let len = prepend_authority(&strings.authority, out, len);
+        prepend_scheme(strings.scheme, out, len)
     }
 }
 

@@ -7,10 +7,10 @@ ghost use Rattle.uriparse_reference.specs.TextEdits.{with_end, with_fragment};
 
 use super::ReferenceView;
 use super::put::{PutText, make_string};
-use super::write::put_query_and_fragment;
+use super::write::prepend_query_and_fragment;
 use std::alloc::{AllocError, Global};
 use uriparse_text::fragment::Fragment;
-use uriparse_text::internal::{Form, Held, put};
+use uriparse_text::internal::{Form, Held, prepend};
 use uriparse_text::query::Query;
 
 /// The text of a view with this query and this fragment in place of its own.
@@ -29,8 +29,8 @@ impl<'v, 't> PutText for TextWithEnd<'v, 't> {
     fn put(&self, out: &mut [u8]) -> usize {
         let view = self.view;
         view.assert_valid();
-        let len = put_query_and_fragment(Form::AsIs, self.query, self.fragment, out);
-        put(view.without_end(), out, len)
+        let len = prepend_query_and_fragment(Form::AsIs, self.query, self.fragment, out);
+        prepend(view.without_end(), out, len)
     }
 }
 
@@ -41,7 +41,7 @@ impl<'t> ReferenceView<'t> {
     {
         let text = self.as_str().as_bytes();
         let (query, fragment) = (Held(self.query()), Held(self.fragment()));
-        let len = put_query_and_fragment(Form::AsIs, &query.0, &fragment.0, &mut []);
+        let len = prepend_query_and_fragment(Form::AsIs, &query.0, &fragment.0, &mut []);
         &text[..text.len() - len]
     }
 
@@ -52,7 +52,7 @@ impl<'t> ReferenceView<'t> {
     {
         let text = self.as_str().as_bytes();
         let fragment = Held(self.fragment());
-        let len = put_query_and_fragment(Form::AsIs, &None, &fragment.0, &mut []);
+        let len = prepend_query_and_fragment(Form::AsIs, &None, &fragment.0, &mut []);
         text.len() - len
     }
 

@@ -7,10 +7,8 @@ ghost use Rattle.std.specs.Ordering.{as_partial_cmp, nat_cmp, on};
 ghost use Rattle.uriparse_authority.specs.Order.{rank_cmp};
 ghost use Rattle.uriparse_reference.specs.Order.{ordered_po, ordered_ties, ordered_total, rank, reference_cmp, reference_key_cmp};
 ghost use Rattle.uriparse_reference.specs.Reference.{Valid};
-ghost use Rattle.uriparse_reference.specs.TextKey.{keyed};
 ghost use Rattle.uriparse_reference.specs.View.{view_key};
 
-use super::super::text::{ReferenceKey, ReferenceText};
 use super::ReferenceView;
 use std::cmp::Ordering;
 use uriparse_path::internal::compare_path_texts;
@@ -100,66 +98,5 @@ impl<'t> Ord for ReferenceView<'t> {
         ensures parts { result ≡ reference_cmp self.now.parts other.now.parts }
     {
         self.compare_each(other)
-    }
-}
-
-impl PartialOrd for ReferenceText {
-    ghost partial_cmp = { as_partial_cmp (on view_key reference_key_cmp) };
-
-    ghost laws = { ordered_po view_key };
-
-    fn partial_cmp(&self, other: &ReferenceText) -> Option<Ordering> {
-        Some(self.cmp(other))
-    }
-}
-
-/// The order of the views.
-impl Ord for ReferenceText {
-    ghost cmp = { on view_key reference_key_cmp };
-
-    ghost total = { ordered_total view_key };
-
-    ghost matches_partial_cmp = { λ v w. refl };
-
-    ghost matches_eq = { ordered_ties view_key };
-
-    fn cmp(&self, other: &ReferenceText) -> Ordering
-        ensures key { result ≡ reference_key_cmp (view_key self.now) (view_key other.now) }
-        ensures parts { result ≡ reference_cmp self.now.parts other.now.parts }
-    {
-        self.as_view().cmp(&other.as_view())
-    }
-}
-
-impl<'v> PartialOrd for ReferenceKey<'v> {
-    ghost partial_cmp = { as_partial_cmp (on (λ k. view_key (keyed k)) reference_key_cmp) };
-
-    ghost laws = { ordered_po (λ k. view_key (keyed k)) };
-
-    fn partial_cmp(&self, other: &ReferenceKey<'v>) -> Option<Ordering> {
-        Some(self.cmp(other))
-    }
-}
-
-/// The order of the references, whatever holds them.
-impl<'v> Ord for ReferenceKey<'v> {
-    ghost cmp = { on (λ k. view_key (keyed k)) reference_key_cmp };
-
-    ghost total = { ordered_total (λ k. view_key (keyed k)) };
-
-    ghost matches_partial_cmp = { λ k l. refl };
-
-    ghost matches_eq = { ordered_ties (λ k. view_key (keyed k)) };
-
-    fn cmp(&self, other: &ReferenceKey<'v>) -> Ordering
-        ensures key { result ≡ reference_key_cmp (view_key (keyed self.now)) (view_key (keyed other.now)) }
-        ensures parts { result ≡ reference_cmp (keyed self.now).parts (keyed other.now).parts }
-    {
-        match (self, other) {
-            (ReferenceKey::Text(text), ReferenceKey::Text(other)) => text.cmp(other),
-            (ReferenceKey::Text(text), ReferenceKey::View(view)) => text.as_view().cmp(&**view),
-            (ReferenceKey::View(view), ReferenceKey::Text(text)) => (**view).cmp(&text.as_view()),
-            (ReferenceKey::View(view), ReferenceKey::View(other)) => (**view).cmp(&**other),
-        }
     }
 }

@@ -5,7 +5,7 @@ ghost use Rattle.uriparse_text.specs.Query.{IsQuery};
 ghost use Rattle.uriparse_reference.specs.PairEdits as spec;
 
 use super::ReferenceView;
-use super::cuts::skip;
+use super::offsets::skip;
 use uriparse_text::internal::{
     Named, checked_text, find_pair, split_at_delimiter, without_delimiter,
 };

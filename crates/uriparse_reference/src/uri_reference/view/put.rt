@@ -8,7 +8,7 @@ use super::super::error::BufferError;
 use std::alloc::{AllocError, Global};
 
 /// A text that is put together from its end in a buffer.
-pub(super) trait PutText {
+pub trait PutText {
     // What has to hold to put it.
     ghost can_be_put: { Self → Type 0 };
 
@@ -30,8 +30,8 @@ const BLOCK: usize = 256;
 /// The number of bytes of the block for a longer text.
 const LONG_BLOCK: usize = 2_048;
 
-/// Whether a block of this length serves a text that is put together from texts of `len` bytes: it is
-/// to be written, not only measured, and is not likely to be longer than the block.
+/// Whether a block of this length serves a text of about `len` bytes: it is to be written, not only
+/// measured, and is not likely to be longer than the block.
 #[inline(always)]
 fn serves_block(block: usize, len: usize, out: &[u8]) -> bool {
     len <= block && !out.is_empty()
@@ -84,10 +84,10 @@ fn write_long<T: PutText>(text: &T, out: &mut [u8]) -> Option<Result<usize, Buff
     write_by(text, &mut [0; LONG_BLOCK], out)
 }
 
-/// Writes a text, which is put together from texts of `len` bytes, to the start of the buffer. Most
-/// texts are put together once, in a block whose end then has the text, and copied; a text that is
-/// longer, or whose length alone is wanted, is measured first.
-pub(super) fn write<T: PutText>(text: &T, len: usize, out: &mut [u8]) -> Result<usize, BufferError>
+/// Writes a text to the start of the buffer. `len` estimates its length. Most texts are put together
+/// once, in a block whose end then has the text, and copied; a text that is longer than the block, or
+/// whose length alone is wanted, is measured first.
+pub fn write<T: PutText>(text: &T, len: usize, out: &mut [u8]) -> Result<usize, BufferError>
     requires { T.can_be_put text.now }
     ensures { spec.Writes (T.text text.now) result out.old out.new }
 {
@@ -109,7 +109,7 @@ pub(super) fn write<T: PutText>(text: &T, len: usize, out: &mut [u8]) -> Result<
 }
 
 /// The text in a `String`. Allocates once, exactly its length.
-pub(super) fn make_string<T: PutText>(alloc: Global, text: &T) -> Result<String, AllocError>
+pub fn make_string<T: PutText>(alloc: Global, text: &T) -> Result<String, AllocError>
     requires { T.can_be_put text.now }
     ensures { IfOk result (λ s. string_bytes s ≡ T.text text.now) }
 {

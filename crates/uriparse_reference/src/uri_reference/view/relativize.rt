@@ -12,7 +12,7 @@ use super::super::error::BufferError;
 use super::super::same::{has_same_authority, has_same_scheme, has_same_text};
 use super::ReferenceView;
 use super::put::{PutText, make_string, write};
-use super::write::{put_query_and_fragment, put_scheme_and_authority};
+use super::write::{prepend_query_and_fragment, prepend_scheme_and_authority};
 use std::alloc::{AllocError, Global};
 use uriparse_authority::authority::Authority;
 use uriparse_path::internal::has_dot_segment;
@@ -23,7 +23,7 @@ use uriparse_text::query::Query;
 
 mod path;
 
-use path::{PathText, inner, put_path, whole_path};
+use path::{PathText, inner, prepend_path, whole_path};
 
 /// What a reference is put together from that leads to a target. It borrows the target's texts.
 #[derive(Drop)]
@@ -141,9 +141,9 @@ impl<'t> PutText for RelativeParts<'t> {
     ghost text = { λ l. spec.text_of l };
 
     fn put(&self, out: &mut [u8]) -> usize {
-        let len = put_query_and_fragment(Form::AsIs, &self.query, &self.fragment, out);
-        let len = put_path(&self.path, out, len);
-        put_scheme_and_authority(Form::AsIs, &self.scheme, &self.authority, out, len)
+        let len = prepend_query_and_fragment(Form::AsIs, &self.query, &self.fragment, out);
+        let len = prepend_path(&self.path, out, len);
+        prepend_scheme_and_authority(Form::AsIs, &self.scheme, &self.authority, out, len)
     }
 }
 

@@ -13,10 +13,10 @@ ghost use Rattle.uriparse_reference.specs.Into as spec;
 use super::super::error::BufferError;
 use super::ReferenceView;
 use super::put::{PutText, write};
-use super::write::{put_query_and_fragment, put_scheme_and_authority};
-use uriparse_path::internal::{put_merged, put_undotted};
+use super::write::{prepend_query_and_fragment, prepend_scheme_and_authority};
+use uriparse_path::internal::{prepend_merged, prepend_undotted};
 use uriparse_path::path::MAX_SEGMENTS;
-use uriparse_text::internal::{Form, put};
+use uriparse_text::internal::{Form, prepend};
 
 /// The text of the target of a reference against a base.
 #[derive(Drop)]
@@ -35,7 +35,7 @@ impl<'v, 't> PutText for TargetText<'v, 't> {
         let (base, reference) = (self.base, self.reference);
         base.assert_valid();
         reference.assert_valid();
-        base.put_target(reference, out)
+        base.prepend_target(reference, out)
     }
 }
 
@@ -90,42 +90,42 @@ impl<'t> ReferenceView<'t> {
     }
 
     /// Puts the path without its dot segments, the query and the fragment at the end of the buffer.
-    fn put_own_tail(&self, has_authority: bool, out: &mut [u8]) -> usize
+    fn prepend_own_tail(&self, has_authority: bool, out: &mut [u8]) -> usize
         ensures room { length out.new ≡ length out.old }
         ensures ends { EndsWith out.new result (spec.tail_text (with_dot_prefix_unless has_authority (dots_removed (text self.now.parts.path))) self.now.parts.query self.now.parts.fragment) }
     {
-        let len = put_query_and_fragment(Form::AsIs, &self.query(), &self.fragment(), out);
-        put_undotted(Form::AsIs, has_authority, self.path_bytes(), out, len)
+        let len = prepend_query_and_fragment(Form::AsIs, &self.query(), &self.fragment(), out);
+        prepend_undotted(Form::AsIs, has_authority, self.path_bytes(), out, len)
     }
 
     /// Puts the path of this base as it is, the query of the reference or else of the base, and the
     /// fragment of the reference.
-    fn put_same_tail(&self, reference: &ReferenceView<'_>, out: &mut [u8]) -> usize
+    fn prepend_same_tail(&self, reference: &ReferenceView<'_>, out: &mut [u8]) -> usize
         ensures room { length out.new ≡ length out.old }
         ensures valid { Valid self.now.parts }
         ensures ends { EndsWith out.new result (spec.tail_text self.now.parts.path (option_or reference.now.parts.query self.now.parts.query) reference.now.parts.fragment) }
     {
         let query = reference.query().or(self.query());
-        let len = put_query_and_fragment(Form::AsIs, &query, &reference.fragment(), out);
-        put(self.path_bytes(), out, len)
+        let len = prepend_query_and_fragment(Form::AsIs, &query, &reference.fragment(), out);
+        prepend(self.path_bytes(), out, len)
     }
 
     /// Puts the merged paths without their dot segments, and the query and the fragment of the
     /// reference.
-    fn put_merged_tail(&self, reference: &ReferenceView<'_>, out: &mut [u8]) -> usize
+    fn prepend_merged_tail(&self, reference: &ReferenceView<'_>, out: &mut [u8]) -> usize
         requires merged { is_merged reference.now.parts ≡ true }
         requires short { length (pieces (merge self.now.parts reference.now.parts)) ≤ max_segments }
         ensures room { length out.new ≡ length out.old }
         ensures ends { EndsWith out.new result (spec.merged_tail self.now.parts reference.now.parts) }
     {
-        let len = put_query_and_fragment(
+        let len = prepend_query_and_fragment(
             Form::AsIs,
             &reference.query(),
             &reference.fragment(),
             out,
         );
         let has_authority = self.has_authority();
-        put_merged(
+        prepend_merged(
             has_authority,
             self.path_bytes(),
             reference.path_bytes(),
@@ -136,7 +136,7 @@ impl<'t> ReferenceView<'t> {
 
     /// Puts the path, the query and the fragment of the target of a reference that has neither a
     /// scheme nor an authority.
-    fn put_inherited_tail(&self, reference: &ReferenceView<'_>, out: &mut [u8]) -> usize
+    fn prepend_inherited_tail(&self, reference: &ReferenceView<'_>, out: &mut [u8]) -> usize
         requires scheme { is_some reference.now.parts.scheme ≡ false }
         requires authority { is_some reference.now.parts.authority ≡ false }
         requires short { is_merged reference.now.parts ≡ true → length (pieces (merge self.now.parts reference.now.parts)) ≤ max_segments }
@@ -144,26 +144,26 @@ impl<'t> ReferenceView<'t> {
         ensures ends { EndsWith out.new result (spec.tail_if (target self.now.parts reference.now.parts)) }
     {
         if reference.has_empty_path() {
-            return self.put_same_tail(reference, out);
+            return self.prepend_same_tail(reference, out);
         }
         if reference.has_rooted_path() {
-            return reference.put_own_tail(self.has_authority(), out);
+            return reference.prepend_own_tail(self.has_authority(), out);
         }
-        self.put_merged_tail(reference, out)
+        self.prepend_merged_tail(reference, out)
     }
 
     /// Puts the scheme and the authority, each with its delimiter, if present.
     #[inline(always)]
-    fn put_own_scheme_and_authority(&self, out: &mut [u8], len: usize) -> usize
+    fn prepend_own_scheme_and_authority(&self, out: &mut [u8], len: usize) -> usize
         ensures room { length out.new ≡ length out.old }
         ensures puts { Puts (spec.scheme_front AsIs self.now.parts.scheme ++ spec.authority_front AsIs self.now.parts.authority) out.old len out.new result }
     {
-        put_scheme_and_authority(Form::AsIs, &self.scheme(), &self.authority(), out, len)
+        prepend_scheme_and_authority(Form::AsIs, &self.scheme(), &self.authority(), out, len)
     }
 
     /// Puts this scheme and the authority of `reference`, each with its delimiter, if present.
     #[inline(always)]
-    fn put_scheme_with_authority_of(
+    fn prepend_scheme_with_authority_of(
         &self,
         reference: &ReferenceView<'_>,
         out: &mut [u8],
@@ -172,26 +172,26 @@ impl<'t> ReferenceView<'t> {
         ensures room { length out.new ≡ length out.old }
         ensures puts { Puts (spec.scheme_front AsIs self.now.parts.scheme ++ spec.authority_front AsIs reference.now.parts.authority) out.old len out.new result }
     {
-        put_scheme_and_authority(Form::AsIs, &self.scheme(), &reference.authority(), out, len)
+        prepend_scheme_and_authority(Form::AsIs, &self.scheme(), &reference.authority(), out, len)
     }
 
     /// Puts the text of the target at the end of the buffer. Returns its length. If there is no
     /// room, only the length is counted.
-    fn put_target(&self, reference: &ReferenceView<'_>, out: &mut [u8]) -> usize
+    fn prepend_target(&self, reference: &ReferenceView<'_>, out: &mut [u8]) -> usize
         requires { is_merged reference.now.parts ≡ true → length (pieces (merge self.now.parts reference.now.parts)) ≤ max_segments }
         ensures room { length out.new ≡ length out.old }
         ensures ends { EndsWith out.new result (spec.print_if (target self.now.parts reference.now.parts)) }
     {
         if reference.has_scheme() {
-            let len = reference.put_own_tail(reference.has_authority(), out);
-            return reference.put_own_scheme_and_authority(out, len);
+            let len = reference.prepend_own_tail(reference.has_authority(), out);
+            return reference.prepend_own_scheme_and_authority(out, len);
         }
         if reference.has_authority() {
-            let len = reference.put_own_tail(true, out);
-            return self.put_scheme_with_authority_of(reference, out, len);
+            let len = reference.prepend_own_tail(true, out);
+            return self.prepend_scheme_with_authority_of(reference, out, len);
         }
-        let len = self.put_inherited_tail(reference, out);
-        self.put_own_scheme_and_authority(out, len)
+        let len = self.prepend_inherited_tail(reference, out);
+        self.prepend_own_scheme_and_authority(out, len)
     }
 
     /// The number of bytes of the texts that the target is put together from: the reference's,

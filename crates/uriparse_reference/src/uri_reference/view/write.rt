@@ -15,15 +15,15 @@ use super::ReferenceView;
 use super::put::{PutText, copy_into, write};
 use uriparse_authority::authority::Authority;
 use uriparse_authority::internal as authority;
-use uriparse_path::internal::put_normal_path;
+use uriparse_path::internal::prepend_normal_path;
 use uriparse_scheme::scheme::Scheme;
 use uriparse_text::fragment::Fragment;
-use uriparse_text::internal::{Case, Form, put, put_after, put_formed};
+use uriparse_text::internal::{Case, Form, prepend, prepend_following, prepend_formed};
 use uriparse_text::query::Query;
 
 /// Puts the query and the fragment, each with its delimiter, if present, at the end of the buffer.
 /// Returns their length. If there is no room, only the length is counted.
-pub fn put_query_and_fragment(
+pub fn prepend_query_and_fragment(
     form: Form,
     query: &Option<Query<'_>>,
     fragment: &Option<Fragment<'_>>,
@@ -32,40 +32,45 @@ pub fn put_query_and_fragment(
     ensures room { length out.new ≡ length out.old }
     ensures ends { EndsWith out.new result (following question_mark (option_map (formed form case.Kept) query.now) ++ following number_sign (option_map (formed form case.Kept) fragment.now)) }
 {
-    let len = put_after(form, b'#', fragment, out, 0);
-    put_after(form, b'?', query, out, len)
+    let len = prepend_following(form, b'#', fragment, out, 0);
+    prepend_following(form, b'?', query, out, len)
 }
 
 /// Puts two slashes and the authority, if there is one.
-fn put_authority(form: Form, authority: &Option<Authority<'_>>, out: &mut [u8], len: usize) -> usize
+fn prepend_authority(
+    form: Form,
+    authority: &Option<Authority<'_>>,
+    out: &mut [u8],
+    len: usize,
+) -> usize
     ensures room { length out.new ≡ length out.old }
     ensures puts { Puts (spec.authority_front form authority.now) out.old len out.new result }
 {
     match authority {
         Some(authority) => {
-            let len = authority::put_authority(authority, form, out, len);
-            put(b"//", out, len)
+            let len = authority::prepend_authority(authority, form, out, len);
+            prepend(b"//", out, len)
         }
         None => len,
     }
 }
 
 /// Puts the scheme and a colon, if there is one.
-fn put_scheme(form: Form, scheme: &Option<Scheme<'_>>, out: &mut [u8], len: usize) -> usize
+fn prepend_scheme(form: Form, scheme: &Option<Scheme<'_>>, out: &mut [u8], len: usize) -> usize
     ensures room { length out.new ≡ length out.old }
     ensures puts { Puts (spec.scheme_front form scheme.now) out.old len out.new result }
 {
     match scheme {
         Some(scheme) => {
-            let len = put(b":", out, len);
-            put_formed(form, Case::Lowered, scheme.as_str().as_bytes(), out, len)
+            let len = prepend(b":", out, len);
+            prepend_formed(form, Case::Lowered, scheme.as_str().as_bytes(), out, len)
         }
         None => len,
     }
 }
 
 /// Puts the scheme and the authority, each with its delimiter, if present.
-pub fn put_scheme_and_authority(
+pub fn prepend_scheme_and_authority(
     form: Form,
     scheme: &Option<Scheme<'_>>,
     authority: &Option<Authority<'_>>,
@@ -75,8 +80,8 @@ pub fn put_scheme_and_authority(
     ensures room { length out.new ≡ length out.old }
     ensures puts { Puts (spec.scheme_front form scheme.now ++ spec.authority_front form authority.now) out.old len out.new result }
 {
-    let len = put_authority(form, authority, out, len);
-    put_scheme(form, scheme, out, len)
+    let len = prepend_authority(form, authority, out, len);
+    prepend_scheme(form, scheme, out, len)
 }
 
 /// The text of the normal form of a view.
@@ -90,9 +95,9 @@ impl<'v, 't> PutText for NormalText<'v, 't> {
 
     fn put(&self, out: &mut [u8]) -> usize {
         let view = self.0;
-        let len = put_query_and_fragment(Form::Canonical, &view.query(), &view.fragment(), out);
-        let len = put_normal_path(view.path_bytes(), view.context(), out, len);
-        put_scheme_and_authority(Form::Canonical, &view.scheme(), &view.authority(), out, len)
+        let len = prepend_query_and_fragment(Form::Canonical, &view.query(), &view.fragment(), out);
+        let len = prepend_normal_path(view.path_bytes(), view.context(), out, len);
+        prepend_scheme_and_authority(Form::Canonical, &view.scheme(), &view.authority(), out, len)
     }
 }
 

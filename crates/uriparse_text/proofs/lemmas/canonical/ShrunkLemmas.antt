@@ -11,7 +11,7 @@ use Rattle.std.proofs.lemmas.List.{drop_more, get_or_past}
 use Rattle.uriparse_text.specs.declared.internal.token.Token.TheVariants.{Byte, Escape}
 use Rattle.uriparse_text.specs.declared.internal.token.Case.{Case}
 use Rattle.uriparse_text.specs.declared.internal.token.Case.TheVariants.{Kept}
-use Rattle.uriparse_text.specs.declared.internal.pairs.TheConstants.{FIRST_LOW, SHRUNK_FIRST_HIGH, SECOND_LOW, SHRUNK_SECOND_HIGH}
+use Rattle.uriparse_text.specs.declared.internal.canonical_escape.TheConstants.{FIRST_LOW, SHRUNK_FIRST_HIGH, SECOND_LOW, SHRUNK_SECOND_HIGH}
 use Rattle.uriparse_text.specs.Bytes.{percent, is_hex, is_unreserved}
 use Rattle.uriparse_text.specs.Tokens.{is_escape, spell}
 use Rattle.uriparse_text.specs.Canonical.{canonical_in, canonical_token, escaped_byte}

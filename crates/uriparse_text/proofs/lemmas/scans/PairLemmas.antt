@@ -2,7 +2,7 @@
 use Rattle.std.proofs.Common.{◌≡◌, ℕ, ◌/◌, ◌<◌, Bool, true, false, eqb, ◌&&◌, ◌||◌, get_or, bit_and, refl}
 use Rattle.std.specs.Prelude.{not}
 use Rattle.std.proofs.lemmas.Bool.{agree_below, agree_below_at, false≢true}
-use Rattle.uriparse_text.specs.declared.internal.pairs.TheConstants.{FIRST_LOW, FIRST_HIGH, SECOND_LOW, SECOND_HIGH}
+use Rattle.uriparse_text.specs.declared.internal.canonical_escape.TheConstants.{FIRST_LOW, FIRST_HIGH, SECOND_LOW, SECOND_HIGH}
 use Rattle.uriparse_text.specs.Bytes.{is_hex, is_unreserved}
 use Rattle.uriparse_text.specs.Escapes.{is_canonical_escape}
 

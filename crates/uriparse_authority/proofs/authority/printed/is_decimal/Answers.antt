@@ -7,14 +7,14 @@ use Rattle.uriparse_authority.proofs.authority.printed.is_decimal.Goals as goal
 pub overflow_sub-len : goal.overflow_sub-len
 overflow_sub-len c =
     let digits = length-decimal-le 5 c.args.port (omega arith) (omega arith) (omega arith) in
-    let len = length_put _ _ _ (subst (EndsWith c.put_decimal-len.new.out c.put_decimal-len.result) (append-nil (decimal c.args.port))
-    (c.put_decimal-len.ensures.puts _ (ends_empty _))) (omega arith) in
+    let len = length_put _ _ _ (subst (EndsWith c.prepend_decimal-len.new.out c.prepend_decimal-len.result) (append-nil (decimal c.args.port))
+    (c.prepend_decimal-len.ensures.puts _ (ends_empty _))) (omega arith) in
     omega arith
 
 pub returns : goal.returns
 returns c =
     let digits = length-decimal-le 5 c.args.port (omega arith) (omega arith) (omega arith) in
-    let ends = subst (EndsWith c.put_decimal-len.new.out c.put_decimal-len.result) (append-nil (decimal c.args.port))
-    (c.put_decimal-len.ensures.puts _ (ends_empty _)) in
+    let ends = subst (EndsWith c.prepend_decimal-len.new.out c.prepend_decimal-len.result) (append-nil (decimal c.args.port))
+    (c.prepend_decimal-len.ensures.puts _ (ends_empty _)) in
     compared_put (decimal c.args.port) c.args.text.now _ c.eq.result c.eq.ensures
-    (text_put 5 c.put_decimal-len.new.out (decimal c.args.port) c.put_decimal-len.result ends c.put_decimal-len.ensures.room (omega arith) digits)
+    (text_put 5 c.prepend_decimal-len.new.out (decimal c.args.port) c.prepend_decimal-len.result ends c.prepend_decimal-len.ensures.room (omega arith) digits)

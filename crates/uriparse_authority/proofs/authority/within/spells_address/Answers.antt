@@ -10,12 +10,12 @@ use Rattle.uriparse_authority.proofs.authority.within.spells_address.Goals as go
 pub returns-then-len-le15 : goal.returns-then-len-le15
 returns-then-len-le15 c =
     let t = canonical_lowered c.args.text.now in
-    let ends = subst (EndsWith c.put_formed-len.new.out c.put_formed-len.result) (append-nil t) (c.put_formed-len.ensures.puts _ (ends_empty _)) in
+    let ends = subst (EndsWith c.prepend_formed-len.new.out c.prepend_formed-len.result) (append-nil t) (c.prepend_formed-len.ensures.puts _ (ends_empty _)) in
     c.is_some.ensures ∙ ap is_some c.parse_bytes.ensures.value
-    ∙ ap (λ u. is_some (ipv4_reading u)) (address_put c.put_formed-len.new.out t c.put_formed-len.result ends c.put_formed-len.ensures.room c.if-len-le15.true)
+    ∙ ap (λ u. is_some (ipv4_reading u)) (address_put c.prepend_formed-len.new.out t c.prepend_formed-len.result ends c.prepend_formed-len.ensures.room c.if-len-le15.true)
 
 pub returns-else-len-le15 : goal.returns-else-len-le15
 returns-else-len-le15 c =
     let t = canonical_lowered c.args.text.now in
-    let ends = subst (EndsWith c.put_formed-len.new.out c.put_formed-len.result) (append-nil t) (c.put_formed-len.ensures.puts _ (ends_empty _)) in
-    address_long c.put_formed-len.new.out t c.put_formed-len.result ends c.if-len-le15.false
+    let ends = subst (EndsWith c.prepend_formed-len.new.out c.prepend_formed-len.result) (append-nil t) (c.prepend_formed-len.ensures.puts _ (ends_empty _)) in
+    address_long c.prepend_formed-len.new.out t c.prepend_formed-len.result ends c.if-len-le15.false

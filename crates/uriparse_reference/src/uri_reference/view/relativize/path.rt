@@ -10,9 +10,9 @@ ghost use Rattle.uriparse_path.specs.Relative.{is_first};
 ghost use Rattle.uriparse_reference.specs.Relate as reference;
 ghost use Rattle.uriparse_reference.specs.RelativeText as spec;
 
-use uriparse_path::internal::{has_dot_segment, put_parent_steps, segments_of, split_root};
+use uriparse_path::internal::{has_dot_segment, prepend_parent_steps, segments_of, split_root};
 use uriparse_path::path::{MAX_SEGMENTS, Segments};
-use uriparse_text::internal::{put, split_at_delimiter, without_delimiter};
+use uriparse_text::internal::{prepend, split_at_delimiter, without_delimiter};
 
 /// The text of a path: `./` or nothing, then this many `../`, then the rest.
 #[derive(Drop)]
@@ -205,14 +205,14 @@ pub(super) fn inner<'t>(base: &[u8], target: &'t [u8]) -> Option<PathText<'t>>
 }
 
 /// Puts the text of the path before a text of `len` bytes at the end of the buffer.
-pub(super) fn put_path(path: &PathText<'_>, out: &mut [u8], len: usize) -> usize
+pub(super) fn prepend_path(path: &PathText<'_>, out: &mut [u8], len: usize) -> usize
     ensures room { length out.new ≡ length out.old }
     ensures puts { Puts (spec.path_text path.now) out.old len out.new result }
 {
-    let len = put(path.rest, out, len);
-    let len = put_parent_steps(path.parents, out, len);
+    let len = prepend(path.rest, out, len);
+    let len = prepend_parent_steps(path.parents, out, len);
     if path.dotted {
-        put(b"./", out, len)
+        prepend(b"./", out, len)
     } else {
         len
     }

@@ -8,5 +8,5 @@ use Rattle.uriparse_path.proofs.path.edit.Path.pop.Goals as goal
 
 pub invariant_of-self : goal.invariant_of-self
 invariant_of-self c =
-    popped_kept c.self.inside.segments _ (flag c.self.inside.known) c.self.inside.counts _ c.self.invariant c.take_last.ensures
+    popped_kept c.self.inside.segments _ (flag c.self.inside.counts_known) c.self.inside.counts _ c.self.invariant c.take_last.ensures
     (λ h. c.popped_counts-counts.ensures h ∙ ap (λ l. counts (filled (all_but_last l))) c.as_slice.ensures)

@@ -20,7 +20,7 @@ returns-then-len-ge-MAX_SEGMENTS-clause-answer c =
 
 pub invariant_of-self : goal.invariant_of-self
 invariant_of-self c =
-    pushed_kept c.self.inside.segments c.put_last-result.new.segments c.args.segment c.put_last-result.result (flag c.self.inside.known)
+    pushed_kept c.self.inside.segments c.put_last-result.new.segments c.args.segment c.put_last-result.result (flag c.self.inside.counts_known)
     c.self.inside.counts c.pushed_counts-counts.result c.new_or_old-self-inside.result c.self.invariant
     (room (goal.at.invariant_of-self c).After-put_last-result) c.put_last-result.ensures
     (λ h. c.pushed_counts-counts.ensures h ∙ ap (λ l. counts (with_last l c.args.segment)) c.as_slice.ensures)

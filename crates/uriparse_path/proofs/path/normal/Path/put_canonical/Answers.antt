@@ -11,6 +11,6 @@ pub invariant_of-self : goal.invariant_of-self
 invariant_of-self c =
     let each : list_all is_segment c.self.inside.segments ≡ true = ap (λ p. list_all is_segment p.segments) c.self.view_is ∙ c.requires.listed.each in
     let is = c.self.invariant in
-    subst (λ l. CountsAreRight counts l (flag c.self.inside.known) c.of_canonical-counts.result) (sym c.put_copies_in.ensures)
-    (kept_by _ (flag c.self.inside.known) _ (counted-canonical c.self.inside.segments (counted_kept _ _ _ is))
+    subst (λ l. CountsAreRight counts l (flag c.self.inside.counts_known) c.of_canonical-counts.result) (sym c.put_copies_in.ensures)
+    (kept_by _ (flag c.self.inside.counts_known) _ (counted-canonical c.self.inside.segments (counted_kept _ _ _ is))
     (λ h. c.of_canonical-counts.ensures c.self.inside.segments (is.right h) each))

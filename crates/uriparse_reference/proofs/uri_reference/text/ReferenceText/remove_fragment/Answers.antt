@@ -1,6 +1,6 @@
 use Rattle.std.proofs.Common.{◌≡◌, ap, sym, subst, rules}
 use Rattle.std.specs.Prelude.{IfSome, string_bytes}
-use Rattle.uriparse_reference.specs.OwnedText.{AreCuts, IsReference}
+use Rattle.uriparse_reference.specs.OwnedText.{AreOffsets, IsReference}
 use Rattle.uriparse_reference.specs.View.{Viewed}
 use Rattle.uriparse_reference.proofs.lemmas.reading.TextEditLemmas.{cut_point, cut_stands}
 use Rattle.uriparse_reference.proofs.uri_reference.text.ReferenceText.remove_fragment.Goals as goal
@@ -10,8 +10,8 @@ truncate-requires c = λ short.
     cut_point _ c.as_view.result c.args.self.now c.self.view_is c.as_view.ensures.view c.as_view.ensures.spelled c.len_before_fragment-len.result
     c.len_before_fragment-len.ensures.within
 
-pub known_cuts-self-inside-requires : goal.known_cuts-self-inside-requires
-known_cuts-self-inside-requires c =
+pub known_offsets-self-inside-requires : goal.known_offsets-self-inside-requires
+known_offsets-self-inside-requires c =
     let same : c.as_bytes.result.now ≡ string_bytes c.truncate.new.self = search rules in
     let is = (cut_stands _ c.as_view.result c.args.self.now c.self.view_is c.as_view.ensures.view c.as_view.ensures.spelled c.len_before_fragment-len.result
     (string_bytes c.truncate.new.self) c.truncate.ensures.bytes c.len_before_fragment-len.ensures.text) in
@@ -22,7 +22,7 @@ invariant_of-self c =
     let same : c.as_bytes.result.now ≡ string_bytes c.truncate.new.self = search rules in
     let is = (cut_stands _ c.as_view.result c.args.self.now c.self.view_is c.as_view.ensures.view c.as_view.ensures.spelled c.len_before_fragment-len.result
     (string_bytes c.truncate.new.self) c.truncate.ensures.bytes c.len_before_fragment-len.ensures.text) in
-    (is.0, subst (λ t. IfSome c.known_cuts-self-inside.result (λ x. AreCuts t x)) same c.known_cuts-self-inside.ensures)
+    (is.0, subst (λ t. IfSome c.known_offsets-self-inside.result (λ x. AreOffsets t x)) same c.known_offsets-self-inside.ensures)
 
 pub returns-clause-parts : goal.returns-clause-parts
 returns-clause-parts c =

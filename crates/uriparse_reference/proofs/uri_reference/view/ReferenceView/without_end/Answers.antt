@@ -10,5 +10,5 @@ returns c =
     let p = c.args.self.now.parts in
     let same : c.as_bytes-text.result.now ≡ c.args.self.now.text = search rules in
     (front_cut c.as_bytes-text.result.now p (subst (λ t. Spells t p) (sym same) c.as_str.ensures.spelled) c.query.result c.fragment.result
-    c.query.ensures c.fragment.ensures c.put_query_and_fragment-len.new.out c.put_query_and_fragment-len.result c.put_query_and_fragment-len.ensures.ends (omega arith)).1
+    c.query.ensures c.fragment.ensures c.prepend_query_and_fragment-len.new.out c.prepend_query_and_fragment-len.result c.prepend_query_and_fragment-len.ensures.ends (omega arith)).1
     ∙ ap (λ t. with_end t None None) same

@@ -14,12 +14,12 @@ use Rattle.uriparse_reference.proofs.uri_reference.view.change.ChangedTextPutTex
 pub returns-clause-ends : goal.returns-clause-ends
 returns-clause-ends c =
     let s = c.strings.inside in
-    subst (λ x. EndsWith c.put_scheme.new.out c.put_scheme.result (whole x)) c.strings.view_is
-    (subst (EndsWith c.put_scheme.new.out c.put_scheme.result)
+    subst (λ x. EndsWith c.prepend_scheme.new.out c.prepend_scheme.result (whole x)) c.strings.view_is
+    (subst (EndsWith c.prepend_scheme.new.out c.prepend_scheme.result)
     (strings_put (ahead colon (option_copied s.scheme)) (after_slashes (option_map authority_whole s.authority)) c.is_some.result (is_some s.authority) s.path.now
     (following question_mark (option_copied s.query)) (following number_sign (option_copied s.fragment)) c.is_some.ensures)
-    (c.put_scheme.ensures.puts _ (c.put_authority-len.ensures.puts _ (c.put_path-len.ensures.puts _ (c.put_following-len-2.ensures.puts _
-    (c.put_following-len.ensures.puts _ (ends_none c.args.out.now)))))))
+    (c.prepend_scheme.ensures.puts _ (c.prepend_authority-len.ensures.puts _ (c.prepend_path-len.ensures.puts _ (c.prepend_following-len-2.ensures.puts _
+    (c.prepend_following-len.ensures.puts _ (ends_none c.args.out.now)))))))
 
 pub returns-clause-utf8 : goal.returns-clause-utf8
 returns-clause-utf8 c = IsUtf8-spelled _ c.requires.0 c.requires.1

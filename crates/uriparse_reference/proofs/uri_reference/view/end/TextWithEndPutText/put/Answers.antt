@@ -7,9 +7,9 @@ use Rattle.uriparse_reference.proofs.uri_reference.view.end.TextWithEndPutText.p
 pub returns-clause-ends : goal.returns-clause-ends
 returns-clause-ends c =
     let a = c.args.self.now in
-    subst (EndsWith c.put.new.out c.put.result)
+    subst (EndsWith c.prepend.new.out c.prepend.result)
     (put_whole a.view.now.text c.without_end.result.now a.query.now a.fragment.now c.without_end.ensures)
-    (c.put.ensures.puts _ c.put_query_and_fragment-len.ensures.ends)
+    (c.prepend.ensures.puts _ c.prepend_query_and_fragment-len.ensures.ends)
 
 pub returns-clause-utf8 : goal.returns-clause-utf8
 returns-clause-utf8 c =

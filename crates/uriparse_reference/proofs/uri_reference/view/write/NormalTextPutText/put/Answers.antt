@@ -14,7 +14,7 @@ pub returns-clause-ends : goal.returns-clause-ends
 returns-clause-ends c =
     let v = c.args.self.now.0.now.parts in
     let context : PathContext = c.context.result in
-    subst (EndsWith c.put_scheme_and_authority.new.out c.put_scheme_and_authority.result)
+    subst (EndsWith c.prepend_scheme_and_authority.new.out c.prepend_scheme_and_authority.result)
     (same_text Canonical v c.scheme.result c.authority.result (text (normal_at context (spelled c.path_bytes.result.now))) _ c.query.result c.fragment.result
     c.scheme.ensures c.authority.ensures
     (ap (λ u. text (normal_at context (spelled u))) c.path_bytes.ensures.text
@@ -22,7 +22,7 @@ returns-clause-ends c =
     (ap (λ (x : PathContext). x.has_authority) c.context.ensures))
     c.query.ensures c.fragment.ensures
     ∙ normal_text v)
-    (c.put_scheme_and_authority.ensures.puts _ (c.put_normal_path-len.ensures.puts _ c.put_query_and_fragment-len.ensures.ends))
+    (c.prepend_scheme_and_authority.ensures.puts _ (c.prepend_normal_path-len.ensures.puts _ c.prepend_query_and_fragment-len.ensures.ends))
 
 pub returns-clause-utf8 : goal.returns-clause-utf8
 returns-clause-utf8 c =

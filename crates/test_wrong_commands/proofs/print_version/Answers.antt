@@ -1,7 +1,0 @@
-use Rattle.std.proofs.Common.{[], ◌∷◌, Some, refl}
-use Rattle.std.specs.Prelude.{codes}
-use Rattle.test_wrong_commands.proofs.RunLemmas.{ends_for}
-use Rattle.test_wrong_commands.proofs.print_version.Goals as goal
-
-pub returns : goal.returns
-returns g c = ends_for (codes "--version" ∷ []) _ (Some []) _ _ _ c.run.ensures.ends refl

@@ -1,7 +1,0 @@
-use Rattle.std.proofs.Common.{[], ◌∷◌, refl}
-use Rattle.std.specs.Prelude.{codes}
-use Rattle.test_wrong_commands.proofs.RunLemmas.{ends_for}
-use Rattle.test_wrong_commands.proofs.replace_second_fields.Goals as goal
-
-pub returns : goal.returns
-returns g c = ends_for (codes "--lines" ∷ codes "--column" ∷ codes "2" ∷ codes "normalize" ∷ []) _ _ _ _ _ c.run_with_input.ensures.ends refl

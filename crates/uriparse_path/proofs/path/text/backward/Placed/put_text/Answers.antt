@@ -1,7 +1,0 @@
-use Rattle.uriparse_path.proofs.lemmas.left.BackwardLemmas.{placed_text}
-use Rattle.uriparse_path.proofs.path.text.backward.Placed.put_text.Goals as goal
-
-pub returns-clause-placed : goal.returns-clause-placed
-returns-clause-placed c = λ u t is.
-    placed_text c.args.form c.args.text.now u t c.args.out.now c.put_formed.new.out c.args.self _ is
-    c.begins_with_slash.ensures c.begins_with_two.ensures c.put_formed.ensures.puts
