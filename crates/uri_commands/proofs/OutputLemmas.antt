@@ -1,7 +1,6 @@
 -- What commands printed is what they answer.
 use Rattle.std.proofs.Common.{◌≡◌, ◌⊎◌, ◌↔◌, inl, inr, if◌then◌else◌, ℕ, Bool, true, false, List, [], ◌∷◌, ◌++◌, drop, length, Option, Some, None, Result, Ok, Err, refl, sym, ap, subst, ◌∙◌, arith, append-nil, append_assoc, map}
 use Rattle.std.specs.Prelude.{IfErr, IfOk, IsTrue, MatchOption, MatchResult, OnOk, Vec, bytes_eq, codes, is_some, min, take, unwrap_or}
-use Rattle.std.specs.declared.io.Error.{Error}
 use Rattle.std.specs.List.{find, join_with_byte}
 use Rattle.std.specs.declared.alloc.AllocError.{AllocError}
 use Rattle.std.specs.declared.alloc.Global.{Global}
@@ -62,6 +61,7 @@ use Rattle.uri_commands.specs.declared.commands.Task.TheVariants as tasks
 use Rattle.uri_commands.specs.declared.edit.Step.{Step}
 use Rattle.uri_commands.specs.declared.failure.Failure.{Failure}
 use Rattle.uri_commands.specs.declared.failure.Failure.TheVariants as failures
+use Rattle.uri_commands.specs.declared.failure.StreamError.{StreamError}
 use Rattle.uri_commands.specs.declared.get.Part.{Part}
 
 abbrev pub Known : Type 0
@@ -408,7 +408,7 @@ no_file_path t e p a b r spelled schemed (inr memory) is kept = subst (Does (Get
 -- ---- objects
 
 pub object_printed : (t : List ℕ) (p : Parts) (a b : Known) (r : Done)
-    → Spells t p → OnOk r (Appends a b (line (object t p))) → IfErr r (λ f. (e : Error) × (f ≡ failures.Output e)) → Does (ParsesJson t) a b r
+    → Spells t p → OnOk r (Appends a b (line (object t p))) → IfErr r (λ f. (e : StreamError) × (f ≡ failures.Output e)) → Does (ParsesJson t) a b r
 object_printed t p a b (Ok v) spelled written fails = (line (object t p), inl (p, spelled, refl), written)
 object_printed t p a b (Err f) spelled written fails = subst (λ x. Does (ParsesJson t) a b (Err x)) (sym fails.1) (inl tt)
 

@@ -161,9 +161,9 @@ fn run_one_word<O: Write>(mode: Mode, name: &str, out: &mut O) -> Result<(), Fai
     ensures { spec.Does (spec.AnswersTo mode name.now []) (O.contents out.old) (O.contents out.new) result }
 {
     match (mode, name) {
-        (Mode::Plain, "help") => help(out).map_err(Failure::Output),
-        (Mode::Plain, "--help") => help(out).map_err(Failure::Output),
-        (Mode::Plain, "--version") => version(out).map_err(Failure::Output),
+        (Mode::Plain, "help") => Ok(help(out)?),
+        (Mode::Plain, "--help") => Ok(help(out)?),
+        (Mode::Plain, "--version") => Ok(version(out)?),
         _ => Err(Failure::Usage),
     }
 }

@@ -56,7 +56,7 @@ fn compare<O: Write>(left: &ReferenceView<'_>, right: &[u8], out: &mut O) -> Res
     ensures { spec.Does (spec.ComparesWith left.now.parts right.now) (O.contents out.old) (O.contents out.new) result }
 {
     let right = ReferenceView::try_from_bytes(right)?;
-    print_answer(left, &right, out)
+    print_comparison(left, &right, out)
 }
 
 /// What is printed of two references.
@@ -67,7 +67,7 @@ fn equal_or_different(is_equal: bool) -> &'static str
 }
 
 /// Prints whether the references are equal.
-fn print_answer<O: Write>(
+fn print_comparison<O: Write>(
     left: &ReferenceView<'_>,
     right: &ReferenceView<'_>,
     out: &mut O,

@@ -6,7 +6,8 @@ ghost use Rattle.uri_commands.specs.declared.failure.EditError.TheVariants as ed
 ghost use Rattle.uri_commands.specs.declared.failure.Failure.TheVariants as failures;
 
 use std::alloc::{AllocError, AllocFailed};
-use std::io;
+use std::fmt::Display;
+use std::{fmt, io};
 use thiserror::Error;
 use uriparse::file::FileError;
 use uriparse::{BufferError, ChangeError, PathError, QueryError, URIError, URIReferenceError};
@@ -61,6 +62,33 @@ impl EditError {
     }
 }
 
+/// Why a read or a write failed: an [`io::Error`] without its message, for whose 80 bytes each result
+/// of a command would have room.
+#[derive(Clone, Copy, Debug)]
+pub struct StreamError {
+    kind: io::ErrorKind,
+    /// The system's number, if the system returned the error.
+    code: Option<i32>,
+}
+
+impl From<io::Error> for StreamError {
+    fn from(error: io::Error) -> StreamError {
+        StreamError {
+            kind: error.kind(),
+            code: error.raw_os_error(),
+        }
+    }
+}
+
+impl fmt::Display for StreamError {
+    fn fmt<W: fmt::Write>(&self, f: &mut fmt::Formatter<W>) -> fmt::Result {
+        match self.code {
+            Some(code) => io::Error::from_raw_os_error(code).fmt(f),
+            None => self.kind.fmt(f),
+        }
+    }
+}
+
 /// Why a command printed nothing, or not all of its output.
 #[derive(Debug, Drop, Error)]
 pub enum Failure {
@@ -104,10 +132,10 @@ pub enum Failure {
     MemoryAtLine(u64),
     /// A read that failed.
     #[error("standard input: {0}")]
-    Input(io::Error),
+    Input(StreamError),
     /// A write that failed.
     #[error("standard output: {0}")]
-    Output(io::Error),
+    Output(StreamError),
 }
 
 impl From<URIReferenceError> for Failure {
@@ -154,7 +182,7 @@ impl From<io::Error> for Failure {
     ghost from_gives = { λ x f. spec.EndsWork f };
 
     fn from(error: io::Error) -> Failure {
-        Failure::Output(error)
+        Failure::Output(error.into())
     }
 }
 
@@ -199,7 +227,7 @@ impl Failure {
     /// Whether nobody reads the output any more, as after `head`. The status alone reports it.
     pub fn is_closed_pipe(&self) -> bool {
         match self {
-            Failure::Output(error) => error.kind() == io::ErrorKind::BrokenPipe,
+            Failure::Output(error) => error.kind == io::ErrorKind::BrokenPipe,
             _ => false,
         }
     }
@@ -210,7 +238,7 @@ impl Failure {
         ensures stream { result ≡ false → spec.EndsWork self.now → spec.IsOfStream self.now }
     {
         match self {
-            Failure::Output(error) => error.kind() == io::ErrorKind::OutOfMemory,
+            Failure::Output(error) => error.kind == io::ErrorKind::OutOfMemory,
             Failure::Memory(_) | Failure::MemoryAtLine(_) => true,
             Failure::Reference(error) => error.is_out_of_memory(),
             Failure::Edit { refusal, .. } => refusal.is_out_of_memory(),
@@ -266,7 +294,7 @@ impl Failure {
     {
         match error.kind() {
             io::ErrorKind::OutOfMemory => Failure::MemoryAtLine(number),
-            _ => Failure::Input(error),
+            _ => Failure::Input(error.into()),
         }
     }
 }

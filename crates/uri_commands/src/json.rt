@@ -6,7 +6,6 @@
 //! absent.
 
 ghost use Rattle.std.specs.Prelude.{◌≡◌, ◌<◌, ◌∷◌, ◌++◌, ℕ, List, [], IfErr, IfSome, OnOk, codes, length, true};
-ghost use Rattle.std.specs.declared.io.Error.{Error};
 ghost use Rattle.std.specs.Io.KnownBytes.{Appends};
 ghost use Rattle.std.specs.List.{list_all};
 ghost use Rattle.std.specs.Option.{option_copied, option_map};
@@ -20,6 +19,7 @@ ghost use Rattle.uri_commands.specs.Json as json;
 ghost use Rattle.uri_commands.specs.Output as output;
 ghost use Rattle.uri_commands.specs.Lines.{newline};
 ghost use Rattle.uri_commands.specs.declared.failure.Failure.TheVariants as failures;
+ghost use Rattle.uri_commands.specs.declared.failure.StreamError.{StreamError};
 
 mod laws;
 
@@ -287,14 +287,17 @@ pub fn parse_json<O: Write>(text: &[u8], out: &mut O) -> Result<(), Failure>
     ensures object { OnOk result ((p : Parts) × Spells text.now p × Appends (O.contents out.old) (O.contents out.new) (object text.now p ++ newline ∷ [])) }
 
     // Such a text fails only if a write does.
-    ensures only { (p : Parts) → Spells text.now p → IfErr result (λ f. (e : Error) × (f ≡ failures.Output e)) }
+    ensures only { (p : Parts) → Spells text.now p → IfErr result (λ f. (e : StreamError) × (f ≡ failures.Output e)) }
 
     // Any other text is rejected with its fault, and nothing is printed.
     ensures fault { (e : URIReferenceError) → fault text.now ≡ Some e → (result ≡ Err (failures.Reference e)) × (out.new ≡ out.old) }
     ensures answer { output.Does (output.ParsesJson text.now) (O.contents out.old) (O.contents out.new) result }
 {
     match ReferenceView::try_from_bytes(text) {
-        Ok(reference) => write_object(&reference, out).map_err(Failure::Output),
+        Ok(reference) => match write_object(&reference, out) {
+            Ok(()) => Ok(()),
+            Err(error) => Err(Failure::Output(error.into())),
+        },
         Err(error) => Err(Failure::Reference(error)),
     }
 }

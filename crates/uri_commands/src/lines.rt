@@ -162,14 +162,13 @@ fn drop_end(line: &mut Vec<u8>, end: u8) -> Next
 
 /// Appends the bytes before this place to the buffer. The byte there counts as if it were appended
 /// too, so the buffer grows as it does with `read_until`, which appends the byte that ends the line.
-fn append_front(held: &[u8], offset: usize, line: &mut Vec<u8>) -> io::Result<()>
+fn append_front(held: &[u8], offset: usize, line: &mut Vec<u8>) -> Result<(), AllocError>
     requires { offset ≤ length held.now }
     ensures ok { OnOk result (line.new.items ≡ line.old.items ++ take offset held.now) }
     ensures err { OnErr result (line.new.items ≡ line.old.items) }
 {
     line.reserve(held.len().min(offset.saturating_add(1)))?;
-    line.extend_from_slice(&held[..offset])?;
-    Ok(())
+    line.extend_from_slice(&held[..offset])
 }
 
 /// Reads the next line into the buffer, without the byte that ends it, and returns what there was. After
@@ -394,7 +393,11 @@ fn do_line<O: Write, E: Write>(
 /// the empty buffer, without that byte. Returns whether the reader holds it; if not, nothing is taken.
 /// The reader is not asked for more.
 #[tactic(auto, using(crate::proofs::LineLemmas::held_line))]
-fn take_whole<I: Read>(input: &mut BufReader<I>, line: &mut Vec<u8>, end: u8) -> io::Result<bool>
+fn take_whole<I: Read>(
+    input: &mut BufReader<I>,
+    line: &mut Vec<u8>,
+    end: u8,
+) -> Result<bool, AllocError>
     requires { line.old.items ≡ [] }
     ensures clean { All (λ b. b ≢ end) line.new.items }
     ensures line { result ≡ Ok true →
@@ -491,7 +494,7 @@ fn do_lines<I: Read, O: Write, E: Write>(
             return Ok(worst);
         }
     }
-    Err(Failure::Input(io::Error::from(io::ErrorKind::FileTooLarge)))
+    Err(Failure::Input(io::Error::from(io::ErrorKind::FileTooLarge).into()))
 }
 
 /// What was made, unless memory ran out for its buffer.

@@ -56,10 +56,7 @@ fn write_some<O: Write>(bytes: &[u8], out: &mut O) -> io::Result<usize>
     ensures bytes { WriteAppends (O.contents out.old) (O.contents out.new) result bytes.now }
 {
     match out.write(bytes) {
-        Ok(0) => {
-            let message = "the output takes no more bytes";
-            Err(io::Error::new(io::ErrorKind::WriteZero, message))
-        }
+        Ok(0) => Err(io::Error::from(io::ErrorKind::WriteZero)),
         Err(error) if error.kind() == io::ErrorKind::Interrupted => Ok(0),
         written => written,
     }

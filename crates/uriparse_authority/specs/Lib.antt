@@ -10,6 +10,6 @@ pub mod KeyOrder
 pub mod Order
 pub mod Offset
 pub mod Normal
-pub mod Found
+pub mod Scanned
 pub mod Ends
 pub mod Within

@@ -13,7 +13,7 @@ pub use crate::authority::normal::{CanonicalCopies, canonical_copies, put_copies
 pub use crate::authority::offset::offset_in_authority;
 pub use crate::authority::pieces::check_pieces;
 pub use crate::authority::read::{find_authority, split_before_path, split_port, split_userinfo};
-pub use crate::authority::scanned::{ScannedAuthority, found_named};
+pub use crate::authority::scanned::{ScannedAuthority, scanned_named};
 use crate::authority::{Authority, Host, write};
 use uriparse_text::internal::Form;
 
@@ -27,9 +27,9 @@ pub fn most_authority_bytes(authority: &Authority<'_>) -> usize
 /// Puts the host and, if there is one, a colon and the port before the `len` bytes at the end of the
 /// buffer, as [`prepend_authority`] puts an authority.
 pub fn prepend_host_and_port(
+    form: Form,
     host: &Host<'_>,
     port: Option<u16>,
-    form: Form,
     out: &mut [u8],
     len: usize,
 ) -> usize

@@ -1,11 +1,11 @@
 -- A reference in a text that is owned, and where its components lie there.
 use Rattle.std.specs.Prelude.{◌≡◌, ◌≤◌, ◌==◌, ℕ, true, false, List, [], Option, Some, None, Result, Ok, Err, take, drop, length, if◌then◌else◌}
-use Rattle.uriparse_text.specs.Found.{if_there}
+use Rattle.uriparse_text.specs.Scanned.{if_there}
 use Rattle.uriparse_text.specs.Spelling.{IsValidText}
 use Rattle.uriparse_text.specs.declared.internal.class.Class.TheVariants as class
 use Rattle.uriparse_text.specs.declared.internal.token.Case.TheVariants as case
 use Rattle.uriparse_authority.specs.Authority as authority
-use Rattle.uriparse_authority.specs.Found.{IsNamed}
+use Rattle.uriparse_authority.specs.Scanned.{IsNamed}
 use Rattle.uriparse_reference.specs.declared.uri_reference.error.URIReferenceError.{URIReferenceError}
 use Rattle.uriparse_reference.specs.declared.uri_reference.view.offsets.Offsets.{Offsets}
 use Rattle.uriparse_reference.specs.Reading.{reading}

@@ -1,13 +1,15 @@
 -- A reference in its text.
 use Rattle.std.specs.Prelude.{◌≡◌, ℕ, Bool, true, length, List, Option, IfSome, Result, Ok}
+use Rattle.std.specs.Option.{option_map}
 use Rattle.uriparse_text.specs.Bytes.{percent}
 use Rattle.uriparse_text.specs.Cuts.{lacks, up_to}
 use Rattle.uriparse_text.specs.Readings.{◌>>=◌}
 use Rattle.uriparse_path.specs.Faults.{ends_path}
-use Rattle.uriparse_path.specs.Path.{IsPath, pieces}
+use Rattle.uriparse_path.specs.Path.{IsPath, PathParts, pieces}
 use Rattle.uriparse_authority.specs.Authority as authority
 use Rattle.uriparse_scheme.specs.declared.scheme.registered.RegisteredScheme.{RegisteredScheme}
 use Rattle.uriparse_scheme.specs.Registered.{name_of}
+use Rattle.uriparse_scheme.specs.Scheme as scheme
 use Rattle.uriparse_reference.specs.declared.uri_reference.error.URIReferenceError.{URIReferenceError}
 use Rattle.uriparse_reference.specs.Cuts.{scheme_text, path_text, if_some}
 use Rattle.uriparse_reference.specs.Key.{key}
@@ -34,6 +36,10 @@ abbrev pub view_key : Viewed → List ℕ
 view_key v = key v.parts
 
 -- ---- what a view keeps of its text: words of its invariant and of private functions' clauses alone
+
+-- the components of a reference whose scheme has this text, or none if it is empty
+abbrev pub assembled : List ℕ → Option authority.AuthorityParts → PathParts → Option (List ℕ) → Option (List ℕ) → Parts
+assembled s a p q f = record { scheme = option_map scheme.named (if_some s); authority = a; path = p; query = q; fragment = f }
 
 -- These pieces were found in the text t: the texts of the scheme, if it is not empty, and of the path, and the other components. The scheme
 -- is known by its name, and the path has no escape, where so said. The path has count segments.

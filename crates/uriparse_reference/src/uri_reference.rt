@@ -21,7 +21,6 @@ use std::marker::Model;
 use uriparse_authority::authority::{Authority, Host, Password, Username};
 use uriparse_path::internal::most_path_bytes;
 use uriparse_path::path::Path;
-use uriparse_scheme::internal::scheme_if;
 use uriparse_scheme::scheme::Scheme;
 use uriparse_text::fragment::Fragment;
 use uriparse_text::internal::len_of;
@@ -57,7 +56,7 @@ pub use escape::{escape_invalid, escape_invalid_into};
 pub use masked::WithoutPassword;
 use offset::{first_byte_fault, offset_of};
 use print::{len_of_scheme, most_of_authority, write_authority, write_back, write_scheme};
-use read::{find_pieces, make_path};
+use read::find_pieces;
 pub use text::{ReferenceKey, ReferenceText};
 pub use view::ReferenceView;
 
@@ -142,22 +141,9 @@ impl<'r> URIReference<'r> {
         // A path of one segment takes no memory.
         ensures takes_no_memory { (p : Parts) → Spells bytes.now p → length p.path.segments ≡ 1 → result ≡ Ok p }
     {
-        // The components are moved once, to their places: each function between would move them
-        // all again.
         let pieces = find_pieces(bytes)?;
-        let tail = &pieces.tail;
-        let has_authority = pieces.authority.is_some();
-        let path = make_path(alloc, has_authority, tail.count, tail.escaped, tail.path)?;
-        Ok(URIReference {
-            scheme: scheme_if(pieces.scheme, pieces.known),
-            authority: match &pieces.authority {
-                Some(found) => Some(found.to_authority()),
-                None => None,
-            },
-            path,
-            query: tail.query.to_text(),
-            fragment: tail.fragment.to_text(),
-        })
+        let path = pieces.make_path(alloc)?;
+        Ok(pieces.to_reference(path))
     }
 
     /// Like [`try_from_bytes`](URIReference::try_from_bytes), for a `str`.

@@ -14,7 +14,7 @@ pub mod Ambiguous
 pub mod Address
 pub mod IpAddr
 pub mod Alike
-pub mod Found
+pub mod Scanned
 pub mod Escapes
 pub mod Spelling
 pub mod Coding

@@ -40,7 +40,7 @@ pub use forward_buffer::{TooSmall, append, append_encoded, append_escaped, encod
 pub use held::Held;
 pub use print::write_plain;
 pub use scan::{ByteTest, Is, IsAny, first, marks_of_pairs, next_mask, next_mask_by_two};
-pub use scanned::{ScannedText, find_text_before, find_text_if, found_again, no_text};
+pub use scanned::{ScannedText, find_text_before, find_text_if, no_text, scanned_again};
 pub use split::{split_at_delimiter, without_delimiter};
 pub use text::{
     Text, TextKind, checked_text, len_of, normalized_text, text_from_checked, text_from_checked_vec,

@@ -6,7 +6,7 @@ ghost use Rattle.uriparse_reference.specs.Into.{Writes};
 ghost use Rattle.uriparse_reference.specs.Ports.{port_or_default, without_default_port};
 ghost use Rattle.uriparse.specs.Origin as spec;
 
-use super::within::is_port;
+use super::within::assert_port;
 use super::{URI, URIView};
 use std::alloc::{AllocError, Global};
 use std::hash::{Hash, Hasher};
@@ -120,8 +120,8 @@ impl<'o> PutText for Origin<'o> {
 
     fn put(&self, out: &mut [u8]) -> usize {
         let port = self.named_port();
-        is_port(port);
-        let len = prepend_host_and_port(&self.host, port, Form::Canonical, out, 0);
+        assert_port(port);
+        let len = prepend_host_and_port(Form::Canonical, &self.host, port, out, 0);
         let len = prepend(b"://", out, len);
         let scheme = self.scheme.as_str().as_bytes();
         prepend_formed(Form::Canonical, Case::Lowered, scheme, out, len)

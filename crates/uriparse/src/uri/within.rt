@@ -44,7 +44,7 @@ fn has_each_alike(
 }
 
 /// Does nothing. Its contract states that the number, if there is one, is a port.
-pub(super) fn is_port(port: Option<u16>)
+pub(super) fn assert_port(port: Option<u16>)
     ensures { IfSome port IsPort }
 {
     match port {
@@ -65,8 +65,8 @@ fn is_same_authority(
     // The authorities are valid, which is known once their hosts are read.
     let _host = left.host();
     let _other_host = right.host();
-    is_port(port);
-    is_port(other_port);
+    assert_port(port);
+    assert_port(other_port);
     has_each_alike(left, right, port, other_port)
 }
 

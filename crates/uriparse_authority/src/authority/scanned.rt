@@ -3,9 +3,9 @@ ghost use Rattle.std.specs.Prelude.{◌≡◌, ◌↔◌, ℕ, IfSome, IsTrue, L
 ghost use Rattle.uriparse_authority.specs.Authority as spec;
 ghost use Rattle.uriparse_authority.specs.Host.{kind_code};
 ghost use Rattle.uriparse_authority.specs.Normal.{canonical_authority};
-ghost use Rattle.uriparse_authority.specs.Found.{IsNamed};
+ghost use Rattle.uriparse_authority.specs.Scanned.{IsNamed};
 ghost use Rattle.uriparse_authority.specs.declared.authority.host.Host.TheVariants as hosts;
-ghost use Rattle.uriparse_text.specs.Found.{if_there};
+ghost use Rattle.uriparse_text.specs.Scanned.{if_there};
 ghost use Rattle.uriparse_text.specs.Spelling.{IsValidText};
 ghost use Rattle.uriparse_text.specs.declared.internal.class.Class.TheVariants as class;
 ghost use Rattle.uriparse_text.specs.declared.internal.token.Case.TheVariants as case;
@@ -29,7 +29,7 @@ pub struct ScannedAuthority<'a> {
 }
 
 impl<'a> Model for ScannedAuthority<'a> {
-    ghost use Rattle.uriparse_text.specs.Found.{if_there};
+    ghost use Rattle.uriparse_text.specs.Scanned.{if_there};
     ghost use Rattle.uriparse_authority.specs.Authority.{AuthorityParts, Valid};
 
     ghost Value = { AuthorityParts };
@@ -42,7 +42,7 @@ impl<'a> Model for ScannedAuthority<'a> {
 /// The authority that is a name with these bytes, canonical if so marked, and at most a port: what
 /// [`name_words`](ScannedAuthority::name_words) told of it.
 #[inline(always)]
-pub fn found_named(bytes: &[u8], canonical: bool, port: Option<u16>) -> ScannedAuthority<'_>
+pub fn scanned_named(bytes: &[u8], canonical: bool, port: Option<u16>) -> ScannedAuthority<'_>
     requires { IsValidText class.Name case.Lowered canonical bytes.now }
     ensures { result ≡ record { username = None; password = None; host = hosts.RegisteredName bytes.now; port = port } }
 {
@@ -118,7 +118,7 @@ impl<'a> ScannedAuthority<'a> {
         }
     }
 
-    /// What [`found_named`] finds the authority by without reading it: the length of the name that
+    /// What [`scanned_named`] finds the authority by without reading it: the length of the name that
     /// its text begins with, and whether that is known to be canonical. `None` if there is user
     /// information or the host is an address.
     #[inline(always)]

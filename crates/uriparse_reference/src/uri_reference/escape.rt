@@ -44,11 +44,15 @@ fn push_authority(escaped: &mut Vec<u8>, authority: Option<&[u8]>) -> Result<(),
 }
 
 /// Appends a delimiter and the escaped component that follows it, if it is present.
-fn push_after(escaped: &mut Vec<u8>, mark: u8, component: Option<&[u8]>) -> Result<(), AllocError>
-    ensures { OnOk result (escaped.new.items ≡ escaped.old.items ++ following mark (option_map spec.escaped_component (option_copied component.entry))) }
+fn push_following(
+    escaped: &mut Vec<u8>,
+    delimiter: u8,
+    component: Option<&[u8]>,
+) -> Result<(), AllocError>
+    ensures { OnOk result (escaped.new.items ≡ escaped.old.items ++ following delimiter (option_map spec.escaped_component (option_copied component.entry))) }
 {
     if let Some(component) = component {
-        escaped.push(mark)?;
+        escaped.push(delimiter)?;
         push_escaped(escaped, Class::Query, b"", component)?;
     }
     Ok(())
@@ -64,7 +68,7 @@ fn push_end(escaped: &mut Vec<u8>, end: &[u8]) -> Result<(), AllocError>
     escaped.extend_from_slice(plain)?;
     let (front, fragment) = split_at_delimiter(later, b'#');
     push_escaped(escaped, Class::Query, b"", front)?;
-    push_after(escaped, b'#', without_delimiter(fragment))
+    push_following(escaped, b'#', without_delimiter(fragment))
 }
 
 /// Appends the text with its components escaped.

@@ -1,6 +1,6 @@
 //! Cutting the text of a reference into its components, and reading these: RFC 3986, sections 3 and
 //! 4.
-ghost use Rattle.std.specs.Prelude.{◌≡◌, not, drop, length, IsOk, is_some, true, false, Ok, Err, MatchOption, MatchResult};
+ghost use Rattle.std.specs.Prelude.{◌≡◌, not, drop, length, IfSome, IsOk, is_some, true, false, Ok, Err, MatchOption, MatchResult};
 ghost use Rattle.std.specs.Option.{option_copied};
 ghost use Rattle.uriparse_text.specs.Readings.{if_present, unless_fault};
 ghost use Rattle.uriparse_text.specs.Bytes.{percent};
@@ -10,19 +10,22 @@ ghost use Rattle.uriparse_path.specs.Path as path;
 ghost use Rattle.uriparse_path.specs.Path.{IsPath, has_two_slashes};
 ghost use Rattle.uriparse_path.specs.Faults.{ends_path};
 ghost use Rattle.uriparse_scheme.specs.Cuts.{if_some};
+ghost use Rattle.uriparse_scheme.specs.Registered.{name_of};
+ghost use Rattle.uriparse_scheme.specs.Scheme.{is_scheme};
 ghost use Rattle.uriparse_reference.specs.Cuts.{cut_authority, tail_fragment, tail_query, without_authority};
 ghost use Rattle.uriparse_text.specs.declared.segment.error.PathError.TheVariants.{OutOfMemory};
 ghost use Rattle.uriparse_reference.specs.declared.uri_reference.error.URIReferenceError.TheVariants as errors;
 ghost use Rattle.uriparse_reference.specs.Reading.{after_reading, front_reading, reading, text_tail};
-ghost use Rattle.uriparse_reference.specs.Reference.{is_noscheme, path_of, path_refusal};
-ghost use Rattle.uriparse_reference.specs.View.{AreFound, AreFoundInTail};
+ghost use Rattle.uriparse_reference.specs.Reference.{Valid, is_noscheme, path_of, path_refusal};
+ghost use Rattle.uriparse_reference.specs.View.{AreFound, AreFoundInTail, assembled};
 
+use super::URIReference;
 use super::error::URIReferenceError;
 use std::alloc::Global;
 use uriparse_authority::internal::{ScannedAuthority, find_authority, split_before_path};
 use uriparse_path::internal::{counted_path, into_absolute, split_path};
 use uriparse_path::path::{Path, PathError};
-use uriparse_scheme::internal::split_scheme;
+use uriparse_scheme::internal::{scheme_if, split_scheme};
 use uriparse_scheme::scheme::RegisteredScheme;
 use uriparse_text::fragment::FragmentKind;
 use uriparse_text::internal::{ScannedText, find_text_before, find_text_if, no_text};
@@ -176,6 +179,47 @@ impl<'t> Pieces<'t> {
     {
         is_there(self.scheme)
     }
+
+    /// The path, made absolute with an authority. Allocates only for more than one segment.
+    #[inline(always)]
+    pub(super) fn make_path(&self, alloc: Global) -> Result<Path<'t>, URIReferenceError>
+        requires path { IsPath self.now.tail.path.now }
+        requires count { self.now.tail.count ≡ length (path.pieces self.now.tail.path.now) }
+        requires escaped { self.now.tail.escaped ≡ 0 → lacks percent self.now.tail.path.now ≡ true }
+        ensures path { MatchResult result (λ p. p ≡ path_of (is_some self.now.authority) self.now.tail.path.now) (λ e. e ≡ errors.Path OutOfMemory) }
+        ensures takes_no_memory { self.now.tail.count ≡ 1 → IsOk result }
+    {
+        let tail = &self.tail;
+        match counted_path(alloc, tail.count, tail.escaped, tail.path) {
+            Ok(path) => Ok(if self.authority.is_some() {
+                into_absolute(path)
+            } else {
+                path
+            }),
+            Err(_) => Err(URIReferenceError::Path(PathError::OutOfMemory)),
+        }
+    }
+
+    /// The reference of these components, which are moved once, to their places: a function between
+    /// would move them all again. Its path was made before.
+    #[inline(always)]
+    pub(super) fn to_reference(&self, path: Path<'t>) -> URIReference<'t>
+        requires scheme { IfSome (if_some self.now.scheme.now) (λ s. is_scheme s ≡ true) }
+        requires known { IfSome self.now.known (λ s. self.now.scheme.now ≡ name_of s) }
+        requires valid { Valid (assembled self.now.scheme.now self.now.authority path self.now.tail.query self.now.tail.fragment) }
+        ensures { result ≡ assembled self.now.scheme.now self.now.authority path.entry self.now.tail.query self.now.tail.fragment }
+    {
+        URIReference {
+            scheme: scheme_if(self.scheme, self.known),
+            authority: match &self.authority {
+                Some(authority) => Some(authority.to_authority()),
+                None => None,
+            },
+            path,
+            query: self.tail.query.to_text(),
+            fragment: self.tail.fragment.to_text(),
+        }
+    }
 }
 
 /// Finds the components of a reference, or its fault. Does not allocate.
@@ -194,30 +238,4 @@ pub fn find_pieces(text: &[u8]) -> Result<Pieces<'_>, URIReferenceError>
         authority,
         tail,
     })
-}
-
-/// The path that a text spells, which has `count` segments, made absolute with an authority.
-/// Allocates only for more than one. `escaped` is 0 only if the text has no escape.
-#[inline(always)]
-pub(super) fn make_path(
-    alloc: Global,
-    has_authority: bool,
-    count: usize,
-    escaped: usize,
-    text: &[u8],
-) -> Result<Path<'_>, URIReferenceError>
-    requires path { IsPath text.now }
-    requires count { count ≡ length (path.pieces text.now) }
-    requires escaped { escaped ≡ 0 → lacks percent text.now ≡ true }
-    ensures path { MatchResult result (λ p. p ≡ path_of has_authority text.now) (λ e. e ≡ errors.Path OutOfMemory) }
-    ensures takes_no_memory { count ≡ 1 → IsOk result }
-{
-    match counted_path(alloc, count, escaped, text) {
-        Ok(path) => Ok(if has_authority {
-            into_absolute(path)
-        } else {
-            path
-        }),
-        Err(_) => Err(URIReferenceError::Path(PathError::OutOfMemory)),
-    }
 }

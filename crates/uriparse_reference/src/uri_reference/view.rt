@@ -9,7 +9,7 @@ ghost use Rattle.uriparse_reference.specs.View.{viewed};
 
 use super::URIReference;
 use super::error::URIReferenceError;
-use super::read::{Pieces, find_pieces, make_path};
+use super::read::{Pieces, find_pieces};
 use std::alloc::{AllocError, Global};
 use std::marker::Model;
 use std::{fmt, str};
@@ -142,20 +142,8 @@ impl<'t> ReferenceView<'t> {
         // A path of one segment takes no memory.
         ensures takes_no_memory { length self.now.parts.path.segments ≡ 1 → IsOk result }
     {
-        // The components are moved once, as in `URIReference::try_from_bytes`.
-        let tail = &self.pieces.tail;
-        let has_authority = self.pieces.authority.is_some();
-        match make_path(alloc, has_authority, tail.count, tail.escaped, tail.path) {
-            Ok(path) => Ok(URIReference {
-                scheme: scheme_if(self.pieces.scheme, self.pieces.known),
-                authority: match &self.pieces.authority {
-                    Some(found) => Some(found.to_authority()),
-                    None => None,
-                },
-                path,
-                query: tail.query.to_text(),
-                fragment: tail.fragment.to_text(),
-            }),
+        match self.pieces.make_path(alloc) {
+            Ok(path) => Ok(self.pieces.to_reference(path)),
             Err(_) => Err(AllocError),
         }
     }

@@ -4,8 +4,8 @@ ghost use Rattle.std.specs.Prelude.{◌≡◌, ◌==◌, MatchResult, None, Ok, 
 ghost use Rattle.std.specs.Option.{option_copied};
 ghost use Rattle.uriparse_text.specs.Cuts.{after, before};
 ghost use Rattle.uriparse_text.specs.Faults.{EndsClass};
-ghost use Rattle.uriparse_text.specs.Found.{AreWords, if_there};
 ghost use Rattle.uriparse_text.specs.Readings.{if_present, reading_in};
+ghost use Rattle.uriparse_text.specs.Scanned.{AreWords, if_there};
 ghost use Rattle.uriparse_text.specs.Spelling.{IsValidText};
 
 use super::canonical_prefix::{canonical_prefix_len, check_bytes, fault_following};
@@ -25,7 +25,7 @@ pub struct ScannedText<'t, K: TextKind> {
 
 impl<'t, K: TextKind> Model for ScannedText<'t, K> {
     ghost use Rattle.std.specs.Prelude.{ℕ, ◌==◌, List, Option};
-    ghost use Rattle.uriparse_text.specs.Found.{if_there};
+    ghost use Rattle.uriparse_text.specs.Scanned.{if_there};
     ghost use Rattle.uriparse_text.specs.Spelling.{IsValidText};
 
     ghost Value = { Option (List ℕ) };
@@ -37,7 +37,7 @@ impl<'t, K: TextKind> Model for ScannedText<'t, K> {
 
 /// A text with these bytes, canonical if so marked.
 #[inline(always)]
-fn found_text<K: TextKind>(bytes: &[u8], canonical: bool) -> ScannedText<'_, K>
+fn scanned_text<K: TextKind>(bytes: &[u8], canonical: bool) -> ScannedText<'_, K>
     requires { IsValidText K.class K.case canonical bytes.now }
     ensures { result ≡ Some bytes.now }
 {
@@ -81,7 +81,7 @@ impl<'t, K: TextKind> ScannedText<'t, K> {
         self.present == 0
     }
 
-    /// What [`found_again`] finds the text by without reading it: 0 if there is none, 2 if it is known
+    /// What [`scanned_again`] finds the text by without reading it: 0 if there is none, 2 if it is known
     /// to be canonical, else 1; and its length.
     #[inline(always)]
     pub fn words(&self) -> (u8, usize)
@@ -97,7 +97,7 @@ impl<'t, K: TextKind> ScannedText<'t, K> {
 
 /// The text of these bytes, of which [`words`](ScannedText::words) said whether it is there and canonical.
 #[inline(always)]
-pub fn found_again<K: TextKind>(present: u8, bytes: &[u8]) -> ScannedText<'_, K>
+pub fn scanned_again<K: TextKind>(present: u8, bytes: &[u8]) -> ScannedText<'_, K>
     requires { IsValidText K.class K.case (present == 2) bytes.now }
     ensures { result ≡ if_there present bytes.now }
 {
@@ -117,7 +117,7 @@ pub fn find_text_if<'t, K: TextKind>(text: Option<&'t [u8]>) -> Result<ScannedTe
 {
     match text {
         Some(bytes) => match check_bytes(K::class(), K::case(), bytes) {
-            Ok(canonical) => Ok(found_text(bytes, canonical)),
+            Ok(canonical) => Ok(scanned_text(bytes, canonical)),
             Err(byte) => Err(K::error_of(byte)),
         },
         None => Ok(no_text()),
@@ -143,11 +143,14 @@ pub fn find_text_before<'t, K: TextKind>(
     let canonical_len = canonical_prefix_len(class, case, bytes);
     let offset = fault_following(class, case, bytes, canonical_len);
     if offset == bytes.len() {
-        return Ok((found_text(bytes, offset == canonical_len), None));
+        return Ok((scanned_text(bytes, offset == canonical_len), None));
     }
     let (front, rest) = bytes.split_at(offset);
     if bytes[offset] == delimiter {
-        Ok((found_text(front, offset == canonical_len), Some(&rest[1..])))
+        Ok((
+            scanned_text(front, offset == canonical_len),
+            Some(&rest[1..]),
+        ))
     } else {
         Err(K::error_of(bytes[offset]))
     }

@@ -11,7 +11,7 @@ use Rattle.uriparse_text.specs.Spelling.{IsValidText}
 use Rattle.uriparse_authority.specs.declared.authority.host.Host.{Host}
 use Rattle.uriparse_authority.specs.declared.authority.host.Host.TheVariants.{IPv4Address, IPv6Address, IPvFuture, RegisteredName}
 use Rattle.uriparse_authority.specs.Authority.{AuthorityParts, IsPaired, Spells, reading}
-use Rattle.uriparse_authority.specs.Found.{IsNameOf, IsNamed}
+use Rattle.uriparse_authority.specs.Scanned.{IsNameOf, IsNamed}
 use Rattle.uriparse_authority.proofs.lemmas.authorities.AuthorityLemmas.{found}
 
 -- the text of such an authority

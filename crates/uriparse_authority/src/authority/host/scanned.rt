@@ -5,8 +5,8 @@ ghost use Rattle.uriparse_text.specs.declared.internal.class.Class.TheVariants a
 ghost use Rattle.uriparse_text.specs.declared.internal.token.Case.TheVariants as case;
 ghost use Rattle.uriparse_text.specs.Spelling.{IsValidText};
 ghost use Rattle.uriparse_authority.specs.Future.{IsFuture};
-ghost use Rattle.uriparse_authority.specs.Found.{IsCanonicalName, IsNameOf, found_host};
 ghost use Rattle.uriparse_authority.specs.Host.{Valid, kind, kind_code};
+ghost use Rattle.uriparse_authority.specs.Scanned.{IsCanonicalName, IsNameOf, scanned_host};
 
 use super::super::future::IPvFuture;
 use super::super::name::RegisteredName;
@@ -32,14 +32,14 @@ impl<'h> Model for ScannedHost<'h> {
     ghost use Rattle.uriparse_text.specs.declared.internal.token.Case.TheVariants as case;
     ghost use Rattle.uriparse_text.specs.Canonical.{canonical_in};
     ghost use Rattle.uriparse_authority.specs.declared.authority.host.Host.{Host};
-    ghost use Rattle.uriparse_authority.specs.Found.{found_host};
     ghost use Rattle.uriparse_authority.specs.Host.{Valid};
+    ghost use Rattle.uriparse_authority.specs.Scanned.{scanned_host};
 
     ghost Value = { Host };
 
-    ghost view = { λ f. found_host f.kind f.text.now f.ipv4 f.ipv6 };
+    ghost view = { λ f. scanned_host f.kind f.text.now f.ipv4 f.ipv6 };
 
-    ghost invariant = { λ f. Valid (found_host f.kind f.text.now f.ipv4 f.ipv6) × ((f.canonical == 1) ≡ true → canonical_in case.Lowered f.text.now ≡ f.text.now) };
+    ghost invariant = { λ f. Valid (scanned_host f.kind f.text.now f.ipv4 f.ipv6) × ((f.canonical == 1) ≡ true → canonical_in case.Lowered f.text.now ≡ f.text.now) };
 }
 
 /// A name with these bytes, canonical if so marked.
@@ -152,8 +152,8 @@ impl<'h> ScannedHost<'h> {
 #[inline(never)]
 fn address_host(kind: usize, text: &[u8], ipv4: Ipv4Addr, ipv6: Ipv6Addr) -> Host<'_>
     requires address { (kind == 0) ≡ false }
-    requires valid { Valid (found_host kind text.now ipv4 ipv6) }
-    ensures { result ≡ found_host kind text.now ipv4 ipv6 }
+    requires valid { Valid (scanned_host kind text.now ipv4 ipv6) }
+    ensures { result ≡ scanned_host kind text.now ipv4 ipv6 }
 {
     if kind == 4 {
         Host::IPv4Address(ipv4)

@@ -6,8 +6,8 @@ use Rattle.std.proofs.lemmas.Bool.{false≢true}
 use Rattle.std.proofs.lemmas.List.{length-append}
 use Rattle.uriparse_text.specs.Bytes.{colon, percent, question_mark, number_sign}
 use Rattle.uriparse_text.specs.Cuts.{ahead, following, lacks, none_pass, up_to}
-use Rattle.uriparse_text.specs.Found.{AreWords, if_there}
 use Rattle.uriparse_text.specs.Readings.{IfPresent, fault_in}
+use Rattle.uriparse_text.specs.Scanned.{AreWords, if_there}
 use Rattle.uriparse_text.specs.Spelling.{IsValidText}
 use Rattle.uriparse_text.specs.declared.internal.class.Class.{Class}
 use Rattle.uriparse_text.specs.declared.internal.class.Class.TheVariants as class

@@ -4,7 +4,7 @@ use Rattle.std.specs.Prelude.{◌==◌, IfErr, IfOk, IfSome, Result, Err, is_som
 use Rattle.std.proofs.lemmas.Bool.Decides.{nat_tests}
 use Rattle.uriparse_text.specs.Bytes.{slash}
 use Rattle.uriparse_text.specs.Readings.{◌>>=◌, fault_in}
-use Rattle.uriparse_path.specs.Path.{pieces, text}
+use Rattle.uriparse_path.specs.Path.{PathParts, pieces, text}
 use Rattle.uriparse_path.proofs.lemmas.text.PathTextLemmas.{text-spelled}
 use Rattle.uriparse_authority.specs.Authority.{AuthorityParts}
 use Rattle.uriparse_scheme.specs.declared.scheme.registered.RegisteredScheme.{RegisteredScheme}
@@ -12,7 +12,7 @@ use Rattle.uriparse_reference.specs.declared.uri_reference.error.URIReferenceErr
 use Rattle.uriparse_reference.specs.Cuts.{path_text}
 use Rattle.uriparse_reference.specs.Reading.{fault, reading, parts_of}
 use Rattle.uriparse_reference.specs.Reference.{Parts, Spells, Valid, is_abempty, path_of}
-use Rattle.uriparse_reference.specs.View.{AreFound, Viewed, viewed}
+use Rattle.uriparse_reference.specs.View.{AreFound, Viewed, assembled, viewed}
 use Rattle.uriparse_reference.proofs.lemmas.reading.CutLemmas.{cut_again}
 use Rattle.uriparse_reference.proofs.lemmas.reading.ReadingLemmas.{again, found, spelled_pieces}
 use Rattle.uriparse_reference.proofs.lemmas.reading.SpellingLemmas.{authority_valid, valid}
@@ -25,6 +25,15 @@ found_spelled t s k a h m n q f are = found t (parts_of t a h q f) are.is_read
 pub found_valid : (t s : List ℕ) (k : Option RegisteredScheme) (a : Option AuthorityParts) (h : List ℕ) (m n : ℕ) (q f : Option (List ℕ))
     → AreFound t s k a h m n q f → Valid (parts_of t a h q f)
 found_valid t s k a h m n q f are = valid t (parts_of t a h q f) (found_spelled t s k a h m n q f are)
+
+-- the text is read as the components that are put together from what was found, with the path that was made
+pub assembled_read : (t s : List ℕ) (k : Option RegisteredScheme) (a : Option AuthorityParts) (h : List ℕ) (m n : ℕ) (q f : Option (List ℕ)) (p : PathParts)
+    → AreFound t s k a h m n q f → p ≡ path_of (is_some a) h → reading t ≡ Ok (assembled s a p q f)
+assembled_read t s k a h m n q f p are made = rw (are.is_scheme, made) are.is_read
+
+pub assembled_valid : (t s : List ℕ) (k : Option RegisteredScheme) (a : Option AuthorityParts) (h : List ℕ) (m n : ℕ) (q f : Option (List ℕ)) (p : PathParts)
+    → AreFound t s k a h m n q f → p ≡ path_of (is_some a) h → Valid (assembled s a p q f)
+assembled_valid t s k a h m n q f p are made = valid t _ (found t _ (assembled_read t s k a h m n q f p are made))
 
 -- ---- what is viewed is the text with the components that are read
 

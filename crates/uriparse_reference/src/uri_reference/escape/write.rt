@@ -44,14 +44,14 @@ fn append_authority(authority: Option<&[u8]>, out: &mut [u8], len: usize) -> usi
 }
 
 /// Appends a delimiter and the escaped component that follows it, if it is present.
-fn append_after(mark: u8, component: Option<&[u8]>, out: &mut [u8], len: usize) -> usize
+fn append_following(delimiter: u8, component: Option<&[u8]>, out: &mut [u8], len: usize) -> usize
     ensures room { length out.new ≡ length out.old }
-    ensures appends { Appends (following mark (option_map spec.escaped_component (option_copied component.entry))) out.old len out.new result }
+    ensures appends { Appends (following delimiter (option_map spec.escaped_component (option_copied component.entry))) out.old len out.new result }
     ensures rest { LeavesRest out.old len out.new result }
 {
     match component {
         Some(component) => {
-            let len = append(&[mark], out, len);
+            let len = append(&[delimiter], out, len);
             append_escaped(Class::Query, b"", component, out, len)
         }
         None => len,
@@ -70,7 +70,7 @@ fn append_end(end: &[u8], out: &mut [u8], len: usize) -> usize
     let len = append(plain, out, len);
     let (front, fragment) = split_at_delimiter(later, b'#');
     let len = append_escaped(Class::Query, b"", front, out, len);
-    append_after(b'#', without_delimiter(fragment), out, len)
+    append_following(b'#', without_delimiter(fragment), out, len)
 }
 
 /// Writes the text with its components escaped to the start of the buffer. Returns its length. If

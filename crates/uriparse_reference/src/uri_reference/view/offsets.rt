@@ -6,9 +6,9 @@ ghost use Rattle.uriparse_reference.specs.OwnedText.{AreOffsets, IsAuthorityOf, 
 
 use super::super::read::{Pieces, ScannedTail};
 use super::ReferenceView;
-use uriparse_authority::internal::{ScannedAuthority, find_authority, found_named};
+use uriparse_authority::internal::{ScannedAuthority, find_authority, scanned_named};
 use uriparse_scheme::scheme::RegisteredScheme;
-use uriparse_text::internal::found_again;
+use uriparse_text::internal::scanned_again;
 
 /// Where the components of a text lie, and what reading learned of them.
 #[derive(Clone, Copy)]
@@ -91,7 +91,7 @@ impl Offsets {
             };
         }
         let name = &text[..self.name as usize];
-        Some(found_named(name, self.authority_kind == 2, self.port))
+        Some(scanned_named(name, self.authority_kind == 2, self.port))
     }
 
     /// The view of the text. No byte is read, but for an authority with user information or an
@@ -115,8 +115,8 @@ impl Offsets {
                     path,
                     count: self.count as usize,
                     escaped: usize::from(self.escaped),
-                    query: found_again(self.has_query, skip(1, query)),
-                    fragment: found_again(self.has_fragment, skip(1, fragment)),
+                    query: scanned_again(self.has_query, skip(1, query)),
+                    fragment: scanned_again(self.has_fragment, skip(1, fragment)),
                 },
             },
         }

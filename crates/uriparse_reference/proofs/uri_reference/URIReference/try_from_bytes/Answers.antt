@@ -4,26 +4,19 @@ use Rattle.std.specs.Prelude.{is_some}
 use Rattle.uriparse_text.specs.Readings.{fault_in}
 use Rattle.uriparse_scheme.proofs.lemmas.schemes.CutLemmas.{is_scheme_text}
 use Rattle.uriparse_reference.specs.Reading.{parts_of, reading}
-use Rattle.uriparse_reference.proofs.lemmas.reading.ReadingLemmas.{again, answered, found, path_segments}
-use Rattle.uriparse_reference.proofs.lemmas.reading.SpellingLemmas.{valid}
-use Rattle.uriparse_reference.proofs.uri_reference.URIReference.try_from_bytes.Goals.{in-Some, in-None, After-to_text-2}
+use Rattle.uriparse_reference.proofs.lemmas.reading.ReadingLemmas.{again, answered, path_segments}
+use Rattle.uriparse_reference.proofs.lemmas.reading.ViewLemmas.{assembled_read, assembled_valid}
+use Rattle.uriparse_reference.proofs.uri_reference.URIReference.try_from_bytes.Goals.{After-to_reference}
 use Rattle.uriparse_reference.proofs.uri_reference.URIReference.try_from_bytes.Goals as goal
 
-pub scheme_if-requires-clause-text : goal.scheme_if-requires-clause-text
-scheme_if-requires-clause-text c = is_scheme_text c.args.bytes.now c.in_ok-pieces.pieces.scheme.now c.in_ok-pieces.ensures.is_scheme
+read : (c : After-to_reference) → reading c.args.bytes.now ≡ Ok c.to_reference.result
+read c = rw (c.to_reference.ensures) (assembled_read _ _ _ _ _ _ _ _ _ _ c.in_ok-pieces.ensures c.in_ok-path.ensures.path)
 
-read : (c : After-to_text-2)
-    → reading c.args.bytes.now ≡ Ok (record { scheme = c.scheme_if.result; authority = c.match-pieces.result; path = c.in_ok-path.path; query = c.to_text.result; fragment = c.to_text-2.result })
-read c =
-    let told = c.in_ok-pieces.ensures in
-    let a : c.match-pieces.result ≡ c.in_ok-pieces.pieces.authority = elim c.match-pieces.branch [
-      | in-Some w ↦ search rules
-      | in-None w ↦ search rules
-    ] in
-    rw (c.scheme_if.ensures, told.is_scheme, a, c.in_ok-path.ensures.path, c.to_text.ensures, c.to_text-2.ensures, c.is_some-has_authority.ensures) told.is_read
+pub to_reference-requires-clause-scheme : goal.to_reference-requires-clause-scheme
+to_reference-requires-clause-scheme c = is_scheme_text c.args.bytes.now c.in_ok-pieces.pieces.scheme.now c.in_ok-pieces.ensures.is_scheme
 
-pub invariant_of-result : goal.invariant_of-result
-invariant_of-result c = let t = c.args.bytes.now in valid t _ (found t _ (read c))
+pub to_reference-requires-clause-valid : goal.to_reference-requires-clause-valid
+to_reference-requires-clause-valid c = assembled_valid _ _ _ _ _ _ _ _ _ _ c.in_ok-pieces.ensures c.in_ok-path.ensures.path
 
 pub returns : goal.returns
 returns c =

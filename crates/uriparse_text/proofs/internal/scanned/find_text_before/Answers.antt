@@ -8,8 +8,8 @@ use Rattle.uriparse_text.proofs.lemmas.classes.FaultBeforeMarkLemmas.{whole_text
 use Rattle.uriparse_text.proofs.lemmas.canonical.CanonicalPrefixLemmas.{kept_by}
 use Rattle.uriparse_text.proofs.internal.scanned.find_text_before.Goals as goal
 
-pub found_text-requires : goal.found_text-requires
-found_text-requires g c =
+pub scanned_text-requires : goal.scanned_text-requires
+scanned_text-requires g c =
     let text = c.args.bytes.now in
     let whole = whole_text g.K.TextKind.class c.args.delimiter c.requires _ c.class-class.ensures text _ c.fault_following-offset.ensures c.if-offset-bytes.true in
     kept_by g.K.TextKind.class _ g.K.TextKind.case _ c.class-class.ensures c.case-case.ensures text c.canonical_prefix_len-canonical_len.result c.fault_following-offset.result text
@@ -19,10 +19,10 @@ pub returns-then-offset-bytes : goal.returns-then-offset-bytes
 returns-then-offset-bytes g c =
     let text = c.args.bytes.now in
     let whole = whole_text g.K.TextKind.class c.args.delimiter c.requires _ c.class-class.ensures text _ c.fault_following-offset.ensures c.if-offset-bytes.true in
-    (rw c.found_text.ensures (ap some_of (reading-in g.K.TextKind.class g.K.TextKind.error_of (before c.args.delimiter text) text whole.0 whole.1)), whole.2)
+    (rw c.scanned_text.ensures (ap some_of (reading-in g.K.TextKind.class g.K.TextKind.error_of (before c.args.delimiter text) text whole.0 whole.1)), whole.2)
 
-pub found_text-requires-then-bytes-offset : goal.found_text-requires-then-bytes-offset
-found_text-requires-then-bytes-offset g c =
+pub scanned_text-requires-then-bytes-offset : goal.scanned_text-requires-then-bytes-offset
+scanned_text-requires-then-bytes-offset g c =
     let text = c.args.bytes.now in
     let offset = c.fault_following-offset.result in
     let cut = text_before g.K.TextKind.class c.args.delimiter c.requires _ c.class-class.ensures text _ c.fault_following-offset.ensures (omega arith)
@@ -37,7 +37,7 @@ returns-then-bytes-offset g c =
     let offset = c.fault_following-offset.result in
     let cut = text_before g.K.TextKind.class c.args.delimiter c.requires _ c.class-class.ensures text offset c.fault_following-offset.ensures (omega arith)
     (eq-eqb _ _ c.if-bytes-offset.true) in (
-      rw (c.found_text-then-bytes-offset.ensures, c.split_at.ensures.front)
+      rw (c.scanned_text-then-bytes-offset.ensures, c.split_at.ensures.front)
           (ap some_of (reading-in g.K.TextKind.class g.K.TextKind.error_of (before c.args.delimiter text) (take offset text) cut.0 cut.1)),
       ap Some (take_rest c.split_at.result.1.now 1 ∙ ap (drop 1) c.split_at.ensures.back ∙ drop-drop 1 offset text) ∙ cut.2,
     )

@@ -30,4 +30,4 @@ pub returns-clause-utf8 : goal.returns-clause-utf8
 returns-clause-utf8 c =
     let o = c.args.self.now in
     IsUtf8-text o c.as_str.ensures.valid c.prepend_host_and_port-len.ensures.valid
-    (subst (λ n. IfSome n port.IsPort) c.named_port-port.ensures c.is_port.ensures)
+    (subst (λ n. IfSome n port.IsPort) c.named_port-port.ensures c.assert_port.ensures)

@@ -7,12 +7,12 @@ use Rattle.uriparse_reference.proofs.uri_reference.escape.write.append_end.Goals
 
 pub returns-clause-appends : goal.returns-clause-appends
 returns-clause-appends c =
-    subst (λ u. Appends u c.args.out.now c.args.len c.append_after.new.out c.append_after.result)
+    subst (λ u. Appends u c.args.out.now c.args.len c.append_following.new.out c.append_following.result)
     (pushed_end c.args.end.now c.split_canonical_prefix.result.0.now c.split_canonical_prefix.result.1.now _ _ [] _ _ c.split_canonical_prefix.ensures.whole
     c.split_canonical_prefix.ensures.front.inside c.split_at_delimiter.ensures.front (c.without_delimiter.ensures ∙ ap part c.split_at_delimiter.ensures.rest) refl refl)
     (appends_both _ _ _ _ _ _ _ _ (appends_both _ _ _ _ _ _ _ _ c.append-len.ensures.appends c.append_escaped-len.ensures.appends)
-    c.append_after.ensures.appends)
+    c.append_following.ensures.appends)
 
 pub returns-clause-rest : goal.returns-clause-rest
 returns-clause-rest c =
-    leaves_both _ _ _ _ _ _ (leaves_both _ _ _ _ _ _ c.append-len.ensures.rest c.append_escaped-len.ensures.rest) c.append_after.ensures.rest
+    leaves_both _ _ _ _ _ _ (leaves_both _ _ _ _ _ _ c.append-len.ensures.rest c.append_escaped-len.ensures.rest) c.append_following.ensures.rest

@@ -1,7 +1,7 @@
 use Rattle.std.proofs.Common.{[], None, refl, rules}
 use Rattle.std.proofs.lemmas.Bool.{false≢true}
 use Rattle.uriparse_text.proofs.lemmas.classes.FaultLemmas.{IsIn-plain}
-use Rattle.uriparse_text.specs.Found.{AreWords}
+use Rattle.uriparse_text.specs.Scanned.{AreWords}
 use Rattle.uriparse_text.proofs.internal.scanned.ScannedText.words.Goals as goal
 
 pub returns-in-0 : goal.returns-in-0
