@@ -1,6 +1,7 @@
 //! How a command fails.
 
 ghost use Rattle.std.specs.Prelude.{◌≡◌, ◌≤◌, ◌↔◌, ◌⊎◌, IsTrue, false};
+ghost use Rattle.std.specs.IoError.{error_kind, raw_os_error};
 ghost use Rattle.uri_commands.specs.Output as spec;
 ghost use Rattle.uri_commands.specs.declared.failure.EditError.TheVariants as edits;
 ghost use Rattle.uri_commands.specs.declared.failure.Failure.TheVariants as failures;
@@ -72,6 +73,8 @@ pub struct StreamError {
 }
 
 impl From<io::Error> for StreamError {
+    ghost from_gives = { λ x e. e ≡ record { kind = error_kind x; code = raw_os_error x } };
+
     fn from(error: io::Error) -> StreamError {
         StreamError {
             kind: error.kind(),
